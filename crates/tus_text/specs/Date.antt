@@ -1,0 +1,42 @@
+-- The IMF-fixdate of a second since 1970 (RFC 9110, section 5.6.7), up to the end of the year 9999,
+-- as `Fri, 31 Dec 9999 23:59:59 GMT`. The format and the calendar are httpdate's words.
+use Rattle.std.specs.Prelude.{ℕ, zero, suc, ◌+◌, ◌-◌, ◌/◌, ◌%◌, List, nat_lt, if◌then◌else◌}
+use Rattle.httpdate.specs.declared.parts.Parts.{Parts}
+use Rattle.httpdate.specs.Calendar.{days_in_year, days_in_month, weekday}
+use Rattle.httpdate.specs.Text.{imf_fixdate}
+
+-- The span that a day lies in, and its place there: span k has `size k` days, the days are counted
+-- from the start of span `first`, and at most `more` spans are passed.
+unfoldable pub span_of : (ℕ → ℕ) → ℕ → ℕ → ℕ → ℕ × ℕ
+span_of size zero first days = (first, days)
+span_of size (suc more) first days =
+    if nat_lt days (size first) then (first, days)
+    else span_of size more (first + 1) (days - size first)
+
+-- the year of a day since 1970, and how many days of it have passed
+abbrev pub year_of : ℕ → ℕ × ℕ
+year_of days = span_of days_in_year 8029 1970 days
+
+-- the month of a day of the year, and how many days of it have passed
+abbrev pub month_of : ℕ → ℕ → ℕ × ℕ
+month_of year days = span_of (days_in_month year) 11 1 days
+
+-- the calendar's and the clock's numbers of a second
+unfoldable pub date_parts : ℕ → Parts
+date_parts secs =
+    let days = secs / 86400 in
+    let year = year_of days in
+    let month = month_of year.0 year.1 in
+    record {
+      year = year.0;
+      mon = month.0;
+      day = month.1 + 1;
+      hour = secs % 86400 / 3600;
+      min = secs % 3600 / 60;
+      sec = secs % 60;
+      wday = weekday days;
+    }
+
+-- the text of the second
+unfoldable pub expires_text : ℕ → List ℕ
+expires_text secs = imf_fixdate (date_parts secs)

@@ -1,0 +1,4 @@
+pub mod Date
+pub mod Number
+pub mod Path
+pub mod Tenant

@@ -1,0 +1,76 @@
+ghost use Rattle.std.specs.Prelude.{◌≡◌, ◌≤◌, ◌↔◌, [], length, IsTrue};
+
+use arrayvec::ArrayVec;
+use std::marker::Model;
+
+/// The most bytes that the name of a tenant has.
+pub const TENANT_MAX: usize = 32;
+
+/// The name of a tenant: 1 to 32 bytes of `a` to `z`, digits and `-`.
+pub type Tenant = Text<32>;
+
+/// A text of at most `N` bytes, kept inline. A contract sees the list of its bytes.
+#[derive(Drop)]
+pub struct Text<const N: usize> {
+    bytes: ArrayVec<u8, N>,
+}
+
+impl<const N: usize> Model for Text<N> {
+    ghost use Rattle.std.specs.Prelude.{List, ℕ};
+
+    ghost Value = { List ℕ };
+
+    ghost view = { λ t. t.bytes.items };
+}
+
+impl<const N: usize> Text<N> {
+    /// The text of no bytes, which stands for an absent one.
+    pub fn empty() -> Self
+        ensures { result ≡ [] }
+    {
+        Text {
+            bytes: ArrayVec::new(),
+        }
+    }
+
+    /// The text of `bytes`, copied.
+    pub fn of(bytes: &[u8]) -> Self
+        requires { length bytes.now ≤ N }
+        ensures { result ≡ bytes.now }
+    {
+        let mut text = ArrayVec::new();
+        let copied = text.try_extend_from_slice(bytes);
+        prove!(copied.is_ok());
+        Text { bytes: text }
+    }
+
+    /// The bytes of the text.
+    pub fn as_slice(&self) -> &[u8]
+        ensures value { result.now ≡ self.now }
+        ensures fits { length result.now ≤ N }
+    {
+        self.bytes.as_slice()
+    }
+
+    /// Whether the text has no bytes.
+    pub fn is_empty(&self) -> bool
+        ensures { IsTrue result ↔ (self.now ≡ []) }
+    {
+        self.bytes.is_empty()
+    }
+
+    /// The same text once more, without taking memory.
+    pub fn copied(&self) -> Self
+        ensures { result ≡ self.now }
+    {
+        Text::of(self.as_slice())
+    }
+}
+
+impl<const N: usize> Default for Text<N> {
+    ghost is_default = { λ t. t ≡ [] };
+
+    fn default() -> Self {
+        Text::empty()
+    }
+}
