@@ -1,0 +1,99 @@
+use crate::method::Method;
+use crate::request::Request;
+use tus_text::Tenant;
+use upload_book::{Appended, Created, HeadRow, Moment, Refusal, Refused};
+
+/// What the path of a request names, as far as a reply tells it.
+#[derive(Clone, Copy, Debug, PartialEq, Eq)]
+pub enum Place {
+    /// Where a tenant's uploads are created.
+    Create,
+    /// An upload.
+    Upload,
+    /// Neither.
+    Other,
+}
+
+/// The answer to a request.
+#[derive(Drop)]
+pub enum Reply {
+    /// 201: the upload was created under this name, and expires then, if it does.
+    Created {
+        tenant: Tenant,
+        id: u64,
+        expires: Option<Moment>,
+    },
+
+    /// 200: what stands of the upload.
+    Head(HeadRow),
+
+    /// 204: the bytes were taken. The upload has `offset` bytes now, and expires then, if it does.
+    Patched {
+        offset: u64,
+        expires: Option<Moment>,
+    },
+
+    /// The request was refused, and changed nothing. `head` is true for a HEAD; `expires` is when the
+    /// upload expires, for a PATCH of a visible upload that does.
+    Refused {
+        refusal: Refusal,
+        head: bool,
+        place: Place,
+        expires: Option<Moment>,
+    },
+}
+
+impl Reply {
+    ghost use Rattle.std.specs.Prelude.{◌≡◌};
+    ghost use Rattle.tus_steps.specs.Request.{asked_of};
+    ghost use Rattle.tus_steps.specs.Step.{refusing, creation_reply, look_reply, append_reply};
+
+    /// The reply that refuses the request, and tells when its upload expires.
+    pub fn refusing(request: &Request, refusal: Refusal, expires: Option<Moment>) -> Reply
+        ensures { result ≡ refusing (asked_of request.now) refusal expires }
+    {
+        Reply::Refused {
+            refusal,
+            head: request.method == Method::Head,
+            place: request.place(),
+            expires,
+        }
+    }
+
+    /// The reply to a creation.
+    pub fn to_creation(request: &Request, outcome: Result<Created, Refusal>) -> Reply
+        ensures { result ≡ creation_reply (asked_of request.now) outcome }
+    {
+        match outcome {
+            Ok(created) => Reply::Created {
+                tenant: request.tenant_text(),
+                id: created.name.id,
+                expires: created.expires,
+            },
+            Err(refusal) => Reply::refusing(request, refusal, None),
+        }
+    }
+
+    /// The reply to a HEAD.
+    pub fn to_look(request: &Request, outcome: Result<HeadRow, Refusal>) -> Reply
+        ensures { result ≡ look_reply (asked_of request.now) outcome }
+    {
+        match outcome {
+            Ok(row) => Reply::Head(row),
+            Err(refusal) => Reply::refusing(request, refusal, None),
+        }
+    }
+
+    /// The reply to a PATCH.
+    pub fn to_append(request: &Request, outcome: Result<Appended, Refused>) -> Reply
+        ensures { result ≡ append_reply (asked_of request.now) outcome }
+    {
+        match outcome {
+            Ok(appended) => Reply::Patched {
+                offset: appended.offset,
+                expires: appended.expires,
+            },
+            Err(refused) => Reply::refusing(request, refused.refusal, refused.expires),
+        }
+    }
+}

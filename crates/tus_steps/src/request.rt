@@ -1,0 +1,159 @@
+ghost use Rattle.std.specs.Prelude.{◌≡◌, ◌<◌, ◌≤◌, length, IfSome};
+ghost use Rattle.upload_book.specs.declared.head_row.TheConstants.{METADATA_MAX, CONCAT_MAX};
+
+use crate::field::Field;
+use crate::method::Method;
+use crate::reply::Place;
+use tus_text::{Path, Tenant, Text};
+use upload_book::{Chunk, NewUpload, Refusal, Settings};
+
+/// The only version of the protocol that is spoken.
+const VERSION: &[u8] = b"1.0.0";
+
+/// A request as the steps see it: its method, what its target names, the fields that count, and its
+/// body. Every other field is ignored.
+#[derive(Drop)]
+pub struct Request<'a> {
+    pub method: Method,
+    pub path: Path,
+    /// `Tus-Resumable`.
+    pub version: Field<'a>,
+    /// `Upload-Length`.
+    pub length: Field<'a>,
+    /// `Upload-Defer-Length`.
+    pub defer: Field<'a>,
+    /// `Upload-Offset`.
+    pub offset: Field<'a>,
+    /// `Upload-Metadata`.
+    pub metadata: Field<'a>,
+    /// `Upload-Concat`.
+    pub concat: Field<'a>,
+    /// `Content-Type`.
+    pub media: Field<'a>,
+    pub body: &'a [u8],
+}
+
+impl<'a> Request<'a> {
+    ghost use Rattle.tus_steps.specs.Step.{tenant_text, wish_of, piece_of};
+    ghost use Rattle.upload_book.specs.Create.{wish_of as wish_value};
+    ghost use Rattle.upload_book.specs.Append.{piece_of as piece_value};
+    ghost use Rattle.tus_steps.specs.Request.{asked_of, place_of, tenant_in, request_refusal, has_bad_field, has_bad_creation_field, has_bad_patch_field, allows};
+
+    /// What the path names, as far as a reply tells it.
+    pub fn place(&self) -> Place
+        ensures { result ≡ place_of self.now.path }
+    {
+        match self.path {
+            Path::Create { .. } => Place::Create,
+            Path::Upload { .. } => Place::Upload,
+            Path::Other => Place::Other,
+        }
+    }
+
+    /// The place of the request's tenant in the settings, where there is such a tenant.
+    pub fn tenant(&self, settings: &Settings) -> Option<u8>
+        ensures place { result ≡ tenant_in settings.now self.now.path }
+        ensures there { IfSome result (λ tenant. tenant < length settings.now.tenants) }
+    {
+        match &self.path {
+            Path::Create { tenant } => settings.tenant(tenant.as_slice()),
+            Path::Upload { tenant, .. } => settings.tenant(tenant.as_slice()),
+            Path::Other => None,
+        }
+    }
+
+    /// The name of the tenant that the path names; empty where it names none.
+    pub fn tenant_text(&self) -> Tenant
+        ensures { result ≡ tenant_text self.now.path }
+    {
+        match &self.path {
+            Path::Create { tenant } => tenant.copied(),
+            Path::Upload { tenant, .. } => tenant.copied(),
+            Path::Other => Text::empty(),
+        }
+    }
+
+    /// The upload that a creation asks for. Its length is told by the request.
+    pub fn wish(&self) -> NewUpload<'a>
+        ensures value { wish_value result ≡ wish_of (asked_of self.now) }
+        ensures metadata { length result.metadata.now ≤ METADATA_MAX }
+        ensures concat { length result.concat.now ≤ CONCAT_MAX }
+    {
+        NewUpload {
+            partial: false,
+            length: self.length.number(),
+            metadata: b"",
+            concat: b"",
+        }
+    }
+
+    /// The bytes of a PATCH, and what it says of them.
+    pub fn chunk(&self) -> Chunk<'a>
+        ensures { piece_value result ≡ piece_of (asked_of self.now) }
+    {
+        Chunk {
+            offset: self.offset.number().unwrap_or(0),
+            length: self.length.number(),
+            typed: self.media.has_patch_type(),
+            bytes: self.body,
+        }
+    }
+
+    /// Why the request is refused before the book is asked: the first that applies of Version, Path,
+    /// Tenant, Method and Field. `tenant` is the place of its tenant, if there is one.
+    pub fn refusal(&self, tenant: Option<u8>) -> Option<Refusal>
+        ensures { result ≡ request_refusal tenant (asked_of self.now) }
+    {
+        if !self.version.is_just(VERSION) {
+            Some(Refusal::Version)
+        } else if matches!(self.path, Path::Other) {
+            Some(Refusal::Path)
+        } else if tenant.is_none() {
+            Some(Refusal::Tenant)
+        } else if !self.is_allowed() {
+            Some(Refusal::Method)
+        } else if self.has_bad_field() {
+            Some(Refusal::Field)
+        } else {
+            None
+        }
+    }
+
+    // Whether the path allows the method.
+    fn is_allowed(&self) -> bool
+        ensures { result ≡ allows self.now.path self.now.method }
+    {
+        match &self.path {
+            Path::Create { .. } => self.method == Method::Post,
+            Path::Upload { .. } => matches!(self.method, Method::Head | Method::Patch),
+            Path::Other => false,
+        }
+    }
+
+    // Whether a field that the method needs is missing, repeated or not of its form.
+    fn has_bad_field(&self) -> bool
+        ensures { result ≡ has_bad_field (asked_of self.now) self.now.method }
+    {
+        match self.method {
+            Method::Post => self.has_bad_creation_field(),
+            Method::Patch => self.has_bad_patch_field(),
+            Method::Head | Method::Other => false,
+        }
+    }
+
+    fn has_bad_creation_field(&self) -> bool
+        ensures { result ≡ has_bad_creation_field (asked_of self.now) }
+    {
+        let is_unserved = !self.defer.is_absent()
+            || !self.metadata.is_blank()
+            || !self.concat.is_absent();
+        self.length.number().is_none() || is_unserved || !self.body.is_empty()
+    }
+
+    fn has_bad_patch_field(&self) -> bool
+        ensures { result ≡ has_bad_patch_field (asked_of self.now) }
+    {
+        let has_bad_length = !self.length.is_absent() && self.length.number().is_none();
+        self.offset.number().is_none() || has_bad_length
+    }
+}

@@ -1,0 +1,364 @@
+//! The worked rows of the steps: 4-byte blocks, 12 of them, two tenants, a lifetime of an hour and
+//! uploads of at most 64 bytes.
+use super::*;
+use std::alloc::Global;
+use std::test::Fail;
+use tus_text::read_path;
+use upload_book::{Book, Moment, Numbers, Refusal, Settings};
+
+/// What a reply tells, as numbers.
+#[derive(Clone, Copy, Debug, PartialEq, Eq)]
+enum Told {
+    Created {
+        id: u64,
+        expires: Option<u64>,
+    },
+    Head {
+        offset: u64,
+        length: Option<u64>,
+    },
+    Patched {
+        offset: u64,
+        expires: Option<u64>,
+    },
+    Refused {
+        refusal: Refusal,
+        head: bool,
+        expires: Option<u64>,
+    },
+}
+
+fn told_by(reply: &Reply) -> Told {
+    match reply {
+        Reply::Created { id, expires, .. } => Told::Created {
+            id: *id,
+            expires: expires.map(|end| end.secs()),
+        },
+        Reply::Head(row) => Told::Head {
+            offset: row.offset,
+            length: row.declared,
+        },
+        Reply::Patched { offset, expires } => Told::Patched {
+            offset: *offset,
+            expires: expires.map(|end| end.secs()),
+        },
+        Reply::Refused {
+            refusal,
+            head,
+            expires,
+            ..
+        } => Told::Refused {
+            refusal: *refusal,
+            head: *head,
+            expires: expires.map(|end| end.secs()),
+        },
+    }
+}
+
+fn refused(refusal: Refusal) -> Told {
+    Told::Refused {
+        refusal,
+        head: false,
+        expires: None,
+    }
+}
+
+fn book(alloc: Global) -> Result<Book, Fail> {
+    let numbers = Numbers {
+        blocks: 12,
+        block_size: 4,
+        lifetime: 3600,
+        max_size: 64,
+        uploads: 64,
+        last_id: u64::MAX - 1,
+        last_total: u64::MAX,
+    };
+    let settings = Settings::new(numbers, &[(b"acme", 8), (b"beta", 4)])?;
+    Ok(Book::new(alloc, settings)?)
+}
+
+fn at(secs: u64) -> Result<Moment, Fail> {
+    Ok(Moment::new(secs).ok_or("a moment after the year 9999")?)
+}
+
+fn request<'a>(method: Method, target: &[u8]) -> Request<'a> {
+    Request {
+        method,
+        path: read_path(target),
+        version: Field::One(b"1.0.0"),
+        length: Field::Absent,
+        defer: Field::Absent,
+        offset: Field::Absent,
+        metadata: Field::Absent,
+        concat: Field::Absent,
+        media: Field::Absent,
+        body: b"",
+    }
+}
+
+fn creation<'a>(length: &'a [u8]) -> Request<'a> {
+    Request {
+        length: Field::One(length),
+        ..request(Method::Post, b"/files/acme")
+    }
+}
+
+fn patch<'a>(offset: &'a [u8], body: &'a [u8]) -> Request<'a> {
+    Request {
+        offset: Field::One(offset),
+        media: Field::One(b"application/offset+octet-stream"),
+        body,
+        ..request(Method::Patch, b"/files/acme/1")
+    }
+}
+
+fn post<'a>(target: &[u8]) -> Request<'a> {
+    Request {
+        length: Field::One(b"1"),
+        ..request(Method::Post, target)
+    }
+}
+
+fn at_offset(refusal: Refusal) -> Told {
+    Told::Refused {
+        refusal,
+        head: false,
+        expires: Some(4600),
+    }
+}
+
+#[test]
+fn an_upload_grows_to_its_end(rt: HostRuntime) -> Result<(), Fail> {
+    let mut book = book(rt.alloc())?;
+    let now = at(1000)?;
+    let rows = [
+        (
+            creation(b"10"),
+            Told::Created {
+                id: 1,
+                expires: Some(4600),
+            },
+        ),
+        (
+            patch(b"0", b"hello"),
+            Told::Patched {
+                offset: 5,
+                expires: Some(4600),
+            },
+        ),
+        (patch(b"3", b"x"), at_offset(Refusal::Offset)),
+        (patch(b"5", b"worlds"), at_offset(Refusal::TooLong)),
+        (
+            request(Method::Head, b"http://h:1/files/acme/1"),
+            Told::Head {
+                offset: 5,
+                length: Some(10),
+            },
+        ),
+        (
+            patch(b"5", b"world"),
+            Told::Patched {
+                offset: 10,
+                expires: None,
+            },
+        ),
+        (
+            patch(b"10", b""),
+            Told::Patched {
+                offset: 10,
+                expires: None,
+            },
+        ),
+        (creation(b"65"), refused(Refusal::TooLong)),
+        (
+            creation(b"64"),
+            Told::Created {
+                id: 2,
+                expires: Some(4600),
+            },
+        ),
+    ];
+    for (request, expected) in &rows {
+        let reply = answer(&mut book, request, now);
+        assert_eq!(rt; &told_by(&reply), expected);
+    }
+    Ok(())
+}
+
+#[test]
+fn each_reason_comes_in_its_order(rt: HostRuntime) -> Result<(), Fail> {
+    let mut book = book(rt.alloc())?;
+    let now = at(1000)?;
+    let rows = [
+        (
+            Request {
+                version: Field::Absent,
+                ..creation(b"10")
+            },
+            Refusal::Version,
+        ),
+        (
+            Request {
+                version: Field::One(b"0.2.2"),
+                ..post(b"/other")
+            },
+            Refusal::Version,
+        ),
+        (
+            Request {
+                version: Field::Many,
+                ..creation(b"10")
+            },
+            Refusal::Version,
+        ),
+        (request(Method::Other, b"/other"), Refusal::Path),
+        (request(Method::Patch, b"/files/acme/01"), Refusal::Path),
+        (request(Method::Other, b"/files/gamma/1"), Refusal::Tenant),
+        (request(Method::Patch, b"/files/acme"), Refusal::Method),
+        (request(Method::Post, b"/files/acme/1"), Refusal::Method),
+        (request(Method::Other, b"/files/acme/1"), Refusal::Method),
+        (request(Method::Post, b"/files/acme"), Refusal::Field),
+        (creation(b"18446744073709551616"), Refusal::Field),
+        (
+            Request {
+                length: Field::Many,
+                ..creation(b"10")
+            },
+            Refusal::Field,
+        ),
+        (
+            Request {
+                defer: Field::One(b"1"),
+                ..creation(b"10")
+            },
+            Refusal::Field,
+        ),
+        (
+            Request {
+                metadata: Field::One(b"a"),
+                ..creation(b"10")
+            },
+            Refusal::Field,
+        ),
+        (
+            Request {
+                metadata: Field::Many,
+                ..creation(b"10")
+            },
+            Refusal::Field,
+        ),
+        (
+            Request {
+                concat: Field::One(b"partial"),
+                ..creation(b"10")
+            },
+            Refusal::Field,
+        ),
+        (
+            Request {
+                body: b"x",
+                ..creation(b"10")
+            },
+            Refusal::Field,
+        ),
+        (
+            Request {
+                offset: Field::Many,
+                ..patch(b"0", b"x")
+            },
+            Refusal::Field,
+        ),
+        (
+            Request {
+                length: Field::One(b"ten"),
+                ..patch(b"0", b"x")
+            },
+            Refusal::Field,
+        ),
+        (patch(b"0", b"x"), Refusal::Unknown),
+        (creation(b"18446744073709551615"), Refusal::TooLong),
+    ];
+    for (request, refusal) in &rows {
+        let reply = answer(&mut book, request, now);
+        assert_eq!(rt; told_by(&reply), refused(*refusal));
+    }
+    Ok(())
+}
+
+#[test]
+fn a_refused_creation_uses_no_id(rt: HostRuntime) -> Result<(), Fail> {
+    let mut book = book(rt.alloc())?;
+    let now = at(1000)?;
+    answer(
+        &mut book,
+        &Request {
+            version: Field::Absent,
+            ..creation(b"10")
+        },
+        now,
+    );
+    let empty_metadata = Request {
+        metadata: Field::One(b""),
+        ..creation(b"10")
+    };
+    let reply = answer(&mut book, &empty_metadata, now);
+    assert_eq!(rt;
+        told_by(&reply),
+        Told::Created {
+            id: 1,
+            expires: Some(4600)
+        }
+    );
+    let untyped = Request {
+        media: Field::Many,
+        ..patch(b"0", b"x")
+    };
+    let reply = answer(&mut book, &untyped, now);
+    assert_eq!(rt; told_by(&reply), at_offset(Refusal::Media));
+    let typed = Request {
+        media: Field::One(b"Application/Offset+Octet-Stream ; a=b"),
+        length: Field::One(b"010"),
+        ..patch(b"0", b"x")
+    };
+    let reply = answer(&mut book, &typed, now);
+    assert_eq!(rt;
+        told_by(&reply),
+        Told::Patched {
+            offset: 1,
+            expires: Some(4600)
+        }
+    );
+    Ok(())
+}
+
+#[test]
+fn an_expired_upload_is_gone(rt: HostRuntime) -> Result<(), Fail> {
+    let mut book = book(rt.alloc())?;
+    let head = request(Method::Head, b"/files/acme/1");
+    let gone = Told::Refused {
+        refusal: Refusal::Gone,
+        head: true,
+        expires: None,
+    };
+    answer(&mut book, &creation(b"10"), at(1000)?);
+    assert_eq!(rt; told_by(&answer(&mut book, &head, at(4600)?)), gone);
+    let shown = Told::Head {
+        offset: 0,
+        length: Some(10),
+    };
+    assert_eq!(rt; told_by(&answer(&mut book, &head, at(4599)?)), shown);
+    let renewed = Told::Patched {
+        offset: 1,
+        expires: Some(8199),
+    };
+    assert_eq!(rt;
+        told_by(&answer(&mut book, &patch(b"0", b"a"), at(4599)?)),
+        renewed
+    );
+    let shown = Told::Head {
+        offset: 1,
+        length: Some(10),
+    };
+    assert_eq!(rt; told_by(&answer(&mut book, &head, at(4600)?)), shown);
+    Ok(())
+}

@@ -1,0 +1,10 @@
+pub mod Refusal
+pub mod Settings
+pub mod Upload
+pub mod PlainBook
+pub mod Create
+pub mod Append
+pub mod Look
+pub mod Lawful
+pub mod Shelf
+pub mod Book

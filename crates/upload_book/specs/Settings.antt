@@ -1,0 +1,73 @@
+-- What a server is set up with, and the first fault of what was given.
+use Rattle.std.specs.Prelude.{ℕ, ◌*◌, ◌-◌, ◌^◌, Bool, false, not, ◌||◌, List, [], ◌∷◌, ◌++◌, length, map, sum_by, nat_lt, ◌==◌, Option, Some, None, Result, Ok, Err, bytes_eq, if◌then◌else◌, position}
+use Rattle.std.specs.Borrow.{Bor}
+use Rattle.std.specs.List.{list_all, list_any}
+use Rattle.tus_text.specs.Tenant.{is_tenant_name}
+use Rattle.upload_book.specs.declared.settings.Numbers.{Numbers}
+use Rattle.upload_book.specs.declared.settings.TenantQuota.{TenantQuota}
+use Rattle.upload_book.specs.declared.settings.SettingsFault.{SettingsFault}
+use Rattle.upload_book.specs.declared.settings.SettingsFault.TheVariants.{Blocks, BlockSize, PoolBytes, Lifetime, MaxSize, Uploads, LastId, TenantCount, TenantName, TenantTwice, Quota}
+use Rattle.upload_book.specs.declared.settings.TheConstants.{TENANTS_MAX}
+
+-- the numbers, and the tenants in the order in which they were given
+pub record Limits : Type 0 where
+  pub numbers : Numbers
+  pub tenants : List TenantQuota
+
+-- names with their quotas, as tenants
+abbrev pub tenants_of : List (Bor (List ℕ) × ℕ) → List TenantQuota
+tenants_of given = map {A = Bor (List ℕ) × ℕ} {B = TenantQuota} (λ t. record { name = t.0.now; quota = t.1 }) given
+
+-- the number is outside 1 to most
+abbrev pub is_outside : ℕ → ℕ → Bool
+is_outside n most = n == 0 || nat_lt most n
+
+-- one of the later tenants has this name
+abbrev pub is_named_again : List ℕ → List TenantQuota → Bool
+is_named_again name tenants = list_any (λ t. bytes_eq t.name name) tenants
+
+-- two tenants have one name
+abbrev pub has_name_twice : List TenantQuota → Bool
+has_name_twice [] = false
+has_name_twice (t ∷ tenants) = is_named_again t.name tenants || has_name_twice tenants
+
+-- the fault of the first test that holds, if one does
+abbrev pub first_fault : List (Bool × SettingsFault) → Option SettingsFault
+first_fault [] = None
+first_fault (test ∷ tests) = if test.0 then Some test.1 else first_fault tests
+
+-- the tests of the numbers, in this order
+abbrev pub number_tests : Numbers → List (Bool × SettingsFault)
+number_tests n =
+    (is_outside n.blocks 1048576, Blocks)
+    ∷ (is_outside n.block_size 65536, BlockSize)
+    ∷ (nat_lt 1073741824 (n.blocks * n.block_size), PoolBytes)
+    ∷ (is_outside n.lifetime 31536000, Lifetime)
+    ∷ (is_outside n.max_size 16777216, MaxSize)
+    ∷ (is_outside n.uploads 64, Uploads)
+    ∷ (is_outside n.last_id (2 ^ 64 - 2), LastId)
+    ∷ []
+
+-- the tests of the tenants, whose quotas may be this many blocks together
+abbrev pub tenant_tests : ℕ → List TenantQuota → List (Bool × SettingsFault)
+tenant_tests blocks tenants =
+    (is_outside (length tenants) TENANTS_MAX, TenantCount)
+    ∷ (not (list_all (λ t. is_tenant_name t.name) tenants), TenantName)
+    ∷ (has_name_twice tenants, TenantTwice)
+    ∷ (nat_lt blocks (sum_by (λ t. t.quota) tenants), Quota)
+    ∷ []
+
+-- the first fault of the settings: those of the numbers come first
+abbrev pub settings_fault : Limits → Option SettingsFault
+settings_fault s = first_fault (number_tests s.numbers ++ tenant_tests s.numbers.blocks s.tenants)
+
+-- settings are those that were given, unless these have a fault
+abbrev pub settings_of : Limits → Result Limits SettingsFault
+settings_of given = settings_or given (settings_fault given) where
+  settings_or : Limits → Option SettingsFault → Result Limits SettingsFault
+  settings_or given None = Ok given
+  settings_or given (Some fault) = Err fault
+
+-- the place of a name in the list of tenants, from 0
+abbrev pub tenant_place : Limits → List ℕ → Option ℕ
+tenant_place s name = position (λ t. bytes_eq t.name name) s.tenants

@@ -1,0 +1,252 @@
+ghost use Rattle.std.specs.Prelude.{◌≡◌, ◌<◌, ◌≤◌, not, nat_lt, bytes_eq, length, map, position, sum_by, slice_get, IfSome};
+ghost use Rattle.std.specs.List.{list_all, list_any};
+ghost use Rattle.tus_text.specs.Tenant.{is_tenant_name};
+ghost use Rattle.upload_book.specs.Settings.{settings_fault, settings_of, tenants_of, tenant_place, first_fault, number_tests, tenant_tests, is_outside, has_name_twice};
+
+use arrayvec::ArrayVec;
+use std::marker::Model;
+use thiserror::Error;
+use tus_text::{Tenant, Text, is_tenant_name};
+
+/// The most tenants that a server has.
+pub const TENANTS_MAX: usize = 16;
+
+/// The numbers that a server is set up with.
+#[derive(Clone, Copy, Debug, PartialEq, Eq)]
+pub struct Numbers {
+    /// How many blocks there are: 1 to 1,048,576.
+    pub blocks: u64,
+    /// How many bytes a block has: 1 to 65,536; all blocks together at most 2^30.
+    pub block_size: u64,
+    /// For how many seconds an unfinished upload is kept after its last PATCH: 1 to 31,536,000.
+    pub lifetime: u64,
+    /// The most bytes of an upload and of a request's body: 1 to 16,777,216.
+    pub max_size: u64,
+    /// The most uploads that the book keeps for a tenant: 1 to 64.
+    pub uploads: u64,
+    /// The last id that is given: 1 to 2^64 - 2.
+    pub last_id: u64,
+    /// The greatest total of blocks that is ever charged.
+    pub last_total: u64,
+}
+
+/// A tenant's name, and the most blocks that its uploads may cost.
+#[derive(Default, Drop)]
+pub struct TenantQuota {
+    pub name: Tenant,
+    pub quota: u64,
+}
+
+/// What a server is set up with: numbers in their ranges, and 1 to 16 tenants of different names
+/// whose quotas sum to at most the number of blocks.
+#[derive(Drop)]
+pub struct Settings {
+    numbers: Numbers,
+    tenants: ArrayVec<TenantQuota, 16>,
+}
+
+impl Model for Settings {
+    ghost use Rattle.std.specs.Prelude.{◌≡◌, None};
+    ghost use Rattle.upload_book.specs.Settings.{Limits, settings_fault};
+
+    ghost Value = { Limits };
+
+    ghost view = { λ s. record { numbers = s.numbers; tenants = s.tenants.items } };
+
+    ghost invariant = { λ s. settings_fault (record { numbers = s.numbers; tenants = s.tenants.items }) ≡ None };
+}
+
+impl Settings {
+    /// The settings of these numbers and of these tenants, each a name and the most blocks that its
+    /// uploads may cost; or the first fault of them, in the order of [`SettingsFault`]. It takes no
+    /// memory, and compares each name with all later ones.
+    pub fn new(numbers: Numbers, tenants: &[(&[u8], u64)]) -> Result<Settings, SettingsFault>
+        ensures { result ≡
+            settings_of (record { numbers = numbers; tenants = tenants_of tenants.now }) }
+    {
+        if let Some(fault) = number_fault(numbers) {
+            return Err(fault);
+        }
+        if let Some(fault) = tenant_fault(numbers.blocks, tenants) {
+            return Err(fault);
+        }
+        let mut kept = ArrayVec::new();
+        for (name, quota) in tenants {
+            kept.push(TenantQuota {
+                name: Text::of(name),
+                quota: *quota,
+            });
+        }
+        Ok(Settings {
+            numbers,
+            tenants: kept,
+        })
+    }
+
+    /// The numbers, each in its range.
+    pub fn numbers(&self) -> Numbers
+        ensures value { result ≡ self.now.numbers }
+        ensures sound { settings_fault self.now ≡ None }
+        ensures max_size { result.max_size ≤ 16777216 }
+    {
+        self.numbers
+    }
+
+    /// How many tenants there are: 1 to [`TENANTS_MAX`].
+    pub fn tenant_count(&self) -> usize
+        ensures { result ≡ length self.now.tenants }
+    {
+        self.tenants.len()
+    }
+
+    /// The place of the tenant of this name, from 0, in the order in which the tenants were given; None
+    /// where there is none.
+    pub fn tenant(&self, name: &[u8]) -> Option<u8>
+        ensures place { result ≡ tenant_place self.now name.now }
+        ensures there { IfSome result (λ t. t < length self.now.tenants) }
+    {
+        let place = place_of(self.tenants.as_slice(), name)?;
+        Some(place as u8)
+    }
+
+    /// The name of the tenant at this place.
+    pub fn tenant_name(&self, tenant: u8) -> &Tenant
+        requires { tenant < length self.now.tenants }
+        ensures { slice_get (map (λ t. t.name) self.now.tenants) tenant ≡ Some result.now }
+    {
+        &self.tenants[usize::from(tenant)].name
+    }
+}
+
+// The place of the tenant of this name.
+fn place_of(tenants: &[TenantQuota], name: &[u8]) -> Option<usize>
+    ensures { result ≡ position (λ t. bytes_eq t.name name.now) tenants.now }
+{
+    tenants
+        .iter()
+        .position(|tenant| tenant.name.as_slice() == name)
+}
+
+// The first fault of the numbers.
+fn number_fault(numbers: Numbers) -> Option<SettingsFault>
+    ensures { result ≡ first_fault (number_tests numbers) }
+{
+    if is_outside(numbers.blocks, 1_048_576) {
+        Some(SettingsFault::Blocks)
+    } else if is_outside(numbers.block_size, 65_536) {
+        Some(SettingsFault::BlockSize)
+    } else if numbers.blocks * numbers.block_size > 1_073_741_824 {
+        Some(SettingsFault::PoolBytes)
+    } else if is_outside(numbers.lifetime, 31_536_000) {
+        Some(SettingsFault::Lifetime)
+    } else if is_outside(numbers.max_size, 16_777_216) {
+        Some(SettingsFault::MaxSize)
+    } else if is_outside(numbers.uploads, 64) {
+        Some(SettingsFault::Uploads)
+    } else if is_outside(numbers.last_id, u64::MAX - 1) {
+        Some(SettingsFault::LastId)
+    } else {
+        None
+    }
+}
+
+// Whether the number is outside 1 to `most`.
+fn is_outside(number: u64, most: u64) -> bool
+    ensures { result ≡ is_outside number most }
+{
+    number == 0 || number > most
+}
+
+// The first fault of the tenants, whose quotas may be `blocks` together.
+#[tactic(auto, using(crate::proofs::TenantLists::all_names_given, std::proofs::lemmas::Grind::common_steps))]
+fn tenant_fault(blocks: u64, tenants: &[(&[u8], u64)]) -> Option<SettingsFault>
+    ensures { result ≡ first_fault (tenant_tests blocks (tenants_of tenants.now)) }
+{
+    if tenants.is_empty() || tenants.len() > TENANTS_MAX {
+        Some(SettingsFault::TenantCount)
+    } else if !are_names(tenants) {
+        Some(SettingsFault::TenantName)
+    } else if has_name_twice(tenants) {
+        Some(SettingsFault::TenantTwice)
+    } else if !quotas_fit(blocks, tenants) {
+        Some(SettingsFault::Quota)
+    } else {
+        None
+    }
+}
+
+// Whether each can be the name of a tenant.
+fn are_names(tenants: &[(&[u8], u64)]) -> bool
+    ensures { result ≡ list_all (λ t. is_tenant_name t.0.now) tenants.now }
+{
+    tenants.iter().all(|tenant| is_tenant_name(tenant.0))
+}
+
+// Whether two of the names are the same.
+fn has_name_twice(tenants: &[(&[u8], u64)]) -> bool
+    ensures { result ≡ has_name_twice (tenants_of tenants.now) }
+{
+    match tenants.split_first() {
+        Some((first, later)) => is_named_again(first.0, later) || has_name_twice(later),
+        None => false,
+    }
+}
+
+// Whether one of the later tenants has this name.
+fn is_named_again(name: &[u8], later: &[(&[u8], u64)]) -> bool
+    ensures { result ≡ list_any (λ t. bytes_eq t.0.now name.now) later.now }
+{
+    later.iter().any(|tenant| tenant.0 == name)
+}
+
+// Whether the quotas sum to at most `blocks`.
+fn quotas_fit(blocks: u64, tenants: &[(&[u8], u64)]) -> bool
+    ensures { result ≡ not (nat_lt blocks (sum_by (λ t. t.quota) (tenants_of tenants.now))) }
+{
+    let mut left = blocks;
+    for (_, quota) in tenants {
+        if *quota > left {
+            return false;
+        }
+        left -= *quota;
+    }
+    true
+}
+
+/// What is wrong with settings. It displays its word.
+#[derive(Clone, Copy, Debug, PartialEq, Eq, Error)]
+pub enum SettingsFault {
+    /// The number of blocks is outside 1 to 1,048,576.
+    #[error("blocks")]
+    Blocks,
+    /// The size of a block is outside 1 to 65,536.
+    #[error("block-size")]
+    BlockSize,
+    /// The blocks have more than 2^30 bytes together.
+    #[error("pool-bytes")]
+    PoolBytes,
+    /// The lifetime is outside 1 to 31,536,000 seconds.
+    #[error("lifetime")]
+    Lifetime,
+    /// The greatest size is outside 1 to 16,777,216 bytes.
+    #[error("max-size")]
+    MaxSize,
+    /// The number of uploads of a tenant is outside 1 to 64.
+    #[error("uploads")]
+    Uploads,
+    /// The last id is 0 or 2^64 - 1.
+    #[error("last-id")]
+    LastId,
+    /// There is no tenant, or there are more than 16.
+    #[error("tenants")]
+    TenantCount,
+    /// A name is not 1 to 32 bytes of `a` to `z`, digits and `-`.
+    #[error("tenant")]
+    TenantName,
+    /// Two tenants have one name.
+    #[error("twice")]
+    TenantTwice,
+    /// The quotas sum to more than the number of blocks.
+    #[error("quota")]
+    Quota,
+}
