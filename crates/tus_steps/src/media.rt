@@ -24,7 +24,7 @@ fn before_semicolon(value: &[u8]) -> &[u8]
 }
 
 /// The bytes without the spaces and tabs at both ends.
-fn trim_blanks(bytes: &[u8]) -> &[u8]
+pub fn trim_blanks(bytes: &[u8]) -> &[u8]
     ensures { result.now ≡ trimmed bytes.now }
 {
     skip_blanks_at_end(skip_blanks(bytes))

@@ -1,0 +1,11 @@
+-- What stands on a page after several pieces were put.
+use Rattle.std.proofs.Common.{◌≡◌, ℕ, List, ◌++◌, ap, ◌∙◌, append_assoc}
+
+-- one more piece
+pub joined : (page front piece before after : List ℕ) → before ≡ page ++ front → after ≡ before ++ piece → after ≡ page ++ (front ++ piece)
+joined page front piece before after h k = k ∙ ap (λ l. l ++ piece) h ∙ append_assoc page front piece
+
+-- the pieces of a path's line, put one by one
+pub path_joined : (page name files tenant slash id end : List ℕ)
+    → ((((page ++ (name ++ files)) ++ tenant) ++ slash) ++ id) ++ end ≡ page ++ ((name ++ (((files ++ tenant) ++ slash) ++ id)) ++ end)
+path_joined page name files tenant slash id end = simp append_assoc

@@ -1,0 +1,15 @@
+use Rattle.std.proofs.Common.{◌≡◌, ◌+◌, ◌-◌, ◌≤◌, suc, false, length}
+use Rattle.std.specs.Prelude.{if◌then◌else◌}
+use Rattle.http_wire.specs.declared.inbox.TheConstants.{READ_SIZE}
+use Rattle.http_wire.proofs.read.fill_to.Given as goal
+
+abbrev pub invariant-loop-inbox : goal.invariant-loop-inbox
+invariant-loop-inbox g l = record {
+  alive : g.R.Source.has_failed l.reader ≡ false;
+  grew : length l.initial.inbox.held ≤ length l.inbox.held;
+  room : l.total + READ_SIZE ≤ l.inbox.room;
+}
+
+-- a read gives bytes, or the end
+abbrev pub decreases-loop-inbox : goal.decreases-loop-inbox
+decreases-loop-inbox g l = if l.inbox.ended then 0 else suc (l.total - length l.inbox.held)

@@ -1,0 +1,126 @@
+-- What the bytes of an input begin with: a message, or why there is none (RFC 9112, sections 2, 3, 5,
+-- 6 and 9.3; RFC 9110, section 10.1.1).
+use Rattle.std.specs.Prelude.{◌≡◌, ◌≤◌, ◌⊎◌, ℕ, Bool, true, false, ◌&&◌, ◌||◌, ◌==◌, nat_lt, nat_le, List, [], length, take, drop, codes, bytes_eq, if◌then◌else◌, MatchBool, Option, Some, None, Result, Ok, Err}
+use Rattle.httparse.specs.Grammar.{RequestHead, ReadsRequest}
+use Rattle.tus_text.specs.Path.{path_of}
+use Rattle.tus_steps.specs.declared.method.Method.{Method}
+use Rattle.tus_steps.specs.declared.method.Method.TheVariants as method
+use Rattle.tus_steps.specs.Request.{Asked}
+use Rattle.tus_steps.specs.Step.{is_head}
+use Rattle.http_wire.specs.Connection.{closes, asks_to_continue}
+use Rattle.http_wire.specs.Fields.{values_named, field_text}
+use Rattle.http_wire.specs.HeadText.{HeadText, whole, too_long, cut, nothing, head_text, has_many_lines}
+use Rattle.http_wire.specs.Judge.{judge}
+use Rattle.http_wire.specs.declared.framing.Framing.{Framing}
+use Rattle.http_wire.specs.declared.refusal.WireRefusal.{WireRefusal}
+use Rattle.http_wire.specs.declared.refusal.WireRefusal.TheVariants.{Memory, Head, HeadSize}
+
+-- What an input begins with. A message, with its framing, whether `100 Continue` is due before its body,
+-- and what follows it; a request that the wire refuses; the end of the input inside a body, that of a
+-- PATCH with the bytes that came; the end anywhere else inside a message; or the end between two.
+pub data Front : Type 0 where
+  message : Asked → Framing → Bool → List ℕ → Front
+  refused : WireRefusal → Framing → Front
+  cut_patch : Asked → Framing → Bool → Front
+  cut_other : Bool → Front
+  clean_end : Front
+
+-- the method that a name stands for, which is told by exact case
+abbrev pub method_of : List ℕ → Method
+method_of name =
+    if bytes_eq name (codes "POST") then method.Post
+    else (if bytes_eq name (codes "HEAD") then method.Head
+    else (if bytes_eq name (codes "PATCH") then method.Patch else method.Other))
+
+-- the method is PATCH
+abbrev pub is_patch : Method → Bool
+is_patch method.Post = false
+is_patch method.Head = false
+is_patch method.Patch = true
+is_patch method.Other = false
+
+-- the request of a head with a body
+abbrev pub request_of : RequestHead → List ℕ → Asked
+request_of h body = record {
+  method = method_of h.method;
+  path = path_of h.target;
+  version = field_text (codes "tus-resumable") h.fields;
+  length = field_text (codes "upload-length") h.fields;
+  defer = field_text (codes "upload-defer-length") h.fields;
+  offset = field_text (codes "upload-offset") h.fields;
+  metadata = field_text (codes "upload-metadata") h.fields;
+  concat = field_text (codes "upload-concat") h.fields;
+  media = field_text (codes "content-type") h.fields;
+  body = body;
+}
+
+-- the reply to a HEAD is bare; the connection closes after a request of HTTP/1.0, and where it says so
+abbrev pub framing_of : RequestHead → Framing
+framing_of h = record {
+  bare = is_head (method_of h.method);
+  close = h.minor == 0 || closes (values_named (codes "connection") h.fields);
+}
+
+-- a refusal of the wire closes the connection
+abbrev pub closing : Framing → Framing
+closing framing = record framing { close = true }
+
+-- the framing of a refusal by a head that is not known
+abbrev pub unknown_framing : Framing
+unknown_framing = record { bare = false; close = true }
+
+-- the length of the body of a head, or why it is refused
+abbrev pub judged : ℕ → RequestHead → Result ℕ WireRefusal
+judged max h =
+    judge max h.minor (field_text (codes "host") h.fields) (field_text (codes "transfer-encoding") h.fields)
+    (field_text (codes "content-length") h.fields)
+
+-- the request waits for `100 Continue` before it sends a body of n bytes
+abbrev pub is_waiting : RequestHead → ℕ → Bool
+is_waiting h n = h.minor == 1 && asks_to_continue (field_text (codes "expect") h.fields) && nat_lt 0 n
+
+-- a head with a body of n bytes, of which the input has these
+abbrev pub with_body : RequestHead → ℕ → List ℕ → Front
+with_body h n rest =
+    if nat_le n (length rest) then message (request_of h (take n rest)) (framing_of h) (is_waiting h n) (drop n rest)
+    else (if is_patch (method_of h.method) then cut_patch (request_of h rest) (framing_of h) (is_waiting h n)
+    else cut_other (is_waiting h n))
+
+-- a head whose fields were judged, with what follows it
+abbrev pub judged_front : RequestHead → Result ℕ WireRefusal → List ℕ → Front
+judged_front h (Err why) rest = refused why (closing (framing_of h))
+judged_front h (Ok n) rest = with_body h n rest
+
+-- a head text that was parsed, with what follows it
+abbrev pub parsed_front : ℕ → Option RequestHead → List ℕ → Front
+parsed_front max None rest = refused Head unknown_framing
+parsed_front max (Some h) rest = judged_front h (judged max h) rest
+
+-- the text as a whole is a request head of httparse's grammar with at most 64 fields, or it is none
+abbrev pub Parses : List ℕ → Option RequestHead → Type 0
+Parses text None = (h : RequestHead) → ReadsRequest text h [] → length h.fields ≤ 64 → ⊥
+Parses text (Some h) = ReadsRequest text h [] × (length h.fields ≤ 64)
+
+-- a head that was parsed is refused for want of memory for its fields, or for its body
+abbrev pub LacksMemory : ℕ → Option RequestHead → Front → Type 0
+LacksMemory max None f = ⊥
+LacksMemory max (Some h) f =
+    (f ≡ refused Memory unknown_framing)
+    ⊎ ((n : ℕ) × (judged max h ≡ Ok n) × (f ≡ refused Memory (closing (framing_of h))))
+
+-- what a whole head text begins
+abbrev pub BeginsWhole : ℕ → List ℕ → List ℕ → Front → Type 0
+BeginsWhole max text rest f =
+    (h : Option RequestHead) × Parses text h × ((f ≡ parsed_front max h rest) ⊎ LacksMemory max h f)
+
+-- what a head text begins
+abbrev pub Begins : ℕ → HeadText → Front → Type 0
+Begins max (whole text rest) f =
+    MatchBool (has_many_lines text) (f ≡ refused HeadSize unknown_framing) (BeginsWhole max text rest f)
+Begins max too_long f = f ≡ refused HeadSize unknown_framing
+Begins max cut f = f ≡ cut_other false
+Begins max nothing f = f ≡ clean_end
+
+-- what an input begins with, where a body has at most max bytes
+abbrev pub IsFront : ℕ → List ℕ → Front → Type 0
+IsFront max input f = Begins max (head_text input) f

@@ -1,0 +1,16 @@
+pub mod Ahead
+pub mod Connection
+pub mod Conversation
+pub mod Fields
+pub mod Front
+pub mod HeadFound
+pub mod HeadText
+pub mod Judge
+pub mod Lent
+pub mod Message
+pub mod Outcome
+pub mod Parts
+pub mod Refusal
+pub mod ReplyText
+pub mod Scan
+pub mod Shown

@@ -1,0 +1,212 @@
+-- The bytes of a reply (RFC 9112, sections 4 and 5; tus 1.0.0, Core Protocol, Creation, Expiration and
+-- Concatenation): for each field, where it stands and what it tells. The order of the fields is this
+-- server's choice.
+use Rattle.std.specs.Prelude.{ℕ, Bool, true, false, not, ◌||◌, ◌==◌, if◌then◌else◌, List, [], ◌∷◌, ◌++◌, length, codes, decimal, Option, Some, None}
+use Rattle.tus_text.specs.Date.{expires_text}
+use Rattle.upload_book.specs.declared.refusal.Refusal.TheVariants as refusal
+use Rattle.upload_book.specs.Refusal.{number_of, status_of, word_of}
+use Rattle.tus_steps.specs.declared.reply.Place.{Place}
+use Rattle.tus_steps.specs.declared.reply.Place.TheVariants as place
+use Rattle.tus_steps.specs.declared.reply.Reply.{Reply}
+use Rattle.tus_steps.specs.declared.reply.Reply.TheVariants.{Created, Head, Patched, Refused}
+use Rattle.http_wire.specs.Refusal as wire
+use Rattle.http_wire.specs.declared.framing.Framing.{Framing}
+use Rattle.http_wire.specs.declared.refusal.WireRefusal.{WireRefusal}
+
+-- CR LF
+abbrev pub crlf : List ℕ
+crlf = 13 ∷ 10 ∷ []
+
+-- field-line = name ":" SP value CR LF
+unfoldable pub line : List ℕ → List ℕ → List ℕ
+line name value = name ++ codes ": " ++ value ++ crlf
+
+-- the line of a text that is there unless it is empty
+unfoldable pub text_line : List ℕ → List ℕ → List ℕ
+text_line name [] = []
+text_line name (b ∷ value) = line name (b ∷ value)
+
+-- the line of a number that may be there
+unfoldable pub number_line : List ℕ → Option ℕ → List ℕ
+number_line name None = []
+number_line name (Some n) = line name (decimal n)
+
+-- a line that stands where the test holds
+unfoldable pub line_if : Bool → List ℕ → List ℕ → List ℕ
+line_if true name value = line name value
+line_if false name value = []
+
+-- the reason phrases of the statuses (RFC 9110, section 15; RFC 6585; RFC 4918)
+abbrev pub reasons : List (ℕ × List ℕ)
+reasons =
+    (200, codes "OK")
+    ∷ (201, codes "Created")
+    ∷ (204, codes "No Content")
+    ∷ (400, codes "Bad Request")
+    ∷ (403, codes "Forbidden")
+    ∷ (404, codes "Not Found")
+    ∷ (405, codes "Method Not Allowed")
+    ∷ (409, codes "Conflict")
+    ∷ (410, codes "Gone")
+    ∷ (411, codes "Length Required")
+    ∷ (412, codes "Precondition Failed")
+    ∷ (413, codes "Content Too Large")
+    ∷ (415, codes "Unsupported Media Type")
+    ∷ (431, codes "Request Header Fields Too Large")
+    ∷ (503, codes "Service Unavailable")
+    ∷ (507, codes "Insufficient Storage")
+    ∷ []
+
+-- the phrase beside a status
+abbrev pub reason_in : List (ℕ × List ℕ) → ℕ → List ℕ
+reason_in [] status = []
+reason_in (r ∷ rows) status = if r.0 == status then r.1 else reason_in rows status
+
+-- status-line = HTTP-version SP status-code SP reason-phrase CR LF
+unfoldable pub status_line : ℕ → List ℕ
+status_line status = codes "HTTP/1.1 " ++ decimal status ++ codes " " ++ reason_in reasons status ++ crlf
+
+-- the lines that every reply begins with: the status, the moment and the protocol's version
+unfoldable pub opening : ℕ → ℕ → List ℕ
+opening status now =
+    status_line status ++ line (codes "Date") (expires_text now) ++ line (codes "Tus-Resumable") (codes "1.0.0")
+
+-- the status of a reply
+abbrev pub reply_status : Reply → ℕ
+reply_status (Created tenant id expires) = 201
+reply_status (Head row) = 200
+reply_status (Patched offset expires) = 204
+reply_status (Refused why head at expires) = status_of why
+
+-- a request of another version of the protocol is told the one that is served
+abbrev pub tells_version : Reply → Bool
+tells_version (Created tenant id expires) = false
+tells_version (Head row) = false
+tells_version (Patched offset expires) = false
+tells_version (Refused why head at expires) = number_of why == number_of refusal.Version
+
+-- the methods that are served at a place
+abbrev pub allowed_at : Place → List ℕ
+allowed_at place.Create = codes "POST"
+allowed_at place.Upload = codes "HEAD, PATCH"
+allowed_at place.Other = []
+
+-- a request whose method is not allowed is told those that are
+abbrev pub allowed_in : Reply → List ℕ
+allowed_in (Created tenant id expires) = []
+allowed_in (Head row) = []
+allowed_in (Patched offset expires) = []
+allowed_in (Refused why head at expires) = if number_of why == number_of refusal.Method then allowed_at at else []
+
+-- the path of an upload
+abbrev pub upload_path : List ℕ → ℕ → List ℕ
+upload_path tenant id = codes "/files/" ++ tenant ++ codes "/" ++ decimal id
+
+-- the path of an upload that was created
+abbrev pub location_in : Reply → List ℕ
+location_in (Created tenant id expires) = upload_path tenant id
+location_in (Head row) = []
+location_in (Patched offset expires) = []
+location_in (Refused why head at expires) = []
+
+-- how many bytes the upload has
+abbrev pub offset_in : Reply → Option ℕ
+offset_in (Created tenant id expires) = None
+offset_in (Head row) = Some row.offset
+offset_in (Patched offset expires) = Some offset
+offset_in (Refused why head at expires) = None
+
+-- how many it will have, or that this will be told later
+unfoldable pub declared_line : Option ℕ → List ℕ
+declared_line None = line (codes "Upload-Defer-Length") (codes "1")
+declared_line (Some n) = number_line (codes "Upload-Length") (Some n)
+
+-- the same of the upload in a reply to a HEAD
+unfoldable pub length_line : Reply → List ℕ
+length_line (Created tenant id expires) = []
+length_line (Head row) = declared_line row.declared
+length_line (Patched offset expires) = []
+length_line (Refused why head at expires) = []
+
+-- its metadata, as it was accepted
+abbrev pub metadata_in : Reply → List ℕ
+metadata_in (Created tenant id expires) = []
+metadata_in (Head row) = row.metadata
+metadata_in (Patched offset expires) = []
+metadata_in (Refused why head at expires) = []
+
+-- what it is a part or the whole of, as it was accepted
+abbrev pub concat_in : Reply → List ℕ
+concat_in (Created tenant id expires) = []
+concat_in (Head row) = row.concat
+concat_in (Patched offset expires) = []
+concat_in (Refused why head at expires) = []
+
+-- when it expires, except in the reply to a HEAD
+abbrev pub expires_in : Reply → Option ℕ
+expires_in (Created tenant id expires) = expires
+expires_in (Head row) = None
+expires_in (Patched offset expires) = expires
+expires_in (Refused why head at expires) = expires
+
+-- the line of a moment that may be there
+unfoldable pub moment_line : List ℕ → Option ℕ → List ℕ
+moment_line name None = []
+moment_line name (Some moment) = line name (expires_text moment)
+
+-- no reply to a HEAD is kept by a cache
+abbrev pub is_uncached : Reply → Bool
+is_uncached (Created tenant id expires) = false
+is_uncached (Head row) = true
+is_uncached (Patched offset expires) = false
+is_uncached (Refused why head at expires) = head
+
+-- the fields of a reply of the steps
+unfoldable pub own_fields : Reply → List ℕ
+own_fields r =
+    line_if (tells_version r) (codes "Tus-Version") (codes "1.0.0")
+    ++ text_line (codes "Allow") (allowed_in r)
+    ++ text_line (codes "Location") (location_in r)
+    ++ number_line (codes "Upload-Offset") (offset_in r)
+    ++ length_line r
+    ++ text_line (codes "Upload-Metadata") (metadata_in r)
+    ++ text_line (codes "Upload-Concat") (concat_in r)
+    ++ moment_line (codes "Upload-Expires") (expires_in r)
+    ++ line_if (is_uncached r) (codes "Cache-Control") (codes "no-store")
+
+-- the body of a reply: a word and LF, or nothing
+unfoldable pub body_text : List ℕ → List ℕ
+body_text word = if length word == 0 then [] else word ++ 10 ∷ []
+
+-- the fields of that body
+unfoldable pub content_fields : List ℕ → List ℕ
+content_fields word =
+    line_if (not (length word == 0)) (codes "Content-Type") (codes "text/plain")
+    ++ number_line (codes "Content-Length") (Some (length (body_text word)))
+
+-- what follows the fields of the steps. A bare reply has no body and no field of one
+unfoldable pub ending : Bool → Bool → List ℕ → List ℕ
+ending bare close word =
+    (if bare then [] else content_fields word) ++ line_if close (codes "Connection") (codes "close") ++ crlf
+    ++ (if bare then [] else body_text word)
+
+-- a reply to a HEAD is bare, and so is one of status 204
+abbrev pub is_bare : Framing → ℕ → Bool
+is_bare framing status = framing.bare || status == 204
+
+-- the word of a reply that refuses
+abbrev pub reply_word : Reply → List ℕ
+reply_word (Created tenant id expires) = []
+reply_word (Head row) = []
+reply_word (Patched offset expires) = []
+reply_word (Refused why head at expires) = word_of why
+
+-- the bytes of a reply at a moment
+unfoldable pub reply_text : Reply → ℕ → Framing → List ℕ
+reply_text r now framing =
+    opening (reply_status r) now ++ own_fields r ++ ending (is_bare framing (reply_status r)) framing.close (reply_word r)
+
+-- the bytes of a refusal of the wire at a moment
+unfoldable pub refusal_text : WireRefusal → ℕ → Framing → List ℕ
+refusal_text why now framing =
+    opening (wire.status_of why) now ++ ending (is_bare framing (wire.status_of why)) framing.close (wire.word_of why)

@@ -1,0 +1,102 @@
+ghost use Rattle.std.specs.Prelude.{◌≡◌, ◌≤◌, false, IfOk, IfErr};
+ghost use Rattle.http_wire.specs.Lent.{Names, NamesOrMemory, IsAliveUnless};
+
+use crate::buffers::Buffers;
+use crate::fault::WireFault;
+use crate::message::request_in;
+use crate::read::{Cut, Front, read_front};
+use crate::source::{Sink, Source};
+use crate::write::{write_refusal, write_reply};
+use std::alloc::Global;
+use tus_steps::answer;
+use upload_book::{Book, Moment};
+
+/// How a conversation ended.
+#[derive(Clone, Copy, Debug, PartialEq, Eq)]
+pub enum Ended {
+    /// The input ended between two messages.
+    Input,
+    /// The connection closes after the last reply.
+    Closed,
+    /// The input ended inside a message.
+    Cut,
+    /// No moment was left for the next message, and it was not read.
+    Moments,
+}
+
+/// Reads messages and writes their replies until the input ends, the connection closes or no moment is
+/// left. The k-th message, a refused or cut one included, has the k-th moment. The error is
+/// `WireFault::Memory`, before anything was read, `WireFault::Read` or `WireFault::Write`; the steps
+/// that the book took before it stay.
+pub fn converse<R: Source, W: Sink>(
+    alloc: Global,
+    reader: &mut R,
+    writer: &mut W,
+    book: &mut Book,
+    moments: &[Moment],
+) -> Result<Ended, WireFault>
+    requires reader { R.has_failed reader.old ≡ false }
+    requires writer { W.has_failed writer.old ≡ false }
+    ensures fault { IfErr result (NamesOrMemory (R.has_failed reader.new) (W.has_failed writer.new)) }
+{
+    let mut buffers = match Buffers::new(alloc) {
+        Ok(buffers) => buffers,
+        Err(_) => return Err(WireFault::Memory),
+    };
+    for moment in moments {
+        if let Some(ended) = take_turn(alloc, reader, writer, &mut buffers, book, *moment)? {
+            return Ok(ended);
+        }
+    }
+    Ok(Ended::Moments)
+}
+
+// Reads one message and writes its reply, and says whether the conversation ends with it.
+fn take_turn<R: Source, W: Sink>(
+    alloc: Global,
+    reader: &mut R,
+    writer: &mut W,
+    buffers: &mut Buffers,
+    book: &mut Book,
+    now: Moment,
+) -> Result<Option<Ended>, WireFault>
+    requires reader { R.has_failed reader.old ≡ false }
+    requires writer { W.has_failed writer.old ≡ false }
+    ensures reader { IfOk result (IsAliveUnless (R.has_failed reader.new)) }
+    ensures writer { IfOk result (IsAliveUnless (W.has_failed writer.new)) }
+    ensures fault { IfErr result (Names (R.has_failed reader.new) (W.has_failed writer.new)) }
+{
+    let Buffers { inbox, found, page } = buffers;
+    match read_front(alloc, reader, writer, inbox, found, max_size(book))? {
+        Front::Message(parts) => {
+            let reply = answer(book, &request_in(&parts, inbox.lent()), now);
+            write_reply(writer, page, &reply, now, parts.framing)?;
+            Ok(if parts.framing.close {
+                Some(Ended::Closed)
+            } else {
+                None
+            })
+        }
+        Front::Refused(refusal, framing) => {
+            write_refusal(writer, page, refusal, now, framing)?;
+            Ok(Some(Ended::Closed))
+        }
+        Front::CutPatch(parts, why) => {
+            let _ = answer(book, &request_in(&parts, inbox.lent()), now);
+            match why {
+                Cut::Ended => Ok(Some(Ended::Cut)),
+                Cut::Fault => Err(WireFault::Read),
+            }
+        }
+        Front::CutOther => Ok(Some(Ended::Cut)),
+        Front::End => Ok(Some(Ended::Input)),
+    }
+}
+
+// The most bytes of a request's body.
+fn max_size(book: &Book) -> u64
+    ensures value { result ≡ book.now.settings.numbers.max_size }
+    ensures range { result ≤ 16777216 }
+{
+    book.settings().numbers().max_size
+}

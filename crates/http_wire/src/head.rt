@@ -1,0 +1,190 @@
+ghost use Rattle.std.specs.Prelude.{◌≡◌, ◌≤◌, ◌<◌, ◌^◌, None, ℕ, List, length, map, IfOk, MatchOption, All, codes};
+ghost use Rattle.httparse.specs.Grammar.{RequestHead};
+ghost use Rattle.httparse.specs.Spans.{IsWithin, span_bytes};
+ghost use Rattle.http_header.specs.HeaderMap.{get_all};
+ghost use Rattle.http_header.specs.Token.{lowercase};
+ghost use Rattle.http_wire.specs.Fields.{IsInside, span_of};
+ghost use Rattle.tus_steps.specs.Step.{is_head};
+ghost use Rattle.http_wire.specs.Connection.{closes};
+ghost use Rattle.http_wire.specs.Front.{Parses, method_of, closing, unknown_framing};
+ghost use Rattle.http_wire.specs.Shown.{Gives, Shows};
+ghost use Rattle.http_wire.specs.Parts.{HasFields, HasLine, IsLine, IsPartsWithin};
+
+use crate::connection::{asks_to_continue, has_close};
+use crate::fields::{field_of, gather};
+use crate::framing::Framing;
+use crate::head_text::has_many_lines;
+use crate::judge::judge;
+use crate::parts::Parts;
+use crate::refusal::WireRefusal;
+use http_header::HeaderMap;
+use httparse::Status;
+use httparse::spans::{EMPTY_HEADER_SPAN, HeaderSpan, RequestSpans, Span, parse_request};
+use std::alloc::Global;
+use tus_steps::Method;
+
+/// The most fields of a head.
+const FIELD_LIMIT: usize = 64;
+
+/// A request that the wire refuses by its head, and how its reply is framed.
+#[derive(Clone, Copy, Debug)]
+pub struct RefusedHead {
+    pub refusal: WireRefusal,
+    pub framing: Framing,
+}
+
+/// The framing of a refusal by a head that is not known.
+pub const UNKNOWN_FRAMING: Framing = Framing {
+    bare: false,
+    close: true,
+};
+
+/// The parts of a head, and of the body that follows it, which has at most `max_size` bytes; or the
+/// first refusal of the wire that applies. `found` is where the fields are gathered.
+pub fn read_parts(
+    alloc: Global,
+    head: &[u8],
+    found: &mut HeaderMap<Span>,
+    max_size: u64,
+) -> Result<Parts, RefusedHead>
+    requires short { length head.now ≤ 65535 }
+    requires max_size { max_size < 2 ^ 31 }
+    ensures within { IfOk result (λ p. IsPartsWithin (length head.now) p) }
+    ensures size { IfOk result (λ p. p.body_len ≤ max_size) }
+    ensures gives { Gives max_size head.now result }
+{
+    if has_many_lines(head) {
+        return Err(unknown(WireRefusal::HeadSize));
+    }
+    let mut spans = [EMPTY_HEADER_SPAN; FIELD_LIMIT];
+    let Some(line) = parse(head, &mut spans) else {
+        return Err(unknown(WireRefusal::Head));
+    };
+    match gather(alloc, head, &spans[..line.headers], found) {
+        Ok(()) => parts_of(line, head, found, max_size),
+        Err(_) => Err(unknown(WireRefusal::Memory)),
+    }
+}
+
+fn unknown(refusal: WireRefusal) -> RefusedHead
+    ensures { result ≡ record { refusal = refusal; framing = unknown_framing } }
+{
+    RefusedHead {
+        refusal,
+        framing: UNKNOWN_FRAMING,
+    }
+}
+
+// The parts of a head that was parsed, and whose fields were gathered.
+fn parts_of(
+    line: RequestSpans,
+    head: &[u8],
+    found: &HeaderMap<Span>,
+    max_size: u64,
+) -> Result<Parts, RefusedHead>
+    requires max_size { max_size < 2 ^ 31 }
+    requires method { IsWithin (length head.now) line.method }
+    requires target { IsWithin (length head.now) line.path }
+    requires fields { (name : List ℕ) → All (IsWithin (length head.now)) (get_all found.now name) }
+    ensures within { IfOk result (λ p. IsPartsWithin (length head.now) p) }
+    ensures size { IfOk result (λ p. p.body_len ≤ max_size) }
+    ensures shown { (h : RequestHead) → HasLine head.now line h
+        → HasFields head.now found.now h.fields
+        → Shows max_size head.now h result }
+{
+    let method = method_of(line.method.of(head));
+    let framing = Framing {
+        bare: is_head(method),
+        close: line.version == 0 || closes(head, found),
+    };
+    let host = field_of(head, found, "host").of(head);
+    let coding = field_of(head, found, "transfer-encoding").of(head);
+    let length = field_of(head, found, "content-length").of(head);
+    match judge(max_size, line.version, host, coding, length) {
+        Err(refusal) => Err(RefusedHead {
+            refusal,
+            framing: closing(framing),
+        }),
+        Ok(body_len) => {
+            let expect = field_of(head, found, "expect").of(head);
+            Ok(Parts {
+                method,
+                framing,
+                is_waiting: line.version == 1 && asks_to_continue(expect) && body_len > 0,
+                head_len: head.len(),
+                body_len: body_len as usize,
+                target: line.path,
+                version: field_of(head, found, "tus-resumable"),
+                length: field_of(head, found, "upload-length"),
+                defer: field_of(head, found, "upload-defer-length"),
+                offset: field_of(head, found, "upload-offset"),
+                metadata: field_of(head, found, "upload-metadata"),
+                concat: field_of(head, found, "upload-concat"),
+                media: field_of(head, found, "content-type"),
+            })
+        }
+    }
+}
+
+/// The framing of a reply after which the connection closes.
+pub fn closing(framing: Framing) -> Framing
+    ensures { result ≡ closing framing }
+{
+    Framing {
+        bare: framing.bare,
+        close: true,
+    }
+}
+
+fn is_head(method: Method) -> bool
+    ensures { result ≡ is_head method }
+{
+    match method {
+        Method::Head => true,
+        Method::Post | Method::Patch | Method::Other => false,
+    }
+}
+
+// Whether a Connection field has the token `close`.
+fn closes(head: &[u8], found: &HeaderMap<Span>) -> bool
+    requires { All (IsWithin (length head.now)) (get_all found.now (lowercase (codes "connection"))) }
+    ensures { result ≡ closes (map (span_bytes head.now)
+        (get_all found.now (lowercase (codes "connection")))) }
+{
+    for span in found.get_all("connection").iter() {
+        if has_close(span.of(head)) {
+            return true;
+        }
+    }
+    false
+}
+
+// The method that a name stands for, which is told by exact case.
+fn method_of(name: &[u8]) -> Method
+    ensures { result ≡ method_of name.now }
+{
+    match name {
+        b"POST" => Method::Post,
+        b"HEAD" => Method::Head,
+        b"PATCH" => Method::Patch,
+        _ => Method::Other,
+    }
+}
+
+// The parts of a head that is one of a request as a whole.
+fn parse(head: &[u8], spans: &mut [HeaderSpan; FIELD_LIMIT]) -> Option<RequestSpans>
+    ensures { MatchOption result (Parses head.now None) (λ line. (h : RequestHead)
+        × IsLine head.now spans.new line h) }
+{
+    match parse_request(head, spans) {
+        Ok(Status::Complete(line)) => {
+            if line.len == head.len() {
+                Some(line)
+            } else {
+                None
+            }
+        }
+        Ok(Status::Partial) => None,
+        Err(_) => None,
+    }
+}

@@ -1,0 +1,195 @@
+ghost use Rattle.std.specs.Prelude.{◌≡◌, ◌+◌, ◌^◌, ◌<◌, ◌≤◌, ◌++◌, ◌||◌, [], true, false, length, take, drop, IfOk, OnOk, OnErr, IfErr, is_err, slice_range, vec_len};
+ghost use Rattle.std.specs.Io.KnownBytes.{Consumes, Keeps, IsAtEnd};
+ghost use Rattle.http_wire.specs.Ahead.{Ahead, Grew};
+
+use crate::fault::WireFault;
+use crate::source::Source;
+use std::alloc::{AllocError, Global};
+use std::io;
+use std::marker::Model;
+
+/// The fewest bytes that a read asks for.
+pub const READ_SIZE: usize = 16_384;
+
+/// The bytes that a new inbox has room for.
+pub const FIRST_ROOM: usize = 65_536;
+
+/// The one buffer between a reader and the messages that are read from it. It is read into in large
+/// pieces; a message is lent from it without a copy, and what was read past it stays for the next.
+#[derive(Drop)]
+pub struct Inbox {
+    // `buffer[start..at]` is lent, `buffer[at..end]` is held.
+    buffer: Vec<u8>,
+    start: usize,
+    at: usize,
+    end: usize,
+    ended: bool,
+}
+
+impl Model for Inbox {
+    ghost use Rattle.std.specs.Prelude.{◌≤◌, slice_range, vec_len};
+    ghost use Rattle.http_wire.specs.Ahead.{Ahead};
+    ghost use Rattle.http_wire.specs.declared.inbox.TheConstants.{FIRST_ROOM};
+
+    ghost Value = { Ahead };
+
+    ghost view = { λ b. record {
+      lent = slice_range b.buffer.items b.start b.at;
+      held = slice_range b.buffer.items b.at b.end;
+      ended = b.ended;
+      room = vec_len b.buffer;
+    } };
+
+    ghost invariant = { λ b. (b.start ≤ b.at) × (b.at ≤ b.end) × (b.end ≤ vec_len b.buffer) × (FIRST_ROOM ≤ vec_len b.buffer) };
+}
+
+impl Inbox {
+    /// An inbox that holds nothing. The error is want of memory.
+    pub fn new(alloc: Global) -> Result<Self, AllocError>
+        ensures held { IfOk result (λ b. b.held ≡ []) }
+        ensures lent { IfOk result (λ b. b.lent ≡ []) }
+        ensures ended { IfOk result (λ b. b.ended ≡ false) }
+        ensures room { IfOk result (λ b. b.room ≡ FIRST_ROOM) }
+    {
+        let mut buffer = Vec::with_capacity(alloc, FIRST_ROOM)?;
+        buffer.resize(FIRST_ROOM, 0)?;
+        Ok(Inbox {
+            buffer,
+            start: 0,
+            at: 0,
+            end: 0,
+            ended: false,
+        })
+    }
+
+    /// The bytes that were read and belong to no message yet.
+    pub fn held(&self) -> &[u8]
+        ensures bytes { result.now ≡ self.now.held }
+        ensures room { FIRST_ROOM ≤ self.now.room }
+    {
+        let (at, end) = (self.at, self.end);
+        &self.buffer.as_slice()[at..end]
+    }
+
+    /// The bytes of the message that was taken last.
+    pub fn lent(&self) -> &[u8]
+        ensures { result.now ≡ self.now.lent }
+    {
+        let (start, at) = (self.start, self.at);
+        &self.buffer.as_slice()[start..at]
+    }
+
+    /// Whether the reader gave its end.
+    pub fn is_ended(&self) -> bool
+        ensures { result ≡ self.now.ended }
+    {
+        self.ended
+    }
+
+    /// Drops the first `count` bytes that are held, and what is lent.
+    pub fn skip(&mut self, count: usize)
+        requires { count ≤ length self.old.held }
+        ensures { self.new ≡ record self.old { lent = []; held = drop count self.old.held } }
+    {
+        self.at += count;
+        self.start = self.at;
+    }
+
+    /// Lends the first `count` bytes that are held, in place of what was lent.
+    pub fn lend(&mut self, count: usize)
+        requires { count ≤ length self.old.held }
+        ensures { self.new ≡ record self.old {
+          lent = take count self.old.held;
+          held = drop count self.old.held;
+        } }
+    {
+        self.start = self.at;
+        self.at += count;
+    }
+
+    /// Makes room for `total` bytes held at once and one more read after them. The error is want of
+    /// memory, and then nothing changed.
+    pub fn reserve(&mut self, total: usize) -> Result<(), AllocError>
+        requires { total < 2 ^ 32 }
+        ensures held { self.new.held ≡ self.old.held }
+        ensures ended { self.new.ended ≡ self.old.ended }
+        ensures ok { OnOk result (total + READ_SIZE ≤ self.new.room) }
+        ensures err { OnErr result (self.new ≡ self.old) }
+    {
+        let needed = total + READ_SIZE;
+        if self.buffer.len() < needed {
+            self.buffer.resize(needed, 0)?;
+        }
+        let count = self.end - self.at;
+        self.at = place_with_room(&mut self.buffer, self.at, count, needed);
+        self.start = self.at;
+        self.end = self.at + count;
+        Ok(())
+    }
+
+    /// Reads once, in place of what was lent. After `Ok`, either bytes came or the reader gave its
+    /// end. The error is `WireFault::Read`, and then nothing came.
+    pub fn fill<R: Source>(&mut self, reader: &mut R) -> Result<(), WireFault>
+        requires alive { R.has_failed reader.old ≡ false }
+        requires room { length self.old.held + READ_SIZE ≤ self.old.room }
+        ensures grew { Grew (R.remaining reader.old) (R.remaining reader.new) self.old self.new }
+        ensures lent { self.new.lent ≡ [] }
+        ensures room { self.new.room ≡ self.old.room }
+        ensures more { OnOk result (self.new.ended ≡ false
+            → length self.old.held < length self.new.held) }
+        ensures end { OnOk result (self.new.ended ≡ true
+            → (self.new.held ≡ self.old.held) × IsAtEnd (R.remaining reader.new)) }
+        ensures alive { OnOk result (R.has_failed reader.new ≡ false) }
+        ensures failed { OnErr result (R.has_failed reader.new ≡ true) }
+        ensures fault { IfErr result (λ e. e ≡ WireFault.Read) }
+        ensures unread { OnErr result ((self.new.held ≡ self.old.held)
+            × (self.new.ended ≡ self.old.ended)
+            × Keeps (R.remaining reader.old) (R.remaining reader.new)) }
+    {
+        let count = self.end - self.at;
+        self.at = place_with_room(&mut self.buffer, self.at, count, count + READ_SIZE);
+        self.start = self.at;
+        self.end = self.at + count;
+        match read_after(reader, &mut self.buffer, self.end) {
+            Ok(more) => {
+                self.ended = more == 0;
+                self.end += more;
+                Ok(())
+            }
+            Err(_) => Err(WireFault::Read),
+        }
+    }
+}
+
+// Where the `count` bytes from `at` on stand after they were moved to the front, which is done only
+// where fewer than `room` bytes follow `at`.
+fn place_with_room(buffer: &mut Vec<u8>, at: usize, count: usize, room: usize) -> usize
+    requires inside { at + count ≤ vec_len buffer.old }
+    requires fits { room ≤ vec_len buffer.old }
+    ensures len { vec_len buffer.new ≡ vec_len buffer.old }
+    ensures inside { result + count ≤ vec_len buffer.new }
+    ensures room { result + room ≤ vec_len buffer.new }
+    ensures bytes { slice_range buffer.new.items result (result + count)
+        ≡ slice_range buffer.old.items at (at + count) }
+{
+    if buffer.len() - at >= room {
+        return at;
+    }
+    buffer.copy_within(at..at + count, 0);
+    0
+}
+
+// One read into `buffer` from the place `at` on.
+fn read_after<R: Source>(reader: &mut R, buffer: &mut Vec<u8>, at: usize) -> io::Result<usize>
+    requires { at < vec_len buffer.old }
+    ensures len { vec_len buffer.new ≡ vec_len buffer.old }
+    ensures bound { IfOk result (λ n. at + n ≤ vec_len buffer.new) }
+    ensures before { take at buffer.new.items ≡ take at buffer.old.items }
+    ensures bytes { IfOk result (λ n. Consumes (R.remaining reader.old) (R.remaining reader.new)
+        (slice_range buffer.new.items at (at + n))) }
+    ensures end { IfOk result (λ n. n ≡ 0 → IsAtEnd (R.remaining reader.new)) }
+    ensures err { OnErr result (Keeps (R.remaining reader.old) (R.remaining reader.new)) }
+    ensures failed { R.has_failed reader.new ≡ (R.has_failed reader.old || is_err result) }
+{
+    reader.read(&mut buffer.as_mut_slice()[at..])
+}

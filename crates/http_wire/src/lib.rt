@@ -1,0 +1,34 @@
+//! HTTP/1.1 messages in and out: requests read from bytes, replies written as bytes.
+#![tactic(auto)]
+
+mod buffers;
+mod connection;
+mod conversation;
+mod fault;
+mod fields;
+mod framing;
+mod head;
+mod head_text;
+mod inbox;
+mod judge;
+mod message;
+mod page;
+mod parts;
+mod read;
+mod refusal;
+mod reply;
+mod send;
+mod source;
+#[cfg(test)]
+mod tests;
+mod wire;
+mod write;
+
+pub use conversation::{Ended, converse};
+pub use fault::WireFault;
+pub use framing::Framing;
+pub use read::Cut;
+pub use refusal::WireRefusal;
+pub use send::put_all;
+pub use source::{Sink, Source, Tapped};
+pub use wire::{Incoming, Message, Wire};

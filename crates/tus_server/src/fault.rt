@@ -1,0 +1,50 @@
+use http_wire::WireFault;
+use std::alloc::AllocError;
+use thiserror::Error;
+use upload_book::SettingsFault;
+
+/// Why a conversation did not begin, or broke off.
+#[derive(Clone, Copy, Debug, PartialEq, Eq, Error)]
+pub enum TalkFault {
+    /// The settings have a fault.
+    #[error("settings: {0}")]
+    Settings(SettingsFault),
+    /// A read or a write failed.
+    #[error("wire")]
+    Wire,
+    /// There was no memory to begin with.
+    #[error("memory")]
+    Memory,
+}
+
+impl TalkFault {
+    /// The exit status of the program.
+    pub fn status(self) -> u8 {
+        match self {
+            TalkFault::Settings(_) => 2,
+            TalkFault::Wire => 3,
+            TalkFault::Memory => 4,
+        }
+    }
+}
+
+impl From<SettingsFault> for TalkFault {
+    fn from(fault: SettingsFault) -> TalkFault {
+        TalkFault::Settings(fault)
+    }
+}
+
+impl From<AllocError> for TalkFault {
+    fn from(_: AllocError) -> TalkFault {
+        TalkFault::Memory
+    }
+}
+
+impl From<WireFault> for TalkFault {
+    fn from(fault: WireFault) -> TalkFault {
+        match fault {
+            WireFault::Memory => TalkFault::Memory,
+            WireFault::Read | WireFault::Write | WireFault::Failed => TalkFault::Wire,
+        }
+    }
+}
