@@ -4,3 +4,4 @@ pub mod HeadLemmas
 pub mod NameLemmas
 pub mod PageLemmas
 pub mod RangeLemmas
+pub mod PlainLemmas

@@ -14,3 +14,4 @@ pub mod Refusal
 pub mod ReplyText
 pub mod Scan
 pub mod Shown
+pub mod Plain

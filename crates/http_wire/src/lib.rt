@@ -14,6 +14,7 @@ mod judge;
 mod message;
 mod page;
 mod parts;
+pub mod plain;
 mod read;
 mod refusal;
 mod reply;

@@ -3,6 +3,7 @@ ghost use Rattle.std.specs.Prelude.{◌≤◌};
 use super::memory::{Input, Output};
 use crate::conversation::{Ended, converse};
 use crate::fault::WireFault;
+use crate::plain::plain_conversation;
 use crate::source::Tapped;
 use std::alloc::{AllocError, Global};
 use std::process::Abort;
@@ -120,7 +121,7 @@ const OFFSET: &[u8] = b"HTTP/1.1 409 Conflict\r\nDate: Thu, 01 Jan 1970 00:16:40
 Tus-Resumable: 1.0.0\r\nUpload-Expires: Thu, 01 Jan 1970 01:16:40 GMT\r\n\
 Content-Type: text/plain\r\nContent-Length: 7\r\n\r\noffset\n";
 
-const CHUNKED: &[u8] = b"POST /files/acme HTTP/1.1\r\nHost: x\r\nTus-Resumable: 1.0.0\r\n\
+pub const CHUNKED: &[u8] = b"POST /files/acme HTTP/1.1\r\nHost: x\r\nTus-Resumable: 1.0.0\r\n\
 Transfer-Encoding: chunked\r\nUpload-Length: 10\r\n\r\n";
 
 const CODING: &[u8] = b"HTTP/1.1 411 Length Required\r\nDate: Thu, 01 Jan 1970 00:16:40 GMT\r\n\
@@ -150,6 +151,37 @@ const MALFORMED: &[u8] = b"HTTP/1.1 400 Bad Request\r\n\
 Date: Thu, 01 Jan 1970 00:16:40 GMT\r\nTus-Resumable: 1.0.0\r\nContent-Type: text/plain\r\n\
 Content-Length: 5\r\nConnection: close\r\n\r\nhead\n";
 
+const PATCH_PAST: &[u8] = b"PATCH /files/acme/1 HTTP/1.1\r\nHost: x\r\nTus-Resumable: 1.0.0\r\n\
+Content-Type: application/offset+octet-stream\r\nUpload-Offset: 5\r\nContent-Length: 6\r\n\r\nworlds";
+
+const PATCH_REST: &[u8] = b"PATCH /files/acme/1 HTTP/1.1\r\nHost: x\r\nTus-Resumable: 1.0.0\r\n\
+Content-Type: application/offset+octet-stream\r\nUpload-Offset: 5\r\nContent-Length: 5\r\n\r\nworld";
+
+const TOO_LONG: &[u8] = b"HTTP/1.1 413 Content Too Large\r\nDate: Thu, 01 Jan 1970 00:16:40 GMT\r\n\
+Tus-Resumable: 1.0.0\r\nUpload-Expires: Thu, 01 Jan 1970 01:16:40 GMT\r\n\
+Content-Type: text/plain\r\nContent-Length: 9\r\n\r\ntoo-long\n";
+
+const COMPLETED: &[u8] = b"HTTP/1.1 204 No Content\r\nDate: Thu, 01 Jan 1970 00:16:40 GMT\r\n\
+Tus-Resumable: 1.0.0\r\nUpload-Offset: 10\r\n\r\n";
+
+const POST_TOO_LONG: &[u8] = b"POST /files/acme HTTP/1.1\r\nHost: x\r\nTus-Resumable: 1.0.0\r\n\
+Upload-Length: 65\r\n\r\n";
+
+const CREATION_TOO_LONG: &[u8] = b"HTTP/1.1 413 Content Too Large\r\n\
+Date: Thu, 01 Jan 1970 00:16:40 GMT\r\nTus-Resumable: 1.0.0\r\n\
+Content-Type: text/plain\r\nContent-Length: 9\r\n\r\ntoo-long\n";
+
+const VERSION: &[u8] = b"HTTP/1.1 412 Precondition Failed\r\n\
+Date: Thu, 01 Jan 1970 00:16:40 GMT\r\nTus-Resumable: 1.0.0\r\nTus-Version: 1.0.0\r\n\
+Content-Type: text/plain\r\nContent-Length: 8\r\n\r\nversion\n";
+
+const METHOD: &[u8] = b"HTTP/1.1 405 Method Not Allowed\r\n\
+Date: Thu, 01 Jan 1970 00:16:40 GMT\r\nTus-Resumable: 1.0.0\r\nAllow: HEAD, PATCH\r\n\
+Content-Type: text/plain\r\nContent-Length: 7\r\n\r\nmethod\n";
+
+const UNKNOWN: &[u8] = b"HTTP/1.1 404 Not Found\r\nDate: Thu, 01 Jan 1970 00:16:40 GMT\r\n\
+Tus-Resumable: 1.0.0\r\nCache-Control: no-store\r\nConnection: close\r\n\r\n";
+
 /// A conversation of some messages with a new upload, what it writes, and how it ends.
 #[derive(Clone, Copy)]
 struct Row {
@@ -173,6 +205,13 @@ fn check(
     written: &[u8],
     ended: Ended,
 ) -> Result<(), Fail> {
+    let mut book = new_book(alloc)?;
+    let (text, end) = plain_conversation(alloc, sent, &mut book, &[at(1000); 8])?;
+    assert!(rt;
+        text.as_slice() == written,
+        "{name}: text of the plain program"
+    );
+    assert!(rt; end == ended, "{name}: end of the plain program");
     for piece in [1, 7, usize::MAX] {
         let spoken = talk_of(alloc, sent, piece)?;
         assert!(rt; spoken.text.as_slice() == written, "{name}: text");
@@ -181,7 +220,7 @@ fn check(
     Ok(())
 }
 
-const WHOLE: [Row; 7] = [
+const WHOLE: [Row; 11] = [
     Row {
         name: "the first upload",
         sent: [POST, PATCH, HEAD, NONE],
@@ -193,6 +232,41 @@ const WHOLE: [Row; 7] = [
         sent: [POST, PATCH, WRONG_OFFSET, HEAD],
         written: [CREATED, PATCHED, OFFSET, LOOKED],
         ended: Ended::Input,
+    },
+    Row {
+        name: "bytes past the length are refused, all of them",
+        sent: [POST, PATCH, PATCH_PAST, HEAD],
+        written: [CREATED, PATCHED, TOO_LONG, LOOKED],
+        ended: Ended::Input,
+    },
+    Row {
+        name: "the rest of the bytes complete the upload, and a greater one is refused",
+        sent: [POST, PATCH, PATCH_REST, POST_TOO_LONG],
+        written: [CREATED, PATCHED, COMPLETED, CREATION_TOO_LONG],
+        ended: Ended::Input,
+    },
+    Row {
+        name: "another version, and then a method that is not served",
+        sent: [
+            b"OPTIONS * HTTP/1.1\r\nHost: x\r\nTus-Resumable: 0.2.2\r\n\r\n",
+            POST,
+            b"DELETE /files/acme/1 HTTP/1.1\r\nHost: x\r\nTus-Resumable: 1.0.0\r\n\r\n",
+            NONE,
+        ],
+        written: [VERSION, CREATED, METHOD, NONE],
+        ended: Ended::Input,
+    },
+    Row {
+        name: "an unknown upload, and the wish to close",
+        sent: [
+            b"HEAD /files/acme/9 HTTP/1.1\r\nHost: x\r\nTus-Resumable: 1.0.0\r\n\
+Connection: x, Close\r\n\r\n",
+            POST,
+            NONE,
+            NONE,
+        ],
+        written: [UNKNOWN, NONE, NONE, NONE],
+        ended: Ended::Closed,
     },
     Row {
         name: "no input",
@@ -433,6 +507,17 @@ fn cut_messages(rt: HostRuntime) -> Result<(), Fail> {
         let ended = if is_cut { Ended::Cut } else { Ended::Input };
         assert!(rt; spoken.ended == Ok(ended), "{len} bytes: end");
         assert!(rt; offset_of(&book) == body, "{len} bytes: offset");
+        let mut book = new_book(alloc)?;
+        let (text, end) = plain_conversation(alloc, &all[..len], &mut book, &[at(1000); 8])?;
+        assert!(rt;
+            text.as_slice() == written.as_slice(),
+            "{len} bytes: text of the plain program"
+        );
+        assert!(rt; end == ended, "{len} bytes: end of the plain program");
+        assert!(rt;
+            offset_of(&book) == body,
+            "{len} bytes: offset of the plain program"
+        );
     }
     Ok(())
 }
