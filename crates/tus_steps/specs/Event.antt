@@ -1,6 +1,7 @@
 -- The event that the code makes, behind its references.
 use Rattle.std.specs.Prelude.{ℕ, ◌<◌, ◌≤◌, length, ⊤}
-use Rattle.upload_book.specs.declared.head_row.TheConstants.{METADATA_MAX, CONCAT_MAX}
+use Rattle.tus_text.specs.declared.concat.TheConstants.{CONCAT_MAX}
+use Rattle.tus_text.specs.declared.metadata.TheConstants.{METADATA_MAX}
 use Rattle.upload_book.specs.Append.{piece_of as piece_value}
 use Rattle.upload_book.specs.Create.{wish_of as wish_value}
 use Rattle.tus_steps.specs.declared.event.Event.{Event as Made}

@@ -1,5 +1,6 @@
 ghost use Rattle.std.specs.Prelude.{◌≡◌, ◌<◌, ◌≤◌, length, IfSome};
-ghost use Rattle.upload_book.specs.declared.head_row.TheConstants.{METADATA_MAX, CONCAT_MAX};
+ghost use Rattle.tus_text.specs.declared.concat.TheConstants.{CONCAT_MAX};
+ghost use Rattle.tus_text.specs.declared.metadata.TheConstants.{METADATA_MAX};
 
 use crate::field::Field;
 use crate::method::Method;

@@ -1,14 +1,16 @@
 -- The numbers of a second are those of the one date that has it.
-use Rattle.std.proofs.Common.{◌≡◌, ℕ, zero, suc, ◌+◌, ◌-◌, ◌/◌, ◌<◌, ◌≤◌, refl, ap, sym, inl, inr, ◌∙◌, arith}
+use Rattle.std.proofs.Common.{◌≡◌, ℕ, zero, suc, ◌+◌, ◌-◌, ◌/◌, ◌<◌, ◌≤◌, Some, None, cond, refl, ap, sym, inl, inr, ◌∙◌, arith}
+use Rattle.std.specs.Option.{option_and_then}
 use Rattle.std.proofs.lemmas.Bool.{cases_lt, le-ltb, lt-ltb}
 use Rattle.httpdate.specs.declared.date.HttpDate.{HttpDate}
 use Rattle.httpdate.specs.Calendar.{days_in_year, days_in_month, days_of_years, days_of_months, weekday, IsCivilDate}
 use Rattle.httpdate.specs.Valid.{IsValid, parts_secs}
-use Rattle.httpdate.specs.Date.{unix_secs, date_text}
+use Rattle.httpdate.specs.Date.{unix_secs, date_text, valid_secs}
 use Rattle.httpdate.proofs.CalendarLemmas.{days_of_years_closed, days_of_months_all, days_of_months_more}
+use Rattle.httpdate.proofs.FormatLemmas.{parse_complete}
 use Rattle.httpdate.proofs.ValidLemmas.{is_valid_complete}
 use Rattle.httpdate.proofs.Theorems.{date_text_is}
-use Rattle.tus_text.specs.Date.{span_of, year_of, month_of, date_parts, expires_text}
+use Rattle.tus_text.specs.Date.{span_of, year_of, month_of, date_parts, expires_text, expires_of}
 
 -- A span and a place in it that stand for the day `total`, where `start k` days come before span k.
 record IsPlace (size start : ℕ → ℕ) (first last total : ℕ) (place : ℕ × ℕ) : Type 0 where
@@ -36,7 +38,7 @@ span_of-place size start (suc more) first days total next same inside =
           rw (le-ltb _ _ passed) record { low = omega (arith, place.low); high = omega (arith, place.high); within = place.within; same = place.same }
     ]
 
-years_before-more : (year : ℕ) → 1970 ≤ year → days_of_years (year + 1 - 1970) ≡ days_of_years (year - 1970) + days_in_year year
+pub years_before-more : (year : ℕ) → 1970 ≤ year → days_of_years (year + 1 - 1970) ≡ days_of_years (year - 1970) + days_in_year year
 unfolding days_of_years
 years_before-more year late =
     let next : year + 1 - 1970 ≡ suc (year - 1970) = omega arith in
@@ -49,12 +51,12 @@ year_of-place days inside =
     let last = days_of_years_closed 8030 in
     span_of-place days_in_year (λ year. days_of_years (year - 1970)) 8029 1970 days days years_before-more (omega arith) (omega arith)
 
-months_before-more : (year month : ℕ) → 1 ≤ month → days_of_months year (month + 1 - 1) ≡ days_of_months year (month - 1) + days_in_month year month
+pub months_before-more : (year month : ℕ) → 1 ≤ month → days_of_months year (month + 1 - 1) ≡ days_of_months year (month - 1) + days_in_month year month
 months_before-more year month first =
     let same : month + 1 - 1 ≡ month = omega arith in
     rw same (days_of_months_more year month first)
 
-months_before-none : (year : ℕ) → days_of_months year 0 ≡ 0
+pub months_before-none : (year : ℕ) → days_of_months year 0 ≡ 0
 unfolding days_of_months
 months_before-none year = refl
 
@@ -64,7 +66,7 @@ month_of-place year days inside =
     (omega (arith, months_before-none year)) (omega (arith, days_of_months_all year))
 
 -- the second's date is valid, and it is of this second
-date_parts-valid : (secs : ℕ) → secs ≤ 253_402_300_799 → IsValid (date_parts secs) × (parts_secs (date_parts secs) ≡ secs)
+pub date_parts-valid : (secs : ℕ) → secs ≤ 253_402_300_799 → IsValid (date_parts secs) × (parts_secs (date_parts secs) ≡ secs)
 unfolding date_parts
 date_parts-valid secs inside =
     let days = secs / 86400 in
@@ -82,3 +84,11 @@ unfolding expires_text
 expires_text-date date secs inside same =
     let parts = date_parts-valid secs inside in
     date_text_is date (date_parts secs) (is_valid_complete _ parts.0) (same ∙ sym parts.1)
+
+-- and a date's text is read as its second
+pub expires_of-date : (date : HttpDate) → expires_of (date_text date) ≡ Some (unix_secs date)
+unfolding expires_of
+expires_of-date date =
+    let valid : IsValid date.parts = (date.civil, date.time, date.right_day) in
+    ap (λ parts. option_and_then valid_secs parts) (parse_complete (date_text date) date.parts valid (inl refl))
+    ∙ ap (λ passed. cond passed (Some (unix_secs date)) None) (is_valid_complete date.parts valid)

@@ -1,6 +1,9 @@
+pub mod ConcatLemmas
 pub mod DateLemmas
+pub mod MetadataLemmas
 pub mod NumberLemmas
 pub mod PathLemmas
+pub mod PlainDateLemmas
 pub mod PlainLemmas
 pub mod PositionLemmas
 pub mod WorkedRows

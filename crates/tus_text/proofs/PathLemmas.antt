@@ -129,10 +129,10 @@ path_in_files-reading text named =
       ]
     ]
 
-after_files-complete : (text : List ℕ) → after_files (codes "/files/" ++ text) ≡ Some text
+pub after_files-complete : (text : List ℕ) → after_files (codes "/files/" ++ text) ≡ Some text
 after_files-complete text = refl
 
-after_files-sound : (path text : List ℕ) → after_files path ≡ Some text → path ≡ codes "/files/" ++ text
+pub after_files-sound : (path text : List ℕ) → after_files path ≡ Some text → path ≡ codes "/files/" ++ text
 after_files-sound path text is =
     let found = cond_some _ _ _ is in
     let front = (bytes_eq-Decides (take 7 path) (codes "/files/")).0 found.0 in
@@ -216,7 +216,7 @@ origin-reading target path None None is_http is_https is = (None, tt, same_Some 
 after_origin-sound : (target path : List ℕ) → after_origin target ≡ Some path → (origin : Option Origin) × HasOrigin origin × (target ≡ print_origin origin ++ path)
 after_origin-sound target path is = origin-reading target path _ _ refl refl is
 
-path_of-printed : (t : Target) → IsTarget t → path_of (print_target t) ≡ named_path t.tenant t.tail
+pub path_of-printed : (t : Target) → IsTarget t → path_of (print_target t) ≡ named_path t.tenant t.tail
 unfolding path_of
 path_of-printed t valid =
     let name = t.tenant ++ print_tail t.tail in

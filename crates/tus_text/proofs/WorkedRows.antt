@@ -1,9 +1,15 @@
 -- Worked rows, computed by the definitions themselves.
-use Rattle.std.proofs.Common.{◌≡◌, Some, None, codes, refl}
+use Rattle.std.proofs.Common.{◌≡◌, [], ◌∷◌, true, false, Some, None, codes, refl}
+use Rattle.tus_text.specs.declared.concat.Concat.TheVariants.{Partial, Final}
+use Rattle.tus_text.specs.declared.concat.PartPath.{PartPath}
+use Rattle.tus_text.specs.Concat.{concat_of, final_of}
 use Rattle.tus_text.specs.Number.{number_of}
 use Rattle.tus_text.specs.declared.path.Path.TheVariants.{Create, Upload, Other}
 use Rattle.tus_text.specs.Path.{path_of}
 use Rattle.tus_text.specs.Date.{span_of, date_parts, expires_text}
+use Rattle.base64.specs.Decode.{groups_error, scan_steps}
+use Rattle.tus_text.specs.Cut.{trim_spaces}
+use Rattle.tus_text.specs.Metadata.{is_value, is_metadata}
 
 pub numbers : (number_of (codes "10") ≡ Some 10) × (number_of (codes "00") ≡ Some 0) × (number_of (codes "") ≡ None)
     × (number_of (codes "+5") ≡ None) × (number_of (codes "5, 5") ≡ None)
@@ -26,3 +32,25 @@ pub paths : (path_of (codes "/files/acme") ≡ Create (codes "acme")) × (path_o
     × (path_of (codes "/files/acme/1?x") ≡ Other) × (path_of (codes "/files/Acme") ≡ Other) × (path_of (codes "*") ≡ Other)
 unfolding number_of path_of
 paths = (refl, refl, refl, refl, refl, refl, refl, refl, refl, refl, refl, refl, refl)
+
+pub metadata : (is_metadata (codes "a ,b") ≡ true) × (is_metadata (codes "a YQ==,b") ≡ true)
+    × (is_metadata (codes " a YQ== , b ") ≡ true) × (is_metadata (codes "") ≡ false) × (is_metadata (codes "a,,b") ≡ false)
+    × (is_metadata (codes "a YQ==,a") ≡ false) × (is_metadata (codes "a YQ") ≡ false) × (is_metadata (codes "a YR==") ≡ false)
+    × (is_metadata (codes "a  YQ==") ≡ false)
+unfolding groups_error scan_steps trim_spaces is_value is_metadata
+metadata = (refl, refl, refl, refl, refl, refl, refl, refl, refl)
+
+abbrev first : PartPath
+first = record { tenant = codes "acme"; id = 1 }
+
+abbrev second : PartPath
+second = record { tenant = codes "acme"; id = 2 }
+
+pub concats : (concat_of (codes "partial") ≡ Some Partial)
+    × (concat_of (codes "final;/files/acme/1 http://h:1/files/acme/2") ≡ Some (Final (first ∷ second ∷ [])))
+    × (concat_of (codes "final;  /files/acme/1   /files/acme/2") ≡ Some (Final (first ∷ second ∷ [])))
+    × (concat_of (codes "final;") ≡ None) × (concat_of (codes "final; ") ≡ None) × (concat_of (codes "Partial") ≡ None)
+    × (concat_of (codes " partial") ≡ None) × (concat_of (codes "final;/files/acme/1 ") ≡ None)
+    × (concat_of (codes "final;/files/acme/1 x") ≡ None)
+unfolding number_of path_of final_of concat_of
+concats = (refl, refl, refl, refl, refl, refl, refl, refl, refl)

@@ -1,7 +1,9 @@
 -- The IMF-fixdate of a second since 1970 (RFC 9110, section 5.6.7), up to the end of the year 9999,
--- as `Fri, 31 Dec 9999 23:59:59 GMT`. The format and the calendar are httpdate's words.
-use Rattle.std.specs.Prelude.{ℕ, zero, suc, ◌+◌, ◌-◌, ◌/◌, ◌%◌, List, nat_lt, if◌then◌else◌}
+-- as `Fri, 31 Dec 9999 23:59:59 GMT`, and the second of a date. The formats, the calendar and the
+-- reading of a date are httpdate's words.
+use Rattle.std.specs.Prelude.{ℕ, zero, suc, ◌+◌, ◌-◌, ◌/◌, ◌%◌, List, Option, nat_lt, if◌then◌else◌}
 use Rattle.httpdate.specs.declared.parts.Parts.{Parts}
+use Rattle.httpdate.specs.Date.{parse_secs}
 use Rattle.httpdate.specs.Calendar.{days_in_year, days_in_month, weekday}
 use Rattle.httpdate.specs.Text.{imf_fixdate}
 
@@ -40,3 +42,7 @@ date_parts secs =
 -- the text of the second
 unfoldable pub expires_text : ℕ → List ℕ
 expires_text secs = imf_fixdate (date_parts secs)
+
+-- the second of the date that the text shows, in any of the three formats of HTTP
+unfoldable pub expires_of : List ℕ → Option ℕ
+expires_of text = parse_secs text

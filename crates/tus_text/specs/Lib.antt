@@ -1,4 +1,7 @@
+pub mod Concat
+pub mod Cut
 pub mod Date
+pub mod Metadata
 pub mod Number
 pub mod Path
 pub mod Tenant

@@ -1,7 +1,7 @@
 ghost use Rattle.std.specs.Prelude.{◌≡◌, option_copied};
-ghost use Rattle.tus_text.specs.Path.{Names, path_of, path_in_files, is_slash, after_origin, after_authority, after_scheme, id_of};
-ghost use Rattle.std.specs.List.{before_first, after_first};
+ghost use Rattle.tus_text.specs.Path.{Names, path_of, path_in_files, after_origin, after_authority, after_scheme, id_of};
 
+use crate::cut::split_at_first;
 use crate::number::read_number;
 use crate::tenant::is_tenant_name;
 use crate::text::{Tenant, Text};
@@ -71,7 +71,7 @@ fn after_authority(text: &[u8]) -> Option<&[u8]>
 fn path_in_files(text: &[u8]) -> Path
     ensures { result ≡ path_in_files text.now }
 {
-    let (tenant, rest) = split_at_slash(text);
+    let (tenant, rest) = split_at_first(text, b'/');
     if !is_tenant_name(tenant) {
         return Path::Other;
     }
@@ -82,17 +82,6 @@ fn path_in_files(text: &[u8]) -> Path
     match read_id(rest) {
         Some(id) => Path::Upload { tenant, id },
         None => Path::Other,
-    }
-}
-
-// What stands before the first slash and after it, or all of the text and nothing.
-fn split_at_slash(text: &[u8]) -> (&[u8], &[u8])
-    ensures before { result.0.now ≡ before_first is_slash text.now }
-    ensures after { result.1.now ≡ after_first is_slash text.now }
-{
-    match text.iter().position(|byte| *byte == b'/') {
-        Some(slash) => (&text[..slash], &text[slash + 1..]),
-        None => (text, &[]),
     }
 }
 

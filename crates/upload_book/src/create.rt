@@ -3,12 +3,13 @@ ghost use Rattle.upload_book.specs.Create.{wish_of, create_refusal, create_answe
 ghost use Rattle.upload_book.specs.Shelf.{tenant_of};
 
 use crate::book::Book;
-use crate::head_row::{CONCAT_MAX, METADATA_MAX, Name};
+use crate::head_row::Name;
 use crate::moment::Moment;
 use crate::refusal::Refusal;
 use crate::row::Row;
 use crate::settings::Settings;
 use crate::shelf::Shelf;
+use tus_text::{CONCAT_MAX, METADATA_MAX};
 
 /// The upload that a creation asks for (tus 1.0.0, Creation and Concatenation).
 #[derive(Clone, Copy)]

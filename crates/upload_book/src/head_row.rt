@@ -1,13 +1,5 @@
-ghost use Rattle.std.specs.Prelude.{◌≡◌};
-
 use crate::moment::Moment;
 use tus_text::Text;
-
-/// The most bytes that an upload's metadata text has.
-pub const METADATA_MAX: usize = 1024;
-
-/// The most bytes that an upload's concat text has.
-pub const CONCAT_MAX: usize = 2048;
 
 /// What an upload is for (tus 1.0.0, Concatenation).
 #[derive(Clone, Copy, Debug, PartialEq, Eq)]

@@ -6,13 +6,13 @@ ghost use Rattle.upload_book.specs.Upload.{is_expired, head_row_of};
 
 use crate::append::{Appended, Chunk, Refused};
 use crate::create::NewUpload;
-use crate::head_row::{CONCAT_MAX, HeadRow, Kind, METADATA_MAX};
+use crate::head_row::{HeadRow, Kind};
 use crate::moment::Moment;
 use crate::refusal::Refusal;
 use crate::settings::Settings;
 use std::alloc::Global;
 use std::marker::Model;
-use tus_text::Text;
+use tus_text::{CONCAT_MAX, METADATA_MAX, Text};
 
 /// An upload under its id, with its bytes in one piece. A contract sees it as an entry of the plain
 /// book.

@@ -609,6 +609,10 @@ fn few_moments(rt: HostRuntime) -> Result<(), Fail> {
     assert_eq!(rt; reader.inner.rest, HEAD);
     let written = joined(alloc, &[CREATED, PATCHED])?;
     assert_eq!(rt; writer.inner.written.as_slice(), written.as_slice());
+    let mut book = new_book(alloc)?;
+    let (text, end) = plain_conversation(alloc, &all, &mut book, &[at(1000); 2])?;
+    assert_eq!(rt; text.as_slice(), written.as_slice());
+    assert_eq!(rt; end, Ended::Moments);
     Ok(())
 }
 
@@ -639,6 +643,12 @@ fn later_and_earlier_moments(rt: HostRuntime) -> Result<(), Fail> {
             lines.any(|line| line.strip_suffix(b"\r") == Some(expires.as_slice())),
             "{then}"
         );
+        let mut book = new_book(alloc)?;
+        let (text, _) = plain_conversation(alloc, &all, &mut book, &[at(1000), at(then)])?;
+        assert!(rt;
+            text.as_slice() == spoken.text.as_slice(),
+            "{then}: plain program"
+        );
     }
     Ok(())
 }
@@ -659,5 +669,8 @@ fn the_last_moment(rt: HostRuntime) -> Result<(), Fail> {
     let spoken = talk(alloc, &mut book, input, Output::new(alloc), &moments);
     assert_eq!(rt; spoken.text.as_slice(), LAST);
     assert_eq!(rt; spoken.ended, Ok(Ended::Input));
+    let mut book = new_book(alloc)?;
+    let (text, _) = plain_conversation(alloc, &all, &mut book, &moments)?;
+    assert_eq!(rt; text.as_slice(), LAST);
     Ok(())
 }

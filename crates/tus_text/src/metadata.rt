@@ -1,0 +1,81 @@
+ghost use Rattle.std.specs.Prelude.{◌≡◌, ◌≤◌, length, map, IsTrue};
+ghost use Rattle.std.specs.List.{list_all, list_any};
+ghost use Rattle.std.specs.Str.{bytes_eq};
+ghost use Rattle.tus_text.specs.Cut.{trim_spaces};
+ghost use Rattle.tus_text.specs.Metadata.{is_metadata, is_pair, is_value, pairs_of, key_of, are_distinct};
+
+use crate::cut::{split_at_first, trim_spaces};
+use base64::engine::general_purpose::STANDARD;
+
+/// The most bytes that the value of Upload-Metadata has.
+pub const METADATA_MAX: usize = 1024;
+
+/// Whether `text` is a value of Upload-Metadata (tus 1.0.0, creation), of 1 to [`METADATA_MAX`]
+/// bytes: one or more pairs between commas, each with any number of spaces round it. A pair is a key,
+/// or a key, one space and a value. A key is one or more bytes other than space and comma, and no two
+/// keys are equal. A value is Base64 (RFC 4648, section 4), padded, of one byte or more.
+pub fn check_metadata(text: &[u8]) -> bool
+    ensures value { result ≡ is_metadata text.now }
+    ensures bound { IsTrue result → length text.now ≤ METADATA_MAX }
+{
+    text.len() <= METADATA_MAX && are_pairs(text) && has_distinct_keys(text)
+}
+
+// Whether each part between commas is a pair.
+fn are_pairs(text: &[u8]) -> bool
+    ensures { result ≡ list_all is_pair (pairs_of text.now) }
+{
+    text.split(|byte| *byte == b',')
+        .all(|part| is_pair(trim_spaces(part)))
+}
+
+// Whether `pair` is a key, or a key, one space and a value.
+fn is_pair(pair: &[u8]) -> bool
+    ensures { result ≡ is_pair pair.now }
+{
+    let (key, value) = split_at_first(pair, b' ');
+    !key.is_empty() && (key.len() == pair.len() || is_value(value))
+}
+
+// Whether `text` is a value that decodes.
+fn is_value(text: &[u8]) -> bool
+    ensures { result ≡ is_value text.now }
+{
+    if text.is_empty() || text.len() > METADATA_MAX {
+        return false;
+    }
+    let mut decoded = [0; METADATA_MAX];
+    STANDARD.decode_slice_unchecked(text, &mut decoded).is_ok()
+}
+
+// The key of the pair that `part` holds.
+fn key_in(part: &[u8]) -> &[u8]
+    ensures { result.now ≡ key_of (trim_spaces part.now) }
+{
+    split_at_first(trim_spaces(part), b' ').0
+}
+
+// Whether the keys of the pairs differ.
+fn has_distinct_keys(text: &[u8]) -> bool
+    ensures { result ≡ are_distinct (map key_of (pairs_of text.now)) }
+{
+    let mut rest = text;
+    loop {
+        let (part, after) = split_at_first(rest, b',');
+        if part.len() == rest.len() {
+            return true;
+        }
+        if has_key(after, key_in(part)) {
+            return false;
+        }
+        rest = after;
+    }
+}
+
+// Whether one of the pairs has this key.
+fn has_key(text: &[u8], key: &[u8]) -> bool
+    ensures { result ≡ list_any (bytes_eq key.now) (map key_of (pairs_of text.now)) }
+{
+    text.split(|byte| *byte == b',')
+        .any(|part| key_in(part) == key)
+}
