@@ -1,5 +1,5 @@
 -- What reads and writes do to known bytes, one call after another.
-use Rattle.std.proofs.Common.{ℕ, ◌+◌, List, [], ◌++◌, Option, Some, None, take, drop, sym, ap, ◌∙◌, append-nil, append_assoc}
+use Rattle.std.proofs.Common.{ℕ, refl, ◌+◌, List, [], ◌++◌, Option, Some, None, take, drop, sym, ap, ◌∙◌, append-nil, append_assoc}
 use Rattle.std.proofs.Math.Seq.{take-add}
 use Rattle.std.specs.Io.KnownBytes.{Appends, Consumes, Keeps}
 
@@ -32,3 +32,22 @@ Appends-from_keeps (Some xs) (Some ys) (Some zs) a h k = k ∙ h
 pub Appends-step : (x y z : Option (List ℕ)) (bytes : List ℕ) (done n : ℕ) → Appends x y (take done bytes) → Appends y z (take n (drop done bytes))
     → Appends x z (take (done + n) bytes)
 Appends-step x y z bytes done n h k = rw take-add (Appends-more x y z (take done bytes) (take n (drop done bytes)) h k)
+
+-- nothing was read
+pub Consumes-none : (x : Option (List ℕ)) → Consumes x x []
+Consumes-none None = tt
+Consumes-none (Some xs) = refl
+
+-- a read, and then another
+pub Consumes-more : (x y z : Option (List ℕ)) (a b : List ℕ) → Consumes x y a → Consumes y z b → Consumes x z (a ++ b)
+Consumes-more None y z a b h k = tt
+Consumes-more (Some xs) None z a b h k = absurd h
+Consumes-more (Some xs) (Some ys) None a b h k = absurd k
+Consumes-more (Some xs) (Some ys) (Some zs) a b h k = h ∙ ap (λ l. a ++ l) k ∙ sym (append_assoc a b zs)
+
+-- a read, and then one that took nothing
+pub Consumes-kept : (x y z : Option (List ℕ)) (a : List ℕ) → Consumes x y a → Keeps y z → Consumes x z a
+Consumes-kept None y z a h k = tt
+Consumes-kept (Some xs) None z a h k = absurd h
+Consumes-kept (Some xs) (Some ys) None a h k = absurd k
+Consumes-kept (Some xs) (Some ys) (Some zs) a h k = h ∙ ap (λ l. a ++ l) (sym k)

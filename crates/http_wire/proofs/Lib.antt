@@ -5,3 +5,6 @@ pub mod NameLemmas
 pub mod PageLemmas
 pub mod RangeLemmas
 pub mod PlainLemmas
+pub mod FindLemmas
+pub mod FrontLemmas
+pub mod HeadTextLemmas

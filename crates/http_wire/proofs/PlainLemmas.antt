@@ -1,47 +1,19 @@
 -- The message of a head with the parts that were read is what the input begins with.
-use Rattle.std.proofs.Common.{◌≡◌, ◌≤◌, ℕ, ◌+◌, ◌-◌, Bool, true, false, cond, List, length, take, drop, Option, Some, Result, Ok, refl, sym, ap, ◌∙◌, subst, inl, arith, length-drop}
+use Rattle.std.proofs.Common.{◌≡◌, ◌≤◌, ℕ, ◌+◌, ◌-◌, Bool, false, cond, List, length, take, drop, Some, Result, refl, sym, ap, ◌∙◌, subst, inl, arith, length-drop}
 use Rattle.std.specs.Prelude.{nat_le, MatchBool}
 use Rattle.std.proofs.lemmas.Bool.Decides.{nat_tests}
 use Rattle.std.proofs.lemmas.List.{drop-take, drop-drop, take-take}
 use Rattle.httparse.specs.Grammar.{RequestHead}
-use Rattle.httparse.specs.Spans.{span_bytes}
-use Rattle.tus_text.specs.Path.{path_of}
 use Rattle.tus_steps.specs.Request.{Asked}
-use Rattle.http_wire.specs.Fields.{told_at}
-use Rattle.http_wire.specs.Front.{Front, message, cut_patch, cut_other, request_of, framing_of, is_waiting, is_patch, method_of, judged, judged_front, parsed_front, with_body, Parses, BeginsWhole, Begins, refused, unknown_framing}
+use Rattle.http_wire.specs.Front.{Front, message, cut_patch, cut_other, is_patch, judged_front, parsed_front, with_body, Parses, BeginsWhole, Begins, refused, unknown_framing}
 use Rattle.http_wire.specs.HeadText.{whole, has_many_lines}
-use Rattle.http_wire.specs.Parts.{ShowsHead, request_at}
+use Rattle.http_wire.specs.Parts.{ShowsHead}
 use Rattle.http_wire.specs.Plain.{body_front}
+use Rattle.http_wire.proofs.FrontLemmas.{request_at-shows}
 use Rattle.http_wire.specs.declared.framing.Framing.{Framing}
 use Rattle.http_wire.specs.declared.parts.Parts.{Parts}
 use Rattle.http_wire.specs.declared.refusal.WireRefusal.{WireRefusal}
 use Rattle.http_wire.specs.declared.refusal.WireRefusal.TheVariants.{HeadSize}
-
--- the request of a head and a body by the parts of the head alone
-request_by : Parts → List ℕ → List ℕ → Asked
-request_by p head body = record {
-  method = p.method;
-  path = path_of (span_bytes head p.target);
-  version = told_at head p.version;
-  length = told_at head p.length;
-  defer = told_at head p.defer;
-  offset = told_at head p.offset;
-  metadata = told_at head p.metadata;
-  concat = told_at head p.concat;
-  media = told_at head p.media;
-  body = body;
-}
-
-request_by-shown : (max : ℕ) (head : List ℕ) (h : RequestHead) (p : Parts) (body : List ℕ) → ShowsHead max head h p → request_by p head body ≡ request_of h body
-unfolding request_by
-request_by-shown max head h p body shown =
-    rw (shown.method, shown.target, shown.version, shown.length, shown.defer, shown.offset, shown.metadata, shown.concat, shown.media) refl
-
--- the parts of a head and a body are those of its request
-pub request_at-shown : (max : ℕ) (head : List ℕ) (h : RequestHead) (p : Parts) (text body : List ℕ) → ShowsHead max head h p → take p.head_len text ≡ head → drop p.head_len text ≡ body → request_at p text ≡ request_of h body
-unfolding request_by
-request_at-shown max head h p text body shown front back =
-    ap (λ (x : List ℕ). request_by p x (drop p.head_len text)) front ∙ ap (λ (y : List ℕ). request_by p head y) back ∙ request_by-shown max head h p body shown
 
 fits : (a n m : ℕ) → a ≤ m → nat_le (a + n) m ≡ nat_le n (m - a)
 fits a n m h = grind (arith, nat_tests)
@@ -56,9 +28,9 @@ with_body-shown max head h p text shown within front =
     let k = p.head_len in
     same_front _ _ _ _ _ _ _ _ _ _ _ _ _ _
     (fits k n (length text) within ∙ ap (λ x. nat_le n x) (sym (length-drop k text)))
-    (request_at-shown max head h p (take (k + n) text) (take n (drop k text)) shown (take-take k (k + n) text (omega arith) ∙ front) (drop-take k n text))
+    (request_at-shows max (take (k + n) text) head (take n (drop k text)) h p shown (take-take k (k + n) text (omega arith) ∙ front) (drop-take k n text))
     shown.framing shown.is_waiting (sym (drop-drop n k text)) (ap is_patch shown.method)
-    (request_at-shown max head h p text (drop k text) shown front refl)
+    (request_at-shows max text head (drop k text) h p shown front refl)
 
 -- what a head with these parts begins
 pub body_front-shown : (max : ℕ) (head : List ℕ) (h : RequestHead) (p : Parts) (text : List ℕ) → ShowsHead max head h p → p.head_len ≤ length text → take p.head_len text ≡ head → body_front p text ≡ parsed_front max (Some h) (drop p.head_len text)

@@ -3,6 +3,7 @@ pub mod Connection
 pub mod Conversation
 pub mod Fields
 pub mod Front
+pub mod FrontRead
 pub mod HeadFound
 pub mod HeadText
 pub mod Judge

@@ -1,5 +1,10 @@
-ghost use Rattle.std.specs.Prelude.{◌≡◌, ◌≤◌, ◌+◌, ◌<◌, ◌^◌, Bool, true, false, length, IfOk, OnOk, OnErr, IfErr};
-ghost use Rattle.http_wire.specs.HeadFound.{IsHeldBy};
+ghost use Rattle.std.specs.Prelude.{◌≡◌, ◌≤◌, ◌+◌, ◌<◌, ◌^◌, ◌++◌, ℕ, List, Bool, true, false, length, take, IfOk, OnOk, OnErr, IfErr};
+ghost use Rattle.std.specs.Io.KnownBytes.{Appends, Consumes};
+ghost use Rattle.http_wire.specs.Ahead.{Grew};
+ghost use Rattle.http_wire.specs.Conversation.{continue_text};
+ghost use Rattle.http_wire.specs.Front.{is_patch};
+ghost use Rattle.http_wire.specs.FrontRead.{BeginsHead, EndsOnlyAtEnd, ReadsFront};
+ghost use Rattle.http_wire.specs.HeadFound.{BreaksHead, IsFound, IsHeldBy, SeesEnd, Skips};
 ghost use Rattle.http_wire.specs.Lent.{IsLent, IsAliveAfter, Names};
 ghost use Rattle.http_wire.specs.Parts.{IsPartsWithin};
 
@@ -66,6 +71,11 @@ pub fn read_front<R: Source, W: Sink>(
     requires reader { R.has_failed reader.old ≡ false }
     requires writer { W.has_failed writer.old ≡ false }
     requires max_size { max_size < 2 ^ 31 }
+    ensures front { (got text : List ℕ) × Consumes (R.remaining reader.old) (R.remaining reader.new) got
+        × Appends (W.contents writer.old) (W.contents writer.new) text
+        × ReadsFront max_size (inbox.old.held ++ got) text inbox.new result }
+    ensures end { IfOk result (λ f. SeesEnd (R.remaining reader.old) inbox.old
+        → EndsOnlyAtEnd (R.remaining reader.new) inbox.new f) }
     ensures lent { IfOk result (λ f. IsLent inbox.new f) }
     ensures reader { IfOk result (λ f. IsAliveAfter (R.has_failed reader.new) f) }
     ensures writer { OnOk result (W.has_failed writer.new ≡ false) }
@@ -86,6 +96,13 @@ pub fn read_front<R: Source, W: Sink>(
 fn find_head<R: Source>(reader: &mut R, inbox: &mut Inbox) -> Result<HeadFound, WireFault>
     requires { R.has_failed reader.old ≡ false }
     ensures within { IfOk result (λ h. IsHeldBy inbox.new h) }
+    ensures found { IfOk result (λ h. (got : List ℕ)
+        × Consumes (R.remaining reader.old) (R.remaining reader.new) got
+        × IsFound (inbox.old.held ++ got) inbox.new h) }
+    ensures end { OnOk result (SeesEnd (R.remaining reader.old) inbox.old
+        → SeesEnd (R.remaining reader.new) inbox.new) }
+    ensures unfinished { OnErr result (BreaksHead (R.remaining reader.old) (R.remaining reader.new)
+        inbox.old.held) }
     ensures alive { OnOk result (R.has_failed reader.new ≡ false) }
     ensures failed { OnErr result (R.has_failed reader.new ≡ true) }
     ensures fault { IfErr result (λ e. e ≡ WireFault.Read) }
@@ -126,6 +143,13 @@ fn find_head<R: Source>(reader: &mut R, inbox: &mut Inbox) -> Result<HeadFound, 
 fn skip_blank<R: Source>(reader: &mut R, inbox: &mut Inbox) -> Result<usize, WireFault>
     requires { R.has_failed reader.old ≡ false }
     ensures few { IfOk result (λ n. n ≤ HEAD_LIMIT) }
+    ensures skips { IfOk result (λ n. (got : List ℕ)
+        × Consumes (R.remaining reader.old) (R.remaining reader.new) got
+        × Skips (inbox.old.held ++ got) inbox.new n) }
+    ensures end { OnOk result (SeesEnd (R.remaining reader.old) inbox.old
+        → SeesEnd (R.remaining reader.new) inbox.new) }
+    ensures unfinished { OnErr result (BreaksHead (R.remaining reader.old) (R.remaining reader.new)
+        inbox.old.held) }
     ensures alive { OnOk result (R.has_failed reader.new ≡ false) }
     ensures failed { OnErr result (R.has_failed reader.new ≡ true) }
     ensures fault { IfErr result (λ e. e ≡ WireFault.Read) }
@@ -142,7 +166,7 @@ fn skip_blank<R: Source>(reader: &mut R, inbox: &mut Inbox) -> Result<usize, Wir
     }
 }
 
-// Reads the body of a message whose head is held.
+// Reads the body of a message whose head is held. These bytes, and those that are read, begin with it.
 fn read_body<R: Source, W: Sink>(
     reader: &mut R,
     writer: &mut W,
@@ -155,27 +179,79 @@ fn read_body<R: Source, W: Sink>(
     requires body { parts.body_len < 2 ^ 31 }
     requires held { parts.head_len ≤ length inbox.old.held }
     requires within { IsPartsWithin parts.head_len parts }
+    ensures front { (max : ℕ) (bytes : List ℕ) → BeginsHead max bytes parts inbox.old.held
+        → (got text : List ℕ) × Consumes (R.remaining reader.old) (R.remaining reader.new) got
+        × Appends (W.contents writer.old) (W.contents writer.new) text
+        × ReadsFront max (bytes ++ got) text inbox.new result }
+    ensures end { IfOk result (λ f. SeesEnd (R.remaining reader.old) inbox.old
+        → EndsOnlyAtEnd (R.remaining reader.new) inbox.new f) }
     ensures lent { IfOk result (λ f. IsLent inbox.new f) }
     ensures reader { IfOk result (λ f. IsAliveAfter (R.has_failed reader.new) f) }
     ensures writer { OnOk result (W.has_failed writer.new ≡ false) }
     ensures fault { IfErr result (λ e. Names (R.has_failed reader.new) (W.has_failed writer.new) e) }
 {
-    let total = parts.head_len + parts.body_len;
-    if inbox.reserve(total).is_err() {
+    if inbox.reserve(parts.head_len + parts.body_len).is_err() {
         return Ok(Front::Refused(WireRefusal::Memory, closing(parts.framing)));
     }
-    if parts.is_waiting {
-        put_all(writer, CONTINUE)?;
+    put_continue(writer, parts.is_waiting)?;
+    read_rest(reader, inbox, parts)
+}
+
+// Writes `100 Continue` to a client that waits for it.
+fn put_continue<W: Sink>(writer: &mut W, is_waiting: bool) -> Result<(), WireFault>
+    requires { W.has_failed writer.old ≡ false }
+    ensures ok { OnOk result (Appends (W.contents writer.old) (W.contents writer.new)
+        (continue_text is_waiting)) }
+    ensures part { OnErr result ((n : ℕ) × Appends (W.contents writer.old) (W.contents writer.new)
+        (take n (continue_text true))) }
+    ensures waits { OnErr result (is_waiting ≡ true) }
+    ensures alive { OnOk result (W.has_failed writer.new ≡ false) }
+    ensures failed { OnErr result (W.has_failed writer.new ≡ true) }
+    ensures fault { IfErr result (λ e. e ≡ WireFault.Write) }
+{
+    if is_waiting {
+        put_all(writer, CONTINUE)
+    } else {
+        Ok(())
     }
+}
+
+// Reads the body of a message for which there is room.
+fn read_rest<R: Source>(reader: &mut R, inbox: &mut Inbox, parts: Parts) -> Result<Front, WireFault>
+    requires reader { R.has_failed reader.old ≡ false }
+    requires head { parts.head_len ≤ 65535 }
+    requires body { parts.body_len < 2 ^ 31 }
+    requires held { parts.head_len ≤ length inbox.old.held }
+    requires room { parts.head_len + parts.body_len + READ_SIZE ≤ inbox.old.room }
+    requires within { IsPartsWithin parts.head_len parts }
+    ensures front { (max : ℕ) (bytes : List ℕ) → BeginsHead max bytes parts inbox.old.held
+        → (got : List ℕ) × Consumes (R.remaining reader.old) (R.remaining reader.new) got
+        × ReadsFront max (bytes ++ got) (continue_text parts.is_waiting) inbox.new result }
+    ensures end { IfOk result (λ f. SeesEnd (R.remaining reader.old) inbox.old
+        → EndsOnlyAtEnd (R.remaining reader.new) inbox.new f) }
+    ensures lent { IfOk result (λ f. IsLent inbox.new f) }
+    ensures reader { IfOk result (λ f. IsAliveAfter (R.has_failed reader.new) f) }
+    ensures failed { OnErr result (R.has_failed reader.new ≡ true) }
+    ensures fault { IfErr result (λ e. e ≡ WireFault.Read) }
+{
+    let total = parts.head_len + parts.body_len;
     match fill_to(reader, inbox, total) {
         Ok(true) => {
             inbox.lend(total);
             Ok(Front::Message(parts))
         }
-        Ok(false) => Ok(lend_cut(inbox, parts, Cut::Ended)),
+        Ok(false) => {
+            if is_patch(parts.method) {
+                lend_all(inbox);
+                Ok(Front::CutPatch(parts, Cut::Ended))
+            } else {
+                Ok(Front::CutOther)
+            }
+        }
         Err(fault) => {
-            if parts.method == Method::Patch {
-                Ok(lend_cut(inbox, parts, Cut::Fault))
+            if is_patch(parts.method) {
+                lend_all(inbox);
+                Ok(Front::CutPatch(parts, Cut::Fault))
             } else {
                 Err(fault)
             }
@@ -183,28 +259,34 @@ fn read_body<R: Source, W: Sink>(
     }
 }
 
-// What a cut body leaves: a PATCH is lent with the bytes that came.
-fn lend_cut(inbox: &mut Inbox, parts: Parts, why: Cut) -> Front
-    requires held { parts.head_len ≤ length inbox.old.held }
-    requires within { IsPartsWithin parts.head_len parts }
-    ensures lent { IsLent inbox.new result }
-    ensures cut { (failed : Bool) → (why ≡ Cut.Fault → failed ≡ true) → IsAliveAfter failed result }
+fn is_patch(method: Method) -> bool
+    ensures { result ≡ is_patch method }
 {
-    if parts.method == Method::Patch {
-        let len = inbox.held().len();
-        inbox.lend(len);
-        Front::CutPatch(parts, why)
-    } else {
-        Front::CutOther
+    match method {
+        Method::Patch => true,
+        Method::Post | Method::Head | Method::Other => false,
     }
+}
+
+// Lends all that is held.
+fn lend_all(inbox: &mut Inbox)
+    ensures { inbox.new.lent ≡ inbox.old.held }
+{
+    let len = inbox.held().len();
+    inbox.lend(len);
 }
 
 // Reads until `total` bytes are held, for which there is room, and says whether they came.
 fn fill_to<R: Source>(reader: &mut R, inbox: &mut Inbox, total: usize) -> Result<bool, WireFault>
     requires alive { R.has_failed reader.old ≡ false }
     requires room { total + READ_SIZE ≤ inbox.old.room }
-    ensures grew { length inbox.old.held ≤ length inbox.new.held }
+    ensures grew { Grew (R.remaining reader.old) (R.remaining reader.new) inbox.old inbox.new }
     ensures enough { IfOk result (λ all. all ≡ true → total ≤ length inbox.new.held) }
+    ensures short { IfOk result (λ all. all ≡ false → length inbox.new.held < total) }
+    ensures broken { OnErr result (length inbox.new.held < total) }
+    ensures ended { IfOk result (λ all. all ≡ false → inbox.new.ended ≡ true) }
+    ensures end { OnOk result (SeesEnd (R.remaining reader.old) inbox.old
+        → SeesEnd (R.remaining reader.new) inbox.new) }
     ensures alive { OnOk result (R.has_failed reader.new ≡ false) }
     ensures failed { OnErr result (R.has_failed reader.new ≡ true) }
     ensures fault { IfErr result (λ e. e ≡ WireFault.Read) }

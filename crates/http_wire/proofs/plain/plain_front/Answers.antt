@@ -1,7 +1,7 @@
 use Rattle.std.proofs.Common.{◌≡◌, ◌≤◌, ℕ, List, length, take, drop, Some, sym, ap, ◌∙◌, subst, arith}
-use Rattle.http_wire.specs.Front.{Front, refused, parsed_front, Begins, IsFront}
+use Rattle.http_wire.specs.Front.{refused, parsed_front, Begins}
 use Rattle.http_wire.specs.HeadText.{HeadText, whole}
-use Rattle.http_wire.specs.Plain.{front_value, body_front}
+use Rattle.http_wire.specs.Plain.{front_value}
 use Rattle.http_wire.proofs.PlainLemmas.{body_front-shown, Begins-shown}
 use Rattle.http_wire.proofs.plain.plain_front.Goals as goal
 

@@ -1,12 +1,17 @@
-use Rattle.std.proofs.Common.{◌≡◌, ◌+◌, ◌-◌, ◌<◌, false, length}
+use Rattle.std.proofs.Common.{◌≡◌, ◌+◌, ◌-◌, ◌<◌, ◌++◌, false, List, ℕ, length}
+use Rattle.std.specs.Io.KnownBytes.{Consumes}
 use Rattle.std.specs.Prelude.{if◌then◌else◌}
 use Rattle.http_wire.specs.HeadText.{head_limit}
+use Rattle.http_wire.specs.HeadFound.{SeesEnd}
+use Rattle.http_wire.proofs.FindLemmas.{SkipsSoFar}
 use Rattle.http_wire.proofs.read.skip_blank.Given as goal
 
 abbrev pub invariant-loop-inbox : goal.invariant-loop-inbox
 invariant-loop-inbox g l = record {
   alive : g.R.Source.has_failed l.reader ≡ false;
   few : l.skipped < head_limit;
+  skips : (got : List ℕ) × Consumes (g.R.Source.remaining l.initial.reader) (g.R.Source.remaining l.reader) got × SkipsSoFar (l.initial.inbox.held ++ got) l.inbox.held l.skipped;
+  end : SeesEnd (g.R.Source.remaining l.initial.reader) l.initial.inbox → SeesEnd (g.R.Source.remaining l.reader) l.inbox;
 }
 
 -- a read gives bytes, or the end

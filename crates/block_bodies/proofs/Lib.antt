@@ -1,0 +1,6 @@
+pub mod BlocksFor
+pub mod BodiesLaws
+pub mod EachBlock
+pub mod Putting
+pub mod Reading
+pub mod Sole

@@ -1,0 +1,251 @@
+ghost use Rattle.std.specs.Prelude.{◌≡◌, ℕ, ◌+◌, ◌-◌, ◌*◌, ◌%◌, ◌^◌, ◌<◌, ◌≤◌, ◌↔◌, [], ◌∷◌, ◌++◌, length, take, min, IfOk, IfErr, OnOk, OnErr, slice_get, slice_index, vec_len, vec_capacity};
+ghost use Rattle.block_pool.specs.Blocks.{free_in, places_of, count_at};
+ghost use Rattle.block_bodies.specs.Bodies.{Chain, IsBodyOf, IsHeld, IsLastOwn, HasRoom, StandsOnce, blocks_with, content_of};
+ghost use Rattle.block_bodies.specs.Changes.{GivesBack, Holds, MayHold, Puts};
+
+use crate::fault::BodyFault;
+use crate::unheld::Unheld;
+use block_pool::{BlockId, Pool};
+use std::alloc::{AllocError, Global};
+use std::marker::Model;
+
+/// Bytes in blocks of a pool. Each call that takes a pool wants the one that holds the blocks.
+///
+/// A body that is dropped keeps its blocks held: `give_back` ends it.
+#[derive(Drop)]
+pub struct Body {
+    blocks: Vec<BlockId>,
+    len: u64,
+}
+
+impl Model for Body {
+    ghost use Rattle.std.specs.Prelude.{vec_capacity};
+    ghost use Rattle.block_bodies.specs.Bodies.{Chain, StandsOnce};
+
+    ghost Value = { Chain };
+
+    ghost view = { λ x. record { blocks = x.blocks.items; len = x.len; room = vec_capacity x.blocks } };
+
+    ghost invariant = { λ x. StandsOnce x.blocks.items };
+}
+
+impl Body {
+    /// A body of no bytes and no blocks. Its list of blocks will grow in the allocator's memory.
+    pub fn empty(alloc: Global) -> Body
+        ensures { result ≡ record { blocks = []; len = 0; room = 0 } }
+    {
+        Body {
+            blocks: Vec::new(alloc),
+            len: 0,
+        }
+    }
+
+    pub(crate) fn of(blocks: Vec<BlockId>, len: u64) -> Body
+        requires { StandsOnce blocks.items }
+        ensures { result ≡ record { blocks = blocks.items; len = len; room = vec_capacity blocks } }
+    {
+        Body { blocks, len }
+    }
+
+    /// How many bytes there are.
+    pub fn len(&self) -> u64
+        ensures value { result ≡ self.now.len }
+        ensures once { StandsOnce self.now.blocks }
+    {
+        self.len
+    }
+
+    /// The block at a place of the body's list, from 0; `None` past the last one.
+    pub fn block(&self, place: u64) -> Option<BlockId>
+        ensures { result ≡ slice_get self.now.blocks place }
+    {
+        self.blocks.get(place as usize).copied()
+    }
+
+    /// Appends bytes, and gives how many blocks were taken for them. It is `reserve`, then `put`: after a fault
+    /// the body and the pool are unchanged.
+    ///
+    /// `Full` comes only where fewer blocks are free than the bytes need, `Memory` where the list of blocks
+    /// could not grow.
+    pub fn append(&mut self, pool: &mut Pool, bytes: &[u8]) -> Result<u64, BodyFault>
+        requires body { IsBodyOf pool.old self.old }
+        requires last { 0 < length bytes.now → IsLastOwn pool.old self.old }
+        ensures taken { IfOk result (λ n. length self.new.blocks ≡ length self.old.blocks + n) }
+        ensures puts { OnOk result (Puts pool.old self.old bytes.now pool.new self.new) }
+        ensures full { (result ≡ Err BodyFault.Full)
+            ↔ (length self.old.blocks + free_in pool.old < blocks_with pool.old self.old (length bytes.now)) }
+        ensures memory { result ≡ Err BodyFault.Memory → self.old.room < blocks_with pool.old self.old (length bytes.now) }
+        ensures body_unchanged { OnErr result (self.new ≡ self.old) }
+        ensures pool_unchanged { OnErr result (pool.new ≡ pool.old) }
+    {
+        let taken = self.reserve(pool, bytes.len() as u64)?;
+        self.put(pool, bytes);
+        Ok(taken)
+    }
+
+    /// Makes room in the list of blocks for `more` bytes, and gives how many blocks they need. The bytes, the
+    /// blocks and the pool stay.
+    ///
+    /// `Full` comes only where fewer blocks are free than are needed, `Memory` where the list could not grow;
+    /// after either the body is unchanged.
+    pub fn reserve(&mut self, pool: &Pool, more: u64) -> Result<u64, BodyFault>
+        requires { IsBodyOf pool.now self.old }
+        ensures needed { IfOk result (λ n. blocks_with pool.now self.old more ≡ length self.old.blocks + n) }
+        ensures room { OnOk result (HasRoom pool.now self.new more) }
+        ensures body { self.new ≡ record self.old { room = self.new.room } }
+        ensures full { (result ≡ Err BodyFault.Full)
+            ↔ (length self.old.blocks + free_in pool.now < blocks_with pool.now self.old more) }
+        ensures memory { result ≡ Err BodyFault.Memory → self.old.room < blocks_with pool.now self.old more }
+        ensures unchanged { OnErr result (self.new ≡ self.old) }
+    {
+        let needed = self.needed(pool, more);
+        if needed > u64::from(pool.free()) {
+            return Err(BodyFault::Full);
+        }
+        match self.blocks.reserve(needed as usize) {
+            Ok(()) => Ok(needed),
+            Err(_) => Err(BodyFault::Memory),
+        }
+    }
+
+    // How many blocks `more` bytes need, beyond the last block's rest.
+    fn needed(&self, pool: &Pool, more: u64) -> u64
+        requires { IsBodyOf pool.now self.now }
+        ensures { blocks_with pool.now self.now more ≡ length self.now.blocks + result }
+    {
+        let size = u64::from(pool.block_size());
+        let rest = self.blocks.len() as u64 * size - self.len;
+        more.saturating_sub(rest).div_ceil(size)
+    }
+
+    /// Appends bytes for which `reserve` made room, and gives how many blocks were taken. It cannot fail and
+    /// takes no memory. Each byte is copied once: into the last block's rest, then into new blocks.
+    pub fn put(&mut self, pool: &mut Pool, bytes: &[u8]) -> u64
+        requires body { IsBodyOf pool.old self.old }
+        requires room { HasRoom pool.old self.old (length bytes.now) }
+        requires last { 0 < length bytes.now → IsLastOwn pool.old self.old }
+        ensures taken { length self.new.blocks ≡ length self.old.blocks + result }
+        ensures puts { Puts pool.old self.old bytes.now pool.new self.new }
+        ensures room_stays { self.new.room ≡ self.old.room }
+    {
+        let before = self.blocks.len();
+        let mut done = 0;
+        while done < bytes.len() {
+            done += self.put_piece(pool, &bytes[done..]);
+        }
+        (self.blocks.len() - before) as u64
+    }
+
+    // Puts as many bytes as one block has room for, the last one or a new one, and says how many.
+    fn put_piece(&mut self, pool: &mut Pool, bytes: &[u8]) -> usize
+        requires some { 0 < length bytes.now }
+        requires body { IsBodyOf pool.old self.old }
+        requires room { HasRoom pool.old self.old (length bytes.now) }
+        requires last { IsLastOwn pool.old self.old }
+        ensures some { 0 < result }
+        ensures within { result ≤ length bytes.now }
+        ensures puts { Puts pool.old self.old (take result bytes.now) pool.new self.new }
+        ensures room_stays { self.new.room ≡ self.old.room }
+    {
+        let filled = (self.len % u64::from(pool.block_size())) as u32;
+        if filled == 0 {
+            self.start_block(pool, bytes)
+        } else {
+            self.fill_last(pool, filled, bytes)
+        }
+    }
+
+    fn start_block(&mut self, pool: &mut Pool, bytes: &[u8]) -> usize
+        requires some { 0 < length bytes.now }
+        requires body { IsBodyOf pool.old self.old }
+        requires whole { self.old.len ≡ length self.old.blocks * pool.old.block_size }
+        requires room { length self.old.blocks < self.old.room }
+        requires free { 0 < free_in pool.old }
+        ensures some { 0 < result }
+        ensures within { result ≤ length bytes.now }
+        ensures puts { Puts pool.old self.old (take result bytes.now) pool.new self.new }
+        ensures room_stays { self.new.room ≡ self.old.room }
+    {
+        let n = bytes.len().min(pool.block_size() as usize);
+        let block = pool.take().unwrap();
+        pool.write(block, 0, &bytes[..n]);
+        self.blocks.push_reserved(block);
+        self.len += n as u64;
+        n
+    }
+
+    fn fill_last(&mut self, pool: &mut Pool, filled: u32, bytes: &[u8]) -> usize
+        requires some { 0 < length bytes.now }
+        requires body { IsBodyOf pool.old self.old }
+        requires last { IsLastOwn pool.old self.old }
+        requires partial { 0 < filled }
+        requires within_block { filled < pool.old.block_size }
+        requires end { self.old.len + pool.old.block_size ≡ length self.old.blocks * pool.old.block_size + filled }
+        ensures some { 0 < result }
+        ensures within { result ≤ length bytes.now }
+        ensures puts { Puts pool.old self.old (take result bytes.now) pool.new self.new }
+        ensures room_stays { self.new.room ≡ self.old.room }
+    {
+        let n = bytes.len().min((pool.block_size() - filled) as usize);
+        let last = self.blocks[self.blocks.len() - 1];
+        pool.write(last, filled, &bytes[..n]);
+        self.len += n as u64;
+        n
+    }
+
+    /// A body of the same blocks, each held once more for each of its places. It is `list`, then `hold`: no
+    /// byte is copied, and after a refusal the pool is unchanged.
+    pub fn share(&self, pool: &mut Pool) -> Result<Body, AllocError>
+        requires { MayHold pool.old self.now.blocks }
+        ensures blocks { IfOk result (λ y. y.blocks ≡ self.now.blocks) }
+        ensures len { IfOk result (λ y. y.len ≡ self.now.len) }
+        ensures holds { OnOk result (Holds pool.old self.now.blocks pool.new) }
+        ensures unchanged { OnErr result (pool.new ≡ pool.old) }
+    {
+        Ok(self.list()?.hold(pool))
+    }
+
+    /// A copy of the list of blocks, which `Unheld::hold` makes a body.
+    pub fn list(&self) -> Result<Unheld, AllocError>
+        ensures blocks { IfOk result (λ u. u.blocks ≡ self.now.blocks) }
+        ensures len { IfOk result (λ u. u.len ≡ self.now.len) }
+    {
+        let blocks = Vec::from_slice(*self.blocks.allocator(), &self.blocks)?;
+        Ok(Unheld::new(blocks, self.len))
+    }
+
+    /// The body's bytes. All memory for them is taken first.
+    pub fn read(&self, alloc: Global, pool: &Pool) -> Result<Vec<u8>, AllocError>
+        requires { IsBodyOf pool.now self.now }
+        ensures { IfOk result (λ v. v.items ≡ content_of pool.now self.now) }
+    {
+        let mut bytes = Vec::with_capacity(alloc, self.len as usize)?;
+        let mut left = self.len as usize;
+        for block in &self.blocks {
+            let piece = pool.bytes(*block);
+            let n = left.min(piece.len());
+            bytes.extend_from_slice(&piece[..n])?;
+            left -= n;
+        }
+        Ok(bytes)
+    }
+
+    /// Ends the body: each of its blocks is held once less for each of its places. Gives how many became free.
+    pub fn give_back(self, pool: &mut Pool) -> u64
+        requires { IsHeld pool.old self.blocks }
+        ensures { GivesBack pool.old self.blocks result pool.new }
+    {
+        let before = pool.free();
+        release_each(pool, &self.blocks);
+        u64::from(pool.free() - before)
+    }
+}
+
+fn release_each(pool: &mut Pool, blocks: &[BlockId])
+    requires { IsHeld pool.old blocks.now }
+    ensures { GivesBack pool.old blocks.now (free_in pool.new - free_in pool.old) pool.new }
+{
+    for block in blocks {
+        pool.release(*block);
+    }
+}

@@ -1,0 +1,13 @@
+//! Bodies of bytes in blocks of a pool. Bodies can share blocks, so that a copy of a body copies no byte.
+#![tactic(auto)]
+
+mod body;
+mod fault;
+mod unheld;
+
+pub use body::Body;
+pub use fault::BodyFault;
+pub use unheld::Unheld;
+
+#[cfg(test)]
+mod tests;

@@ -1,0 +1,26 @@
+-- How a pool keeps its blocks: one list of counts, all bytes in one list, and a list that names the free blocks.
+use Rattle.std.specs.Prelude.{◌≡◌, ℕ, zero, suc, ◌<◌, ◌≤◌, ◌*◌, ◌==◌, List, [], ◌∷◌, length, take, drop, count_by, slice_index, All, if◌then◌else◌}
+use Rattle.block_pool.specs.Blocks.{Block, free_block, places_of, IsWithinLimits}
+
+-- a block of this count whose bytes come first in the list
+abbrev pub block_of : ℕ → ℕ → List ℕ → Block
+block_of size zero bytes = free_block
+block_of size (suc n) bytes = record { count = suc n; bytes = take size bytes }
+
+-- the blocks of these counts, their bytes cut from the list in turn
+abbrev pub blocks_of : ℕ → List ℕ → List ℕ → List Block
+blocks_of size [] bytes = []
+blocks_of size (count ∷ counts) bytes = block_of size count bytes ∷ blocks_of size counts (drop size bytes)
+
+-- the list names each block of count 0 once, and no other
+pub record IsFreeList (counts free : List ℕ) : Type 0 where
+  pub within : All (λ b. b < length counts) free
+  pub once : (b : ℕ) → b < length counts → places_of b free ≡ (if slice_index counts b == 0 then 1 else 0)
+  pub many : length free ≡ count_by (λ c. c == 0) counts
+
+-- the lists belong to one pool, and the free list has room for every block
+pub record IsStored (size : ℕ) (counts bytes free : List ℕ) (room : ℕ) : Type 0 where
+  pub limits : IsWithinLimits (length counts) size
+  pub every_byte : length bytes ≡ length counts * size
+  pub free_list : IsFreeList counts free
+  pub free_room : length counts ≤ room

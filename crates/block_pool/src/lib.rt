@@ -1,0 +1,12 @@
+//! Blocks of bytes of one size, each with a count of its holders. A block is free exactly while nobody
+//! holds it.
+#![tactic(auto, using(crate::proofs::Stored::stored))]
+
+mod block_id;
+mod pool;
+
+pub use block_id::BlockId;
+pub use pool::{BLOCK_SIZE_MAX, BLOCKS_MAX, POOL_BYTES_MAX, Pool};
+
+#[cfg(test)]
+mod tests;

@@ -1,0 +1,159 @@
+-- What a head with a body begins.
+use Rattle.std.proofs.Common.{◌≡◌, ℕ, ◌+◌, ◌<◌, ◌≤◌, true, false, nat_le, if◌then◌else◌, List, [], ◌++◌, length, take, drop, Some, Result, Ok, Err, refl, sym, ap, ◌∙◌, subst, subst₂, arith, inl, inr, le-leb, append-nil, append_assoc, length-append, length-drop, length-take-le, take-take, drop-drop}
+use Rattle.std.proofs.lemmas.Bool.{lt-leb, cases_Bool}
+use Rattle.std.proofs.lemmas.List.{take-append-le, drop-append-le, drop-take}
+use Rattle.httparse.specs.Grammar.{RequestHead}
+use Rattle.http_wire.specs.Ahead.{Ahead}
+use Rattle.http_wire.specs.Conversation.{continue_text}
+use Rattle.http_wire.specs.Front.{Front, Begins, IsFront, message, refused, cut_patch, cut_other, clean_end, closing, framing_of, is_patch, method_of, is_waiting, request_of, with_body, parsed_front}
+use Rattle.http_wire.specs.FrontRead.{BeginsHead, ReadsFront, waits}
+use Rattle.http_wire.specs.HeadFound.{IsUnfinished}
+use Rattle.http_wire.specs.Shown.{Gives}
+use Rattle.http_wire.specs.HeadText.{whole, cut, head_text}
+use Rattle.http_wire.specs.Parts.{request_at, ShowsHead}
+use Rattle.http_wire.specs.declared.parts.Parts.{Parts}
+use Rattle.http_wire.specs.declared.refusal.WireRefusal.TheVariants.{Memory}
+use Rattle.http_wire.specs.declared.read.Front as read
+use Rattle.http_wire.specs.declared.fault.WireFault.{WireFault}
+use Rattle.http_wire.specs.declared.fault.WireFault.TheVariants.{Read, Write}
+
+-- more bytes came
+pub BeginsHead-more : (max : ℕ) (bytes : List ℕ) (p : Parts) (held got all : List ℕ) → BeginsHead max bytes p held → p.head_len ≤ length held → all ≡ held ++ got
+    → BeginsHead max (bytes ++ got) p all
+BeginsHead-more max bytes p held got all b within e =
+    let head : take p.head_len all ≡ take p.head_len held = ap (take p.head_len) e ∙ take-append-le p.head_len held got within in
+    let rest_of : drop p.head_len all ≡ drop p.head_len held ++ got = ap (drop p.head_len) e ∙ drop-append-le p.head_len held got within in
+    record {
+      head = b.head;
+      few = rw head b.few;
+      parses = rw head b.parses;
+      shows = rw head b.shows;
+      begins = λ rest. ap head_text (append_assoc bytes got rest) ∙ b.begins (got ++ rest)
+          ∙ rw (head, rest_of) (ap (whole (take p.head_len held)) (sym (append_assoc (drop p.head_len held) got rest)));
+    }
+
+-- the front, by the length of the body
+pub IsFront-with_body : (max : ℕ) (bytes : List ℕ) (p : Parts) (held : List ℕ) (b : BeginsHead max bytes p held) (rest : List ℕ)
+    → IsFront max (bytes ++ rest) (with_body b.head p.body_len (drop p.head_len held ++ rest))
+IsFront-with_body max bytes p held b rest =
+    let f = with_body b.head p.body_len (drop p.head_len held ++ rest) in
+    let same : f ≡ parsed_front max (Some b.head) (drop p.head_len held ++ rest) = rw b.shows.body_len refl in
+    subst (λ t. Begins max t f) (sym (b.begins rest)) (rw b.few (Some b.head, b.parses, inl same))
+
+-- the body found no memory
+pub IsFront-memory : (max : ℕ) (bytes : List ℕ) (p : Parts) (held : List ℕ) (b : BeginsHead max bytes p held) (rest : List ℕ)
+    → IsFront max (bytes ++ rest) (refused Memory (closing p.framing))
+IsFront-memory max bytes p held b rest =
+    let f = refused Memory (closing p.framing) in
+    let same : f ≡ refused Memory (closing (framing_of b.head)) = ap (λ x. refused Memory (closing x)) b.shows.framing in
+    subst (λ t. Begins max t f) (sym (b.begins rest)) (rw b.few (Some b.head, b.parses, inr (inr (p.body_len, b.shows.body_len, same))))
+
+-- the request of the parts is that of the head
+pub request_at-shows : (max : ℕ) (text head body : List ℕ) (h : RequestHead) (p : Parts) → ShowsHead max head h p → take p.head_len text ≡ head → drop p.head_len text ≡ body
+    → request_at p text ≡ request_of h body
+request_at-shows max text head body h p s front rest =
+    rw (front, rest, s.method, s.target, s.version, s.length, s.defer, s.offset, s.metadata, s.concat, s.media) refl
+
+-- all of the body is held
+pub IsFront-message : (max : ℕ) (bytes : List ℕ) (p : Parts) (held : List ℕ) (b : BeginsHead max bytes p held) (a : Ahead) → p.head_len + p.body_len ≤ length held
+    → a.lent ≡ take (p.head_len + p.body_len) held → a.held ≡ drop (p.head_len + p.body_len) held
+    → (rest : List ℕ) → IsFront max (bytes ++ rest) (message (request_at p a.lent) p.framing p.is_waiting (a.held ++ rest))
+IsFront-message max bytes p held b a whole_body lent left rest =
+    subst (λ f. IsFront max (bytes ++ rest) f) same (IsFront-with_body max bytes p held b rest)
+  where
+    body : List ℕ
+    body = drop p.head_len held
+
+    inside : p.head_len + p.body_len ≤ length held → p.body_len ≤ length (drop p.head_len held)
+    inside h = omega (arith, length-drop p.head_len held, h)
+
+    same : with_body b.head p.body_len (drop p.head_len held ++ rest) ≡ message (request_at p a.lent) p.framing p.is_waiting (a.held ++ rest)
+    same =
+        let fits = inside whole_body in
+        let long : p.body_len ≤ length (drop p.head_len held ++ rest) = omega (arith, length-append (drop p.head_len held) rest, fits) in
+        let head : take p.head_len a.lent ≡ take p.head_len held = ap (take p.head_len) lent ∙ take-take p.head_len (p.head_len + p.body_len) held (omega arith) in
+        let text : drop p.head_len a.lent ≡ take p.body_len (drop p.head_len held) = ap (drop p.head_len) lent ∙ drop-take p.head_len p.body_len held in
+        let first : take p.body_len (drop p.head_len held ++ rest) ≡ take p.body_len (drop p.head_len held) = take-append-le p.body_len (drop p.head_len held) rest fits in
+        let later : drop p.body_len (drop p.head_len held ++ rest) ≡ a.held ++ rest =
+        drop-append-le p.body_len (drop p.head_len held) rest fits ∙ ap (λ l. l ++ rest) (drop-drop p.body_len p.head_len held ∙ sym left) in
+        let request = request_at-shows max a.lent (take p.head_len held) (take p.body_len (drop p.head_len held)) b.head p b.shows head text in
+        rw (le-leb p.body_len (length (drop p.head_len held ++ rest)) long, first, later, request, b.shows.framing, b.shows.is_waiting) refl
+
+alone : (max : ℕ) (bytes : List ℕ) (p : Parts) (held : List ℕ) (b : BeginsHead max bytes p held) → IsFront max bytes (with_body b.head p.body_len (drop p.head_len held))
+alone max bytes p held b =
+    subst₂ (λ i f. IsFront max i f) (append-nil bytes) (ap (with_body b.head p.body_len) (append-nil (drop p.head_len held))) (IsFront-with_body max bytes p held b [])
+
+-- not all of it is held
+short_body : (h : RequestHead) (n : ℕ) (rest : List ℕ) → length rest < n
+    → with_body h n rest ≡ (if is_patch (method_of h.method) then cut_patch (request_of h rest) (framing_of h) (is_waiting h n) else cut_other (is_waiting h n))
+short_body h n rest short = rw (lt-leb n (length rest) short) refl
+
+pub IsFront-cut_patch : (max : ℕ) (bytes : List ℕ) (p : Parts) (held : List ℕ) (b : BeginsHead max bytes p held) (a : Ahead) → length held < p.head_len + p.body_len
+    → p.head_len ≤ length held → is_patch p.method ≡ true → a.lent ≡ held → IsFront max bytes (cut_patch (request_at p a.lent) p.framing p.is_waiting)
+IsFront-cut_patch max bytes p held b a short within patch lent =
+    let few : length (drop p.head_len held) < p.body_len = omega (arith, length-drop p.head_len held) in
+    let request = request_at-shows max a.lent (take p.head_len held) (drop p.head_len held) b.head p b.shows (ap (take p.head_len) lent) (ap (drop p.head_len) lent) in
+    let is = rw b.shows.method at patch in
+    subst (λ f. IsFront max bytes f) (short_body b.head p.body_len (drop p.head_len held) few ∙ rw (is, request, b.shows.framing, b.shows.is_waiting) refl) (alone max bytes p held b)
+
+pub IsFront-cut_other : (max : ℕ) (bytes : List ℕ) (p : Parts) (held : List ℕ) (b : BeginsHead max bytes p held) → length held < p.head_len + p.body_len
+    → p.head_len ≤ length held → is_patch p.method ≡ false → IsFront max bytes (cut_other p.is_waiting)
+IsFront-cut_other max bytes p held b short within patch =
+    let few : length (drop p.head_len held) < p.body_len = omega (arith, length-drop p.head_len held) in
+    let is = rw b.shows.method at patch in
+    subst (λ f. IsFront max bytes f) (short_body b.head p.body_len (drop p.head_len held) few ∙ rw (is, b.shows.is_waiting) refl) (alone max bytes p held b)
+
+-- the request waits
+pub waits-with_body : (h : RequestHead) (n : ℕ) (rest : List ℕ) → is_waiting h n ≡ true → waits (with_body h n rest) ≡ true
+waits-with_body h n rest w =
+    elim (cases_Bool (nat_le n (length rest))) [
+      | inl t ↦ rw t w
+      | inr f ↦ rw f (elim (cases_Bool (is_patch (method_of h.method))) [
+        | inl t ↦ rw t w
+        | inr f2 ↦ rw f2 w
+      ])
+    ]
+
+pub IsFront-waits : (max : ℕ) (bytes : List ℕ) (p : Parts) (held : List ℕ) (b : BeginsHead max bytes p held) → p.is_waiting ≡ true
+    → (f : Front) × IsFront max bytes f × (waits f ≡ true)
+IsFront-waits max bytes p held b w =
+    (with_body b.head p.body_len (drop p.head_len held), alone max bytes p held b, waits-with_body b.head p.body_len (drop p.head_len held) (sym b.shows.is_waiting ∙ w))
+
+pub held_in : (n : ℕ) (held got all : List ℕ) → n ≤ length held → all ≡ held ++ got → n ≤ length all
+held_in n held got all h e = rw e (omega (arith, length-append held got, h))
+
+-- the write of `100 Continue` failed
+pub ReadsFront-unwritten : (max : ℕ) (bytes : List ℕ) (a : Ahead) (r : Result read.Front WireFault) (e : WireFault) (n : ℕ) → r ≡ Err e → e ≡ Write
+    → (f : Front) → IsFront max bytes f → waits f ≡ true → ReadsFront max bytes (take n (continue_text true)) a r
+ReadsFront-unwritten max bytes a r e n is is_write f front w = rw (is, is_write) (f, front, w, (n, refl))
+
+-- a head that was found and read
+pub BeginsHead-found : (max : ℕ) (bytes held found : List ℕ) (len : ℕ) (p : Parts) → found ≡ held → len ≤ length held → p.head_len ≡ length (take len found)
+    → Gives max (take len found) (Ok p) → ((rest : List ℕ) → head_text (bytes ++ rest) ≡ whole (take len held) (drop len held ++ rest)) → BeginsHead max bytes p held
+BeginsHead-found max bytes held found len p e within is gives begins =
+    let count : length (take len found) ≡ len = rw e (omega (arith, length-take-le len held within)) in
+    let n : p.head_len ≡ len = is ∙ count in
+    let front : take p.head_len held ≡ take len found = ap (λ k. take k held) n ∙ ap (take len) (sym e) in
+    record {
+      head = gives.1.0;
+      few = rw front gives.0;
+      parses = rw front gives.1.1;
+      shows = rw front gives.1.2;
+      begins = λ rest. rw n (begins rest);
+    }
+
+-- a head that is refused
+pub IsFront-refused : (max : ℕ) (bytes held found : List ℕ) (len : ℕ) (f : Front) → found ≡ held → ((rest : List ℕ) → Begins max (whole (take len found) rest) f)
+    → ((rest : List ℕ) → head_text (bytes ++ rest) ≡ whole (take len held) (drop len held ++ rest)) → (rest : List ℕ) → IsFront max (bytes ++ rest) f
+IsFront-refused max bytes held found len f e gives begins rest =
+    subst (λ t. Begins max t f) (ap (λ l. whole (take len l) (drop len held ++ rest)) e ∙ sym (begins rest)) (gives (drop len held ++ rest))
+
+-- the end inside a head
+pub IsFront-cut : (max : ℕ) (bytes : List ℕ) → head_text bytes ≡ cut → IsFront max bytes (cut_other false)
+IsFront-cut max bytes e = subst (λ t. Begins max t (cut_other false)) (sym e) refl
+
+-- a read failed before a whole head came
+pub ReadsFront-unfinished : (max : ℕ) (bytes : List ℕ) (a : Ahead) (r : Result read.Front WireFault) (e : WireFault) → r ≡ Err e → e ≡ Read
+    → IsUnfinished bytes → ReadsFront max bytes [] a r
+ReadsFront-unfinished max bytes a r e is is_read (inl c) = rw (is, is_read) (inl (false, refl, IsFront-cut max bytes c))
+ReadsFront-unfinished max bytes a r e is is_read (inr n) = rw (is, is_read) (inr (refl, subst (λ t. Begins max t clean_end) (sym n) refl))

@@ -1,0 +1,54 @@
+use Rattle.std.proofs.Common.{◌++◌, [], false, refl, ◌∙◌, subst, append_assoc}
+use Rattle.std.proofs.lemmas.Result.{err_from_is_err_and}
+use Rattle.http_wire.specs.Front.{refused}
+use Rattle.http_wire.specs.FrontRead.{ReadsFront}
+use Rattle.http_wire.proofs.AheadLemmas.{Appends-none, Consumes-more}
+use Rattle.http_wire.proofs.FrontLemmas.{BeginsHead-found, IsFront-refused, IsFront-cut, ReadsFront-unfinished}
+use Rattle.http_wire.proofs.read.read_front.Goals as goal
+
+pub returns-in_err-len-clause-front : goal.returns-in_err-len-clause-front
+returns-in_err-len-clause-front g c =
+    let p = err_from_is_err_and c.from_residual.result c.from_residual.ensures.1 in
+    let broken = c.in_err-len.ensures.unfinished in (
+      broken.0,
+      [],
+      broken.1,
+      Appends-none (g.W.Sink.contents c.args.writer.now),
+      ReadsFront-unfinished c.args.max_size (c.args.inbox.now.held ++ broken.0) c.find_head.new.inbox c.from_residual.result p.0 p.1 (p.2 ∙ c.in_err-len.ensures.fault) broken.2,
+    )
+
+pub returns-in-Ok-clause-front : goal.returns-in-Ok-clause-front
+returns-in-Ok-clause-front g c =
+    let start = c.args.inbox.now.held in
+    let found = rw c.in-Whole.is at c.in_ok-len.ensures.found in
+    let within = rw c.in-Whole.is at c.in_ok-len.ensures.within in
+    let begins = BeginsHead-found c.args.max_size (start ++ found.0) c.find_head.new.inbox.held c.held.result.now c.in-Whole.len c.in-Ok.parts
+    c.held.ensures.bytes within.0 c.in-Ok.ensures.within.head c.in-Ok.ensures.gives found.2 in
+    let body = c.read_body.ensures.front c.args.max_size (start ++ found.0) begins in (
+      found.0 ++ body.0,
+      body.1,
+      Consumes-more _ _ _ found.0 body.0 found.1 body.2,
+      body.3,
+      subst (λ l. ReadsFront c.args.max_size l body.1 c.read_body.new.inbox c.read_body.result) (append_assoc start found.0 body.0) body.4,
+    )
+
+pub returns-in-Err-clause-front : goal.returns-in-Err-clause-front
+returns-in-Err-clause-front g c =
+    let start = c.args.inbox.now.held in
+    let found = rw c.in-Whole.is at c.in_ok-len.ensures.found in
+    let refusal = c.in-Err.refused in (
+      found.0,
+      [],
+      found.1,
+      Appends-none (g.W.Sink.contents c.args.writer.now),
+      (
+        refl,
+        IsFront-refused c.args.max_size (start ++ found.0) c.find_head.new.inbox.held c.held.result.now c.in-Whole.len (refused refusal.refusal refusal.framing) c.held.ensures.bytes
+            c.in-Err.ensures.gives found.2,
+      ),
+    )
+
+pub returns-in-Cut-clause-front : goal.returns-in-Cut-clause-front
+returns-in-Cut-clause-front g c =
+    let found = rw c.in-Cut.is at c.in_ok-len.ensures.found in
+    (found.0, [], found.1, Appends-none (g.W.Sink.contents c.args.writer.now), (false, refl, IsFront-cut c.args.max_size (c.args.inbox.now.held ++ found.0) found.2.0))

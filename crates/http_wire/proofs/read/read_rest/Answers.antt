@@ -1,0 +1,81 @@
+use Rattle.std.proofs.Common.{◌++◌, refl, ap, sym, ◌∙◌, inl}
+use Rattle.http_wire.specs.Ahead.{Ahead}
+use Rattle.http_wire.proofs.FrontLemmas.{held_in, BeginsHead-more, IsFront-message, IsFront-cut_patch, IsFront-cut_other}
+use Rattle.http_wire.proofs.read.read_rest.Goals as goal
+
+pub returns-in-Ok-true-clause-front : goal.returns-in-Ok-true-clause-front
+returns-in-Ok-true-clause-front g c max bytes b =
+    let p = c.args.parts in
+    let grew = c.fill_to.ensures.grew in
+    let all = c.fill_to.new.inbox.held in
+    let more = BeginsHead-more max bytes p c.args.inbox.now.held grew.0 all b c.requires.held grew.1 in (
+      grew.0,
+      grew.2,
+      (
+        refl,
+        IsFront-message max (bytes ++ grew.0) p all more c.lend.new.self (c.in-Ok-true.ensures.enough c.in-Ok-true.field-0-test)
+            (ap (λ (a : Ahead). a.lent) c.lend.ensures) (ap (λ (a : Ahead). a.held) c.lend.ensures),
+      ),
+    )
+
+pub returns-then-is_patch-clause-front : goal.returns-then-is_patch-clause-front
+returns-then-is_patch-clause-front g c max bytes b =
+    let p = c.args.parts in
+    let grew = c.fill_to.ensures.grew in
+    let all = c.fill_to.new.inbox.held in
+    let more = BeginsHead-more max bytes p c.args.inbox.now.held grew.0 all b c.requires.held grew.1 in (
+      grew.0,
+      grew.2,
+      (
+        refl,
+        IsFront-cut_patch max (bytes ++ grew.0) p all more c.lend_all.new.inbox (c.in-Ok-false.ensures.short c.in-Ok-false.field-0-test)
+            (held_in p.head_len c.args.inbox.now.held grew.0 all c.requires.held grew.1) (sym c.is_patch.ensures ∙ c.if-is_patch.true) c.lend_all.ensures,
+      ),
+    )
+
+pub returns-else-is_patch-clause-front : goal.returns-else-is_patch-clause-front
+returns-else-is_patch-clause-front g c max bytes b =
+    let p = c.args.parts in
+    let grew = c.fill_to.ensures.grew in
+    let all = c.fill_to.new.inbox.held in
+    let more = BeginsHead-more max bytes p c.args.inbox.now.held grew.0 all b c.requires.held grew.1 in (
+      grew.0,
+      grew.2,
+      (
+        p.is_waiting,
+        refl,
+        IsFront-cut_other max (bytes ++ grew.0) p all more (c.in-Ok-false.ensures.short c.in-Ok-false.field-0-test)
+            (held_in p.head_len c.args.inbox.now.held grew.0 all c.requires.held grew.1) (sym c.is_patch.ensures ∙ c.if-is_patch.false),
+      ),
+    )
+
+pub returns-then-is_patch-2-clause-front : goal.returns-then-is_patch-2-clause-front
+returns-then-is_patch-2-clause-front g c max bytes b =
+    let p = c.args.parts in
+    let grew = c.fill_to.ensures.grew in
+    let all = c.fill_to.new.inbox.held in
+    let more = BeginsHead-more max bytes p c.args.inbox.now.held grew.0 all b c.requires.held grew.1 in (
+      grew.0,
+      grew.2,
+      (
+        refl,
+        IsFront-cut_patch max (bytes ++ grew.0) p all more c.lend_all-then-is_patch-2.new.inbox c.in-Err.ensures.broken
+            (held_in p.head_len c.args.inbox.now.held grew.0 all c.requires.held grew.1) (sym c.is_patch-in-Err.ensures ∙ c.if-is_patch-2.true) c.lend_all-then-is_patch-2.ensures,
+      ),
+    )
+
+pub returns-else-is_patch-2-clause-front : goal.returns-else-is_patch-2-clause-front
+returns-else-is_patch-2-clause-front g c max bytes b =
+    let p = c.args.parts in
+    let grew = c.fill_to.ensures.grew in
+    let all = c.fill_to.new.inbox.held in
+    let more = BeginsHead-more max bytes p c.args.inbox.now.held grew.0 all b c.requires.held grew.1 in (
+      grew.0,
+      grew.2,
+      rw c.in-Err.ensures.fault (inl (
+        p.is_waiting,
+        refl,
+        IsFront-cut_other max (bytes ++ grew.0) p all more c.in-Err.ensures.broken
+            (held_in p.head_len c.args.inbox.now.held grew.0 all c.requires.held grew.1) (sym c.is_patch-in-Err.ensures ∙ c.if-is_patch-2.false),
+      )),
+    )
