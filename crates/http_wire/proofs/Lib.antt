@@ -1,10 +1,12 @@
 pub mod AheadLemmas
 pub mod FieldsLemmas
+pub mod FindLemmas
+pub mod FrontLemmas
 pub mod HeadLemmas
+pub mod HeadTextLemmas
 pub mod NameLemmas
 pub mod PageLemmas
 pub mod RangeLemmas
+pub mod Served
+pub mod Talk
 pub mod PlainLemmas
-pub mod FindLemmas
-pub mod FrontLemmas
-pub mod HeadTextLemmas

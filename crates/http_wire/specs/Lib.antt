@@ -15,4 +15,5 @@ pub mod Refusal
 pub mod ReplyText
 pub mod Scan
 pub mod Shown
+pub mod Turns
 pub mod Plain

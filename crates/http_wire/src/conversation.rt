@@ -1,4 +1,7 @@
-ghost use Rattle.std.specs.Prelude.{◌≡◌, ◌≤◌, false, IfOk, IfErr};
+ghost use Rattle.std.specs.Prelude.{◌≡◌, ◌≤◌, ◌++◌, ℕ, List, false, IfOk, IfErr};
+ghost use Rattle.std.specs.Io.KnownBytes.{Appends, Consumes};
+ghost use Rattle.http_wire.specs.HeadFound.{SeesEnd};
+ghost use Rattle.http_wire.specs.Turns.{Breaks, Converses, EndsTurnAtEnd, IsReadWhen, TakesTurn};
 ghost use Rattle.http_wire.specs.Lent.{Names, NamesOrMemory, IsAliveUnless};
 
 use crate::buffers::Buffers;
@@ -37,6 +40,15 @@ pub fn converse<R: Source, W: Sink>(
 ) -> Result<Ended, WireFault>
     requires reader { R.has_failed reader.old ≡ false }
     requires writer { W.has_failed writer.old ≡ false }
+    ensures converses { IfOk result (λ e. (got text : List ℕ)
+        × Consumes (R.remaining reader.old) (R.remaining reader.new) got
+        × Appends (W.contents writer.old) (W.contents writer.new) text
+        × Converses moments.now got text book.old book.new e) }
+    ensures read { IfOk result (λ e. IsReadWhen e (R.remaining reader.new)) }
+    ensures breaks { IfErr result (λ f. (got text : List ℕ)
+        × Consumes (R.remaining reader.old) (R.remaining reader.new) got
+        × Appends (W.contents writer.old) (W.contents writer.new) text
+        × Breaks moments.now got text book.old book.new f) }
     ensures fault { IfErr result (NamesOrMemory (R.has_failed reader.new) (W.has_failed writer.new)) }
 {
     let mut buffers = match Buffers::new(alloc) {
@@ -62,15 +74,27 @@ fn take_turn<R: Source, W: Sink>(
 ) -> Result<Option<Ended>, WireFault>
     requires reader { R.has_failed reader.old ≡ false }
     requires writer { W.has_failed writer.old ≡ false }
+    ensures turn { (got text : List ℕ) × Consumes (R.remaining reader.old) (R.remaining reader.new) got
+        × Appends (W.contents writer.old) (W.contents writer.new) text
+        × TakesTurn now (buffers.old.inbox.held ++ got) text buffers.new.inbox.held book.old book.new result }
+    ensures end { IfOk result (λ r. SeesEnd (R.remaining reader.old) buffers.old.inbox
+        → EndsTurnAtEnd (R.remaining reader.new) buffers.new.inbox r) }
     ensures reader { IfOk result (IsAliveUnless (R.has_failed reader.new)) }
     ensures writer { IfOk result (IsAliveUnless (W.has_failed writer.new)) }
     ensures fault { IfErr result (Names (R.has_failed reader.new) (W.has_failed writer.new)) }
 {
-    let Buffers { inbox, found, page } = buffers;
-    match read_front(alloc, reader, writer, inbox, found, max_size(book))? {
+    let front = read_front(
+        alloc,
+        reader,
+        writer,
+        &mut buffers.inbox,
+        &mut buffers.found,
+        max_size(book),
+    )?;
+    match front {
         Front::Message(parts) => {
-            let reply = answer(book, &request_in(&parts, inbox.lent()), now);
-            write_reply(writer, page, &reply, now, parts.framing)?;
+            let reply = answer(book, &request_in(&parts, buffers.inbox.lent()), now);
+            write_reply(writer, &mut buffers.page, &reply, now, parts.framing)?;
             Ok(if parts.framing.close {
                 Some(Ended::Closed)
             } else {
@@ -78,11 +102,11 @@ fn take_turn<R: Source, W: Sink>(
             })
         }
         Front::Refused(refusal, framing) => {
-            write_refusal(writer, page, refusal, now, framing)?;
+            write_refusal(writer, &mut buffers.page, refusal, now, framing)?;
             Ok(Some(Ended::Closed))
         }
         Front::CutPatch(parts, why) => {
-            let _ = answer(book, &request_in(&parts, inbox.lent()), now);
+            let _ = answer(book, &request_in(&parts, buffers.inbox.lent()), now);
             match why {
                 Cut::Ended => Ok(Some(Ended::Cut)),
                 Cut::Fault => Err(WireFault::Read),

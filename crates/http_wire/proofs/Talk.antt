@@ -1,0 +1,105 @@
+-- Turns one after another, and what follows them.
+use Rattle.std.proofs.Common.{◌≡◌, ℕ, ◌+◌, ◌<◌, IfErr, Result, Err, length, take, drop, get_or, take-append-drop, Bool, true, false, true≢false, List, [], ◌∷◌, ◌++◌, refl, sym, ap, ◌∙◌, subst, subst₂, inl, inr, append-nil, append_assoc}
+use Rattle.std.proofs.lemmas.List.{drop_more}
+use Rattle.upload_book.specs.PlainBook.{PlainBook}
+use Rattle.http_wire.specs.Conversation.{Conversation, Goes, continue_text}
+use Rattle.http_wire.specs.Front.{Front, message, IsFront}
+use Rattle.http_wire.specs.ReplyText.{reply_text}
+use Rattle.http_wire.specs.Turns.{Answered, Turns, FailsIn, BreaksOff, Breaks, BreaksTurn, Converses, LastTurn, MayFollow}
+use Rattle.http_wire.specs.declared.conversation.Ended.{Ended}
+use Rattle.http_wire.specs.declared.conversation.Ended.TheVariants as ended
+use Rattle.http_wire.specs.declared.fault.WireFault.{WireFault}
+use Rattle.http_wire.specs.declared.fault.WireFault.TheVariants.{Read, Write, Memory, Failed}
+
+-- a reply after which the connection stays open
+pub Goes-stays : (close : Bool) (first : List ℕ) (moments rest : List ℕ) (b : PlainBook) (text : List ℕ) (b2 : PlainBook) (e : Ended) → close ≡ false
+    → (later : List ℕ) → text ≡ first ++ later → Conversation moments rest b later b2 e → Goes close first (Conversation moments) rest b text b2 e
+Goes-stays true first moments rest b text b2 e is later whole c = absurd (true≢false is)
+Goes-stays false first moments rest b text b2 e is later whole c = (later, whole, c)
+
+-- a reply after which it closes
+pub Goes-closes : (close : Bool) (first : List ℕ) (moments rest : List ℕ) (b : PlainBook) (text : List ℕ) → close ≡ true → text ≡ first
+    → Goes close first (Conversation moments) rest b text b ended.Closed
+Goes-closes true first moments rest b text is whole = record { book = refl; ended = refl; text = whole }
+Goes-closes false first moments rest b text is whole = absurd (true≢false (sym is))
+
+-- whole turns, and then a conversation
+pub Turns-Conversation : (before after input : List ℕ) (b : PlainBook) (text : List ℕ) (b1 : PlainBook) (middle later : List ℕ) (b2 : PlainBook) (e : Ended)
+    → Turns before input b text b1 middle → Conversation after middle b1 later b2 e → Conversation (before ++ after) input b (text ++ later) b2 e
+Turns-Conversation [] after input b text b1 middle later b2 e t c =
+    rw t.1 (subst₂ (λ i x. Conversation after i x later b2 e) t.0 t.2 c)
+Turns-Conversation (now ∷ before) after input b text b1 middle later b2 e t c =
+    let a = t.4 in
+    let rest = Turns-Conversation before after t.2 t.3 t.1 b1 middle later b2 e t.5 c in
+    let whole : text ++ later ≡ (continue_text a.waiting ++ reply_text a.reply now a.framing) ++ (t.1 ++ later) =
+    ap (λ l. l ++ later) (t.6 ∙ ap (λ l. l ++ t.1) a.wrote) ∙ append_assoc (continue_text a.waiting ++ reply_text a.reply now a.framing) t.1 later in
+    (message a.asked a.framing a.waiting t.2, a.front, (a.reply, t.3, a.step, Goes-stays a.framing.close (continue_text a.waiting ++ reply_text a.reply now a.framing) (before ++ after) t.2 t.3 (text ++ later) b2 e a.stays (t.1 ++ later) whole rest))
+
+-- one turn more
+pub Turns-snoc : (before : List ℕ) (now : ℕ) (input : List ℕ) (b : PlainBook) (text : List ℕ) (b1 : PlainBook) (middle first : List ℕ) (b2 : PlainBook) (rest : List ℕ)
+    → Turns before input b text b1 middle → Answered now middle b1 first b2 rest → Turns (before ++ now ∷ []) input b (text ++ first) b2 rest
+Turns-snoc [] now input b text b1 middle first b2 rest t a =
+    (first, [], rest, b2, subst₂ (λ i x. Answered now i x first b2 rest) t.0 t.2 a, (refl, refl, refl), ap (λ l. l ++ first) t.1 ∙ sym (append-nil first))
+Turns-snoc (m ∷ before) now input b text b1 middle first b2 rest t a =
+    (t.0, t.1 ++ first, t.2, t.3, t.4, Turns-snoc before now t.2 t.3 t.1 b1 middle first b2 rest t.5 a, ap (λ l. l ++ first) t.6 ∙ append_assoc t.0 t.1 first)
+
+-- whole turns, and then one that was broken off
+pub Turns-BreaksOff : (before after : List ℕ) (now : ℕ) (input : List ℕ) (b : PlainBook) (text : List ℕ) (b1 : PlainBook) (middle part : List ℕ) (b2 : PlainBook) (f : Front)
+    → Turns before input b text b1 middle → IsFront b1.settings.numbers.max_size middle f → FailsIn now f b1 part b2 → BreaksOff (before ++ now ∷ after) input b (text ++ part) b2
+Turns-BreaksOff [] after now input b text b1 middle part b2 f t front fails =
+    inl (f, subst₂ (λ i (x : PlainBook). IsFront x.settings.numbers.max_size i f) t.0 t.2 front, rw t.1 (subst (λ x. FailsIn now f x part b2) t.2 fails))
+Turns-BreaksOff (m ∷ before) after now input b text b1 middle part b2 f t front fails =
+    inr (t.0, t.1 ++ part, t.2, t.3, t.4, Turns-BreaksOff before after now t.2 t.3 t.1 b1 middle part b2 f t.5 front fails, ap (λ l. l ++ part) t.6 ∙ append_assoc t.0 t.1 part)
+
+-- Some turns were taken: these bytes were read and this text was written. What follows the bytes changes
+-- nothing.
+abbrev pub Reached : List ℕ → List ℕ → PlainBook → List ℕ → PlainBook → List ℕ → Type 0
+Reached before got b text b1 held = (rest : List ℕ) → Turns before (got ++ rest) b text b1 (held ++ rest)
+
+pub Reached-start : (b : PlainBook) → Reached [] [] b [] b []
+Reached-start b rest = (refl, refl, refl)
+
+longer : (got more rest : List ℕ) → (got ++ more) ++ rest ≡ got ++ (more ++ rest)
+longer got more rest = append_assoc got more rest
+
+-- one turn more
+pub Reached-more : (before : List ℕ) (now : ℕ) (got more : List ℕ) (b : PlainBook) (text first : List ℕ) (b1 b2 : PlainBook) (held held2 : List ℕ) → Reached before got b text b1 held
+    → ((rest : List ℕ) → Answered now ((held ++ more) ++ rest) b1 first b2 (held2 ++ rest)) → Reached (before ++ now ∷ []) (got ++ more) b (text ++ first) b2 held2
+Reached-more before now got more b text first b1 b2 held held2 r a rest =
+    Turns-snoc before now ((got ++ more) ++ rest) b text b1 (held ++ (more ++ rest)) first b2 (held2 ++ rest)
+    (subst (λ i. Turns before i b text b1 (held ++ (more ++ rest))) (sym (longer got more rest)) (r (more ++ rest)))
+    (subst (λ i. Answered now i b1 first b2 (held2 ++ rest)) (longer held more rest) (a rest))
+
+-- the turn with which the conversation ends
+pub Converses-last : (before after : List ℕ) (now : ℕ) (got more : List ℕ) (b : PlainBook) (text last : List ℕ) (b1 b2 : PlainBook) (held : List ℕ) (e : Ended) → Reached before got b text b1 held
+    → ((rest : List ℕ) → MayFollow e rest → LastTurn now ((held ++ more) ++ rest) b1 last b2 e) → Converses (before ++ now ∷ after) (got ++ more) (text ++ last) b b2 e
+Converses-last before after now got more b text last b1 b2 held e r t rest may =
+    Turns-Conversation before (now ∷ after) ((got ++ more) ++ rest) b text b1 (held ++ (more ++ rest)) last b2 e
+    (subst (λ i. Turns before i b text b1 (held ++ (more ++ rest))) (sym (longer got more rest)) (r (more ++ rest)))
+    (subst (λ i. Conversation (now ∷ after) i b1 last b2 e) (longer held more rest) (t rest may after))
+
+-- no moment is left
+pub Converses-all : (moments got : List ℕ) (b : PlainBook) (text : List ℕ) (b1 : PlainBook) (held : List ℕ) → Reached moments got b text b1 held
+    → Converses moments got text b b1 ended.Moments
+Converses-all moments got b text b1 held r rest may =
+    subst₂ (λ ms t. Conversation ms (got ++ rest) b t b1 ended.Moments) (append-nil moments) (append-nil text)
+    (Turns-Conversation moments [] (got ++ rest) b text b1 (held ++ rest) [] b1 ended.Moments (r rest) (record { book = refl; ended = refl; text = refl }))
+
+-- the turn that a fault breaks off
+pub Breaks-after : (before after : List ℕ) (now : ℕ) (got more : List ℕ) (b : PlainBook) (text last : List ℕ) (b1 b2 : PlainBook) (held : List ℕ) (e : WireFault) → Reached before got b text b1 held
+    → BreaksTurn now (held ++ more) last b1 b2 e → Breaks (before ++ now ∷ after) (got ++ more) (text ++ last) b b2 e
+Breaks-after before after now got more b text last b1 b2 held Read r t =
+    (t.0, Turns-Conversation before (now ∷ after) (got ++ more) b text b1 (held ++ more) last b2 t.0 (r more) (t.1 after))
+Breaks-after before after now got more b text last b1 b2 held Write r t =
+    Turns-BreaksOff before after now (got ++ more) b text b1 (held ++ more) last b2 t.0 (r more) t.1 t.2
+Breaks-after before after now got more b text last b1 b2 held Memory r t = absurd t
+Breaks-after before after now got more b text last b1 b2 held Failed r t = absurd t
+
+-- the moments before one, that one, and those after it
+pub moments_split : (moments : List ℕ) (i d : ℕ) → i < length moments → take i moments ++ get_or moments i d ∷ drop (i + 1) moments ≡ moments
+moments_split moments i d h =
+    ap (λ l. take i moments ++ l) (sym (drop_more moments i d h)) ∙ take-append-drop i moments
+
+-- what holds of an error that was passed up
+pub IfErr-from : {T : Type 0} (P : WireFault → Type 0) (r : Result T WireFault) (e e2 : WireFault) → r ≡ Err e → e ≡ e2 → P e2 → IfErr r P
+IfErr-from P r e e2 is same h = subst (λ x. IfErr x P) (sym is) (subst P (sym same) h)

@@ -1,0 +1,80 @@
+use Rattle.std.proofs.Common.{◌≡◌, ℕ, ◌+◌, ◌∷◌, ◌++◌, List, [], take, drop, ap, ◌∙◌, subst, sym, take_all}
+use Rattle.std.proofs.lemmas.List.{take_more}
+use Rattle.std.proofs.lemmas.Result.{err_from_is_err_and}
+use Rattle.std.specs.Io.KnownBytes.{Appends, Consumes}
+use Rattle.http_wire.specs.Turns.{Breaks, Converses}
+use Rattle.http_wire.proofs.AheadLemmas.{Appends-more, Consumes-more}
+use Rattle.http_wire.proofs.Talk.{Reached, Reached-start, Reached-more, Converses-last, Converses-all, Breaks-after, moments_split, IfErr-from}
+use Rattle.http_wire.proofs.conversation.converse.Goals as goal
+
+pub returns-in_err-ended-clause-breaks : goal.returns-in_err-ended-clause-breaks
+returns-in_err-ended-clause-breaks g c =
+    let p = err_from_is_err_and c.from_residual.result c.from_residual.ensures.1 in
+    let ms = c.args.moments.now in
+    let i = c.loop-moment.moment-index in
+    let m = c.moment-item.result in
+    let split : take i ms ++ m ∷ drop (i + 1) ms ≡ ms = ap (λ d. take i ms ++ d ∷ drop (i + 1) ms) c.moment-item.is ∙ moments_split ms i m c.loop-moment-test.true in
+    let reached = c.loop-moment.invariant.reached in
+    let turn = c.in_err-ended.ensures.turn in
+    let fault = c.in_err-ended.field-0.0 in
+    let b = c.args.book.now in
+    let b2 = c.take_turn.new.book in
+    let breaks = Breaks-after (take i ms) (drop (i + 1) ms) m reached.0 turn.0 b reached.1 turn.1 c.loop-moment.book b2 c.loop-moment.buffers.inbox.held fault reached.4 turn.4 in
+    IfErr-from _ c.from_residual.result p.0 fault p.1 p.2 (
+      reached.0 ++ turn.0,
+      reached.1 ++ turn.1,
+      Consumes-more _ _ _ reached.0 turn.0 reached.2 turn.2,
+      Appends-more _ _ _ reached.1 turn.1 reached.3 turn.3,
+      subst (λ l. Breaks l (reached.0 ++ turn.0) (reached.1 ++ turn.1) b b2 fault) split breaks,
+    )
+
+pub returns-in-Some-clause-converses : goal.returns-in-Some-clause-converses
+returns-in-Some-clause-converses g c =
+    let ms = c.args.moments.now in
+    let i = c.loop-moment.moment-index in
+    let m = c.moment-item.result in
+    let split : take i ms ++ m ∷ drop (i + 1) ms ≡ ms = ap (λ d. take i ms ++ d ∷ drop (i + 1) ms) c.moment-item.is ∙ moments_split ms i m c.loop-moment-test.true in
+    let reached = c.loop-moment.invariant.reached in
+    let turn = rw c.in-Some.is at c.in_ok-ended.ensures.turn in
+    let b = c.args.book.now in
+    let b2 = c.take_turn.new.book in
+    let converses = Converses-last (take i ms) (drop (i + 1) ms) m reached.0 turn.0 b reached.1 turn.1 c.loop-moment.book b2 c.loop-moment.buffers.inbox.held c.in-Some.ended reached.4 turn.4 in (
+      reached.0 ++ turn.0,
+      reached.1 ++ turn.1,
+      Consumes-more _ _ _ reached.0 turn.0 reached.2 turn.2,
+      Appends-more _ _ _ reached.1 turn.1 reached.3 turn.3,
+      subst (λ l. Converses l (reached.0 ++ turn.0) (reached.1 ++ turn.1) b b2 c.in-Some.ended) split converses,
+    )
+
+pub loop-moment-preserved : goal.loop-moment-preserved
+loop-moment-preserved g c =
+    let ms = c.args.moments.now in
+    let i = c.loop-moment.moment-index in
+    let m = c.moment-item.result in
+    let more : take i ms ++ m ∷ [] ≡ take (i + 1) ms = ap (λ d. take i ms ++ d ∷ []) c.moment-item.is ∙ sym (take_more ms i m c.loop-moment-test.true) in
+    let reached = c.loop-moment.invariant.reached in
+    let turn = rw c.in_default.is at c.in_ok-ended.ensures.turn in
+    let b = c.args.book.now in
+    let b2 = c.take_turn.new.book in
+    let held = c.take_turn.new.buffers.inbox.held in
+    let next = Reached-more (take i ms) m reached.0 turn.0 b reached.1 turn.1 c.loop-moment.book b2 c.loop-moment.buffers.inbox.held held reached.4 turn.4 in
+    record {
+      reader = rw c.in_default.is at c.in_ok-ended.ensures.reader;
+      writer = rw c.in_default.is at c.in_ok-ended.ensures.writer;
+      reached = (
+        reached.0 ++ turn.0,
+        reached.1 ++ turn.1,
+        Consumes-more _ _ _ reached.0 turn.0 reached.2 turn.2,
+        Appends-more _ _ _ reached.1 turn.1 reached.3 turn.3,
+        subst (λ l. Reached l (reached.0 ++ turn.0) b (reached.1 ++ turn.1) b2 held) more next,
+      );
+      end = (rw c.in_default.is at c.in_ok-ended.ensures.end) c.loop-moment.invariant.end;
+    }
+
+pub returns-clause-converses : goal.returns-clause-converses
+returns-clause-converses g c =
+    let ms = c.args.moments.now in
+    let reached = c.loop-moment.invariant.reached in
+    let held = c.loop-moment.buffers.inbox.held in
+    let all = subst (λ l. Reached l reached.0 c.args.book.now reached.1 c.loop-moment.book held) (take_all c.loop-moment.moment-index ms c.loop-moment-test.false) reached.4 in
+    (reached.0, reached.1, reached.2, reached.3, Converses-all ms reached.0 c.args.book.now reached.1 c.loop-moment.book held all)

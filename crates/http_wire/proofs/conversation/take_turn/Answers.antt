@@ -1,0 +1,152 @@
+use Rattle.std.proofs.Common.{◌≡◌, ◌++◌, ap, take, sym, ◌∙◌, subst}
+use Rattle.std.proofs.lemmas.Result.{err_from_is_err_and}
+use Rattle.tus_steps.specs.Request.{Asked, asked_of}
+use Rattle.tus_steps.specs.Step.{IsStep}
+use Rattle.http_wire.specs.Front.{refused}
+use Rattle.http_wire.specs.Parts.{request_at}
+use Rattle.http_wire.specs.ReplyText.{reply_text, refusal_text}
+use Rattle.http_wire.specs.declared.conversation.Ended.TheVariants as ended
+use Rattle.http_wire.specs.declared.fault.WireFault.TheVariants.{Write}
+use Rattle.http_wire.proofs.AheadLemmas.{Appends-more}
+use Rattle.http_wire.proofs.Served.{Served-stays, Served-closed, Served-refused, Served-cut_patch, Served-cut_other, LastTurn-alone, BreaksTurn-front, BreaksTurn-reply, BreaksTurn-refusal, TakesTurn-broken}
+use Rattle.http_wire.proofs.conversation.take_turn.Goals as goal
+
+pub returns-in_err-front-clause-turn : goal.returns-in_err-front-clause-turn
+returns-in_err-front-clause-turn g c =
+    let p = err_from_is_err_and c.from_residual.result c.from_residual.ensures.1 in
+    let f = rw c.max_size.ensures.value at c.in_err-front.ensures.front in
+    let b = c.args.book.now in
+    let bytes = c.args.buffers.now.inbox.held ++ f.0 in (
+      f.0,
+      f.1,
+      f.2,
+      f.3,
+      TakesTurn-broken c.args.now bytes f.1 c.read_front.new.inbox.held b b c.from_residual.result p.0 c.in_err-front.field-0.0 p.1 p.2
+          (BreaksTurn-front c.args.now bytes f.1 b c.in_err-front.field-0.0 f.4),
+    )
+
+pub returns-in_err-write_reply-in-Message-clause-turn : goal.returns-in_err-write_reply-in-Message-clause-turn
+returns-in_err-write_reply-in-Message-clause-turn g c =
+    let p = err_from_is_err_and c.from_residual-in_err-write_reply-in-Message.result c.from_residual-in_err-write_reply-in-Message.ensures.1 in
+    let f = rw (c.max_size.ensures.value, c.in-Message.is) at c.in_ok-front.ensures.front in
+    let b = c.args.book.now in
+    let now = c.args.now in
+    let parts = c.in-Message.parts in
+    let a = c.read_front.new.inbox in
+    let bytes = c.args.buffers.now.inbox.held ++ f.0 in
+    let reply = c.answer-reply.result in
+    let asked = c.request_in.ensures ∙ ap (request_at parts) c.lent.ensures in
+    let step = subst (λ x. IsStep b x now reply c.answer-reply.new.book) asked c.answer-reply.ensures.step in
+    let part = c.in_err-write_reply-in-Message.ensures.part in
+    let last = take part.0 (reply_text reply now parts.framing) in (
+      f.0,
+      f.1 ++ last,
+      f.2,
+      Appends-more _ _ _ f.1 last f.3 part.2,
+      TakesTurn-broken now bytes (f.1 ++ last) a.held b c.answer-reply.new.book c.from_residual-in_err-write_reply-in-Message.result p.0 Write p.1
+          (p.2 ∙ c.in_err-write_reply-in-Message.ensures.fault) (BreaksTurn-reply now part.0 bytes f.1 a parts b c.answer-reply.new.book reply f.4 step),
+    )
+
+pub returns-in_err-write_refusal-in-Refused-clause-turn : goal.returns-in_err-write_refusal-in-Refused-clause-turn
+returns-in_err-write_refusal-in-Refused-clause-turn g c =
+    let p = err_from_is_err_and c.from_residual-in_err-write_refusal-in-Refused.result c.from_residual-in_err-write_refusal-in-Refused.ensures.1 in
+    let f = rw (c.max_size.ensures.value, c.in-Refused.is) at c.in_ok-front.ensures.front in
+    let b = c.args.book.now in
+    let now = c.args.now in
+    let a = c.read_front.new.inbox in
+    let bytes = c.args.buffers.now.inbox.held ++ f.0 in
+    let part = c.in_err-write_refusal-in-Refused.ensures.part in
+    let last = take part.0 (refusal_text c.in-Refused.refusal now c.in-Refused.framing) in (
+      f.0,
+      f.1 ++ last,
+      f.2,
+      Appends-more _ _ _ f.1 last f.3 part.2,
+      TakesTurn-broken now bytes (f.1 ++ last) a.held b b c.from_residual-in_err-write_refusal-in-Refused.result p.0 Write p.1
+          (p.2 ∙ c.in_err-write_refusal-in-Refused.ensures.fault) (BreaksTurn-refusal now part.0 bytes f.1 a c.in-Refused.refusal c.in-Refused.framing b f.4),
+    )
+
+pub returns-then-parts-clause-turn : goal.returns-then-parts-clause-turn
+returns-then-parts-clause-turn g c =
+    let f = rw (c.max_size.ensures.value, c.in-Message.is) at c.in_ok-front.ensures.front in
+    let b = c.args.book.now in
+    let now = c.args.now in
+    let parts = c.in-Message.parts in
+    let a = c.read_front.new.inbox in
+    let bytes = c.args.buffers.now.inbox.held ++ f.0 in
+    let reply = c.answer-reply.result in
+    let asked = c.request_in.ensures ∙ ap (request_at parts) c.lent.ensures in
+    let step = subst (λ x. IsStep b x now reply c.answer-reply.new.book) asked c.answer-reply.ensures.step in
+    let last = reply_text reply now parts.framing in (
+      f.0,
+      f.1 ++ last,
+      f.2,
+      Appends-more _ _ _ f.1 last f.3 c.in_ok-write_reply-in-Message.ensures.ok,
+      λ rest _. Served-closed now bytes f.1 a parts b c.answer-reply.new.book reply f.4 step c.if-parts.true rest,
+    )
+
+pub returns-else-parts-clause-turn : goal.returns-else-parts-clause-turn
+returns-else-parts-clause-turn g c =
+    let f = rw (c.max_size.ensures.value, c.in-Message.is) at c.in_ok-front.ensures.front in
+    let b = c.args.book.now in
+    let now = c.args.now in
+    let parts = c.in-Message.parts in
+    let a = c.read_front.new.inbox in
+    let bytes = c.args.buffers.now.inbox.held ++ f.0 in
+    let reply = c.answer-reply.result in
+    let asked = c.request_in.ensures ∙ ap (request_at parts) c.lent.ensures in
+    let step = subst (λ x. IsStep b x now reply c.answer-reply.new.book) asked c.answer-reply.ensures.step in
+    let last = reply_text reply now parts.framing in (
+      f.0,
+      f.1 ++ last,
+      f.2,
+      Appends-more _ _ _ f.1 last f.3 c.in_ok-write_reply-in-Message.ensures.ok,
+      Served-stays now bytes f.1 a parts b c.answer-reply.new.book reply f.4 step c.if-parts.false,
+    )
+
+pub returns-in_ok-write_refusal-in-Refused-clause-turn : goal.returns-in_ok-write_refusal-in-Refused-clause-turn
+returns-in_ok-write_refusal-in-Refused-clause-turn g c =
+    let f = rw (c.max_size.ensures.value, c.in-Refused.is) at c.in_ok-front.ensures.front in
+    let b = c.args.book.now in
+    let now = c.args.now in
+    let a = c.read_front.new.inbox in
+    let bytes = c.args.buffers.now.inbox.held ++ f.0 in
+    let last = refusal_text c.in-Refused.refusal now c.in-Refused.framing in (
+      f.0,
+      f.1 ++ last,
+      f.2,
+      Appends-more _ _ _ f.1 last f.3 c.in_ok-write_refusal-in-Refused.ensures.ok,
+      λ rest _. Served-refused now bytes f.1 a c.in-Refused.refusal c.in-Refused.framing b f.4 rest,
+    )
+
+pub returns-in-Ended-clause-turn : goal.returns-in-Ended-clause-turn
+returns-in-Ended-clause-turn g c =
+    let f = rw (c.max_size.ensures.value, c.in-CutPatch.is) at c.in_ok-front.ensures.front in
+    let b = c.args.book.now in
+    let now = c.args.now in
+    let parts = c.in-CutPatch.parts in
+    let a = c.read_front.new.inbox in
+    let bytes = c.args.buffers.now.inbox.held ++ f.0 in
+    let reply = c.answer.result in
+    let asked = c.request_in-in-CutPatch.ensures ∙ ap (request_at parts) c.lent-in-CutPatch.ensures in
+    let step = subst (λ x. IsStep b x now reply c.answer.new.book) asked c.answer.ensures.step in
+    (f.0, f.1, f.2, f.3, λ rest none. LastTurn-alone now bytes f.1 rest b c.answer.new.book ended.Cut (Served-cut_patch now bytes f.1 a parts c.in-CutPatch.why b c.answer.new.book reply f.4 step) none)
+
+pub returns-in-Fault-clause-turn : goal.returns-in-Fault-clause-turn
+returns-in-Fault-clause-turn g c =
+    let f = rw (c.max_size.ensures.value, c.in-CutPatch.is) at c.in_ok-front.ensures.front in
+    let b = c.args.book.now in
+    let now = c.args.now in
+    let parts = c.in-CutPatch.parts in
+    let a = c.read_front.new.inbox in
+    let bytes = c.args.buffers.now.inbox.held ++ f.0 in
+    let reply = c.answer.result in
+    let asked = c.request_in-in-CutPatch.ensures ∙ ap (request_at parts) c.lent-in-CutPatch.ensures in
+    let step = subst (λ x. IsStep b x now reply c.answer.new.book) asked c.answer.ensures.step in
+    (f.0, f.1, f.2, f.3, (ended.Cut, Served-cut_patch now bytes f.1 a parts c.in-CutPatch.why b c.answer.new.book reply f.4 step))
+
+pub returns-in-CutOther-clause-turn : goal.returns-in-CutOther-clause-turn
+returns-in-CutOther-clause-turn g c =
+    let f = rw (c.max_size.ensures.value, c.in-CutOther.is) at c.in_ok-front.ensures.front in
+    let b = c.args.book.now in
+    let bytes = c.args.buffers.now.inbox.held ++ f.0 in
+    (f.0, f.1, f.2, f.3, λ rest none. LastTurn-alone c.args.now bytes f.1 rest b b ended.Cut (Served-cut_other c.args.now bytes f.1 c.read_front.new.inbox b f.4) none)
