@@ -1,11 +1,10 @@
 -- The search for a head, one read after another.
-use Rattle.std.proofs.Common.{◌≡◌, ◌⊎◌, ◌≢◌, Bool, ◌==◌, ◌&&◌, ℕ, suc, ◌+◌, ◌-◌, ◌<◌, ◌≤◌, min, true, false, nat_le, List, [], ◌∷◌, ◌++◌, Result, Ok, Err, OnErr, length, take, drop, Option, None, Some, option_map, refl, sym, ap, ap₂, ◌∙◌, arith, inl, inr, true≢false, ne_eqb, le-leb, length-append, append-nil, append_assoc, take-append-drop, length-drop, length-take-le, add_assoc, add-zero, zero-add, drop-drop, take_all}
+use Rattle.std.proofs.Common.{◌≡◌, ◌⊎◌, ◌≢◌, Bool, ◌==◌, ℕ, suc, ◌+◌, ◌-◌, ◌<◌, ◌≤◌, min, true, false, List, [], ◌∷◌, ◌++◌, Result, Ok, Err, OnErr, length, take, drop, None, Some, option_map, refl, sym, ap, ap₂, ◌∙◌, arith, inl, inr, true≢false, ne_eqb, le-leb, length-append, append-nil, append_assoc, take-append-drop, length-drop, length-take-le, add-zero, zero-add, take_all}
 use Rattle.std.proofs.lemmas.Bool.{lt-leb}
-use Rattle.std.proofs.lemmas.List.{take-append-le, drop-append-le, drop_all}
-use Rattle.std.specs.Io.KnownBytes.{Consumes}
+use Rattle.std.proofs.lemmas.List.{take-append-le, drop-append-le}
 use Rattle.http_wire.specs.Ahead.{Ahead}
-use Rattle.http_wire.specs.HeadFound.{Skips, IsFound, IsUnfinished}
-use Rattle.http_wire.specs.HeadText.{HeadText, whole, too_long, cut, nothing, head_limit, head_len_after, head_len, text_at, blank_len, head_text}
+use Rattle.http_wire.specs.HeadFound.{Skips, IsUnfinished}
+use Rattle.http_wire.specs.HeadText.{HeadText, whole, too_long, cut, head_limit, head_len_after, head_len, text_at, blank_len, head_text}
 use Rattle.http_wire.specs.Scan.{scanned}
 use Rattle.http_wire.specs.declared.head_text.Scan.{Scan}
 use Rattle.http_wire.proofs.HeadTextLemmas.{head_len_after-append, head_len_after-later, text_at-long, text_at-min, blank_len-all, blank_len-some}

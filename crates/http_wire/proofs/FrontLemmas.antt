@@ -1,15 +1,15 @@
 -- What a head with a body begins.
-use Rattle.std.proofs.Common.{◌≡◌, ◌⊎◌, ℕ, ◌+◌, ◌<◌, ◌≤◌, Bool, true, false, nat_le, if◌then◌else◌, List, [], ◌++◌, length, take, drop, Some, Result, Ok, Err, refl, sym, ap, ◌∙◌, subst, subst₂, arith, inl, inr, le-leb, append-nil, append_assoc, length-append, length-drop, length-take-le, take-take, drop-drop, add_comm}
+use Rattle.std.proofs.Common.{◌≡◌, ℕ, ◌+◌, ◌<◌, ◌≤◌, true, false, nat_le, if◌then◌else◌, List, [], ◌++◌, length, take, drop, Some, Result, Ok, Err, refl, sym, ap, ◌∙◌, subst, subst₂, arith, inl, inr, le-leb, append-nil, append_assoc, length-append, length-drop, length-take-le, take-take, drop-drop}
 use Rattle.std.proofs.lemmas.Bool.{lt-leb, cases_Bool}
 use Rattle.std.proofs.lemmas.List.{take-append-le, drop-append-le, drop-take}
 use Rattle.httparse.specs.Grammar.{RequestHead}
 use Rattle.http_wire.specs.Ahead.{Ahead}
 use Rattle.http_wire.specs.Conversation.{continue_text}
-use Rattle.http_wire.specs.Front.{Front, Parses, Begins, IsFront, message, refused, cut_patch, cut_other, clean_end, closing, framing_of, is_patch, method_of, is_waiting, request_of, with_body, judged_front, judged, parsed_front}
+use Rattle.http_wire.specs.Front.{Front, Begins, IsFront, message, refused, cut_patch, cut_other, clean_end, closing, framing_of, is_patch, method_of, is_waiting, request_of, with_body, parsed_front}
 use Rattle.http_wire.specs.FrontRead.{BeginsHead, ReadsFront, waits}
 use Rattle.http_wire.specs.HeadFound.{IsUnfinished}
 use Rattle.http_wire.specs.Shown.{Gives}
-use Rattle.http_wire.specs.HeadText.{HeadText, whole, cut, head_text}
+use Rattle.http_wire.specs.HeadText.{whole, cut, head_text}
 use Rattle.http_wire.specs.Parts.{request_at, ShowsHead}
 use Rattle.http_wire.specs.declared.parts.Parts.{Parts}
 use Rattle.http_wire.specs.declared.refusal.WireRefusal.TheVariants.{Memory}

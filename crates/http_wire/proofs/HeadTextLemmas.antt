@@ -1,7 +1,7 @@
 -- What is determined of a head stays when more bytes follow.
-use Rattle.std.proofs.Common.{◌≡◌, ℕ, suc, ◌+◌, ◌<◌, ◌≤◌, min, Bool, true, false, nat_lt, nat_le, List, [], ◌∷◌, ◌++◌, length, take, drop, Option, None, Some, option_map, refl, sym, ap, ◌∙◌, arith, inl, inr, one-add, le-leb, lt-ltb, length-append, append-nil, append_assoc, take-append-drop, length-take-le, add_assoc, add-zero, zero-add, ltb-false}
+use Rattle.std.proofs.Common.{◌≡◌, ℕ, suc, ◌+◌, ◌<◌, ◌≤◌, min, List, [], ◌∷◌, ◌++◌, length, drop, Option, None, Some, option_map, refl, sym, ap, ◌∙◌, arith, inl, inr, one-add, le-leb, length-append, zero-add}
 use Rattle.std.proofs.lemmas.Bool.{cases_Bool, cases_lt, lt-leb}
-use Rattle.http_wire.specs.HeadText.{HeadText, whole, too_long, cut, nothing, head_limit, is_line_end, ends_empty_line, head_len_after, head_len, text_at, blank_len, head_text}
+use Rattle.http_wire.specs.HeadText.{too_long, head_limit, is_line_end, ends_empty_line, head_len_after, head_len, text_at, blank_len}
 use Rattle.http_wire.specs.Scan.{scanned}
 use Rattle.http_wire.specs.declared.head_text.Scan.{Scan}
 

@@ -1,15 +1,15 @@
 -- One turn: what was read and written is the turn of its front.
-use Rattle.std.proofs.Common.{◌≡◌, ℕ, true, false, List, [], ◌∷◌, ◌++◌, Option, Result, Err, take, refl, sym, ap, ◌∙◌, subst, subst₂, inl, inr, append-nil, append_assoc}
+use Rattle.std.proofs.Common.{◌≡◌, ℕ, true, false, List, [], ◌++◌, Option, Result, Err, take, refl, sym, ap, subst, inl, inr, append-nil}
 use Rattle.upload_book.specs.PlainBook.{PlainBook}
 use Rattle.tus_steps.specs.Step.{IsStep}
 use Rattle.tus_steps.specs.declared.reply.Reply.{Reply}
 use Rattle.http_wire.specs.Ahead.{Ahead}
-use Rattle.http_wire.specs.Conversation.{Conversation, continue_text}
+use Rattle.http_wire.specs.Conversation.{continue_text}
 use Rattle.http_wire.specs.Front.{Front, message, refused, cut_patch, cut_other, clean_end, IsFront}
 use Rattle.http_wire.specs.FrontRead.{waits, IsReadFront, BreaksFront}
 use Rattle.http_wire.specs.Parts.{request_at}
 use Rattle.http_wire.specs.ReplyText.{reply_text, refusal_text}
-use Rattle.http_wire.specs.Turns.{TakesTurn, Answered, LastTurn, FailsIn, FailsToContinue, BreaksTurn}
+use Rattle.http_wire.specs.Turns.{TakesTurn, Answered, LastTurn, FailsIn, BreaksTurn}
 use Rattle.http_wire.proofs.Talk.{Goes-closes}
 use Rattle.http_wire.specs.declared.conversation.Ended.{Ended}
 use Rattle.http_wire.specs.declared.conversation.Ended.TheVariants as ended

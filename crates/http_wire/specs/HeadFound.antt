@@ -1,5 +1,5 @@
 -- A head that was found by reading, and how far the search for it has come.
-use Rattle.std.specs.Prelude.{◌≡◌, ◌≤◌, ◌⊎◌, ℕ, true, List, [], ◌++◌, length, take, drop, Option, ⊤, OnOk}
+use Rattle.std.specs.Prelude.{◌≡◌, ◌≤◌, ◌⊎◌, ℕ, true, List, [], ◌++◌, length, take, drop, Option, ⊤}
 use Rattle.std.specs.Io.KnownBytes.{Consumes, IsAtEnd}
 use Rattle.http_wire.specs.Ahead.{Ahead}
 use Rattle.http_wire.specs.HeadText.{head_limit, head_len, text_at, head_text, whole, too_long, cut, nothing}

@@ -1,10 +1,9 @@
-use Rattle.std.proofs.Common.{◌≡◌, ℕ, ◌+◌, ◌∷◌, ◌++◌, List, [], take, drop, ap, ◌∙◌, subst, sym, take_all}
+use Rattle.std.proofs.Common.{◌≡◌, ◌+◌, ◌∷◌, ◌++◌, [], take, drop, ap, ◌∙◌, subst, sym, take_all}
 use Rattle.std.proofs.lemmas.List.{take_more}
 use Rattle.std.proofs.lemmas.Result.{err_from_is_err_and}
-use Rattle.std.specs.Io.KnownBytes.{Appends, Consumes}
 use Rattle.http_wire.specs.Turns.{Breaks, Converses}
 use Rattle.http_wire.proofs.AheadLemmas.{Appends-more, Consumes-more}
-use Rattle.http_wire.proofs.Talk.{Reached, Reached-start, Reached-more, Converses-last, Converses-all, Breaks-after, moments_split, IfErr-from}
+use Rattle.http_wire.proofs.Talk.{Reached, Reached-more, Converses-last, Converses-all, Breaks-after, moments_split, IfErr-from}
 use Rattle.http_wire.proofs.conversation.converse.Goals as goal
 
 pub returns-in_err-ended-clause-breaks : goal.returns-in_err-ended-clause-breaks

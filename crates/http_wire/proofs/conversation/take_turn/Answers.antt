@@ -1,8 +1,6 @@
-use Rattle.std.proofs.Common.{◌≡◌, ◌++◌, ap, take, sym, ◌∙◌, subst}
+use Rattle.std.proofs.Common.{◌++◌, ap, take, ◌∙◌, subst}
 use Rattle.std.proofs.lemmas.Result.{err_from_is_err_and}
-use Rattle.tus_steps.specs.Request.{Asked, asked_of}
 use Rattle.tus_steps.specs.Step.{IsStep}
-use Rattle.http_wire.specs.Front.{refused}
 use Rattle.http_wire.specs.Parts.{request_at}
 use Rattle.http_wire.specs.ReplyText.{reply_text, refusal_text}
 use Rattle.http_wire.specs.declared.conversation.Ended.TheVariants as ended

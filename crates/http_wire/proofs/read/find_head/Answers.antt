@@ -1,5 +1,5 @@
-use Rattle.std.proofs.Common.{arith, ℕ, List, ◌≡◌, ◌+◌, ◌≤◌, ◌++◌, None, Some, length, ap, sym, ◌∙◌, inl}
-use Rattle.http_wire.specs.HeadFound.{BreaksHead, IsUnfinished}
+use Rattle.std.proofs.Common.{arith, ◌≡◌, ◌+◌, ◌++◌, None, length, ap, sym, ◌∙◌, inl}
+use Rattle.http_wire.specs.HeadFound.{BreaksHead}
 use Rattle.http_wire.specs.HeadText.{head_len_after, head_len}
 use Rattle.http_wire.proofs.AheadLemmas.{Consumes-more, Consumes-kept}
 use Rattle.http_wire.proofs.FindLemmas.{FindsSoFar-more, head_len-found, Searched-all, Searched-more, IsFound-whole, IsFound-longer, IsFound-endless, IsFound-cut, OnErr-from, none_held, unseen, unseen_within, some_grown, all_none}

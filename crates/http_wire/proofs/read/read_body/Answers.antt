@@ -1,8 +1,8 @@
-use Rattle.std.proofs.Common.{◌≡◌, ◌++◌, [], List, ℕ, Result, Ok, Err, true, take, refl, ap, sym, ◌∙◌, inl, subst, subst₂, append-nil}
+use Rattle.std.proofs.Common.{◌++◌, [], true, take, refl, sym, ◌∙◌, subst, subst₂, append-nil}
 use Rattle.std.proofs.lemmas.Result.{err_from_is_err_and}
 use Rattle.http_wire.specs.Conversation.{continue_text}
 use Rattle.http_wire.specs.Front.{IsFront, refused}
-use Rattle.http_wire.specs.FrontRead.{BeginsHead, ReadsFront}
+use Rattle.http_wire.specs.FrontRead.{BeginsHead}
 use Rattle.http_wire.specs.declared.refusal.WireRefusal.TheVariants.{Memory}
 use Rattle.http_wire.proofs.AheadLemmas.{Consumes-none, Appends-none}
 use Rattle.http_wire.proofs.FrontLemmas.{IsFront-memory, IsFront-waits, ReadsFront-unwritten}

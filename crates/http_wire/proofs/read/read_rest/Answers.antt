@@ -1,4 +1,4 @@
-use Rattle.std.proofs.Common.{◌≡◌, ◌++◌, refl, ap, sym, ◌∙◌, inl}
+use Rattle.std.proofs.Common.{◌++◌, refl, ap, sym, ◌∙◌, inl}
 use Rattle.http_wire.specs.Ahead.{Ahead}
 use Rattle.http_wire.proofs.FrontLemmas.{held_in, BeginsHead-more, IsFront-message, IsFront-cut_patch, IsFront-cut_other}
 use Rattle.http_wire.proofs.read.read_rest.Goals as goal

@@ -1,4 +1,4 @@
-use Rattle.std.proofs.Common.{arith, ◌≡◌, ◌≤◌, ◌⊎◌, ℕ, ◌+◌, List, [], ◌++◌, true, drop, ap, sym, ◌∙◌, inl, inr}
+use Rattle.std.proofs.Common.{arith, ◌≡◌, ◌≤◌, ◌⊎◌, ◌+◌, [], ◌++◌, true, drop, ap, sym, ◌∙◌, inl, inr}
 use Rattle.http_wire.specs.Ahead.{Ahead}
 use Rattle.http_wire.specs.HeadText.{blank_len, head_limit}
 use Rattle.http_wire.specs.HeadFound.{BreaksHead}
