@@ -51,9 +51,9 @@ found_more head name xs i d before after h step so_far =
 
 -- the place of values that lie in the head lies in it
 pub IsInside-span_of : (n : ℕ) (spans : List Span) → All (IsWithin n) spans → IsInside n (span_of spans)
-IsInside-span_of n [] h = tt
+IsInside-span_of n [] h = (omega arith, omega arith)
 IsInside-span_of n (s ∷ []) h = h 0 s (omega arith)
-IsInside-span_of n (s ∷ t ∷ spans) h = tt
+IsInside-span_of n (s ∷ t ∷ spans) h = (omega arith, omega arith)
 
 -- what stands in the place of some values
 pub told_at-span_of : (head : List ℕ) (spans : List Span) → told_at head (span_of spans) ≡ told_by (map (span_bytes head) spans)

@@ -6,7 +6,8 @@ use Rattle.httparse.specs.Grammar.{RequestHead}
 use Rattle.http_wire.specs.Ahead.{Ahead}
 use Rattle.http_wire.specs.Conversation.{continue_text}
 use Rattle.http_wire.specs.Front.{Front, Begins, IsFront, message, refused, cut_patch, cut_other, clean_end, closing, framing_of, is_patch, method_of, is_waiting, request_of, with_body, parsed_front}
-use Rattle.http_wire.specs.FrontRead.{BeginsHead, ReadsFront, waits}
+use Rattle.http_wire.specs.FrontRead.{BeginsHead, ReadsFront}
+use Rattle.http_wire.specs.NextRead.{waits}
 use Rattle.http_wire.specs.HeadFound.{IsUnfinished}
 use Rattle.http_wire.specs.Shown.{Gives}
 use Rattle.http_wire.specs.HeadText.{whole, cut, head_text}

@@ -6,7 +6,8 @@ use Rattle.tus_steps.specs.declared.reply.Reply.{Reply}
 use Rattle.http_wire.specs.Ahead.{Ahead}
 use Rattle.http_wire.specs.Conversation.{continue_text}
 use Rattle.http_wire.specs.Front.{Front, message, refused, cut_patch, cut_other, clean_end, IsFront}
-use Rattle.http_wire.specs.FrontRead.{waits, IsReadFront, BreaksFront}
+use Rattle.http_wire.specs.Next as next
+use Rattle.http_wire.specs.NextRead.{waits, ComesIn, BreaksFront}
 use Rattle.http_wire.specs.Parts.{request_at}
 use Rattle.http_wire.specs.ReplyText.{reply_text, refusal_text}
 use Rattle.http_wire.specs.Turns.{TakesTurn, Answered, LastTurn, FailsIn, BreaksTurn}
@@ -18,53 +19,52 @@ use Rattle.http_wire.specs.declared.fault.WireFault.TheVariants.{Read, Write, Me
 use Rattle.http_wire.specs.declared.framing.Framing.{Framing}
 use Rattle.http_wire.specs.declared.parts.Parts.{Parts}
 use Rattle.http_wire.specs.declared.read.Cut.{Cut}
-use Rattle.http_wire.specs.declared.read.Front.TheVariants.{Message, Refused, CutPatch, CutOther, End}
 use Rattle.http_wire.specs.declared.refusal.WireRefusal.{WireRefusal}
 
 abbrev pub max_of : PlainBook → ℕ
 max_of b = b.settings.numbers.max_size
 
 -- a message is answered, and the connection stays open
-pub Served-stays : (now : ℕ) (bytes text : List ℕ) (a : Ahead) (p : Parts) (b b2 : PlainBook) (reply : Reply) → IsReadFront (max_of b) bytes text a (Message p)
+pub Served-stays : (now : ℕ) (bytes text : List ℕ) (a : Ahead) (p : Parts) (b b2 : PlainBook) (reply : Reply) → ComesIn (max_of b) bytes text a.held (next.message (request_at p a.lent) p.framing)
     → IsStep b (request_at p a.lent) now reply b2 → p.framing.close ≡ false → (rest : List ℕ)
     → Answered now (bytes ++ rest) b (text ++ reply_text reply now p.framing) b2 (a.held ++ rest)
 Served-stays now bytes text a p b b2 reply f step stays rest = record {
   asked = request_at p a.lent;
   framing = p.framing;
-  waiting = p.is_waiting;
+  waiting = f.0;
   reply = reply;
-  front = f.1 rest;
+  front = f.2 rest;
   stays = stays;
   step = step;
-  wrote = ap (λ l. l ++ reply_text reply now p.framing) f.0;
+  wrote = ap (λ l. l ++ reply_text reply now p.framing) f.1;
 }
 
 -- a message is answered, and the connection closes
-pub Served-closed : (now : ℕ) (bytes text : List ℕ) (a : Ahead) (p : Parts) (b b2 : PlainBook) (reply : Reply) → IsReadFront (max_of b) bytes text a (Message p)
+pub Served-closed : (now : ℕ) (bytes text : List ℕ) (a : Ahead) (p : Parts) (b b2 : PlainBook) (reply : Reply) → ComesIn (max_of b) bytes text a.held (next.message (request_at p a.lent) p.framing)
     → IsStep b (request_at p a.lent) now reply b2 → p.framing.close ≡ true → (rest : List ℕ)
     → LastTurn now (bytes ++ rest) b (text ++ reply_text reply now p.framing) b2 ended.Closed
 Served-closed now bytes text a p b b2 reply f step close rest moments =
-    let wrote = ap (λ l. l ++ reply_text reply now p.framing) f.0 in
-    (message (request_at p a.lent) p.framing p.is_waiting (a.held ++ rest), f.1 rest, (reply, b2, step, Goes-closes p.framing.close (continue_text p.is_waiting ++ reply_text reply now p.framing) moments (a.held ++ rest) b2 (text ++ reply_text reply now p.framing) close wrote))
+    let wrote = ap (λ l. l ++ reply_text reply now p.framing) f.1 in
+    (message (request_at p a.lent) p.framing f.0 (a.held ++ rest), f.2 rest, (reply, b2, step, Goes-closes p.framing.close (continue_text f.0 ++ reply_text reply now p.framing) moments (a.held ++ rest) b2 (text ++ reply_text reply now p.framing) close wrote))
 
 -- a request is refused
-pub Served-refused : (now : ℕ) (bytes text : List ℕ) (a : Ahead) (why : WireRefusal) (framing : Framing) (b : PlainBook) → IsReadFront (max_of b) bytes text a (Refused why framing)
+pub Served-refused : (now : ℕ) (bytes text : List ℕ) (a : Ahead) (why : WireRefusal) (framing : Framing) (b : PlainBook) → ComesIn (max_of b) bytes text a.held (next.refused why framing)
     → (rest : List ℕ) → LastTurn now (bytes ++ rest) b (text ++ refusal_text why now framing) b ended.Closed
 Served-refused now bytes text a why framing b f rest moments =
     (refused why framing, f.1 rest, record { book = refl; ended = refl; text = ap (λ l. l ++ refusal_text why now framing) f.0 })
 
 -- a PATCH was cut, and is applied with the bytes that came
-pub Served-cut_patch : (now : ℕ) (bytes text : List ℕ) (a : Ahead) (p : Parts) (why : Cut) (b b2 : PlainBook) (reply : Reply) → IsReadFront (max_of b) bytes text a (CutPatch p why)
+pub Served-cut_patch : (now : ℕ) (bytes text : List ℕ) (a : Ahead) (p : Parts) (why : Cut) (b b2 : PlainBook) (reply : Reply) → ComesIn (max_of b) bytes text a.held (next.cut_patch (request_at p a.lent) p.framing why)
     → IsStep b (request_at p a.lent) now reply b2 → LastTurn now bytes b text b2 ended.Cut
 Served-cut_patch now bytes text a p why b b2 reply f step moments =
-    (cut_patch (request_at p a.lent) p.framing p.is_waiting, f.1, (reply, b2, step, record { book = refl; ended = refl; text = f.0 }))
+    (cut_patch (request_at p a.lent) p.framing f.0, f.2, (reply, b2, step, record { book = refl; ended = refl; text = f.1 }))
 
 -- another message was cut
-pub Served-cut_other : (now : ℕ) (bytes text : List ℕ) (a : Ahead) (b : PlainBook) → IsReadFront (max_of b) bytes text a CutOther → LastTurn now bytes b text b ended.Cut
+pub Served-cut_other : (now : ℕ) (bytes text : List ℕ) (a : Ahead) (b : PlainBook) → ComesIn (max_of b) bytes text a.held next.cut_other → LastTurn now bytes b text b ended.Cut
 Served-cut_other now bytes text a b f moments = (cut_other f.0, f.2, record { book = refl; ended = refl; text = f.1 })
 
 -- the input ended
-pub Served-end : (now : ℕ) (bytes text : List ℕ) (a : Ahead) (b : PlainBook) → IsReadFront (max_of b) bytes text a End → LastTurn now bytes b text b ended.Input
+pub Served-end : (now : ℕ) (bytes text : List ℕ) (a : Ahead) (b : PlainBook) → ComesIn (max_of b) bytes text a.held next.ending → LastTurn now bytes b text b ended.Input
 Served-end now bytes text a b f moments = (clean_end, f.1, record { book = refl; ended = refl; text = f.0 })
 
 -- nothing follows
@@ -81,25 +81,25 @@ fails_waiting now n clean_end b w = absurd cc
 
 -- the front could not be read, or `100 Continue` could not be written
 pub BreaksTurn-front : (now : ℕ) (bytes text : List ℕ) (b : PlainBook) (e : WireFault) → BreaksFront (max_of b) bytes text e → BreaksTurn now bytes text b b e
-BreaksTurn-front now bytes text b Read (inl f) = (ended.Cut, λ moments. (cut_other f.0, f.2, record { book = refl; ended = refl; text = f.1 }))
-BreaksTurn-front now bytes text b Read (inr f) = (ended.Input, λ moments. (clean_end, f.1, record { book = refl; ended = refl; text = f.0 }))
+BreaksTurn-front now bytes text b Read (inl f) = (ended.Cut, tt, λ moments. (cut_other f.0, f.2, record { book = refl; ended = refl; text = f.1 }))
+BreaksTurn-front now bytes text b Read (inr f) = (ended.Input, tt, λ moments. (clean_end, f.1, record { book = refl; ended = refl; text = f.0 }))
 BreaksTurn-front now bytes text b Write f =
     (f.0, f.1, rw f.3.1 (fails_waiting now f.3.0 f.0 b f.2))
 BreaksTurn-front now bytes text b Memory f = absurd f
 BreaksTurn-front now bytes text b Failed f = absurd f
 
 -- the reply could not be written
-pub BreaksTurn-reply : (now n : ℕ) (bytes text : List ℕ) (a : Ahead) (p : Parts) (b b2 : PlainBook) (reply : Reply) → IsReadFront (max_of b) bytes text a (Message p)
+pub BreaksTurn-reply : (now n : ℕ) (bytes text : List ℕ) (a : Ahead) (p : Parts) (b b2 : PlainBook) (reply : Reply) → ComesIn (max_of b) bytes text a.held (next.message (request_at p a.lent) p.framing)
     → IsStep b (request_at p a.lent) now reply b2 → BreaksTurn now bytes (text ++ take n (reply_text reply now p.framing)) b b2 Write
 BreaksTurn-reply now n bytes text a p b b2 reply f step = (
-  message (request_at p a.lent) p.framing p.is_waiting (a.held ++ []),
-  subst (λ i. IsFront (max_of b) i (message (request_at p a.lent) p.framing p.is_waiting (a.held ++ []))) (append-nil bytes) (f.1 []),
-  inr (reply, n, step, ap (λ l. l ++ take n (reply_text reply now p.framing)) f.0),
+  message (request_at p a.lent) p.framing f.0 (a.held ++ []),
+  subst (λ i. IsFront (max_of b) i (message (request_at p a.lent) p.framing f.0 (a.held ++ []))) (append-nil bytes) (f.2 []),
+  inr (reply, n, step, ap (λ l. l ++ take n (reply_text reply now p.framing)) f.1),
 )
 
 -- the refusal could not be written
 pub BreaksTurn-refusal : (now n : ℕ) (bytes text : List ℕ) (a : Ahead) (why : WireRefusal) (framing : Framing) (b : PlainBook)
-    → IsReadFront (max_of b) bytes text a (Refused why framing) → BreaksTurn now bytes (text ++ take n (refusal_text why now framing)) b b Write
+    → ComesIn (max_of b) bytes text a.held (next.refused why framing) → BreaksTurn now bytes (text ++ take n (refusal_text why now framing)) b b Write
 BreaksTurn-refusal now n bytes text a why framing b f = (
   refused why framing,
   subst (λ i. IsFront (max_of b) i (refused why framing)) (append-nil bytes) (f.1 []),

@@ -89,7 +89,7 @@ Converses-all moments got b text b1 held r rest may =
 pub Breaks-after : (before after : List ℕ) (now : ℕ) (got more : List ℕ) (b : PlainBook) (text last : List ℕ) (b1 b2 : PlainBook) (held : List ℕ) (e : WireFault) → Reached before got b text b1 held
     → BreaksTurn now (held ++ more) last b1 b2 e → Breaks (before ++ now ∷ after) (got ++ more) (text ++ last) b b2 e
 Breaks-after before after now got more b text last b1 b2 held Read r t =
-    (t.0, Turns-Conversation before (now ∷ after) (got ++ more) b text b1 (held ++ more) last b2 t.0 (r more) (t.1 after))
+    (t.0, t.1, Turns-Conversation before (now ∷ after) (got ++ more) b text b1 (held ++ more) last b2 t.0 (r more) (t.2 after))
 Breaks-after before after now got more b text last b1 b2 held Write r t =
     Turns-BreaksOff before after now (got ++ more) b text b1 (held ++ more) last b2 t.0 (r more) t.1 t.2
 Breaks-after before after now got more b text last b1 b2 held Memory r t = absurd t

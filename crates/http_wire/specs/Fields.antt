@@ -1,5 +1,5 @@
 -- The fields of a head by their names.
-use Rattle.std.specs.Prelude.{ℕ, List, [], ◌∷◌, if◌then◌else◌, bytes_eq, ⊤}
+use Rattle.std.specs.Prelude.{ℕ, List, [], ◌∷◌, if◌then◌else◌, bytes_eq}
 use Rattle.http_header.specs.Token.{lowercase}
 use Rattle.httparse.specs.Grammar.{Field, field_value}
 use Rattle.httparse.specs.Spans.{span_bytes, IsWithin}
@@ -43,8 +43,12 @@ told_at head Absent = absent
 told_at head (One span) = one (span_bytes head span)
 told_at head Many = many
 
+-- the place of one field, or an empty one
+abbrev pub place_of : FieldSpan → Span
+place_of Absent = record { start = 0; end = 0 }
+place_of (One span) = span
+place_of Many = record { start = 0; end = 0 }
+
 -- the place lies in the first n bytes
 abbrev pub IsInside : ℕ → FieldSpan → Type 0
-IsInside n Absent = ⊤
-IsInside n (One span) = IsWithin n span
-IsInside n Many = ⊤
+IsInside n f = IsWithin n (place_of f)

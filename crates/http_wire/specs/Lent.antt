@@ -1,5 +1,5 @@
 -- What a front that was read leaves: where a message stands, and that nothing failed.
-use Rattle.std.specs.Prelude.{◌≡◌, ◌≤◌, Bool, false, true, length, Option, None, Some, ⊤}
+use Rattle.std.specs.Prelude.{◌≡◌, ◌≤◌, ℕ, List, Bool, false, true, length, Option, None, Some, ⊤}
 use Rattle.http_wire.specs.declared.conversation.Ended.{Ended as HowEnded}
 use Rattle.http_wire.specs.Ahead.{Ahead}
 use Rattle.http_wire.specs.Parts.{IsPartsWithin}
@@ -10,16 +10,16 @@ use Rattle.http_wire.specs.declared.fault.WireFault.TheVariants as fault
 use Rattle.http_wire.specs.declared.read.Front.{Front}
 use Rattle.http_wire.specs.declared.read.Front.TheVariants.{Message, Refused, CutPatch, CutOther, End}
 
--- the head of a message is lent, and its parts lie in it
-pub record LendsParts (a : Ahead) (p : Parts) : Type 0 where
-  pub head : p.head_len ≤ length a.lent
+-- the bytes have the head of a message of these parts, and the parts lie in it
+pub record IsMessage (p : Parts) (text : List ℕ) : Type 0 where
+  pub head : p.head_len ≤ length text
   pub within : IsPartsWithin p.head_len p
 
 -- a message or a cut PATCH is lent
 abbrev pub IsLent : Ahead → Front → Type 0
-IsLent a (Message p) = LendsParts a p
+IsLent a (Message p) = IsMessage p a.lent
 IsLent a (Refused why framing) = ⊤
-IsLent a (CutPatch p why) = LendsParts a p
+IsLent a (CutPatch p why) = IsMessage p a.lent
 IsLent a CutOther = ⊤
 IsLent a End = ⊤
 

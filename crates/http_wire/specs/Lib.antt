@@ -9,6 +9,9 @@ pub mod HeadText
 pub mod Judge
 pub mod Lent
 pub mod Message
+pub mod Next
+pub mod NextRead
+pub mod OnWire
 pub mod Outcome
 pub mod Parts
 pub mod Refusal
@@ -17,3 +20,4 @@ pub mod Scan
 pub mod Shown
 pub mod Turns
 pub mod Plain
+pub mod WireState

@@ -49,6 +49,13 @@ IsReadWhen ended.Closed remaining = ⊤
 IsReadWhen ended.Cut remaining = IsAtEnd remaining
 IsReadWhen ended.Moments remaining = ⊤
 
+-- the input ended, between two messages or inside one
+abbrev pub EndsWithInput : Ended → Type 0
+EndsWithInput ended.Input = ⊤
+EndsWithInput ended.Closed = ⊥
+EndsWithInput ended.Cut = ⊤
+EndsWithInput ended.Moments = ⊥
+
 -- `100 Continue` was due, and a front of it was written, before any step
 abbrev pub FailsToContinue : Bool → PlainBook → List ℕ → PlainBook → Type 0
 FailsToContinue waiting b part b2 = (waiting ≡ true) × (b2 ≡ b) × ((n : ℕ) × (part ≡ take n (continue_text true)))
@@ -78,10 +85,10 @@ abbrev pub Converses : List ℕ → List ℕ → List ℕ → PlainBook → Plai
 Converses moments got text b b2 e = (rest : List ℕ) → MayFollow e rest → Conversation moments (got ++ rest) b text b2 e
 
 -- A fault broke the conversation off. After a read that failed it is the conversation of the bytes that were
--- read, as a whole input; after a write that failed, every text before the last is written whole, and a front
--- of the last. Memory is wanted only before anything is read.
+-- read, as a whole input, and ends with that; after a write that failed, every text before the last is written
+-- whole, and a front of the last. Memory is wanted only before anything is read.
 abbrev pub Breaks : List ℕ → List ℕ → List ℕ → PlainBook → PlainBook → WireFault → Type 0
-Breaks moments got text b b2 fault.Read = (e : Ended) × Conversation moments got b text b2 e
+Breaks moments got text b b2 fault.Read = (e : Ended) × EndsWithInput e × Conversation moments got b text b2 e
 Breaks moments got text b b2 fault.Write = BreaksOff moments got b text b2
 Breaks moments got text b b2 fault.Memory = (got ≡ []) × (text ≡ []) × (b2 ≡ b)
 Breaks moments got text b b2 fault.Failed = ⊥
@@ -92,7 +99,7 @@ LastTurn now input b text b2 e = (moments : List ℕ) → Conversation (now ∷ 
 
 -- a turn was broken off by a fault, after these bytes
 abbrev pub BreaksTurn : ℕ → List ℕ → List ℕ → PlainBook → PlainBook → WireFault → Type 0
-BreaksTurn now bytes text b b2 fault.Read = (e : Ended) × LastTurn now bytes b text b2 e
+BreaksTurn now bytes text b b2 fault.Read = (e : Ended) × EndsWithInput e × LastTurn now bytes b text b2 e
 BreaksTurn now bytes text b b2 fault.Write = (f : Front) × IsFront b.settings.numbers.max_size bytes f × FailsIn now f b text b2
 BreaksTurn now bytes text b b2 fault.Memory = ⊥
 BreaksTurn now bytes text b b2 fault.Failed = ⊥

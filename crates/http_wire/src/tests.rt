@@ -1,5 +1,7 @@
 //! Conversations from bytes to bytes, over readers and writers in memory.
 
 mod conversations;
+mod cuts;
+mod faults;
 mod memory;
 mod wires;

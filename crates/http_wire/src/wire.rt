@@ -1,77 +1,28 @@
-ghost use Rattle.std.specs.Prelude.{◌≡◌, ◌≤◌, ◌<◌, ◌^◌, length, IfErr};
+ghost use Rattle.std.specs.Prelude.{◌≡◌, ◌<◌, ◌≤◌, ◌^◌, ◌++◌, ◌&&◌, ℕ, List, [], Bool, true, false, length, take, Ok, Err, IfOk, IfErr, OnOk, OnErr, is_ok};
+ghost use Rattle.std.specs.Borrow.{sem};
+ghost use Rattle.std.specs.Io.BufRead.{Rests};
+ghost use Rattle.std.specs.Io.KnownBytes.{Appends};
+ghost use Rattle.http_wire.specs.Ahead.{Ahead};
+ghost use Rattle.http_wire.specs.Message.{next_of, told_of};
 ghost use Rattle.http_wire.specs.Lent.{IsLent};
-ghost use Rattle.tus_steps.specs.Request.{asked_of};
+ghost use Rattle.http_wire.specs.Next.{next_in, told_in};
+ghost use Rattle.http_wire.specs.NextRead.{ReadsOn};
+ghost use Rattle.http_wire.specs.ReplyText.{reply_text, refusal_text};
+ghost use Rattle.http_wire.specs.WireState.{state_after, wire_of, IsSound};
 
 use crate::buffers::Buffers;
 use crate::fault::WireFault;
 use crate::framing::Framing;
 use crate::inbox::Inbox;
-use crate::message::request_in;
-use crate::parts::Parts;
+use crate::incoming::{Incoming, Message};
 use crate::read::{Cut, Front, read_front};
 use crate::refusal::WireRefusal;
 use crate::source::{Sink, Source};
 use crate::write::{write_refusal, write_reply};
 use std::alloc::Global;
 use std::marker::Model;
-use tus_steps::{Reply, Request};
+use tus_steps::Reply;
 use upload_book::Moment;
-
-/// What stands next on a wire.
-#[derive(Drop)]
-pub enum Incoming<'a> {
-    /// A whole message.
-    Message(Message<'a>),
-    /// A PATCH whose body was cut, with the bytes that came. It gets no reply.
-    CutPatch(Message<'a>, Cut),
-    /// Any other message that was cut. It gets no reply.
-    CutOther,
-    /// A request that the wire refuses. It is answered by `write_refusal`.
-    Refused(WireRefusal, Framing),
-    /// The end of the input, with no byte of a message before it, or of a wire that reads no more.
-    End,
-}
-
-/// A message, lent by its wire until the next call on it.
-///
-/// A contract sees its request and its framing.
-#[derive(Drop)]
-pub struct Message<'a> {
-    parts: Parts,
-    text: &'a [u8],
-}
-
-impl<'a> Model for Message<'a> {
-    ghost use Rattle.std.specs.Prelude.{◌≤◌, length};
-    ghost use Rattle.http_wire.specs.Message.{Told};
-    ghost use Rattle.http_wire.specs.Parts.{IsPartsWithin, request_at};
-
-    ghost Value = { Told };
-
-    ghost view = { λ m. record {
-      asked = request_at m.parts m.text.now;
-      framing = m.parts.framing;
-    } };
-
-    ghost invariant = { λ m. (m.parts.head_len ≤ length m.text.now)
-        × IsPartsWithin m.parts.head_len m.parts };
-}
-
-impl Message<'_> {
-    /// The request of the message, whose fields and body are lent.
-    pub fn request(&self) -> Request<'_>
-        ensures { asked_of result ≡ self.now.asked }
-    {
-        request_in(&self.parts, self.text)
-    }
-
-    /// How the reply is framed.
-    pub fn framing(&self) -> Framing
-        ensures { result ≡ self.now.framing }
-    {
-        self.parts.framing
-    }
-}
 
 /// What a wire still does.
 #[derive(Clone, Copy, Debug, PartialEq, Eq)]
@@ -85,23 +36,52 @@ enum State {
 }
 
 /// The wire of a connection: requests come in from a reader, and replies go out to a writer.
+///
+/// A contract sees its reader and its writer, the bytes that were read ahead, the most bytes of a body,
+/// and whether it still reads and still writes.
 #[derive(Drop)]
-pub struct Wire<R, W> {
+pub struct Wire<R: Source + Drop, W: Sink + Drop> {
     alloc: Global,
     reader: R,
     writer: W,
     buffers: Buffers,
     max_size: u64,
     state: State,
-    ghost small: { max_size < 2 ^ 31 },
+}
+
+impl<R: Source + Drop, W: Sink + Drop> Model for Wire<R, W> {
+    ghost use Rattle.http_wire.specs.OnWire.{OnWire, wire_code};
+
+    ghost Value = { OnWire R W };
+
+    ghost coded = { wire_code R.code W.code };
+
+    ghost use Rattle.http_wire.specs.WireState.{wire_of, IsSound};
+
+    ghost view = { λ w. wire_of w.reader w.writer w.buffers.inbox w.max_size w.state };
+
+    ghost invariant = { λ w. IsSound R.remaining R.has_failed W.has_failed w.reader w.writer w.buffers.inbox
+        w.max_size w.state };
 }
 
 impl<R: Source + Drop, W: Sink + Drop> Wire<R, W> {
+    ghost use Rattle.http_wire.specs.contracts.wire.Wire.{the_row};
+
     /// A wire on which nothing was read or written. A body has at most `max_size` bytes. The error is
     /// `WireFault::Memory`.
     pub fn new(alloc: Global, reader: R, writer: W, max_size: u64) -> Result<Self, WireFault>
-        requires { max_size < 2 ^ 31 }
-        ensures { IfErr result (λ e. e ≡ WireFault.Memory) }
+        requires reader { R.has_failed reader ≡ false }
+        requires writer { W.has_failed writer ≡ false }
+        requires size { max_size < 2 ^ 31 }
+        ensures fresh { IfOk result (λ w. w ≡ record {
+          reader = reader;
+          writer = writer;
+          held = [];
+          max_size = max_size;
+          reads = true;
+          writes = true;
+        }) }
+        ensures memory { IfErr result (λ e. e ≡ WireFault.Memory) }
     {
         match Buffers::new(alloc) {
             Ok(buffers) => Ok(Wire {
@@ -120,38 +100,47 @@ impl<R: Source + Drop, W: Sink + Drop> Wire<R, W> {
     /// `WireFault::Read` where a read failed, `WireFault::Write` where a write did, and then, as after a
     /// body that a failed read cut, every later call gives `WireFault::Failed`. After a message that was
     /// cut or refused, and after the end, it gives `Incoming::End`.
-    pub fn read_request(&mut self) -> Result<Incoming<'_>, WireFault> {
-        match self.state {
-            State::Open => {}
-            State::Ended => return Ok(Incoming::End),
-            State::Failed => return Err(WireFault::Failed),
-        }
-        if self.reader.failed() || self.writer.failed() {
-            self.state = State::Failed;
-            return Err(WireFault::Failed);
-        }
-        let front = read_front(
+    pub fn read_request(&mut self) -> Result<Incoming<'_>, WireFault>
+        ensures* { sem 𝓛 (Rests (the_row R.row W.row R.Source W.Sink) self.entry
+            (λ new. ReadsOn R.remaining R.has_failed W.contents W.has_failed
+            self.old new (told_of result))) }
+    {
+        let front = next_front(
             self.alloc,
             &mut self.reader,
             &mut self.writer,
-            &mut self.buffers.inbox,
-            &mut self.buffers.found,
+            &mut self.buffers,
             self.max_size,
-        );
-        self.state = state_after(&front);
-        Ok(lend_front(front?, &self.buffers.inbox))
+            &mut self.state,
+        )?;
+        Ok(lend_front(front, &self.buffers.inbox))
     }
 
     /// Writes the reply to a message that came at this moment. The error is `WireFault::Write` where a
-    /// write failed, and every later call gives `WireFault::Failed`.
+    /// write failed, and then a front of it was written and every later call gives
+    /// `WireFault::Failed`.
     pub fn write_reply(
         &mut self,
         reply: &Reply,
         now: Moment,
         framing: Framing,
-    ) -> Result<(), WireFault> {
-        if self.state == State::Failed || self.writer.failed() {
-            self.state = State::Failed;
+    ) -> Result<(), WireFault>
+        ensures ok { OnOk result (Appends (W.contents self.old.writer) (W.contents self.new.writer)
+            (reply_text reply.now now framing)) }
+        ensures part { self.old.writes ≡ true → OnErr result ((n : ℕ)
+            × Appends (W.contents self.old.writer) (W.contents self.new.writer)
+            (take n (reply_text reply.now now framing))) }
+        ensures fault { self.old.writes ≡ true → IfErr result (λ e. (e ≡ WireFault.Write)
+            × (W.has_failed self.old.writer ≡ false) × (W.has_failed self.new.writer ≡ true)) }
+        ensures stays { self.old.writes ≡ true → self.new ≡ record self.old {
+          writer = self.new.writer;
+          reads = self.old.reads && is_ok result;
+          writes = is_ok result;
+        } }
+        ensures failed { self.old.writes ≡ false
+            → (result ≡ Err WireFault.Failed) × (self.new ≡ self.old) }
+    {
+        if self.state == State::Failed {
             return Err(WireFault::Failed);
         }
         let written = write_reply(
@@ -173,9 +162,23 @@ impl<R: Source + Drop, W: Sink + Drop> Wire<R, W> {
         refusal: WireRefusal,
         now: Moment,
         framing: Framing,
-    ) -> Result<(), WireFault> {
-        if self.state == State::Failed || self.writer.failed() {
-            self.state = State::Failed;
+    ) -> Result<(), WireFault>
+        ensures ok { OnOk result (Appends (W.contents self.old.writer) (W.contents self.new.writer)
+            (refusal_text refusal now framing)) }
+        ensures part { self.old.writes ≡ true → OnErr result ((n : ℕ)
+            × Appends (W.contents self.old.writer) (W.contents self.new.writer)
+            (take n (refusal_text refusal now framing))) }
+        ensures fault { self.old.writes ≡ true → IfErr result (λ e. (e ≡ WireFault.Write)
+            × (W.has_failed self.old.writer ≡ false) × (W.has_failed self.new.writer ≡ true)) }
+        ensures stays { self.old.writes ≡ true → self.new ≡ record self.old {
+          writer = self.new.writer;
+          reads = self.old.reads && is_ok result;
+          writes = is_ok result;
+        } }
+        ensures failed { self.old.writes ≡ false
+            → (result ≡ Err WireFault.Failed) × (self.new ≡ self.old) }
+    {
+        if self.state == State::Failed {
             return Err(WireFault::Failed);
         }
         let written = write_refusal(
@@ -192,7 +195,47 @@ impl<R: Source + Drop, W: Sink + Drop> Wire<R, W> {
     }
 }
 
-fn state_after(front: &Result<Front, WireFault>) -> State {
+// Reads the next message of a wire of these parts, where it still reads.
+fn next_front<R: Source, W: Sink>(
+    alloc: Global,
+    reader: &mut R,
+    writer: &mut W,
+    buffers: &mut Buffers,
+    max_size: u64,
+    state: &mut State,
+) -> Result<Front, WireFault>
+    requires { IsSound R.remaining R.has_failed W.has_failed reader.old writer.old
+        buffers.old.inbox max_size state.old }
+    ensures sound { IsSound R.remaining R.has_failed W.has_failed reader.new writer.new
+        buffers.new.inbox max_size state.new }
+    ensures reads { ReadsOn R.remaining R.has_failed W.contents W.has_failed
+        (wire_of reader.old writer.old buffers.old.inbox max_size state.old)
+        (wire_of reader.new writer.new buffers.new.inbox max_size state.new)
+        (told_in buffers.new.inbox result) }
+    ensures lent { IfOk result (IsLent buffers.new.inbox) }
+{
+    match *state {
+        State::Open => {
+            let front = read_front(
+                alloc,
+                reader,
+                writer,
+                &mut buffers.inbox,
+                &mut buffers.found,
+                max_size,
+            );
+            *state = state_after(&front);
+            front
+        }
+        State::Ended => Ok(Front::End),
+        State::Failed => Err(WireFault::Failed),
+    }
+}
+
+// What a wire still does after it read this.
+fn state_after(front: &Result<Front, WireFault>) -> State
+    ensures { (inbox : Ahead) → result ≡ state_after (told_in inbox front.now) }
+{
     match front {
         Ok(Front::Message(_)) => State::Open,
         Ok(Front::CutPatch(_, Cut::Fault)) | Err(_) => State::Failed,
@@ -205,6 +248,7 @@ fn state_after(front: &Result<Front, WireFault>) -> State {
 // What was read, with the bytes of a message as the inbox lends them.
 fn lend_front(front: Front, inbox: &Inbox) -> Incoming<'_>
     requires { IsLent inbox.now front }
+    ensures { next_of result ≡ next_in inbox.now front }
 {
     match front {
         Front::Message(parts) => Incoming::Message(Message {

@@ -13,28 +13,28 @@ use upload_book::{Book, Moment, Name, Numbers, Settings};
 pub const POST: &[u8] = b"POST /files/acme HTTP/1.1\r\nHost: x\r\nTus-Resumable: 1.0.0\r\n\
 Upload-Length: 10\r\n\r\n";
 
-const PATCH: &[u8] = b"PATCH /files/acme/1 HTTP/1.1\r\nHost: x\r\nTus-Resumable: 1.0.0\r\n\
+pub const PATCH: &[u8] = b"PATCH /files/acme/1 HTTP/1.1\r\nHost: x\r\nTus-Resumable: 1.0.0\r\n\
 Content-Type: application/offset+octet-stream\r\nUpload-Offset: 0\r\nContent-Length: 5\r\n\r\n\
 hello";
 
-const HEAD: &[u8] = b"HEAD /files/acme/1 HTTP/1.1\r\nHost: x\r\nTus-Resumable: 1.0.0\r\n\r\n";
+pub const HEAD: &[u8] = b"HEAD /files/acme/1 HTTP/1.1\r\nHost: x\r\nTus-Resumable: 1.0.0\r\n\r\n";
 
 pub const CREATED: &[u8] = b"HTTP/1.1 201 Created\r\nDate: Thu, 01 Jan 1970 00:16:40 GMT\r\n\
 Tus-Resumable: 1.0.0\r\nLocation: /files/acme/1\r\n\
 Upload-Expires: Thu, 01 Jan 1970 01:16:40 GMT\r\nContent-Length: 0\r\n\r\n";
 
-const PATCHED: &[u8] = b"HTTP/1.1 204 No Content\r\nDate: Thu, 01 Jan 1970 00:16:40 GMT\r\n\
+pub const PATCHED: &[u8] = b"HTTP/1.1 204 No Content\r\nDate: Thu, 01 Jan 1970 00:16:40 GMT\r\n\
 Tus-Resumable: 1.0.0\r\nUpload-Offset: 5\r\n\
 Upload-Expires: Thu, 01 Jan 1970 01:16:40 GMT\r\n\r\n";
 
-const LOOKED: &[u8] = b"HTTP/1.1 200 OK\r\nDate: Thu, 01 Jan 1970 00:16:40 GMT\r\n\
+pub const LOOKED: &[u8] = b"HTTP/1.1 200 OK\r\nDate: Thu, 01 Jan 1970 00:16:40 GMT\r\n\
 Tus-Resumable: 1.0.0\r\nUpload-Offset: 5\r\nUpload-Length: 10\r\nCache-Control: no-store\r\n\r\n";
 
 /// What a conversation wrote, and how it ended.
 #[derive(Drop)]
-struct Spoken {
-    text: Vec<u8>,
-    ended: Result<Ended, WireFault>,
+pub struct Spoken {
+    pub text: Vec<u8>,
+    pub ended: Result<Ended, WireFault>,
 }
 
 pub fn at(secs: u64) -> Moment
@@ -43,7 +43,7 @@ pub fn at(secs: u64) -> Moment
     Moment::new(secs).unwrap()
 }
 
-fn joined(alloc: Global, parts: &[&[u8]]) -> Result<Vec<u8>, AllocError> {
+pub fn joined(alloc: Global, parts: &[&[u8]]) -> Result<Vec<u8>, AllocError> {
     let mut all = Vec::new(alloc);
     for part in parts {
         all.extend_from_slice(part)?;
@@ -51,7 +51,7 @@ fn joined(alloc: Global, parts: &[&[u8]]) -> Result<Vec<u8>, AllocError> {
     Ok(all)
 }
 
-fn talk(
+pub fn talk(
     alloc: Global,
     book: &mut Book,
     input: Input<'_>,
@@ -83,7 +83,7 @@ pub fn new_book(alloc: Global) -> Result<Book, Fail> {
 }
 
 /// How many bytes the first upload of acme has, where there is one.
-fn offset_of(book: &Book) -> Option<u64> {
+pub fn offset_of(book: &Book) -> Option<u64> {
     let name = Name { tenant: 0, id: 1 };
     match book.look(&name, at(1000)) {
         Ok(row) => Some(row.offset),
@@ -98,11 +98,12 @@ fn talk_of(alloc: Global, input: &[u8], piece: usize) -> Result<Spoken, Fail> {
     Ok(talk(alloc, &mut book, input, Output::new(alloc), &[at(1000); 8]))
 }
 
-const NONE: &[u8] = b"";
+pub const NONE: &[u8] = b"";
 
-const CONTINUE: &[u8] = b"HTTP/1.1 100 Continue\r\n\r\n";
+pub const CONTINUE: &[u8] = b"HTTP/1.1 100 Continue\r\n\r\n";
 
-const PATCH_WAITING: &[u8] = b"PATCH /files/acme/1 HTTP/1.1\r\nHost: x\r\nTus-Resumable: 1.0.0\r\n\
+pub const PATCH_WAITING: &[u8] =
+    b"PATCH /files/acme/1 HTTP/1.1\r\nHost: x\r\nTus-Resumable: 1.0.0\r\n\
 Content-Type: application/offset+octet-stream\r\nUpload-Offset: 0\r\nExpect: 100-Continue\r\n\
 Content-Length: 5\r\n\r\nhello";
 
@@ -486,109 +487,6 @@ fn large_heads(rt: HostRuntime) -> Result<(), Fail> {
     )?;
     let _ = blank.pop();
     check(&rt, alloc, "16,383 line ends", &blank, b"", Ended::Input)?;
-    Ok(())
-}
-
-#[test]
-fn cut_messages(rt: HostRuntime) -> Result<(), Fail> {
-    let alloc = rt.alloc();
-    let all = joined(alloc, &[POST, PATCH, HEAD])?;
-    let replies = [CREATED, PATCHED, LOOKED];
-    for len in 0..all.len() {
-        let mut book = new_book(alloc)?;
-        let input = Input::new(&all[..len], usize::MAX);
-        let spoken = talk(alloc, &mut book, input, Output::new(alloc), &[at(1000); 8]);
-        let (whole, is_cut, body) = cut_at(len);
-        let written = joined(alloc, &replies[..whole])?;
-        assert!(rt;
-            spoken.text.as_slice() == written.as_slice(),
-            "{len} bytes: text"
-        );
-        let ended = if is_cut { Ended::Cut } else { Ended::Input };
-        assert!(rt; spoken.ended == Ok(ended), "{len} bytes: end");
-        assert!(rt; offset_of(&book) == body, "{len} bytes: offset");
-        let mut book = new_book(alloc)?;
-        let (text, end) = plain_conversation(alloc, &all[..len], &mut book, &[at(1000); 8])?;
-        assert!(rt;
-            text.as_slice() == written.as_slice(),
-            "{len} bytes: text of the plain program"
-        );
-        assert!(rt; end == ended, "{len} bytes: end of the plain program");
-        assert!(rt;
-            offset_of(&book) == body,
-            "{len} bytes: offset of the plain program"
-        );
-    }
-    Ok(())
-}
-
-/// How many messages of the first upload are whole in its first `len` bytes, whether the next is cut,
-/// and how many bytes of the body came.
-fn cut_at(len: usize) -> (usize, bool, Option<u64>)
-    ensures { result.0 ≤ 3 }
-{
-    let first = POST.len();
-    let second = first.saturating_add(PATCH.len());
-    let body = second.saturating_sub(5);
-    if len < first {
-        (0, len > 0, None)
-    } else if len < second {
-        (1, len > first, Some(len.saturating_sub(body) as u64))
-    } else {
-        (2, len > second, Some(5))
-    }
-}
-
-#[test]
-fn failing_reads(rt: HostRuntime) -> Result<(), Fail> {
-    let alloc = rt.alloc();
-    let all = joined(alloc, &[POST, PATCH, HEAD])?;
-    let replies = [CREATED, PATCHED, LOOKED];
-    for len in 0..all.len() {
-        let mut book = new_book(alloc)?;
-        let mut input = Input::new(&all, 1);
-        input.reads = len;
-        let spoken = talk(alloc, &mut book, input, Output::new(alloc), &[at(1000); 8]);
-        let (whole, _, body) = cut_at(len);
-        let written = joined(alloc, &replies[..whole])?;
-        assert!(rt;
-            spoken.text.as_slice() == written.as_slice(),
-            "{len} reads: text"
-        );
-        assert!(rt; spoken.ended == Err(WireFault::Read), "{len} reads: end");
-        assert!(rt; offset_of(&book) == body, "{len} reads: offset");
-    }
-    Ok(())
-}
-
-#[test]
-fn failing_writes(rt: HostRuntime) -> Result<(), Fail> {
-    let alloc = rt.alloc();
-    let all = joined(alloc, &[POST, PATCH_WAITING, HEAD])?;
-    let replies = joined(alloc, &[CREATED, CONTINUE, PATCHED, LOOKED])?;
-    let before_patch = CREATED.len().saturating_add(CONTINUE.len());
-    for len in 0..replies.len() {
-        let mut book = new_book(alloc)?;
-        let output = Output {
-            written: Vec::new(alloc),
-            piece: 1,
-            writes: len,
-        };
-        let spoken = talk(
-            alloc,
-            &mut book,
-            Input::new(&all, usize::MAX),
-            output,
-            &[at(1000); 8],
-        );
-        assert!(rt;
-            spoken.text.as_slice() == &replies[..len],
-            "{len} writes: text"
-        );
-        assert!(rt; spoken.ended == Err(WireFault::Write), "{len} writes: end");
-        let offset = if len < before_patch { 0 } else { 5 };
-        assert!(rt; offset_of(&book) == Some(offset), "{len} writes: offset");
-    }
     Ok(())
 }
 

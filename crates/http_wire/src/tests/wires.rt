@@ -2,9 +2,10 @@ use super::conversations::{CHUNKED, POST, at, new_book};
 use super::memory::{Input, Output};
 use crate::fault::WireFault;
 use crate::framing::Framing;
+use crate::incoming::Incoming;
 use crate::refusal::WireRefusal;
 use crate::source::Tapped;
-use crate::wire::{Incoming, Wire};
+use crate::wire::Wire;
 use std::test::Fail;
 use tus_steps::answer;
 

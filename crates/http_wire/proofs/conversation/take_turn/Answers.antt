@@ -140,7 +140,7 @@ returns-in-Fault-clause-turn g c =
     let reply = c.answer.result in
     let asked = c.request_in-in-CutPatch.ensures ∙ ap (request_at parts) c.lent-in-CutPatch.ensures in
     let step = subst (λ x. IsStep b x now reply c.answer.new.book) asked c.answer.ensures.step in
-    (f.0, f.1, f.2, f.3, (ended.Cut, Served-cut_patch now bytes f.1 a parts c.in-CutPatch.why b c.answer.new.book reply f.4 step))
+    (f.0, f.1, f.2, f.3, (ended.Cut, tt, Served-cut_patch now bytes f.1 a parts c.in-CutPatch.why b c.answer.new.book reply f.4 step))
 
 pub returns-in-CutOther-clause-turn : goal.returns-in-CutOther-clause-turn
 returns-in-CutOther-clause-turn g c =

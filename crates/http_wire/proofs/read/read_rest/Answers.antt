@@ -12,6 +12,7 @@ returns-in-Ok-true-clause-front g c max bytes b =
       grew.0,
       grew.2,
       (
+        p.is_waiting,
         refl,
         IsFront-message max (bytes ++ grew.0) p all more c.lend.new.self (c.in-Ok-true.ensures.enough c.in-Ok-true.field-0-test)
             (ap (λ (a : Ahead). a.lent) c.lend.ensures) (ap (λ (a : Ahead). a.held) c.lend.ensures),
@@ -27,6 +28,7 @@ returns-then-is_patch-clause-front g c max bytes b =
       grew.0,
       grew.2,
       (
+        p.is_waiting,
         refl,
         IsFront-cut_patch max (bytes ++ grew.0) p all more c.lend_all.new.inbox (c.in-Ok-false.ensures.short c.in-Ok-false.field-0-test)
             (held_in p.head_len c.args.inbox.now.held grew.0 all c.requires.held grew.1) (sym c.is_patch.ensures ∙ c.if-is_patch.true) c.lend_all.ensures,
@@ -58,6 +60,7 @@ returns-then-is_patch-2-clause-front g c max bytes b =
       grew.0,
       grew.2,
       (
+        p.is_waiting,
         refl,
         IsFront-cut_patch max (bytes ++ grew.0) p all more c.lend_all-then-is_patch-2.new.inbox c.in-Err.ensures.broken
             (held_in p.head_len c.args.inbox.now.held grew.0 all c.requires.held grew.1) (sym c.is_patch-in-Err.ensures ∙ c.if-is_patch-2.true) c.lend_all-then-is_patch-2.ensures,

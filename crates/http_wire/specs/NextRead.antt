@@ -1,0 +1,81 @@
+-- What the reading of the next message tells of the bytes that were read, and of the text that was written meanwhile.
+use Rattle.std.specs.Prelude.{◌≡◌, ◌⊎◌, ℕ, Bool, true, false, List, [], ◌++◌, take, Option, Result, Ok, Err, IfOk, IfErr, ⊤}
+use Rattle.std.specs.Io.KnownBytes.{Appends, Consumes, IsAtEnd}
+use Rattle.http_wire.specs.Conversation.{continue_text}
+use Rattle.http_wire.specs.Front.{Front, IsFront, message, refused, cut_patch, cut_other, clean_end}
+use Rattle.http_wire.specs.Lent.{Names}
+use Rattle.http_wire.specs.Next.{Next}
+use Rattle.http_wire.specs.Next as next
+use Rattle.http_wire.specs.OnWire.{OnWire}
+use Rattle.http_wire.specs.WireState.{is_open, is_alive, state_after}
+use Rattle.http_wire.specs.declared.fault.WireFault.{WireFault}
+use Rattle.http_wire.specs.declared.fault.WireFault.TheVariants.{Read, Write, Memory, Failed}
+use Rattle.http_wire.specs.declared.read.Cut.TheVariants.{Ended, Fault}
+
+-- These bytes begin with what came in, and this text was written meanwhile. What follows them changes no message and no
+-- refusal; after a message, these bytes of them are left.
+abbrev pub ComesIn : ℕ → List ℕ → List ℕ → List ℕ → Next → Type 0
+ComesIn max bytes text left (next.message asked framing) =
+    (waiting : Bool) × (text ≡ continue_text waiting)
+    × ((rest : List ℕ) → IsFront max (bytes ++ rest) (message asked framing waiting (left ++ rest)))
+ComesIn max bytes text left (next.cut_patch asked framing why) =
+    (waiting : Bool) × (text ≡ continue_text waiting) × IsFront max bytes (cut_patch asked framing waiting)
+ComesIn max bytes text left next.cut_other =
+    (waiting : Bool) × (text ≡ continue_text waiting) × IsFront max bytes (cut_other waiting)
+ComesIn max bytes text left (next.refused why framing) =
+    (text ≡ []) × ((rest : List ℕ) → IsFront max (bytes ++ rest) (refused why framing))
+ComesIn max bytes text left next.ending = (text ≡ []) × IsFront max bytes clean_end
+
+-- the request waits for `100 Continue`
+abbrev pub waits : Front → Bool
+waits (message asked framing waiting rest) = waiting
+waits (refused why framing) = false
+waits (cut_patch asked framing waiting) = waiting
+waits (cut_other waiting) = waiting
+waits clean_end = false
+
+-- A read failed, and these bytes as a whole input would be cut, or nothing; or the write of `100 Continue` failed, and a
+-- front of it was written.
+abbrev pub BreaksFront : ℕ → List ℕ → List ℕ → WireFault → Type 0
+BreaksFront max bytes text Read =
+    ((waiting : Bool) × (text ≡ continue_text waiting) × IsFront max bytes (cut_other waiting))
+    ⊎ ((text ≡ []) × IsFront max bytes clean_end)
+BreaksFront max bytes text Write =
+    (f : Front) × IsFront max bytes f × (waits f ≡ true) × ((n : ℕ) × (text ≡ take n (continue_text true)))
+BreaksFront max bytes text Memory = ⊥
+BreaksFront max bytes text Failed = ⊥
+
+-- what a reading gave, after these bytes
+abbrev pub ReadsNext : ℕ → List ℕ → List ℕ → List ℕ → Result Next WireFault → Type 0
+ReadsNext max bytes text left (Ok m) = ComesIn max bytes text left m
+ReadsNext max bytes text left (Err fault) = BreaksFront max bytes text fault
+
+-- the input is cut or ended only where no byte of it is left
+abbrev pub ComesAtEnd : Option (List ℕ) → Next → Type 0
+ComesAtEnd remaining (next.message asked framing) = ⊤
+ComesAtEnd remaining (next.cut_patch asked framing Ended) = IsAtEnd remaining
+ComesAtEnd remaining (next.cut_patch asked framing Fault) = ⊤
+ComesAtEnd remaining next.cut_other = IsAtEnd remaining
+ComesAtEnd remaining (next.refused why framing) = ⊤
+ComesAtEnd remaining next.ending = IsAtEnd remaining
+
+-- What the reading of the next message did to a wire that reads: some bytes were read and some were written, and what came
+-- in is what they begin with. Where a read or a write failed, the fault names which; nothing had failed before.
+pub record Reads {R W : Type 0} (remaining : R → Option (List ℕ)) (read_failed : R → Bool) (contents : W → Option (List ℕ)) (write_failed : W → Bool)
+    (old new : OnWire R W) (r : Result Next WireFault) : Type 0 where
+  pub next : (got text : List ℕ) × Consumes (remaining old.reader) (remaining new.reader) got × Appends (contents old.writer) (contents new.writer) text
+      × ReadsNext old.max_size (old.held ++ got) text new.held r
+  pub at_end : IfOk r (ComesAtEnd (remaining new.reader))
+  pub fault : IfErr r (Names (read_failed new.reader) (write_failed new.writer))
+  pub alive : (read_failed old.reader ≡ false) × (write_failed old.writer ≡ false)
+  pub size : new.max_size ≡ old.max_size
+  pub reads : new.reads ≡ is_open (state_after r)
+  pub writes : new.writes ≡ is_alive (state_after r)
+
+-- what a call of `read_request` did to a wire: after the end, a cut or a refusal it gives the end, and after a fault the
+-- answer that it failed, and the wire is as it was
+pub record ReadsOn {R W : Type 0} (remaining : R → Option (List ℕ)) (read_failed : R → Bool) (contents : W → Option (List ℕ)) (write_failed : W → Bool)
+    (old new : OnWire R W) (r : Result Next WireFault) : Type 0 where
+  pub reading : old.reads ≡ true → Reads remaining read_failed contents write_failed old new r
+  pub ended : old.reads ≡ false → old.writes ≡ true → (r ≡ Ok next.ending) × (new ≡ old)
+  pub failed : old.reads ≡ false → old.writes ≡ false → (r ≡ Err Failed) × (new ≡ old)

@@ -1,0 +1,53 @@
+-- What a wire still does, and how a contract sees it.
+use Rattle.std.specs.Prelude.{◌≡◌, ◌<◌, ◌^◌, ℕ, Bool, true, false, List, Option, Result, Ok, Err}
+use Rattle.http_wire.specs.Ahead.{Ahead}
+use Rattle.http_wire.specs.HeadFound.{SeesEnd}
+use Rattle.http_wire.specs.Next.{Next, message, cut_patch, cut_other, refused, ending}
+use Rattle.http_wire.specs.OnWire.{OnWire}
+use Rattle.http_wire.specs.declared.fault.WireFault.{WireFault}
+use Rattle.http_wire.specs.declared.read.Cut.TheVariants as cut
+use Rattle.http_wire.specs.declared.wire.State.{State}
+use Rattle.http_wire.specs.declared.wire.State.TheVariants as state
+
+-- it reads
+abbrev pub is_open : State → Bool
+is_open state.Open = true
+is_open state.Ended = false
+is_open state.Failed = false
+
+-- it writes
+abbrev pub is_alive : State → Bool
+is_alive state.Open = true
+is_alive state.Ended = true
+is_alive state.Failed = false
+
+-- what it does after this came in: it reads on after a message alone, and writes on unless a read or a write failed
+abbrev pub state_after : Result Next WireFault → State
+state_after (Ok (message asked framing)) = state.Open
+state_after (Ok (cut_patch asked framing cut.Ended)) = state.Ended
+state_after (Ok (cut_patch asked framing cut.Fault)) = state.Failed
+state_after (Ok cut_other) = state.Ended
+state_after (Ok (refused why framing)) = state.Ended
+state_after (Ok ending) = state.Ended
+state_after (Err fault) = state.Failed
+
+module _ {R W : Type 0} where
+  -- the wire of these parts
+  abbrev pub wire_of : R → W → Ahead → ℕ → State → OnWire R W
+  wire_of reader writer inbox max_size state = record {
+    reader = reader;
+    writer = writer;
+    held = inbox.held;
+    max_size = max_size;
+    reads = is_open state;
+    writes = is_alive state;
+  }
+
+  -- What holds of the parts of every wire: while it reads, no read has failed and the reader's end was seen only there;
+  -- while it writes, no write has failed; and bodies have less than two gigabytes.
+  pub record IsSound (remaining : R → Option (List ℕ)) (read_failed : R → Bool) (write_failed : W → Bool) (reader : R) (writer : W) (inbox : Ahead)
+      (max_size : ℕ) (state : State) : Type 0 where
+    pub size : max_size < 2 ^ 31
+    pub reader_alive : is_open state ≡ true → read_failed reader ≡ false
+    pub writer_alive : is_alive state ≡ true → write_failed writer ≡ false
+    pub end : is_open state ≡ true → SeesEnd (remaining reader) inbox
