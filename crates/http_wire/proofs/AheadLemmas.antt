@@ -1,7 +1,9 @@
 -- What reads and writes do to known bytes, one call after another.
-use Rattle.std.proofs.Common.{ℕ, refl, ◌+◌, List, [], ◌++◌, Option, Some, None, take, drop, sym, ap, ◌∙◌, append-nil, append_assoc}
-use Rattle.std.proofs.Math.Seq.{take-add}
+use Rattle.std.proofs.Common.{◌≡◌, ℕ, refl, ◌+◌, ◌≤◌, List, [], ◌++◌, Option, Some, None, Result, Ok, Err, OnOk, OnErr, length, take, drop, sym, ap, ◌∙◌, append-nil, append_assoc, arith, length-append}
+use Rattle.std.proofs.Math.Seq.{take-add, take-append-add}
+use Rattle.std.proofs.lemmas.List.{take-append-le}
 use Rattle.std.specs.Io.KnownBytes.{Appends, Consumes, Keeps}
+use Rattle.http_wire.specs.declared.fault.WireFault.{WireFault}
 
 -- bytes that stay are bytes of which none were taken
 pub Consumes-from_keeps : (before after : Option (List ℕ)) → Keeps before after → Consumes before after []
@@ -20,6 +22,24 @@ Appends-more None y z a b h k = tt
 Appends-more (Some xs) None z a b h k = absurd h
 Appends-more (Some xs) (Some ys) None a b h k = absurd k
 Appends-more (Some xs) (Some ys) (Some zs) a b h k = k ∙ ap (λ l. l ++ b) h ∙ append_assoc xs a b
+
+-- two pieces of a text were written
+pub Appends-both : {T : Type 0} (r : Result T WireFault) (x y z : Option (List ℕ)) (first rest : List ℕ) → Appends x y first → OnOk r (Appends y z rest) → OnOk r (Appends x z (first ++ rest))
+Appends-both (Ok done) x y z first rest h k = Appends-more x y z first rest h k
+Appends-both (Err e) x y z first rest h k = tt
+
+-- a front of the first piece was written
+pub Appends-first : {T : Type 0} (r : Result T WireFault) (e : WireFault) (x y : Option (List ℕ)) (first rest : List ℕ) → r ≡ Err e
+    → (n : ℕ) × (n ≤ length first) × Appends x y (take n first) → OnErr r ((n : ℕ) × (n ≤ length (first ++ rest)) × Appends x y (take n (first ++ rest)))
+Appends-first r e x y first rest is h =
+    rw is (h.0, omega (arith, length-append first rest, h.1), rw (take-append-le h.0 first rest h.1) h.2)
+
+-- the first piece was written, and a front of the rest
+pub Appends-rest : {T : Type 0} (r : Result T WireFault) (x y z : Option (List ℕ)) (first rest : List ℕ) → Appends x y first
+    → OnErr r ((n : ℕ) × (n ≤ length rest) × Appends y z (take n rest)) → OnErr r ((n : ℕ) × (n ≤ length (first ++ rest)) × Appends x z (take n (first ++ rest)))
+Appends-rest (Ok done) x y z first rest h k = tt
+Appends-rest (Err e) x y z first rest h k =
+    (length first + k.0, omega (arith, length-append first rest, k.1), rw (take-append-add first rest k.0) (Appends-more x y z first (take k.0 rest) h k.2))
 
 -- bytes that stay are bytes after which none were written
 pub Appends-from_keeps : (x y z : Option (List ℕ)) (a : List ℕ) → Appends x y a → Keeps y z → Appends x z a

@@ -5,7 +5,7 @@ use Rattle.std.proofs.lemmas.List.{take-append-le, drop-append-le, drop-take}
 use Rattle.httparse.specs.Grammar.{RequestHead}
 use Rattle.http_wire.specs.Ahead.{Ahead}
 use Rattle.http_wire.specs.Conversation.{continue_text}
-use Rattle.http_wire.specs.Front.{Front, Begins, IsFront, message, refused, cut_patch, cut_other, clean_end, closing, framing_of, is_patch, method_of, is_waiting, request_of, with_body, parsed_front}
+use Rattle.http_wire.specs.Front.{Front, Begins, IsFront, message, refused, cut_patch, cut_other, clean_end, closing, framing_of, is_patch, method_in, is_waiting, request_of, with_body, parsed_front}
 use Rattle.http_wire.specs.FrontRead.{BeginsHead, ReadsFront}
 use Rattle.http_wire.specs.NextRead.{waits}
 use Rattle.http_wire.specs.HeadFound.{IsUnfinished}
@@ -86,7 +86,7 @@ alone max bytes p held b =
 
 -- not all of it is held
 short_body : (h : RequestHead) (n : ℕ) (rest : List ℕ) → length rest < n
-    → with_body h n rest ≡ (if is_patch (method_of h.method) then cut_patch (request_of h rest) (framing_of h) (is_waiting h n) else cut_other (is_waiting h n))
+    → with_body h n rest ≡ (if is_patch (method_in h) then cut_patch (request_of h rest) (framing_of h) (is_waiting h n) else cut_other (is_waiting h n))
 short_body h n rest short = rw (lt-leb n (length rest) short) refl
 
 pub IsFront-cut_patch : (max : ℕ) (bytes : List ℕ) (p : Parts) (held : List ℕ) (b : BeginsHead max bytes p held) (a : Ahead) → length held < p.head_len + p.body_len
@@ -109,7 +109,7 @@ pub waits-with_body : (h : RequestHead) (n : ℕ) (rest : List ℕ) → is_waiti
 waits-with_body h n rest w =
     elim (cases_Bool (nat_le n (length rest))) [
       | inl t ↦ rw t w
-      | inr f ↦ rw f (elim (cases_Bool (is_patch (method_of h.method))) [
+      | inr f ↦ rw f (elim (cases_Bool (is_patch (method_in h))) [
         | inl t ↦ rw t w
         | inr f2 ↦ rw f2 w
       ])

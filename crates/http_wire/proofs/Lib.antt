@@ -7,6 +7,7 @@ pub mod HeadTextLemmas
 pub mod NameLemmas
 pub mod PageLemmas
 pub mod RangeLemmas
+pub mod ReplyLemmas
 pub mod Served
 pub mod Talk
 pub mod PlainLemmas

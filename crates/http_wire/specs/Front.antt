@@ -5,6 +5,7 @@ use Rattle.httparse.specs.Grammar.{RequestHead, ReadsRequest}
 use Rattle.tus_text.specs.Path.{path_of}
 use Rattle.tus_steps.specs.declared.method.Method.{Method}
 use Rattle.tus_steps.specs.declared.method.Method.TheVariants as method
+use Rattle.tus_steps.specs.Field.{FieldText, absent, one, many}
 use Rattle.tus_steps.specs.Request.{Asked}
 use Rattle.tus_steps.specs.Step.{is_head}
 use Rattle.http_wire.specs.Connection.{closes, asks_to_continue}
@@ -30,19 +31,30 @@ abbrev pub method_of : List ℕ → Method
 method_of name =
     if bytes_eq name (codes "POST") then method.Post
     else (if bytes_eq name (codes "HEAD") then method.Head
-    else (if bytes_eq name (codes "PATCH") then method.Patch else method.Other))
+    else (if bytes_eq name (codes "PATCH") then method.Patch
+    else (if bytes_eq name (codes "GET") then method.Get
+    else (if bytes_eq name (codes "OPTIONS") then method.Options else method.Other))))
+
+-- the method that one X-HTTP-Method-Override names stands in place of the request's own, and two or more
+-- name none (tus 1.0.0, Core Protocol, X-HTTP-Method-Override)
+abbrev pub method_by : List ℕ → FieldText → Method
+method_by name absent = method_of name
+method_by name (one value) = method_of value
+method_by name many = method.Other
+
+-- the method of a head that is in force
+abbrev pub method_in : RequestHead → Method
+method_in h = method_by h.method (field_text (codes "x-http-method-override") h.fields)
 
 -- the method is PATCH
 abbrev pub is_patch : Method → Bool
-is_patch method.Post = false
-is_patch method.Head = false
 is_patch method.Patch = true
-is_patch method.Other = false
+is_patch _ = false
 
 -- the request of a head with a body
 abbrev pub request_of : RequestHead → List ℕ → Asked
 request_of h body = record {
-  method = method_of h.method;
+  method = method_in h;
   path = path_of h.target;
   version = field_text (codes "tus-resumable") h.fields;
   length = field_text (codes "upload-length") h.fields;
@@ -54,7 +66,8 @@ request_of h body = record {
   body = body;
 }
 
--- the reply to a HEAD is bare; the connection closes after a request of HTTP/1.0, and where it says so
+-- the reply to a HEAD, by the request's own method, is bare; the connection closes after a request of
+-- HTTP/1.0, and where it says so
 abbrev pub framing_of : RequestHead → Framing
 framing_of h = record {
   bare = is_head (method_of h.method);
@@ -83,7 +96,7 @@ is_waiting h n = h.minor == 1 && asks_to_continue (field_text (codes "expect") h
 abbrev pub with_body : RequestHead → ℕ → List ℕ → Front
 with_body h n rest =
     if nat_le n (length rest) then message (request_of h (take n rest)) (framing_of h) (is_waiting h n) (drop n rest)
-    else (if is_patch (method_of h.method) then cut_patch (request_of h rest) (framing_of h) (is_waiting h n)
+    else (if is_patch (method_in h) then cut_patch (request_of h rest) (framing_of h) (is_waiting h n)
     else cut_other (is_waiting h n))
 
 -- a head whose fields were judged, with what follows it

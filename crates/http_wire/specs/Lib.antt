@@ -15,6 +15,7 @@ pub mod OnWire
 pub mod Outcome
 pub mod Parts
 pub mod Refusal
+pub mod ReplyParts
 pub mod ReplyText
 pub mod Scan
 pub mod Shown

@@ -9,7 +9,7 @@ use Rattle.httparse.specs.declared.spans.RequestSpans.{RequestSpans}
 use Rattle.tus_text.specs.Path.{path_of}
 use Rattle.tus_steps.specs.Request.{Asked}
 use Rattle.http_wire.specs.Fields.{IsInside, told_at, values_named, field_text}
-use Rattle.http_wire.specs.Front.{Parses, method_of, framing_of, is_waiting, judged}
+use Rattle.http_wire.specs.Front.{Parses, method_in, framing_of, is_waiting, judged}
 use Rattle.http_wire.specs.declared.parts.Parts.{Parts}
 
 -- a line that was parsed is that of a head, which is the whole text, with its fields
@@ -60,7 +60,7 @@ request_at p text =
 
 -- the parts are those of a head
 pub record ShowsHead (max : ℕ) (head : List ℕ) (h : RequestHead) (p : Parts) : Type 0 where
-  pub method : p.method ≡ method_of h.method
+  pub method : p.method ≡ method_in h
   pub framing : p.framing ≡ framing_of h
   pub is_waiting : p.is_waiting ≡ is_waiting h p.body_len
   pub body_len : judged max h ≡ Ok p.body_len

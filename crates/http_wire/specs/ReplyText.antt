@@ -1,14 +1,14 @@
 -- The bytes of a reply (RFC 9112, sections 4 and 5; tus 1.0.0, Core Protocol, Creation, Expiration and
 -- Concatenation): for each field, where it stands and what it tells. The order of the fields is this
 -- server's choice.
-use Rattle.std.specs.Prelude.{ℕ, Bool, true, false, not, ◌||◌, ◌==◌, if◌then◌else◌, List, [], ◌∷◌, ◌++◌, length, codes, decimal, Option, Some, None}
+use Rattle.std.specs.Prelude.{ℕ, Bool, true, false, ◌||◌, ◌==◌, if◌then◌else◌, List, [], ◌∷◌, ◌++◌, length, codes, decimal, Option, Some, None}
 use Rattle.tus_text.specs.Date.{expires_text}
 use Rattle.upload_book.specs.declared.refusal.Refusal.TheVariants as refusal
 use Rattle.upload_book.specs.Refusal.{number_of, status_of, word_of}
 use Rattle.tus_steps.specs.declared.reply.Place.{Place}
 use Rattle.tus_steps.specs.declared.reply.Place.TheVariants as place
 use Rattle.tus_steps.specs.declared.reply.Reply.{Reply}
-use Rattle.tus_steps.specs.declared.reply.Reply.TheVariants.{Created, Head, Patched, Refused}
+use Rattle.tus_steps.specs.declared.reply.Reply.TheVariants.{Options, Created, Head, Content, Patched, Refused}
 use Rattle.http_wire.specs.Refusal as wire
 use Rattle.http_wire.specs.declared.framing.Framing.{Framing}
 use Rattle.http_wire.specs.declared.refusal.WireRefusal.{WireRefusal}
@@ -73,30 +73,39 @@ opening status now =
 
 -- the status of a reply
 abbrev pub reply_status : Reply → ℕ
+reply_status (Options max_size) = 204
 reply_status (Created tenant id expires) = 201
 reply_status (Head row) = 200
+reply_status (Content bytes) = 200
 reply_status (Patched offset expires) = 204
 reply_status (Refused why head at expires) = status_of why
 
--- a request of another version of the protocol is told the one that is served
+-- an OPTIONS, and a request of another version of the protocol, are told the one that is served
 abbrev pub tells_version : Reply → Bool
-tells_version (Created tenant id expires) = false
-tells_version (Head row) = false
-tells_version (Patched offset expires) = false
+tells_version (Options max_size) = true
 tells_version (Refused why head at expires) = number_of why == number_of refusal.Version
+tells_version _ = false
+
+-- an OPTIONS is told what is served beside the core protocol
+abbrev pub extensions_in : Reply → List ℕ
+extensions_in (Options max_size) = codes "creation,creation-defer-length,expiration"
+extensions_in _ = []
+
+-- and how many bytes an upload may have
+abbrev pub max_size_in : Reply → Option ℕ
+max_size_in (Options max_size) = Some max_size
+max_size_in _ = None
 
 -- the methods that are served at a place
 abbrev pub allowed_at : Place → List ℕ
-allowed_at place.Create = codes "POST"
-allowed_at place.Upload = codes "HEAD, PATCH"
+allowed_at place.Create = codes "POST, OPTIONS"
+allowed_at place.Upload = codes "HEAD, GET, PATCH, OPTIONS"
 allowed_at place.Other = []
 
 -- a request whose method is not allowed is told those that are
 abbrev pub allowed_in : Reply → List ℕ
-allowed_in (Created tenant id expires) = []
-allowed_in (Head row) = []
-allowed_in (Patched offset expires) = []
 allowed_in (Refused why head at expires) = if number_of why == number_of refusal.Method then allowed_at at else []
+allowed_in _ = []
 
 -- the path of an upload
 abbrev pub upload_path : List ℕ → ℕ → List ℕ
@@ -105,16 +114,13 @@ upload_path tenant id = codes "/files/" ++ tenant ++ codes "/" ++ decimal id
 -- the path of an upload that was created
 abbrev pub location_in : Reply → List ℕ
 location_in (Created tenant id expires) = upload_path tenant id
-location_in (Head row) = []
-location_in (Patched offset expires) = []
-location_in (Refused why head at expires) = []
+location_in _ = []
 
 -- how many bytes the upload has
 abbrev pub offset_in : Reply → Option ℕ
-offset_in (Created tenant id expires) = None
 offset_in (Head row) = Some row.offset
 offset_in (Patched offset expires) = Some offset
-offset_in (Refused why head at expires) = None
+offset_in _ = None
 
 -- how many it will have, or that this will be told later
 unfoldable pub declared_line : Option ℕ → List ℕ
@@ -123,31 +129,25 @@ declared_line (Some n) = number_line (codes "Upload-Length") (Some n)
 
 -- the same of the upload in a reply to a HEAD
 unfoldable pub length_line : Reply → List ℕ
-length_line (Created tenant id expires) = []
 length_line (Head row) = declared_line row.declared
-length_line (Patched offset expires) = []
-length_line (Refused why head at expires) = []
+length_line _ = []
 
 -- its metadata, as it was accepted
 abbrev pub metadata_in : Reply → List ℕ
-metadata_in (Created tenant id expires) = []
 metadata_in (Head row) = row.metadata
-metadata_in (Patched offset expires) = []
-metadata_in (Refused why head at expires) = []
+metadata_in _ = []
 
 -- what it is a part or the whole of, as it was accepted
 abbrev pub concat_in : Reply → List ℕ
-concat_in (Created tenant id expires) = []
 concat_in (Head row) = row.concat
-concat_in (Patched offset expires) = []
-concat_in (Refused why head at expires) = []
+concat_in _ = []
 
 -- when it expires, except in the reply to a HEAD
 abbrev pub expires_in : Reply → Option ℕ
 expires_in (Created tenant id expires) = expires
-expires_in (Head row) = None
 expires_in (Patched offset expires) = expires
 expires_in (Refused why head at expires) = expires
+expires_in _ = None
 
 -- the line of a moment that may be there
 unfoldable pub moment_line : List ℕ → Option ℕ → List ℕ
@@ -156,15 +156,16 @@ moment_line name (Some moment) = line name (expires_text moment)
 
 -- no reply to a HEAD is kept by a cache
 abbrev pub is_uncached : Reply → Bool
-is_uncached (Created tenant id expires) = false
 is_uncached (Head row) = true
-is_uncached (Patched offset expires) = false
 is_uncached (Refused why head at expires) = head
+is_uncached _ = false
 
 -- the fields of a reply of the steps
 unfoldable pub own_fields : Reply → List ℕ
 own_fields r =
     line_if (tells_version r) (codes "Tus-Version") (codes "1.0.0")
+    ++ text_line (codes "Tus-Extension") (extensions_in r)
+    ++ number_line (codes "Tus-Max-Size") (max_size_in r)
     ++ text_line (codes "Allow") (allowed_in r)
     ++ text_line (codes "Location") (location_in r)
     ++ number_line (codes "Upload-Offset") (offset_in r)
@@ -174,39 +175,52 @@ own_fields r =
     ++ moment_line (codes "Upload-Expires") (expires_in r)
     ++ line_if (is_uncached r) (codes "Cache-Control") (codes "no-store")
 
--- the body of a reply: a word and LF, or nothing
-unfoldable pub body_text : List ℕ → List ℕ
-body_text word = if length word == 0 then [] else word ++ 10 ∷ []
+-- what a body is: the bytes of an upload, or the word of a refusal
+abbrev pub media_in : Reply → List ℕ
+media_in (Content bytes) = codes "application/octet-stream"
+media_in (Refused why head at expires) = codes "text/plain"
+media_in _ = []
 
--- the fields of that body
-unfoldable pub content_fields : List ℕ → List ℕ
-content_fields word =
-    line_if (not (length word == 0)) (codes "Content-Type") (codes "text/plain")
-    ++ number_line (codes "Content-Length") (Some (length (body_text word)))
+-- the body that tells a refusal's word
+abbrev pub word_body : List ℕ → List ℕ
+word_body word = word ++ 10 ∷ []
 
--- what follows the fields of the steps. A bare reply has no body and no field of one
-unfoldable pub ending : Bool → Bool → List ℕ → List ℕ
-ending bare close word =
-    (if bare then [] else content_fields word) ++ line_if close (codes "Connection") (codes "close") ++ crlf
-    ++ (if bare then [] else body_text word)
+-- the body of a reply
+abbrev pub body_in : Reply → List ℕ
+body_in (Content bytes) = bytes
+body_in (Refused why head at expires) = word_body (word_of why)
+body_in _ = []
+
+-- the fields of a body of this type, with so many bytes
+unfoldable pub content_fields : List ℕ → ℕ → List ℕ
+content_fields media len = text_line (codes "Content-Type") media ++ number_line (codes "Content-Length") (Some len)
+
+-- what follows the fields of the steps, to the empty line. A bare reply has no field of a body
+unfoldable pub ending : Bool → Bool → List ℕ → ℕ → List ℕ
+ending bare close media len =
+    (if bare then [] else content_fields media len) ++ line_if close (codes "Connection") (codes "close") ++ crlf
+
+-- a bare reply has no body
+abbrev pub body_sent : Bool → List ℕ → List ℕ
+body_sent bare body = if bare then [] else body
 
 -- a reply to a HEAD is bare, and so is one of status 204
 abbrev pub is_bare : Framing → ℕ → Bool
 is_bare framing status = framing.bare || status == 204
 
--- the word of a reply that refuses
-abbrev pub reply_word : Reply → List ℕ
-reply_word (Created tenant id expires) = []
-reply_word (Head row) = []
-reply_word (Patched offset expires) = []
-reply_word (Refused why head at expires) = word_of why
+-- the bytes of a reply at a moment, up to its body
+unfoldable pub reply_head : Reply → ℕ → Framing → List ℕ
+reply_head r now framing =
+    opening (reply_status r) now ++ own_fields r
+    ++ ending (is_bare framing (reply_status r)) framing.close (media_in r) (length (body_in r))
 
 -- the bytes of a reply at a moment
 unfoldable pub reply_text : Reply → ℕ → Framing → List ℕ
-reply_text r now framing =
-    opening (reply_status r) now ++ own_fields r ++ ending (is_bare framing (reply_status r)) framing.close (reply_word r)
+reply_text r now framing = reply_head r now framing ++ body_sent (is_bare framing (reply_status r)) (body_in r)
 
 -- the bytes of a refusal of the wire at a moment
 unfoldable pub refusal_text : WireRefusal → ℕ → Framing → List ℕ
 refusal_text why now framing =
-    opening (wire.status_of why) now ++ ending (is_bare framing (wire.status_of why)) framing.close (wire.word_of why)
+    let bare = is_bare framing (wire.status_of why) in
+    let body = word_body (wire.word_of why) in
+    opening (wire.status_of why) now ++ ending bare framing.close (codes "text/plain") (length body) ++ body_sent bare body

@@ -1,17 +1,23 @@
-ghost use Rattle.std.specs.Prelude.{◌≡◌, ◌≤◌, ◌++◌, ℕ, List, false, IfOk, IfErr};
+ghost use Rattle.std.specs.Prelude.{◌≡◌, ◌≤◌, ◌++◌, ℕ, List, true, false, take, IfOk, IfErr, OnOk, OnErr};
 ghost use Rattle.std.specs.Io.KnownBytes.{Appends, Consumes};
 ghost use Rattle.http_wire.specs.HeadFound.{SeesEnd};
 ghost use Rattle.http_wire.specs.Turns.{Breaks, Converses, EndsTurnAtEnd, IsReadWhen, TakesTurn};
+ghost use Rattle.http_wire.specs.ReplyText.{reply_text};
+ghost use Rattle.tus_steps.specs.Request.{asked_of};
+ghost use Rattle.tus_steps.specs.Step.{IsStep};
+ghost use Rattle.tus_steps.specs.declared.reply.Reply.{Reply};
 ghost use Rattle.http_wire.specs.Lent.{Names, NamesOrMemory, IsAliveUnless};
 
 use crate::buffers::Buffers;
 use crate::fault::WireFault;
+use crate::framing::Framing;
 use crate::message::request_in;
+use crate::page::Page;
 use crate::read::{Cut, Front, read_front};
 use crate::source::{Sink, Source};
 use crate::write::{write_refusal, write_reply};
 use std::alloc::Global;
-use tus_steps::answer;
+use tus_steps::{Request, answer};
 use upload_book::{Book, Moment};
 
 /// How a conversation ended.
@@ -93,8 +99,15 @@ fn take_turn<R: Source, W: Sink>(
     )?;
     match front {
         Front::Message(parts) => {
-            let reply = answer(book, &request_in(&parts, buffers.inbox.lent()), now);
-            write_reply(writer, &mut buffers.page, &reply, now, parts.framing)?;
+            let request = request_in(&parts, buffers.inbox.lent());
+            reply_to(
+                writer,
+                &mut buffers.page,
+                book,
+                &request,
+                now,
+                parts.framing,
+            )?;
             Ok(if parts.framing.close {
                 Some(Ended::Closed)
             } else {
@@ -115,6 +128,31 @@ fn take_turn<R: Source, W: Sink>(
         Front::CutOther => Ok(Some(Ended::Cut)),
         Front::End => Ok(Some(Ended::Input)),
     }
+}
+
+// Makes the step of a request and writes its reply. The step stays where the reply could not be written.
+fn reply_to<W: Sink>(
+    writer: &mut W,
+    page: &mut Page,
+    book: &mut Book,
+    request: &Request,
+    now: Moment,
+    framing: Framing,
+) -> Result<(), WireFault>
+    requires { W.has_failed writer.old ≡ false }
+    ensures ok { OnOk result ((reply : Reply)
+        × IsStep book.old (asked_of request.now) now reply book.new
+        × Appends (W.contents writer.old) (W.contents writer.new) (reply_text reply now framing)) }
+    ensures part { OnErr result ((reply : Reply) × (n : ℕ)
+        × IsStep book.old (asked_of request.now) now reply book.new
+        × Appends (W.contents writer.old) (W.contents writer.new)
+        (take n (reply_text reply now framing))) }
+    ensures alive { OnOk result (W.has_failed writer.new ≡ false) }
+    ensures failed { OnErr result (W.has_failed writer.new ≡ true) }
+    ensures fault { IfErr result (λ e. e ≡ WireFault.Write) }
+{
+    let reply = answer(book, request, now);
+    write_reply(writer, page, &reply, now, framing)
 }
 
 // The most bytes of a request's body.

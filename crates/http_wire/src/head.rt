@@ -4,9 +4,10 @@ ghost use Rattle.httparse.specs.Spans.{IsWithin, span_bytes};
 ghost use Rattle.http_header.specs.HeaderMap.{get_all};
 ghost use Rattle.http_header.specs.Token.{lowercase};
 ghost use Rattle.http_wire.specs.Fields.{IsInside, span_of};
+ghost use Rattle.tus_steps.specs.Field.{text_of};
 ghost use Rattle.tus_steps.specs.Step.{is_head};
 ghost use Rattle.http_wire.specs.Connection.{closes};
-ghost use Rattle.http_wire.specs.Front.{Parses, method_of, closing, unknown_framing};
+ghost use Rattle.http_wire.specs.Front.{Parses, method_of, method_by, closing, unknown_framing};
 ghost use Rattle.http_wire.specs.Shown.{Gives, Shows};
 ghost use Rattle.http_wire.specs.Parts.{HasFields, HasLine, IsLine, IsPartsWithin};
 
@@ -21,7 +22,7 @@ use http_header::HeaderMap;
 use httparse::Status;
 use httparse::spans::{EMPTY_HEADER_SPAN, HeaderSpan, RequestSpans, Span, parse_request};
 use std::alloc::Global;
-use tus_steps::Method;
+use tus_steps::{Field, Method};
 
 /// The most fields of a head.
 const FIELD_LIMIT: usize = 64;
@@ -92,9 +93,10 @@ fn parts_of(
         → HasFields head.now found.now h.fields
         → Shows max_size head.now h result }
 {
-    let method = method_of(line.method.of(head));
+    let name = line.method.of(head);
+    let instead = field_of(head, found, "x-http-method-override").of(head);
     let framing = Framing {
-        bare: is_head(method),
+        bare: is_head(method_of(name)),
         close: line.version == 0 || closes(head, found),
     };
     let host = field_of(head, found, "host").of(head);
@@ -108,7 +110,7 @@ fn parts_of(
         Ok(body_len) => {
             let expect = field_of(head, found, "expect").of(head);
             Ok(Parts {
-                method,
+                method: method_by(name, instead),
                 framing,
                 is_waiting: line.version == 1 && asks_to_continue(expect) && body_len > 0,
                 head_len: head.len(),
@@ -141,7 +143,7 @@ fn is_head(method: Method) -> bool
 {
     match method {
         Method::Head => true,
-        Method::Post | Method::Patch | Method::Other => false,
+        Method::Post | Method::Patch | Method::Get | Method::Options | Method::Other => false,
     }
 }
 
@@ -159,15 +161,43 @@ fn closes(head: &[u8], found: &HeaderMap<Span>) -> bool
     false
 }
 
+const POST: &[u8] = b"POST";
+
+const HEAD: &[u8] = b"HEAD";
+
+const PATCH: &[u8] = b"PATCH";
+
+const GET: &[u8] = b"GET";
+
+const OPTIONS: &[u8] = b"OPTIONS";
+
 // The method that a name stands for, which is told by exact case.
 fn method_of(name: &[u8]) -> Method
     ensures { result ≡ method_of name.now }
 {
-    match name {
-        b"POST" => Method::Post,
-        b"HEAD" => Method::Head,
-        b"PATCH" => Method::Patch,
-        _ => Method::Other,
+    if name == POST {
+        Method::Post
+    } else if name == HEAD {
+        Method::Head
+    } else if name == PATCH {
+        Method::Patch
+    } else if name == GET {
+        Method::Get
+    } else if name == OPTIONS {
+        Method::Options
+    } else {
+        Method::Other
+    }
+}
+
+// The method in force: the one that an override names in place of the request's own.
+fn method_by(name: &[u8], instead: Field<'_>) -> Method
+    ensures { result ≡ method_by name.now (text_of instead.entry) }
+{
+    match instead {
+        Field::Absent => method_of(name),
+        Field::One(value) => method_of(value),
+        Field::Many => Method::Other,
     }
 }
 

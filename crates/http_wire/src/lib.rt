@@ -13,6 +13,7 @@ mod inbox;
 mod incoming;
 mod judge;
 mod message;
+mod own_fields;
 mod page;
 mod parts;
 pub mod plain;

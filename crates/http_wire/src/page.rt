@@ -62,7 +62,7 @@ impl Page {
 }
 
 impl Page {
-    ghost use Rattle.http_wire.specs.ReplyText.{line, number_line, text_line, moment_line};
+    ghost use Rattle.http_wire.specs.ReplyText.{line, line_if, number_line, text_line, moment_line};
 
     /// Puts the line of a field.
     #[tactic(auto, unfolding(crate::specs::ReplyText::line))]
@@ -75,6 +75,18 @@ impl Page {
         self.put(b": ");
         self.put(value);
         self.put(b"\r\n");
+    }
+
+    /// Puts the line of a field, where the test holds.
+    #[tactic(auto, unfolding(crate::specs::ReplyText::line_if))]
+    pub fn put_line_if(&mut self, test: bool, name: &[u8], value: &[u8])
+        requires { length self.old + length name.now + length value.now + 4 ≤ PAGE_SIZE }
+        ensures text { self.new ≡ self.old ++ line_if test name.now value.now }
+        ensures len { length self.new ≤ length self.old + length name.now + length value.now + 4 }
+    {
+        if test {
+            self.put_line(name, value);
+        }
     }
 
     /// Puts the line of a field, where it has a value.

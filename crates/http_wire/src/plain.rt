@@ -6,7 +6,11 @@ ghost use Rattle.std.specs.Prelude.{◌≡◌, ◌≤◌, ◌<◌, ◌^◌, ◌+
 ghost use Rattle.http_wire.specs.Conversation.{Conversation, continue_text};
 ghost use Rattle.http_wire.specs.Front.{IsFront};
 ghost use Rattle.http_wire.specs.HeadText.{head_text};
+ghost use Rattle.http_wire.specs.Parts.{request_at};
 ghost use Rattle.http_wire.specs.Plain.{front_value, head_value, body_front, CanBeLent, HoldsParts, IsWithinText};
+ghost use Rattle.http_wire.specs.ReplyText.{reply_text};
+ghost use Rattle.tus_steps.specs.Step.{IsStep};
+ghost use Rattle.tus_steps.specs.declared.reply.Reply.{Reply};
 
 use crate::conversation::Ended;
 use crate::framing::Framing;
@@ -16,7 +20,7 @@ use crate::message::request_in;
 use crate::page::Page;
 use crate::parts::Parts;
 use crate::refusal::WireRefusal;
-use crate::reply::{put_refusal, put_reply};
+use crate::reply::{content_of, put_refusal, put_reply};
 use http_header::HeaderMap;
 use std::alloc::{AllocError, Global};
 use tus_steps::{Method, answer};
@@ -67,10 +71,7 @@ pub fn plain_conversation(
     let max_size = book.settings().numbers().max_size;
     match plain_front(alloc, input, max_size) {
         PlainFront::Message { parts, text, rest } => {
-            let reply = answer(book, &request_in(&parts, text), *now);
-            let mut page = Page::new(alloc)?;
-            put_reply(&mut page, &reply, *now, parts.framing);
-            let mut written = joined(alloc, continue_text(parts.is_waiting), page.as_slice())?;
+            let mut written = plain_turn(alloc, book, &parts, text, *now)?;
             if parts.framing.close {
                 return Ok((written, Ended::Closed));
             }
@@ -95,6 +96,28 @@ pub fn plain_conversation(
         }
         PlainFront::End => Ok((Vec::new(alloc), Ended::Input)),
     }
+}
+
+// What is written for a whole message, whose step is made.
+fn plain_turn(
+    alloc: Global,
+    book: &mut Book,
+    parts: &Parts,
+    text: &[u8],
+    now: Moment,
+) -> Result<Vec<u8>, AllocError>
+    requires { HoldsParts parts.now text.now }
+    ensures text { IfOk result (λ written. (reply : Reply)
+        × IsStep book.old (request_at parts.now text.now) now reply book.new
+        × (written.items ≡ continue_text parts.now.is_waiting ++ reply_text reply now parts.now.framing)) }
+    ensures settings { book.new.settings ≡ book.old.settings }
+{
+    let reply = answer(book, &request_in(parts, text), now);
+    let mut page = Page::new(alloc)?;
+    put_reply(&mut page, &reply, now, parts.framing);
+    let mut written = joined(alloc, continue_text(parts.is_waiting), page.as_slice())?;
+    written.extend_from_slice(content_of(&reply, parts.framing))?;
+    Ok(written)
 }
 
 fn joined(alloc: Global, front: &[u8], rest: &[u8]) -> Result<Vec<u8>, AllocError>

@@ -264,7 +264,7 @@ fn is_patch(method: Method) -> bool
 {
     match method {
         Method::Patch => true,
-        Method::Post | Method::Head | Method::Other => false,
+        Method::Post | Method::Head | Method::Get | Method::Options | Method::Other => false,
     }
 }
 

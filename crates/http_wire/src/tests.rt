@@ -1,7 +1,9 @@
 //! Conversations from bytes to bytes, over readers and writers in memory.
 
 mod conversations;
+mod creations;
 mod cuts;
 mod faults;
 mod memory;
+mod methods;
 mod wires;

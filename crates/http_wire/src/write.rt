@@ -6,14 +6,14 @@ use crate::fault::WireFault;
 use crate::framing::Framing;
 use crate::page::Page;
 use crate::refusal::WireRefusal;
-use crate::reply::{put_refusal, put_reply};
-use crate::send::put_all;
+use crate::reply::{content_of, put_refusal, put_reply};
+use crate::send::{put_all, put_both};
 use crate::source::Sink;
 use tus_steps::Reply;
 use upload_book::Moment;
 
-/// Writes the reply to a message at the message's moment, from one page and by one write where the
-/// writer takes it whole. The error is `WireFault::Write`, and then a front of it was written.
+/// Writes the reply to a message at the message's moment: one page, and after it the bytes of an upload
+/// from where they are. The error is `WireFault::Write`, and then a front of it was written.
 pub fn write_reply<W: Sink>(
     writer: &mut W,
     page: &mut Page,
@@ -32,7 +32,7 @@ pub fn write_reply<W: Sink>(
     ensures fault { IfErr result (λ e. e ≡ WireFault.Write) }
 {
     put_reply(page, reply, now, framing);
-    put_all(writer, page.as_slice())
+    put_both(writer, page.as_slice(), content_of(reply, framing))
 }
 
 /// The same for a refusal of the wire.

@@ -1,17 +1,19 @@
 -- What the book's answers say of the step.
-use Rattle.std.proofs.Common.{◌≡◌, ℕ, Option, Some, None, Result, Ok, Err, IsOk, OnOk, OnErr, inl, inr, refl, sym, ap, ◌∙◌, subst}
+use Rattle.std.proofs.Common.{◌≡◌, ℕ, List, Option, Some, None, Result, Ok, Err, IsOk, OnOk, OnErr, inl, inr, refl, sym, ap, ◌∙◌, subst}
 use Rattle.upload_book.specs.declared.append.Appended.{Appended}
 use Rattle.upload_book.specs.declared.append.Refused.{Refused}
 use Rattle.upload_book.specs.declared.head_row.Name.{Name}
 use Rattle.upload_book.specs.Append.{Piece, append_answer, append_refusal, book_after_append, book_after_reply, book_seen, no_memory}
+use Rattle.upload_book.specs.Content.{content_answer}
 use Rattle.upload_book.specs.Create.{Wish, create_refusal, new_upload, with_new_upload, book_after_create}
 use Rattle.upload_book.specs.PlainBook.{PlainBook, tenant_at, with_tenant, seen_at}
 use Rattle.upload_book.specs.Upload.{Upload, head_row_of}
 use Rattle.upload_book.specs.declared.refusal.Refusal.{Refusal}
+use Rattle.upload_book.specs.declared.refusal.Refusal.TheVariants as refusal
 use Rattle.upload_book.specs.Refusal.{IsAnswer, kept_if_refused}
 use Rattle.upload_book.proofs.AppendLemmas.{book_after_append-refused}
 use Rattle.tus_steps.specs.Request.{Asked}
-use Rattle.tus_steps.specs.Step.{append, append_reply, IsEventStep}
+use Rattle.tus_steps.specs.Step.{content, append, content_reply, append_reply, IsEventStep}
 
 step_by : (b : PlainBook) (a : Asked) (now : ℕ) (name : Name) (piece : Piece) (x : Result Appended Refused) → append_answer b name piece now ≡ x → (result : Result Appended Refused) (after : PlainBook) → IsAnswer x (no_memory b name now) result → OnOk result (after ≡ book_after_append b name piece now) → OnErr result (after ≡ b) → IsEventStep b a now (append name piece) (append_reply a result) after
 step_by b a now name piece (Ok answer) is (Ok told) after (inl same) accepted refused = inl (ap (append_reply a) (same ∙ sym is), accepted)
@@ -25,6 +27,15 @@ step_by b a now name piece (Err why) is (Err told) after same accepted refused =
 
 pub append-step : (b : PlainBook) (a : Asked) (now : ℕ) (name : Name) (piece : Piece) (result : Result Appended Refused) (after : PlainBook) → IsAnswer (append_answer b name piece now) (no_memory b name now) result → OnOk result (after ≡ book_after_append b name piece now) → OnErr result (after ≡ b) → IsEventStep b a now (append name piece) (append_reply a result) after
 append-step b a now name piece result after = step_by b a now name piece (append_answer b name piece now) refl result after
+
+content_by : (b : PlainBook) (a : Asked) (now : ℕ) (name : Name) (x : Result (List ℕ) Refusal) → content_answer b name now ≡ x → (result : Result (List ℕ) Refusal) → IsAnswer x refusal.Memory result → IsEventStep b a now (content name) (content_reply a result) b
+content_by b a now name (Ok answer) is result (inl same) = inl (ap (content_reply a) (same ∙ sym is), refl)
+content_by b a now name (Ok answer) is result (inr lack) =
+    inr ((subst (λ r. IsOk r) (sym is) refl, ap (content_reply a) lack), refl)
+content_by b a now name (Err why) is result same = inl (ap (content_reply a) (same ∙ sym is), refl)
+
+pub content-step : (b : PlainBook) (a : Asked) (now : ℕ) (name : Name) (result : Result (List ℕ) Refusal) → IsAnswer (content_answer b name now) refusal.Memory result → IsEventStep b a now (content name) (content_reply a result) b
+content-step b a now name result = content_by b a now name (content_answer b name now) refl result
 
 kept_if_refused-settings : (why : Option Refusal) (before after : PlainBook) → after.settings ≡ before.settings → (kept_if_refused why before after).settings ≡ before.settings
 kept_if_refused-settings None before after same = same

@@ -1,5 +1,6 @@
 -- A field of a request by its name, as bytes.
-use Rattle.std.specs.Prelude.{ℕ, Bool, true, false, List, [], ◌∷◌, Option, None, bytes_eq}
+use Rattle.std.specs.Prelude.{ℕ, Bool, true, false, List, [], Option, Some, None, bytes_eq, if◌then◌else◌}
+use Rattle.tus_text.specs.Metadata.{is_metadata}
 use Rattle.tus_text.specs.Number.{number_of}
 use Rattle.tus_steps.specs.declared.field.Field.{Field}
 use Rattle.tus_steps.specs.declared.field.Field.TheVariants.{Absent, One, Many}
@@ -22,13 +23,6 @@ is_absent absent = true
 is_absent (one value) = false
 is_absent many = false
 
--- it stands nowhere, or once with no value
-abbrev pub is_blank : FieldText → Bool
-is_blank absent = true
-is_blank (one []) = true
-is_blank (one (b ∷ bytes)) = false
-is_blank many = false
-
 -- it stands once, with just this value
 abbrev pub is_just : List ℕ → FieldText → Bool
 is_just value absent = false
@@ -40,3 +34,10 @@ abbrev pub number_in : FieldText → Option ℕ
 number_in absent = None
 number_in (one value) = number_of value
 number_in many = None
+
+-- the metadata that it tells, where it stands nowhere, once with no value, or once with metadata
+abbrev pub metadata_in : FieldText → Option (List ℕ)
+metadata_in absent = Some []
+metadata_in (one []) = Some []
+metadata_in (one value) = if is_metadata value then Some value else None
+metadata_in many = None

@@ -1,6 +1,6 @@
 -- A request as bytes, and why it is refused before the book is asked (tus 1.0.0, Core Protocol and
 -- Creation). The order of the tests is this server's choice.
-use Rattle.std.specs.Prelude.{ℕ, Bool, true, false, not, ◌&&◌, ◌||◌, List, [], ◌∷◌, length, ◌==◌, Option, None, is_none, codes}
+use Rattle.std.specs.Prelude.{ℕ, Bool, true, false, not, ◌&&◌, ◌||◌, List, [], ◌∷◌, length, ◌==◌, Option, None, is_none, is_some, codes}
 use Rattle.tus_text.specs.declared.path.Path.{Path}
 use Rattle.tus_text.specs.declared.path.Path.TheVariants as path
 use Rattle.upload_book.specs.Refusal.{first_refusal}
@@ -8,11 +8,11 @@ use Rattle.upload_book.specs.declared.refusal.Refusal.{Refusal}
 use Rattle.upload_book.specs.declared.refusal.Refusal.TheVariants as refusal
 use Rattle.upload_book.specs.Settings.{Limits, tenant_place}
 use Rattle.tus_steps.specs.declared.method.Method.{Method}
-use Rattle.tus_steps.specs.declared.method.Method.TheVariants.{Post, Head, Patch, Other}
+use Rattle.tus_steps.specs.declared.method.Method.TheVariants.{Post, Head, Get, Patch}
 use Rattle.tus_steps.specs.declared.reply.Place.{Place}
 use Rattle.tus_steps.specs.declared.reply.Place.TheVariants as place
 use Rattle.tus_steps.specs.declared.request.Request.{Request}
-use Rattle.tus_steps.specs.Field.{FieldText, text_of, is_absent, is_blank, is_just, number_in}
+use Rattle.tus_steps.specs.Field.{FieldText, text_of, is_absent, is_just, number_in, metadata_in}
 
 -- a request as bytes
 pub record Asked : Type 0 where
@@ -60,24 +60,30 @@ tenant_in s (path.Create tenant) = tenant_place s tenant
 tenant_in s (path.Upload tenant id) = tenant_place s tenant
 tenant_in s path.Other = None
 
--- POST creates an upload of a tenant; HEAD and PATCH go to an upload
+-- the request does not name the version 1.0.0 of the protocol, and is no GET, which needs none
+abbrev pub has_other_version : Asked → Method → Bool
+has_other_version a Get = false
+has_other_version a _ = not (is_just (codes "1.0.0") a.version)
+
+-- POST creates an upload of a tenant; HEAD, GET and PATCH go to an upload
 abbrev pub allows : Path → Method → Bool
 allows (path.Create tenant) Post = true
-allows (path.Create tenant) Head = false
-allows (path.Create tenant) Patch = false
-allows (path.Create tenant) Other = false
-allows (path.Upload tenant id) Post = false
 allows (path.Upload tenant id) Head = true
+allows (path.Upload tenant id) Get = true
 allows (path.Upload tenant id) Patch = true
-allows (path.Upload tenant id) Other = false
-allows path.Other method = false
+allows _ _ = false
 
--- a creation tells its length, and has no body and no field of a request that is not served: a length
--- that is told later, metadata that is not empty, or a concatenation
+-- a creation tells the length of the upload as a number, or by a `1` that it will be told later, and
+-- not both
+abbrev pub tells_length : Asked → Bool
+tells_length a =
+    (is_absent a.defer && is_some (number_in a.length)) || (is_absent a.length && is_just (codes "1") a.defer)
+
+-- a creation does not tell its length, has metadata that is not of its form, has a body, or is a
+-- concatenation, which is not served
 abbrev pub has_bad_creation_field : Asked → Bool
 has_bad_creation_field a =
-    is_none (number_in a.length) || not (is_absent a.defer) || not (is_blank a.metadata) || not (is_absent a.concat)
-    || not (length a.body == 0)
+    not (tells_length a) || is_none (metadata_in a.metadata) || not (is_absent a.concat) || not (length a.body == 0)
 
 -- a PATCH tells the offset, and the length of the upload as a number if at all
 abbrev pub has_bad_patch_field : Asked → Bool
@@ -87,14 +93,14 @@ has_bad_patch_field a =
 -- a field of the request is missing, repeated or not of its form
 abbrev pub has_bad_field : Asked → Method → Bool
 has_bad_field a Post = has_bad_creation_field a
-has_bad_field a Head = false
 has_bad_field a Patch = has_bad_patch_field a
-has_bad_field a Other = false
+has_bad_field a _ = false
 
--- why a request of the tenant at this place, if there is one, is refused before the book is asked
+-- why a request other than OPTIONS, of the tenant at this place, if there is one, is refused before the
+-- book is asked
 abbrev pub request_refusal : Option ℕ → Asked → Option Refusal
 request_refusal tenant a = first_refusal (
-    (not (is_just (codes "1.0.0") a.version), refusal.Version)
+    (has_other_version a a.method, refusal.Version)
     ∷ (is_other_path a.path, refusal.Path)
     ∷ (is_none tenant, refusal.Tenant)
     ∷ (not (allows a.path a.method), refusal.Method)

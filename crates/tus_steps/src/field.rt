@@ -1,7 +1,8 @@
-ghost use Rattle.std.specs.Prelude.{◌≡◌};
+ghost use Rattle.std.specs.Prelude.{◌≡◌, ◌≤◌, length, option_copied, IfSome};
+ghost use Rattle.tus_text.specs.declared.metadata.TheConstants.{METADATA_MAX};
 
 use crate::media::is_patch_type;
-use tus_text::read_number;
+use tus_text::{check_metadata, read_number};
 
 /// A field of a request by its name: how often it stands there, and its value where that is once.
 /// A value has no space or tab at its ends.
@@ -15,8 +16,8 @@ pub enum Field<'a> {
     Many,
 }
 
-impl Field<'_> {
-    ghost use Rattle.tus_steps.specs.Field.{text_of, is_absent as absent_in, is_blank as blank_in, is_just as just_in, number_in};
+impl<'a> Field<'a> {
+    ghost use Rattle.tus_steps.specs.Field.{text_of, is_absent as absent_in, is_just as just_in, number_in, metadata_in};
     ghost use Rattle.tus_steps.specs.Media.{has_patch_type as patch_type_in};
 
     /// Whether there is no such field.
@@ -24,17 +25,6 @@ impl Field<'_> {
         ensures { result ≡ absent_in (text_of self.now) }
     {
         matches!(self, Field::Absent)
-    }
-
-    /// Whether there is no such field, or one with no value.
-    pub fn is_blank(&self) -> bool
-        ensures { result ≡ blank_in (text_of self.now) }
-    {
-        match self {
-            Field::Absent => true,
-            Field::One(value) => value.is_empty(),
-            Field::Many => false,
-        }
     }
 
     /// Whether there is one such field, with just this value.
@@ -53,6 +43,20 @@ impl Field<'_> {
     {
         match self {
             Field::One(value) => read_number(value),
+            _ => None,
+        }
+    }
+
+    /// The metadata that the field tells, at most 1,024 bytes: empty where there is no such field or it
+    /// has no value, and else its value. It is None where that is no value of `Upload-Metadata`, and
+    /// where there are two or more.
+    pub fn metadata(&self) -> Option<&'a [u8]>
+        ensures value { option_copied result ≡ metadata_in (text_of self.now) }
+        ensures fits { IfSome result (λ value. length value.now ≤ METADATA_MAX) }
+    {
+        match self {
+            Field::Absent => Some(b""),
+            Field::One(value) if value.is_empty() || check_metadata(value) => Some(value),
             _ => None,
         }
     }

@@ -5,8 +5,12 @@ pub enum Method {
     Post,
     /// HEAD: what stands of an upload.
     Head,
+    /// GET: the bytes of an upload.
+    Get,
     /// PATCH: bytes for an upload.
     Patch,
+    /// OPTIONS: what the server can do.
+    Options,
     /// Any other, which is not served.
     Other,
 }

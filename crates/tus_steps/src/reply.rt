@@ -1,7 +1,7 @@
 use crate::method::Method;
 use crate::request::Request;
 use tus_text::Tenant;
-use upload_book::{Appended, Created, HeadRow, Moment, Refusal, Refused};
+use upload_book::{Appended, Content, Created, HeadRow, Moment, Refusal, Refused};
 
 /// What the path of a request names, as far as a reply tells it.
 #[derive(Clone, Copy, Debug, PartialEq, Eq)]
@@ -17,6 +17,11 @@ pub enum Place {
 /// The answer to a request.
 #[derive(Drop)]
 pub enum Reply {
+    /// 204: what the server can do. An upload has at most `max_size` bytes.
+    Options {
+        max_size: u64,
+    },
+
     /// 201: the upload was created under this name, and expires then, if it does.
     Created {
         tenant: Tenant,
@@ -26,6 +31,9 @@ pub enum Reply {
 
     /// 200: what stands of the upload.
     Head(HeadRow),
+
+    /// 200: the bytes of the upload.
+    Content(Content),
 
     /// 204: the bytes were taken. The upload has `offset` bytes now, and expires then, if it does.
     Patched {
@@ -46,7 +54,7 @@ pub enum Reply {
 impl Reply {
     ghost use Rattle.std.specs.Prelude.{◌≡◌};
     ghost use Rattle.tus_steps.specs.Request.{asked_of};
-    ghost use Rattle.tus_steps.specs.Step.{refusing, creation_reply, look_reply, append_reply};
+    ghost use Rattle.tus_steps.specs.Step.{refusing, creation_reply, look_reply, content_reply, append_reply};
 
     /// The reply that refuses the request, and tells when its upload expires.
     pub fn refusing(request: &Request, refusal: Refusal, expires: Option<Moment>) -> Reply
@@ -80,6 +88,16 @@ impl Reply {
     {
         match outcome {
             Ok(row) => Reply::Head(row),
+            Err(refusal) => Reply::refusing(request, refusal, None),
+        }
+    }
+
+    /// The reply to a GET.
+    pub fn to_content(request: &Request, outcome: Result<Content, Refusal>) -> Reply
+        ensures { result ≡ content_reply (asked_of request.now) outcome }
+    {
+        match outcome {
+            Ok(content) => Reply::Content(content),
             Err(refusal) => Reply::refusing(request, refusal, None),
         }
     }

@@ -38,7 +38,7 @@ impl<'a> Request<'a> {
     ghost use Rattle.tus_steps.specs.Step.{tenant_text, wish_of, piece_of};
     ghost use Rattle.upload_book.specs.Create.{wish_of as wish_value};
     ghost use Rattle.upload_book.specs.Append.{piece_of as piece_value};
-    ghost use Rattle.tus_steps.specs.Request.{asked_of, place_of, tenant_in, request_refusal, has_bad_field, has_bad_creation_field, has_bad_patch_field, allows};
+    ghost use Rattle.tus_steps.specs.Request.{asked_of, place_of, tenant_in, request_refusal, has_other_version, has_bad_field, has_bad_creation_field, tells_length, has_bad_patch_field, allows};
 
     /// What the path names, as far as a reply tells it.
     pub fn place(&self) -> Place
@@ -74,7 +74,7 @@ impl<'a> Request<'a> {
         }
     }
 
-    /// The upload that a creation asks for. Its length is told by the request.
+    /// The upload that a creation asks for. Its length is None where the request does not tell it yet.
     pub fn wish(&self) -> NewUpload<'a>
         ensures value { wish_value result ≡ wish_of (asked_of self.now) }
         ensures metadata { length result.metadata.now ≤ METADATA_MAX }
@@ -83,7 +83,7 @@ impl<'a> Request<'a> {
         NewUpload {
             partial: false,
             length: self.length.number(),
-            metadata: b"",
+            metadata: self.metadata.metadata().unwrap_or(b""),
             concat: b"",
         }
     }
@@ -101,11 +101,12 @@ impl<'a> Request<'a> {
     }
 
     /// Why the request is refused before the book is asked: the first that applies of Version, Path,
-    /// Tenant, Method and Field. `tenant` is the place of its tenant, if there is one.
+    /// Tenant, Method and Field. `tenant` is the place of its tenant, if there is one. OPTIONS is
+    /// answered before this is asked.
     pub fn refusal(&self, tenant: Option<u8>) -> Option<Refusal>
         ensures { result ≡ request_refusal tenant (asked_of self.now) }
     {
-        if !self.version.is_just(VERSION) {
+        if self.has_other_version() {
             Some(Refusal::Version)
         } else if matches!(self.path, Path::Other) {
             Some(Refusal::Path)
@@ -120,13 +121,22 @@ impl<'a> Request<'a> {
         }
     }
 
+    // Whether the request does not name the version, and is no GET, which needs none.
+    fn has_other_version(&self) -> bool
+        ensures { result ≡ has_other_version (asked_of self.now) self.now.method }
+    {
+        self.method != Method::Get && !self.version.is_just(VERSION)
+    }
+
     // Whether the path allows the method.
     fn is_allowed(&self) -> bool
         ensures { result ≡ allows self.now.path self.now.method }
     {
         match &self.path {
             Path::Create { .. } => self.method == Method::Post,
-            Path::Upload { .. } => matches!(self.method, Method::Head | Method::Patch),
+            Path::Upload { .. } => {
+                matches!(self.method, Method::Head | Method::Get | Method::Patch)
+            }
             Path::Other => false,
         }
     }
@@ -138,17 +148,25 @@ impl<'a> Request<'a> {
         match self.method {
             Method::Post => self.has_bad_creation_field(),
             Method::Patch => self.has_bad_patch_field(),
-            Method::Head | Method::Other => false,
+            Method::Head | Method::Get | Method::Options | Method::Other => false,
         }
     }
 
     fn has_bad_creation_field(&self) -> bool
         ensures { result ≡ has_bad_creation_field (asked_of self.now) }
     {
-        let is_unserved = !self.defer.is_absent()
-            || !self.metadata.is_blank()
-            || !self.concat.is_absent();
-        self.length.number().is_none() || is_unserved || !self.body.is_empty()
+        let has_bad_metadata = self.metadata.metadata().is_none();
+        let has_concat = !self.concat.is_absent();
+        !self.tells_length() || has_bad_metadata || has_concat || !self.body.is_empty()
+    }
+
+    // Whether a creation tells its length, or that it will be told later, and not both.
+    fn tells_length(&self) -> bool
+        ensures { result ≡ tells_length (asked_of self.now) }
+    {
+        let has_length = self.defer.is_absent() && self.length.number().is_some();
+        let is_deferred = self.length.is_absent() && self.defer.is_just(b"1");
+        has_length || is_deferred
     }
 
     fn has_bad_patch_field(&self) -> bool

@@ -6,9 +6,12 @@ use std::test::Fail;
 use tus_text::read_path;
 use upload_book::{Book, Moment, Numbers, Refusal, Settings};
 
-/// What a reply tells, as numbers.
+/// What a reply tells, as numbers and bytes.
 #[derive(Clone, Copy, Debug, PartialEq, Eq)]
-enum Told {
+enum Told<'a> {
+    Options {
+        max_size: u64,
+    },
     Created {
         id: u64,
         expires: Option<u64>,
@@ -16,7 +19,9 @@ enum Told {
     Head {
         offset: u64,
         length: Option<u64>,
+        metadata: &'a [u8],
     },
+    Content(&'a [u8]),
     Patched {
         offset: u64,
         expires: Option<u64>,
@@ -28,8 +33,11 @@ enum Told {
     },
 }
 
-fn told_by(reply: &Reply) -> Told {
+fn told_by(reply: &Reply) -> Told<'_> {
     match reply {
+        Reply::Options { max_size } => Told::Options {
+            max_size: *max_size,
+        },
         Reply::Created { id, expires, .. } => Told::Created {
             id: *id,
             expires: expires.map(|end| end.secs()),
@@ -37,7 +45,9 @@ fn told_by(reply: &Reply) -> Told {
         Reply::Head(row) => Told::Head {
             offset: row.offset,
             length: row.declared,
+            metadata: row.metadata.as_slice(),
         },
+        Reply::Content(content) => Told::Content(content.as_slice()),
         Reply::Patched { offset, expires } => Told::Patched {
             offset: *offset,
             expires: expires.map(|end| end.secs()),
@@ -55,7 +65,7 @@ fn told_by(reply: &Reply) -> Told {
     }
 }
 
-fn refused(refusal: Refusal) -> Told {
+fn refused<'a>(refusal: Refusal) -> Told<'a> {
     Told::Refused {
         refusal,
         head: false,
@@ -103,6 +113,13 @@ fn creation<'a>(length: &'a [u8]) -> Request<'a> {
     }
 }
 
+fn with_metadata(metadata: Field) -> Request {
+    Request {
+        metadata,
+        ..creation(b"10")
+    }
+}
+
 fn patch<'a>(offset: &'a [u8], body: &'a [u8]) -> Request<'a> {
     Request {
         offset: Field::One(offset),
@@ -119,7 +136,7 @@ fn post<'a>(target: &[u8]) -> Request<'a> {
     }
 }
 
-fn at_offset(refusal: Refusal) -> Told {
+fn at_offset<'a>(refusal: Refusal) -> Told<'a> {
     Told::Refused {
         refusal,
         head: false,
@@ -153,6 +170,7 @@ fn an_upload_grows_to_its_end(rt: HostRuntime) -> Result<(), Fail> {
             Told::Head {
                 offset: 5,
                 length: Some(10),
+                metadata: b"",
             },
         ),
         (
@@ -215,6 +233,7 @@ fn each_reason_comes_in_its_order(rt: HostRuntime) -> Result<(), Fail> {
         (request(Method::Patch, b"/files/acme/01"), Refusal::Path),
         (request(Method::Other, b"/files/gamma/1"), Refusal::Tenant),
         (request(Method::Patch, b"/files/acme"), Refusal::Method),
+        (request(Method::Get, b"/files/acme"), Refusal::Method),
         (request(Method::Post, b"/files/acme/1"), Refusal::Method),
         (request(Method::Other, b"/files/acme/1"), Refusal::Method),
         (request(Method::Post, b"/files/acme"), Refusal::Field),
@@ -235,18 +254,15 @@ fn each_reason_comes_in_its_order(rt: HostRuntime) -> Result<(), Fail> {
         ),
         (
             Request {
-                metadata: Field::One(b"a"),
-                ..creation(b"10")
+                defer: Field::One(b"2"),
+                ..request(Method::Post, b"/files/acme")
             },
             Refusal::Field,
         ),
-        (
-            Request {
-                metadata: Field::Many,
-                ..creation(b"10")
-            },
-            Refusal::Field,
-        ),
+        (with_metadata(Field::Many), Refusal::Field),
+        (with_metadata(Field::One(b"a YQ==,a")), Refusal::Field),
+        (with_metadata(Field::One(b"a YQ")), Refusal::Field),
+        (with_metadata(Field::One(b"a,,b")), Refusal::Field),
         (
             Request {
                 concat: Field::One(b"partial"),
@@ -281,6 +297,79 @@ fn each_reason_comes_in_its_order(rt: HostRuntime) -> Result<(), Fail> {
     for (request, refusal) in &rows {
         let reply = answer(&mut book, request, now);
         assert_eq!(rt; told_by(&reply), refused(*refusal));
+    }
+    Ok(())
+}
+
+#[test]
+fn options_are_told_before_all_else(rt: HostRuntime) -> Result<(), Fail> {
+    let mut book = book(rt.alloc())?;
+    let rows = [
+        (Field::Absent, b"/files/acme".as_slice()),
+        (Field::One(b"0.2.2".as_slice()), b"/other".as_slice()),
+    ];
+    for (version, target) in rows {
+        let asked = Request {
+            version,
+            ..request(Method::Options, target)
+        };
+        let reply = answer(&mut book, &asked, at(1000)?);
+        assert_eq!(rt; told_by(&reply), Told::Options { max_size: 64 });
+    }
+    Ok(())
+}
+
+#[test]
+fn a_head_tells_what_was_created(rt: HostRuntime) -> Result<(), Fail> {
+    let mut book = book(rt.alloc())?;
+    let now = at(1000)?;
+    let deferred = Request {
+        defer: Field::One(b"1"),
+        ..request(Method::Post, b"/files/acme")
+    };
+    let rows = [
+        (deferred, None, b"".as_slice()),
+        (
+            with_metadata(Field::One(b"a ,b")),
+            Some(10),
+            b"a ,b".as_slice(),
+        ),
+        (
+            with_metadata(Field::One(b"a YQ==,b")),
+            Some(10),
+            b"a YQ==,b".as_slice(),
+        ),
+    ];
+    let targets = [b"/files/acme/1", b"/files/acme/2", b"/files/acme/3"];
+    for ((creation, length, metadata), target) in rows.iter().zip(targets) {
+        answer(&mut book, creation, now);
+        let reply = answer(&mut book, &request(Method::Head, target), now);
+        let told = Told::Head {
+            offset: 0,
+            length: *length,
+            metadata,
+        };
+        assert_eq!(rt; told_by(&reply), told);
+    }
+    Ok(())
+}
+
+#[test]
+fn a_get_gives_the_bytes(rt: HostRuntime) -> Result<(), Fail> {
+    let mut book = book(rt.alloc())?;
+    let now = at(1000)?;
+    let get = request(Method::Get, b"/files/acme/1");
+    let unversioned = Request {
+        version: Field::Absent,
+        ..request(Method::Get, b"/files/acme/1")
+    };
+    answer(&mut book, &creation(b"5"), now);
+    let reply = answer(&mut book, &get, now);
+    assert_eq!(rt; told_by(&reply), refused(Refusal::Unfinished));
+    answer(&mut book, &patch(b"0", b"hello"), now);
+    for request in [get, unversioned] {
+        let reply = answer(&mut book, &request, now);
+        assert_eq!(rt; told_by(&reply), Told::Content(b"hello"));
     }
     Ok(())
 }
@@ -345,6 +434,7 @@ fn an_expired_upload_is_gone(rt: HostRuntime) -> Result<(), Fail> {
     let shown = Told::Head {
         offset: 0,
         length: Some(10),
+        metadata: b"",
     };
     assert_eq!(rt; told_by(&answer(&mut book, &head, at(4599)?)), shown);
     let renewed = Told::Patched {
@@ -358,6 +448,7 @@ fn an_expired_upload_is_gone(rt: HostRuntime) -> Result<(), Fail> {
     let shown = Told::Head {
         offset: 1,
         length: Some(10),
+        metadata: b"",
     };
     assert_eq!(rt; told_by(&answer(&mut book, &head, at(4600)?)), shown);
     Ok(())

@@ -12,11 +12,11 @@ use Rattle.tus_text.specs.Cut.{is_space, skip_spaces}
 use Rattle.tus_text.proofs.PositionLemmas.{slice_split-one}
 use Rattle.tus_text.specs.Concat.{part_of, join_cuts, words_of, parts_of, within_limit}
 
-join_cuts-empty : (parts : List (List ℕ)) → 0 < length parts → join_cuts ([] ∷ parts) ≡ join_cuts parts
+pub join_cuts-empty : (parts : List (List ℕ)) → 0 < length parts → join_cuts ([] ∷ parts) ≡ join_cuts parts
 join_cuts-empty [] some = absurd (omega arith)
 join_cuts-empty (part ∷ parts) some = refl
 
-join_cuts-word : (word : List ℕ) (parts : List (List ℕ)) → 0 < length word → 0 < length parts → join_cuts (word ∷ parts) ≡ word ∷ join_cuts parts
+pub join_cuts-word : (word : List ℕ) (parts : List (List ℕ)) → 0 < length word → 0 < length parts → join_cuts (word ∷ parts) ≡ word ∷ join_cuts parts
 join_cuts-word [] parts some more = absurd (omega arith)
 join_cuts-word (b ∷ word) [] some more = absurd (omega arith)
 join_cuts-word (b ∷ word) (part ∷ parts) some more = refl
@@ -81,12 +81,17 @@ pub joined-none : (parts : Option (List PartPath)) → joined [] parts ≡ parts
 joined-none None = refl
 joined-none (Some parts) = refl
 
+-- words whose first target names no part
+pub first-none : (front : List PartPath) (words others : List (List ℕ)) (target : List ℕ) → words ≡ target ∷ others → part_of target ≡ None → joined front (parts_of words) ≡ None
+first-none front words others target are none =
+    ap (λ words. joined front (parts_of words)) are
+    ∙ ap (λ part. joined front (option_and_then (λ p. option_map (λ parts. p ∷ parts) (parts_of others)) part)) none
+
 -- a first target that names no part
 pub parts-none : (front : List PartPath) (text target : List ℕ) → target ≡ before_first is_space (skip_spaces text) → part_of target ≡ None → joined front (parts_of (words_of text)) ≡ None
 parts-none front text target is none =
     let first = words-first text in
-    ap (λ words. joined front (parts_of words)) (first.1 ∙ ap (λ word. word ∷ first.0) (sym is))
-    ∙ ap (λ part. joined front (option_and_then (λ p. option_map (λ parts. p ∷ parts) (parts_of first.0)) part)) none
+    first-none front (words_of text) first.0 target (first.1 ∙ ap (λ word. word ∷ first.0) (sym is)) none
 
 pub within-fits : (parts : List PartPath) → length parts ≤ 32 → within_limit parts ≡ Some parts
 within-fits parts fits = grind (arith, nat_tests)
@@ -100,12 +105,16 @@ past-limit front part (Some more) full =
     within-past (front ++ part ∷ more) (omega (arith, length-append front (part ∷ more)))
 
 -- one more part than the limit
+pub first-full : (front : List PartPath) (words others : List (List ℕ)) (target : List ℕ) (part : PartPath) → words ≡ target ∷ others → part_of target ≡ Some part → 32 ≤ length front → option_and_then within_limit (joined front (parts_of words)) ≡ None
+first-full front words others target part are named full =
+    ap (λ words. option_and_then within_limit (joined front (parts_of words))) are
+    ∙ ap (λ p. option_and_then within_limit (joined front (option_and_then (λ q. option_map (λ parts. q ∷ parts) (parts_of others)) p))) named
+    ∙ past-limit front part (parts_of others) full
+
 pub parts-full : (front : List PartPath) (text target : List ℕ) (part : PartPath) → target ≡ before_first is_space (skip_spaces text) → part_of target ≡ Some part → 32 ≤ length front → option_and_then within_limit (joined front (parts_of (words_of text))) ≡ None
 parts-full front text target part is named full =
     let first = words-first text in
-    ap (λ words. option_and_then within_limit (joined front (parts_of words))) (first.1 ∙ ap (λ word. word ∷ first.0) (sym is))
-    ∙ ap (λ p. option_and_then within_limit (joined front (option_and_then (λ q. option_map (λ parts. q ∷ parts) (parts_of first.0)) p))) named
-    ∙ past-limit front part (parts_of first.0) full
+    first-full front (words_of text) first.0 target part (first.1 ∙ ap (λ word. word ∷ first.0) (sym is)) named full
 
 -- the last part
 pub parts-last : (front : List PartPath) (text target : List ℕ) (part : PartPath) → target ≡ before_first is_space (skip_spaces text) → part_of target ≡ Some part → length target ≡ length (skip_spaces text) → joined front (parts_of (words_of text)) ≡ Some (front ++ part ∷ [])
@@ -117,12 +126,16 @@ joined-more : (front : List PartPath) (part : PartPath) (parts : Option (List Pa
 joined-more front part None = refl
 joined-more front part (Some more) = ap Some (sym (append_assoc front (part ∷ []) more))
 
+pub first-more : (front : List PartPath) (words others : List (List ℕ)) (target : List ℕ) (part : PartPath) → words ≡ target ∷ others → part_of target ≡ Some part → joined front (parts_of words) ≡ joined (front ++ part ∷ []) (parts_of others)
+first-more front words others target part are named =
+    ap (λ words. joined front (parts_of words)) are
+    ∙ ap (λ p. joined front (option_and_then (λ q. option_map (λ parts. q ∷ parts) (parts_of others)) p)) named
+    ∙ joined-more front part (parts_of others)
+
 -- a part that more follow
 pub parts-more : (front : List PartPath) (text target after : List ℕ) (part : PartPath) → target ≡ before_first is_space (skip_spaces text) → after ≡ after_first is_space (skip_spaces text) → part_of target ≡ Some part → (length target ≡ length (skip_spaces text) → ⊥) → joined front (parts_of (words_of text)) ≡ joined (front ++ part ∷ []) (parts_of (words_of after))
 parts-more front text target after part is is_after named more =
-    ap (λ words. joined front (parts_of words)) (words-more text (λ whole. more (ap length is ∙ whole)) ∙ (λ i. sym is i ∷ words_of (sym is_after i)))
-    ∙ ap (λ p. joined front (option_and_then (λ q. option_map (λ parts. q ∷ parts) (parts_of (words_of after))) p)) named
-    ∙ joined-more front part (parts_of (words_of after))
+    first-more front (words_of text) (words_of after) target part (words-more text (λ whole. more (ap length is ∙ whole)) ∙ (λ i. sym is i ∷ words_of (sym is_after i))) named
 
 length-skip_spaces : (text : List ℕ) → length (skip_spaces text) ≤ length text
 length-skip_spaces [] = omega arith

@@ -24,7 +24,7 @@ pub struct PartPath {
 /// the list of them.
 #[derive(Drop)]
 pub struct Parts {
-    parts: ArrayVec<PartPath, 32>,
+    pub(crate) parts: ArrayVec<PartPath, 32>,
 }
 
 impl Model for Parts {

@@ -5,6 +5,7 @@ pub mod PlainBook
 pub mod Create
 pub mod Append
 pub mod Look
+pub mod Content
 pub mod Lawful
 pub mod Shelf
 pub mod Book

@@ -1,7 +1,7 @@
 -- The refusals of the steps, and the first of several tests that applies.
 use Rattle.std.specs.Prelude.{◌≡◌, ◌⊎◌, ℕ, Bool, List, [], ◌∷◌, Option, Some, None, Result, Ok, Err, codes, if◌then◌else◌}
 use Rattle.upload_book.specs.declared.refusal.Refusal.{Refusal}
-use Rattle.upload_book.specs.declared.refusal.Refusal.TheVariants.{Version, Path, Tenant, Method, Field, Unknown, Gone, IsFinal, Media, Offset, LengthFixed, TooLong, Uploads, Spent, Memory}
+use Rattle.upload_book.specs.declared.refusal.Refusal.TheVariants.{Version, Path, Tenant, Method, Field, Unknown, Gone, IsFinal, Media, Offset, LengthFixed, TooLong, Unfinished, Uploads, Spent, Memory}
 
 -- its place in the order of checking; the numbers left out are those of requests that are not served
 abbrev pub number_of : Refusal → ℕ
@@ -17,6 +17,7 @@ number_of Media = 9
 number_of Offset = 10
 number_of LengthFixed = 11
 number_of TooLong = 12
+number_of Unfinished = 15
 number_of Uploads = 16
 number_of Spent = 17
 number_of Memory = 20
@@ -35,6 +36,7 @@ word_of Media = codes "media"
 word_of Offset = codes "offset"
 word_of LengthFixed = codes "length-fixed"
 word_of TooLong = codes "too-long"
+word_of Unfinished = codes "unfinished"
 word_of Uploads = codes "uploads"
 word_of Spent = codes "spent"
 word_of Memory = codes "memory"
@@ -55,6 +57,7 @@ status_of Media = 415
 status_of Offset = 409
 status_of LengthFixed = 400
 status_of TooLong = 413
+status_of Unfinished = 409
 status_of Uploads = 507
 status_of Spent = 507
 status_of Memory = 503

@@ -4,6 +4,7 @@
 
 pub mod append;
 pub mod book;
+pub mod content;
 pub mod create;
 pub mod head_row;
 pub mod look;
@@ -17,6 +18,7 @@ mod tests;
 
 pub use append::{Appended, Chunk, Refused};
 pub use book::Book;
+pub use content::Content;
 pub use create::{Created, NewUpload};
 pub use head_row::{HeadRow, Kind, Name};
 pub use moment::Moment;

@@ -31,6 +31,8 @@ pub enum Refusal {
     LengthFixed,
     /// A length is above the greatest allowed, or the bytes go past the upload's length.
     TooLong,
+    /// The upload does not have all of its bytes yet, and a GET asks for them.
+    Unfinished,
     /// The tenant has as many uploads as the book keeps for one.
     Uploads,
     /// The tenant's ids are used up.
@@ -68,6 +70,7 @@ impl Refusal {
             Refusal::Offset => (10, "offset", 409),
             Refusal::LengthFixed => (11, "length-fixed", 400),
             Refusal::TooLong => (12, "too-long", 413),
+            Refusal::Unfinished => (15, "unfinished", 409),
             Refusal::Uploads => (16, "uploads", 507),
             Refusal::Spent => (17, "spent", 507),
             Refusal::Memory => (20, "memory", 503),

@@ -1,10 +1,12 @@
-ghost use Rattle.std.specs.Prelude.{◌≡◌, ◌≤◌, [], length, OnOk, OnErr};
+ghost use Rattle.std.specs.Prelude.{◌≡◌, ◌≤◌, [], length, Ok, OnOk, OnErr};
 ghost use Rattle.upload_book.specs.Append.{piece_of, differ, append_refusal, renewed, upload_after_append, reply_to};
+ghost use Rattle.upload_book.specs.Content.{content_told};
 ghost use Rattle.upload_book.specs.Create.{new_upload, wish_of};
 ghost use Rattle.upload_book.specs.Refusal.{IsAnswer};
 ghost use Rattle.upload_book.specs.Upload.{is_expired, head_row_of};
 
 use crate::append::{Appended, Chunk, Refused};
+use crate::content::Content;
 use crate::create::NewUpload;
 use crate::head_row::{HeadRow, Kind};
 use crate::moment::Moment;
@@ -111,6 +113,22 @@ impl Row {
             concat: self.concat.copied(),
             expires: self.expires,
         }
+    }
+
+    /// The bytes of the upload, copied. It is refused as Unfinished where the upload does not have all of
+    /// them, or else as Memory where the copy finds no room; an upload without bytes needs none.
+    pub(crate) fn content(&self, alloc: Global) -> Result<Content, Refusal>
+        ensures answer { IsAnswer (content_told self.now.upload) Refusal.Memory result }
+        ensures no_bytes { content_told self.now.upload ≡ Ok [] → result ≡ Ok [] }
+    {
+        if self.declared != Some(self.content.len() as u64) {
+            return Err(Refusal::Unfinished);
+        }
+        let mut bytes = Vec::new(alloc);
+        if bytes.extend_from_slice(&self.content).is_err() {
+            return Err(Refusal::Memory);
+        }
+        Ok(Content::of(bytes))
     }
 
     /// Adds the bytes of a PATCH at the end of the upload, which gets the length that the PATCH tells

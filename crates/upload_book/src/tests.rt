@@ -154,17 +154,31 @@ fn an_upload_is_told_its_length(rt: HostRuntime) -> Result<(), Fail> {
             Some(9),
             b"".as_slice(),
             refused(&rt, Refusal::Offset, Some(4600)),
+            (0, None),
         ),
-        (0, Some(5), b"abcde".as_slice(), appended(&rt, 5, None)),
+        (
+            0,
+            Some(5),
+            b"abcde".as_slice(),
+            appended(&rt, 5, None),
+            (5, Some(5)),
+        ),
         (
             5,
             Some(6),
             b"".as_slice(),
             refused(&rt, Refusal::LengthFixed, None),
+            (5, Some(5)),
         ),
-        (5, Some(5), b"".as_slice(), appended(&rt, 5, None)),
+        (
+            5,
+            Some(5),
+            b"".as_slice(),
+            appended(&rt, 5, None),
+            (5, Some(5)),
+        ),
     ];
-    for (offset, length, bytes, answer) in rows {
+    for (offset, length, bytes, answer, told) in rows {
         let chunk = Chunk {
             offset,
             length,
@@ -173,8 +187,43 @@ fn an_upload_is_told_its_length(rt: HostRuntime) -> Result<(), Fail> {
         };
         let name = Name { tenant: 0, id: 1 };
         assert_eq!(rt; book.append(&name, chunk, moment(&rt, 1000)), answer);
+        assert_eq!(rt; head(&rt, &book, 1, 1000), Ok(told));
     }
-    assert_eq!(rt; head(&rt, &book, 1, 1000), Ok((5, Some(5))));
+    Ok(())
+}
+
+#[test]
+fn contents(rt: HostRuntime) -> Result<(), Fail> {
+    let mut book = book_of(rt, NUMBERS)?;
+    for (id, length, expires) in [
+        (1, Some(5), Some(4600)),
+        (2, Some(0), None),
+        (3, None, Some(4600)),
+    ] {
+        let made = post(&rt, &mut book, length, 1000);
+        assert_eq!(rt; made, created(&rt, id, expires));
+    }
+    let rows = [
+        (1, 1000, Err(Refusal::Unfinished)),
+        (2, 9000, Ok(b"".as_slice())),
+        (3, 4599, Err(Refusal::Unfinished)),
+        (3, 4600, Err(Refusal::Gone)),
+        (4, 1000, Err(Refusal::Unknown)),
+    ];
+    for (id, secs, expected) in rows {
+        let name = Name { tenant: 0, id };
+        let content = book.content(&name, moment(&rt, secs));
+        let told = match &content {
+            Ok(content) => Ok(content.as_slice()),
+            Err(refusal) => Err(*refusal),
+        };
+        assert_eq!(rt; told, expected);
+    }
+    let finished = patch(&rt, &mut book, 1, 0, b"abcde", 1000);
+    assert_eq!(rt; finished, appended(&rt, 5, None));
+    let content = book.content(&Name { tenant: 0, id: 1 }, moment(&rt, 9000))?;
+    assert_eq!(rt; content.as_slice(), b"abcde".as_slice());
+    assert_eq!(rt; content.into_vec().as_slice(), b"abcde".as_slice());
     Ok(())
 }
 

@@ -118,7 +118,7 @@ Upload-Expires: Thu, 01 Jan 1970 01:16:40 GMT\r\nConnection: close\r\n\r\n";
 const WRONG_OFFSET: &[u8] = b"PATCH /files/acme/1 HTTP/1.1\r\nHost: x\r\nTus-Resumable: 1.0.0\r\n\
 Content-Type: application/offset+octet-stream\r\nUpload-Offset: 3\r\nContent-Length: 1\r\n\r\nx";
 
-const OFFSET: &[u8] = b"HTTP/1.1 409 Conflict\r\nDate: Thu, 01 Jan 1970 00:16:40 GMT\r\n\
+pub const OFFSET: &[u8] = b"HTTP/1.1 409 Conflict\r\nDate: Thu, 01 Jan 1970 00:16:40 GMT\r\n\
 Tus-Resumable: 1.0.0\r\nUpload-Expires: Thu, 01 Jan 1970 01:16:40 GMT\r\n\
 Content-Type: text/plain\r\nContent-Length: 7\r\n\r\noffset\n";
 
@@ -177,7 +177,7 @@ Date: Thu, 01 Jan 1970 00:16:40 GMT\r\nTus-Resumable: 1.0.0\r\nTus-Version: 1.0.
 Content-Type: text/plain\r\nContent-Length: 8\r\n\r\nversion\n";
 
 const METHOD: &[u8] = b"HTTP/1.1 405 Method Not Allowed\r\n\
-Date: Thu, 01 Jan 1970 00:16:40 GMT\r\nTus-Resumable: 1.0.0\r\nAllow: HEAD, PATCH\r\n\
+Date: Thu, 01 Jan 1970 00:16:40 GMT\r\nTus-Resumable: 1.0.0\r\nAllow: HEAD, GET, PATCH, OPTIONS\r\n\
 Content-Type: text/plain\r\nContent-Length: 7\r\n\r\nmethod\n";
 
 const UNKNOWN: &[u8] = b"HTTP/1.1 404 Not Found\r\nDate: Thu, 01 Jan 1970 00:16:40 GMT\r\n\
@@ -185,14 +185,14 @@ Tus-Resumable: 1.0.0\r\nCache-Control: no-store\r\nConnection: close\r\n\r\n";
 
 /// A conversation of some messages with a new upload, what it writes, and how it ends.
 #[derive(Clone, Copy)]
-struct Row {
-    name: &'static str,
-    sent: [&'static [u8]; 4],
-    written: [&'static [u8]; 4],
-    ended: Ended,
+pub struct Row {
+    pub name: &'static str,
+    pub sent: [&'static [u8]; 4],
+    pub written: [&'static [u8]; 4],
+    pub ended: Ended,
 }
 
-fn check_row(rt: &impl Abort, alloc: Global, row: &Row) -> Result<(), Fail> {
+pub fn check_row(rt: &impl Abort, alloc: Global, row: &Row) -> Result<(), Fail> {
     let sent = joined(alloc, &row.sent)?;
     let written = joined(alloc, &row.written)?;
     check(rt, alloc, row.name, &sent, &written, row.ended)
@@ -249,7 +249,7 @@ const WHOLE: [Row; 11] = [
     Row {
         name: "another version, and then a method that is not served",
         sent: [
-            b"OPTIONS * HTTP/1.1\r\nHost: x\r\nTus-Resumable: 0.2.2\r\n\r\n",
+            b"POST /files/acme HTTP/1.1\r\nHost: x\r\nTus-Resumable: 0.2.2\r\n\r\n",
             POST,
             b"DELETE /files/acme/1 HTTP/1.1\r\nHost: x\r\nTus-Resumable: 1.0.0\r\n\r\n",
             NONE,

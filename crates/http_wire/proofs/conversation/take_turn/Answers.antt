@@ -23,26 +23,26 @@ returns-in_err-front-clause-turn g c =
           (BreaksTurn-front c.args.now bytes f.1 b c.in_err-front.field-0.0 f.4),
     )
 
-pub returns-in_err-write_reply-in-Message-clause-turn : goal.returns-in_err-write_reply-in-Message-clause-turn
-returns-in_err-write_reply-in-Message-clause-turn g c =
-    let p = err_from_is_err_and c.from_residual-in_err-write_reply-in-Message.result c.from_residual-in_err-write_reply-in-Message.ensures.1 in
+pub returns-in_err-reply_to-in-Message-clause-turn : goal.returns-in_err-reply_to-in-Message-clause-turn
+returns-in_err-reply_to-in-Message-clause-turn g c =
+    let p = err_from_is_err_and c.from_residual-in_err-reply_to-in-Message.result c.from_residual-in_err-reply_to-in-Message.ensures.1 in
     let f = rw (c.max_size.ensures.value, c.in-Message.is) at c.in_ok-front.ensures.front in
     let b = c.args.book.now in
     let now = c.args.now in
     let parts = c.in-Message.parts in
     let a = c.read_front.new.inbox in
     let bytes = c.args.buffers.now.inbox.held ++ f.0 in
-    let reply = c.answer-reply.result in
-    let asked = c.request_in.ensures ∙ ap (request_at parts) c.lent.ensures in
-    let step = subst (λ x. IsStep b x now reply c.answer-reply.new.book) asked c.answer-reply.ensures.step in
-    let part = c.in_err-write_reply-in-Message.ensures.part in
-    let last = take part.0 (reply_text reply now parts.framing) in (
+    let told = c.in_err-reply_to-in-Message.ensures.part in
+    let reply = told.0 in
+    let asked = c.request_in-request.ensures ∙ ap (request_at parts) c.lent.ensures in
+    let step = subst (λ x. IsStep b x now reply c.reply_to.new.book) asked told.2 in
+    let last = take told.1 (reply_text reply now parts.framing) in (
       f.0,
       f.1 ++ last,
       f.2,
-      Appends-more _ _ _ f.1 last f.3 part.2,
-      TakesTurn-broken now bytes (f.1 ++ last) a.held b c.answer-reply.new.book c.from_residual-in_err-write_reply-in-Message.result p.0 Write p.1
-          (p.2 ∙ c.in_err-write_reply-in-Message.ensures.fault) (BreaksTurn-reply now part.0 bytes f.1 a parts b c.answer-reply.new.book reply f.4 step),
+      Appends-more _ _ _ f.1 last f.3 told.3,
+      TakesTurn-broken now bytes (f.1 ++ last) a.held b c.reply_to.new.book c.from_residual-in_err-reply_to-in-Message.result p.0 Write p.1
+          (p.2 ∙ c.in_err-reply_to-in-Message.ensures.fault) (BreaksTurn-reply now told.1 bytes f.1 a parts b c.reply_to.new.book reply f.4 step),
     )
 
 pub returns-in_err-write_refusal-in-Refused-clause-turn : goal.returns-in_err-write_refusal-in-Refused-clause-turn
@@ -71,15 +71,16 @@ returns-then-parts-clause-turn g c =
     let parts = c.in-Message.parts in
     let a = c.read_front.new.inbox in
     let bytes = c.args.buffers.now.inbox.held ++ f.0 in
-    let reply = c.answer-reply.result in
-    let asked = c.request_in.ensures ∙ ap (request_at parts) c.lent.ensures in
-    let step = subst (λ x. IsStep b x now reply c.answer-reply.new.book) asked c.answer-reply.ensures.step in
+    let told = c.in_ok-reply_to-in-Message.ensures.ok in
+    let reply = told.0 in
+    let asked = c.request_in-request.ensures ∙ ap (request_at parts) c.lent.ensures in
+    let step = subst (λ x. IsStep b x now reply c.reply_to.new.book) asked told.1 in
     let last = reply_text reply now parts.framing in (
       f.0,
       f.1 ++ last,
       f.2,
-      Appends-more _ _ _ f.1 last f.3 c.in_ok-write_reply-in-Message.ensures.ok,
-      λ rest _. Served-closed now bytes f.1 a parts b c.answer-reply.new.book reply f.4 step c.if-parts.true rest,
+      Appends-more _ _ _ f.1 last f.3 told.2,
+      λ rest _. Served-closed now bytes f.1 a parts b c.reply_to.new.book reply f.4 step c.if-parts.true rest,
     )
 
 pub returns-else-parts-clause-turn : goal.returns-else-parts-clause-turn
@@ -90,15 +91,16 @@ returns-else-parts-clause-turn g c =
     let parts = c.in-Message.parts in
     let a = c.read_front.new.inbox in
     let bytes = c.args.buffers.now.inbox.held ++ f.0 in
-    let reply = c.answer-reply.result in
-    let asked = c.request_in.ensures ∙ ap (request_at parts) c.lent.ensures in
-    let step = subst (λ x. IsStep b x now reply c.answer-reply.new.book) asked c.answer-reply.ensures.step in
+    let told = c.in_ok-reply_to-in-Message.ensures.ok in
+    let reply = told.0 in
+    let asked = c.request_in-request.ensures ∙ ap (request_at parts) c.lent.ensures in
+    let step = subst (λ x. IsStep b x now reply c.reply_to.new.book) asked told.1 in
     let last = reply_text reply now parts.framing in (
       f.0,
       f.1 ++ last,
       f.2,
-      Appends-more _ _ _ f.1 last f.3 c.in_ok-write_reply-in-Message.ensures.ok,
-      Served-stays now bytes f.1 a parts b c.answer-reply.new.book reply f.4 step c.if-parts.false,
+      Appends-more _ _ _ f.1 last f.3 told.2,
+      Served-stays now bytes f.1 a parts b c.reply_to.new.book reply f.4 step c.if-parts.false,
     )
 
 pub returns-in_ok-write_refusal-in-Refused-clause-turn : goal.returns-in_ok-write_refusal-in-Refused-clause-turn
@@ -125,7 +127,7 @@ returns-in-Ended-clause-turn g c =
     let a = c.read_front.new.inbox in
     let bytes = c.args.buffers.now.inbox.held ++ f.0 in
     let reply = c.answer.result in
-    let asked = c.request_in-in-CutPatch.ensures ∙ ap (request_at parts) c.lent-in-CutPatch.ensures in
+    let asked = c.request_in.ensures ∙ ap (request_at parts) c.lent-in-CutPatch.ensures in
     let step = subst (λ x. IsStep b x now reply c.answer.new.book) asked c.answer.ensures.step in
     (f.0, f.1, f.2, f.3, λ rest none. LastTurn-alone now bytes f.1 rest b c.answer.new.book ended.Cut (Served-cut_patch now bytes f.1 a parts c.in-CutPatch.why b c.answer.new.book reply f.4 step) none)
 
@@ -138,7 +140,7 @@ returns-in-Fault-clause-turn g c =
     let a = c.read_front.new.inbox in
     let bytes = c.args.buffers.now.inbox.held ++ f.0 in
     let reply = c.answer.result in
-    let asked = c.request_in-in-CutPatch.ensures ∙ ap (request_at parts) c.lent-in-CutPatch.ensures in
+    let asked = c.request_in.ensures ∙ ap (request_at parts) c.lent-in-CutPatch.ensures in
     let step = subst (λ x. IsStep b x now reply c.answer.new.book) asked c.answer.ensures.step in
     (f.0, f.1, f.2, f.3, (ended.Cut, tt, Served-cut_patch now bytes f.1 a parts c.in-CutPatch.why b c.answer.new.book reply f.4 step))
 

@@ -4,5 +4,4 @@ use Rattle.http_wire.proofs.reply.put_content_fields.Goals as goal
 
 pub returns-clause-text : goal.returns-clause-text
 unfolding content_fields
-returns-clause-text c =
-    rw (← c.is_empty.ensures, ← c.body_len.ensures) (joined _ _ _ _ _ c.put_line_if.ensures.text c.put_number_line.ensures.text)
+returns-clause-text c = joined _ _ _ _ _ c.put_text_line.ensures.text c.put_number_line.ensures.text

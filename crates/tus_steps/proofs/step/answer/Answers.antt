@@ -4,9 +4,18 @@ use Rattle.upload_book.specs.Create.{wish_of}
 use Rattle.upload_book.specs.PlainBook.{PlainBook}
 use Rattle.tus_steps.specs.declared.reply.Reply.{Reply}
 use Rattle.tus_steps.specs.Request.{asked_of}
-use Rattle.tus_steps.specs.Step.{Event, append, event_of, IsEventStep}
-use Rattle.tus_steps.proofs.StepLemmas.{append-step, append-settings, book_after_create-settings}
+use Rattle.tus_steps.specs.Step.{Event, content, append, event_of, IsEventStep}
+use Rattle.tus_steps.proofs.StepLemmas.{content-step, append-step, append-settings, book_after_create-settings}
 use Rattle.tus_steps.proofs.step.answer.Goals as goal
+
+pub returns-in-Content-clause-step : goal.returns-in-Content-clause-step
+returns-in-Content-clause-step c =
+    let b = c.args.book.now in
+    let a = asked_of c.args.request.now in
+    let made : content c.in-Content.name ≡ event_of b.settings a = c.in-Content.ensures.value ∙ ap (λ s. event_of s a) c.settings.ensures.value in
+    let step = content-step b a c.args.now c.in-Content.name c.content.result c.content.ensures.answer in
+    subst (λ (event : Event). IsEventStep b a c.args.now event c.to_content.result b) made
+    (subst (λ (r : Reply). IsEventStep b a c.args.now (content c.in-Content.name) r b) (sym c.to_content.ensures) step)
 
 pub returns-in-Append-clause-step : goal.returns-in-Append-clause-step
 returns-in-Append-clause-step c =

@@ -1,4 +1,3 @@
-use Rattle.std.proofs.Common.{◌≡◌}
 use Rattle.upload_book.proofs.SettingsLemmas.{max_size-within}
 use Rattle.upload_book.proofs.settings.Settings.numbers.Goals as goal
 

@@ -1,0 +1,219 @@
+"""Times `tus-server talk` and `cat` over the same files, and prints tables in Markdown.
+
+Arguments: the program, and a folder to work in, where one_byte_reads.so lies.
+"""
+
+import os
+import statistics
+import subprocess
+import sys
+import time
+
+KIB = 1024
+MIB = 1024 * KIB
+MESSAGES = 4096  # the most that a conversation has
+UPLOAD_MAX = 16 * MIB  # the greatest --max-size
+LETTERS = "abcdefghijklmnopqrstuvwxyz"
+RUNS = 9
+SLOW_RUNS = 5
+
+PROGRAM, WORK = sys.argv[1:3]
+SHIM = os.path.join(WORK, "one_byte_reads.so")
+COUNT = os.path.join(WORK, "reads")
+TALK = [PROGRAM, "talk", "--moment", "1000", "--max-size", str(UPLOAD_MAX), "acme:4096"]
+CAT = ["cat"]
+
+
+# ---- kinds of input: each function gives the bytes of a conversation and the replies that it gets
+
+
+def post(length):
+    return (
+        "POST /files/acme HTTP/1.1\r\nHost: x\r\nTus-Resumable: 1.0.0\r\n"
+        f"Upload-Length: {length}\r\n\r\n"
+    ).encode()
+
+
+def patch(upload, offset, body):
+    head = (
+        f"PATCH /files/acme/{upload} HTTP/1.1\r\nHost: x\r\nTus-Resumable: 1.0.0\r\n"
+        "Content-Type: application/offset+octet-stream\r\n"
+        f"Upload-Offset: {offset}\r\nContent-Length: {len(body)}\r\n\r\n"
+    )
+    return head.encode() + body
+
+
+def head(upload, padding):
+    field = f"X-Padding: {'x' * padding}\r\n" if padding else ""
+    return (
+        f"HEAD /files/acme/{upload} HTTP/1.1\r\nHost: x\r\nTus-Resumable: 1.0.0\r\n{field}\r\n"
+    ).encode()
+
+
+def patches(total, piece, upload_size):
+    """`total` bytes in pieces, into uploads of `upload_size` bytes, as far as the messages reach."""
+    text, upload, sent, replies = [], 0, 0, {"201": 0, "204": 0}
+    while sent < total:
+        if sent % upload_size == 0:
+            text.append(post(min(upload_size, total - sent)))
+            upload += 1
+            replies["201"] += 1
+        if len(text) == MESSAGES:
+            break
+        text.append(patch(upload, sent % upload_size, os.urandom(piece)))
+        sent += piece
+        replies["204"] += 1
+    return b"".join(text), replies
+
+
+def heads(number, padding=0):
+    """One POST, and then HEADs, each with a field of `padding` bytes that says nothing."""
+    return post(10) + number * head(1, padding), {"201": 1, "200": number}
+
+
+def creations(number, metadata):
+    """POSTs with this metadata. A tenant has at most 64 uploads, so the later ones are refused, after it was read."""
+    post = (
+        "POST /files/acme HTTP/1.1\r\nHost: x\r\nTus-Resumable: 1.0.0\r\nUpload-Length: 10\r\n"
+        f"Upload-Metadata: {metadata}\r\n\r\n"
+    ).encode()
+    return number * post, {"201": 64, "507": number - 64}
+
+
+def keys(number):
+    """Metadata of some keys, all different, filled up to 1,024 bytes by the last one."""
+    text = ",".join(f"{first}{second}" for first in LETTERS for second in LETTERS)[: 3 * number]
+    return text + "x" * (1024 - len(text))
+
+
+def gets(size):
+    """One upload, and 64 GETs of it."""
+    get = b"GET /files/acme/1 HTTP/1.1\r\nHost: x\r\n\r\n"
+    return post(size) + patch(1, 0, os.urandom(size)) + 64 * get, {"201": 1, "204": 1, "200": 64}
+
+
+# ---- a run
+
+
+def process(command, path, shim, output):
+    environment = dict(os.environ)
+    if shim:
+        environment.update(LD_PRELOAD=SHIM, ONE_BYTE_READS=COUNT)
+    with open(path, "rb") as source:
+        return subprocess.run(command, stdin=source, stdout=output, env=environment, check=True)
+
+
+def run(command, path, shim=False):
+    """The seconds from the start of the process to its end."""
+    start = time.perf_counter()
+    process(command, path, shim, subprocess.DEVNULL)
+    return time.perf_counter() - start
+
+
+def answer(path, shim=False):
+    """What `talk` writes."""
+    return process(TALK, path, shim, subprocess.PIPE).stdout
+
+
+def one_byte_reads():
+    with open(COUNT) as file:
+        return int(file.read())
+
+
+def written(text, replies, shim=False):
+    """The file of an input, whose conversation was seen to get the replies that it is to get."""
+    path = os.path.join(WORK, "input")
+    with open(path, "wb") as file:
+        file.write(text)
+    whole = answer(path)
+    for status, number in replies.items():
+        seen = whole.count(f"HTTP/1.1 {status} ".encode())
+        assert seen == number, f"{seen} replies {status}, and not {number}"
+    assert whole.count(b"HTTP/1.1 ") == sum(replies.values())
+    if shim:
+        assert answer(path, shim) == whole
+    return path
+
+
+def times(path, runs, shim=False):
+    """The times of the program and of `cat`, by turns."""
+    talk, cat = [], []
+    for _ in range(runs):
+        talk.append(run(TALK, path, shim))
+        if shim:
+            assert one_byte_reads() >= os.path.getsize(path)
+        cat.append(run(CAT, path, shim))
+    return talk, cat
+
+
+# ---- tables
+
+
+def milliseconds(seconds):
+    return f"{min(seconds) * 1000:.1f} ({statistics.median(seconds) * 1000:.1f})"
+
+
+def table(title, *columns):
+    print(f"\n{title}\n")
+    print("| " + " | ".join(columns) + " |")
+    print("|---" * len(columns) + "|", flush=True)
+
+
+def row(*cells):
+    print("| " + " | ".join(str(cell) for cell in cells) + " |", flush=True)
+
+
+def measure(title, inputs, runs, shim=False):
+    """A table of one kind of input; `inputs` has a label and a function for each row."""
+    table(
+        f"{title}, best of {runs} runs (and the median):",
+        "input", "messages", "MB", "`talk`, ms", "`cat`, ms", "`talk`, MB/s", "`talk`, messages/s", "`talk` / `cat`",
+        "times the row above",
+    )
+    before = None
+    for label, make in inputs:
+        text, replies = make()
+        path = written(text, replies, shim)
+        talk, cat = times(path, runs, shim)
+        best, messages = min(talk), sum(replies.values())
+        row(
+            label, messages, f"{len(text) / 1e6:.2f}", milliseconds(talk), milliseconds(cat),
+            rate(len(text) / 1e6 / best), rate(messages / best), f"{best / min(cat):.1f}",
+            f"{best / before:.1f}" if before else "",
+        )
+        before = best
+
+
+def rate(number):
+    return f"{number:.0f}" if number >= 100 else f"{number:.1f}"
+
+
+def size_name(size):
+    return f"{size // MIB} MiB" if size >= MIB else f"{size // KIB} KiB"
+
+
+def patch_rows(piece):
+    sizes = [MIB, 4 * MIB, 16 * MIB]
+    return [(size_name(size), lambda size=size: patches(size, piece, UPLOAD_MAX)) for size in sizes]
+
+
+def main():
+    path = written(b"", {})
+    talk, cat = times(path, RUNS)
+    print(f"An empty input, best of {RUNS} runs (and the median): `talk` {milliseconds(talk)} ms, `cat` {milliseconds(cat)} ms.")
+    for piece in [4 * KIB, 64 * KIB, MIB]:
+        measure(f"PATCHes of {size_name(piece)} into one upload", patch_rows(piece), RUNS)
+    measure("PATCHes of 64 KiB into uploads of 1 MiB", [("16 MiB", lambda: patches(16 * MIB, 64 * KIB, MIB))], RUNS)
+    small = [(f"{number} HEADs", lambda number=number: heads(number)) for number in [1023, 4095]]
+    measure("Small HEADs after one POST", small, RUNS)
+    metadata = [(f"{number + 1} keys", lambda number=number: creations(4096, keys(number))) for number in [0, 85, 170, 340]]
+    measure("POSTs with 1,024 bytes of metadata", metadata, RUNS)
+    contents = [(f"of {size_name(size)}", lambda size=size: gets(size)) for size in [4 * KIB, 64 * KIB, MIB]]
+    measure("64 GETs after one PATCH", contents, RUNS)
+    measure("PATCHes of 64 KiB into one upload, one byte a read", patch_rows(64 * KIB), SLOW_RUNS, shim=True)
+    measure("Small HEADs after one POST, one byte a read", small, SLOW_RUNS, shim=True)
+    long = [(f"{size} bytes a head", lambda size=size: heads(640_000 // size, size)) for size in [1000, 4000, 16_000]]
+    measure("HEADs with a long field, one byte a read", long, SLOW_RUNS, shim=True)
+
+
+main()

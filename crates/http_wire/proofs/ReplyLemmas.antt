@@ -1,0 +1,30 @@
+-- A reply is its page and then the bytes of an upload.
+use Rattle.std.proofs.Common.{◌≡◌, ℕ, List, ◌++◌, Bool, true, false, refl, sym, ap, ◌∙◌, append-nil, append_assoc}
+use Rattle.std.specs.Prelude.{◌||◌, ◌==◌}
+use Rattle.tus_steps.specs.declared.reply.Reply.{Reply}
+use Rattle.tus_steps.specs.declared.reply.Reply.TheVariants.{Options, Created, Head, Content, Patched, Refused}
+use Rattle.http_wire.specs.ReplyParts.{word_in, content_in, page_text, content_sent}
+use Rattle.http_wire.specs.ReplyText.{reply_head, reply_text, reply_status, body_in, body_sent, is_bare}
+use Rattle.http_wire.specs.declared.framing.Framing.{Framing}
+
+body_parts : (bare : Bool) (r : Reply) → body_sent (bare || reply_status r == 204) (body_in r) ≡ body_sent (bare || reply_status r == 204) (word_in r) ++ body_sent bare (content_in r)
+body_parts true r = refl
+body_parts false (Options max_size) = sym (append-nil _)
+body_parts false (Created tenant id expires) = sym (append-nil _)
+body_parts false (Head row) = sym (append-nil _)
+body_parts false (Content bytes) = refl
+body_parts false (Patched offset expires) = sym (append-nil _)
+body_parts false (Refused why head at expires) = sym (append-nil _)
+
+pub reply_text-parts : (r : Reply) (now : ℕ) (framing : Framing) → reply_text r now framing ≡ page_text r now framing ++ content_sent r framing
+unfolding reply_text
+reply_text-parts r now framing =
+    ap (λ l. reply_head r now framing ++ l) (body_parts framing.bare r)
+    ∙ sym (append_assoc (reply_head r now framing) (body_sent (is_bare framing (reply_status r)) (word_in r)) (content_sent r framing))
+
+-- a text, the page and the bytes of an upload, put together one after the other
+pub reply_text-joined : (r : Reply) (now : ℕ) (framing : Framing) (before page content first all : List ℕ) → page ≡ page_text r now framing → content ≡ content_sent r framing
+    → first ≡ before ++ page → all ≡ first ++ content → all ≡ before ++ reply_text r now framing
+reply_text-joined r now framing before page content first all p c h k =
+    let whole : page ++ content ≡ reply_text r now framing = rw (p, c) (sym (reply_text-parts r now framing)) in
+    k ∙ ap (λ l. l ++ content) h ∙ append_assoc before page content ∙ ap (λ l. before ++ l) whole

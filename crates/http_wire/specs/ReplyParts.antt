@@ -1,0 +1,25 @@
+-- How a reply is sent: what is put on a page, and after it the bytes of an upload, which are not copied.
+use Rattle.std.specs.Prelude.{ℕ, List, [], ◌++◌}
+use Rattle.upload_book.specs.Refusal.{word_of}
+use Rattle.tus_steps.specs.declared.reply.Reply.{Reply}
+use Rattle.tus_steps.specs.declared.reply.Reply.TheVariants.{Content, Refused}
+use Rattle.http_wire.specs.ReplyText.{reply_head, reply_status, is_bare, body_sent, word_body}
+use Rattle.http_wire.specs.declared.framing.Framing.{Framing}
+
+-- a body that is put on the page
+abbrev pub word_in : Reply → List ℕ
+word_in (Refused why head at expires) = word_body (word_of why)
+word_in _ = []
+
+-- a body that is not
+abbrev pub content_in : Reply → List ℕ
+content_in (Content bytes) = bytes
+content_in _ = []
+
+-- the page of a reply
+abbrev pub page_text : Reply → ℕ → Framing → List ℕ
+page_text r now framing = reply_head r now framing ++ body_sent (is_bare framing (reply_status r)) (word_in r)
+
+-- what follows the page
+abbrev pub content_sent : Reply → Framing → List ℕ
+content_sent r framing = body_sent framing.bare (content_in r)

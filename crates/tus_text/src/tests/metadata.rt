@@ -1,0 +1,46 @@
+use crate::plain::plain_metadata;
+use crate::*;
+
+#[test]
+fn metadata(rt: HostRuntime) {
+    let rows: [(&[u8], bool); 25] = [
+        (b"a ,b", true),
+        (b"a YQ==,b", true),
+        (b"filename d29ybGQucGRm,is_confidential", true),
+        (b" a YQ== , b ", true),
+        (b"a\t", true),
+        (b"a YQ==,A YQ==", true),
+        (b"a,a\t", true),
+        (b"a YWI=", true),
+        (b"a YWJj", true),
+        (b"", false),
+        (b" ", false),
+        (b"a,,b", false),
+        (b",a", false),
+        (b"a,", false),
+        (b"a YQ==,a", false),
+        (b"a, a ", false),
+        (b"a,b,c,b", false),
+        (b"a YQ", false),
+        (b"a YR==", false),
+        (b"a YWJ=", false),
+        (b"a YQ=a", false),
+        (b"a YQ==\t", false),
+        (b"a  YQ==", false),
+        (b"a YQ== YQ==", false),
+        (b"a\tYQ==,a\tYQ==", false),
+    ];
+    for (text, is_metadata) in rows {
+        assert_eq!(rt; check_metadata(text), is_metadata, "{text:?}");
+        assert_eq!(rt; plain_metadata(text), is_metadata, "{text:?}");
+    }
+}
+
+#[test]
+fn metadata_of_many_bytes(rt: HostRuntime) {
+    let text = [b'a'; METADATA_MAX + 1];
+    assert!(rt; check_metadata(&text[1..]));
+    assert!(rt; plain_metadata(&text[1..]));
+    assert!(rt; !check_metadata(&text));
+    assert!(rt; !plain_metadata(&text));
+}

@@ -1,0 +1,35 @@
+use crate::plain::plain_number;
+use crate::*;
+
+#[test]
+fn numbers(rt: HostRuntime) {
+    let rows: [(&[u8], Option<u64>); 14] = [
+        (b"10", Some(10)),
+        (b"0", Some(0)),
+        (b"00", Some(0)),
+        (b"", None),
+        (b"+5", None),
+        (b"-5", None),
+        (b" 5", None),
+        (b"5 ", None),
+        (b"5, 5", None),
+        (b"18446744073709551615", Some(u64::MAX)),
+        (b"18446744073709551616", None),
+        (b"18446744073709551620", None),
+        (b"123456789012345678901234567890", None),
+        (b"0000000000000000000000000000007", Some(7)),
+    ];
+    for (text, number) in rows {
+        assert_eq!(rt; read_number(text), number, "{text:?}");
+        assert_eq!(rt; plain_number(text), number, "{text:?}");
+    }
+}
+
+#[test]
+fn a_number_of_five_thousand_digits(rt: HostRuntime) {
+    let mut text = [b'0'; 5000];
+    text[4999] = b'7';
+    assert_eq!(rt; read_number(&text), Some(7));
+    text[0] = b'1';
+    assert_eq!(rt; read_number(&text), None);
+}

@@ -1,0 +1,63 @@
+ghost use Rattle.std.specs.Prelude.{◌≡◌, [], Ok};
+ghost use Rattle.upload_book.specs.Content.{content_answer};
+ghost use Rattle.upload_book.specs.Refusal.{IsAnswer};
+
+use crate::book::Book;
+use crate::head_row::Name;
+use crate::moment::Moment;
+use crate::refusal::Refusal;
+use std::marker::Model;
+
+/// The bytes of an upload, copied out of the book. A contract sees the list of them.
+#[derive(Drop)]
+pub struct Content {
+    bytes: Vec<u8>,
+}
+
+impl Model for Content {
+    ghost use Rattle.std.specs.Prelude.{List, ℕ};
+
+    ghost Value = { List ℕ };
+
+    ghost view = { λ c. c.bytes.items };
+}
+
+impl Content {
+    /// The content of these bytes.
+    pub(crate) fn of(bytes: Vec<u8>) -> Content
+        ensures { result ≡ bytes.items }
+    {
+        Content { bytes }
+    }
+
+    /// The bytes.
+    pub fn as_slice(&self) -> &[u8]
+        ensures { result.now ≡ self.now }
+    {
+        &self.bytes
+    }
+
+    /// The bytes as a vector, without copying them or taking memory.
+    pub fn into_vec(self) -> Vec<u8>
+        ensures { result.items ≡ self }
+    {
+        self.bytes
+    }
+}
+
+impl Book {
+    /// What a GET of an upload gives at `now`: its bytes, which are copied once.
+    ///
+    /// It is refused by the first of these that applies: Unknown where the id was never given, Gone
+    /// where the upload has ended or expired, and Unfinished where the upload does not have all of its
+    /// bytes; and where none of them does, as Memory where the copy finds no room. An upload without
+    /// bytes needs none.
+    pub fn content(&self, name: &Name, now: Moment) -> Result<Content, Refusal>
+        ensures answer { IsAnswer (content_answer self.now name.now now) Refusal.Memory result }
+        ensures no_bytes { content_answer self.now name.now now ≡ Ok [] → result ≡ Ok [] }
+    {
+        let place = self.place(name, now)?;
+        let shelf = &self.shelves[usize::from(name.tenant)];
+        shelf.rows[place].content(self.alloc)
+    }
+}
