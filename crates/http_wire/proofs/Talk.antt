@@ -1,11 +1,12 @@
 -- Turns one after another, and what follows them.
-use Rattle.std.proofs.Common.{◌≡◌, ℕ, ◌+◌, ◌<◌, IfErr, Result, Err, length, take, drop, get_or, take-append-drop, Bool, true, false, true≢false, List, [], ◌∷◌, ◌++◌, refl, sym, ap, ◌∙◌, subst, subst₂, inl, inr, append-nil, append_assoc}
+use Rattle.std.proofs.Common.{◌≡◌, ℕ, ◌+◌, ◌<◌, IfErr, Option, Some, None, Result, Err, length, take, drop, get_or, take-append-drop, Bool, true, false, true≢false, List, [], ◌∷◌, ◌++◌, refl, sym, ap, ◌∙◌, subst, subst₂, inl, inr, append-nil, append_assoc}
 use Rattle.std.proofs.lemmas.List.{drop_more}
+use Rattle.std.specs.Io.KnownBytes.{Appends, Consumes}
 use Rattle.upload_book.specs.PlainBook.{PlainBook}
 use Rattle.http_wire.specs.Conversation.{Conversation, Goes, continue_text}
 use Rattle.http_wire.specs.Front.{Front, message, IsFront}
 use Rattle.http_wire.specs.ReplyText.{reply_text}
-use Rattle.http_wire.specs.Turns.{Answered, Turns, FailsIn, BreaksOff, Breaks, BreaksTurn, Converses, LastTurn, MayFollow}
+use Rattle.http_wire.specs.Turns.{Answered, Turns, FailsIn, BreaksOff, Breaks, BreaksTurn, Converses, IsReadWhen, LastTurn, MayFollow}
 use Rattle.http_wire.specs.declared.conversation.Ended.{Ended}
 use Rattle.http_wire.specs.declared.conversation.Ended.TheVariants as ended
 use Rattle.http_wire.specs.declared.fault.WireFault.{WireFault}
@@ -103,3 +104,24 @@ moments_split moments i d h =
 -- what holds of an error that was passed up
 pub IfErr-from : {T : Type 0} (P : WireFault → Type 0) (r : Result T WireFault) (e e2 : WireFault) → r ≡ Err e → e ≡ e2 → P e2 → IfErr r P
 IfErr-from P r e e2 is same h = subst (λ x. IfErr x P) (sym is) (subst P (sym same) h)
+
+-- what follows the bytes that were read may follow them
+MayFollow-read : (e : Ended) (rest : List ℕ) → IsReadWhen e (Some rest) → MayFollow e rest
+MayFollow-read ended.Input rest h = h
+MayFollow-read ended.Closed rest h = tt
+MayFollow-read ended.Cut rest h = h
+MayFollow-read ended.Moments rest h = tt
+
+-- where the reader's bytes and the writer's are known, it is the conversation of all that the reader had
+pub Converses-known : (r0 r1 w0 w1 : Option (List ℕ)) (moments got text : List ℕ) (b b2 : PlainBook) (e : Ended) → Consumes r0 r1 got → Appends w0 w1 text → Converses moments got text b b2 e
+    → IsReadWhen e r1 → (input before : List ℕ) → r0 ≡ Some input → w0 ≡ Some before
+    → (text : List ℕ) × (w1 ≡ Some (before ++ text)) × Conversation moments input b text b2 e
+Converses-known r0 r1 w0 w1 moments got text b b2 e reads writes c end input before known kept =
+    by r1 w1 (rw known at reads) (rw kept at writes) end
+  where
+    by : (r w : Option (List ℕ)) → Consumes (Some input) r got → Appends (Some before) w text → IsReadWhen e r
+        → (text : List ℕ) × (w ≡ Some (before ++ text)) × Conversation moments input b text b2 e
+    by None w h k read = absurd h
+    by (Some rest) None h k read = absurd k
+    by (Some rest) (Some after) h k read =
+        (text, ap (λ l. Some l) k, subst (λ i. Conversation moments i b text b2 e) (sym h) (c rest (MayFollow-read e rest read)))

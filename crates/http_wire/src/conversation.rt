@@ -1,5 +1,6 @@
-ghost use Rattle.std.specs.Prelude.{◌≡◌, ◌≤◌, ◌++◌, ℕ, List, true, false, take, IfOk, IfErr, OnOk, OnErr};
+ghost use Rattle.std.specs.Prelude.{◌≡◌, ◌≤◌, ◌++◌, ℕ, List, Some, true, false, take, IfOk, IfErr, OnOk, OnErr};
 ghost use Rattle.std.specs.Io.KnownBytes.{Appends, Consumes};
+ghost use Rattle.http_wire.specs.Conversation.{Conversation};
 ghost use Rattle.http_wire.specs.HeadFound.{SeesEnd};
 ghost use Rattle.http_wire.specs.Turns.{Breaks, Converses, EndsTurnAtEnd, IsReadWhen, TakesTurn};
 ghost use Rattle.http_wire.specs.ReplyText.{reply_text};
@@ -46,6 +47,10 @@ pub fn converse<R: Source, W: Sink>(
 ) -> Result<Ended, WireFault>
     requires reader { R.has_failed reader.old ≡ false }
     requires writer { W.has_failed writer.old ≡ false }
+    ensures known { (input before : List ℕ) → R.remaining reader.old ≡ Some input
+        → W.contents writer.old ≡ Some before
+        → IfOk result (λ e. (text : List ℕ) × (W.contents writer.new ≡ Some (before ++ text))
+        × Conversation moments.now input book.old text book.new e) }
     ensures converses { IfOk result (λ e. (got text : List ℕ)
         × Consumes (R.remaining reader.old) (R.remaining reader.new) got
         × Appends (W.contents writer.old) (W.contents writer.new) text

@@ -2,8 +2,9 @@ use Rattle.std.proofs.Common.{◌≡◌, ◌+◌, ◌∷◌, ◌++◌, [], take,
 use Rattle.std.proofs.lemmas.List.{take_more}
 use Rattle.std.proofs.lemmas.Result.{err_from_is_err_and}
 use Rattle.http_wire.specs.Turns.{Breaks, Converses}
+use Rattle.http_wire.specs.declared.conversation.Ended.TheVariants as ended
 use Rattle.http_wire.proofs.AheadLemmas.{Appends-more, Consumes-more}
-use Rattle.http_wire.proofs.Talk.{Reached, Reached-more, Converses-last, Converses-all, Breaks-after, moments_split, IfErr-from}
+use Rattle.http_wire.proofs.Talk.{Reached, Reached-more, Converses-last, Converses-all, Breaks-after, Converses-known, moments_split, IfErr-from}
 use Rattle.http_wire.proofs.conversation.converse.Goals as goal
 
 pub returns-in_err-ended-clause-breaks : goal.returns-in_err-ended-clause-breaks
@@ -77,3 +78,14 @@ returns-clause-converses g c =
     let held = c.loop-moment.buffers.inbox.held in
     let all = subst (λ l. Reached l reached.0 c.args.book.now reached.1 c.loop-moment.book held) (take_all c.loop-moment.moment-index ms c.loop-moment-test.false) reached.4 in
     (reached.0, reached.1, reached.2, reached.3, Converses-all ms reached.0 c.args.book.now reached.1 c.loop-moment.book held all)
+
+pub returns-in-Some-clause-known : goal.returns-in-Some-clause-known
+returns-in-Some-clause-known g c input before known kept =
+    let told = returns-in-Some-clause-converses g c in
+    let read = (rw c.in-Some.is at c.in_ok-ended.ensures.end) c.loop-moment.invariant.end in
+    Converses-known _ _ _ _ c.args.moments.now told.0 told.1 c.args.book.now c.take_turn.new.book c.in-Some.ended told.2 told.3 told.4 read input before known kept
+
+pub returns-clause-known : goal.returns-clause-known
+returns-clause-known g c input before known kept =
+    let told = returns-clause-converses g c in
+    Converses-known _ _ _ _ c.args.moments.now told.0 told.1 c.args.book.now c.loop-moment.book ended.Moments told.2 told.3 told.4 tt input before known kept
