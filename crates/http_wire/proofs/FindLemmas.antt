@@ -1,13 +1,13 @@
 -- The search for a head, one read after another.
-use Rattle.std.proofs.Common.{◌≡◌, ◌⊎◌, ◌≢◌, Bool, ◌==◌, ℕ, suc, ◌+◌, ◌-◌, ◌<◌, ◌≤◌, min, true, false, List, [], ◌∷◌, ◌++◌, Result, Ok, Err, OnErr, length, take, drop, None, Some, option_map, refl, sym, ap, ap₂, ◌∙◌, arith, inl, inr, true≢false, ne_eqb, le-leb, length-append, append-nil, append_assoc, take-append-drop, length-drop, length-take-le, add-zero, zero-add, take_all}
-use Rattle.std.proofs.lemmas.Bool.{lt-leb}
+use Rattle.std.proofs.Common.{◌≡◌, ◌⊎◌, ◌≢◌, Bool, ◌==◌, ℕ, suc, ◌+◌, ◌-◌, ◌<◌, ◌≤◌, min, nat_le, if◌then◌else◌, true, false, List, [], ◌∷◌, ◌++◌, Result, Ok, Err, OnErr, length, take, drop, Option, None, Some, option_map, refl, sym, ap, ap₂, ◌∙◌, arith, inl, inr, true≢false, ne_eqb, le-leb, length-append, append-nil, append_assoc, take-append-drop, length-drop, length-take-le, add-zero, zero-add, take_all}
+use Rattle.std.proofs.lemmas.Bool.{cases_lt, lt-leb}
 use Rattle.std.proofs.lemmas.List.{take-append-le, drop-append-le}
 use Rattle.http_wire.specs.Ahead.{Ahead}
 use Rattle.http_wire.specs.HeadFound.{Skips, IsUnfinished}
-use Rattle.http_wire.specs.HeadText.{HeadText, whole, too_long, cut, head_limit, head_len_after, head_len, text_at, blank_len, head_text}
+use Rattle.http_wire.specs.HeadText.{HeadText, whole, too_long, cut, nothing, head_limit, head_len_after, head_len, text_at, blank_len, head_text}
 use Rattle.http_wire.specs.Scan.{scanned}
 use Rattle.http_wire.specs.declared.head_text.Scan.{Scan}
-use Rattle.http_wire.proofs.HeadTextLemmas.{head_len_after-append, head_len_after-later, text_at-long, text_at-min, blank_len-all, blank_len-some}
+use Rattle.http_wire.proofs.HeadTextLemmas.{head_len_after-append, head_len_after-pos, head_len_after-within, head_len_after-later, text_at-long, text_at-min, blank_len-all, blank_len-some}
 
 -- the head at the front of bytes before which some line ends were skipped
 abbrev pub head_from : ℕ → List ℕ → HeadText
@@ -233,3 +233,51 @@ some_grown (b ∷ held) got all some e none = cons (sym none ∙ e)
 -- no head ends in bytes that were all searched
 pub all_none : (held : List ℕ) (s : Scan) → Searched s (length held) held → head_len held ≡ None
 all_none held s h = ap head_len (sym (take_all (length held) held (omega arith))) ∙ h.none
+
+-- a head's text, where more bytes follow
+abbrev followed_text : List ℕ → HeadText → HeadText
+followed_text more (whole text rest) = whole text (rest ++ more)
+followed_text more too_long = too_long
+followed_text more cut = cut
+followed_text more nothing = nothing
+
+-- a whole head stays when more bytes follow
+pub head_text-append : (input more text rest : List ℕ) → head_text input ≡ whole text rest → head_text (input ++ more) ≡ whole text (rest ++ more)
+head_text-append input more text rest is =
+    by (head_len held) refl is
+  where
+    held : List ℕ
+    held = drop (blank_len input) input
+
+    long_or : (c : Bool) (other : HeadText) → (other ≡ whole text rest → ⊥) → (if c then too_long else other) ≡ whole text rest → ⊥
+    long_or true other never e = absurd cc
+    long_or false other never e = never e
+
+    is_nothing : nothing ≡ whole text rest → ⊥
+    is_nothing e = absurd cc
+
+    is_cut : cut ≡ whole text rest → ⊥
+    is_cut e = absurd cc
+
+    is_long : too_long ≡ whole text rest → ⊥
+    is_long e = absurd cc
+
+    endless : (bytes : List ℕ) → text_at (blank_len input) bytes None ≡ whole text rest → ⊥
+    endless [] e = long_or (nat_le head_limit (blank_len input)) nothing is_nothing e
+    endless (b ∷ bytes) e = long_or (nat_le head_limit (blank_len input + length (b ∷ bytes))) cut is_cut e
+
+    kept : (n : ℕ) → head_len held ≡ Some n → blank_len input + n ≤ head_limit → whole (take n held) (drop n held) ≡ whole text rest → head_text (input ++ more) ≡ whole text (rest ++ more)
+    kept n len short same =
+        let some = head_len_after-pos 0 0 held n len in
+        let within = head_len_after-within 0 0 held n len in
+        let found = FindsSoFar-found (input ++ []) input 0 (SkipsSoFar-start input) (omega (arith, some, within)) in
+        let stays = IsFound-whole (input ++ []) held (0 + blank_len input) n found len within (omega (arith, short)) more in
+        ap (λ l. head_text (l ++ more)) (sym (append-nil input)) ∙ stays ∙ ap (followed_text more) same
+
+    by : (r : Option ℕ) → head_len held ≡ r → text_at (blank_len input) held r ≡ whole text rest → head_text (input ++ more) ≡ whole text (rest ++ more)
+    by None len e = absurd (endless held e)
+    by (Some n) len e =
+        elim (cases_lt head_limit (blank_len input + n)) [
+          | inl long ↦ absurd (is_long (rw (lt-leb (blank_len input + n) head_limit long) at e))
+          | inr short ↦ kept n len short (rw (le-leb (blank_len input + n) head_limit short) at e)
+        ]

@@ -1,22 +1,26 @@
 -- What a head with a body begins.
-use Rattle.std.proofs.Common.{◌≡◌, ℕ, ◌+◌, ◌<◌, ◌≤◌, true, false, nat_le, if◌then◌else◌, List, [], ◌++◌, length, take, drop, Some, Result, Ok, Err, refl, sym, ap, ◌∙◌, subst, subst₂, arith, inl, inr, le-leb, append-nil, append_assoc, length-append, length-drop, length-take-le, take-take, drop-drop}
-use Rattle.std.proofs.lemmas.Bool.{lt-leb, cases_Bool}
+use Rattle.std.proofs.Common.{◌≡◌, ℕ, ◌+◌, ◌<◌, ◌≤◌, Bool, true, false, true≢false, nat_le, if◌then◌else◌, List, [], ◌++◌, length, take, drop, Option, None, Some, Result, Ok, Err, refl, sym, ap, ◌∙◌, subst, subst₂, arith, inl, inr, le-leb, append-nil, append_assoc, length-append, length-drop, length-take-le, take-take, drop-drop}
+use Rattle.std.proofs.lemmas.Bool.{lt-leb, cases_Bool, cases_lt}
 use Rattle.std.proofs.lemmas.List.{take-append-le, drop-append-le, drop-take}
 use Rattle.httparse.specs.Grammar.{RequestHead}
+use Rattle.tus_steps.specs.Request.{Asked}
 use Rattle.http_wire.specs.Ahead.{Ahead}
 use Rattle.http_wire.specs.Conversation.{continue_text}
-use Rattle.http_wire.specs.Front.{Front, Begins, IsFront, message, refused, cut_patch, cut_other, clean_end, closing, framing_of, is_patch, method_in, is_waiting, request_of, with_body, parsed_front}
+use Rattle.http_wire.specs.Front.{Front, Begins, BeginsWhole, IsFront, LacksMemory, message, refused, cut_patch, cut_other, clean_end, closing, framing_of, unknown_framing, is_patch, method_in, is_waiting, request_of, with_body, judged, judged_front, parsed_front}
 use Rattle.http_wire.specs.FrontRead.{BeginsHead, ReadsFront}
 use Rattle.http_wire.specs.NextRead.{waits}
 use Rattle.http_wire.specs.HeadFound.{IsUnfinished}
 use Rattle.http_wire.specs.Shown.{Gives}
-use Rattle.http_wire.specs.HeadText.{whole, cut, head_text}
+use Rattle.http_wire.specs.HeadText.{HeadText, whole, too_long, cut, nothing, head_text, has_many_lines}
 use Rattle.http_wire.specs.Parts.{request_at, ShowsHead}
 use Rattle.http_wire.specs.declared.parts.Parts.{Parts}
-use Rattle.http_wire.specs.declared.refusal.WireRefusal.TheVariants.{Memory}
+use Rattle.http_wire.specs.declared.refusal.WireRefusal.{WireRefusal}
+use Rattle.http_wire.specs.declared.refusal.WireRefusal.TheVariants.{Memory, HeadSize}
+use Rattle.http_wire.specs.declared.framing.Framing.{Framing}
 use Rattle.http_wire.specs.declared.read.Front as read
 use Rattle.http_wire.specs.declared.fault.WireFault.{WireFault}
 use Rattle.http_wire.specs.declared.fault.WireFault.TheVariants.{Read, Write}
+use Rattle.http_wire.proofs.FindLemmas.{head_text-append}
 
 -- more bytes came
 pub BeginsHead-more : (max : ℕ) (bytes : List ℕ) (p : Parts) (held got all : List ℕ) → BeginsHead max bytes p held → p.head_len ≤ length held → all ≡ held ++ got
@@ -158,3 +162,81 @@ pub ReadsFront-unfinished : (max : ℕ) (bytes : List ℕ) (a : Ahead) (r : Resu
     → IsUnfinished bytes → ReadsFront max bytes [] a r
 ReadsFront-unfinished max bytes a r e is is_read (inl c) = rw (is, is_read) (inl (false, refl, IsFront-cut max bytes c))
 ReadsFront-unfinished max bytes a r e is is_read (inr n) = rw (is, is_read) (inr (refl, subst (λ t. Begins max t clean_end) (sym n) refl))
+
+-- what an input begins with, where more bytes follow a message
+abbrev pub followed : List ℕ → Front → Front
+followed more (message asked framing waiting rest) = message asked framing waiting (rest ++ more)
+followed more (refused why framing) = refused why framing
+followed more (cut_patch asked framing waiting) = cut_patch asked framing waiting
+followed more (cut_other waiting) = cut_other waiting
+followed more clean_end = clean_end
+
+-- it begins with a message
+abbrev pub is_message : Front → Bool
+is_message (message asked framing waiting rest) = true
+is_message (refused why framing) = false
+is_message (cut_patch asked framing waiting) = false
+is_message (cut_other waiting) = false
+is_message clean_end = false
+
+no_message : (f g : Front) → is_message f ≡ true → f ≡ g → is_message g ≡ false → ⊥
+no_message f g is same isnt = true≢false (sym is ∙ ap is_message same ∙ isnt)
+
+-- a body that the end cut off makes no message
+cut_message : (patch : Bool) (asked : Asked) (framing : Framing) (waiting : Bool) → is_message (if patch then cut_patch asked framing waiting else cut_other waiting) ≡ false
+cut_message true asked framing waiting = refl
+cut_message false asked framing waiting = refl
+
+with_body-followed : (h : RequestHead) (n : ℕ) (rest more : List ℕ) → is_message (with_body h n rest) ≡ true
+    → followed more (with_body h n rest) ≡ with_body h n (rest ++ more)
+with_body-followed h n rest more is =
+    elim (cases_lt (length rest) n) [
+      | inl short ↦ absurd (true≢false (sym is ∙ rw (lt-leb n (length rest) short) (cut_message _ _ _ _)))
+      | inr fits ↦
+          let long : n ≤ length (rest ++ more) = omega (arith, length-append rest more, fits) in
+          rw (le-leb n (length rest) fits, le-leb n (length (rest ++ more)) long, take-append-le n rest more fits, drop-append-le n rest more fits) refl
+    ]
+
+judged_front-followed : (h : RequestHead) (r : Result ℕ WireRefusal) (rest more : List ℕ) → is_message (judged_front h r rest) ≡ true
+    → followed more (judged_front h r rest) ≡ judged_front h r (rest ++ more)
+judged_front-followed h (Err why) rest more is = refl
+judged_front-followed h (Ok n) rest more is = with_body-followed h n rest more is
+
+parsed_front-followed : (max : ℕ) (h : Option RequestHead) (rest more : List ℕ) → is_message (parsed_front max h rest) ≡ true
+    → followed more (parsed_front max h rest) ≡ parsed_front max h (rest ++ more)
+parsed_front-followed max None rest more is = refl
+parsed_front-followed max (Some h) rest more is = judged_front-followed h (judged max h) rest more is
+
+-- no message is refused for want of memory
+lacks_none : (max : ℕ) (h : Option RequestHead) (f : Front) → is_message f ≡ true → LacksMemory max h f → ⊥
+lacks_none max None f is l = l
+lacks_none max (Some h) f is (inl same) = no_message f (refused Memory unknown_framing) is same refl
+lacks_none max (Some h) f is (inr l) = no_message f (refused Memory (closing (framing_of h))) is l.2 refl
+
+Begins-followed : (max : ℕ) (t : HeadText) (more : List ℕ) (f : Front) → is_message f ≡ true → Begins max t f
+    → (text rest : List ℕ) × (t ≡ whole text rest) × Begins max (whole text (rest ++ more)) (followed more f)
+Begins-followed max (whole text rest) more f is b = (
+  text,
+  rest,
+  refl,
+  elim (cases_Bool (has_many_lines text)) [
+    | inl many ↦ absurd (no_message f (refused HeadSize unknown_framing) is (rw many at b) refl)
+    | inr few ↦ rw few (kept (rw few at b))
+  ],
+)
+  where
+    kept : BeginsWhole max text rest f → BeginsWhole max text (rest ++ more) (followed more f)
+    kept w =
+        elim w.2 [
+          | inl same ↦ (w.0, w.1, inl (ap (followed more) same ∙ parsed_front-followed max w.0 rest more (ap is_message (sym same) ∙ is)))
+          | inr lacks ↦ absurd (lacks_none max w.0 f is lacks)
+        ]
+Begins-followed max too_long more f is b = absurd (no_message f (refused HeadSize unknown_framing) is b refl)
+Begins-followed max cut more f is b = absurd (no_message f (cut_other false) is b refl)
+Begins-followed max nothing more f is b = absurd (no_message f clean_end is b refl)
+
+-- a message stays when more bytes follow
+pub IsFront-followed : (max : ℕ) (input more : List ℕ) (f : Front) → is_message f ≡ true → IsFront max input f → IsFront max (input ++ more) (followed more f)
+IsFront-followed max input more f is front =
+    let b = Begins-followed max (head_text input) more f is front in
+    subst (λ t. Begins max t (followed more f)) (sym (head_text-append input more b.0 b.1 b.2)) b.3

@@ -25,6 +25,9 @@ head_len_after-append before last (b ∷ xs) ys n e =
       | inr f ↦ rw f (suc_kept (head_len_after last b xs) (head_len_after last b (xs ++ ys)) n (head_len_after-append last b xs ys) (rw f at e))
     ]
 
+some_is : {x y : ℕ} → Some x ≡ Some y → x ≡ y
+some_is e = cc
+
 -- a head has a byte
 pub head_len_after-pos : (before last : ℕ) (xs : List ℕ) (n : ℕ) → head_len_after before last xs ≡ Some n → 0 < n
 head_len_after-pos before last [] n e = absurd cc
@@ -34,15 +37,30 @@ head_len_after-pos before last (b ∷ xs) n e =
       | inr f ↦ by (head_len_after last b xs) (rw f at e)
     ]
   where
-    some : {x y : ℕ} → Some x ≡ Some y → x ≡ y
-    some e2 = cc
-
     one : Some 1 ≡ Some n → 0 < n
-    one e2 = omega (arith, some e2)
+    one e2 = omega (arith, some_is e2)
 
     by : (r : Option ℕ) → option_map suc r ≡ Some n → 0 < n
     by None e2 = absurd cc
-    by (Some m) e2 = omega (arith, some e2)
+    by (Some m) e2 = omega (arith, some_is e2)
+
+-- a head is within the bytes that it begins
+pub head_len_after-within : (before last : ℕ) (xs : List ℕ) (n : ℕ) → head_len_after before last xs ≡ Some n → n ≤ length xs
+head_len_after-within before last [] n e = absurd cc
+head_len_after-within before last (b ∷ xs) n e =
+    elim (cases_Bool (ends_empty_line before last b)) [
+      | inl t ↦ one (rw t at e)
+      | inr f ↦ by (head_len_after last b xs) (head_len_after-within last b xs) (rw f at e)
+    ]
+  where
+    one : Some 1 ≡ Some n → n ≤ length (b ∷ xs)
+    one e2 = omega (arith, some_is e2)
+
+    by : (r : Option ℕ) → ((m : ℕ) → r ≡ Some m → m ≤ length xs) → option_map suc r ≡ Some n → n ≤ length (b ∷ xs)
+    by None within e2 = absurd cc
+    by (Some m) within e2 =
+        let inside = within m refl in
+        omega (arith, inside, some_is e2)
 
 map_zero : (r : Option ℕ) → r ≡ option_map (λ n. 0 + n) r
 map_zero None = refl

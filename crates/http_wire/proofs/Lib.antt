@@ -4,6 +4,7 @@ pub mod FindLemmas
 pub mod FrontLemmas
 pub mod HeadLemmas
 pub mod HeadTextLemmas
+pub mod LawsLemmas
 pub mod NameLemmas
 pub mod PageLemmas
 pub mod RangeLemmas

@@ -11,6 +11,7 @@ use Rattle.http_wire.specs.declared.conversation.Ended.{Ended}
 use Rattle.http_wire.specs.declared.conversation.Ended.TheVariants as ended
 use Rattle.http_wire.specs.declared.fault.WireFault.{WireFault}
 use Rattle.http_wire.specs.declared.fault.WireFault.TheVariants.{Read, Write, Memory, Failed}
+use Rattle.http_wire.proofs.FrontLemmas.{IsFront-followed}
 
 -- a reply after which the connection stays open
 pub Goes-stays : (close : Bool) (first : List ℕ) (moments rest : List ℕ) (b : PlainBook) (text : List ℕ) (b2 : PlainBook) (e : Ended) → close ≡ false
@@ -35,6 +36,35 @@ Turns-Conversation (now ∷ before) after input b text b1 middle later b2 e t c 
     let whole : text ++ later ≡ (continue_text a.waiting ++ reply_text a.reply now a.framing) ++ (t.1 ++ later) =
     ap (λ l. l ++ later) (t.6 ∙ ap (λ l. l ++ t.1) a.wrote) ∙ append_assoc (continue_text a.waiting ++ reply_text a.reply now a.framing) t.1 later in
     (message a.asked a.framing a.waiting t.2, a.front, (a.reply, t.3, a.step, Goes-stays a.framing.close (continue_text a.waiting ++ reply_text a.reply now a.framing) (before ++ after) t.2 t.3 (text ++ later) b2 e a.stays (t.1 ++ later) whole rest))
+
+-- whole turns, and then more of them
+pub Turns-join : (before after input : List ℕ) (b : PlainBook) (text : List ℕ) (b1 : PlainBook) (middle later : List ℕ) (b2 : PlainBook) (rest : List ℕ)
+    → Turns before input b text b1 middle → Turns after middle b1 later b2 rest → Turns (before ++ after) input b (text ++ later) b2 rest
+Turns-join [] after input b text b1 middle later b2 rest t u =
+    rw t.1 (subst₂ (λ i x. Turns after i x later b2 rest) t.0 t.2 u)
+Turns-join (now ∷ before) after input b text b1 middle later b2 rest t u =
+    (t.0, t.1 ++ later, t.2, t.3, t.4, Turns-join before after t.2 t.3 t.1 b1 middle later b2 rest t.5 u, ap (λ l. l ++ later) t.6 ∙ append_assoc t.0 t.1 later)
+
+-- a turn stays when more bytes follow
+Answered-followed : (now : ℕ) (input more : List ℕ) (b : PlainBook) (text : List ℕ) (b2 : PlainBook) (rest : List ℕ) → Answered now input b text b2 rest
+    → Answered now (input ++ more) b text b2 (rest ++ more)
+Answered-followed now input more b text b2 rest a = record {
+  asked = a.asked;
+  framing = a.framing;
+  waiting = a.waiting;
+  reply = a.reply;
+  front = IsFront-followed b.settings.numbers.max_size input more (message a.asked a.framing a.waiting rest) refl a.front;
+  stays = a.stays;
+  step = a.step;
+  wrote = a.wrote;
+}
+
+-- whole turns stay when more bytes follow
+pub Turns-followed : (moments input more : List ℕ) (b : PlainBook) (text : List ℕ) (b2 : PlainBook) (rest : List ℕ) → Turns moments input b text b2 rest
+    → Turns moments (input ++ more) b text b2 (rest ++ more)
+Turns-followed [] input more b text b2 rest t = (ap (λ l. l ++ more) t.0, t.1, t.2)
+Turns-followed (now ∷ moments) input more b text b2 rest t =
+    (t.0, t.1, t.2 ++ more, t.3, Answered-followed now input more b t.0 t.3 t.2 t.4, Turns-followed moments t.2 more t.3 t.1 b2 rest t.5, t.6)
 
 -- one turn more
 pub Turns-snoc : (before : List ℕ) (now : ℕ) (input : List ℕ) (b : PlainBook) (text : List ℕ) (b1 : PlainBook) (middle first : List ℕ) (b2 : PlainBook) (rest : List ℕ)

@@ -7,6 +7,7 @@ pub mod FrontRead
 pub mod HeadFound
 pub mod HeadText
 pub mod Judge
+pub mod Laws
 pub mod Lent
 pub mod Message
 pub mod Next

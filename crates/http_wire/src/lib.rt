@@ -12,6 +12,7 @@ mod head_text;
 mod inbox;
 mod incoming;
 mod judge;
+pub mod laws;
 mod message;
 mod own_fields;
 mod page;

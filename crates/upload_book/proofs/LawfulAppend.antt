@@ -23,26 +23,33 @@ use Rattle.upload_book.proofs.FirstRefusal.{test-passed}
 use Rattle.upload_book.proofs.LawfulSteps.{IsUploadOf-beside}
 
 -- what is known of a PATCH that is not refused
-record IsAppendable (s : Limits) (u : Upload) (piece : Piece) : Type 0 where
-  own : is_final u.kind ≡ false
-  fits : is_too_long s (unwrap_or (or_else u.declared piece.length) s.numbers.max_size) (offset_of u + length piece.bytes) ≡ false
+pub record IsAppendable (s : Limits) (u : Upload) (piece : Piece) : Type 0 where
+  pub own : is_final u.kind ≡ false
+  pub typed : not piece.typed ≡ false
+  pub offset : not (eqb piece.offset (offset_of u)) ≡ false
+  pub fixed : differ u.declared piece.length ≡ false
+  pub fits : is_too_long s (unwrap_or (or_else u.declared piece.length) s.numbers.max_size) (offset_of u + length piece.bytes) ≡ false
 
 -- it is known where no refusal applies
-IsAppendable-from_none : (s : Limits) (u : Upload) (piece : Piece) → append_refusal s (head_row_of u) piece ≡ None → IsAppendable s u piece
+pub IsAppendable-from_none : (s : Limits) (u : Upload) (piece : Piece) → append_refusal s (head_row_of u) piece ≡ None → IsAppendable s u piece
 IsAppendable-from_none s u piece none =
     let own = test-passed (is_final u.kind) _ _ none in
     let typed = test-passed (not piece.typed) _ _ own.1 in
     let offset = test-passed (not (eqb piece.offset (offset_of u))) _ _ typed.1 in
     let fixed = test-passed (differ u.declared piece.length) _ _ offset.1 in
     let fits = test-passed (is_too_long s (unwrap_or (or_else u.declared piece.length) s.numbers.max_size) (offset_of u + length piece.bytes)) _ _ fixed.1 in
-    record { own = own.0; fits = fits.0 }
+    record { own = own.0; typed = typed.0; offset = offset.0; fixed = fixed.0; fits = fits.0 }
+
+-- and no refusal applies where it is known
+pub append_refusal-none : (s : Limits) (u : Upload) (piece : Piece) → IsAppendable s u piece → append_refusal s (head_row_of u) piece ≡ None
+append_refusal-none s u piece can = rw (can.own, can.typed, can.offset, can.fixed, can.fits) refl
 
 -- the bytes stand at the end
-content_of-append : (s : Limits) (u : Upload) (piece : Piece) (now : ℕ) → content_of (upload_after_append s u piece now) ≡ content_of u ++ piece.bytes
+pub content_of-append : (s : Limits) (u : Upload) (piece : Piece) (now : ℕ) → content_of (upload_after_append s u piece now) ≡ content_of u ++ piece.bytes
 content_of-append s u piece now = append-nil (content_of u ++ piece.bytes)
 
 -- and count for the offset
-offset_of-append : (s : Limits) (u : Upload) (piece : Piece) (now : ℕ) → offset_of (upload_after_append s u piece now) ≡ offset_of u + length piece.bytes
+pub offset_of-append : (s : Limits) (u : Upload) (piece : Piece) (now : ℕ) → offset_of (upload_after_append s u piece now) ≡ offset_of u + length piece.bytes
 offset_of-append s u piece now =
     ap length (content_of-append s u piece now) ∙ length-append (content_of u) piece.bytes
 
@@ -58,7 +65,7 @@ declared_tells (Some n) offset =
     elim (eqb_tells n offset) [ inl same ↦ inl (same.0, ap Some same.1) | inr differs ↦ inr (differs.0, λ is. differs.1 (cc)) ]
 
 -- the same of an upload
-complete_tells : (u : Upload) → ((is_complete u ≡ true) × IsComplete u) ⊎ ((is_complete u ≡ false) × (IsComplete u → ⊥))
+pub complete_tells : (u : Upload) → ((is_complete u ≡ true) × IsComplete u) ⊎ ((is_complete u ≡ false) × (IsComplete u → ⊥))
 complete_tells u = declared_tells u.declared (offset_of u)
 
 -- an upload that expires as its kind asks
@@ -93,7 +100,7 @@ IsUploadOf-append s part later u piece now can sound =
     }
 
 -- what holds of each entry's upload holds of that of an id
-upload_in-All : (P : Upload → Type 0) (entries : List Entry) (id : ℕ) (u : Upload) → All (λ (e : Entry). P e.upload) entries → upload_in entries id ≡ Some u → P u
+pub upload_in-All : (P : Upload → Type 0) (entries : List Entry) (id : ℕ) (u : Upload) → All (λ (e : Entry). P e.upload) entries → upload_in entries id ≡ Some u → P u
 upload_in-All P [] id u sound there = absurd (cc)
 upload_in-All P (e ∷ entries) id u sound there =
     let Q : Entry → Type 0 = λ e. P e.upload in

@@ -6,3 +6,4 @@ pub mod TenantLists
 pub mod LawfulAppend
 pub mod AppendLemmas
 pub mod SettingsLemmas
+pub mod LawsLemmas

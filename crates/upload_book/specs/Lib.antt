@@ -7,5 +7,6 @@ pub mod Append
 pub mod Look
 pub mod Content
 pub mod Lawful
+pub mod Laws
 pub mod Shelf
 pub mod Book

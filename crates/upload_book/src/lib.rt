@@ -7,6 +7,7 @@ pub mod book;
 pub mod content;
 pub mod create;
 pub mod head_row;
+pub mod laws;
 pub mod look;
 pub mod moment;
 pub mod refusal;

@@ -1,0 +1,8 @@
+use Rattle.http_wire.proofs.LawsLemmas.{inputs_join, turns_join}
+use Rattle.http_wire.proofs.laws.inputs_join.Goals as goal
+
+pub returns-clause-conversation : goal.returns-clause-conversation
+returns-clause-conversation c = inputs_join
+
+pub returns-clause-turns : goal.returns-clause-turns
+returns-clause-turns c = turns_join

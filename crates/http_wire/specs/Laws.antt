@@ -1,0 +1,37 @@
+-- Laws above the definitions: an input that comes in two parts, and what an input begins with.
+use Rattle.std.specs.Prelude.{◌≡◌, ◌⊎◌, ℕ, List, [], ◌++◌}
+use Rattle.upload_book.specs.PlainBook.{PlainBook}
+use Rattle.http_wire.specs.Conversation.{Conversation}
+use Rattle.http_wire.specs.Front.{Front, refused, IsFront}
+use Rattle.http_wire.specs.Turns.{Turns}
+use Rattle.http_wire.specs.declared.conversation.Ended.{Ended}
+use Rattle.http_wire.specs.declared.framing.Framing.{Framing}
+use Rattle.http_wire.specs.declared.refusal.WireRefusal.TheVariants.{Memory}
+
+-- Where some bytes are whole messages after which the connection stays open, a conversation over them and
+-- what comes later is the one over them, followed by one over what comes later from the book that they
+-- left, at the moments that are left.
+abbrev pub InputsJoin : Type 0
+InputsJoin =
+    (before after first later : List ℕ) (b : PlainBook) (text : List ℕ) (b1 : PlainBook) (more : List ℕ) (b2 : PlainBook) (e : Ended)
+    → Turns before first b text b1 [] → Conversation after later b1 more b2 e
+    → Conversation (before ++ after) (first ++ later) b (text ++ more) b2 e
+
+-- The same for whole messages followed by whole messages, so that an input may come in any number of parts.
+-- The later ones may leave a rest.
+abbrev pub TurnsJoin : Type 0
+TurnsJoin =
+    (before after first later : List ℕ) (b : PlainBook) (text : List ℕ) (b1 : PlainBook) (more : List ℕ) (b2 : PlainBook) (rest : List ℕ)
+    → Turns before first b text b1 [] → Turns after later b1 more b2 rest
+    → Turns (before ++ after) (first ++ later) b (text ++ more) b2 rest
+
+-- the refusal for want of memory
+abbrev pub RefusesForMemory : Front → Type 0
+RefusesForMemory f = (framing : Framing) × (f ≡ refused Memory framing)
+
+-- An input begins with one thing, and with no other: with the one message that its first bytes are, or with
+-- the one reason why there is none. But there may be no memory for it, and then that is the reason.
+abbrev pub OneFront : Type 0
+OneFront =
+    (max : ℕ) (input : List ℕ) (f g : Front) → IsFront max input f → IsFront max input g
+    → (f ≡ g) ⊎ (RefusesForMemory f ⊎ RefusesForMemory g)

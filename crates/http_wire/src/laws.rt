@@ -1,0 +1,17 @@
+//! Laws of the definitions that the contracts cite: each is the contract of a function that does
+//! nothing, and holds of every input.
+ghost use Rattle.http_wire.specs.Laws.{InputsJoin, OneFront, TurnsJoin};
+
+/// An input may come in parts. Where some bytes are whole messages after which the connection stays
+/// open, a conversation goes on with what comes later as one that begins there does, from the book
+/// that they left; and whole messages that come later only make more whole messages.
+pub fn inputs_join()
+    ensures conversation { InputsJoin }
+    ensures turns { TurnsJoin }
+{}
+
+/// What an input begins with is determined by its bytes and the greatest length of a body, but for a
+/// refusal for want of memory.
+pub fn one_front()
+    ensures { OneFront }
+{}
