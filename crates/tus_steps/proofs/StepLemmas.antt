@@ -1,5 +1,5 @@
 -- What the book's answers say of the step.
-use Rattle.std.proofs.Common.{◌≡◌, ℕ, List, Option, Some, None, Result, Ok, Err, IsOk, OnOk, OnErr, inl, inr, refl, sym, ap, ◌∙◌, subst}
+use Rattle.std.proofs.Common.{◌≡◌, ℕ, List, [], Option, Some, None, Result, Ok, Err, IsOk, OnOk, OnErr, inl, inr, refl, sym, ap, ◌∙◌, subst}
 use Rattle.upload_book.specs.declared.append.Appended.{Appended}
 use Rattle.upload_book.specs.declared.append.Refused.{Refused}
 use Rattle.upload_book.specs.declared.head_row.Name.{Name}
@@ -15,26 +15,33 @@ use Rattle.upload_book.proofs.AppendLemmas.{book_after_append-refused}
 use Rattle.tus_steps.specs.Request.{Asked}
 use Rattle.tus_steps.specs.Step.{content, append, content_reply, append_reply, IsEventStep}
 
-step_by : (b : PlainBook) (a : Asked) (now : ℕ) (name : Name) (piece : Piece) (x : Result Appended Refused) → append_answer b name piece now ≡ x → (result : Result Appended Refused) (after : PlainBook) → IsAnswer x (no_memory b name now) result → OnOk result (after ≡ book_after_append b name piece now) → OnErr result (after ≡ b) → IsEventStep b a now (append name piece) (append_reply a result) after
-step_by b a now name piece (Ok answer) is (Ok told) after (inl same) accepted refused = inl (ap (append_reply a) (same ∙ sym is), accepted)
-step_by b a now name piece (Ok answer) is (Err told) after (inl same) accepted refused = cc
-step_by b a now name piece (Ok answer) is (Ok told) after (inr lack) accepted refused = cc
-step_by b a now name piece (Ok answer) is (Err told) after (inr lack) accepted refused =
-    inr ((subst (λ r. IsOk r) (sym is) refl, ap (append_reply a) lack), refused)
-step_by b a now name piece (Err why) is (Ok told) after same accepted refused = cc
-step_by b a now name piece (Err why) is (Err told) after same accepted refused =
+not_both : {A E : Type 0} (answer : A) (why : E) → Err why ≡ Ok answer → ⊥
+not_both answer why same = absurd cc
+
+step_by : (b : PlainBook) (a : Asked) (now : ℕ) (name : Name) (piece : Piece) (x : Result Appended Refused) → append_answer b name piece now ≡ x → (result : Result Appended Refused) (after : PlainBook) → IsAnswer x (no_memory b name now) result → OnOk result (after ≡ book_after_append b name piece now) → OnErr result (after ≡ b)
+    → (piece.bytes ≡ [] → result ≡ append_answer b name piece now) → IsEventStep b a now (append name piece) (append_reply a result) after
+step_by b a now name piece (Ok answer) is (Ok told) after (inl same) accepted refused full = inl (ap (append_reply a) (same ∙ sym is), accepted)
+step_by b a now name piece (Ok answer) is (Err told) after (inl same) accepted refused full = cc
+step_by b a now name piece (Ok answer) is (Ok told) after (inr lack) accepted refused full = cc
+step_by b a now name piece (Ok answer) is (Err told) after (inr lack) accepted refused full =
+    inr ((subst (λ r. IsOk r) (sym is) refl, λ none. not_both answer told (full none ∙ is), ap (append_reply a) lack), refused)
+step_by b a now name piece (Err why) is (Ok told) after same accepted refused full = cc
+step_by b a now name piece (Err why) is (Err told) after same accepted refused full =
     inl (ap (append_reply a) (same ∙ sym is), refused ∙ sym (book_after_append-refused b name piece now why is))
 
-pub append-step : (b : PlainBook) (a : Asked) (now : ℕ) (name : Name) (piece : Piece) (result : Result Appended Refused) (after : PlainBook) → IsAnswer (append_answer b name piece now) (no_memory b name now) result → OnOk result (after ≡ book_after_append b name piece now) → OnErr result (after ≡ b) → IsEventStep b a now (append name piece) (append_reply a result) after
+pub append-step : (b : PlainBook) (a : Asked) (now : ℕ) (name : Name) (piece : Piece) (result : Result Appended Refused) (after : PlainBook) → IsAnswer (append_answer b name piece now) (no_memory b name now) result → OnOk result (after ≡ book_after_append b name piece now) → OnErr result (after ≡ b)
+    → (piece.bytes ≡ [] → result ≡ append_answer b name piece now) → IsEventStep b a now (append name piece) (append_reply a result) after
 append-step b a now name piece result after = step_by b a now name piece (append_answer b name piece now) refl result after
 
-content_by : (b : PlainBook) (a : Asked) (now : ℕ) (name : Name) (x : Result (List ℕ) Refusal) → content_answer b name now ≡ x → (result : Result (List ℕ) Refusal) → IsAnswer x refusal.Memory result → IsEventStep b a now (content name) (content_reply a result) b
-content_by b a now name (Ok answer) is result (inl same) = inl (ap (content_reply a) (same ∙ sym is), refl)
-content_by b a now name (Ok answer) is result (inr lack) =
-    inr ((subst (λ r. IsOk r) (sym is) refl, ap (content_reply a) lack), refl)
-content_by b a now name (Err why) is result same = inl (ap (content_reply a) (same ∙ sym is), refl)
+content_by : (b : PlainBook) (a : Asked) (now : ℕ) (name : Name) (x : Result (List ℕ) Refusal) → content_answer b name now ≡ x → (result : Result (List ℕ) Refusal) → IsAnswer x refusal.Memory result → (content_answer b name now ≡ Ok [] → result ≡ Ok [])
+    → IsEventStep b a now (content name) (content_reply a result) b
+content_by b a now name (Ok answer) is result (inl same) full = inl (ap (content_reply a) (same ∙ sym is), refl)
+content_by b a now name (Ok answer) is result (inr lack) full =
+    inr ((subst (λ r. IsOk r) (sym is) refl, λ none. not_both [] refusal.Memory (sym lack ∙ full none), ap (content_reply a) lack), refl)
+content_by b a now name (Err why) is result same full = inl (ap (content_reply a) (same ∙ sym is), refl)
 
-pub content-step : (b : PlainBook) (a : Asked) (now : ℕ) (name : Name) (result : Result (List ℕ) Refusal) → IsAnswer (content_answer b name now) refusal.Memory result → IsEventStep b a now (content name) (content_reply a result) b
+pub content-step : (b : PlainBook) (a : Asked) (now : ℕ) (name : Name) (result : Result (List ℕ) Refusal) → IsAnswer (content_answer b name now) refusal.Memory result → (content_answer b name now ≡ Ok [] → result ≡ Ok [])
+    → IsEventStep b a now (content name) (content_reply a result) b
 content-step b a now name result = content_by b a now name (content_answer b name now) refl result
 
 kept_if_refused-settings : (why : Option Refusal) (before after : PlainBook) → after.settings ≡ before.settings → (kept_if_refused why before after).settings ≡ before.settings

@@ -1,5 +1,5 @@
 -- The step of a request on the plain book: its reply, and the book after it.
-use Rattle.std.specs.Prelude.{◌≡◌, ◌⊎◌, ℕ, Bool, true, false, List, [], Option, Some, None, unwrap_or, Result, Ok, Err, IsOk}
+use Rattle.std.specs.Prelude.{◌≡◌, ◌≢◌, ◌⊎◌, ℕ, Bool, true, false, List, [], Option, Some, None, unwrap_or, Result, Ok, Err, IsOk}
 use Rattle.tus_text.specs.declared.path.Path.{Path}
 use Rattle.tus_text.specs.declared.path.Path.TheVariants as path
 use Rattle.upload_book.specs.declared.append.Appended.{Appended}
@@ -127,12 +127,13 @@ book_after_event b now (create tenant wish) = book_after_create b tenant wish no
 book_after_event b now (append name piece) = book_after_append b name piece now
 book_after_event b now _ = b
 
--- the event is a GET or a PATCH that the book would accept, and the reply refuses it for want of memory
+-- the event is a GET or a PATCH of some bytes that the book would accept, and the reply refuses it for
+-- want of memory
 abbrev pub LacksMemory : PlainBook → Asked → ℕ → Event → Reply → Type 0
 LacksMemory b a now (content name) r =
-    IsOk (content_answer b name now) × (r ≡ content_reply a (Err refusal.Memory))
+    IsOk (content_answer b name now) × (content_answer b name now ≢ Ok []) × (r ≡ content_reply a (Err refusal.Memory))
 LacksMemory b a now (append name piece) r =
-    IsOk (append_answer b name piece now) × (r ≡ append_reply a (Err (no_memory b name now)))
+    IsOk (append_answer b name piece now) × (piece.bytes ≢ []) × (r ≡ append_reply a (Err (no_memory b name now)))
 LacksMemory b a now _ r = ⊥
 
 -- the step of an event: this reply, and this book after it. For want of memory alone a GET or a PATCH

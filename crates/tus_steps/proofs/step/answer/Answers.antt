@@ -13,7 +13,7 @@ returns-in-Content-clause-step c =
     let b = c.args.book.now in
     let a = asked_of c.args.request.now in
     let made : content c.in-Content.name ≡ event_of b.settings a = c.in-Content.ensures.value ∙ ap (λ s. event_of s a) c.settings.ensures.value in
-    let step = content-step b a c.args.now c.in-Content.name c.content.result c.content.ensures.answer in
+    let step = content-step b a c.args.now c.in-Content.name c.content.result c.content.ensures.answer c.content.ensures.no_bytes in
     subst (λ (event : Event). IsEventStep b a c.args.now event c.to_content.result b) made
     (subst (λ (r : Reply). IsEventStep b a c.args.now (content c.in-Content.name) r b) (sym c.to_content.ensures) step)
 
@@ -25,7 +25,7 @@ returns-in-Append-clause-step c =
     let after = c.append-outcome.new.self in
     let asked = c.append-outcome.ensures in
     let made : append c.in-Append.name (piece_of c.in-Append.chunk) ≡ event_of b.settings a = c.in-Append.ensures.value ∙ ap (λ s. event_of s a) c.settings.ensures.value in
-    let step = append-step b a c.args.now c.in-Append.name (piece_of c.in-Append.chunk) result after asked.answer asked.accepted asked.refused in
+    let step = append-step b a c.args.now c.in-Append.name (piece_of c.in-Append.chunk) result after asked.answer asked.accepted asked.refused asked.no_bytes in
     subst (λ (event : Event). IsEventStep b a c.args.now event c.to_append.result after) made
     (subst (λ (r : Reply). IsEventStep b a c.args.now (append c.in-Append.name (piece_of c.in-Append.chunk)) r after) (sym c.to_append.ensures) step)
 
