@@ -206,7 +206,7 @@ def main():
     measure("PATCHes of 64 KiB into uploads of 1 MiB", [("16 MiB", lambda: patches(16 * MIB, 64 * KIB, MIB))], RUNS)
     small = [(f"{number} HEADs", lambda number=number: heads(number)) for number in [1023, 4095]]
     measure("Small HEADs after one POST", small, RUNS)
-    metadata = [(f"{number + 1} keys", lambda number=number: creations(4096, keys(number))) for number in [0, 85, 170, 340]]
+    metadata = [(f"keys: {number + 1}", lambda number=number: creations(4096, keys(number))) for number in [0, 85, 170, 340]]
     measure("POSTs with 1,024 bytes of metadata", metadata, RUNS)
     contents = [(f"of {size_name(size)}", lambda size=size: gets(size)) for size in [4 * KIB, 64 * KIB, MIB]]
     measure("64 GETs after one PATCH", contents, RUNS)
