@@ -241,9 +241,11 @@ followed_text more too_long = too_long
 followed_text more cut = cut
 followed_text more nothing = nothing
 
--- a whole head stays when more bytes follow
-pub head_text-append : (input more text rest : List ℕ) → head_text input ≡ whole text rest → head_text (input ++ more) ≡ whole text (rest ++ more)
-head_text-append input more text rest is =
+-- a whole head was found where the search for its end stops, and is no longer than a head may be
+pub whole_found : (input text rest : List ℕ) → head_text input ≡ whole text rest
+    → (n : ℕ) × (head_len (drop (blank_len input) input) ≡ Some n) × (blank_len input + n ≤ head_limit)
+    × (whole (take n (drop (blank_len input) input)) (drop n (drop (blank_len input) input)) ≡ whole text rest)
+whole_found input text rest is =
     by (head_len held) refl is
   where
     held : List ℕ
@@ -266,6 +268,24 @@ head_text-append input more text rest is =
     endless [] e = long_or (nat_le head_limit (blank_len input)) nothing is_nothing e
     endless (b ∷ bytes) e = long_or (nat_le head_limit (blank_len input + length (b ∷ bytes))) cut is_cut e
 
+    by : (r : Option ℕ) → head_len held ≡ r → text_at (blank_len input) held r ≡ whole text rest
+        → (n : ℕ) × (head_len held ≡ Some n) × (blank_len input + n ≤ head_limit) × (whole (take n held) (drop n held) ≡ whole text rest)
+    by None len e = absurd (endless held e)
+    by (Some n) len e =
+        elim (cases_lt head_limit (blank_len input + n)) [
+          | inl long ↦ absurd (is_long (rw (lt-leb (blank_len input + n) head_limit long) at e))
+          | inr short ↦ (n, len, short, rw (le-leb (blank_len input + n) head_limit short) at e)
+        ]
+
+-- a whole head stays when more bytes follow
+pub head_text-append : (input more text rest : List ℕ) → head_text input ≡ whole text rest → head_text (input ++ more) ≡ whole text (rest ++ more)
+head_text-append input more text rest is =
+    let w = whole_found input text rest is in
+    kept w.0 w.1 w.2 w.3
+  where
+    held : List ℕ
+    held = drop (blank_len input) input
+
     kept : (n : ℕ) → head_len held ≡ Some n → blank_len input + n ≤ head_limit → whole (take n held) (drop n held) ≡ whole text rest → head_text (input ++ more) ≡ whole text (rest ++ more)
     kept n len short same =
         let some = head_len_after-pos 0 0 held n len in
@@ -274,10 +294,17 @@ head_text-append input more text rest is =
         let stays = IsFound-whole (input ++ []) held (0 + blank_len input) n found len within (omega (arith, short)) more in
         ap (λ l. head_text (l ++ more)) (sym (append-nil input)) ∙ stays ∙ ap (followed_text more) same
 
-    by : (r : Option ℕ) → head_len held ≡ r → text_at (blank_len input) held r ≡ whole text rest → head_text (input ++ more) ≡ whole text (rest ++ more)
-    by None len e = absurd (endless held e)
-    by (Some n) len e =
-        elim (cases_lt head_limit (blank_len input + n)) [
-          | inl long ↦ absurd (is_long (rw (lt-leb (blank_len input + n) head_limit long) at e))
-          | inr short ↦ kept n len short (rw (le-leb (blank_len input + n) head_limit short) at e)
-        ]
+-- so the bytes are at most those of a head and what follows it
+pub whole_short : (input text rest : List ℕ) → head_text input ≡ whole text rest → length input ≤ head_limit + length rest
+whole_short input text rest is =
+    let w = whole_found input text rest is in
+    let held = drop (blank_len input) input in
+    let left : drop w.0 held ≡ rest = ap rest_of w.3 in
+    let count = ap length left in
+    omega (arith, w.2, count, length-drop w.0 held, length-drop (blank_len input) input)
+  where
+    rest_of : HeadText → List ℕ
+    rest_of (whole text after) = after
+    rest_of too_long = []
+    rest_of cut = []
+    rest_of nothing = []

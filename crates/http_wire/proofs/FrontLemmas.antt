@@ -179,7 +179,7 @@ is_message (cut_patch asked framing waiting) = false
 is_message (cut_other waiting) = false
 is_message clean_end = false
 
-no_message : (f g : Front) → is_message f ≡ true → f ≡ g → is_message g ≡ false → ⊥
+pub no_message : (f g : Front) → is_message f ≡ true → f ≡ g → is_message g ≡ false → ⊥
 no_message f g is same isnt = true≢false (sym is ∙ ap is_message same ∙ isnt)
 
 -- a body that the end cut off makes no message
@@ -208,7 +208,7 @@ parsed_front-followed max None rest more is = refl
 parsed_front-followed max (Some h) rest more is = judged_front-followed h (judged max h) rest more is
 
 -- no message is refused for want of memory
-lacks_none : (max : ℕ) (h : Option RequestHead) (f : Front) → is_message f ≡ true → LacksMemory max h f → ⊥
+pub lacks_none : (max : ℕ) (h : Option RequestHead) (f : Front) → is_message f ≡ true → LacksMemory max h f → ⊥
 lacks_none max None f is l = l
 lacks_none max (Some h) f is (inl same) = no_message f (refused Memory unknown_framing) is same refl
 lacks_none max (Some h) f is (inr l) = no_message f (refused Memory (closing (framing_of h))) is l.2 refl

@@ -1,11 +1,19 @@
 -- The laws of conversations, and of what an input begins with.
-use Rattle.std.proofs.Common.{◌≡◌, ◌⊎◌, ℕ, List, [], ◌++◌, Option, None, Some, refl, sym, ap, ◌∙◌, inl, inr}
-use Rattle.std.proofs.lemmas.Bool.{cases_Bool}
+use Rattle.std.proofs.Common.{◌≡◌, ◌≤◌, ◌⊎◌, ℕ, ◌+◌, true, false, List, [], ◌++◌, length, drop, Option, None, Some, Result, Ok, Err, refl, sym, ap, ◌∙◌, inl, inr, arith, le-leb, le-ltb, lt-ltb, length-drop}
+use Rattle.std.proofs.lemmas.Bool.{cases_Bool, cases_lt}
+use Rattle.std.specs.Prelude.{codes}
 use Rattle.httparse.specs.Grammar.{RequestHead}
 use Rattle.httparse.proofs.GrammarLemmas.{request_unique}
-use Rattle.http_wire.specs.Front.{Front, Begins, BeginsWhole, LacksMemory, Parses, closing, framing_of, unknown_framing, parsed_front}
+use Rattle.tus_steps.specs.Field.{FieldText, is_absent}
+use Rattle.http_wire.specs.Fields.{field_text}
+use Rattle.http_wire.specs.Front.{Front, message, refused, cut_patch, cut_other, clean_end, Begins, BeginsWhole, LacksMemory, Parses, closing, framing_of, unknown_framing, judged, judged_front, parsed_front, with_body}
 use Rattle.http_wire.specs.HeadText.{HeadText, whole, too_long, cut, nothing, head_text, has_many_lines}
-use Rattle.http_wire.specs.Laws.{InputsJoin, OneFront, RefusesForMemory, TurnsJoin}
+use Rattle.http_wire.specs.Judge.{is_host_wrong, body_len, judge, sized}
+use Rattle.http_wire.specs.Laws.{InputsJoin, MessagesAreShort, OneFront, RefusesForMemory, TurnsJoin}
+use Rattle.http_wire.specs.declared.refusal.WireRefusal.{WireRefusal}
+use Rattle.http_wire.specs.declared.refusal.WireRefusal.TheVariants.{Host, Coding, BodySize, Head, HeadSize}
+use Rattle.http_wire.proofs.FindLemmas.{whole_short}
+use Rattle.http_wire.proofs.FrontLemmas.{is_message, no_message, lacks_none}
 use Rattle.http_wire.proofs.Talk.{Turns-Conversation, Turns-followed, Turns-join}
 
 pub inputs_join : InputsJoin
@@ -54,3 +62,86 @@ Begins-unique max nothing f g b d = inl (b ∙ sym d)
 
 pub one_front : OneFront
 one_front max input f g b d = Begins-unique max (head_text input) f g b d
+
+-- what follows a message
+abbrev rest_of : Front → List ℕ
+rest_of (message asked framing waiting rest) = rest
+rest_of (refused why framing) = []
+rest_of (cut_patch asked framing waiting) = []
+rest_of (cut_other waiting) = []
+rest_of clean_end = []
+
+-- a body that is accepted is no longer than the greatest
+sized-bound : (max : ℕ) (told : Option ℕ) (n : ℕ) → sized max told ≡ Ok n → n ≤ max
+sized-bound max None n is = absurd cc
+sized-bound max (Some k) n is =
+    elim (cases_lt max k) [
+      | inl long ↦ absurd (no_length (rw (lt-ltb max k long) at is))
+      | inr fits ↦ omega (arith, fits, same (Ok k) refl (rw (le-ltb max k fits) at is))
+    ]
+  where
+    no_length : Err BodySize ≡ Ok n → ⊥
+    no_length e = absurd cc
+
+    same : (r : Result ℕ WireRefusal) → r ≡ Ok k → r ≡ Ok n → k ≡ n
+    same r x y = cc
+
+judge-bound : (max minor : ℕ) (host coding told : FieldText) (n : ℕ) → judge max minor host coding told ≡ Ok n → n ≤ max
+judge-bound max minor host coding told n is =
+    elim (cases_Bool (is_host_wrong minor host)) [
+      | inl wrong ↦ absurd (no_length Host (rw wrong at is))
+      | inr right ↦ elim (cases_Bool (is_absent coding)) [
+        | inl none ↦ sized-bound max (body_len told) n (rw none at rw right at is)
+        | inr some ↦ absurd (no_length Coding (rw some at rw right at is))
+      ]
+    ]
+  where
+    no_length : (why : WireRefusal) → Err why ≡ Ok n → ⊥
+    no_length why e = absurd cc
+
+-- the body of a message, and what follows it
+with_body-short : (max : ℕ) (h : RequestHead) (n : ℕ) (rest : List ℕ) (f : Front) → n ≤ max → is_message f ≡ true → f ≡ with_body h n rest → length rest ≤ max + length (rest_of f)
+with_body-short max h n rest f bound is same =
+    elim (cases_lt (length rest) n) [
+      | inl short ↦ omega (arith, short, bound)
+      | inr fits ↦
+          let left : rest_of f ≡ drop n rest = ap rest_of same ∙ rw (le-leb n (length rest) fits) refl in
+          omega (arith, ap length left, length-drop n rest, bound)
+    ]
+
+judged-short : (max : ℕ) (h : RequestHead) (r : Result ℕ WireRefusal) (rest : List ℕ) (f : Front) → judged max h ≡ r → is_message f ≡ true → f ≡ judged_front h r rest
+    → length rest ≤ max + length (rest_of f)
+judged-short max h (Err why) rest f is is_one same = absurd (no_message f (refused why (closing (framing_of h))) is_one same refl)
+judged-short max h (Ok n) rest f is is_one same =
+    let field = λ (name : List ℕ). field_text name h.fields in
+    with_body-short max h n rest f (judge-bound max h.minor (field (codes "host")) (field (codes "transfer-encoding")) (field (codes "content-length")) n is) is_one same
+
+parsed-short : (max : ℕ) (h : Option RequestHead) (rest : List ℕ) (f : Front) → is_message f ≡ true → f ≡ parsed_front max h rest → length rest ≤ max + length (rest_of f)
+parsed-short max None rest f is_one same = absurd (no_message f (refused Head unknown_framing) is_one same refl)
+parsed-short max (Some h) rest f is_one same = judged-short max h (judged max h) rest f refl is_one same
+
+Begins-short : (max : ℕ) (t : HeadText) (f : Front) → is_message f ≡ true → Begins max t f → (text rest : List ℕ) × (t ≡ whole text rest) × (length rest ≤ max + length (rest_of f))
+Begins-short max (whole text rest) f is_one b = (
+  text,
+  rest,
+  refl,
+  elim (cases_Bool (has_many_lines text)) [
+    | inl many ↦ absurd (no_message f (refused HeadSize unknown_framing) is_one (rw many at b) refl)
+    | inr few ↦ by (rw few at b)
+  ],
+)
+  where
+    by : BeginsWhole max text rest f → length rest ≤ max + length (rest_of f)
+    by w =
+        elim w.2 [
+          | inl same ↦ parsed-short max w.0 rest f is_one same
+          | inr lacks ↦ absurd (lacks_none max w.0 f is_one lacks)
+        ]
+Begins-short max too_long f is_one b = absurd (no_message f (refused HeadSize unknown_framing) is_one b refl)
+Begins-short max cut f is_one b = absurd (no_message f (cut_other false) is_one b refl)
+Begins-short max nothing f is_one b = absurd (no_message f clean_end is_one b refl)
+
+pub messages_are_short : MessagesAreShort
+messages_are_short max input asked framing waiting rest front =
+    let b = Begins-short max (head_text input) (message asked framing waiting rest) refl front in
+    omega (arith, whole_short input b.0 b.1 b.2, b.3)

@@ -1,8 +1,10 @@
 -- Laws above the definitions: an input that comes in two parts, and what an input begins with.
-use Rattle.std.specs.Prelude.{◌≡◌, ◌⊎◌, ℕ, List, [], ◌++◌}
+use Rattle.std.specs.Prelude.{◌≡◌, ◌≤◌, ◌⊎◌, ℕ, ◌+◌, Bool, List, [], ◌++◌, length}
 use Rattle.upload_book.specs.PlainBook.{PlainBook}
+use Rattle.tus_steps.specs.Request.{Asked}
 use Rattle.http_wire.specs.Conversation.{Conversation}
-use Rattle.http_wire.specs.Front.{Front, refused, IsFront}
+use Rattle.http_wire.specs.Front.{Front, message, refused, IsFront}
+use Rattle.http_wire.specs.HeadText.{head_limit}
 use Rattle.http_wire.specs.Turns.{Turns}
 use Rattle.http_wire.specs.declared.conversation.Ended.{Ended}
 use Rattle.http_wire.specs.declared.framing.Framing.{Framing}
@@ -24,6 +26,13 @@ TurnsJoin =
     (before after first later : List ℕ) (b : PlainBook) (text : List ℕ) (b1 : PlainBook) (more : List ℕ) (b2 : PlainBook) (rest : List ℕ)
     → Turns before first b text b1 [] → Turns after later b1 more b2 rest
     → Turns (before ++ after) (first ++ later) b (text ++ more) b2 rest
+
+-- A message takes no more bytes of the input than a head may have, with the line ends before it, and the
+-- greatest body.
+abbrev pub MessagesAreShort : Type 0
+MessagesAreShort =
+    (max : ℕ) (input : List ℕ) (asked : Asked) (framing : Framing) (waiting : Bool) (rest : List ℕ)
+    → IsFront max input (message asked framing waiting rest) → length input ≤ head_limit + max + length rest
 
 -- the refusal for want of memory
 abbrev pub RefusesForMemory : Front → Type 0

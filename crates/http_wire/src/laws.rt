@@ -1,6 +1,6 @@
 //! Laws of the definitions that the contracts cite: each is the contract of a function that does
 //! nothing, and holds of every input.
-ghost use Rattle.http_wire.specs.Laws.{InputsJoin, OneFront, TurnsJoin};
+ghost use Rattle.http_wire.specs.Laws.{InputsJoin, MessagesAreShort, OneFront, TurnsJoin};
 
 /// An input may come in parts. Where some bytes are whole messages after which the connection stays
 /// open, a conversation goes on with what comes later as one that begins there does, from the book
@@ -14,4 +14,9 @@ pub fn inputs_join()
 /// refusal for want of memory.
 pub fn one_front()
     ensures { OneFront }
+{}
+
+/// A message is at most 16,384 bytes of head, with the line ends before it, and the greatest body.
+pub fn messages_are_short()
+    ensures { MessagesAreShort }
 {}
