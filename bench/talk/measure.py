@@ -4,6 +4,7 @@ Arguments: the program, and a folder to work in, where one_byte_reads.so lies.
 """
 
 import os
+import random
 import statistics
 import subprocess
 import sys
@@ -81,8 +82,10 @@ def creations(number, metadata):
 
 
 def keys(number):
-    """Metadata of some keys, all different, filled up to 1,024 bytes by the last one."""
-    text = ",".join(f"{first}{second}" for first in LETTERS for second in LETTERS)[: 3 * number]
+    """Metadata of some keys, all different and in no order, filled up to 1,024 bytes by the last one."""
+    names = [f"{first}{second}" for first in LETTERS for second in LETTERS][:number]
+    random.Random(1).shuffle(names)
+    text = "".join(f"{name}," for name in names)
     return text + "x" * (1024 - len(text))
 
 

@@ -1,5 +1,6 @@
 pub mod ConcatLemmas
 pub mod DateLemmas
+pub mod DistinctLemmas
 pub mod MetadataLemmas
 pub mod NumberLemmas
 pub mod PathLemmas

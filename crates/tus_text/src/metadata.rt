@@ -1,14 +1,19 @@
-ghost use Rattle.std.specs.Prelude.{◌≡◌, ◌≤◌, length, map, IsTrue};
-ghost use Rattle.std.specs.List.{list_all, list_any};
-ghost use Rattle.std.specs.Str.{bytes_eq};
+ghost use Rattle.std.specs.Prelude.{◌≡◌, ◌≤◌, length, map, IsTrue, IsSorted};
+ghost use Rattle.std.specs.Cmp.Lexicographic.{slice_cmp};
+ghost use Rattle.std.specs.List.{list_all};
+ghost use Rattle.std.specs.Ordering.{nat_cmp};
 ghost use Rattle.tus_text.specs.Cut.{trim_spaces};
 ghost use Rattle.tus_text.specs.Metadata.{is_metadata, is_pair, is_value, pairs_of, key_of, are_distinct};
 
 use crate::cut::{split_at_first, trim_spaces};
+use arrayvec::ArrayVec;
 use base64::engine::general_purpose::STANDARD;
 
 /// The most bytes that the value of Upload-Metadata has.
 pub const METADATA_MAX: usize = 1024;
+
+// The most pairs in so many bytes: each takes a byte, and a comma before the next.
+const PAIRS_MAX: usize = METADATA_MAX / 2;
 
 /// Whether `text` is a value of Upload-Metadata (tus 1.0.0, creation), of 1 to [`METADATA_MAX`]
 /// bytes: one or more pairs between commas, each with any number of spaces round it. A pair is a key,
@@ -57,25 +62,40 @@ fn key_in(part: &[u8]) -> &[u8]
 
 // Whether the keys of the pairs differ.
 fn has_distinct_keys(text: &[u8]) -> bool
+    requires bound { length text.now ≤ METADATA_MAX }
+    requires pairs { IsTrue (list_all is_pair (pairs_of text.now)) }
     ensures { result ≡ are_distinct (map key_of (pairs_of text.now)) }
 {
+    let mut keys: ArrayVec<&[u8], PAIRS_MAX> = ArrayVec::new();
     let mut rest = text;
     loop {
         let (part, after) = split_at_first(rest, b',');
+        keys.push(key_in(part));
         if part.len() == rest.len() {
-            return true;
-        }
-        if has_key(after, key_in(part)) {
-            return false;
+            return are_distinct(keys.as_mut_slice());
         }
         rest = after;
     }
 }
 
-// Whether one of the pairs has this key.
-fn has_key(text: &[u8], key: &[u8]) -> bool
-    ensures { result ≡ list_any (bytes_eq key.now) (map key_of (pairs_of text.now)) }
+// Whether no two of the keys are equal. It may change their order: it sorts them, so that no text
+// takes quadratic time.
+fn are_distinct(keys: &mut [&[u8]]) -> bool
+    ensures { result ≡ are_distinct (map (λ key. key.now) keys.old) }
 {
-    text.split(|byte| *byte == b',')
-        .any(|part| key_in(part) == key)
+    keys.sort_unstable();
+    neighbours_differ(keys)
+}
+
+// Whether no two of the keys are equal. As they are in order, equal ones would be neighbours.
+fn neighbours_differ(keys: &[&[u8]]) -> bool
+    requires { IsSorted (λ a b. slice_cmp nat_cmp a.now b.now) keys.now }
+    ensures { result ≡ are_distinct (map (λ key. key.now) keys.now) }
+{
+    for later in 1..keys.len() {
+        if keys[later - 1] == keys[later] {
+            return false;
+        }
+    }
+    true
 }

@@ -44,3 +44,17 @@ fn metadata_of_many_bytes(rt: HostRuntime) {
     assert!(rt; !check_metadata(&text));
     assert!(rt; !plain_metadata(&text));
 }
+
+#[test]
+fn metadata_of_many_keys(rt: HostRuntime) {
+    // 341 keys of two letters, `aa` to `nc`, with commas between them.
+    let mut text = [b','; 1022];
+    for key in 0..341usize {
+        text[3 * key] = b'a' + (key / 26) as u8;
+        text[3 * key + 1] = b'a' + (key % 26) as u8;
+    }
+    assert!(rt; check_metadata(&text));
+    text[1020] = b'a';
+    text[1021] = b'b';
+    assert!(rt; !check_metadata(&text));
+}

@@ -1,10 +1,19 @@
-use Rattle.std.proofs.Common.{◌≡◌, map, length}
-use Rattle.tus_text.specs.Metadata.{pairs_of, key_of, are_distinct}
+use Rattle.std.proofs.Common.{◌≡◌, ◌+◌, ◌*◌, ◌≤◌, ◌++◌, length, IsTrue}
+use Rattle.std.specs.List.{list_all}
+use Rattle.tus_text.proofs.DistinctLemmas.{texts_of}
+use Rattle.tus_text.proofs.MetadataLemmas.{keys_of}
+use Rattle.tus_text.specs.Metadata.{is_pair, pairs_of}
+use Rattle.tus_text.specs.declared.metadata.TheConstants.{METADATA_MAX}
 use Rattle.tus_text.proofs.metadata.has_distinct_keys.Given as goal
 
--- the keys from here on decide
+-- the keys so far and those of the rest are the text's
 abbrev pub invariant-loop-rest : goal.invariant-loop-rest
-invariant-loop-rest l = are_distinct (map key_of (pairs_of l.rest)) ≡ are_distinct (map key_of (pairs_of l.text))
+invariant-loop-rest l =
+    record {
+      keys : texts_of l.keys.items ++ keys_of l.rest ≡ keys_of l.text;
+      pairs : IsTrue (list_all is_pair (pairs_of l.rest));
+      room : 2 * length l.keys.items + length l.rest ≤ METADATA_MAX;
+    }
 
 abbrev pub decreases-loop-rest : goal.decreases-loop-rest
 decreases-loop-rest l = length l.rest
