@@ -1,6 +1,5 @@
 -- What a front that was read leaves: where a message stands, and that nothing failed.
-use Rattle.std.specs.Prelude.{◌≡◌, ◌≤◌, ℕ, List, Bool, false, true, length, Option, None, Some, ⊤}
-use Rattle.http_wire.specs.declared.conversation.Ended.{Ended as HowEnded}
+use Rattle.std.specs.Prelude.{◌≡◌, ◌≤◌, ℕ, List, Bool, false, true, length, ⊤}
 use Rattle.http_wire.specs.Ahead.{Ahead}
 use Rattle.http_wire.specs.Parts.{IsPartsWithin}
 use Rattle.http_wire.specs.declared.read.Cut.TheVariants.{Ended, Fault}
@@ -23,30 +22,26 @@ IsLent a (CutPatch p why) = IsMessage p a.lent
 IsLent a CutOther = ⊤
 IsLent a End = ⊤
 
--- after a message the reader has not failed; it has, where a read that failed cut a body
+-- the reader has not failed, except where a read that failed cut a body
 abbrev pub IsAliveAfter : Bool → Front → Type 0
 IsAliveAfter failed (Message p) = failed ≡ false
-IsAliveAfter failed (Refused why framing) = ⊤
-IsAliveAfter failed (CutPatch p Ended) = ⊤
+IsAliveAfter failed (Refused why framing) = failed ≡ false
+IsAliveAfter failed (CutPatch p Ended) = failed ≡ false
 IsAliveAfter failed (CutPatch p Fault) = failed ≡ true
-IsAliveAfter failed CutOther = ⊤
-IsAliveAfter failed End = ⊤
+IsAliveAfter failed CutOther = failed ≡ false
+IsAliveAfter failed End = failed ≡ false
 
--- a fault names what failed: the reader, or the writer
+-- A fault names the one that failed, the reader or the writer, and the other has not failed. So after a read
+-- that failed nothing is written, and after a write that failed nothing is read: such a call might fail too.
 abbrev pub Names : Bool → Bool → WireFault → Type 0
-Names reader writer fault.Read = reader ≡ true
-Names reader writer fault.Write = writer ≡ true
+Names reader writer fault.Read = (reader ≡ true) × (writer ≡ false)
+Names reader writer fault.Write = (reader ≡ false) × (writer ≡ true)
 Names reader writer fault.Memory = ⊥
 Names reader writer fault.Failed = ⊥
 
--- the same, or memory was wanted
+-- the same, or memory was wanted, and then nothing failed
 abbrev pub NamesOrMemory : Bool → Bool → WireFault → Type 0
-NamesOrMemory reader writer fault.Read = reader ≡ true
-NamesOrMemory reader writer fault.Write = writer ≡ true
-NamesOrMemory reader writer fault.Memory = ⊤
+NamesOrMemory reader writer fault.Read = (reader ≡ true) × (writer ≡ false)
+NamesOrMemory reader writer fault.Write = (reader ≡ false) × (writer ≡ true)
+NamesOrMemory reader writer fault.Memory = (reader ≡ false) × (writer ≡ false)
 NamesOrMemory reader writer fault.Failed = ⊥
-
--- where the conversation goes on, nothing failed
-abbrev pub IsAliveUnless : Bool → Option HowEnded → Type 0
-IsAliveUnless failed None = failed ≡ false
-IsAliveUnless failed (Some ended) = ⊤

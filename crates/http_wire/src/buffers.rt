@@ -20,6 +20,7 @@ impl Buffers {
     pub fn new(alloc: Global) -> Result<Self, AllocError>
         ensures held { IfOk result (λ b. b.inbox.held ≡ []) }
         ensures ended { IfOk result (λ b. b.inbox.ended ≡ false) }
+        ensures page { IfOk result (λ b. b.page ≡ []) }
     {
         let inbox = Inbox::new(alloc)?;
         let page = Page::new(alloc)?;

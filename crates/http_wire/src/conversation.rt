@@ -7,7 +7,7 @@ ghost use Rattle.http_wire.specs.ReplyText.{reply_text};
 ghost use Rattle.tus_steps.specs.Request.{asked_of};
 ghost use Rattle.tus_steps.specs.Step.{IsStep};
 ghost use Rattle.tus_steps.specs.declared.reply.Reply.{Reply};
-ghost use Rattle.http_wire.specs.Lent.{Names, NamesOrMemory, IsAliveUnless};
+ghost use Rattle.http_wire.specs.Lent.{Names, NamesOrMemory};
 
 use crate::buffers::Buffers;
 use crate::fault::WireFault;
@@ -36,8 +36,8 @@ pub enum Ended {
 
 /// Reads messages and writes their replies until the input ends, the connection closes or no moment is
 /// left. The k-th message, a refused or cut one included, has the k-th moment. The error is
-/// `WireFault::Memory`, before anything was read, `WireFault::Read` or `WireFault::Write`; the steps
-/// that the book took before it stay.
+/// `WireFault::Memory`, before anything was read, `WireFault::Read` or `WireFault::Write`; after it
+/// nothing more is read or written, and the steps that the book took before it stay.
 pub fn converse<R: Source, W: Sink>(
     alloc: Global,
     reader: &mut R,
@@ -60,6 +60,8 @@ pub fn converse<R: Source, W: Sink>(
         × Consumes (R.remaining reader.old) (R.remaining reader.new) got
         × Appends (W.contents writer.old) (W.contents writer.new) text
         × Breaks moments.now got text book.old book.new f) }
+    ensures reader { OnOk result (R.has_failed reader.new ≡ false) }
+    ensures writer { OnOk result (W.has_failed writer.new ≡ false) }
     ensures fault { IfErr result (NamesOrMemory (R.has_failed reader.new) (W.has_failed writer.new)) }
 {
     let mut buffers = match Buffers::new(alloc) {
@@ -90,8 +92,8 @@ fn take_turn<R: Source, W: Sink>(
         × TakesTurn now (buffers.old.inbox.held ++ got) text buffers.new.inbox.held book.old book.new result }
     ensures end { IfOk result (λ r. SeesEnd (R.remaining reader.old) buffers.old.inbox
         → EndsTurnAtEnd (R.remaining reader.new) buffers.new.inbox r) }
-    ensures reader { IfOk result (IsAliveUnless (R.has_failed reader.new)) }
-    ensures writer { IfOk result (IsAliveUnless (W.has_failed writer.new)) }
+    ensures reader { OnOk result (R.has_failed reader.new ≡ false) }
+    ensures writer { OnOk result (W.has_failed writer.new ≡ false) }
     ensures fault { IfErr result (Names (R.has_failed reader.new) (W.has_failed writer.new)) }
 {
     let front = read_front(

@@ -108,13 +108,14 @@ impl Inbox {
     }
 
     /// Makes room for `total` bytes held at once and one more read after them. The error is want of
-    /// memory, and then nothing changed.
+    /// memory, which comes only where there was not room enough, and then nothing changed.
     pub fn reserve(&mut self, total: usize) -> Result<(), AllocError>
         requires { total < 2 ^ 32 }
         ensures held { self.new.held ≡ self.old.held }
         ensures ended { self.new.ended ≡ self.old.ended }
         ensures ok { OnOk result (total + READ_SIZE ≤ self.new.room) }
         ensures err { OnErr result (self.new ≡ self.old) }
+        ensures memory { OnErr result (self.old.room < total + READ_SIZE) }
     {
         let needed = total + READ_SIZE;
         if self.buffer.len() < needed {

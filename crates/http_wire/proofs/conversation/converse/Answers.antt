@@ -59,8 +59,8 @@ loop-moment-preserved g c =
     let held = c.take_turn.new.buffers.inbox.held in
     let next = Reached-more (take i ms) m reached.0 turn.0 b reached.1 turn.1 c.loop-moment.book b2 c.loop-moment.buffers.inbox.held held reached.4 turn.4 in
     record {
-      reader = rw c.in_default.is at c.in_ok-ended.ensures.reader;
-      writer = rw c.in_default.is at c.in_ok-ended.ensures.writer;
+      reader = c.in_ok-ended.ensures.reader;
+      writer = c.in_ok-ended.ensures.writer;
       reached = (
         reached.0 ++ turn.0,
         reached.1 ++ turn.1,
