@@ -1,5 +1,13 @@
 //! The command `talk`, after its command line was read.
-ghost use Rattle.std.specs.Prelude.{◌≡◌, false};
+ghost use Rattle.std.specs.Prelude.{◌≡◌, ◌⊎◌, ◌++◌, ℕ, List, false, Some, Ok, Err, IfOk, IfErr, OnOk, OnErr, IsErr, IsErrOf, ok_or, option_map};
+ghost use Rattle.std.specs.Borrow.{Bor};
+ghost use Rattle.std.specs.Io.KnownBytes.{Appends, Consumes, Keeps};
+ghost use Rattle.upload_book.specs.PlainBook.{opening_book};
+ghost use Rattle.upload_book.specs.Settings.{tenants_of};
+ghost use Rattle.upload_book.specs.declared.settings.Numbers.{Numbers};
+ghost use Rattle.tus_server.specs.Fault.{IsFaultOf};
+ghost use Rattle.tus_server.specs.Talk.{settings_told, Talks, BreaksTalk};
+ghost use Rattle.tus_server.specs.Words.{with_quota, tenant_in, tenants_in};
 
 use crate::command_line::{REFUSED, talk_options};
 use crate::fault::TalkFault;
@@ -14,7 +22,8 @@ use upload_book::{Book, Moment, Numbers, Settings, SettingsFault};
 /// The most messages of one conversation.
 pub const MESSAGES_MAX: usize = 4096;
 
-/// Does the command that the command line told, over these streams, and gives the exit status.
+/// Does the command that the command line told, over these streams, and gives the exit status: that of
+/// [`talk`] with these options, or [`REFUSED`] where the command line told no command.
 pub fn talk_as_told<R: Source, W: Sink, E: Sink>(
     alloc: Global,
     matches: &ArgMatches,
@@ -25,6 +34,13 @@ pub fn talk_as_told<R: Source, W: Sink, E: Sink>(
     requires reader { R.has_failed reader.old ≡ false }
     requires writer { W.has_failed writer.old ≡ false }
     requires errors { E.has_failed errors.old ≡ false }
+    ensures status { (result ≡ 0) ⊎ (result ≡ 2) ⊎ (result ≡ 3) ⊎ (result ≡ 4) }
+    // of what the matches tell, no more is said than that they tell some numbers, words and moment
+    ensures talks { (input before : List ℕ) → R.remaining reader.old ≡ Some input
+        → W.contents writer.old ≡ Some before
+        → result ≡ 0 → (numbers : Numbers) × (words : List (Bor (List ℕ))) × (now : ℕ)
+        × (text : List ℕ) × (W.contents writer.new ≡ Some (before ++ text))
+        × Talks (settings_told numbers words) now input text }
 {
     match talk_options(matches) {
         Some(options) => talk(
@@ -45,8 +61,9 @@ pub fn talk_as_told<R: Source, W: Sink, E: Sink>(
 /// words NAME:QUOTA.
 ///
 /// The status is 0 where the conversation ended, in whatever way; 2 where the settings have a fault, 3
-/// where a read or a write failed, and 4 where there was no memory to begin with. Then a line that
-/// names the fault is written to `errors`, whose own faults are passed over.
+/// where a read or a write failed, and 4 where there was no memory to begin with. At 2 both streams are
+/// untouched, and at 4 nothing was read or written. At 2, 3 and 4 a line that names the fault is written
+/// to `errors`, whose own faults are passed over; at 0 `errors` is untouched.
 pub fn talk<R: Source, W: Sink, E: Sink>(
     alloc: Global,
     numbers: Numbers,
@@ -59,6 +76,24 @@ pub fn talk<R: Source, W: Sink, E: Sink>(
     requires reader { R.has_failed reader.old ≡ false }
     requires writer { W.has_failed writer.old ≡ false }
     requires errors { E.has_failed errors.old ≡ false }
+    ensures status { (result ≡ 0) ⊎ (result ≡ 2) ⊎ (result ≡ 3) ⊎ (result ≡ 4) }
+    ensures settings { OnErr (settings_told numbers tenants.now) ((result ≡ 2) ⊎ (result ≡ 4)) }
+    ensures untouched { OnErr (settings_told numbers tenants.now)
+        ((reader.new ≡ reader.old) × (writer.new ≡ writer.old)) }
+    ensures refused { result ≡ 2 → IsErr (settings_told numbers tenants.now) }
+    ensures talks { (input before : List ℕ) → R.remaining reader.old ≡ Some input
+        → W.contents writer.old ≡ Some before
+        → result ≡ 0 → (text : List ℕ) × (W.contents writer.new ≡ Some (before ++ text))
+        × Talks (settings_told numbers tenants.now) now input text }
+    ensures breaks { result ≡ 3 → (got text : List ℕ)
+        × Consumes (R.remaining reader.old) (R.remaining reader.new) got
+        × Appends (W.contents writer.old) (W.contents writer.new) text
+        × BreaksTalk (settings_told numbers tenants.now) now
+        (R.has_failed reader.new) (W.has_failed writer.new) got text }
+    ensures memory { result ≡ 4
+        → Keeps (R.remaining reader.old) (R.remaining reader.new)
+        × Keeps (W.contents writer.old) (W.contents writer.new) }
+    ensures quiet { result ≡ 0 → errors.new ≡ errors.old }
 {
     match hold(alloc, numbers, tenants, now, reader, writer) {
         Ok(()) => 0,
@@ -69,7 +104,9 @@ pub fn talk<R: Source, W: Sink, E: Sink>(
     }
 }
 
-/// The conversation, from the settings to its end.
+/// The conversation, from the settings to its end. The error is the fault of the settings, before anything
+/// is read or written, `TalkFault::Wire` where a read or a write failed, or `TalkFault::Memory` where
+/// memory was lacking, and then nothing was read or written.
 fn hold<R: Source, W: Sink>(
     alloc: Global,
     numbers: Numbers,
@@ -80,18 +117,48 @@ fn hold<R: Source, W: Sink>(
 ) -> Result<(), TalkFault>
     requires reader { R.has_failed reader.old ≡ false }
     requires writer { W.has_failed writer.old ≡ false }
+    ensures settings { IfErr (settings_told numbers tenants.now)
+        (λ fault. IsErrOf result (TalkFault.Settings fault) ⊎ IsErrOf result TalkFault.Memory) }
+    ensures untouched { OnErr (settings_told numbers tenants.now)
+        ((reader.new ≡ reader.old) × (writer.new ≡ writer.old)) }
+    ensures refused { (fault : SettingsFault) → IsErrOf result (TalkFault.Settings fault)
+        → settings_told numbers tenants.now ≡ Err fault }
+    ensures talks { (input before : List ℕ) → R.remaining reader.old ≡ Some input
+        → W.contents writer.old ≡ Some before
+        → OnOk result ((text : List ℕ) × (W.contents writer.new ≡ Some (before ++ text))
+        × Talks (settings_told numbers tenants.now) now input text) }
+    ensures breaks { IsErrOf result TalkFault.Wire → (got text : List ℕ)
+        × Consumes (R.remaining reader.old) (R.remaining reader.new) got
+        × Appends (W.contents writer.old) (W.contents writer.new) text
+        × BreaksTalk (settings_told numbers tenants.now) now
+        (R.has_failed reader.new) (W.has_failed writer.new) got text }
+    ensures memory { IsErrOf result TalkFault.Memory
+        → Keeps (R.remaining reader.old) (R.remaining reader.new)
+        × Keeps (W.contents writer.old) (W.contents writer.new) }
+{
+    let mut book = opening(alloc, numbers, tenants)?;
+    converse(alloc, reader, writer, &mut book, &[now; MESSAGES_MAX])?;
+    Ok(())
+}
+
+/// The new book with the settings that the numbers and the words tell, or their first fault, or
+/// `TalkFault::Memory`.
+fn opening(alloc: Global, numbers: Numbers, tenants: &[&str]) -> Result<Book, TalkFault>
+    ensures settings { IfOk result (λ book. settings_told numbers tenants.now ≡ Ok book.settings) }
+    ensures new { IfOk result (λ book. book ≡ opening_book book.settings) }
+    ensures fault { IfErr result (IsFaultOf (settings_told numbers tenants.now)) }
 {
     let tenants = tenants_of(alloc, tenants)?;
     let settings = Settings::new(numbers, tenants.as_slice())?;
-    let mut book = Book::new(alloc, settings)?;
-    let moments = [now; MESSAGES_MAX];
-    converse(alloc, reader, writer, &mut book, &moments)?;
-    Ok(())
+    Ok(Book::new(alloc, settings)?)
 }
 
 /// The tenants that the words name. A word that is no tenant's name, `:` and a number is refused before
 /// every other fault of the settings.
-fn tenants_of<'a>(alloc: Global, words: &[&'a str]) -> Result<Vec<(&'a [u8], u64)>, TalkFault> {
+fn tenants_of<'a>(alloc: Global, words: &[&'a str]) -> Result<Vec<(&'a [u8], u64)>, TalkFault>
+    ensures tenants { IfOk result (λ tenants. tenants_in words.now ≡ Some (tenants_of tenants.items)) }
+    ensures fault { IfErr result (IsFaultOf (ok_or (tenants_in words.now) SettingsFault.TenantName)) }
+{
     let mut tenants = Vec::with_capacity(alloc, words.len())?;
     for word in words {
         let tenant = tenant_of(word).ok_or(SettingsFault::TenantName)?;
@@ -101,7 +168,10 @@ fn tenants_of<'a>(alloc: Global, words: &[&'a str]) -> Result<Vec<(&'a [u8], u64
 }
 
 /// The name and the quota of a word NAME:QUOTA, which is cut at its first `:`.
-fn tenant_of(word: &str) -> Option<(&[u8], u64)> {
+#[tactic(auto, using(crate::proofs::WordLemmas::no_colon))]
+fn tenant_of(word: &str) -> Option<(&[u8], u64)>
+    ensures { option_map with_quota result ≡ tenant_in word.now }
+{
     let (name, quota) = word.split_once(':')?;
     let quota = read_number(quota.as_bytes())?;
     is_tenant_name(name.as_bytes()).then_some((name.as_bytes(), quota))
