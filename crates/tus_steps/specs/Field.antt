@@ -1,7 +1,7 @@
 -- A field of a request by its name, as bytes.
-use Rattle.std.specs.Prelude.{ℕ, Bool, true, false, List, [], Option, Some, None, bytes_eq, if◌then◌else◌}
-use Rattle.tus_text.specs.Metadata.{is_metadata}
+use Rattle.std.specs.Prelude.{ℕ, Bool, true, false, List, [], Option, Some, None, option_map, bytes_eq, if◌then◌else◌}
 use Rattle.tus_text.specs.Number.{number_of}
+use Rattle.upload_book.specs.Lawful.{is_kept_metadata}
 use Rattle.tus_steps.specs.declared.field.Field.{Field}
 use Rattle.tus_steps.specs.declared.field.Field.TheVariants.{Absent, One, Many}
 
@@ -35,9 +35,15 @@ number_in absent = None
 number_in (one value) = number_of value
 number_in many = None
 
+-- the number that it may tell: none where it stands nowhere, and nothing where it stands once and is no number, or more than
+-- once
+abbrev pub optional_number_in : FieldText → Option (Option ℕ)
+optional_number_in absent = Some None
+optional_number_in (one value) = option_map Some (number_of value)
+optional_number_in many = None
+
 -- the metadata that it tells, where it stands nowhere, once with no value, or once with metadata
 abbrev pub metadata_in : FieldText → Option (List ℕ)
 metadata_in absent = Some []
-metadata_in (one []) = Some []
-metadata_in (one value) = if is_metadata value then Some value else None
+metadata_in (one value) = if is_kept_metadata value then Some value else None
 metadata_in many = None

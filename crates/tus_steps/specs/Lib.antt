@@ -1,5 +1,10 @@
+pub mod Method
 pub mod Field
+pub mod TusFields
 pub mod Media
 pub mod Request
+pub mod Route
+pub mod Asked
+pub mod Reply
 pub mod Step
-pub mod Event
+pub mod Laws

@@ -1,5 +1,5 @@
-ghost use Rattle.std.specs.Prelude.{◌≡◌, ◌≤◌, length, option_copied, IfSome};
-ghost use Rattle.tus_text.specs.declared.metadata.TheConstants.{METADATA_MAX};
+ghost use Rattle.std.specs.Prelude.{◌≡◌, option_copied, IfSome, IsTrue};
+ghost use Rattle.upload_book.specs.Lawful.{is_kept_metadata};
 
 use crate::media::is_patch_type;
 use tus_text::{check_metadata, read_number};
@@ -17,7 +17,7 @@ pub enum Field<'a> {
 }
 
 impl<'a> Field<'a> {
-    ghost use Rattle.tus_steps.specs.Field.{text_of, is_absent as absent_in, is_just as just_in, number_in, metadata_in};
+    ghost use Rattle.tus_steps.specs.Field.{text_of, is_absent as absent_in, is_just as just_in, number_in, optional_number_in, metadata_in};
     ghost use Rattle.tus_steps.specs.Media.{has_patch_type as patch_type_in};
 
     /// Whether there is no such field.
@@ -47,12 +47,23 @@ impl<'a> Field<'a> {
         }
     }
 
-    /// The metadata that the field tells, at most 1,024 bytes: empty where there is no such field or it
-    /// has no value, and else its value. It is None where that is no value of `Upload-Metadata`, and
-    /// where there are two or more.
+    /// The number that the field tells if it is there, or None in it where it is not. It is None where the
+    /// field is there and tells no number, and where there are two or more.
+    pub fn optional_number(&self) -> Option<Option<u64>>
+        ensures { result ≡ optional_number_in (text_of self.now) }
+    {
+        match self {
+            Field::Absent => Some(None),
+            Field::One(value) => read_number(value).map(Some),
+            Field::Many => None,
+        }
+    }
+
+    /// The metadata that the field tells: empty where there is no such field or it has no value, and else
+    /// its value. It is None where that is no value of `Upload-Metadata`, and where there are two or more.
     pub fn metadata(&self) -> Option<&'a [u8]>
         ensures value { option_copied result ≡ metadata_in (text_of self.now) }
-        ensures fits { IfSome result (λ value. length value.now ≤ METADATA_MAX) }
+        ensures kept { IfSome result (λ value. IsTrue (is_kept_metadata value.now)) }
     {
         match self {
             Field::Absent => Some(b""),

@@ -2,19 +2,21 @@
 //! and applied as the plain book does.
 #![tactic(auto)]
 
-pub mod event;
-pub mod field;
+mod field;
+pub mod laws;
 pub mod media;
-pub mod method;
-pub mod reply;
-pub mod request;
-pub mod step;
+mod method;
+mod reply;
+mod request;
+mod route;
+mod step;
 #[cfg(test)]
 mod tests;
+mod tus_fields;
 
-pub use event::Event;
 pub use field::Field;
 pub use method::Method;
 pub use reply::{Place, Reply};
 pub use request::Request;
 pub use step::answer;
+pub use tus_fields::TusFields;

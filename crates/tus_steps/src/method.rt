@@ -1,3 +1,6 @@
+ghost use Rattle.std.specs.Prelude.{◌≡◌};
+ghost use Rattle.tus_steps.specs.Method.{is_applied_when_cut, is_get, is_head, is_options};
+
 /// The method that a request asks for (tus 1.0.0, Core Protocol).
 #[derive(Clone, Copy, Debug, PartialEq, Eq)]
 pub enum Method {
@@ -13,4 +16,35 @@ pub enum Method {
     Options,
     /// Any other, which is not served.
     Other,
+}
+
+impl Method {
+    /// Whether it is HEAD.
+    pub fn is_head(self) -> bool
+        ensures { result ≡ is_head self }
+    {
+        matches!(self, Method::Head)
+    }
+
+    /// Whether it is GET.
+    pub fn is_get(self) -> bool
+        ensures { result ≡ is_get self }
+    {
+        matches!(self, Method::Get)
+    }
+
+    /// Whether it is OPTIONS.
+    pub fn is_options(self) -> bool
+        ensures { result ≡ is_options self }
+    {
+        matches!(self, Method::Options)
+    }
+
+    /// Whether a request whose body is cut off is applied with the bytes that came. A PATCH is: that is
+    /// what makes an upload resumable.
+    pub fn is_applied_when_cut(self) -> bool
+        ensures { result ≡ is_applied_when_cut self }
+    {
+        matches!(self, Method::Patch)
+    }
 }

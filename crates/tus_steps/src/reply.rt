@@ -1,6 +1,5 @@
-use crate::method::Method;
 use crate::request::Request;
-use tus_text::Tenant;
+use tus_text::{Tenant, Text};
 use upload_book::{Appended, Content, Created, HeadRow, Moment, Refusal, Refused};
 
 /// What the path of a request names, as far as a reply tells it.
@@ -53,16 +52,15 @@ pub enum Reply {
 
 impl Reply {
     ghost use Rattle.std.specs.Prelude.{◌≡◌};
-    ghost use Rattle.tus_steps.specs.Request.{asked_of};
-    ghost use Rattle.tus_steps.specs.Step.{refusing, creation_reply, look_reply, content_reply, append_reply};
+    ghost use Rattle.tus_steps.specs.Reply.{refusing, creation_reply, look_reply, content_reply, append_reply};
 
     /// The reply that refuses the request, and tells when its upload expires.
     pub fn refusing(request: &Request, refusal: Refusal, expires: Option<Moment>) -> Reply
-        ensures { result ≡ refusing (asked_of request.now) refusal expires }
+        ensures { result ≡ refusing request.now refusal expires }
     {
         Reply::Refused {
             refusal,
-            head: request.method == Method::Head,
+            head: request.method.is_head(),
             place: request.place(),
             expires,
         }
@@ -70,11 +68,11 @@ impl Reply {
 
     /// The reply to a creation.
     pub fn to_creation(request: &Request, outcome: Result<Created, Refusal>) -> Reply
-        ensures { result ≡ creation_reply (asked_of request.now) outcome }
+        ensures { result ≡ creation_reply request.now outcome }
     {
         match outcome {
             Ok(created) => Reply::Created {
-                tenant: request.tenant_text(),
+                tenant: request.tenant_name().map_or(Text::empty(), Text::copied),
                 id: created.name.id,
                 expires: created.expires,
             },
@@ -84,7 +82,7 @@ impl Reply {
 
     /// The reply to a HEAD.
     pub fn to_look(request: &Request, outcome: Result<HeadRow, Refusal>) -> Reply
-        ensures { result ≡ look_reply (asked_of request.now) outcome }
+        ensures { result ≡ look_reply request.now outcome }
     {
         match outcome {
             Ok(row) => Reply::Head(row),
@@ -94,7 +92,7 @@ impl Reply {
 
     /// The reply to a GET.
     pub fn to_content(request: &Request, outcome: Result<Content, Refusal>) -> Reply
-        ensures { result ≡ content_reply (asked_of request.now) outcome }
+        ensures { result ≡ content_reply request.now outcome }
     {
         match outcome {
             Ok(content) => Reply::Content(content),
@@ -104,7 +102,7 @@ impl Reply {
 
     /// The reply to a PATCH.
     pub fn to_append(request: &Request, outcome: Result<Appended, Refused>) -> Reply
-        ensures { result ≡ append_reply (asked_of request.now) outcome }
+        ensures { result ≡ append_reply request.now outcome }
     {
         match outcome {
             Ok(appended) => Reply::Patched {

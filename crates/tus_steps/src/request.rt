@@ -1,44 +1,82 @@
-ghost use Rattle.std.specs.Prelude.{◌≡◌, ◌<◌, ◌≤◌, length, IfSome};
-ghost use Rattle.tus_text.specs.declared.concat.TheConstants.{CONCAT_MAX};
-ghost use Rattle.tus_text.specs.declared.metadata.TheConstants.{METADATA_MAX};
+ghost use Rattle.std.specs.Prelude.{◌≡◌, ℕ, ◌<◌, length, option_copied, IfOk, IfSome, IsTrue};
 
 use crate::field::Field;
 use crate::method::Method;
 use crate::reply::Place;
-use tus_text::{Path, Tenant, Text};
-use upload_book::{Chunk, NewUpload, Refusal, Settings};
+use crate::route::Route;
+use crate::tus_fields::TusFields;
+use std::marker::Model;
+use tus_text::{Path, Tenant};
+use upload_book::{Chunk, Name, NewUpload, Operation, Refusal, Settings};
 
 /// The only version of the protocol that is spoken.
 const VERSION: &[u8] = b"1.0.0";
 
 /// A request as the steps see it: its method, what its target names, the fields that count, and its
-/// body. Every other field is ignored.
+/// body. Every other field is ignored. A contract sees the fields and the body as lists of bytes.
 #[derive(Drop)]
 pub struct Request<'a> {
+    /// The method in force.
     pub method: Method,
+    /// What the target names.
     pub path: Path,
-    /// `Tus-Resumable`.
-    pub version: Field<'a>,
-    /// `Upload-Length`.
-    pub length: Field<'a>,
-    /// `Upload-Defer-Length`.
-    pub defer: Field<'a>,
-    /// `Upload-Offset`.
-    pub offset: Field<'a>,
-    /// `Upload-Metadata`.
-    pub metadata: Field<'a>,
-    /// `Upload-Concat`.
-    pub concat: Field<'a>,
-    /// `Content-Type`.
-    pub media: Field<'a>,
+    pub fields: TusFields<Field<'a>>,
     pub body: &'a [u8],
 }
 
+impl<'a> Model for Request<'a> {
+    ghost use Rattle.tus_steps.specs.Field.{text_of};
+    ghost use Rattle.tus_steps.specs.Request as spec;
+    ghost use Rattle.tus_steps.specs.TusFields.{map_fields};
+
+    ghost Value = { spec.Request };
+
+    ghost view = { λ r. record {
+      method = r.method;
+      path = r.path;
+      fields = map_fields text_of r.fields;
+      body = r.body.now;
+    } };
+}
+
 impl<'a> Request<'a> {
-    ghost use Rattle.tus_steps.specs.Step.{tenant_text, wish_of, piece_of};
-    ghost use Rattle.upload_book.specs.Create.{wish_of as wish_value};
-    ghost use Rattle.upload_book.specs.Append.{piece_of as piece_value};
-    ghost use Rattle.tus_steps.specs.Request.{asked_of, place_of, tenant_in, request_refusal, has_other_version, has_bad_field, has_bad_creation_field, tells_length, has_bad_patch_field, allows};
+    ghost use Rattle.tus_steps.specs.Asked.{has_version, length_told, is_plain_creation, new_upload_in, chunk_in, operation_on, operation_of, CanBeAsked};
+    ghost use Rattle.tus_steps.specs.Reply.{place_of};
+    ghost use Rattle.tus_steps.specs.Route.{tenant_name};
+    ghost use Rattle.upload_book.specs.Lawful.{is_kept_metadata};
+
+    /// The operation that the request asks for. It is refused, in this order, as Version, Path, Tenant,
+    /// Method and Field. OPTIONS is answered before this is asked.
+    pub fn operation(&self, settings: &Settings) -> Result<Operation<'a>, Refusal>
+        ensures value { result ≡ operation_of settings.now self.now }
+        ensures ready { IfOk result (CanBeAsked (length settings.now.tenants)) }
+    {
+        if !self.has_version() {
+            return Err(Refusal::Version);
+        }
+        let name = self.tenant_name().ok_or(Refusal::Path)?;
+        let tenant = settings.tenant(name.as_slice()).ok_or(Refusal::Tenant)?;
+        let route = Route::of(&self.path, self.method).ok_or(Refusal::Method)?;
+        self.operation_on(tenant, route).ok_or(Refusal::Field)
+    }
+
+    // Whether the request names the version, or is a GET, which needs none.
+    fn has_version(&self) -> bool
+        ensures { result ≡ has_version self.now }
+    {
+        self.method.is_get() || self.fields.version.is_just(VERSION)
+    }
+
+    /// The name of the tenant that the path names.
+    pub fn tenant_name(&self) -> Option<&Tenant>
+        ensures { option_copied result ≡ tenant_name self.now.path }
+    {
+        match &self.path {
+            Path::Create { tenant } => Some(tenant),
+            Path::Upload { tenant, .. } => Some(tenant),
+            Path::Other => None,
+        }
+    }
 
     /// What the path names, as far as a reply tells it.
     pub fn place(&self) -> Place
@@ -51,128 +89,74 @@ impl<'a> Request<'a> {
         }
     }
 
-    /// The place of the request's tenant in the settings, where there is such a tenant.
-    pub fn tenant(&self, settings: &Settings) -> Option<u8>
-        ensures place { result ≡ tenant_in settings.now self.now.path }
-        ensures there { IfSome result (λ tenant. tenant < length settings.now.tenants) }
+    // The operation on this route, where the fields tell what it needs.
+    fn operation_on(&self, tenant: u8, route: Route) -> Option<Operation<'a>>
+        ensures value { result ≡ operation_on self.now tenant route }
+        ensures ready { (tenants : ℕ) → tenant < tenants → IfSome result (CanBeAsked tenants) }
     {
-        match &self.path {
-            Path::Create { tenant } => settings.tenant(tenant.as_slice()),
-            Path::Upload { tenant, .. } => settings.tenant(tenant.as_slice()),
-            Path::Other => None,
+        match route {
+            Route::Create => Some(Operation::Create {
+                tenant,
+                new: self.new_upload()?,
+            }),
+            Route::Look(id) => Some(Operation::Look(Name { tenant, id })),
+            Route::Content(id) => Some(Operation::Content(Name { tenant, id })),
+            Route::Append(id) => Some(Operation::Append {
+                name: Name { tenant, id },
+                chunk: self.chunk()?,
+            }),
         }
     }
 
-    /// The name of the tenant that the path names; empty where it names none.
-    pub fn tenant_text(&self) -> Tenant
-        ensures { result ≡ tenant_text self.now.path }
+    // The upload that a creation asks for, where its fields tell one.
+    fn new_upload(&self) -> Option<NewUpload<'a>>
+        ensures value { result ≡ new_upload_in self.now }
+        ensures metadata { IfSome result (λ new. IsTrue (is_kept_metadata new.metadata)) }
     {
-        match &self.path {
-            Path::Create { tenant } => tenant.copied(),
-            Path::Upload { tenant, .. } => tenant.copied(),
-            Path::Other => Text::empty(),
+        if !self.is_plain_creation() {
+            return None;
         }
-    }
-
-    /// The upload that a creation asks for. Its length is None where the request does not tell it yet.
-    pub fn wish(&self) -> NewUpload<'a>
-        ensures value { wish_value result ≡ wish_of (asked_of self.now) }
-        ensures metadata { length result.metadata.now ≤ METADATA_MAX }
-        ensures concat { length result.concat.now ≤ CONCAT_MAX }
-    {
-        NewUpload {
+        let length = self.length_told()?;
+        let metadata = self.fields.metadata.metadata()?;
+        Some(NewUpload {
             partial: false,
-            length: self.length.number(),
-            metadata: self.metadata.metadata().unwrap_or(b""),
+            length,
+            metadata,
             concat: b"",
-        }
+        })
     }
 
-    /// The bytes of a PATCH, and what it says of them.
-    pub fn chunk(&self) -> Chunk<'a>
-        ensures { piece_value result ≡ piece_of (asked_of self.now) }
+    // Whether a creation has no body, and is no concatenation, which is not served.
+    fn is_plain_creation(&self) -> bool
+        ensures { result ≡ is_plain_creation self.now }
     {
-        Chunk {
-            offset: self.offset.number().unwrap_or(0),
-            length: self.length.number(),
-            typed: self.media.has_patch_type(),
-            bytes: self.body,
-        }
+        self.fields.concat.is_absent() && self.body.is_empty()
     }
 
-    /// Why the request is refused before the book is asked: the first that applies of Version, Path,
-    /// Tenant, Method and Field. `tenant` is the place of its tenant, if there is one. OPTIONS is
-    /// answered before this is asked.
-    pub fn refusal(&self, tenant: Option<u8>) -> Option<Refusal>
-        ensures { result ≡ request_refusal tenant (asked_of self.now) }
+    // The length that a creation tells, or None in it where it will be told later.
+    fn length_told(&self) -> Option<Option<u64>>
+        ensures { result ≡ length_told self.now }
     {
-        if self.has_other_version() {
-            Some(Refusal::Version)
-        } else if matches!(self.path, Path::Other) {
-            Some(Refusal::Path)
-        } else if tenant.is_none() {
-            Some(Refusal::Tenant)
-        } else if !self.is_allowed() {
-            Some(Refusal::Method)
-        } else if self.has_bad_field() {
-            Some(Refusal::Field)
+        if self.fields.defer.is_absent() {
+            self.fields.length.number().map(Some)
+        } else if self.fields.length.is_absent() && self.fields.defer.is_just(b"1") {
+            Some(None)
         } else {
             None
         }
     }
 
-    // Whether the request does not name the version, and is no GET, which needs none.
-    fn has_other_version(&self) -> bool
-        ensures { result ≡ has_other_version (asked_of self.now) self.now.method }
+    // The chunk of a PATCH, where its fields tell one.
+    fn chunk(&self) -> Option<Chunk<'a>>
+        ensures { result ≡ chunk_in self.now }
     {
-        self.method != Method::Get && !self.version.is_just(VERSION)
-    }
-
-    // Whether the path allows the method.
-    fn is_allowed(&self) -> bool
-        ensures { result ≡ allows self.now.path self.now.method }
-    {
-        match &self.path {
-            Path::Create { .. } => self.method == Method::Post,
-            Path::Upload { .. } => {
-                matches!(self.method, Method::Head | Method::Get | Method::Patch)
-            }
-            Path::Other => false,
-        }
-    }
-
-    // Whether a field that the method needs is missing, repeated or not of its form.
-    fn has_bad_field(&self) -> bool
-        ensures { result ≡ has_bad_field (asked_of self.now) self.now.method }
-    {
-        match self.method {
-            Method::Post => self.has_bad_creation_field(),
-            Method::Patch => self.has_bad_patch_field(),
-            Method::Head | Method::Get | Method::Options | Method::Other => false,
-        }
-    }
-
-    fn has_bad_creation_field(&self) -> bool
-        ensures { result ≡ has_bad_creation_field (asked_of self.now) }
-    {
-        let has_bad_metadata = self.metadata.metadata().is_none();
-        let has_concat = !self.concat.is_absent();
-        !self.tells_length() || has_bad_metadata || has_concat || !self.body.is_empty()
-    }
-
-    // Whether a creation tells its length, or that it will be told later, and not both.
-    fn tells_length(&self) -> bool
-        ensures { result ≡ tells_length (asked_of self.now) }
-    {
-        let has_length = self.defer.is_absent() && self.length.number().is_some();
-        let is_deferred = self.length.is_absent() && self.defer.is_just(b"1");
-        has_length || is_deferred
-    }
-
-    fn has_bad_patch_field(&self) -> bool
-        ensures { result ≡ has_bad_patch_field (asked_of self.now) }
-    {
-        let has_bad_length = !self.length.is_absent() && self.length.number().is_none();
-        self.offset.number().is_none() || has_bad_length
+        let offset = self.fields.offset.number()?;
+        let length = self.fields.length.optional_number()?;
+        Some(Chunk {
+            offset,
+            length,
+            typed: self.fields.media.has_patch_type(),
+            bytes: self.body,
+        })
     }
 }

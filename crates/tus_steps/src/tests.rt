@@ -91,10 +91,9 @@ fn at(secs: u64) -> Result<Moment, Fail> {
     Ok(Moment::new(secs).ok_or("a moment after the year 9999")?)
 }
 
-fn request<'a>(method: Method, target: &[u8]) -> Request<'a> {
-    Request {
-        method,
-        path: read_path(target),
+// The fields of a request that names the version alone.
+fn fields<'a>() -> TusFields<Field<'a>> {
+    TusFields {
         version: Field::One(b"1.0.0"),
         length: Field::Absent,
         defer: Field::Absent,
@@ -102,38 +101,65 @@ fn request<'a>(method: Method, target: &[u8]) -> Request<'a> {
         metadata: Field::Absent,
         concat: Field::Absent,
         media: Field::Absent,
-        body: b"",
     }
+}
+
+fn length_fields<'a>(length: &'a [u8]) -> TusFields<Field<'a>> {
+    TusFields {
+        length: Field::One(length),
+        ..fields()
+    }
+}
+
+fn patch_fields<'a>(offset: &'a [u8]) -> TusFields<Field<'a>> {
+    TusFields {
+        offset: Field::One(offset),
+        media: Field::One(b"application/offset+octet-stream"),
+        ..fields()
+    }
+}
+
+fn request<'a>(method: Method, target: &[u8]) -> Request<'a> {
+    request_with(method, target, fields(), b"")
+}
+
+fn request_with<'a>(
+    method: Method,
+    target: &[u8],
+    fields: TusFields<Field<'a>>,
+    body: &'a [u8],
+) -> Request<'a> {
+    Request {
+        method,
+        path: read_path(target),
+        fields,
+        body,
+    }
+}
+
+// A creation for acme with these fields.
+fn creation_with<'a>(fields: TusFields<Field<'a>>) -> Request<'a> {
+    request_with(Method::Post, b"/files/acme", fields, b"")
 }
 
 fn creation<'a>(length: &'a [u8]) -> Request<'a> {
-    Request {
-        length: Field::One(length),
-        ..request(Method::Post, b"/files/acme")
-    }
+    creation_with(length_fields(length))
 }
 
-fn with_metadata(metadata: Field) -> Request {
-    Request {
+fn with_metadata<'a>(metadata: Field<'a>) -> Request<'a> {
+    creation_with(TusFields {
         metadata,
-        ..creation(b"10")
-    }
+        ..length_fields(b"10")
+    })
+}
+
+// A PATCH of acme's first upload with these fields.
+fn patch_with<'a>(fields: TusFields<Field<'a>>, body: &'a [u8]) -> Request<'a> {
+    request_with(Method::Patch, b"/files/acme/1", fields, body)
 }
 
 fn patch<'a>(offset: &'a [u8], body: &'a [u8]) -> Request<'a> {
-    Request {
-        offset: Field::One(offset),
-        media: Field::One(b"application/offset+octet-stream"),
-        body,
-        ..request(Method::Patch, b"/files/acme/1")
-    }
-}
-
-fn post<'a>(target: &[u8]) -> Request<'a> {
-    Request {
-        length: Field::One(b"1"),
-        ..request(Method::Post, target)
-    }
+    patch_with(patch_fields(offset), body)
 }
 
 fn at_offset<'a>(refusal: Refusal) -> Told<'a> {
@@ -209,24 +235,29 @@ fn each_reason_comes_in_its_order(rt: HostRuntime) -> Result<(), Fail> {
     let now = at(1000)?;
     let rows = [
         (
-            Request {
+            creation_with(TusFields {
                 version: Field::Absent,
-                ..creation(b"10")
-            },
+                ..length_fields(b"10")
+            }),
             Refusal::Version,
         ),
         (
-            Request {
-                version: Field::One(b"0.2.2"),
-                ..post(b"/other")
-            },
+            request_with(
+                Method::Post,
+                b"/other",
+                TusFields {
+                    version: Field::One(b"0.2.2"),
+                    ..length_fields(b"1")
+                },
+                b"",
+            ),
             Refusal::Version,
         ),
         (
-            Request {
+            creation_with(TusFields {
                 version: Field::Many,
-                ..creation(b"10")
-            },
+                ..length_fields(b"10")
+            }),
             Refusal::Version,
         ),
         (request(Method::Other, b"/other"), Refusal::Path),
@@ -239,24 +270,24 @@ fn each_reason_comes_in_its_order(rt: HostRuntime) -> Result<(), Fail> {
         (request(Method::Post, b"/files/acme"), Refusal::Field),
         (creation(b"18446744073709551616"), Refusal::Field),
         (
-            Request {
+            creation_with(TusFields {
                 length: Field::Many,
-                ..creation(b"10")
-            },
+                ..length_fields(b"10")
+            }),
             Refusal::Field,
         ),
         (
-            Request {
+            creation_with(TusFields {
                 defer: Field::One(b"1"),
-                ..creation(b"10")
-            },
+                ..length_fields(b"10")
+            }),
             Refusal::Field,
         ),
         (
-            Request {
+            creation_with(TusFields {
                 defer: Field::One(b"2"),
-                ..request(Method::Post, b"/files/acme")
-            },
+                ..fields()
+            }),
             Refusal::Field,
         ),
         (with_metadata(Field::Many), Refusal::Field),
@@ -264,31 +295,34 @@ fn each_reason_comes_in_its_order(rt: HostRuntime) -> Result<(), Fail> {
         (with_metadata(Field::One(b"a YQ")), Refusal::Field),
         (with_metadata(Field::One(b"a,,b")), Refusal::Field),
         (
-            Request {
+            creation_with(TusFields {
                 concat: Field::One(b"partial"),
-                ..creation(b"10")
-            },
+                ..length_fields(b"10")
+            }),
             Refusal::Field,
         ),
         (
-            Request {
-                body: b"x",
-                ..creation(b"10")
-            },
+            request_with(Method::Post, b"/files/acme", length_fields(b"10"), b"x"),
             Refusal::Field,
         ),
         (
-            Request {
-                offset: Field::Many,
-                ..patch(b"0", b"x")
-            },
+            patch_with(
+                TusFields {
+                    offset: Field::Many,
+                    ..patch_fields(b"0")
+                },
+                b"x",
+            ),
             Refusal::Field,
         ),
         (
-            Request {
-                length: Field::One(b"ten"),
-                ..patch(b"0", b"x")
-            },
+            patch_with(
+                TusFields {
+                    length: Field::One(b"ten"),
+                    ..patch_fields(b"0")
+                },
+                b"x",
+            ),
             Refusal::Field,
         ),
         (patch(b"0", b"x"), Refusal::Unknown),
@@ -309,10 +343,15 @@ fn options_are_told_before_all_else(rt: HostRuntime) -> Result<(), Fail> {
         (Field::One(b"0.2.2".as_slice()), b"/other".as_slice()),
     ];
     for (version, target) in rows {
-        let asked = Request {
-            version,
-            ..request(Method::Options, target)
-        };
+        let asked = request_with(
+            Method::Options,
+            target,
+            TusFields {
+                version,
+                ..fields()
+            },
+            b"",
+        );
         let reply = answer(&mut book, &asked, at(1000)?);
         assert_eq!(rt; told_by(&reply), Told::Options { max_size: 64 });
     }
@@ -323,10 +362,10 @@ fn options_are_told_before_all_else(rt: HostRuntime) -> Result<(), Fail> {
 fn a_head_tells_what_was_created(rt: HostRuntime) -> Result<(), Fail> {
     let mut book = book(rt.alloc())?;
     let now = at(1000)?;
-    let deferred = Request {
+    let deferred = creation_with(TusFields {
         defer: Field::One(b"1"),
-        ..request(Method::Post, b"/files/acme")
-    };
+        ..fields()
+    });
     let rows = [
         (deferred, None, b"".as_slice()),
         (
@@ -359,10 +398,15 @@ fn a_get_gives_the_bytes(rt: HostRuntime) -> Result<(), Fail> {
     let mut book = book(rt.alloc())?;
     let now = at(1000)?;
     let get = request(Method::Get, b"/files/acme/1");
-    let unversioned = Request {
-        version: Field::Absent,
-        ..request(Method::Get, b"/files/acme/1")
-    };
+    let unversioned = request_with(
+        Method::Get,
+        b"/files/acme/1",
+        TusFields {
+            version: Field::Absent,
+            ..fields()
+        },
+        b"",
+    );
     answer(&mut book, &creation(b"5"), now);
     let reply = answer(&mut book, &get, now);
     assert_eq!(rt; told_by(&reply), refused(Refusal::Unfinished));
@@ -380,16 +424,16 @@ fn a_refused_creation_uses_no_id(rt: HostRuntime) -> Result<(), Fail> {
     let now = at(1000)?;
     answer(
         &mut book,
-        &Request {
+        &creation_with(TusFields {
             version: Field::Absent,
-            ..creation(b"10")
-        },
+            ..length_fields(b"10")
+        }),
         now,
     );
-    let empty_metadata = Request {
+    let empty_metadata = creation_with(TusFields {
         metadata: Field::One(b""),
-        ..creation(b"10")
-    };
+        ..length_fields(b"10")
+    });
     let reply = answer(&mut book, &empty_metadata, now);
     assert_eq!(rt;
         told_by(&reply),
@@ -398,17 +442,23 @@ fn a_refused_creation_uses_no_id(rt: HostRuntime) -> Result<(), Fail> {
             expires: Some(4600)
         }
     );
-    let untyped = Request {
-        media: Field::Many,
-        ..patch(b"0", b"x")
-    };
+    let untyped = patch_with(
+        TusFields {
+            media: Field::Many,
+            ..patch_fields(b"0")
+        },
+        b"x",
+    );
     let reply = answer(&mut book, &untyped, now);
     assert_eq!(rt; told_by(&reply), at_offset(Refusal::Media));
-    let typed = Request {
-        media: Field::One(b"Application/Offset+Octet-Stream ; a=b"),
-        length: Field::One(b"010"),
-        ..patch(b"0", b"x")
-    };
+    let typed = patch_with(
+        TusFields {
+            media: Field::One(b"Application/Offset+Octet-Stream ; a=b"),
+            length: Field::One(b"010"),
+            ..patch_fields(b"0")
+        },
+        b"x",
+    );
     let reply = answer(&mut book, &typed, now);
     assert_eq!(rt;
         told_by(&reply),

@@ -1,19 +1,35 @@
--- A PATCH that is refused leaves the plain book as it was.
-use Rattle.std.proofs.Common.{◌≡◌, ℕ, Option, Some, None, Result, Ok, Err, refl}
+-- What the outcome of a PATCH tells.
+use Rattle.std.proofs.Common.{◌≡◌, ℕ, ◌⊎◌, Option, Some, None, Result, Ok, Err, OnOk, OnErr, IsOk, refl, inl, inr, sym, ap, ◌∙◌}
+use Rattle.upload_book.specs.Append.{append_refusal, appended, appended_upload, telling, told, upload_with, with_appended, part_after_append, append_answer}
+use Rattle.upload_book.specs.Chunk.{Chunk}
+use Rattle.upload_book.specs.declared.append.Appended.{Appended}
 use Rattle.upload_book.specs.declared.append.Refused.{Refused}
-use Rattle.upload_book.specs.declared.head_row.Name.{Name}
 use Rattle.upload_book.specs.declared.refusal.Refusal.{Refusal}
-use Rattle.upload_book.specs.Append.{Piece, append_refusal, append_reply, answer_seen, append_answer, book_after_reply, book_seen, book_after_append}
-use Rattle.upload_book.specs.PlainBook.{PlainBook, seen_at}
+use Rattle.upload_book.specs.declared.settings.Numbers.{Numbers}
+use Rattle.upload_book.specs.Refusal.{unless, IsAnswer}
+use Rattle.upload_book.specs.TenantBook.{TenantBook}
 use Rattle.upload_book.specs.Upload.{Upload, head_row_of}
 
-book_after_reply-refused : (b : PlainBook) (name : Name) (u : Upload) (why : Option Refusal) (piece : Piece) (now : ℕ) (e : Refused) → append_reply b.settings u why piece now ≡ Err e → book_after_reply b name u why piece now ≡ b
-book_after_reply-refused b name u None piece now e h = cc
-book_after_reply-refused b name u (Some refusal) piece now e h = refl
+-- an answer that accepts comes where no refusal applies
+accepts : (refusal : Option Refusal) (u : Upload) (expires : Option ℕ) (MayLack : Type 0) (lack : Refused) (answer : Appended) → IsAnswer (told (telling expires (unless refusal u))) MayLack (Err lack) (Ok answer) → refusal ≡ None
+accepts None u expires MayLack lack answer is = refl
+accepts (Some refusal) u expires MayLack lack answer (inl is) = absurd (cc)
+accepts (Some refusal) u expires MayLack lack answer (inr lacks) = absurd (let is = lacks.1 in cc)
 
-book_seen-refused : (b : PlainBook) (name : Name) (piece : Piece) (now : ℕ) (s : Result Upload Refusal) (e : Refused) → answer_seen b piece now s ≡ Err e → book_seen b name piece now s ≡ b
-book_seen-refused b name piece now (Ok u) e h = book_after_reply-refused b name u (append_refusal b.settings (head_row_of u) piece) piece now e h
-book_seen-refused b name piece now (Err refusal) e h = refl
+-- what is known of a PATCH that was accepted, and that no refusal applied
+pub unrefused : (n : Numbers) (u : Upload) (chunk : Chunk) (now : ℕ) (MayLack : Type 0) (lack : Refused) (result : Result Appended Refused) (P : Type 0) → IsAnswer (told (telling u.expires (appended_upload n u chunk now))) MayLack (Err lack) result → OnOk result P → OnOk result ((append_refusal n (head_row_of u) chunk ≡ None) × P)
+unrefused n u chunk now MayLack lack (Ok answer) P is accepted = (accepts (append_refusal n (head_row_of u) chunk) (upload_with n u chunk now) u.expires MayLack lack answer is, accepted)
+unrefused n u chunk now MayLack lack (Err refused) P is accepted = tt
 
-pub book_after_append-refused : (b : PlainBook) (name : Name) (piece : Piece) (now : ℕ) (e : Refused) → append_answer b name piece now ≡ Err e → book_after_append b name piece now ≡ b
-book_after_append-refused b name piece now e h = book_seen-refused b name piece now (seen_at b name now) e h
+-- one of the two is known of every result
+pub ok_or_err : (result : Result Appended Refused) (P Q : Type 0) → OnOk result P → OnErr result Q → P ⊎ Q
+ok_or_err (Ok answer) P Q accepted refused = inl accepted
+ok_or_err (Err refused') P Q accepted refused = inr refused
+
+-- a PATCH that is refused leaves the part as it was
+refused_leaves : (part : TenantBook) (id : ℕ) (outcome : Result Upload Refused) (why : Refused) → told outcome ≡ Err why → with_appended part id outcome ≡ part
+refused_leaves part id (Ok u) why is = absurd (cc)
+refused_leaves part id (Err refused) why is = refl
+
+pub part_after_append-refused : (id : ℕ) (chunk : Chunk) (now : ℕ) (n : Numbers) (part : TenantBook) (why : Refused) → append_answer id chunk now n part ≡ Err why → part_after_append id chunk now n part ≡ part
+part_after_append-refused id chunk now n part why is = refused_leaves part id (appended id chunk now n part) why is

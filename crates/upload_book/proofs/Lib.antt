@@ -1,9 +1,11 @@
+pub mod AppendLemmas
 pub mod Entries
 pub mod FirstRefusal
+pub mod KeptLemmas
 pub mod LawfulSteps
-pub mod Shelves
-pub mod TenantLists
 pub mod LawfulAppend
-pub mod AppendLemmas
-pub mod SettingsLemmas
 pub mod LawsLemmas
+pub mod SettingsLemmas
+pub mod TenantLists
+pub mod TextLemmas
+pub mod Visible

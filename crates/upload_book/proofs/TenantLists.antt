@@ -7,8 +7,8 @@ use Rattle.std.proofs.lemmas.Bool.Decides.{nat_tests}
 use Rattle.std.proofs.lemmas.List.Folds.{list_all-map, list_all_at}
 use Rattle.tus_text.specs.Tenant.{is_tenant_name}
 use Rattle.upload_book.specs.declared.settings.TenantQuota.{TenantQuota}
-use Rattle.upload_book.specs.Settings.{tenants_of, is_outside, first_fault, tenant_tests, has_name_twice, is_named_again}
-use Rattle.upload_book.specs.declared.settings.TheConstants.{TENANTS_MAX}
+use Rattle.upload_book.specs.Refusal.{first_that_holds}
+use Rattle.upload_book.specs.Settings.{tenants_of, is_outside, tenant_tests, has_name_twice, is_named_again}
 use Rattle.upload_book.proofs.FirstRefusal.{test-passed}
 
 -- a tenant as it is given
@@ -50,8 +50,8 @@ from_not true is = refl
 from_not false is = sym is
 
 -- where the tenants have no fault, each name fits
-pub names_fit : (blocks : ℕ) (given : List Given) → first_fault (tenant_tests blocks (tenants_of given)) ≡ None → (i : ℕ) (d : Given) → i < length given → length (get_or given i d).0.now ≤ 32
+pub names_fit : (blocks : ℕ) (given : List Given) → first_that_holds (tenant_tests blocks (tenants_of given)) ≡ None → (i : ℕ) (d : Given) → i < length given → length (get_or given i d).0.now ≤ 32
 names_fit blocks given none i d within =
-    let few = test-passed (is_outside (length (tenants_of given)) TENANTS_MAX) _ _ none in
+    let few = test-passed (is_outside (length (tenants_of given)) 16) _ _ none in
     let names = test-passed (not (list_all (λ t. is_tenant_name t.name) (tenants_of given))) _ _ few.1 in
     name_fits _ (list_all-get_or (λ t. is_tenant_name t.0.now) given i d within (sym (all_names_given given) ∙ from_not _ names.0))

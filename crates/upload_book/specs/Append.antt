@@ -1,36 +1,19 @@
 -- The step of a PATCH (tus 1.0.0, Core Protocol, Creation, Expiration and Concatenation).
-use Rattle.std.specs.Prelude.{ℕ, ◌+◌, Bool, true, false, not, ◌||◌, List, [], ◌∷◌, ◌++◌, length, max, nat_lt, ◌==◌, Option, Some, None, unwrap_or, Result, Ok, Err}
+use Rattle.std.specs.Prelude.{ℕ, ◌+◌, Bool, true, false, not, ◌||◌, List, [], ◌∷◌, ◌++◌, length, nat_lt, ◌==◌, Option, Some, None, unwrap_or, Result, Ok, Err}
 use Rattle.std.specs.Option.{option_map_or}
 use Rattle.upload_book.specs.declared.append.Appended.{Appended}
-use Rattle.upload_book.specs.declared.append.Chunk.{Chunk}
+use Rattle.upload_book.specs.Chunk.{Chunk}
 use Rattle.upload_book.specs.declared.append.Refused.{Refused}
 use Rattle.upload_book.specs.declared.head_row.HeadRow.{HeadRow}
 use Rattle.upload_book.specs.declared.head_row.Kind.{Kind}
 use Rattle.upload_book.specs.declared.head_row.Kind.TheVariants.{Plain, Partial, Final}
-use Rattle.upload_book.specs.declared.head_row.Name.{Name}
 use Rattle.upload_book.specs.declared.refusal.Refusal.{Refusal}
 use Rattle.upload_book.specs.declared.refusal.Refusal.TheVariants.{IsFinal, Media, Offset, LengthFixed, TooLong, Memory}
-use Rattle.upload_book.specs.Refusal.{first_refusal}
-use Rattle.upload_book.specs.Settings.{Limits}
-use Rattle.upload_book.specs.Upload.{Upload, content_of, offset_of, is_complete, head_row_of}
-use Rattle.upload_book.specs.PlainBook.{PlainBook, tenant_at, with_tenant, with_upload, seen_at, lifetime_end}
-
--- the bytes of a PATCH, where they go, the length that it tells of the upload, if it does, and whether
--- it has the content type of a PATCH
-pub record Piece : Type 0 where
-  pub offset : ℕ
-  pub length : Option ℕ
-  pub typed : Bool
-  pub bytes : List ℕ
-
--- what a PATCH carries
-abbrev pub piece_of : Chunk → Piece
-piece_of chunk = record {
-  offset = chunk.offset;
-  length = chunk.length;
-  typed = chunk.typed;
-  bytes = chunk.bytes.now;
-}
+use Rattle.upload_book.specs.declared.settings.Numbers.{Numbers}
+use Rattle.upload_book.specs.Expiry.{lifetime_end, renewed}
+use Rattle.upload_book.specs.Refusal.{first_that_holds, unless}
+use Rattle.upload_book.specs.TenantBook.{TenantBook, with_changed, visible_upload}
+use Rattle.upload_book.specs.Upload.{Upload, content_of, is_whole, head_row_of}
 
 -- the kind is that of a final upload
 abbrev pub is_final : Kind → Bool
@@ -48,72 +31,89 @@ abbrev pub differ : Option ℕ → Option ℕ → Bool
 differ known told = option_map_or (λ n. option_map_or (λ k. not (n == k)) told false) known false
 
 -- the length is above the greatest that is allowed, or the bytes go past it
-abbrev pub is_too_long : Limits → ℕ → ℕ → Bool
-is_too_long s most end = nat_lt s.numbers.max_size most || nat_lt most end
+abbrev pub is_too_long : Numbers → ℕ → ℕ → Bool
+is_too_long n most end = nat_lt n.max_size most || nat_lt most end
 
--- why a PATCH of a visible upload is refused
-abbrev pub append_refusal : Limits → HeadRow → Piece → Option Refusal
-append_refusal s row piece = first_refusal (
+-- the tests of a PATCH of a visible upload with this row, in their order
+abbrev pub append_tests : Numbers → HeadRow → Chunk → List (Bool × Refusal)
+append_tests n row chunk =
     (is_final row.kind, IsFinal)
-    ∷ (not piece.typed, Media)
-    ∷ (not (piece.offset == row.offset), Offset)
-    ∷ (differ row.declared piece.length, LengthFixed)
-    ∷ (is_too_long s (unwrap_or (or_else row.declared piece.length) s.numbers.max_size) (row.offset + length piece.bytes), TooLong)
-    ∷ [])
+    ∷ (not chunk.typed, Media)
+    ∷ (not (chunk.offset == row.offset), Offset)
+    ∷ (differ row.declared chunk.length, LengthFixed)
+    ∷ (is_too_long n (unwrap_or (or_else row.declared chunk.length) n.max_size) (row.offset + length chunk.bytes), TooLong)
+    ∷ []
 
--- when an upload expires after a PATCH that gives it until this end: one of its own that is complete,
--- not at all; any other never earlier than before
-abbrev pub renewed : Kind → Bool → Option ℕ → ℕ → Option ℕ
-renewed Plain true before end = None
-renewed Plain false before end = Some (max (unwrap_or before 0) end)
-renewed Partial complete before end = Some (max (unwrap_or before 0) end)
-renewed Final complete before end = before
+-- why a PATCH of a visible upload is refused, if it is
+abbrev pub append_refusal : Numbers → HeadRow → Chunk → Option Refusal
+append_refusal n row chunk = first_that_holds (append_tests n row chunk)
 
--- the upload with the bytes at its end; a length that was not known becomes the one told
-abbrev pub upload_after_append : Limits → Upload → Piece → ℕ → Upload
-upload_after_append s u piece now =
-    let grown = record u { declared = or_else u.declared piece.length; segments = (content_of u ++ piece.bytes) ∷ [] } in
-    record grown { expires = renewed u.kind (is_complete grown) u.expires (lifetime_end s now) }
+-- the row of an upload with the bytes at its end; a length that was not known becomes the one told
+abbrev pub row_with : Numbers → HeadRow → Chunk → ℕ → HeadRow
+row_with n row chunk now =
+    let declared = or_else row.declared chunk.length in
+    let offset = row.offset + length chunk.bytes in
+    record row {
+      offset = offset;
+      declared = declared;
+      expires = renewed row.kind (is_whole declared offset) row.expires (lifetime_end n now);
+    }
 
--- the answer to a PATCH of a visible upload, where this refusal applies to it
-abbrev pub append_reply : Limits → Upload → Option Refusal → Piece → ℕ → Result Appended Refused
-append_reply s u None piece now =
-    let after = upload_after_append s u piece now in
-    Ok (record { offset = offset_of after; expires = after.expires })
-append_reply s u (Some refusal) piece now = Err (record { refusal = refusal; expires = u.expires })
+-- the row of an upload after a PATCH, or why it is refused
+abbrev pub appended_row : Numbers → HeadRow → Chunk → ℕ → Result HeadRow Refusal
+appended_row n row chunk now = unless (append_refusal n row chunk) (row_with n row chunk now)
 
--- the answer to a PATCH of a visible upload
-abbrev pub reply_to : Limits → Upload → Piece → ℕ → Result Appended Refused
-reply_to s u piece now = append_reply s u (append_refusal s (head_row_of u) piece) piece now
+-- the upload with the bytes at its end, and for the rest as its row says
+abbrev pub upload_with : Numbers → Upload → Chunk → ℕ → Upload
+upload_with n u chunk now =
+    let row = row_with n (head_row_of u) chunk now in
+    record u {
+      declared = row.declared;
+      segments = (content_of u ++ chunk.bytes) ∷ [];
+      expires = row.expires;
+    }
 
--- the answer to a PATCH that sees this upload, or none for this reason
-abbrev pub answer_seen : PlainBook → Piece → ℕ → Result Upload Refusal → Result Appended Refused
-answer_seen b piece now (Ok u) = reply_to b.settings u piece now
-answer_seen b piece now (Err refusal) = Err (record { refusal = refusal; expires = None })
+-- the upload after a PATCH of it, or why it is refused
+abbrev pub appended_upload : Numbers → Upload → Chunk → ℕ → Result Upload Refusal
+appended_upload n u chunk now = unless (append_refusal n (head_row_of u) chunk) (upload_with n u chunk now)
+
+-- a refusal tells when the upload expires
+abbrev pub telling : Option ℕ → Result Upload Refusal → Result Upload Refused
+telling expires (Ok u) = Ok u
+telling expires (Err refusal) = Err (record { refusal = refusal; expires = expires })
+
+-- the upload of an id after a PATCH, or why it is refused
+abbrev pub appended : ℕ → Chunk → ℕ → Numbers → TenantBook → Result Upload Refused
+appended id chunk now n part = appended_where (visible_upload part id now) where
+  appended_where : Result Upload Refusal → Result Upload Refused
+  appended_where (Ok u) = telling u.expires (appended_upload n u chunk now)
+  appended_where (Err refusal) = Err (record { refusal = refusal; expires = None })
+
+-- what is told of it
+abbrev pub told : Result Upload Refused → Result Appended Refused
+told (Ok u) = Ok (record { offset = (head_row_of u).offset; expires = u.expires })
+told (Err refused) = Err refused
 
 -- the answer to a PATCH
-abbrev pub append_answer : PlainBook → Name → Piece → ℕ → Result Appended Refused
-append_answer b name piece now = answer_seen b piece now (seen_at b name now)
+abbrev pub append_answer : ℕ → Chunk → ℕ → Numbers → TenantBook → Result Appended Refused
+append_answer id chunk now n part = told (appended id chunk now n part)
 
--- the book after a PATCH of an upload, where this refusal applies to it
-abbrev pub book_after_reply : PlainBook → Name → Upload → Option Refusal → Piece → ℕ → PlainBook
-book_after_reply b name u None piece now =
-    let part = tenant_at b name.tenant in
-    with_tenant b name.tenant (record part { uploads = with_upload part.uploads name.id (upload_after_append b.settings u piece now) })
-book_after_reply b name u (Some refusal) piece now = b
+-- the part with this upload under the id, if there is one
+abbrev pub with_appended : TenantBook → ℕ → Result Upload Refused → TenantBook
+with_appended part id (Ok u) = with_changed part id u
+with_appended part id (Err refused) = part
 
--- the book after a PATCH that sees this upload, or none
-abbrev pub book_seen : PlainBook → Name → Piece → ℕ → Result Upload Refusal → PlainBook
-book_seen b name piece now (Ok u) = book_after_reply b name u (append_refusal b.settings (head_row_of u) piece) piece now
-book_seen b name piece now (Err refusal) = b
+-- the part after a PATCH; one that is refused leaves it as it was
+abbrev pub part_after_append : ℕ → Chunk → ℕ → Numbers → TenantBook → TenantBook
+part_after_append id chunk now n part = with_appended part id (appended id chunk now n part)
 
--- the book after a PATCH; one that is refused leaves it as it was
-abbrev pub book_after_append : PlainBook → Name → Piece → ℕ → PlainBook
-book_after_append b name piece now = book_seen b name piece now (seen_at b name now)
+-- when the visible upload of an id expires, if there is one and it does
+abbrev pub expiry_told : ℕ → ℕ → TenantBook → Option ℕ
+expiry_told id now part = expiry_where (visible_upload part id now) where
+  expiry_where : Result Upload Refusal → Option ℕ
+  expiry_where (Ok u) = u.expires
+  expiry_where (Err refusal) = None
 
--- the refusal where a growth for the bytes was refused: it tells the expiry of the upload that is seen
-abbrev pub no_memory : PlainBook → Name → ℕ → Refused
-no_memory b name now = record { refusal = Memory; expires = expiry_seen (seen_at b name now) } where
-  expiry_seen : Result Upload Refusal → Option ℕ
-  expiry_seen (Ok u) = u.expires
-  expiry_seen (Err refusal) = None
+-- the answer to a PATCH whose bytes find no memory
+abbrev pub append_lacking : ℕ → ℕ → Numbers → TenantBook → Result Appended Refused
+append_lacking id now n part = Err (record { refusal = Memory; expires = expiry_told id now part })

@@ -1,20 +1,25 @@
 -- The step of a GET (RFC 9110, section 9.3.1; tus 1.0.0 leaves it to the server).
-use Rattle.std.specs.Prelude.{ℕ, List, Result, Ok, Err, if◌then◌else◌}
-use Rattle.upload_book.specs.declared.head_row.Name.{Name}
+use Rattle.std.specs.Prelude.{ℕ, Bool, not, List, [], ◌∷◌, Result, Ok, Err}
 use Rattle.upload_book.specs.declared.refusal.Refusal.{Refusal}
 use Rattle.upload_book.specs.declared.refusal.Refusal.TheVariants.{Unfinished}
+use Rattle.upload_book.specs.declared.settings.Numbers.{Numbers}
+use Rattle.upload_book.specs.Refusal.{first_that_holds, unless}
+use Rattle.upload_book.specs.TenantBook.{TenantBook, visible_upload}
 use Rattle.upload_book.specs.Upload.{Upload, content_of, is_complete}
-use Rattle.upload_book.specs.PlainBook.{PlainBook, seen_at}
+
+-- the test of a GET of a visible upload
+abbrev pub content_tests : Upload → List (Bool × Refusal)
+content_tests u = (not (is_complete u), Unfinished) ∷ []
 
 -- the bytes of an upload, once it has all of them
 abbrev pub content_told : Upload → Result (List ℕ) Refusal
-content_told u = if is_complete u then Ok (content_of u) else Err Unfinished
+content_told u = unless (first_that_holds (content_tests u)) (content_of u)
 
--- the bytes of an upload that is seen
-abbrev pub content_seen : Result Upload Refusal → Result (List ℕ) Refusal
-content_seen (Ok u) = content_told u
-content_seen (Err refusal) = Err refusal
+-- the bytes of an upload that is visible
+abbrev pub bytes_of : Result Upload Refusal → Result (List ℕ) Refusal
+bytes_of (Ok u) = content_told u
+bytes_of (Err refusal) = Err refusal
 
--- the bytes that a name stands for at a moment
-abbrev pub content_answer : PlainBook → Name → ℕ → Result (List ℕ) Refusal
-content_answer b name now = content_seen (seen_at b name now)
+-- the bytes of the upload of an id at a moment
+abbrev pub content_answer : ℕ → ℕ → Numbers → TenantBook → Result (List ℕ) Refusal
+content_answer id now n part = bytes_of (visible_upload part id now)

@@ -1,11 +1,30 @@
 -- What every book that steps reach keeps.
-use Rattle.std.specs.Prelude.{◌≡◌, ℕ, ◌+◌, ◌<◌, ◌≤◌, ◌↔◌, List, [], length, map, zip, None, IfSome, IsSome, All}
+use Rattle.std.specs.Prelude.{◌≡◌, ℕ, ◌+◌, ◌<◌, ◌≤◌, ◌↔◌, Bool, true, List, [], length, map, zip, Option, Some, None, IfSome, IsSome, IsTrue, All, codes}
 use Rattle.std.specs.List.Sorted.{IsStrictlyIncreasing}
+use Rattle.tus_text.specs.Concat.{concat_of}
+use Rattle.tus_text.specs.Metadata.{is_metadata}
+use Rattle.tus_text.specs.declared.concat.Concat.TheVariants as concat
+use Rattle.tus_text.specs.declared.concat.PartPath.{PartPath}
 use Rattle.upload_book.specs.declared.head_row.Kind.{Kind}
 use Rattle.upload_book.specs.declared.head_row.Kind.TheVariants.{Plain, Partial, Final}
-use Rattle.upload_book.specs.Settings.{Limits, settings_fault}
+use Rattle.upload_book.specs.declared.settings.Numbers.{Numbers}
+use Rattle.upload_book.specs.declared.settings.TenantQuota.{TenantQuota}
+use Rattle.upload_book.specs.Settings.{Settings, settings_fault}
 use Rattle.upload_book.specs.Upload.{Upload, content_of, offset_of, IsComplete}
-use Rattle.upload_book.specs.PlainBook.{PlainBook, TenantBook, upload_in}
+use Rattle.upload_book.specs.TenantBook.{Entry, TenantBook, kept_in}
+use Rattle.upload_book.specs.PlainBook.{PlainBook}
+
+-- a text of metadata that is kept: none, or one of the field's form
+abbrev pub is_kept_metadata : List ℕ → Bool
+is_kept_metadata [] = true
+is_kept_metadata text = is_metadata text
+
+-- a concat text that is kept for an upload of a kind: none for one of its own, `partial` for a part, and
+-- one that names its parts for a final upload
+abbrev pub IsConcatText : Kind → List ℕ → Type 0
+IsConcatText Plain text = text ≡ []
+IsConcatText Partial text = text ≡ codes "partial"
+IsConcatText Final text = (parts : List PartPath) × (concat_of text ≡ Some (concat.Final parts))
 
 -- the id was given
 abbrev pub IsGivenIn : TenantBook → ℕ → Type 0
@@ -14,7 +33,7 @@ IsGivenIn part id = (0 < id) × (id < part.next)
 -- a part of a final upload that still stands is a complete partial upload whose bytes are the segment
 abbrev pub IsSegmentOf : TenantBook → ℕ → List ℕ → Type 0
 IsSegmentOf part id segment =
-    IfSome (upload_in part.uploads id) (λ p. (p.kind ≡ Partial) × IsComplete p × (content_of p ≡ segment))
+    IfSome (kept_in part.uploads id) (λ p. (p.kind ≡ Partial) × IsComplete p × (content_of p ≡ segment))
 
 -- a final upload was made of 1 to 32 parts that were given, and has a segment for each
 pub record HasParts (part : TenantBook) (u : Upload) : Type 0 where
@@ -35,23 +54,25 @@ IsOfKind part u Plain = IsWhole u × (IsSome u.expires ↔ ¬ (IsComplete u))
 IsOfKind part u Partial = IsWhole u × IsSome u.expires
 IsOfKind part u Final = HasParts part u × IsComplete u × (u.expires ≡ None)
 
--- an upload is within its length and the greatest size, and as its kind asks
-pub record IsUploadOf (s : Limits) (part : TenantBook) (u : Upload) : Type 0 where
-  pub within : IfSome u.declared (λ n. (offset_of u ≤ n) × (n ≤ s.numbers.max_size))
-  pub size : offset_of u ≤ s.numbers.max_size
+-- an upload is within its length and the greatest size, as its kind asks, and its texts are of their forms
+pub record IsUploadOf (n : Numbers) (part : TenantBook) (u : Upload) : Type 0 where
+  pub within : IfSome u.declared (λ declared. (offset_of u ≤ declared) × (declared ≤ n.max_size))
+  pub size : offset_of u ≤ n.max_size
   pub kind : IsOfKind part u u.kind
+  pub metadata : IsTrue (is_kept_metadata u.metadata)
+  pub concat : IsConcatText u.kind u.concat
 
 -- a tenant's uploads are few enough, under ids that ascend and were given
-pub record IsTenantOf (s : Limits) (part : TenantBook) : Type 0 where
+pub record IsTenantOf (n : Numbers) (part : TenantBook) : Type 0 where
   pub first : 0 < part.next
-  pub last : part.next ≤ s.numbers.last_id + 1
-  pub few : length part.uploads ≤ s.numbers.uploads
+  pub last : part.next ≤ n.last_id + 1
+  pub few : length part.uploads ≤ n.uploads
   pub ascending : IsStrictlyIncreasing (map (λ e. e.id) part.uploads)
   pub given : All (λ e. IsGivenIn part e.id) part.uploads
-  pub uploads : All (λ e. IsUploadOf s part e.upload) part.uploads
+  pub uploads : All (λ e. IsUploadOf n part e.kept) part.uploads
 
--- the settings have no fault, and each tenant of theirs has a part that is as it should be
+-- the settings have no fault, and each tenant of theirs has a part with its quota that is as it should be
 pub record IsLawful (b : PlainBook) : Type 0 where
   pub settings : settings_fault b.settings ≡ None
-  pub each : length b.tenants ≡ length b.settings.tenants
-  pub tenants : All (IsTenantOf b.settings) b.tenants
+  pub quotas : map {A = TenantBook} {B = ℕ} (λ part. part.quota) b.tenants ≡ map {A = TenantQuota} {B = ℕ} (λ t. t.quota) b.settings.tenants
+  pub tenants : All (IsTenantOf b.settings.numbers) b.tenants

@@ -1,26 +1,7 @@
--- The refusals of the steps, and the first of several tests that applies.
-use Rattle.std.specs.Prelude.{◌≡◌, ◌⊎◌, ℕ, Bool, List, [], ◌∷◌, Option, Some, None, Result, Ok, Err, codes, if◌then◌else◌}
+-- The refusals of the steps: their words and statuses, and the first of several tests that applies.
+use Rattle.std.specs.Prelude.{◌≡◌, ◌⊎◌, ℕ, Bool, List, [], ◌∷◌, map, Option, Some, None, Result, Ok, Err, codes, if◌then◌else◌}
 use Rattle.upload_book.specs.declared.refusal.Refusal.{Refusal}
 use Rattle.upload_book.specs.declared.refusal.Refusal.TheVariants.{Version, Path, Tenant, Method, Field, Unknown, Gone, IsFinal, Media, Offset, LengthFixed, TooLong, Unfinished, Uploads, Spent, Memory}
-
--- its place in the order of checking; the numbers left out are those of requests that are not served
-abbrev pub number_of : Refusal → ℕ
-number_of Version = 1
-number_of Path = 2
-number_of Tenant = 3
-number_of Method = 4
-number_of Field = 5
-number_of Unknown = 6
-number_of Gone = 7
-number_of IsFinal = 8
-number_of Media = 9
-number_of Offset = 10
-number_of LengthFixed = 11
-number_of TooLong = 12
-number_of Unfinished = 15
-number_of Uploads = 16
-number_of Spent = 17
-number_of Memory = 20
 
 -- the word that names it, which is the body of its reply
 abbrev pub word_of : Refusal → List ℕ
@@ -62,22 +43,21 @@ status_of Uploads = 507
 status_of Spent = 507
 status_of Memory = 503
 
--- the refusal of the first test that holds, if one does
-abbrev pub first_refusal : List (Bool × Refusal) → Option Refusal
-first_refusal [] = None
-first_refusal (test ∷ tests) = if test.0 then Some test.1 else first_refusal tests
+-- the reason of the first test that holds, if one does
+abbrev pub first_that_holds : {R : Type 0} → List (Bool × R) → Option R
+first_that_holds [] = None
+first_that_holds (test ∷ tests) = if test.0 then Some test.1 else first_that_holds tests
 
--- the answer, unless it is refused
+-- the words of the refusals that are tested for, in their order
+abbrev pub words_of : List (Bool × Refusal) → List (List ℕ)
+words_of [] = []
+words_of (test ∷ tests) = word_of test.1 ∷ words_of tests
+
+-- the value, unless it is refused
 abbrev pub unless : {A : Type 0} → Option Refusal → A → Result A Refusal
-unless None answer = Ok answer
-unless (Some refusal) answer = Err refusal
+unless None value = Ok value
+unless (Some refusal) value = Err refusal
 
--- the book after, which a refusal leaves as it was
-abbrev pub kept_if_refused : {B : Type 0} → Option Refusal → B → B → B
-kept_if_refused None before after = after
-kept_if_refused (Some refusal) before after = before
-
--- the result is the step's answer; where the step accepts, it may instead be a refusal for want of memory
-abbrev pub IsAnswer : {A E : Type 0} → Result A E → E → Result A E → Type 0
-IsAnswer (Ok answer) lack result = (result ≡ Ok answer) ⊎ (result ≡ Err lack)
-IsAnswer (Err refusal) lack result = result ≡ Err refusal
+-- the result is the answer; or memory may be lacking, and it is the answer that says so
+abbrev pub IsAnswer : {A : Type 0} → A → Type 0 → A → A → Type 0
+IsAnswer answer MayLack lack result = (result ≡ answer) ⊎ (MayLack × (result ≡ lack))

@@ -1,16 +1,16 @@
 -- What a server is set up with, and the first fault of what was given.
-use Rattle.std.specs.Prelude.{ℕ, ◌*◌, ◌-◌, ◌^◌, Bool, false, not, ◌||◌, List, [], ◌∷◌, ◌++◌, length, map, sum_by, nat_lt, ◌==◌, Option, Some, None, Result, Ok, Err, bytes_eq, if◌then◌else◌, position}
+use Rattle.std.specs.Prelude.{ℕ, ◌*◌, ◌-◌, ◌^◌, Bool, false, not, ◌||◌, List, [], ◌∷◌, ◌++◌, length, map, sum_by, nat_lt, ◌==◌, Option, Some, None, Result, Ok, Err, bytes_eq, codes, position}
 use Rattle.std.specs.Borrow.{Bor}
 use Rattle.std.specs.List.{list_all, list_any}
 use Rattle.tus_text.specs.Tenant.{is_tenant_name}
 use Rattle.upload_book.specs.declared.settings.Numbers.{Numbers}
 use Rattle.upload_book.specs.declared.settings.TenantQuota.{TenantQuota}
-use Rattle.upload_book.specs.declared.settings.SettingsFault.{SettingsFault}
-use Rattle.upload_book.specs.declared.settings.SettingsFault.TheVariants.{Blocks, BlockSize, PoolBytes, Lifetime, MaxSize, Uploads, LastId, TenantCount, TenantName, TenantTwice, Quota}
-use Rattle.upload_book.specs.declared.settings.TheConstants.{TENANTS_MAX}
+use Rattle.upload_book.specs.declared.settings_fault.SettingsFault.{SettingsFault}
+use Rattle.upload_book.specs.declared.settings_fault.SettingsFault.TheVariants.{Blocks, BlockSize, PoolBytes, Lifetime, MaxSize, Uploads, LastId, TenantCount, TenantName, TenantTwice, Quota}
+use Rattle.upload_book.specs.Refusal.{first_that_holds}
 
 -- the numbers, and the tenants in the order in which they were given
-pub record Limits : Type 0 where
+pub record Settings : Type 0 where
   pub numbers : Numbers
   pub tenants : List TenantQuota
 
@@ -31,11 +31,6 @@ abbrev pub has_name_twice : List TenantQuota → Bool
 has_name_twice [] = false
 has_name_twice (t ∷ tenants) = is_named_again t.name tenants || has_name_twice tenants
 
--- the fault of the first test that holds, if one does
-abbrev pub first_fault : List (Bool × SettingsFault) → Option SettingsFault
-first_fault [] = None
-first_fault (test ∷ tests) = if test.0 then Some test.1 else first_fault tests
-
 -- the tests of the numbers, in this order
 abbrev pub number_tests : Numbers → List (Bool × SettingsFault)
 number_tests n =
@@ -51,23 +46,37 @@ number_tests n =
 -- the tests of the tenants, whose quotas may be this many blocks together
 abbrev pub tenant_tests : ℕ → List TenantQuota → List (Bool × SettingsFault)
 tenant_tests blocks tenants =
-    (is_outside (length tenants) TENANTS_MAX, TenantCount)
+    (is_outside (length tenants) 16, TenantCount)
     ∷ (not (list_all (λ t. is_tenant_name t.name) tenants), TenantName)
     ∷ (has_name_twice tenants, TenantTwice)
     ∷ (nat_lt blocks (sum_by (λ t. t.quota) tenants), Quota)
     ∷ []
 
 -- the first fault of the settings: those of the numbers come first
-abbrev pub settings_fault : Limits → Option SettingsFault
-settings_fault s = first_fault (number_tests s.numbers ++ tenant_tests s.numbers.blocks s.tenants)
+abbrev pub settings_fault : Settings → Option SettingsFault
+settings_fault s = first_that_holds (number_tests s.numbers ++ tenant_tests s.numbers.blocks s.tenants)
 
 -- settings are those that were given, unless these have a fault
-abbrev pub settings_of : Limits → Result Limits SettingsFault
+abbrev pub settings_of : Settings → Result Settings SettingsFault
 settings_of given = settings_or given (settings_fault given) where
-  settings_or : Limits → Option SettingsFault → Result Limits SettingsFault
+  settings_or : Settings → Option SettingsFault → Result Settings SettingsFault
   settings_or given None = Ok given
   settings_or given (Some fault) = Err fault
 
+-- the word that names a fault
+abbrev pub fault_word : SettingsFault → List ℕ
+fault_word Blocks = codes "blocks"
+fault_word BlockSize = codes "block-size"
+fault_word PoolBytes = codes "pool-bytes"
+fault_word Lifetime = codes "lifetime"
+fault_word MaxSize = codes "max-size"
+fault_word Uploads = codes "uploads"
+fault_word LastId = codes "last-id"
+fault_word TenantCount = codes "tenants"
+fault_word TenantName = codes "tenant"
+fault_word TenantTwice = codes "twice"
+fault_word Quota = codes "quota"
+
 -- the place of a name in the list of tenants, from 0
-abbrev pub tenant_place : Limits → List ℕ → Option ℕ
+abbrev pub tenant_place : Settings → List ℕ → Option ℕ
 tenant_place s name = position (λ t. bytes_eq t.name name) s.tenants

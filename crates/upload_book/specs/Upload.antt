@@ -1,6 +1,6 @@
 -- An upload as the plain book has it (tus 1.0.0, Core Protocol, Creation, Expiration and
 -- Concatenation).
-use Rattle.std.specs.Prelude.{◌≡◌, ℕ, ◌+◌, ◌-◌, ◌/◌, Bool, false, List, length, flat_map, nat_le, ◌==◌, Option, Some}
+use Rattle.std.specs.Prelude.{◌≡◌, ℕ, Bool, false, List, length, flat_map, ◌==◌, Option, Some}
 use Rattle.std.specs.Option.{option_map_or}
 use Rattle.upload_book.specs.declared.head_row.Kind.{Kind}
 use Rattle.upload_book.specs.declared.head_row.HeadRow.{HeadRow}
@@ -24,17 +24,17 @@ content_of u = flat_map (λ segment. segment) u.segments
 abbrev pub offset_of : Upload → ℕ
 offset_of u = length (content_of u)
 
+-- the length is known, and so many bytes are all of them
+abbrev pub is_whole : Option ℕ → ℕ → Bool
+is_whole declared offset = option_map_or (λ n. n == offset) declared false
+
 -- its length is known, and it has all of its bytes
 abbrev pub is_complete : Upload → Bool
-is_complete u = option_map_or (λ n. n == offset_of u) u.declared false
+is_complete u = is_whole u.declared (offset_of u)
 
 -- the same as a fact
 abbrev pub IsComplete : Upload → Type 0
 IsComplete u = u.declared ≡ Some (offset_of u)
-
--- it expires at this moment or before it
-abbrev pub is_expired : ℕ → Upload → Bool
-is_expired now u = option_map_or (λ e. nat_le e now) u.expires false
 
 -- what a HEAD tells of it
 abbrev pub head_row_of : Upload → HeadRow
@@ -46,7 +46,3 @@ head_row_of u = record {
   concat = u.concat;
   expires = u.expires;
 }
-
--- how many blocks of a size n bytes take: the least number of blocks that hold them
-abbrev pub blocks_for : ℕ → ℕ → ℕ
-blocks_for size n = (n + size - 1) / size

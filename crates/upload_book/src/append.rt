@@ -1,14 +1,20 @@
-ghost use Rattle.std.specs.Prelude.{◌≡◌, [], OnOk, OnErr};
-ghost use Rattle.upload_book.specs.Append.{piece_of, append_answer, book_after_append, no_memory};
+ghost use Rattle.std.specs.Prelude.{◌≡◌, OnOk, OnErr};
+ghost use Rattle.upload_book.specs.Append.{append_answer, append_lacking, part_after_append};
+ghost use Rattle.upload_book.specs.Book.{plain_of};
+ghost use Rattle.upload_book.specs.Operation.{MayLackMemory};
+ghost use Rattle.upload_book.specs.declared.operation.Operation.TheVariants as operation;
+ghost use Rattle.upload_book.specs.PlainBook.{answer_of, book_after};
 ghost use Rattle.upload_book.specs.Refusal.{IsAnswer};
 
 use crate::book::Book;
 use crate::head_row::Name;
 use crate::moment::Moment;
 use crate::refusal::Refusal;
+use std::marker::Model;
 
-/// The bytes of a PATCH, and what it says of them (tus 1.0.0, Core Protocol and Creation).
-#[derive(Clone, Copy)]
+/// The bytes of a PATCH, and what it says of them (tus 1.0.0, Core Protocol and Creation). A contract sees
+/// the bytes as a list.
+#[derive(Drop)]
 pub struct Chunk<'a> {
     /// `Upload-Offset`: where the bytes go.
     pub offset: u64,
@@ -17,6 +23,19 @@ pub struct Chunk<'a> {
     /// Whether the content type is `application/offset+octet-stream`.
     pub typed: bool,
     pub bytes: &'a [u8],
+}
+
+impl<'a> Model for Chunk<'a> {
+    ghost use Rattle.upload_book.specs.Chunk as spec;
+
+    ghost Value = { spec.Chunk };
+
+    ghost view = { λ chunk. record {
+      offset = chunk.offset;
+      length = chunk.length;
+      typed = chunk.typed;
+      bytes = chunk.bytes.now;
+    } };
 }
 
 /// The upload after a PATCH that was accepted.
@@ -45,19 +64,19 @@ impl Book {
     /// LengthFixed, TooLong; and where none of them does, as Memory where the bytes find no room. A
     /// refusal leaves the book as it was.
     pub fn append(&mut self, name: &Name, chunk: Chunk, now: Moment) -> Result<Appended, Refused>
-        ensures answer { IsAnswer (append_answer self.old name.now (piece_of chunk.entry) now)
-            (no_memory self.old name.now now) result }
-        ensures no_bytes { chunk.entry.bytes.now ≡ []
-            → result ≡ append_answer self.old name.now (piece_of chunk.entry) now }
-        ensures accepted { OnOk result
-            (self.new ≡ book_after_append self.old name.now (piece_of chunk.entry) now) }
+        ensures answer { IsAnswer
+            (answer_of (plain_of self.old) name.now.tenant (append_answer name.now.id chunk.entry now))
+            (MayLackMemory (plain_of self.old) (operation.Append name.now chunk.entry) now)
+            (answer_of (plain_of self.old) name.now.tenant (append_lacking name.now.id now)) result }
+        ensures accepted { OnOk result (plain_of self.new ≡ book_after (plain_of self.old)
+            name.now.tenant (part_after_append name.now.id chunk.entry now)) }
         ensures refused { OnErr result (self.new ≡ self.old) }
     {
         match self.place(name, now) {
             Ok(place) => {
-                let shelf = &mut self.shelves[usize::from(name.tenant)];
-                let row = &mut shelf.rows[place];
-                row.append(&self.settings, chunk, now)
+                let part = &mut self.tenants[usize::from(name.tenant)];
+                let upload = &mut part.uploads[place];
+                upload.append(self.settings.numbers(), &chunk, now)
             }
             Err(refusal) => Err(Refused {
                 refusal,

@@ -1,9 +1,10 @@
 ghost use Rattle.std.specs.Prelude.{◌≡◌, IfOk};
+ghost use Rattle.upload_book.specs.Book.{plain_of};
 ghost use Rattle.upload_book.specs.Lawful.{IsLawful};
 ghost use Rattle.upload_book.specs.PlainBook.{opening_book};
 
 use crate::settings::Settings;
-use crate::shelf::Shelf;
+use crate::tenant_book::TenantBook;
 use std::alloc::{AllocError, Global};
 use std::marker::Model;
 
@@ -12,7 +13,7 @@ use std::marker::Model;
 #[derive(Drop)]
 pub struct Book {
     pub(crate) settings: Settings,
-    pub(crate) shelves: Vec<Shelf>,
+    pub(crate) tenants: Vec<TenantBook>,
     pub(crate) alloc: Global,
 }
 
@@ -21,7 +22,7 @@ impl Model for Book {
 
     ghost Value = { PlainBook };
 
-    ghost use Rattle.upload_book.specs.Book.{book_of, IsKept};
+    ghost use Rattle.upload_book.specs.Kept.{book_of, IsKept};
 
     ghost view = { book_of };
 
@@ -29,29 +30,31 @@ impl Model for Book {
 }
 
 impl Book {
-    /// The book with no upload. All its tables are reserved here.
+    /// The book with no upload. All its tables are reserved here; the error is that there was no memory
+    /// for them.
     pub fn new(alloc: Global, settings: Settings) -> Result<Book, AllocError>
-        ensures { IfOk result (λ b. b ≡ opening_book settings) }
+        ensures { IfOk result (λ b. plain_of b ≡ opening_book settings) }
     {
-        let numbers = settings.numbers();
-        let mut shelves = Vec::with_capacity(alloc, settings.tenant_count())?;
-        for _ in 0..settings.tenant_count() {
-            shelves.push_reserved(Shelf {
+        let room = settings.numbers().uploads as usize;
+        let mut tenants = Vec::with_capacity(alloc, settings.tenant_count())?;
+        for place in 0..settings.tenant_count() {
+            tenants.push_reserved(TenantBook {
+                quota: settings.quota(place),
                 next: 1,
-                rows: Vec::with_capacity(alloc, numbers.uploads as usize)?,
+                uploads: Vec::with_capacity(alloc, room)?,
             });
         }
         Ok(Book {
             settings,
-            shelves,
+            tenants,
             alloc,
         })
     }
 
     /// What the book was set up with.
     pub fn settings(&self) -> &Settings
-        ensures value { result.now ≡ self.now.settings }
-        ensures lawful { IsLawful self.now }
+        ensures value { result.now ≡ (plain_of self.now).settings }
+        ensures lawful { IsLawful (plain_of self.now) }
     {
         &self.settings
     }

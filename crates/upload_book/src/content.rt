@@ -1,5 +1,9 @@
-ghost use Rattle.std.specs.Prelude.{◌≡◌, [], Ok};
+ghost use Rattle.std.specs.Prelude.{◌≡◌, Err};
+ghost use Rattle.upload_book.specs.Book.{plain_of};
 ghost use Rattle.upload_book.specs.Content.{content_answer};
+ghost use Rattle.upload_book.specs.Operation.{MayLackMemory};
+ghost use Rattle.upload_book.specs.declared.operation.Operation.TheVariants as operation;
+ghost use Rattle.upload_book.specs.PlainBook.{answer_of};
 ghost use Rattle.upload_book.specs.Refusal.{IsAnswer};
 
 use crate::book::Book;
@@ -53,11 +57,13 @@ impl Book {
     /// bytes; and where none of them does, as Memory where the copy finds no room. An upload without
     /// bytes needs none.
     pub fn content(&self, name: &Name, now: Moment) -> Result<Content, Refusal>
-        ensures answer { IsAnswer (content_answer self.now name.now now) Refusal.Memory result }
-        ensures no_bytes { content_answer self.now name.now now ≡ Ok [] → result ≡ Ok [] }
+        ensures { IsAnswer
+            (answer_of (plain_of self.now) name.now.tenant (content_answer name.now.id now))
+            (MayLackMemory (plain_of self.now) (operation.Content name.now) now)
+            (Err Refusal.Memory) result }
     {
         let place = self.place(name, now)?;
-        let shelf = &self.shelves[usize::from(name.tenant)];
-        shelf.rows[place].content(self.alloc)
+        let part = &self.tenants[usize::from(name.tenant)];
+        part.uploads[place].content(self.alloc)
     }
 }

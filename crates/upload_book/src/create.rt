@@ -1,27 +1,44 @@
-ghost use Rattle.std.specs.Prelude.{◌≡◌, ◌<◌, ◌≤◌, length};
-ghost use Rattle.upload_book.specs.Create.{wish_of, create_refusal, create_answer, book_after_create};
-ghost use Rattle.upload_book.specs.Shelf.{tenant_of};
+ghost use Rattle.std.specs.Prelude.{◌≡◌, ◌<◌, length, IsTrue};
+ghost use Rattle.upload_book.specs.Book.{plain_of};
+ghost use Rattle.upload_book.specs.Create.{new_kind, creation_refusal, create_answer, part_after_create};
+ghost use Rattle.upload_book.specs.Kept.{part_of};
+ghost use Rattle.upload_book.specs.Lawful.{IsConcatText, is_kept_metadata};
+ghost use Rattle.upload_book.specs.PlainBook.{answer_of, book_after};
 
 use crate::book::Book;
 use crate::head_row::Name;
 use crate::moment::Moment;
 use crate::refusal::Refusal;
-use crate::row::Row;
-use crate::settings::Settings;
-use crate::shelf::Shelf;
-use tus_text::{CONCAT_MAX, METADATA_MAX};
+use crate::settings::Numbers;
+use crate::stored_upload::StoredUpload;
+use crate::tenant_book::TenantBook;
+use std::marker::Model;
 
-/// The upload that a creation asks for (tus 1.0.0, Creation and Concatenation).
-#[derive(Clone, Copy)]
+/// The upload that a creation asks for (tus 1.0.0, Creation and Concatenation). A contract sees its texts
+/// as lists of bytes.
+#[derive(Drop)]
 pub struct NewUpload<'a> {
     /// Whether it is a part of a later final upload.
     pub partial: bool,
     /// Its length in bytes, or None where that will be told later.
     pub length: Option<u64>,
-    /// `Upload-Metadata`, at most 1,024 bytes; empty where there is none.
+    /// `Upload-Metadata`; empty where there is none.
     pub metadata: &'a [u8],
-    /// `Upload-Concat`, at most 2,048 bytes; empty where there is none.
+    /// `Upload-Concat`: `partial` for a part, and empty otherwise.
     pub concat: &'a [u8],
+}
+
+impl<'a> Model for NewUpload<'a> {
+    ghost use Rattle.upload_book.specs.NewUpload as spec;
+
+    ghost Value = { spec.NewUpload };
+
+    ghost view = { λ new. record {
+      partial = new.partial;
+      length = new.length;
+      metadata = new.metadata.now;
+      concat = new.concat.now;
+    } };
 }
 
 /// The upload that was created.
@@ -38,22 +55,24 @@ impl Book {
     /// It is refused, in this order, as TooLong where the length is above the greatest size, as
     /// Uploads where the tenant has its greatest number of uploads, expired ones included, and as
     /// Spent where the tenant's ids are used up. A refusal leaves the book as it was, and uses no id.
-    pub fn create(&mut self, tenant: u8, wish: NewUpload, now: Moment) -> Result<Created, Refusal>
-        requires tenant_there { tenant < length self.old.settings.tenants }
-        requires metadata_fits { length wish.metadata.now ≤ METADATA_MAX }
-        requires concat_fits { length wish.concat.now ≤ CONCAT_MAX }
-        ensures answer { result ≡ create_answer self.old tenant (wish_of wish.entry) now }
-        ensures after { self.new ≡ book_after_create self.old tenant (wish_of wish.entry) now }
+    pub fn create(&mut self, tenant: u8, new: NewUpload, now: Moment) -> Result<Created, Refusal>
+        requires tenant_there { tenant < length (plain_of self.old).settings.tenants }
+        requires metadata { IsTrue (is_kept_metadata new.metadata) }
+        requires concat { IsConcatText (new_kind new.partial) new.concat }
+        ensures answer { result ≡ answer_of (plain_of self.old) tenant (create_answer tenant new.entry now) }
+        ensures after { plain_of self.new
+            ≡ book_after (plain_of self.old) tenant (part_after_create new.entry now) }
     {
-        let shelf = &mut self.shelves[usize::from(tenant)];
-        if let Some(refusal) = create_refusal(&self.settings, shelf, wish) {
+        let numbers = self.settings.numbers();
+        let part = &mut self.tenants[usize::from(tenant)];
+        if let Some(refusal) = creation_refusal(numbers, part, &new) {
             return Err(refusal);
         }
-        let id = shelf.next;
-        let row = Row::new(self.alloc, &self.settings, id, wish, now);
-        let expires = row.expires();
-        shelf.rows.push_reserved(row);
-        shelf.next += 1;
+        let id = part.next;
+        let upload = StoredUpload::new(self.alloc, numbers, id, &new, now);
+        let expires = upload.expires();
+        part.uploads.push_reserved(upload);
+        part.next += 1;
         Ok(Created {
             name: Name { tenant, id },
             expires,
@@ -62,15 +81,14 @@ impl Book {
 }
 
 // Why the tenant's next creation is refused, if it is.
-fn create_refusal(settings: &Settings, shelf: &Shelf, wish: NewUpload) -> Option<Refusal>
-    ensures { result ≡ create_refusal settings.now (tenant_of shelf.now) (wish_of wish.entry) }
+fn creation_refusal(numbers: &Numbers, part: &TenantBook, new: &NewUpload) -> Option<Refusal>
+    ensures { result ≡ creation_refusal numbers.now (part_of part.now) new.now }
 {
-    let numbers = settings.numbers();
-    if wish.length.is_some_and(|n| n > numbers.max_size) {
+    if new.length.is_some_and(|n| n > numbers.max_size) {
         Some(Refusal::TooLong)
-    } else if shelf.rows.len() as u64 >= numbers.uploads {
+    } else if part.uploads.len() as u64 >= numbers.uploads {
         Some(Refusal::Uploads)
-    } else if shelf.next > numbers.last_id {
+    } else if part.next > numbers.last_id {
         Some(Refusal::Spent)
     } else {
         None

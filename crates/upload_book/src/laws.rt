@@ -1,10 +1,19 @@
-//! A law of the definitions that the contracts cite: it is the contract of a function that does
-//! nothing, and holds of every lawful book.
-ghost use Rattle.upload_book.specs.Laws.{ResumedPatch};
+//! Laws of the definitions that the contracts cite: each is the contract of a function that does nothing.
+ghost use Rattle.upload_book.specs.Laws.{FollowOrder, ResumedPatch, RowsFollow};
 
-/// An upload goes on where it stopped: a PATCH that is accepted may be sent in two, of which the
-/// second begins at the offset after the first. At one moment both are accepted, and the last answer
-/// and the book after it are those of the whole.
+/// The tests that decide on a creation, on a PATCH and on a GET follow the one order of refusals.
+pub fn refusals_follow_the_order()
+    ensures { FollowOrder }
+{}
+
+/// An upload goes on where it stopped: a PATCH that is accepted may be sent in two, of which the second
+/// begins at the offset after the first. At one moment both are accepted, and the last answer and the
+/// tenant's part after it are those of the whole.
 pub fn resumed_patch()
     ensures { ResumedPatch }
+{}
+
+/// What a HEAD tells after a PATCH is determined by what it told before, and by the chunk.
+pub fn rows_follow()
+    ensures { RowsFollow }
 {}

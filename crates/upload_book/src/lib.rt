@@ -2,18 +2,21 @@
 //! book of byte lists answers it.
 #![tactic(auto)]
 
-pub mod append;
-pub mod book;
-pub mod content;
-pub mod create;
-pub mod head_row;
+mod append;
+mod book;
+mod content;
+mod create;
+mod expiry;
+mod head_row;
 pub mod laws;
-pub mod look;
-pub mod moment;
-pub mod refusal;
-mod row;
-pub mod settings;
-mod shelf;
+mod look;
+mod moment;
+mod operation;
+mod refusal;
+mod settings;
+mod settings_fault;
+mod stored_upload;
+mod tenant_book;
 #[cfg(test)]
 mod tests;
 
@@ -23,5 +26,7 @@ pub use content::Content;
 pub use create::{Created, NewUpload};
 pub use head_row::{HeadRow, Kind, Name};
 pub use moment::Moment;
-pub use refusal::{Refusal, Rule};
-pub use settings::{Numbers, Settings, SettingsFault, TenantQuota};
+pub use operation::Operation;
+pub use refusal::Refusal;
+pub use settings::{Numbers, Settings, TenantQuota};
+pub use settings_fault::SettingsFault;

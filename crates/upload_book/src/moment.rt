@@ -1,5 +1,4 @@
 ghost use Rattle.std.specs.Prelude.{◌≡◌, ◌+◌, ◌≤◌, min, SomeIff};
-ghost use Rattle.tus_text.specs.declared.date.TheConstants.{LAST_SECOND};
 
 use std::marker::Model;
 use tus_text::date::LAST_SECOND;
@@ -13,13 +12,12 @@ pub struct Moment {
 
 impl Model for Moment {
     ghost use Rattle.std.specs.Prelude.{ℕ, ◌≤◌};
-    ghost use Rattle.tus_text.specs.declared.date.TheConstants.{LAST_SECOND};
 
     ghost Value = { ℕ };
 
     ghost view = { λ m. m.secs };
 
-    ghost invariant = { λ m. m.secs ≤ LAST_SECOND };
+    ghost invariant = { λ m. m.secs ≤ 253402300799 };
 
     ghost inverse = { λ n. record { secs = n } };
 }
@@ -27,7 +25,7 @@ impl Model for Moment {
 impl Moment {
     /// The moment `secs` seconds after the first of January 1970, or None past the year 9999.
     pub fn new(secs: u64) -> Option<Moment>
-        ensures { SomeIff result (secs ≤ LAST_SECOND) secs }
+        ensures { SomeIff result (secs ≤ 253402300799) secs }
     {
         if secs <= LAST_SECOND {
             Some(Moment { secs })
@@ -39,14 +37,14 @@ impl Moment {
     /// The seconds since the first of January 1970.
     pub fn secs(self) -> u64
         ensures value { result ≡ self }
-        ensures range { result ≤ LAST_SECOND }
+        ensures range { result ≤ 253402300799 }
     {
         self.secs
     }
 
     /// The moment `secs` seconds later, or the last one that there is.
     pub(crate) fn after(self, secs: u64) -> Moment
-        ensures { result ≡ min (self + secs) LAST_SECOND }
+        ensures { result ≡ min (self + secs) 253402300799 }
     {
         Moment {
             secs: self.secs.saturating_add(secs).min(LAST_SECOND),

@@ -1,11 +1,13 @@
-ghost use Rattle.std.specs.Prelude.{◌≡◌};
-ghost use Rattle.upload_book.specs.Refusal.{number_of, word_of, status_of};
+ghost use Rattle.std.specs.Prelude.{◌≡◌, ◌≤◌, Some, length};
+ghost use Rattle.upload_book.specs.Refusal.{word_of, status_of};
 
-use thiserror::Error;
+use std::error::Error;
+use std::fmt;
+use std::fmt::{Display, Formatter, Write};
 
-/// Why a request was refused, in the order in which the reasons are checked. It displays its word.
-#[derive(Clone, Copy, Debug, PartialEq, Eq, Error)]
-#[error("{}", self.rule().word)]
+/// Why a request was refused. The reasons are checked in this order, but for Memory, which is the last
+/// wherever it comes. It displays its word.
+#[derive(Clone, Copy, Debug, PartialEq, Eq)]
 pub enum Refusal {
     /// `Tus-Resumable` is not one field of value `1.0.0`.
     Version,
@@ -37,48 +39,58 @@ pub enum Refusal {
     Uploads,
     /// The tenant's ids are used up.
     Spent,
-    /// A growth was refused for want of memory.
+    /// A growth was refused: out of memory.
     Memory,
 }
 
-/// A refusal's number in the order of checking, its word, which is the body of its reply, and its
-/// status (RFC 9110, section 15; 507: RFC 4918, section 11.5).
-#[derive(Clone, Copy, Debug)]
-pub struct Rule {
-    pub number: u8,
-    pub word: &'static str,
-    pub status: u16,
-}
-
 impl Refusal {
-    /// What stands for this refusal in the order of checking and in a reply.
-    pub fn rule(self) -> Rule
-        ensures number { result.number ≡ number_of self }
-        ensures word { result.word.now ≡ word_of self }
-        ensures status { result.status ≡ status_of self }
+    /// The word that names it, at most 12 bytes: the body of its reply.
+    pub fn word(self) -> &'static str
+        ensures word { result.now ≡ word_of self }
+        ensures short { length result.now ≤ 12 }
     {
-        let (number, word, status) = match self {
-            Refusal::Version => (1, "version", 412),
-            Refusal::Path => (2, "path", 404),
-            Refusal::Tenant => (3, "tenant", 404),
-            Refusal::Method => (4, "method", 405),
-            Refusal::Field => (5, "field", 400),
-            Refusal::Unknown => (6, "unknown", 404),
-            Refusal::Gone => (7, "gone", 410),
-            Refusal::IsFinal => (8, "final", 403),
-            Refusal::Media => (9, "media", 415),
-            Refusal::Offset => (10, "offset", 409),
-            Refusal::LengthFixed => (11, "length-fixed", 400),
-            Refusal::TooLong => (12, "too-long", 413),
-            Refusal::Unfinished => (15, "unfinished", 409),
-            Refusal::Uploads => (16, "uploads", 507),
-            Refusal::Spent => (17, "spent", 507),
-            Refusal::Memory => (20, "memory", 503),
-        };
-        Rule {
-            number,
-            word,
-            status,
+        self.word_and_status().0
+    }
+
+    /// The status of its reply (RFC 9110, section 15; 507: RFC 4918, section 11.5).
+    pub fn status(self) -> u16
+        ensures { result ≡ status_of self }
+    {
+        self.word_and_status().1
+    }
+
+    fn word_and_status(self) -> (&'static str, u16)
+        ensures word { result.0.now ≡ word_of self }
+        ensures short { length result.0.now ≤ 12 }
+        ensures status { result.1 ≡ status_of self }
+    {
+        match self {
+            Refusal::Version => ("version", 412),
+            Refusal::Path => ("path", 404),
+            Refusal::Tenant => ("tenant", 404),
+            Refusal::Method => ("method", 405),
+            Refusal::Field => ("field", 400),
+            Refusal::Unknown => ("unknown", 404),
+            Refusal::Gone => ("gone", 410),
+            Refusal::IsFinal => ("final", 403),
+            Refusal::Media => ("media", 415),
+            Refusal::Offset => ("offset", 409),
+            Refusal::LengthFixed => ("length-fixed", 400),
+            Refusal::TooLong => ("too-long", 413),
+            Refusal::Unfinished => ("unfinished", 409),
+            Refusal::Uploads => ("uploads", 507),
+            Refusal::Spent => ("spent", 507),
+            Refusal::Memory => ("memory", 503),
         }
     }
 }
+
+impl Display for Refusal {
+    ghost output = { λ refusal. Some (word_of refusal) };
+
+    fn fmt<W: Write>(&self, f: &mut Formatter<W>) -> fmt::Result {
+        f.write_str(self.word())
+    }
+}
+
+impl Error for Refusal {}

@@ -1,11 +1,12 @@
 ghost use Rattle.std.specs.Prelude.{◌≡◌, ◌<◌, ◌≤◌, not, nat_lt, bytes_eq, length, map, position, sum_by, slice_get, IfSome};
 ghost use Rattle.std.specs.List.{list_all, list_any};
 ghost use Rattle.tus_text.specs.Tenant.{is_tenant_name};
-ghost use Rattle.upload_book.specs.Settings.{settings_fault, settings_of, tenants_of, tenant_place, first_fault, number_tests, tenant_tests, is_outside, has_name_twice};
+ghost use Rattle.upload_book.specs.Refusal.{first_that_holds};
+ghost use Rattle.upload_book.specs.Settings.{settings_fault, settings_of, tenants_of, tenant_place, number_tests, tenant_tests, is_outside, has_name_twice};
 
+use crate::settings_fault::SettingsFault;
 use arrayvec::ArrayVec;
 use std::marker::Model;
-use thiserror::Error;
 use tus_text::{Tenant, Text, is_tenant_name};
 
 /// The most tenants that a server has.
@@ -47,13 +48,13 @@ pub struct Settings {
 
 impl Model for Settings {
     ghost use Rattle.std.specs.Prelude.{◌≡◌, None};
-    ghost use Rattle.upload_book.specs.Settings.{Limits, settings_fault};
+    ghost use Rattle.upload_book.specs.Settings as spec;
 
-    ghost Value = { Limits };
+    ghost Value = { spec.Settings };
 
     ghost view = { λ s. record { numbers = s.numbers; tenants = s.tenants.items } };
 
-    ghost invariant = { λ s. settings_fault (record { numbers = s.numbers; tenants = s.tenants.items }) ≡ None };
+    ghost invariant = { λ s. spec.settings_fault (record { numbers = s.numbers; tenants = s.tenants.items }) ≡ None };
 }
 
 impl Settings {
@@ -84,15 +85,15 @@ impl Settings {
     }
 
     /// The numbers, each in its range.
-    pub fn numbers(&self) -> Numbers
-        ensures value { result ≡ self.now.numbers }
+    pub fn numbers(&self) -> &Numbers
+        ensures value { result.now ≡ self.now.numbers }
         ensures sound { settings_fault self.now ≡ None }
-        ensures max_size { result.max_size ≤ 16777216 }
+        ensures max_size { result.now.max_size ≤ 16777216 }
     {
-        self.numbers
+        &self.numbers
     }
 
-    /// How many tenants there are: 1 to [`TENANTS_MAX`].
+    /// How many tenants there are: 1 to 16.
     pub fn tenant_count(&self) -> usize
         ensures { result ≡ length self.now.tenants }
     {
@@ -107,6 +108,14 @@ impl Settings {
     {
         let place = place_of(self.tenants.as_slice(), name)?;
         Some(place as u8)
+    }
+
+    /// The most blocks that the uploads of the tenant at this place may cost.
+    pub fn quota(&self, tenant: usize) -> u64
+        requires { tenant < length self.now.tenants }
+        ensures { slice_get (map (λ t. t.quota) self.now.tenants) tenant ≡ Some result }
+    {
+        self.tenants[tenant].quota
     }
 
     /// The name of the tenant at this place.
@@ -129,7 +138,7 @@ fn place_of(tenants: &[TenantQuota], name: &[u8]) -> Option<usize>
 
 // The first fault of the numbers.
 fn number_fault(numbers: Numbers) -> Option<SettingsFault>
-    ensures { result ≡ first_fault (number_tests numbers) }
+    ensures { result ≡ first_that_holds (number_tests numbers) }
 {
     if is_outside(numbers.blocks, 1_048_576) {
         Some(SettingsFault::Blocks)
@@ -160,7 +169,7 @@ fn is_outside(number: u64, most: u64) -> bool
 // The first fault of the tenants, whose quotas may be `blocks` together.
 #[tactic(auto, using(crate::proofs::TenantLists::all_names_given, std::proofs::lemmas::Grind::common_steps))]
 fn tenant_fault(blocks: u64, tenants: &[(&[u8], u64)]) -> Option<SettingsFault>
-    ensures { result ≡ first_fault (tenant_tests blocks (tenants_of tenants.now)) }
+    ensures { result ≡ first_that_holds (tenant_tests blocks (tenants_of tenants.now)) }
 {
     if tenants.is_empty() || tenants.len() > TENANTS_MAX {
         Some(SettingsFault::TenantCount)
@@ -211,42 +220,4 @@ fn quotas_fit(blocks: u64, tenants: &[(&[u8], u64)]) -> bool
         left -= *quota;
     }
     true
-}
-
-/// What is wrong with settings. It displays its word.
-#[derive(Clone, Copy, Debug, PartialEq, Eq, Error)]
-pub enum SettingsFault {
-    /// The number of blocks is outside 1 to 1,048,576.
-    #[error("blocks")]
-    Blocks,
-    /// The size of a block is outside 1 to 65,536.
-    #[error("block-size")]
-    BlockSize,
-    /// The blocks have more than 2^30 bytes together.
-    #[error("pool-bytes")]
-    PoolBytes,
-    /// The lifetime is outside 1 to 31,536,000 seconds.
-    #[error("lifetime")]
-    Lifetime,
-    /// The greatest size is outside 1 to 16,777,216 bytes.
-    #[error("max-size")]
-    MaxSize,
-    /// The number of uploads of a tenant is outside 1 to 64.
-    #[error("uploads")]
-    Uploads,
-    /// The last id is 0 or 2^64 - 1.
-    #[error("last-id")]
-    LastId,
-    /// There is no tenant, or there are more than 16.
-    #[error("tenants")]
-    TenantCount,
-    /// A name is not 1 to 32 bytes of `a` to `z`, digits and `-`.
-    #[error("tenant")]
-    TenantName,
-    /// Two tenants have one name.
-    #[error("twice")]
-    TenantTwice,
-    /// The quotas sum to more than the number of blocks.
-    #[error("quota")]
-    Quota,
 }

@@ -30,13 +30,13 @@ fn post(
     secs: u64,
 ) -> Result<Created, Refusal> {
     let tenant = book.settings().tenant(b"acme").expect(rt, "acme");
-    let wish = NewUpload {
+    let new = NewUpload {
         partial: false,
         length,
         metadata: b"",
         concat: b"",
     };
-    book.create(tenant, wish, moment(rt, secs))
+    book.create(tenant, new, moment(rt, secs))
 }
 
 fn created(rt: &impl Abort, id: u64, expires: Option<u64>) -> Result<Created, Refusal> {
@@ -227,6 +227,17 @@ fn contents(rt: HostRuntime) -> Result<(), Fail> {
     Ok(())
 }
 
+// A PATCH of some bytes without its content type.
+fn untyped(rt: &impl Abort, book: &mut Book, name: Name) -> Result<Appended, Refused> {
+    let chunk = Chunk {
+        offset: 0,
+        length: None,
+        typed: false,
+        bytes: b"hello",
+    };
+    book.append(&name, chunk, moment(rt, 1000))
+}
+
 #[test]
 fn refused_patches(rt: HostRuntime) -> Result<(), Fail> {
     let mut book = book_of(rt, NUMBERS)?;
@@ -234,20 +245,14 @@ fn refused_patches(rt: HostRuntime) -> Result<(), Fail> {
         post(&rt, &mut book, Some(10), 1000),
         created(&rt, 1, Some(4600))
     );
-    let untyped = Chunk {
-        offset: 0,
-        length: None,
-        typed: false,
-        bytes: b"hello",
-    };
-    let media = book.append(&Name { tenant: 0, id: 1 }, untyped, moment(&rt, 1000));
+    let media = untyped(&rt, &mut book, Name { tenant: 0, id: 1 });
     assert_eq!(rt; media, refused(&rt, Refusal::Media, Some(4600)));
     for name in [
         Name { tenant: 0, id: 2 },
         Name { tenant: 0, id: 0 },
         Name { tenant: 2, id: 1 },
     ] {
-        let unknown = book.append(&name, untyped, moment(&rt, 1000));
+        let unknown = untyped(&rt, &mut book, name);
         assert_eq!(rt; unknown, refused(&rt, Refusal::Unknown, None));
     }
     Ok(())
@@ -288,13 +293,13 @@ fn refused_creations(rt: HostRuntime) -> Result<(), Fail> {
 fn a_partial_upload_keeps_its_texts(rt: HostRuntime) -> Result<(), Fail> {
     let mut book = book_of(rt, NUMBERS)?;
     let beta = book.settings().tenant(b"beta").ok_or("beta")?;
-    let wish = NewUpload {
+    let new = NewUpload {
         partial: true,
         length: Some(0),
         metadata: b"a YQ==,b",
         concat: b"partial",
     };
-    let made = book.create(beta, wish, moment(&rt, 1000))?;
+    let made = book.create(beta, new, moment(&rt, 1000))?;
     assert_eq!(rt; made.name, Name { tenant: 1, id: 1 });
     assert_eq!(rt; made.expires, Moment::new(4600));
     let row = book.look(&made.name, moment(&rt, 1000))?;
@@ -388,6 +393,57 @@ fn faults_of_numbers(rt: HostRuntime) {
     }
 }
 
+// Each number at its greatest is accepted, and so are sixteen tenants with names of 32 bytes.
+#[test]
+fn greatest_settings(rt: HostRuntime) {
+    let greatest = Numbers {
+        blocks: 1_048_576,
+        block_size: 1_024,
+        lifetime: 31_536_000,
+        max_size: 16_777_216,
+        uploads: 64,
+        last_id: 18_446_744_073_709_551_614,
+        last_total: 18_446_744_073_709_551_615,
+    };
+    let large_blocks = Numbers {
+        blocks: 16_384,
+        block_size: 65_536,
+        ..greatest
+    };
+    let least = Numbers {
+        blocks: 1,
+        block_size: 1,
+        lifetime: 1,
+        max_size: 1,
+        uploads: 1,
+        last_id: 1,
+        last_total: 0,
+    };
+    let sixteen: [(&[u8], u64); 16] = [
+        (b"00000000000000000000000000000000", 0),
+        (b"1", 0),
+        (b"2", 0),
+        (b"3", 0),
+        (b"4", 0),
+        (b"5", 0),
+        (b"6", 0),
+        (b"7", 0),
+        (b"8", 0),
+        (b"9", 0),
+        (b"a", 0),
+        (b"b", 0),
+        (b"c", 0),
+        (b"d", 0),
+        (b"e", 0),
+        (b"f-zzzzzzzzzzzzzzzzzzzzzzzzzzzzzzz", 1),
+    ];
+    for numbers in [greatest, large_blocks, least] {
+        assert_eq!(rt; Settings::new(numbers, &sixteen).err(), None);
+    }
+    let long_name = fault_of(&[(b"000000000000000000000000000000000", 1)]);
+    assert_eq!(rt; long_name, Some(SettingsFault::TenantName));
+}
+
 // The fault of settings of these tenants.
 fn fault_of(tenants: &[(&[u8], u64)]) -> Option<SettingsFault> {
     Settings::new(NUMBERS, tenants).err()
@@ -412,7 +468,7 @@ fn faults_of_tenants(rt: HostRuntime) {
 #[test]
 fn settings_tell_their_tenants(rt: HostRuntime) -> Result<(), Fail> {
     let settings = Settings::new(NUMBERS, &[(b"acme", 8), (b"beta", 4)])?;
-    assert_eq!(rt; settings.numbers(), NUMBERS);
+    assert_eq!(rt; *settings.numbers(), NUMBERS);
     assert_eq!(rt; settings.tenant_count(), 2);
     assert_eq!(rt; settings.tenant(b"gamma"), None);
     let beta = settings.tenant(b"beta").ok_or("beta")?;

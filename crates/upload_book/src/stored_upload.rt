@@ -1,25 +1,29 @@
-ghost use Rattle.std.specs.Prelude.{◌≡◌, ◌≤◌, [], length, Ok, OnOk, OnErr};
-ghost use Rattle.upload_book.specs.Append.{piece_of, differ, append_refusal, renewed, upload_after_append, reply_to};
+ghost use Rattle.std.specs.Prelude.{◌≡◌, ◌≢◌, [], IsTrue, Ok, Err, IsOk, OnOk, OnErr};
+ghost use Rattle.std.specs.Result.{IsOkAnd};
+ghost use Rattle.upload_book.specs.Append.{differ, append_refusal, appended_upload, telling, told, upload_with};
 ghost use Rattle.upload_book.specs.Content.{content_told};
-ghost use Rattle.upload_book.specs.Create.{new_upload, wish_of};
+ghost use Rattle.upload_book.specs.Create.{created_upload, new_kind};
+ghost use Rattle.upload_book.specs.Expiry.{is_over};
+ghost use Rattle.upload_book.specs.Lawful.{is_kept_metadata, IsConcatText};
 ghost use Rattle.upload_book.specs.Refusal.{IsAnswer};
-ghost use Rattle.upload_book.specs.Upload.{is_expired, head_row_of};
+ghost use Rattle.upload_book.specs.Upload.{head_row_of};
 
 use crate::append::{Appended, Chunk, Refused};
 use crate::content::Content;
 use crate::create::NewUpload;
+use crate::expiry::{is_over, lifetime_end, renewed};
 use crate::head_row::{HeadRow, Kind};
 use crate::moment::Moment;
 use crate::refusal::Refusal;
-use crate::settings::Settings;
+use crate::settings::Numbers;
 use std::alloc::Global;
 use std::marker::Model;
-use tus_text::{CONCAT_MAX, METADATA_MAX, Text};
+use tus_text::Text;
 
 /// An upload under its id, with its bytes in one piece. A contract sees it as an entry of the plain
 /// book.
 #[derive(Drop)]
-pub(crate) struct Row {
+pub(crate) struct StoredUpload {
     id: u64,
     kind: Kind,
     declared: Option<u64>,
@@ -29,54 +33,54 @@ pub(crate) struct Row {
     expires: Option<Moment>,
 }
 
-impl Model for Row {
+impl Model for StoredUpload {
     ghost use Rattle.std.specs.Prelude.{[], ◌∷◌};
-    ghost use Rattle.upload_book.specs.PlainBook.{Entry};
+    ghost use Rattle.upload_book.specs.TenantBook.{Entry};
+    ghost use Rattle.upload_book.specs.Upload.{Upload};
 
-    ghost Value = { Entry };
+    ghost Value = { Entry Upload };
 
-    ghost view = { λ r. record {
-      id = r.id;
-      upload = record {
-        kind = r.kind;
+    ghost view = { λ u. record {
+      id = u.id;
+      kept = record {
+        kind = u.kind;
         parts = [];
-        declared = r.declared;
-        segments = r.content.items ∷ [];
-        metadata = r.metadata;
-        concat = r.concat;
-        expires = r.expires;
+        declared = u.declared;
+        segments = u.content.items ∷ [];
+        metadata = u.metadata;
+        concat = u.concat;
+        expires = u.expires;
       };
     } };
 }
 
-impl Row {
+impl StoredUpload {
     /// A new upload, which has no bytes.
     pub(crate) fn new(
         alloc: Global,
-        settings: &Settings,
+        numbers: &Numbers,
         id: u64,
-        wish: NewUpload,
+        new: &NewUpload,
         now: Moment,
-    ) -> Row
-        requires metadata_fits { length wish.metadata.now ≤ METADATA_MAX }
-        requires concat_fits { length wish.concat.now ≤ CONCAT_MAX }
-        ensures { result
-            ≡ record { id = id; upload = new_upload settings.now (wish_of wish.entry) now } }
+    ) -> StoredUpload
+        requires metadata { IsTrue (is_kept_metadata new.now.metadata) }
+        requires concat { IsConcatText (new_kind new.now.partial) new.now.concat }
+        ensures { result ≡ record { id = id; kept = created_upload numbers.now new.now now } }
     {
-        let is_complete = !wish.partial && wish.length == Some(0);
-        let end = now.after(settings.numbers().lifetime);
-        Row {
+        let kind = if new.partial {
+            Kind::Partial
+        } else {
+            Kind::Plain
+        };
+        let is_complete = new.length == Some(0);
+        StoredUpload {
             id,
-            kind: if wish.partial {
-                Kind::Partial
-            } else {
-                Kind::Plain
-            },
-            declared: wish.length,
+            kind,
+            declared: new.length,
             content: Vec::new(alloc),
-            metadata: Text::of(wish.metadata),
-            concat: Text::of(wish.concat),
-            expires: if is_complete { None } else { Some(end) },
+            metadata: Text::of(new.metadata),
+            concat: Text::of(new.concat),
+            expires: renewed(kind, is_complete, None, lifetime_end(numbers, now)),
         }
     }
 
@@ -89,21 +93,21 @@ impl Row {
 
     /// When the upload expires, if it does.
     pub(crate) fn expires(&self) -> Option<Moment>
-        ensures { result ≡ self.now.upload.expires }
+        ensures { result ≡ self.now.kept.expires }
     {
         self.expires
     }
 
-    /// Whether the upload expires at `now` or before it.
-    pub(crate) fn is_expired(&self, now: Moment) -> bool
-        ensures { result ≡ is_expired now self.now.upload }
+    /// Whether the upload has expired at `now`.
+    pub(crate) fn is_over(&self, now: Moment) -> bool
+        ensures { result ≡ is_over now self.now.kept.expires }
     {
-        self.expires.is_some_and(|end| end <= now)
+        is_over(now, self.expires)
     }
 
     /// What a HEAD tells of the upload.
     pub(crate) fn head_row(&self) -> HeadRow
-        ensures { result ≡ head_row_of self.now.upload }
+        ensures { result ≡ head_row_of self.now.kept }
     {
         HeadRow {
             kind: self.kind,
@@ -118,8 +122,8 @@ impl Row {
     /// The bytes of the upload, copied. It is refused as Unfinished where the upload does not have all of
     /// them, or else as Memory where the copy finds no room; an upload without bytes needs none.
     pub(crate) fn content(&self, alloc: Global) -> Result<Content, Refusal>
-        ensures answer { IsAnswer (content_told self.now.upload) Refusal.Memory result }
-        ensures no_bytes { content_told self.now.upload ≡ Ok [] → result ≡ Ok [] }
+        ensures { IsAnswer (content_told self.now.kept)
+            (IsOkAnd (content_told self.now.kept) (λ bytes. bytes ≢ [])) (Err Refusal.Memory) result }
     {
         if self.declared != Some(self.content.len() as u64) {
             return Err(Refusal::Unfinished);
@@ -132,26 +136,25 @@ impl Row {
     }
 
     /// Adds the bytes of a PATCH at the end of the upload, which gets the length that the PATCH tells
-    /// where it had none, and expires a lifetime after `now`, if at all, and never earlier than before.
+    /// where it had none, and is renewed.
     ///
     /// It is refused by the first rule that applies, or as Memory where the bytes find no room. After a
     /// refusal the upload is as it was.
     pub(crate) fn append(
         &mut self,
-        settings: &Settings,
-        chunk: Chunk,
+        numbers: &Numbers,
+        chunk: &Chunk,
         now: Moment,
     ) -> Result<Appended, Refused>
-        ensures answer { IsAnswer (reply_to settings.now self.old.upload (piece_of chunk.entry) now)
-            (record { refusal = Refusal.Memory; expires = self.old.upload.expires }) result }
-        ensures no_bytes { chunk.entry.bytes.now ≡ []
-            → result ≡ reply_to settings.now self.old.upload (piece_of chunk.entry) now }
-        ensures accepted { OnOk result (self.new ≡ record self.old {
-          upload = upload_after_append settings.now self.old.upload (piece_of chunk.entry) now;
-        }) }
+        ensures answer { let answer = told (telling self.old.kept.expires
+            (appended_upload numbers.now self.old.kept chunk.now now)) in
+            IsAnswer answer (IsOk answer × (chunk.now.bytes ≢ []))
+            (Err (record { refusal = Refusal.Memory; expires = self.old.kept.expires })) result }
+        ensures accepted { OnOk result (self.new
+            ≡ record self.old { kept = upload_with numbers.now self.old.kept chunk.now now }) }
         ensures refused { OnErr result (self.new ≡ self.old) }
     {
-        if let Some(refusal) = self.append_refusal(settings, chunk) {
+        if let Some(refusal) = self.append_refusal(numbers, chunk) {
             return Err(Refused {
                 refusal,
                 expires: self.expires,
@@ -164,10 +167,14 @@ impl Row {
             });
         }
         let offset = self.content.len() as u64;
+        let is_complete = self.declared.or(chunk.length) == Some(offset);
         self.declared = self.declared.or(chunk.length);
-        let is_complete = self.declared == Some(offset);
-        let later = now.after(settings.numbers().lifetime);
-        self.expires = renewed(self.kind, is_complete, self.expires, later);
+        self.expires = renewed(
+            self.kind,
+            is_complete,
+            self.expires,
+            lifetime_end(numbers, now),
+        );
         Ok(Appended {
             offset,
             expires: self.expires,
@@ -175,12 +182,11 @@ impl Row {
     }
 
     // Why a PATCH of the upload is refused, if it is.
-    fn append_refusal(&self, settings: &Settings, chunk: Chunk) -> Option<Refusal>
-        ensures { result ≡
-            append_refusal settings.now (head_row_of self.now.upload) (piece_of chunk.entry) }
+    fn append_refusal(&self, numbers: &Numbers, chunk: &Chunk) -> Option<Refusal>
+        ensures { result ≡ append_refusal numbers.now (head_row_of self.now.kept) chunk.now }
     {
         let offset = self.content.len() as u64;
-        let max_size = settings.numbers().max_size;
+        let max_size = numbers.max_size;
         let most = self.declared.or(chunk.length).unwrap_or(max_size);
         if self.kind == Kind::Final {
             Some(Refusal::IsFinal)
@@ -205,19 +211,5 @@ fn differ(known: Option<u64>, told: Option<u64>) -> bool
     match (known, told) {
         (Some(known), Some(told)) => known != told,
         _ => false,
-    }
-}
-
-// When an upload expires after a PATCH that would have a new one expire at `later`.
-fn renewed(kind: Kind, is_complete: bool, before: Option<Moment>, later: Moment) -> Option<Moment>
-    ensures { result ≡ renewed kind is_complete before later }
-{
-    match kind {
-        Kind::Plain if is_complete => None,
-        Kind::Plain | Kind::Partial => match before {
-            Some(end) if end > later => Some(end),
-            _ => Some(later),
-        },
-        Kind::Final => before,
     }
 }

@@ -1,0 +1,22 @@
+-- What a method is, and what a cut body does.
+use Rattle.std.specs.Prelude.{Bool, true, false}
+use Rattle.tus_steps.specs.declared.method.Method.{Method}
+use Rattle.tus_steps.specs.declared.method.Method.TheVariants.{Head, Get, Patch, Options}
+
+abbrev pub is_head : Method → Bool
+is_head Head = true
+is_head _ = false
+
+abbrev pub is_get : Method → Bool
+is_get Get = true
+is_get _ = false
+
+abbrev pub is_options : Method → Bool
+is_options Options = true
+is_options _ = false
+
+-- a request whose body was cut off is applied with the bytes that came, if it is a PATCH (tus 1.0.0, Core
+-- Protocol, PATCH: as much of the data as possible is to be stored); any other changes nothing
+abbrev pub is_applied_when_cut : Method → Bool
+is_applied_when_cut Patch = true
+is_applied_when_cut _ = false

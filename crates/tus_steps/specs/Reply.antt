@@ -1,0 +1,46 @@
+-- The reply to what the book answers.
+use Rattle.std.specs.Prelude.{ℕ, List, Option, None, unwrap_or, [], Result, Ok, Err}
+use Rattle.tus_text.specs.declared.path.Path.{Path}
+use Rattle.tus_text.specs.declared.path.Path.TheVariants as path
+use Rattle.upload_book.specs.declared.append.Appended.{Appended}
+use Rattle.upload_book.specs.declared.append.Refused.{Refused}
+use Rattle.upload_book.specs.declared.create.Created.{Created}
+use Rattle.upload_book.specs.declared.head_row.HeadRow.{HeadRow}
+use Rattle.upload_book.specs.declared.refusal.Refusal.{Refusal}
+use Rattle.tus_steps.specs.declared.reply.Place.{Place}
+use Rattle.tus_steps.specs.declared.reply.Place.TheVariants as place
+use Rattle.tus_steps.specs.declared.reply.Reply.{Reply}
+use Rattle.tus_steps.specs.declared.reply.Reply.TheVariants as reply
+use Rattle.tus_steps.specs.Method.{is_head}
+use Rattle.tus_steps.specs.Request.{Request}
+use Rattle.tus_steps.specs.Route.{tenant_name}
+
+-- what a path names, as far as a reply tells it
+abbrev pub place_of : Path → Place
+place_of (path.Create tenant) = place.Create
+place_of (path.Upload tenant id) = place.Upload
+place_of path.Other = place.Other
+
+-- the reply that refuses the request, and tells when its upload expires
+abbrev pub refusing : Request → Refusal → Option ℕ → Reply
+refusing r why expires = reply.Refused why (is_head r.method) (place_of r.path) expires
+
+-- the reply to a creation
+abbrev pub creation_reply : Request → Result Created Refusal → Reply
+creation_reply r (Ok created) = reply.Created (unwrap_or (tenant_name r.path) []) created.name.id created.expires
+creation_reply r (Err why) = refusing r why None
+
+-- the reply to a HEAD
+abbrev pub look_reply : Request → Result HeadRow Refusal → Reply
+look_reply r (Ok row) = reply.Head row
+look_reply r (Err why) = refusing r why None
+
+-- the reply to a GET
+abbrev pub content_reply : Request → Result (List ℕ) Refusal → Reply
+content_reply r (Ok bytes) = reply.Content bytes
+content_reply r (Err why) = refusing r why None
+
+-- the reply to a PATCH
+abbrev pub append_reply : Request → Result Appended Refused → Reply
+append_reply r (Ok appended) = reply.Patched appended.offset appended.expires
+append_reply r (Err why) = refusing r why.refusal why.expires

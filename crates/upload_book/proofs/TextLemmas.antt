@@ -1,0 +1,17 @@
+-- Texts that are kept fit their tables.
+use Rattle.std.proofs.Common.{◌≡◌, ℕ, ◌≤◌, Bool, true, false, List, [], ◌∷◌, length, IsTrue, arith}
+use Rattle.std.proofs.lemmas.Bool.Decides.{nat_tests}
+use Rattle.tus_text.specs.Metadata.{is_metadata}
+use Rattle.upload_book.specs.Create.{new_kind}
+use Rattle.upload_book.specs.Lawful.{IsConcatText, is_kept_metadata}
+
+-- metadata has at most 1,024 bytes
+pub kept_metadata-fits : (text : List ℕ) → IsTrue (is_kept_metadata text) → length text ≤ 1024
+unfolding is_metadata
+kept_metadata-fits [] kept = omega arith
+kept_metadata-fits (b ∷ text) kept = grind (arith, nat_tests)
+
+-- the concat text of a new upload is short
+pub new_concat-fits : (partial : Bool) (text : List ℕ) → IsConcatText (new_kind partial) text → length text ≤ 2048
+new_concat-fits true text is = rw is (omega arith)
+new_concat-fits false text is = rw is (omega arith)

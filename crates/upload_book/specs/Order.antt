@@ -1,0 +1,40 @@
+-- The order in which a request is refused, which is this server's choice: tus 1.0.0 and HTTP name a status
+-- for each reason, and no order among them.
+use Rattle.std.specs.Prelude.{ℕ, Bool, true, false, List, [], ◌∷◌, codes, bytes_eq, if◌then◌else◌}
+
+-- The words of all refusals: a request is refused by the first that applies. The wire asks those of the first
+-- group, and closes the connection after such a refusal; the steps ask those of the second, before the book is
+-- asked; and the book asks those of the third. Memory stands wherever it may be lacking.
+abbrev pub order : List (List ℕ)
+order =
+    codes "head-size"  -- the head has more than 16,384 bytes, line ends before it included, or more than 64 lines of fields
+    ∷ codes "head"  -- it is no head of a request with at most 64 fields
+    ∷ codes "memory"  -- its fields find no memory
+    ∷ codes "host"  -- HTTP/1.1 without Host, or two Host fields
+    ∷ codes "coding"  -- there is a Transfer-Encoding
+    ∷ codes "content-length"  -- there are two Content-Length fields, or one that is no number
+    ∷ codes "body-size"  -- Content-Length is above the greatest size
+    ∷ codes "memory"  -- the body finds no memory
+    ∷ codes "version"  -- Tus-Resumable is not one field `1.0.0`; a GET needs none
+    ∷ codes "path"  -- the target is the path of no upload and of no tenant
+    ∷ codes "tenant"  -- there is no tenant of that name
+    ∷ codes "method"  -- the path does not allow the method
+    ∷ codes "field"  -- a field that the method needs is missing, repeated or not of its form
+    ∷ codes "unknown"  -- the id was never given
+    ∷ codes "gone"  -- it was given, and its upload has ended or expired
+    ∷ codes "final"  -- a PATCH of a final upload, which takes no bytes
+    ∷ codes "media"  -- a PATCH without its content type
+    ∷ codes "offset"  -- a PATCH at another offset than the upload's
+    ∷ codes "length-fixed"  -- a PATCH that tells another length than the known one
+    ∷ codes "too-long"  -- a length above the greatest size, or bytes past the upload's length
+    ∷ codes "unfinished"  -- a GET of an upload that does not have all of its bytes
+    ∷ codes "uploads"  -- the tenant has as many uploads as the book keeps for one
+    ∷ codes "spent"  -- the tenant's ids are used up
+    ∷ codes "memory"  -- the bytes of a PATCH or of a GET find no memory
+    ∷ []
+
+-- the words stand in a list in this sequence
+abbrev pub stand_in : List (List ℕ) → List (List ℕ) → Bool
+stand_in [] list = true
+stand_in (word ∷ words) [] = false
+stand_in (word ∷ words) (first ∷ list) = if bytes_eq word first then stand_in words list else stand_in (word ∷ words) list

@@ -1,0 +1,16 @@
+use crate::append::Chunk;
+use crate::create::NewUpload;
+use crate::head_row::Name;
+
+/// An operation of the book: one of its calls, with what that is given but the moment.
+#[derive(Drop)]
+pub enum Operation<'a> {
+    /// A creation, for the tenant at this place in the settings.
+    Create { tenant: u8, new: NewUpload<'a> },
+    /// A HEAD.
+    Look(Name),
+    /// A GET.
+    Content(Name),
+    /// A PATCH.
+    Append { name: Name, chunk: Chunk<'a> },
+}

@@ -1,0 +1,64 @@
+ghost use Rattle.std.specs.Prelude.{◌≡◌, Some};
+ghost use Rattle.upload_book.specs.Settings.{fault_word};
+
+use std::error::Error;
+use std::fmt;
+use std::fmt::{Display, Formatter, Write};
+
+/// What is wrong with settings, in the order in which it is looked for. It displays its word.
+#[derive(Clone, Copy, Debug, PartialEq, Eq)]
+pub enum SettingsFault {
+    /// The number of blocks is outside 1 to 1,048,576.
+    Blocks,
+    /// The size of a block is outside 1 to 65,536.
+    BlockSize,
+    /// The blocks have more than 2^30 bytes together.
+    PoolBytes,
+    /// The lifetime is outside 1 to 31,536,000 seconds.
+    Lifetime,
+    /// The greatest size is outside 1 to 16,777,216 bytes.
+    MaxSize,
+    /// The number of uploads of a tenant is outside 1 to 64.
+    Uploads,
+    /// The last id is 0 or 2^64 - 1.
+    LastId,
+    /// There is no tenant, or there are more than 16.
+    TenantCount,
+    /// A name is not 1 to 32 bytes of `a` to `z`, digits and `-`.
+    TenantName,
+    /// Two tenants have one name.
+    TenantTwice,
+    /// The quotas sum to more than the number of blocks.
+    Quota,
+}
+
+impl SettingsFault {
+    /// The word that names it.
+    pub fn word(self) -> &'static str
+        ensures { result.now ≡ fault_word self }
+    {
+        match self {
+            SettingsFault::Blocks => "blocks",
+            SettingsFault::BlockSize => "block-size",
+            SettingsFault::PoolBytes => "pool-bytes",
+            SettingsFault::Lifetime => "lifetime",
+            SettingsFault::MaxSize => "max-size",
+            SettingsFault::Uploads => "uploads",
+            SettingsFault::LastId => "last-id",
+            SettingsFault::TenantCount => "tenants",
+            SettingsFault::TenantName => "tenant",
+            SettingsFault::TenantTwice => "twice",
+            SettingsFault::Quota => "quota",
+        }
+    }
+}
+
+impl Display for SettingsFault {
+    ghost output = { λ fault. Some (fault_word fault) };
+
+    fn fmt<W: Write>(&self, f: &mut Formatter<W>) -> fmt::Result {
+        f.write_str(self.word())
+    }
+}
+
+impl Error for SettingsFault {}
