@@ -1,6 +1,7 @@
 use crate::*;
 use std::process::Abort;
 use std::test::Fail;
+use tus_text::check_metadata;
 
 const NUMBERS: Numbers = Numbers {
     blocks: 12,
@@ -293,10 +294,12 @@ fn refused_creations(rt: HostRuntime) -> Result<(), Fail> {
 fn a_partial_upload_keeps_its_texts(rt: HostRuntime) -> Result<(), Fail> {
     let mut book = book_of(rt, NUMBERS)?;
     let beta = book.settings().tenant(b"beta").ok_or("beta")?;
+    let metadata = b"a YQ==,b".as_slice();
+    assert!(rt; check_metadata(metadata));
     let new = NewUpload {
         partial: true,
         length: Some(0),
-        metadata: b"a YQ==,b",
+        metadata,
         concat: b"partial",
     };
     let made = book.create(beta, new, moment(&rt, 1000))?;
@@ -435,7 +438,7 @@ fn greatest_settings(rt: HostRuntime) {
         (b"c", 0),
         (b"d", 0),
         (b"e", 0),
-        (b"f-zzzzzzzzzzzzzzzzzzzzzzzzzzzzzzz", 1),
+        (b"f-zzzzzzzzzzzzzzzzzzzzzzzzzzzzzz", 1),
     ];
     for numbers in [greatest, large_blocks, least] {
         assert_eq!(rt; Settings::new(numbers, &sixteen).err(), None);
