@@ -43,8 +43,21 @@ impl Model for Pool {
 }
 
 impl Pool {
-    /// Makes a pool whose blocks are all free. All memory that it will ever need is taken and zeroed here;
-    /// an `AllocError` says that there was too little.
+    /// Whether [`Pool::new`] makes a pool of so many blocks with so many bytes each: 1 to [`BLOCKS_MAX`]
+    /// blocks of 1 to [`BLOCK_SIZE_MAX`] bytes, at most [`POOL_BYTES_MAX`] together.
+    pub fn is_within_limits(blocks: u32, block_size: u32) -> bool
+        ensures { IsTrue result ↔ IsWithinLimits blocks block_size }
+    {
+        0 < blocks
+            && blocks <= BLOCKS_MAX
+            && 0 < block_size
+            && block_size <= BLOCK_SIZE_MAX
+            && u64::from(blocks) * u64::from(block_size) <= POOL_BYTES_MAX
+    }
+
+    /// Makes a pool of so many blocks with so many bytes each, which [`Pool::is_within_limits`] accepts.
+    /// Every block is free. All memory that the pool will ever need is taken and zeroed here; an
+    /// `AllocError` says that there was too little.
     pub fn new(alloc: Global, blocks: u32, block_size: u32) -> Result<Pool, AllocError>
         requires { IsWithinLimits blocks block_size }
         ensures { IfOk result (λ p. p ≡ all_free blocks block_size) }
