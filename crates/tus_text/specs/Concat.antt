@@ -5,7 +5,6 @@ use Rattle.std.specs.List.{slice_split}
 use Rattle.tus_text.specs.declared.concat.Concat.{Concat}
 use Rattle.tus_text.specs.declared.concat.Concat.TheVariants.{Partial, Final}
 use Rattle.tus_text.specs.declared.concat.PartPath.{PartPath}
-use Rattle.tus_text.specs.declared.concat.TheConstants.{CONCAT_MAX, PARTS_MAX}
 use Rattle.tus_text.specs.declared.path.Path.{Path}
 use Rattle.tus_text.specs.declared.path.Path.TheVariants.{Create, Upload, Other}
 use Rattle.tus_text.specs.Cut.{is_space}
@@ -41,7 +40,7 @@ parts_of (target ∷ targets) =
 
 -- a list of at most 32 parts
 abbrev pub within_limit : List PartPath → Option (List PartPath)
-within_limit parts = if nat_le (length parts) PARTS_MAX then Some parts else None
+within_limit parts = if nat_le (length parts) 32 then Some parts else None
 
 -- the parts of the list that follows `final;`
 unfoldable pub final_of : List ℕ → Option (List PartPath)
@@ -54,6 +53,6 @@ after_final text = if bytes_eq (take 6 text) (codes "final;") then Some (drop 6 
 -- what the text says, of at most 2,048 bytes
 unfoldable pub concat_of : List ℕ → Option Concat
 concat_of text =
-    if nat_lt CONCAT_MAX (length text) then None
+    if nat_lt 2048 (length text) then None
     else if bytes_eq text (codes "partial") then Some Partial
     else option_map Final (option_and_then final_of (after_final text))

@@ -24,7 +24,7 @@ pub struct PartPath {
 /// the list of them.
 #[derive(Drop)]
 pub struct Parts {
-    pub(crate) parts: ArrayVec<PartPath, 32>,
+    pub(crate) parts: ArrayVec<PartPath, PARTS_MAX>,
 }
 
 impl Model for Parts {
@@ -40,7 +40,7 @@ impl Parts {
     /// The parts, in their order.
     pub fn as_slice(&self) -> &[PartPath]
         ensures value { result.now ≡ self.now }
-        ensures fits { length result.now ≤ PARTS_MAX }
+        ensures fits { length result.now ≤ 32 }
     {
         self.parts.as_slice()
     }
@@ -62,7 +62,7 @@ pub enum Concat {
 /// [`CONCAT_MAX`] bytes.
 pub fn read_concat(text: &[u8]) -> Option<Concat>
     ensures value { result ≡ concat_of text.now }
-    ensures bound { IfSome result (λ _. length text.now ≤ CONCAT_MAX) }
+    ensures bound { IfSome result (λ _. length text.now ≤ 2048) }
 {
     if text.len() > CONCAT_MAX {
         return None;

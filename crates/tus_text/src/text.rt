@@ -7,7 +7,7 @@ use std::marker::Model;
 pub const TENANT_MAX: usize = 32;
 
 /// The name of a tenant: 1 to 32 bytes of `a` to `z`, digits and `-`.
-pub type Tenant = Text<32>;
+pub type Tenant = Text<TENANT_MAX>;
 
 /// A text of at most `N` bytes, kept inline. A contract sees the list of its bytes.
 #[derive(Drop)]
