@@ -20,15 +20,15 @@ upload_in Other = None
 abbrev pub part_of : List ℕ → Option PartPath
 part_of target = upload_in (path_of target)
 
--- The cuts at single spaces, as cuts at runs of them: the empty ones go, but for the last, which is
--- empty where a space ends the text.
+-- The words between single spaces without the empty ones, so that a run of spaces counts as one. An empty
+-- last word stays: it says that a space ends the text.
 abbrev pub join_cuts : List (List ℕ) → List (List ℕ)
 join_cuts [] = []
 join_cuts (word ∷ []) = word ∷ []
 join_cuts ([] ∷ next ∷ more) = join_cuts (next ∷ more)
 join_cuts ((b ∷ word) ∷ next ∷ more) = (b ∷ word) ∷ join_cuts (next ∷ more)
 
--- what stands between the runs of spaces, and after those at the front
+-- the words between runs of spaces; those at the front of the text are passed over
 abbrev pub words_of : List ℕ → List (List ℕ)
 words_of text = join_cuts (slice_split is_space text)
 

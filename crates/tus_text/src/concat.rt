@@ -7,16 +7,18 @@ use crate::text::Tenant;
 use arrayvec::ArrayVec;
 use std::marker::Model;
 
-/// The most bytes that the value of Upload-Concat has.
+/// The most bytes of a value of Upload-Concat.
 pub const CONCAT_MAX: usize = 2048;
 
-/// The most parts that a final upload has.
+/// The most parts of a final upload.
 pub const PARTS_MAX: usize = 32;
 
-/// The path of a part: an upload, whose `id` is 1 to 2^64 - 1.
+/// The path of a part, which is an upload.
 #[derive(Default, Drop)]
 pub struct PartPath {
+    /// The tenant that the upload is of.
     pub tenant: Tenant,
+    /// The upload's id, 1 to 2^64 - 1.
     pub id: u64,
 }
 

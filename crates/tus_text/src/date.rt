@@ -5,7 +5,7 @@ ghost use Rattle.tus_text.specs.Date.{expires_text, expires_of};
 
 use httpdate::HttpDate;
 
-/// The last second that a date of four-digit years has: 31 December 9999, 23:59:59.
+/// The last second, since 1970, of a date whose year has four digits: 31 December 9999, 23:59:59.
 pub const LAST_SECOND: u64 = 253_402_300_799;
 
 /// The IMF-fixdate (RFC 9110, section 5.6.7) of `secs` seconds since 1970, at most [`LAST_SECOND`].

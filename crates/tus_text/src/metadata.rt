@@ -9,7 +9,7 @@ use crate::cut::{split_at_first, trim_spaces};
 use arrayvec::ArrayVec;
 use base64::engine::general_purpose::STANDARD;
 
-/// The most bytes that the value of Upload-Metadata has.
+/// The most bytes of a value of Upload-Metadata.
 pub const METADATA_MAX: usize = 1024;
 
 // The most pairs in so many bytes: each takes a byte, and a comma before the next.
