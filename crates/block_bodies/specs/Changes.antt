@@ -1,4 +1,5 @@
--- What calls on bodies change in a pool. Each says of every block how its count changes, by its places in a list.
+-- What calls on bodies change in a pool. How the count of a block changes is said by the number of places
+-- at which it stands in a list.
 use Rattle.std.specs.Prelude.{◌≡◌, ℕ, ◌+◌, ◌^◌, ◌<◌, ◌==◌, ◌&&◌, nat_lt, List, ◌++◌, length, take, count_by}
 use Rattle.std.specs.List.{range_with_len}
 use Rattle.block_pool.specs.Blocks.{Blocks, size_of, count_at, bytes_at, free_in, places_of}
@@ -9,7 +10,8 @@ pub record SameSizes (p q : Blocks) : Type 0 where
   pub blocks : size_of q ≡ size_of p
   pub bytes : q.block_size ≡ p.block_size
 
--- bytes end a body: its blocks stay in front, new ones were free, and what anybody else holds stays
+-- bytes are put at the end of a body: its blocks stay in front, new blocks were free, and a block that
+-- somebody else holds too keeps its bytes
 pub record Puts (p : Blocks) (x : Chain) (bytes : List ℕ) (q : Blocks) (y : Chain) : Type 0 where
   pub sizes : SameSizes p q
   pub body : IsBodyOf q y

@@ -207,26 +207,30 @@ impl Body {
     }
 
     /// A body of the same blocks, each held once more. It is [`Body::list`], then [`Unheld::hold`]: no byte is
-    /// copied. An `AllocError` says that there was no memory for the list of blocks; the pool is then
-    /// unchanged.
+    /// copied. An `AllocError` says that there was no memory for the list of blocks, which never comes where
+    /// there are no blocks; the pool is then unchanged.
     pub fn share(&self, pool: &mut Pool) -> Result<Body, AllocError>
         requires { MayHold pool.old self.now.blocks }
         ensures blocks { IfOk result (λ y. y.blocks ≡ self.now.blocks) }
         ensures len { IfOk result (λ y. y.len ≡ self.now.len) }
         ensures once { IfOk result (λ y. StandsOnce y.blocks) }
         ensures holds { OnOk result (Holds pool.old self.now.blocks pool.new) }
+        ensures empty { self.now.blocks ≡ [] → IsOk result }
         ensures unchanged { OnErr result (pool.new ≡ pool.old) }
     {
         Ok(self.list()?.hold(pool))
     }
 
     /// A copy of the list of blocks, which [`Unheld::hold`] makes a body. An `AllocError` says that there was
-    /// no memory for it.
+    /// no memory for it, which never comes where there are no blocks.
     pub fn list(&self) -> Result<Unheld, AllocError>
         ensures blocks { IfOk result (λ u. u.blocks ≡ self.now.blocks) }
         ensures len { IfOk result (λ u. u.len ≡ self.now.len) }
+        ensures empty { self.now.blocks ≡ [] → IsOk result }
     {
-        let blocks = Vec::from_slice(*self.blocks.allocator(), &self.blocks)?;
+        let mut blocks = Vec::with_capacity(*self.blocks.allocator(), self.blocks.len())?;
+        let copied = blocks.extend_from_slice(&self.blocks);
+        prove!(copied.is_ok());
         Ok(Unheld::new(blocks, self.len))
     }
 
