@@ -1,9 +1,10 @@
 -- Laws of bodies for the crates above: what a call on one body leaves of another, and how many blocks bytes take.
-use Rattle.std.proofs.Common.{◌≡◌, ℕ, ◌+◌, ◌*◌, ◌<◌, ◌≤◌, List, [], length, take, ap, sym, ◌∙◌, arith, length-take}
+use Rattle.std.proofs.Common.{◌≡◌, ℕ, ◌+◌, ◌*◌, ◌<◌, ◌≤◌, List, [], ◌++◌, length, take, ap, sym, ◌∙◌, arith, length-take}
 use Rattle.block_pool.specs.Blocks.{Blocks, IsPool, count_at, bytes_at, places_of, bytes_of}
-use Rattle.block_pool.proofs.BlocksLaws.{bytes_of-same, length-bytes_of}
-use Rattle.block_bodies.specs.Bodies.{Chain, IsBodyOf, IsLastOwn, content_of, blocks_for}
-use Rattle.block_bodies.specs.Changes.{Puts, Holds, GivesBack}
+use Rattle.block_pool.proofs.BlocksLaws.{bytes_of-same, length-bytes_of, places_of-append}
+use Rattle.block_bodies.specs.Bodies.{Chain, IsBodyOf, IsHeld, IsLastOwn, content_of, blocks_for}
+use Rattle.block_bodies.specs.Changes.{Puts, SameSizes, MayHold, Holds, GivesBack}
+use Rattle.block_bodies.proofs.EachBlock.{SameSizes-then, free_in-given_back}
 use Rattle.block_bodies.proofs.BlocksFor.{blocks_for-suffice, blocks_for-least}
 
 -- a body has as many bytes as its length says
@@ -70,3 +71,42 @@ Holds-copy p q x y h body blocks len =
       },
       rw (blocks, len) stays.content,
     )
+
+-- a list is held, or given back, as its parts are
+pub MayHold-parts : (p q : Blocks) (xs ys : List ℕ) → MayHold p (xs ++ ys) → MayHold p xs × (Holds p xs q → MayHold q ys)
+MayHold-parts p q xs ys may = (
+  record {
+    held = λ b k. may.held b (omega (arith, places_of-append b xs ys));
+    fits = λ b k. omega (arith, may.fits b (omega (arith, places_of-append b xs ys)), places_of-append b xs ys);
+  },
+  λ h. record {
+    held = λ b k. omega (arith, may.held b (omega (arith, places_of-append b xs ys)), h.counts b);
+    fits = λ b k. omega (arith, may.fits b (omega (arith, places_of-append b xs ys)), places_of-append b xs ys, h.counts b);
+  },
+)
+
+pub Holds-parts : (p q r : Blocks) (xs ys : List ℕ) → Holds p xs q → Holds q ys r → Holds p (xs ++ ys) r
+Holds-parts p q r xs ys f g = record {
+  sizes = SameSizes-then p q r f.sizes g.sizes.blocks g.sizes.bytes;
+  counts = λ b. omega (arith, f.counts b, g.counts b, places_of-append b xs ys);
+  bytes = λ b. g.bytes b ∙ f.bytes b;
+  free = g.free ∙ f.free;
+}
+
+pub IsHeld-parts : (p q : Blocks) (xs ys : List ℕ) (freed : ℕ) → IsHeld p (xs ++ ys) → IsHeld p xs × (GivesBack p xs freed q → IsHeld q ys)
+IsHeld-parts p q xs ys freed h = (
+  record { each = λ b. omega (arith, h.each b, places_of-append b xs ys) },
+  λ g. record { each = λ b. omega (arith, h.each b, g.counts b, places_of-append b xs ys) },
+)
+
+pub GivesBack-parts : (p q r : Blocks) (xs ys : List ℕ) (m n : ℕ) → GivesBack p xs m q → GivesBack q ys n r → GivesBack p (xs ++ ys) (m + n) r
+GivesBack-parts p q r xs ys m n f g =
+    let sizes : SameSizes p r = SameSizes-then p q r f.sizes g.sizes.blocks g.sizes.bytes in
+    let counts : (b : ℕ) → count_at r b + places_of b (xs ++ ys) ≡ count_at p b = λ b. omega (arith, f.counts b, g.counts b, places_of-append b xs ys) in
+    record {
+      sizes = sizes;
+      counts = counts;
+      bytes = λ b k. g.bytes b k ∙ f.bytes b (omega (arith, g.counts b));
+      number = omega (arith, f.free, g.free, free_in-given_back p r (xs ++ ys) sizes.blocks counts);
+      free = omega (arith, f.free, g.free);
+    }

@@ -1,5 +1,5 @@
 -- A body is read block by block.
-use Rattle.std.proofs.Common.{◌≡◌, ℕ, ◌+◌, ◌-◌, ◌<◌, List, [], ◌∷◌, ◌++◌, length, get_or, take, min, ap, arith, rules, append-nil}
+use Rattle.std.proofs.Common.{◌≡◌, ℕ, ◌+◌, ◌-◌, ◌<◌, List, [], ◌∷◌, ◌++◌, length, get_or, take, min, ap, arith, rules, append_assoc, append-nil, ◌∙◌}
 use Rattle.std.proofs.lemmas.List.{same_lists, places, take_more}
 use Rattle.std.proofs.lemmas.List.Concat.{flat_map-cons}
 use Rattle.block_pool.specs.Blocks.{Blocks, bytes_at, bytes_of}
@@ -9,10 +9,10 @@ use Rattle.block_pool.proofs.BlocksLaws.{bytes_of-append}
 take-both : (front back : List ℕ) (len : ℕ) → take len front ++ take (min (len - length (take len front)) (length back)) back ≡ take len (front ++ back)
 take-both front back len = same_lists _ _ (search (rules, places)) (λ i d l. grind (arith, places))
 
--- what was read so far, and one block more
-pub read-more : (p : Blocks) (list : List ℕ) (len left i n : ℕ) (read : List ℕ) → i < length list → read ≡ take len (bytes_of p (take i list)) → left + length read ≡ len → n ≡ min left (length (bytes_at p (get_or list i 0)))
-    → read ++ take n (bytes_at p (get_or list i 0)) ≡ take len (bytes_of p (take (i + 1) list))
-read-more p list len left i n read l e rest m =
-    let rest_is : left ≡ len - length (take len (bytes_of p (take i list))) = omega (arith, ap (λ (bs : List ℕ). length bs) e) in
+-- what was read so far, onto what stood before, and one block more
+pub read-more : (p : Blocks) (list before read : List ℕ) (len left i n : ℕ) → i < length list → read ≡ before ++ take len (bytes_of p (take i list)) → left + length (take len (bytes_of p (take i list))) ≡ len → n ≡ min left (length (bytes_at p (get_or list i 0)))
+    → read ++ take n (bytes_at p (get_or list i 0)) ≡ before ++ take len (bytes_of p (take (i + 1) list))
+read-more p list before read len left i n l e rest m =
+    let rest_is : left ≡ len - length (take len (bytes_of p (take i list))) = omega arith in
     rw (m, rest_is, e, take_more list i 0 l, bytes_of-append p (take i list) (get_or list i 0 ∷ []), flat_map-cons (λ c. bytes_at p c) (get_or list i 0) [], append-nil)
-    (take-both (bytes_of p (take i list)) (bytes_at p (get_or list i 0)) len)
+    (append_assoc before _ _ ∙ ap (λ bs. before ++ bs) (take-both (bytes_of p (take i list)) (bytes_at p (get_or list i 0)) len))

@@ -31,7 +31,7 @@ IsSole-twice n size p₀ p₁ p₂ p₃ x₀ x₁ x₂ x₃ a b free none first 
 pub IsSole-may_hold : (p : Blocks) (x : Chain) → IsSole p x → StandsOnce x.blocks → MayHold p x.blocks
 IsSole-may_hold p x s alone = record {
   held = λ b k. omega (arith, s.counts b);
-  fits = λ b. omega (arith, s.counts b, alone.once b);
+  fits = λ b k. omega (arith, s.counts b, alone.once b);
 }
 
 pub held-twice : (p q : Blocks) (x : Chain) → IsSole p x → Holds p x.blocks q → IsHeld q x.blocks

@@ -9,7 +9,7 @@ pub record Chain : Type 0 where
   pub len : ℕ
   pub room : ℕ
 
--- how many blocks of a size so many bytes take: the least number whose bytes suffice
+-- how many blocks so many bytes take, in blocks of a size: the least number that has room for them
 abbrev pub blocks_for : ℕ → ℕ → ℕ
 blocks_for size n = div_ceil n size
 
@@ -21,12 +21,12 @@ content_of p x = take x.len (bytes_of p x.blocks)
 pub record IsHeld (p : Blocks) (list : List ℕ) : Type 0 where
   pub each : (b : ℕ) → places_of b list ≤ count_at p b
 
--- the list has as many blocks as the length takes, and each is held
+-- each block of the list is held, and there are as many as the bytes take
 pub record IsBodyOf (p : Blocks) (x : Chain) : Type 0 where
   pub held : IsHeld p x.blocks
   pub blocks : length x.blocks ≡ blocks_for p.block_size x.len
 
--- a last block that is not full is held once, so nobody else has its bytes
+-- a last block that is not full is held once, so that nobody else sees what is written to its rest
 pub record IsLastOwn (p : Blocks) (x : Chain) : Type 0 where
   pub own : x.len < length x.blocks * p.block_size → count_at p (slice_index x.blocks (length x.blocks - 1)) ≡ 1
 

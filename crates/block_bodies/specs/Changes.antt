@@ -1,5 +1,7 @@
--- What calls on bodies change in a pool. Each says of every block how its count changes, by its places in a list.
-use Rattle.std.specs.Prelude.{◌≡◌, ℕ, ◌+◌, ◌^◌, ◌<◌, List, ◌++◌, length, take}
+-- What calls on bodies change in a pool. How the count of a block changes is said by the number of places
+-- at which it stands in a list.
+use Rattle.std.specs.Prelude.{◌≡◌, ℕ, ◌+◌, ◌^◌, ◌<◌, ◌==◌, ◌&&◌, nat_lt, List, ◌++◌, length, take, count_by}
+use Rattle.std.specs.List.{range_with_len}
 use Rattle.block_pool.specs.Blocks.{Blocks, size_of, count_at, bytes_at, free_in, places_of}
 use Rattle.block_bodies.specs.Bodies.{Chain, IsBodyOf, IsLastOwn, content_of}
 
@@ -8,7 +10,8 @@ pub record SameSizes (p q : Blocks) : Type 0 where
   pub blocks : size_of q ≡ size_of p
   pub bytes : q.block_size ≡ p.block_size
 
--- bytes end a body: its blocks stay in front, new ones were free, and what anybody else holds stays
+-- bytes are put at the end of a body: its blocks stay in front, new blocks were free, and a block that
+-- somebody else holds too keeps its bytes
 pub record Puts (p : Blocks) (x : Chain) (bytes : List ℕ) (q : Blocks) (y : Chain) : Type 0 where
   pub sizes : SameSizes p q
   pub body : IsBodyOf q y
@@ -21,10 +24,10 @@ pub record Puts (p : Blocks) (x : Chain) (bytes : List ℕ) (q : Blocks) (y : Ch
   pub free : free_in q + length y.blocks ≡ free_in p + length x.blocks
   pub last : IsLastOwn p x → IsLastOwn q y
 
--- the blocks of a list may each be held once more
+-- each block of a list is held, and may be held once more for each of its places
 pub record MayHold (p : Blocks) (list : List ℕ) : Type 0 where
   pub held : (b : ℕ) → 0 < places_of b list → 0 < count_at p b
-  pub fits : (b : ℕ) → count_at p b + places_of b list < 2 ^ 64
+  pub fits : (b : ℕ) → 0 < places_of b list → count_at p b + places_of b list < 2 ^ 64
 
 -- each block of a list is held once more for each of its places; every byte stays
 pub record Holds (p : Blocks) (list : List ℕ) (q : Blocks) : Type 0 where
@@ -33,9 +36,17 @@ pub record Holds (p : Blocks) (list : List ℕ) (q : Blocks) : Type 0 where
   pub bytes : (b : ℕ) → bytes_at q b ≡ bytes_at p b
   pub free : free_in q ≡ free_in p
 
--- each block of a list is held once less for each of its places; so many become free, and the others keep their bytes
+-- how many blocks become free where a list is given back: those that are held, and as often as they stand
+-- in the list, so by nobody else
+abbrev pub freed_by : Blocks → List ℕ → ℕ
+freed_by p list =
+    count_by (λ b. nat_lt 0 (count_at p b) && count_at p b == places_of b list) (range_with_len 0 (size_of p))
+
+-- each block of a list is held once less for each of its places; those that nobody else holds become free,
+-- and the others keep their bytes
 pub record GivesBack (p : Blocks) (list : List ℕ) (freed : ℕ) (q : Blocks) : Type 0 where
   pub sizes : SameSizes p q
   pub counts : (b : ℕ) → count_at q b + places_of b list ≡ count_at p b
   pub bytes : (b : ℕ) → 0 < count_at q b → bytes_at q b ≡ bytes_at p b
+  pub number : freed ≡ freed_by p list
   pub free : free_in q ≡ free_in p + freed

@@ -1,2 +1,4 @@
 pub mod Bodies
 pub mod Changes
+pub mod Faults
+pub mod Laws

@@ -1,4 +1,4 @@
-ghost use Rattle.std.specs.Prelude.{◌≡◌, ℕ, ◌+◌, ◌-◌, ◌*◌, ◌%◌, ◌^◌, ◌<◌, ◌≤◌, ◌↔◌, [], ◌∷◌, ◌++◌, length, take, min, IfOk, IfErr, OnOk, OnErr, slice_get, slice_index, vec_len, vec_capacity};
+ghost use Rattle.std.specs.Prelude.{◌≡◌, ℕ, ◌+◌, ◌-◌, ◌*◌, ◌%◌, ◌^◌, ◌<◌, ◌≤◌, ◌↔◌, [], ◌∷◌, ◌++◌, length, take, min, IfOk, IfErr, IsOk, OnOk, OnErr, slice_get, slice_index, vec_len, vec_capacity};
 ghost use Rattle.block_pool.specs.Blocks.{free_in, places_of, count_at};
 ghost use Rattle.block_bodies.specs.Bodies.{Chain, IsBodyOf, IsHeld, IsLastOwn, HasRoom, StandsOnce, blocks_with, content_of};
 ghost use Rattle.block_bodies.specs.Changes.{GivesBack, Holds, MayHold, Puts};
@@ -9,9 +9,11 @@ use block_pool::{BlockId, Pool};
 use std::alloc::{AllocError, Global};
 use std::marker::Model;
 
-/// Bytes in blocks of a pool. Each call that takes a pool wants the one that holds the blocks.
+/// Bytes that lie in blocks of a pool, one block after the other; only the last may have a rest that is
+/// not used. Each call that takes a pool wants the pool of the body's blocks. A contract sees the list of
+/// the blocks, the number of bytes, and how many blocks the list has room for.
 ///
-/// A body that is dropped keeps its blocks held: `give_back` ends it.
+/// A body that is dropped keeps its blocks held: [`Body::give_back`] ends it.
 #[derive(Drop)]
 pub struct Body {
     blocks: Vec<BlockId>,
@@ -30,9 +32,10 @@ impl Model for Body {
 }
 
 impl Body {
-    /// A body of no bytes and no blocks. Its list of blocks will grow in the allocator's memory.
+    /// A body of no bytes and no blocks. It takes no memory; its list of blocks will grow in that of `alloc`.
     pub fn empty(alloc: Global) -> Body
-        ensures { result ≡ record { blocks = []; len = 0; room = 0 } }
+        ensures value { result ≡ record { blocks = []; len = 0; room = 0 } }
+        ensures once { StandsOnce result.blocks }
     {
         Body {
             blocks: Vec::new(alloc),
@@ -47,10 +50,12 @@ impl Body {
         Body { blocks, len }
     }
 
-    /// How many bytes there are.
+    /// How many bytes there are. With it a caller learns two facts of every body: no block stands in its
+    /// list twice, and the list is no longer than its room.
     pub fn len(&self) -> u64
         ensures value { result ≡ self.now.len }
         ensures once { StandsOnce self.now.blocks }
+        ensures within_room { length self.now.blocks ≤ self.now.room }
     {
         self.len
     }
@@ -62,16 +67,19 @@ impl Body {
         self.blocks.get(place as usize).copied()
     }
 
-    /// Appends bytes, and gives how many blocks were taken for them. It is `reserve`, then `put`: after a fault
-    /// the body and the pool are unchanged.
+    /// Appends bytes, and gives how many blocks were taken for them. It is [`Body::reserve`], then
+    /// [`Body::put`]. Where there are bytes, a last block that is not full must be held once, for this body.
     ///
-    /// `Full` comes only where fewer blocks are free than the bytes need, `Memory` where the list of blocks
-    /// could not grow.
+    /// `Full` comes exactly where fewer blocks are free than the bytes need, and before `Memory`, which comes
+    /// only where the list of blocks had to grow and could not. After either the body and the pool are
+    /// unchanged.
     pub fn append(&mut self, pool: &mut Pool, bytes: &[u8]) -> Result<u64, BodyFault>
         requires body { IsBodyOf pool.old self.old }
         requires last { 0 < length bytes.now → IsLastOwn pool.old self.old }
         ensures taken { IfOk result (λ n. length self.new.blocks ≡ length self.old.blocks + n) }
         ensures puts { OnOk result (Puts pool.old self.old bytes.now pool.new self.new) }
+        ensures once { StandsOnce self.new.blocks }
+        ensures room_kept { self.old.room ≤ self.new.room }
         ensures full { (result ≡ Err BodyFault.Full)
             ↔ (length self.old.blocks + free_in pool.old < blocks_with pool.old self.old (length bytes.now)) }
         ensures memory { result ≡ Err BodyFault.Memory → self.old.room < blocks_with pool.old self.old (length bytes.now) }
@@ -84,21 +92,23 @@ impl Body {
     }
 
     /// Makes room in the list of blocks for `more` bytes, and gives how many blocks they need. The bytes, the
-    /// blocks and the pool stay.
+    /// blocks and the pool stay, and the list keeps the room that it had.
     ///
-    /// `Full` comes only where fewer blocks are free than are needed, `Memory` where the list could not grow;
-    /// after either the body is unchanged.
+    /// `Full` comes exactly where fewer blocks are free than are needed, and before `Memory`, which comes only
+    /// where the list had to grow and could not. After either the body is unchanged.
     pub fn reserve(&mut self, pool: &Pool, more: u64) -> Result<u64, BodyFault>
         requires { IsBodyOf pool.now self.old }
         ensures needed { IfOk result (λ n. blocks_with pool.now self.old more ≡ length self.old.blocks + n) }
         ensures room { OnOk result (HasRoom pool.now self.new more) }
+        ensures once { StandsOnce self.new.blocks }
+        ensures room_kept { self.old.room ≤ self.new.room }
         ensures body { self.new ≡ record self.old { room = self.new.room } }
         ensures full { (result ≡ Err BodyFault.Full)
             ↔ (length self.old.blocks + free_in pool.now < blocks_with pool.now self.old more) }
         ensures memory { result ≡ Err BodyFault.Memory → self.old.room < blocks_with pool.now self.old more }
         ensures unchanged { OnErr result (self.new ≡ self.old) }
     {
-        let needed = self.needed(pool, more);
+        let needed = self.blocks_needed(pool, more);
         if needed > u64::from(pool.free()) {
             return Err(BodyFault::Full);
         }
@@ -108,8 +118,9 @@ impl Body {
         }
     }
 
-    // How many blocks `more` bytes need, beyond the last block's rest.
-    fn needed(&self, pool: &Pool, more: u64) -> u64
+    /// How many blocks `more` bytes need, beyond the rest of the last block: as many as [`Body::append`] takes
+    /// for them. It takes none, so that a quota can be asked first.
+    pub fn blocks_needed(&self, pool: &Pool, more: u64) -> u64
         requires { IsBodyOf pool.now self.now }
         ensures { blocks_with pool.now self.now more ≡ length self.now.blocks + result }
     {
@@ -118,14 +129,16 @@ impl Body {
         more.saturating_sub(rest).div_ceil(size)
     }
 
-    /// Appends bytes for which `reserve` made room, and gives how many blocks were taken. It cannot fail and
-    /// takes no memory. Each byte is copied once: into the last block's rest, then into new blocks.
+    /// Appends bytes for which [`Body::reserve`] made room, and gives how many blocks were taken. It cannot
+    /// fail and takes no memory. Each byte is copied once: into the last block's rest, then into new blocks.
+    /// Where there are bytes, a last block that is not full must be held once, for this body.
     pub fn put(&mut self, pool: &mut Pool, bytes: &[u8]) -> u64
         requires body { IsBodyOf pool.old self.old }
         requires room { HasRoom pool.old self.old (length bytes.now) }
         requires last { 0 < length bytes.now → IsLastOwn pool.old self.old }
         ensures taken { length self.new.blocks ≡ length self.old.blocks + result }
         ensures puts { Puts pool.old self.old bytes.now pool.new self.new }
+        ensures once { StandsOnce self.new.blocks }
         ensures room_stays { self.new.room ≡ self.old.room }
     {
         let before = self.blocks.len();
@@ -193,44 +206,67 @@ impl Body {
         n
     }
 
-    /// A body of the same blocks, each held once more for each of its places. It is `list`, then `hold`: no
-    /// byte is copied, and after a refusal the pool is unchanged.
+    /// A body of the same blocks, each held once more. It is [`Body::list`], then [`Unheld::hold`]: no byte is
+    /// copied. An `AllocError` says that there was no memory for the list of blocks, which never comes where
+    /// there are no blocks; the pool is then unchanged.
     pub fn share(&self, pool: &mut Pool) -> Result<Body, AllocError>
         requires { MayHold pool.old self.now.blocks }
         ensures blocks { IfOk result (λ y. y.blocks ≡ self.now.blocks) }
         ensures len { IfOk result (λ y. y.len ≡ self.now.len) }
+        ensures once { IfOk result (λ y. StandsOnce y.blocks) }
         ensures holds { OnOk result (Holds pool.old self.now.blocks pool.new) }
+        ensures empty { self.now.blocks ≡ [] → IsOk result }
         ensures unchanged { OnErr result (pool.new ≡ pool.old) }
     {
         Ok(self.list()?.hold(pool))
     }
 
-    /// A copy of the list of blocks, which `Unheld::hold` makes a body.
+    /// A copy of the list of blocks, which [`Unheld::hold`] makes a body. An `AllocError` says that there was
+    /// no memory for it, which never comes where there are no blocks.
     pub fn list(&self) -> Result<Unheld, AllocError>
         ensures blocks { IfOk result (λ u. u.blocks ≡ self.now.blocks) }
         ensures len { IfOk result (λ u. u.len ≡ self.now.len) }
+        ensures empty { self.now.blocks ≡ [] → IsOk result }
     {
-        let blocks = Vec::from_slice(*self.blocks.allocator(), &self.blocks)?;
+        let mut blocks = Vec::with_capacity(*self.blocks.allocator(), self.blocks.len())?;
+        let copied = blocks.extend_from_slice(&self.blocks);
+        prove!(copied.is_ok());
         Ok(Unheld::new(blocks, self.len))
     }
 
-    /// The body's bytes. All memory for them is taken first.
+    /// The body's bytes, in a new vector. An `AllocError` says that there was no memory for them, which never
+    /// comes where there are no bytes.
     pub fn read(&self, alloc: Global, pool: &Pool) -> Result<Vec<u8>, AllocError>
         requires { IsBodyOf pool.now self.now }
-        ensures { IfOk result (λ v. v.items ≡ content_of pool.now self.now) }
+        ensures content { IfOk result (λ v. v.items ≡ content_of pool.now self.now) }
+        ensures empty { self.now.len ≡ 0 → IsOk result }
     {
         let mut bytes = Vec::with_capacity(alloc, self.len as usize)?;
-        let mut left = self.len as usize;
-        for block in &self.blocks {
-            let piece = pool.bytes(*block);
-            let n = left.min(piece.len());
-            bytes.extend_from_slice(&piece[..n])?;
-            left -= n;
-        }
+        self.read_onto(pool, &mut bytes);
         Ok(bytes)
     }
 
-    /// Ends the body: each of its blocks is held once less for each of its places. Gives how many became free.
+    /// Reads the body's bytes onto the end of `bytes`, which has room for them: so many bodies can be read
+    /// onto a vector whose memory was taken once. It cannot fail and takes no memory.
+    pub fn read_onto(&self, pool: &Pool, bytes: &mut Vec<u8>)
+        requires body { IsBodyOf pool.now self.now }
+        requires room { vec_len bytes.old + self.now.len ≤ vec_capacity bytes.old }
+        ensures content { bytes.new.items ≡ bytes.old.items ++ content_of pool.now self.now }
+        ensures len { vec_len bytes.new ≡ vec_len bytes.old + self.now.len }
+        ensures room_kept { vec_capacity bytes.old ≤ vec_capacity bytes.new }
+    {
+        let size = pool.block_size() as usize;
+        let mut left = self.len as usize;
+        for block in &self.blocks {
+            let n = left.min(size);
+            let copied = bytes.extend_from_slice(&pool.bytes(*block)[..n]);
+            prove!(copied.is_ok());
+            left -= n;
+        }
+    }
+
+    /// Ends the body: each of its blocks is held once less. Gives how many became free, which are those that
+    /// nobody else holds.
     pub fn give_back(self, pool: &mut Pool) -> u64
         requires { IsHeld pool.old self.blocks }
         ensures { GivesBack pool.old self.blocks result pool.new }

@@ -3,10 +3,12 @@
 
 mod body;
 mod fault;
+mod laws;
 mod unheld;
 
 pub use body::Body;
 pub use fault::BodyFault;
+pub use laws::lists_in_parts;
 pub use unheld::Unheld;
 
 #[cfg(test)]

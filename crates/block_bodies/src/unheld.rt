@@ -7,6 +7,8 @@ use block_pool::{BlockId, Pool};
 use std::marker::Model;
 
 /// The list of a body's blocks, before they are held for it. A contract sees it as it sees a body.
+///
+/// Its memory is taken before anything changes in the pool, so that the step that can fail comes first.
 #[derive(Drop)]
 pub struct Unheld {
     blocks: Vec<BlockId>,
@@ -33,11 +35,12 @@ impl Unheld {
         Unheld { blocks, len }
     }
 
-    /// Holds each block of the list once more for each of its places, and gives the body. It takes no memory,
-    /// and touches no byte.
+    /// Holds each block of the list once more, and gives the body. It cannot fail, takes no memory and touches
+    /// no byte. Each block must be held by somebody, and less than 2^64 - 1 times.
     pub fn hold(self, pool: &mut Pool) -> Body
         requires { MayHold pool.old self.blocks }
         ensures body { result ≡ self }
+        ensures once { StandsOnce result.blocks }
         ensures holds { Holds pool.old self.blocks pool.new }
     {
         hold_each(pool, &self.blocks);

@@ -1,12 +1,15 @@
 -- Laws for the crates above: the counts, the bytes and the number of free blocks after each change of a pool,
 -- and lists of blocks. A change of a count is said additively, by the places of the block in a list.
-use Rattle.std.proofs.Common.{◌≡◌, ℕ, ◌+◌, ◌*◌, ◌-◌, ◌<◌, ◌≤◌, List, [], ◌∷◌, ◌++◌, length, get_or, take, cond, eqb, refl, ap, sym, ◌∙◌, subst, ⊎_elim, arith, zero-add, length-append, length-set}
-use Rattle.std.specs.List.{remove}
+use Rattle.std.proofs.Common.{◌≡◌, ℕ, suc, ◌+◌, ◌*◌, ◌-◌, ◌<◌, ◌≤◌, List, [], ◌∷◌, ◌++◌, length, get_or, take, cond, eqb, refl, ap, sym, ◌∙◌, subst, ⊎_elim, arith, zero-add, length-append, length-set}
+use Rattle.std.specs.List.{remove, sum_by, All, range_with_len}
+use Rattle.std.specs.Prelude.{◌==◌, nat_lt, count_by}
+use Rattle.std.proofs.lemmas.List.Elements.{All-from_get_or}
 use Rattle.std.proofs.lemmas.List.{get_or-set_same, get_or-set_other, get_or_past}
-use Rattle.std.proofs.lemmas.List.Sums.{sum_by-set, sum_by-append, sum_by-take-le, sum_by_more, sum_by-remove, get_or-le-sum_by, count_by-le-length}
+use Rattle.std.proofs.lemmas.List.Sums.{sum_by-set, sum_by-append, sum_by-take-le, sum_by_more, sum_by-remove, sum_by-le, get_or-le-sum_by, count_by-le-length}
 use Rattle.std.proofs.lemmas.List.Concat.{flat_map-append, flat_map-cons}
 use Rattle.std.proofs.lemmas.Bool.{cases_eq, cases_lt, eq-eqb, ne_eqb}
-use Rattle.block_pool.specs.Blocks.{Block, Blocks, free_block, size_of, block_at, count_at, bytes_at, free_in, IsPool, Takes, with_block, held, released, written, over, places_of, bytes_of}
+use Rattle.std.proofs.lemmas.Bool.Decides.{nat_tests}
+use Rattle.block_pool.specs.Blocks.{Block, Blocks, free_block, size_of, block_at, count_at, bytes_at, free_in, used_in, IsPool, Takes, with_block, held, released, written, over, places_of, bytes_of}
 
 -- one block in the place of another
 pub block_at-with_block_same : (p : Blocks) (b : ℕ) (x : Block) → b < size_of p → block_at (with_block p b x) b ≡ x
@@ -224,5 +227,65 @@ length-once p (b ∷ list) once each =
     (λ (e : c ≡ b). rw e (omega (arith, once b, places_of-cons b b list, places_of-one_same b)))
     (λ ne. omega (arith, each c, places_of-cons c b list))) in
     omega (arith, rest, free_in-with_block p b free_block l, free_of-held (block_at p b) here, length-set p.blocks b free_block)
+
+-- 1 for a block that somebody holds, 0 for another
+abbrev used_of : Block → ℕ
+used_of x = cond (nat_lt 0 x.count) 1 0
+
+used_of-zero : (n : ℕ) → n ≡ 0 → cond {A = ℕ} (nat_lt 0 n) 1 0 ≡ 0
+used_of-zero n e = ap (λ k. cond {A = ℕ} (nat_lt 0 k) 1 0) e
+
+used_of-few : (n : ℕ) → cond {A = ℕ} (nat_lt 0 n) 1 0 ≤ 1
+used_of-few n = grind (arith, nat_tests)
+
+free_or_used : (n : ℕ) → cond {A = ℕ} (eqb n 0) 1 0 + cond {A = ℕ} (nat_lt 0 n) 1 0 ≡ 1
+free_or_used n = grind (arith, nat_tests)
+
+free_and_used : (blocks : List Block) → sum_by free_of blocks + sum_by used_of blocks ≡ length blocks
+free_and_used [] = refl
+free_and_used (x ∷ blocks) =
+    omega (arith, free_and_used blocks, sum_by-append free_of (x ∷ []) blocks, sum_by-append used_of (x ∷ []) blocks, free_or_used x.count)
+
+-- each block is free or in use
+pub free_in-used_in : (p : Blocks) → free_in p + used_in p ≡ size_of p
+free_in-used_in p = free_and_used p.blocks
+
+used_in-with_block : (p : Blocks) (b : ℕ) (x : Block) → b < size_of p → used_in (with_block p b x) + used_of (block_at p b) ≡ used_in p + used_of x
+used_in-with_block p b x l = sum_by-set used_of p.blocks b x free_block l
+
+-- no more blocks are in use than stand in a list that has as many places for each as hold it
+pub used_in-listed : (p : Blocks) (list : List ℕ) → ((b : ℕ) → count_at p b ≤ places_of b list) → used_in p ≤ length list
+used_in-listed p [] few =
+    let none : All (λ (x : Block). used_of x ≤ 0) p.blocks = All-from_get_or (λ (x : Block). used_of x ≤ 0) p.blocks free_block
+    (λ i l. omega (arith, used_of-zero (count_at p i) (omega (arith, few i)))) in
+    omega (arith, sum_by-le used_of 0 p.blocks none)
+used_in-listed p (b ∷ list) few = ⊎_elim
+    (λ (l : b < size_of p).
+    let rest : used_in (with_block p b free_block) ≤ length list = used_in-listed (with_block p b free_block) list
+    (λ c. let P : Block → Type 0 = λ x. x.count ≤ places_of c list in
+    by_block p b c free_block l P
+    (λ e. omega arith)
+    (λ ne. omega (arith, few c, places_of-cons c b list, places_of-one_other b c ne))) in
+    omega (arith, rest, used_in-with_block p b free_block l, used_of-few (count_at p b)))
+    (λ (past : size_of p ≤ b).
+    let rest : used_in p ≤ length list = used_in-listed p list
+    (λ c. ⊎_elim
+    (λ (e : c ≡ b). let none : count_at p c ≡ 0 = rw e (ap (λ (x : Block). x.count) (get_or_past p.blocks b free_block past)) in omega arith)
+    (λ ne. omega (arith, few c, places_of-cons c b list, places_of-one_other b c ne))
+    (cases_eq c b)) in
+    omega arith)
+    (cases_lt b (size_of p))
+
+-- the free blocks, counted by their numbers
+sum_by-numbers : (f : Block → ℕ) (g : ℕ → ℕ) (a : ℕ) (blocks : List Block) → ((i : ℕ) → i < length blocks → g (a + i) ≡ f (get_or blocks i free_block)) → sum_by g (range_with_len a (length blocks)) ≡ sum_by f blocks
+sum_by-numbers f g a [] same = refl
+sum_by-numbers f g a (x ∷ blocks) same =
+    let here : g a ≡ f x = ap g (omega arith) ∙ same 0 (omega arith) in
+    let rest : sum_by g (range_with_len (a + 1) (length blocks)) ≡ sum_by f blocks = sum_by-numbers f g (a + 1) blocks
+    (λ i l. ap g (omega arith) ∙ same (suc i) (omega arith)) in
+    omega (arith, here, rest, sum_by-append g (a ∷ []) (range_with_len (a + 1) (length blocks)), sum_by-append f (x ∷ []) blocks)
+
+pub free_in-numbers : (p : Blocks) → free_in p ≡ count_by (λ b. count_at p b == 0) (range_with_len 0 (size_of p))
+free_in-numbers p = sym (sum_by-numbers free_of (λ b. cond (eqb (count_at p b) 0) 1 0) 0 p.blocks (λ i l. ap (λ k. free_of (block_at p k)) (omega arith)))
 
 pub ruleset laws = (below_size, count_at-taken, bytes_at-taken, free_in-taken, size_of-taken, block_size-taken, count_at-held, bytes_at-held, free_in-held, count_at-released, bytes_at-released, free_in-released, count_at-written, bytes_at-written_same, bytes_at-written_other, free_in-written, places_of-one_same, places_of-one_other)

@@ -3,9 +3,11 @@
 #![tactic(auto, using(crate::proofs::Stored::stored))]
 
 mod block_id;
+mod laws;
 mod pool;
 
 pub use block_id::BlockId;
+pub use laws::blocks_in_use;
 pub use pool::{BLOCK_SIZE_MAX, BLOCKS_MAX, POOL_BYTES_MAX, Pool};
 
 #[cfg(test)]

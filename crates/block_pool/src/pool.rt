@@ -18,7 +18,7 @@ pub const POOL_BYTES_MAX: u64 = 1_073_741_824;
 /// Blocks of one size, their bytes in one piece of memory, each with a count of its holders. A contract
 /// sees the counts, and the bytes of the blocks that somebody holds.
 ///
-/// No call but `new` takes memory, and each takes the same time for any number of blocks.
+/// No call but `new` takes memory, and each other call takes the same time however many blocks there are.
 #[derive(Drop)]
 pub struct Pool {
     block_bytes: u32,
@@ -43,8 +43,21 @@ impl Model for Pool {
 }
 
 impl Pool {
-    /// Makes a pool whose blocks are all free. All memory that it will ever need is taken and zeroed here;
-    /// an `AllocError` says that there was too little.
+    /// Whether [`Pool::new`] makes a pool of so many blocks with so many bytes each: 1 to [`BLOCKS_MAX`]
+    /// blocks of 1 to [`BLOCK_SIZE_MAX`] bytes, at most [`POOL_BYTES_MAX`] together.
+    pub fn is_within_limits(blocks: u32, block_size: u32) -> bool
+        ensures { IsTrue result ↔ IsWithinLimits blocks block_size }
+    {
+        0 < blocks
+            && blocks <= BLOCKS_MAX
+            && 0 < block_size
+            && block_size <= BLOCK_SIZE_MAX
+            && u64::from(blocks) * u64::from(block_size) <= POOL_BYTES_MAX
+    }
+
+    /// Makes a pool of so many blocks with so many bytes each, which [`Pool::is_within_limits`] accepts.
+    /// Every block is free. All memory that the pool will ever need is taken and zeroed here; an
+    /// `AllocError` says that there was too little.
     pub fn new(alloc: Global, blocks: u32, block_size: u32) -> Result<Pool, AllocError>
         requires { IsWithinLimits blocks block_size }
         ensures { IfOk result (λ p. p ≡ all_free blocks block_size) }
@@ -83,7 +96,7 @@ impl Pool {
         self.block_bytes
     }
 
-    /// How many hold the block; 0 where it is free.
+    /// How many hold a block of this pool; 0 where it is free.
     pub fn count(&self, block: BlockId) -> u64
         requires { block < size_of self.now }
         ensures { result ≡ count_at self.now block }
@@ -91,7 +104,7 @@ impl Pool {
         self.counts[block.number() as usize]
     }
 
-    /// Takes a free block, which is then held once. `None` comes only where no block is free, and then
+    /// Takes a free block, which is then held once. `None` comes exactly where no block is free, and then
     /// nothing changes. What the block's bytes are is not promised.
     pub fn take(&mut self) -> Option<BlockId>
         ensures some { IfSome result (λ b. Takes self.old self.new b) }
@@ -104,7 +117,7 @@ impl Pool {
         Some(block)
     }
 
-    /// Holds a held block once more.
+    /// Holds once more a block that somebody holds, fewer than 2^64 - 1 times.
     pub fn hold(&mut self, block: BlockId)
         requires is_held { 0 < count_at self.old block }
         requires fits { count_at self.old block + 1 < 2 ^ 64 }
@@ -114,7 +127,7 @@ impl Pool {
         self.counts[place] += 1;
     }
 
-    /// Holds a block once less, and says whether it is free now.
+    /// Holds once less a block that somebody holds, and says whether it is free now.
     pub fn release(&mut self, block: BlockId) -> bool
         requires { 0 < count_at self.old block }
         ensures freed { IsTrue result ↔ (count_at self.old block ≡ 1) }
@@ -129,7 +142,8 @@ impl Pool {
         left == 0
     }
 
-    /// Writes bytes into a block that is held once, from a place on; its other bytes stay.
+    /// Writes bytes into a block that is held once, from its byte `at` on (0 is the first) and within the
+    /// block. Its other bytes stay.
     pub fn write(&mut self, block: BlockId, at: u32, bytes: &[u8])
         requires held_once { count_at self.old block ≡ 1 }
         requires within { at + length bytes.now ≤ self.old.block_size }
@@ -139,7 +153,7 @@ impl Pool {
         write_over(&mut self.bytes, start + at as usize, bytes);
     }
 
-    /// The bytes of a held block.
+    /// The bytes of a block that somebody holds, as many as a block has.
     pub fn bytes(&self, block: BlockId) -> &[u8]
         requires { 0 < count_at self.now block }
         ensures value { result.now ≡ bytes_at self.now block }

@@ -5,7 +5,6 @@ use Rattle.std.specs.List.{slice_split}
 use Rattle.tus_text.specs.declared.concat.Concat.{Concat}
 use Rattle.tus_text.specs.declared.concat.Concat.TheVariants.{Partial, Final}
 use Rattle.tus_text.specs.declared.concat.PartPath.{PartPath}
-use Rattle.tus_text.specs.declared.concat.TheConstants.{CONCAT_MAX, PARTS_MAX}
 use Rattle.tus_text.specs.declared.path.Path.{Path}
 use Rattle.tus_text.specs.declared.path.Path.TheVariants.{Create, Upload, Other}
 use Rattle.tus_text.specs.Cut.{is_space}
@@ -21,15 +20,15 @@ upload_in Other = None
 abbrev pub part_of : List ℕ → Option PartPath
 part_of target = upload_in (path_of target)
 
--- The cuts at single spaces, as cuts at runs of them: the empty ones go, but for the last, which is
--- empty where a space ends the text.
+-- The words between single spaces without the empty ones, so that a run of spaces counts as one. An empty
+-- last word stays: it says that a space ends the text.
 abbrev pub join_cuts : List (List ℕ) → List (List ℕ)
 join_cuts [] = []
 join_cuts (word ∷ []) = word ∷ []
 join_cuts ([] ∷ next ∷ more) = join_cuts (next ∷ more)
 join_cuts ((b ∷ word) ∷ next ∷ more) = (b ∷ word) ∷ join_cuts (next ∷ more)
 
--- what stands between the runs of spaces, and after those at the front
+-- the words between runs of spaces; those at the front of the text are passed over
 abbrev pub words_of : List ℕ → List (List ℕ)
 words_of text = join_cuts (slice_split is_space text)
 
@@ -41,7 +40,7 @@ parts_of (target ∷ targets) =
 
 -- a list of at most 32 parts
 abbrev pub within_limit : List PartPath → Option (List PartPath)
-within_limit parts = if nat_le (length parts) PARTS_MAX then Some parts else None
+within_limit parts = if nat_le (length parts) 32 then Some parts else None
 
 -- the parts of the list that follows `final;`
 unfoldable pub final_of : List ℕ → Option (List PartPath)
@@ -54,6 +53,6 @@ after_final text = if bytes_eq (take 6 text) (codes "final;") then Some (drop 6 
 -- what the text says, of at most 2,048 bytes
 unfoldable pub concat_of : List ℕ → Option Concat
 concat_of text =
-    if nat_lt CONCAT_MAX (length text) then None
+    if nat_lt 2048 (length text) then None
     else if bytes_eq text (codes "partial") then Some Partial
     else option_map Final (option_and_then final_of (after_final text))

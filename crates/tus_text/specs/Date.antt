@@ -7,19 +7,20 @@ use Rattle.httpdate.specs.Date.{parse_secs}
 use Rattle.httpdate.specs.Calendar.{days_in_year, days_in_month, weekday}
 use Rattle.httpdate.specs.Text.{imf_fixdate}
 
--- The span that a day lies in, and its place there: span k has `size k` days, the days are counted
--- from the start of span `first`, and at most `more` spans are passed.
+-- The span (a year, or a month of one) that a day lies in, and how many days of that span come before
+-- it. Span k has `size k` days; the day is the one after `days` days from the start of span `first`; at
+-- most `more` spans are passed.
 unfoldable pub span_of : (ℕ → ℕ) → ℕ → ℕ → ℕ → ℕ × ℕ
 span_of size zero first days = (first, days)
 span_of size (suc more) first days =
     if nat_lt days (size first) then (first, days)
     else span_of size more (first + 1) (days - size first)
 
--- the year of a day since 1970, and how many days of it have passed
+-- the year of a day since 1970, at most 9999, and how many days of the year come before it
 abbrev pub year_of : ℕ → ℕ × ℕ
 year_of days = span_of days_in_year 8029 1970 days
 
--- the month of a day of the year, and how many days of it have passed
+-- the month of a day of the year, and how many days of the month come before it
 abbrev pub month_of : ℕ → ℕ → ℕ × ℕ
 month_of year days = span_of (days_in_month year) 11 1 days
 

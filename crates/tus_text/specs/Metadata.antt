@@ -7,7 +7,6 @@ use Rattle.std.specs.Str.{byte}
 use Rattle.base64.specs.Engines.{standard}
 use Rattle.base64.specs.GeneralPurpose.{decode_of}
 use Rattle.tus_text.specs.Cut.{is_space, trim_spaces}
-use Rattle.tus_text.specs.declared.metadata.TheConstants.{METADATA_MAX}
 
 abbrev pub is_comma : ℕ → Bool
 is_comma b = b == byte ","
@@ -22,7 +21,7 @@ key_of pair = before_first is_space pair
 -- 1 to 1,024 bytes of Base64, with canonical padding and no bits left over
 unfoldable pub is_value : List ℕ → Bool
 is_value text =
-    nat_lt 0 (length text) && nat_le (length text) METADATA_MAX && is_ok (decode_of standard text)
+    nat_lt 0 (length text) && nat_le (length text) 1024 && is_ok (decode_of standard text)
 
 -- a key of one byte or more, and a value where a space follows it
 abbrev pub is_pair : List ℕ → Bool
@@ -38,5 +37,5 @@ are_distinct (text ∷ texts) = not (list_any (bytes_eq text) texts) && are_dist
 -- at most 1,024 bytes of pairs with distinct keys
 unfoldable pub is_metadata : List ℕ → Bool
 is_metadata text =
-    nat_le (length text) METADATA_MAX && list_all is_pair (pairs_of text)
+    nat_le (length text) 1024 && list_all is_pair (pairs_of text)
     && are_distinct (map key_of (pairs_of text))

@@ -7,16 +7,18 @@ use crate::text::Tenant;
 use arrayvec::ArrayVec;
 use std::marker::Model;
 
-/// The most bytes that the value of Upload-Concat has.
+/// The most bytes of a value of Upload-Concat.
 pub const CONCAT_MAX: usize = 2048;
 
-/// The most parts that a final upload has.
+/// The most parts of a final upload.
 pub const PARTS_MAX: usize = 32;
 
-/// The path of a part: an upload, whose `id` is 1 to 2^64 - 1.
+/// The path of a part, which is an upload.
 #[derive(Default, Drop)]
 pub struct PartPath {
+    /// The tenant that the upload is of.
     pub tenant: Tenant,
+    /// The upload's id, 1 to 2^64 - 1.
     pub id: u64,
 }
 
@@ -24,7 +26,7 @@ pub struct PartPath {
 /// the list of them.
 #[derive(Drop)]
 pub struct Parts {
-    pub(crate) parts: ArrayVec<PartPath, 32>,
+    pub(crate) parts: ArrayVec<PartPath, PARTS_MAX>,
 }
 
 impl Model for Parts {
@@ -40,7 +42,7 @@ impl Parts {
     /// The parts, in their order.
     pub fn as_slice(&self) -> &[PartPath]
         ensures value { result.now ≡ self.now }
-        ensures fits { length result.now ≤ PARTS_MAX }
+        ensures fits { length result.now ≤ 32 }
     {
         self.parts.as_slice()
     }
@@ -62,7 +64,7 @@ pub enum Concat {
 /// [`CONCAT_MAX`] bytes.
 pub fn read_concat(text: &[u8]) -> Option<Concat>
     ensures value { result ≡ concat_of text.now }
-    ensures bound { IfSome result (λ _. length text.now ≤ CONCAT_MAX) }
+    ensures bound { IfSome result (λ _. length text.now ≤ 2048) }
 {
     if text.len() > CONCAT_MAX {
         return None;

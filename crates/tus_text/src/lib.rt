@@ -2,18 +2,18 @@
 //! its value, and no call takes memory.
 #![tactic(auto)]
 
-pub mod concat;
+mod concat;
 mod cut;
-pub mod date;
-pub mod metadata;
-pub mod number;
-pub mod path;
+mod date;
+mod metadata;
+mod number;
+mod path;
 #[cfg(test)]
 mod plain;
-pub mod tenant;
+mod tenant;
 #[cfg(test)]
 mod tests;
-pub mod text;
+mod text;
 
 pub use concat::{CONCAT_MAX, Concat, PARTS_MAX, PartPath, Parts, read_concat};
 pub use date::{LAST_SECOND, read_expires, write_expires};

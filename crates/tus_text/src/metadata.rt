@@ -9,7 +9,7 @@ use crate::cut::{split_at_first, trim_spaces};
 use arrayvec::ArrayVec;
 use base64::engine::general_purpose::STANDARD;
 
-/// The most bytes that the value of Upload-Metadata has.
+/// The most bytes of a value of Upload-Metadata.
 pub const METADATA_MAX: usize = 1024;
 
 // The most pairs in so many bytes: each takes a byte, and a comma before the next.
@@ -21,7 +21,7 @@ const PAIRS_MAX: usize = METADATA_MAX / 2;
 /// keys are equal. A value is Base64 (RFC 4648, section 4), padded, of one byte or more.
 pub fn check_metadata(text: &[u8]) -> bool
     ensures value { result ≡ is_metadata text.now }
-    ensures bound { IsTrue result → length text.now ≤ METADATA_MAX }
+    ensures bound { IsTrue result → length text.now ≤ 1024 }
 {
     text.len() <= METADATA_MAX && are_pairs(text) && has_distinct_keys(text)
 }
@@ -62,7 +62,7 @@ fn key_in(part: &[u8]) -> &[u8]
 
 // Whether the keys of the pairs differ.
 fn has_distinct_keys(text: &[u8]) -> bool
-    requires bound { length text.now ≤ METADATA_MAX }
+    requires bound { length text.now ≤ 1024 }
     requires pairs { IsTrue (list_all is_pair (pairs_of text.now)) }
     ensures { result ≡ are_distinct (map key_of (pairs_of text.now)) }
 {

@@ -1,4 +1,5 @@
-//! Plain programs for the definitions, which the tests hold beside the readers.
+//! A plain program for each definition. It follows the definition step by step, however slow that is, and
+//! is proved equal to it; the tests run it beside the reader. No other code uses these programs.
 mod concat;
 mod cut;
 mod date;

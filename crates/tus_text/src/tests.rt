@@ -1,5 +1,6 @@
 mod concat;
 mod date;
+mod limits;
 mod metadata;
 mod number;
 mod path;

@@ -3,11 +3,11 @@ ghost use Rattle.std.specs.Prelude.{◌≡◌, ◌≤◌, ◌↔◌, [], length,
 use arrayvec::ArrayVec;
 use std::marker::Model;
 
-/// The most bytes that the name of a tenant has.
+/// The most bytes of a tenant's name.
 pub const TENANT_MAX: usize = 32;
 
-/// The name of a tenant: 1 to 32 bytes of `a` to `z`, digits and `-`.
-pub type Tenant = Text<32>;
+/// A text with room for the name of a tenant. [`crate::is_tenant_name`] says what such a name is.
+pub type Tenant = Text<TENANT_MAX>;
 
 /// A text of at most `N` bytes, kept inline. A contract sees the list of its bytes.
 #[derive(Drop)]
@@ -33,7 +33,7 @@ impl<const N: usize> Text<N> {
         }
     }
 
-    /// The text of `bytes`, copied.
+    /// The text of `bytes`, which are at most `N` and are copied.
     pub fn of(bytes: &[u8]) -> Self
         requires { length bytes.now ≤ N }
         ensures { result ≡ bytes.now }

@@ -4,8 +4,6 @@ ghost use Rattle.httpdate.specs.Calendar.{IsCivilDate, days_from_civil, days_in_
 ghost use Rattle.httpdate.specs.Text.{day_name, month_name, imf_fixdate};
 ghost use Rattle.tus_text.specs.Date.{expires_text};
 
-use crate::date::LAST_SECOND;
-
 // A day of the calendar. Monday is weekday 1.
 #[derive(Clone, Copy)]
 struct CalendarDay {
@@ -175,7 +173,7 @@ fn print_date(today: CalendarDay, secs: u64) -> [u8; 29]
 
 /// The IMF-fixdate of `secs` seconds since 1970, by counting its days one at a time.
 pub fn plain_expires(secs: u64) -> [u8; 29]
-    requires { secs ≤ LAST_SECOND }
+    requires { secs ≤ 253402300799 }
     ensures { result ≡ expires_text secs }
 {
     let mut today = CalendarDay {

@@ -61,7 +61,7 @@ fn no_concats(rt: HostRuntime) {
     }
 }
 
-// The first bytes of `final;` and a target of 14 bytes, over and over.
+// The first bytes of `final;` and then of a space and a target, 14 bytes, over and over.
 fn many_parts<const N: usize>() -> [u8; N] {
     let mut text = [0; N];
     for place in 0..N {
@@ -77,7 +77,7 @@ fn many_parts<const N: usize>() -> [u8; N] {
 #[test]
 fn a_concat_of_many_parts(rt: HostRuntime) {
     let text = many_parts::<454>();
-    let paths = [(b"acme".as_slice(), 1); PARTS_MAX];
+    let paths = [(b"acme".as_slice(), 1); 32];
     assert!(rt; is_parts(read_concat(&text), &paths));
     assert!(rt; is_parts(plain_concat(&text), &paths));
     let text = many_parts::<468>();
@@ -88,14 +88,14 @@ fn a_concat_of_many_parts(rt: HostRuntime) {
 #[test]
 fn a_concat_of_many_bytes(rt: HostRuntime) {
     let part = b"/files/acme/1";
-    let mut text = [b' '; CONCAT_MAX + 1];
+    let mut text = [b' '; 2_049];
     text[..6].copy_from_slice(b"final;");
-    text[CONCAT_MAX - part.len()..CONCAT_MAX].copy_from_slice(part);
+    text[2_035..2_048].copy_from_slice(part);
     let paths = [(b"acme".as_slice(), 1)];
-    assert!(rt; is_parts(read_concat(&text[..CONCAT_MAX]), &paths));
-    assert!(rt; is_parts(plain_concat(&text[..CONCAT_MAX]), &paths));
-    text[CONCAT_MAX - part.len()] = b' ';
-    text[CONCAT_MAX + 1 - part.len()..].copy_from_slice(part);
+    assert!(rt; is_parts(read_concat(&text[..2_048]), &paths));
+    assert!(rt; is_parts(plain_concat(&text[..2_048]), &paths));
+    text[2_035] = b' ';
+    text[2_036..].copy_from_slice(part);
     assert!(rt; read_concat(&text).is_none());
     assert!(rt; plain_concat(&text).is_none());
 }

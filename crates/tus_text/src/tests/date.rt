@@ -7,7 +7,7 @@ fn dates(rt: HostRuntime) {
         (1000, b"Thu, 01 Jan 1970 00:16:40 GMT"),
         (4600, b"Thu, 01 Jan 1970 01:16:40 GMT"),
         (784_111_777, b"Sun, 06 Nov 1994 08:49:37 GMT"),
-        (LAST_SECOND, b"Fri, 31 Dec 9999 23:59:59 GMT"),
+        (253_402_300_799, b"Fri, 31 Dec 9999 23:59:59 GMT"),
     ];
     for (secs, text) in rows {
         assert_eq!(rt; write_expires(secs).as_slice(), text, "{secs}");
@@ -18,7 +18,7 @@ fn dates(rt: HostRuntime) {
 
 #[test]
 fn dates_of_other_formats(rt: HostRuntime) {
-    let rows: [(&[u8], Option<u64>); 8] = [
+    let rows: [(&[u8], Option<u64>); 9] = [
         (b"Sunday, 06-Nov-94 08:49:37 GMT", Some(784_111_777)),
         (b"Sun Nov  6 08:49:37 1994", Some(784_111_777)),
         (b"", None),
@@ -27,6 +27,7 @@ fn dates_of_other_formats(rt: HostRuntime) {
         (b"Mon, 06 Nov 1994 08:49:37 GMT", None),
         (b"Thu, 30 Feb 1995 08:49:37 GMT", None),
         (b"Wed, 31 Dec 1969 23:59:59 GMT", None),
+        (b"Sat, 01 Jan 10000 00:00:00 GMT", None),
     ];
     for (text, secs) in rows {
         assert_eq!(rt; read_expires(text), secs, "{text:?}");

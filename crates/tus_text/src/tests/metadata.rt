@@ -38,7 +38,7 @@ fn metadata(rt: HostRuntime) {
 
 #[test]
 fn metadata_of_many_bytes(rt: HostRuntime) {
-    let text = [b'a'; METADATA_MAX + 1];
+    let text = [b'a'; 1_025];
     assert!(rt; check_metadata(&text[1..]));
     assert!(rt; plain_metadata(&text[1..]));
     assert!(rt; !check_metadata(&text));

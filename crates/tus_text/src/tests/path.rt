@@ -19,7 +19,11 @@ fn paths_of_a_tenant(rt: HostRuntime) {
         (b"/files/acme/1", b"acme", Some(1)),
         (b"/files/gamma/1", b"gamma", Some(1)),
         (b"/files/a-1/10", b"a-1", Some(10)),
-        (b"/files/acme/18446744073709551615", b"acme", Some(u64::MAX)),
+        (
+            b"/files/acme/18446744073709551615",
+            b"acme",
+            Some(18_446_744_073_709_551_615),
+        ),
         (b"http://h:1/files/acme/2", b"acme", Some(2)),
         (b"HTTPS://h/files/acme", b"acme", None),
         (b"hTtp://h%20:1/files/acme/", b"acme", None),

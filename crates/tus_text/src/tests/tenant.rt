@@ -18,8 +18,9 @@ fn tenants(rt: HostRuntime) {
 
 #[test]
 fn texts_keep_their_bytes(rt: HostRuntime) {
-    let text = Tenant::of(b"acme");
-    assert_eq!(rt; text.copied().as_slice(), b"acme".as_slice());
+    let name = b"abcdefghijklmnopqrstuvwxyz012345".as_slice();
+    let text = Tenant::of(name);
+    assert_eq!(rt; text.copied().as_slice(), name);
     assert!(rt; !text.is_empty());
     assert!(rt; Tenant::empty().is_empty());
 }

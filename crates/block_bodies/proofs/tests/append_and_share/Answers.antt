@@ -7,7 +7,7 @@ use Rattle.block_bodies.proofs.tests.append_and_share.Goals as goal
 pub share-requires : goal.share-requires
 share-requires g c =
     let sole = IsSole-twice 2 4 c.in_ok-pool.pool c.append.new.pool c.append-2.new.pool c.append-3.new.pool c.empty-body.result c.append.new.self c.append-2.new.self c.append-3.new.self _ _
-    c.in_ok-pool.ensures (ap (λ (x : Chain). x.blocks) c.empty-body.ensures) c.in_ok-append.ensures.puts c.in-Err-Full.ensures.pool_unchanged
+    c.in_ok-pool.ensures (ap (λ (x : Chain). x.blocks) c.empty-body.ensures.value) c.in_ok-append.ensures.puts c.in-Err-Full.ensures.pool_unchanged
     (ap (λ (x : Chain). x.blocks) c.in-Err-Full.ensures.body_unchanged) c.in_ok-append-2.ensures.puts in
     IsSole-may_hold c.append-3.new.pool c.append-3.new.self sole c.len.ensures.once
 
@@ -20,14 +20,14 @@ read-requires-3 g c =
 pub give_back-requires : goal.give_back-requires
 give_back-requires g c =
     let sole = IsSole-twice 2 4 c.in_ok-pool.pool c.append.new.pool c.append-2.new.pool c.append-3.new.pool c.empty-body.result c.append.new.self c.append-2.new.self c.append-3.new.self _ _
-    c.in_ok-pool.ensures (ap (λ (x : Chain). x.blocks) c.empty-body.ensures) c.in_ok-append.ensures.puts c.in-Err-Full.ensures.pool_unchanged
+    c.in_ok-pool.ensures (ap (λ (x : Chain). x.blocks) c.empty-body.ensures.value) c.in_ok-append.ensures.puts c.in-Err-Full.ensures.pool_unchanged
     (ap (λ (x : Chain). x.blocks) c.in-Err-Full.ensures.body_unchanged) c.in_ok-append-2.ensures.puts in
     held-twice c.append-3.new.pool c.share.new.pool c.append-3.new.self sole c.in_ok-copy.ensures.holds
 
 pub give_back-requires-2 : goal.give_back-requires-2
 give_back-requires-2 g c =
     let sole = IsSole-twice 2 4 c.in_ok-pool.pool c.append.new.pool c.append-2.new.pool c.append-3.new.pool c.empty-body.result c.append.new.self c.append-2.new.self c.append-3.new.self _ _
-    c.in_ok-pool.ensures (ap (λ (x : Chain). x.blocks) c.empty-body.ensures) c.in_ok-append.ensures.puts c.in-Err-Full.ensures.pool_unchanged
+    c.in_ok-pool.ensures (ap (λ (x : Chain). x.blocks) c.empty-body.ensures.value) c.in_ok-append.ensures.puts c.in-Err-Full.ensures.pool_unchanged
     (ap (λ (x : Chain). x.blocks) c.in-Err-Full.ensures.body_unchanged) c.in_ok-append-2.ensures.puts in
     held-once c.append-3.new.pool c.share.new.pool c.give_back.new.pool c.append-3.new.self _ c.in_ok-copy.copy.blocks sole c.in_ok-copy.ensures.holds
     c.give_back.ensures c.in_ok-copy.ensures.blocks

@@ -1,7 +1,7 @@
 use Rattle.std.proofs.Common.{◌≡◌, length, arith, rules}
 use Rattle.block_bodies.proofs.BlocksFor.{blocks_for-end}
 use Rattle.block_bodies.proofs.Putting.{len-fits}
-use Rattle.block_bodies.proofs.body.Body.needed.Goals as goal
+use Rattle.block_bodies.proofs.body.Body.blocks_needed.Goals as goal
 
 pub overflow_mul-rest : goal.overflow_mul-rest
 overflow_mul-rest c =
