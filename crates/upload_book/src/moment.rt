@@ -1,7 +1,7 @@
 ghost use Rattle.std.specs.Prelude.{◌≡◌, ◌+◌, ◌≤◌, min, SomeIff};
 
 use std::marker::Model;
-use tus_text::date::LAST_SECOND;
+use tus_text::LAST_SECOND;
 
 /// A moment in whole seconds since the first of January 1970, UTC: 0 to 253,402,300,799, the last
 /// second that a date of HTTP can name. A contract sees the number of seconds.
