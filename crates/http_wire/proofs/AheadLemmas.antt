@@ -1,9 +1,14 @@
 -- What reads and writes do to known bytes, one call after another.
-use Rattle.std.proofs.Common.{◌≡◌, ℕ, refl, ◌+◌, ◌≤◌, List, [], ◌++◌, Option, Some, None, Result, Ok, Err, OnOk, OnErr, length, take, drop, sym, ap, ◌∙◌, append-nil, append_assoc, arith, length-append}
+use Rattle.std.proofs.Common.{◌≡◌, ℕ, refl, ◌+◌, ◌≤◌, List, [], ◌++◌, Option, Some, None, Result, Ok, Err, is_err, true, OnOk, OnErr, length, take, drop, sym, ap, ◌∙◌, append-nil, append_assoc, arith, length-append}
 use Rattle.std.proofs.Math.Seq.{take-add, take-append-add}
 use Rattle.std.proofs.lemmas.List.{take-append-le}
 use Rattle.std.specs.Io.KnownBytes.{Appends, Consumes, Keeps}
 use Rattle.http_wire.specs.declared.fault.WireFault.{WireFault}
+
+-- what holds of an error holds where there is one
+pub OnErr-known : {T E P : Type 0} (r : Result T E) → is_err r ≡ true → OnErr r P → P
+OnErr-known (Ok x) is h = absurd cc
+OnErr-known (Err e) is h = h
 
 -- bytes that stay are bytes of which none were taken
 pub Consumes-from_keeps : (before after : Option (List ℕ)) → Keeps before after → Consumes before after []

@@ -32,10 +32,9 @@ Parses-unique text (Some h) None p q = absurd (q h p.0 p.1)
 Parses-unique text (Some h) (Some k) p q = ap (λ x. Some x) (request_unique text h k [] [] p.0 q.0).0
 
 -- what lacks memory is refused for it
-lacks_memory : (max : ℕ) (h : Option RequestHead) (f : Front) → LacksMemory max h f → RefusesForMemory f
-lacks_memory max None f l = absurd l
-lacks_memory max (Some h) f (inl same) = (unknown_framing, same)
-lacks_memory max (Some h) f (inr l) = (closing (framing_of h), l.2)
+lacks_memory : (max : ℕ) (text : List ℕ) (h : Option RequestHead) (f : Front) → LacksMemory max text h f → RefusesForMemory f
+lacks_memory max text None f l = absurd l
+lacks_memory max text (Some h) f l = (closing (framing_of h), l.1)
 
 Begins-unique : (max : ℕ) (t : HeadText) (f g : Front) → Begins max t f → Begins max t g → (f ≡ g) ⊎ (RefusesForMemory f ⊎ RefusesForMemory g)
 Begins-unique max (whole text rest) f g b d =
@@ -52,9 +51,9 @@ Begins-unique max (whole text rest) f g b d =
         elim v.2 [
           | inl x ↦ elim w.2 [
             | inl y ↦ inl (parsed v.0 w.0 (Parses-unique text v.0 w.0 v.1 w.1) x y)
-            | inr l ↦ inr (inr (lacks_memory max w.0 g l))
+            | inr l ↦ inr (inr (lacks_memory max text w.0 g l))
           ]
-          | inr l ↦ inr (inl (lacks_memory max v.0 f l))
+          | inr l ↦ inr (inl (lacks_memory max text v.0 f l))
         ]
 Begins-unique max too_long f g b d = inl (b ∙ sym d)
 Begins-unique max cut f g b d = inl (b ∙ sym d)
@@ -135,7 +134,7 @@ Begins-short max (whole text rest) f is_one b = (
     by w =
         elim w.2 [
           | inl same ↦ parsed-short max w.0 rest f is_one same
-          | inr lacks ↦ absurd (lacks_none max w.0 f is_one lacks)
+          | inr lacks ↦ absurd (lacks_none max text w.0 f is_one lacks)
         ]
 Begins-short max too_long f is_one b = absurd (no_message f (refused HeadSize unknown_framing) is_one b refl)
 Begins-short max cut f is_one b = absurd (no_message f (cut_other false) is_one b refl)

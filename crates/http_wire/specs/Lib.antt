@@ -1,6 +1,7 @@
 pub mod Ahead
 pub mod Connection
 pub mod Conversation
+pub mod Fault
 pub mod Fields
 pub mod Front
 pub mod FrontRead

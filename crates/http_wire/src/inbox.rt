@@ -107,8 +107,9 @@ impl Inbox {
         self.at += count;
     }
 
-    /// Makes room for `total` bytes held at once and one more read after them. The error is want of
-    /// memory, which comes only where there was not room enough, and then nothing changed.
+    /// Makes room for `total` bytes held at once and one more read after them. The error is that there is
+    /// no memory, which comes only where there was not room enough, so never for 49,152 bytes or fewer.
+    /// Then nothing changed.
     pub fn reserve(&mut self, total: usize) -> Result<(), AllocError>
         requires { total < 2 ^ 32 }
         ensures held { self.new.held ≡ self.old.held }
@@ -116,6 +117,7 @@ impl Inbox {
         ensures ok { OnOk result (total + READ_SIZE ≤ self.new.room) }
         ensures err { OnErr result (self.new ≡ self.old) }
         ensures memory { OnErr result (self.old.room < total + READ_SIZE) }
+        ensures sure { OnErr result (49152 < total) }
     {
         let needed = total + READ_SIZE;
         if self.buffer.len() < needed {

@@ -175,7 +175,7 @@ fn read_body<R: Source, W: Sink>(
 ) -> Result<Front, WireFault>
     requires reader { R.has_failed reader.old ≡ false }
     requires writer { W.has_failed writer.old ≡ false }
-    requires head { parts.head_len ≤ 65535 }
+    requires head { parts.head_len ≤ 16384 }
     requires body { parts.body_len < 2 ^ 31 }
     requires held { parts.head_len ≤ length inbox.old.held }
     requires within { IsPartsWithin parts.head_len parts }
@@ -219,7 +219,7 @@ fn put_continue<W: Sink>(writer: &mut W, is_waiting: bool) -> Result<(), WireFau
 // Reads the body of a message for which there is room.
 fn read_rest<R: Source>(reader: &mut R, inbox: &mut Inbox, parts: Parts) -> Result<Front, WireFault>
     requires reader { R.has_failed reader.old ≡ false }
-    requires head { parts.head_len ≤ 65535 }
+    requires head { parts.head_len ≤ 16384 }
     requires body { parts.body_len < 2 ^ 31 }
     requires held { parts.head_len ≤ length inbox.old.held }
     requires room { parts.head_len + parts.body_len + READ_SIZE ≤ inbox.old.room }

@@ -1,15 +1,15 @@
-use Rattle.std.proofs.Common.{◌++◌, [], true, take, refl, sym, ◌∙◌, subst, subst₂, append-nil}
+use Rattle.std.proofs.Common.{arith, ◌<◌, ◌+◌, ◌++◌, [], true, take, refl, sym, ◌∙◌, subst, subst₂, append-nil}
 use Rattle.std.proofs.lemmas.Result.{err_from_is_err_and}
 use Rattle.http_wire.specs.Conversation.{continue_text}
-use Rattle.http_wire.specs.Front.{IsFront, refused}
+use Rattle.http_wire.specs.Front.{IsFront, refused, sure_room}
 use Rattle.http_wire.specs.FrontRead.{BeginsHead}
 use Rattle.http_wire.specs.declared.refusal.WireRefusal.TheVariants.{Memory}
-use Rattle.http_wire.proofs.AheadLemmas.{Consumes-none, Appends-none}
+use Rattle.http_wire.proofs.AheadLemmas.{OnErr-known, Consumes-none, Appends-none}
 use Rattle.http_wire.proofs.FrontLemmas.{IsFront-memory, IsFront-waits, ReadsFront-unwritten}
 use Rattle.http_wire.proofs.read.read_body.Goals as goal
 
 pub returns-then-is_err-clause-front : goal.returns-then-is_err-clause-front
-returns-then-is_err-clause-front g c max bytes b = (
+returns-then-is_err-clause-front g c max bytes b = let large : sure_room < c.args.parts.head_len + c.args.parts.body_len = OnErr-known c.reserve.result (sym c.is_err.ensures.value ∙ c.if-is_err.true) c.reserve.ensures.sure in (
   [],
   [],
   Consumes-none (g.R.Source.remaining c.args.reader.now),
@@ -17,7 +17,7 @@ returns-then-is_err-clause-front g c max bytes b = (
   (
     refl,
     λ rest.
-        subst₂ (λ i x. IsFront max (i ++ rest) (refused Memory x)) (sym (append-nil bytes)) (sym c.closing.ensures) (IsFront-memory max bytes c.args.parts c.args.inbox.now.held b rest),
+        subst₂ (λ i x. IsFront max (i ++ rest) (refused Memory x)) (sym (append-nil bytes)) (sym c.closing.ensures) (IsFront-memory max bytes c.args.parts c.args.inbox.now.held b rest c.requires.held (omega (arith, c.requires.head, large)) large),
   ),
 )
 
