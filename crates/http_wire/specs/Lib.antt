@@ -24,3 +24,4 @@ pub mod Shown
 pub mod Turns
 pub mod Plain
 pub mod WireState
+pub mod Writes

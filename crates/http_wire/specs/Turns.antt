@@ -5,8 +5,7 @@ use Rattle.upload_book.specs.PlainBook.{PlainBook}
 use Rattle.tus_steps.specs.Request.{Asked}
 use Rattle.tus_steps.specs.Step.{IsStep}
 use Rattle.tus_steps.specs.declared.reply.Reply.{Reply}
-use Rattle.http_wire.specs.Ahead.{Ahead}
-use Rattle.http_wire.specs.HeadFound.{SeesEnd}
+use Rattle.http_wire.specs.Ahead.{Ahead, SeesEnd}
 use Rattle.http_wire.specs.Conversation.{continue_text, Conversation}
 use Rattle.http_wire.specs.Front.{Front, message, refused, cut_patch, cut_other, clean_end, IsFront}
 use Rattle.http_wire.specs.ReplyText.{reply_text, refusal_text}

@@ -1,13 +1,14 @@
-ghost use Rattle.std.specs.Prelude.{◌≡◌, ◌≤◌, ◌++◌, ℕ, List, Some, true, false, take, IfOk, IfErr, OnOk, OnErr};
+ghost use Rattle.std.specs.Prelude.{◌≡◌, ◌≤◌, ◌++◌, ℕ, List, Some, false, IfOk, IfErr, OnOk};
 ghost use Rattle.std.specs.Io.KnownBytes.{Appends, Consumes};
+ghost use Rattle.http_wire.specs.Ahead.{SeesEnd};
 ghost use Rattle.http_wire.specs.Conversation.{Conversation};
-ghost use Rattle.http_wire.specs.HeadFound.{SeesEnd};
 ghost use Rattle.http_wire.specs.Turns.{Breaks, Converses, EndsTurnAtEnd, IsReadWhen, TakesTurn};
 ghost use Rattle.http_wire.specs.ReplyText.{reply_text};
 ghost use Rattle.tus_steps.specs.Request.{asked_of};
 ghost use Rattle.tus_steps.specs.Step.{IsStep};
 ghost use Rattle.tus_steps.specs.declared.reply.Reply.{Reply};
 ghost use Rattle.http_wire.specs.Lent.{Names, NamesOrMemory};
+ghost use Rattle.http_wire.specs.Writes.{Writes};
 
 use crate::buffers::Buffers;
 use crate::fault::WireFault;
@@ -147,16 +148,9 @@ fn reply_to<W: Sink>(
     framing: Framing,
 ) -> Result<(), WireFault>
     requires { W.has_failed writer.old ≡ false }
-    ensures ok { OnOk result ((reply : Reply)
-        × IsStep book.old (asked_of request.now) now reply book.new
-        × Appends (W.contents writer.old) (W.contents writer.new) (reply_text reply now framing)) }
-    ensures part { OnErr result ((reply : Reply) × (n : ℕ)
-        × IsStep book.old (asked_of request.now) now reply book.new
-        × Appends (W.contents writer.old) (W.contents writer.new)
-        (take n (reply_text reply now framing))) }
-    ensures alive { OnOk result (W.has_failed writer.new ≡ false) }
-    ensures failed { OnErr result (W.has_failed writer.new ≡ true) }
-    ensures fault { IfErr result (λ e. e ≡ WireFault.Write) }
+    ensures { (reply : Reply) × IsStep book.old (asked_of request.now) now reply book.new
+        × Writes (W.contents writer.old) (W.contents writer.new) (W.has_failed writer.new)
+        (reply_text reply now framing) result }
 {
     let reply = answer(book, request, now);
     write_reply(writer, page, &reply, now, framing)

@@ -1,12 +1,11 @@
-ghost use Rattle.std.specs.Prelude.{◌≡◌, ◌<◌, ◌≤◌, ◌^◌, ◌++◌, ◌&&◌, ℕ, List, [], Bool, true, false, length, take, Ok, Err, IfOk, IfErr, OnOk, OnErr, is_ok};
+ghost use Rattle.std.specs.Prelude.{◌≡◌, ◌<◌, ◌^◌, [], true, false, IfOk, IfErr};
 ghost use Rattle.std.specs.Borrow.{sem};
 ghost use Rattle.std.specs.Io.BufRead.{Rests};
-ghost use Rattle.std.specs.Io.KnownBytes.{Appends};
 ghost use Rattle.http_wire.specs.Ahead.{Ahead};
 ghost use Rattle.http_wire.specs.Message.{next_of, told_of};
 ghost use Rattle.http_wire.specs.Lent.{IsLent};
 ghost use Rattle.http_wire.specs.Next.{next_in, told_in};
-ghost use Rattle.http_wire.specs.NextRead.{ReadsOn};
+ghost use Rattle.http_wire.specs.NextRead.{ReadsOn, WritesOn};
 ghost use Rattle.http_wire.specs.ReplyText.{reply_text, refusal_text};
 ghost use Rattle.http_wire.specs.WireState.{state_after, wire_of, IsSound};
 
@@ -77,6 +76,7 @@ impl<R: Source + Drop, W: Sink + Drop> Wire<R, W> {
           reader = reader;
           writer = writer;
           held = [];
+          ended = false;
           max_size = max_size;
           reads = true;
           writes = true;
@@ -125,20 +125,8 @@ impl<R: Source + Drop, W: Sink + Drop> Wire<R, W> {
         now: Moment,
         framing: Framing,
     ) -> Result<(), WireFault>
-        ensures ok { OnOk result (Appends (W.contents self.old.writer) (W.contents self.new.writer)
-            (reply_text reply.now now framing)) }
-        ensures part { self.old.writes ≡ true → OnErr result ((n : ℕ)
-            × Appends (W.contents self.old.writer) (W.contents self.new.writer)
-            (take n (reply_text reply.now now framing))) }
-        ensures fault { self.old.writes ≡ true → IfErr result (λ e. (e ≡ WireFault.Write)
-            × (W.has_failed self.old.writer ≡ false) × (W.has_failed self.new.writer ≡ true)) }
-        ensures stays { self.old.writes ≡ true → self.new ≡ record self.old {
-          writer = self.new.writer;
-          reads = self.old.reads && is_ok result;
-          writes = is_ok result;
-        } }
-        ensures failed { self.old.writes ≡ false
-            → (result ≡ Err WireFault.Failed) × (self.new ≡ self.old) }
+        ensures { WritesOn W.contents W.has_failed (reply_text reply.now now framing)
+            self.old self.new result }
     {
         if self.state == State::Failed {
             return Err(WireFault::Failed);
@@ -163,20 +151,8 @@ impl<R: Source + Drop, W: Sink + Drop> Wire<R, W> {
         now: Moment,
         framing: Framing,
     ) -> Result<(), WireFault>
-        ensures ok { OnOk result (Appends (W.contents self.old.writer) (W.contents self.new.writer)
-            (refusal_text refusal now framing)) }
-        ensures part { self.old.writes ≡ true → OnErr result ((n : ℕ)
-            × Appends (W.contents self.old.writer) (W.contents self.new.writer)
-            (take n (refusal_text refusal now framing))) }
-        ensures fault { self.old.writes ≡ true → IfErr result (λ e. (e ≡ WireFault.Write)
-            × (W.has_failed self.old.writer ≡ false) × (W.has_failed self.new.writer ≡ true)) }
-        ensures stays { self.old.writes ≡ true → self.new ≡ record self.old {
-          writer = self.new.writer;
-          reads = self.old.reads && is_ok result;
-          writes = is_ok result;
-        } }
-        ensures failed { self.old.writes ≡ false
-            → (result ≡ Err WireFault.Failed) × (self.new ≡ self.old) }
+        ensures { WritesOn W.contents W.has_failed (refusal_text refusal now framing)
+            self.old self.new result }
     {
         if self.state == State::Failed {
             return Err(WireFault::Failed);

@@ -1,6 +1,6 @@
 use Rattle.std.proofs.Common.{◌≡◌, ℕ, List, take, false}
 use Rattle.std.specs.Io.KnownBytes.{Appends, Consumes}
-use Rattle.http_wire.specs.HeadFound.{SeesEnd}
+use Rattle.http_wire.specs.Ahead.{SeesEnd}
 use Rattle.http_wire.proofs.Talk.{Reached}
 use Rattle.http_wire.proofs.conversation.converse.Given as goal
 

@@ -32,17 +32,18 @@ returns-in_err-reply_to-in-Message-clause-turn g c =
     let parts = c.in-Message.parts in
     let a = c.read_front.new.inbox in
     let bytes = c.args.buffers.now.inbox.held ++ f.0 in
-    let told = c.in_err-reply_to-in-Message.ensures.part in
+    let told = c.in_err-reply_to-in-Message.ensures in
+    let part = told.2.part in
     let reply = told.0 in
     let asked = c.request_in-request.ensures ∙ ap (request_at parts) c.lent.ensures in
-    let step = subst (λ x. IsStep b x now reply c.reply_to.new.book) asked told.2 in
-    let last = take told.1 (reply_text reply now parts.framing) in (
+    let step = subst (λ x. IsStep b x now reply c.reply_to.new.book) asked told.1 in
+    let last = take part.0 (reply_text reply now parts.framing) in (
       f.0,
       f.1 ++ last,
       f.2,
-      Appends-more _ _ _ f.1 last f.3 told.3,
+      Appends-more _ _ _ f.1 last f.3 part.2,
       TakesTurn-broken now bytes (f.1 ++ last) a.held b c.reply_to.new.book c.from_residual-in_err-reply_to-in-Message.result p.0 Write p.1
-          (p.2 ∙ c.in_err-reply_to-in-Message.ensures.fault) (BreaksTurn-reply now told.1 bytes f.1 a parts b c.reply_to.new.book reply f.4 step),
+          (p.2 ∙ told.2.fault) (BreaksTurn-reply now part.0 bytes f.1 a parts b c.reply_to.new.book reply f.4 step),
     )
 
 pub returns-in_err-write_refusal-in-Refused-clause-turn : goal.returns-in_err-write_refusal-in-Refused-clause-turn
@@ -71,7 +72,7 @@ returns-then-parts-clause-turn g c =
     let parts = c.in-Message.parts in
     let a = c.read_front.new.inbox in
     let bytes = c.args.buffers.now.inbox.held ++ f.0 in
-    let told = c.in_ok-reply_to-in-Message.ensures.ok in
+    let told = c.in_ok-reply_to-in-Message.ensures in
     let reply = told.0 in
     let asked = c.request_in-request.ensures ∙ ap (request_at parts) c.lent.ensures in
     let step = subst (λ x. IsStep b x now reply c.reply_to.new.book) asked told.1 in
@@ -79,7 +80,7 @@ returns-then-parts-clause-turn g c =
       f.0,
       f.1 ++ last,
       f.2,
-      Appends-more _ _ _ f.1 last f.3 told.2,
+      Appends-more _ _ _ f.1 last f.3 told.2.all,
       λ rest _. Served-closed now bytes f.1 a parts b c.reply_to.new.book reply f.4 step c.if-parts.true rest,
     )
 
@@ -91,7 +92,7 @@ returns-else-parts-clause-turn g c =
     let parts = c.in-Message.parts in
     let a = c.read_front.new.inbox in
     let bytes = c.args.buffers.now.inbox.held ++ f.0 in
-    let told = c.in_ok-reply_to-in-Message.ensures.ok in
+    let told = c.in_ok-reply_to-in-Message.ensures in
     let reply = told.0 in
     let asked = c.request_in-request.ensures ∙ ap (request_at parts) c.lent.ensures in
     let step = subst (λ x. IsStep b x now reply c.reply_to.new.book) asked told.1 in
@@ -99,7 +100,7 @@ returns-else-parts-clause-turn g c =
       f.0,
       f.1 ++ last,
       f.2,
-      Appends-more _ _ _ f.1 last f.3 told.2,
+      Appends-more _ _ _ f.1 last f.3 told.2.all,
       Served-stays now bytes f.1 a parts b c.reply_to.new.book reply f.4 step c.if-parts.false,
     )
 
@@ -114,7 +115,7 @@ returns-in_ok-write_refusal-in-Refused-clause-turn g c =
       f.0,
       f.1 ++ last,
       f.2,
-      Appends-more _ _ _ f.1 last f.3 c.in_ok-write_refusal-in-Refused.ensures.ok,
+      Appends-more _ _ _ f.1 last f.3 c.in_ok-write_refusal-in-Refused.ensures.all,
       λ rest _. Served-refused now bytes f.1 a c.in-Refused.refusal c.in-Refused.framing b f.4 rest,
     )
 

@@ -24,13 +24,14 @@ returns-then-is_err-clause-front g c max bytes b = let large : sure_room < c.arg
 pub returns-in_err-put_continue-clause-front : goal.returns-in_err-put_continue-clause-front
 returns-in_err-put_continue-clause-front g c max bytes b =
     let p = err_from_is_err_and c.from_residual.result c.from_residual.ensures.1 in
-    let part = c.in_err-put_continue.ensures.part in
-    let front = IsFront-waits max bytes c.args.parts c.args.inbox.now.held b c.in_err-put_continue.ensures.waits in (
+    let waits = c.in_err-put_continue.ensures.waits in
+    let part = rw waits at c.in_err-put_continue.ensures.writes.part in
+    let front = IsFront-waits max bytes c.args.parts c.args.inbox.now.held b waits in (
       [],
       take part.0 (continue_text true),
       Consumes-none (g.R.Source.remaining c.args.reader.now),
-      part.1,
-      ReadsFront-unwritten max (bytes ++ []) c.reserve.new.self c.from_residual.result p.0 part.0 p.1 (p.2 ∙ c.in_err-put_continue.ensures.fault)
+      part.2,
+      ReadsFront-unwritten max (bytes ++ []) c.reserve.new.self c.from_residual.result p.0 part.0 p.1 (p.2 ∙ c.in_err-put_continue.ensures.writes.fault)
           front.0 (subst (λ i. IsFront max i front.0) (sym (append-nil bytes)) front.1) front.2,
     )
 
@@ -38,4 +39,4 @@ pub returns-clause-front : goal.returns-clause-front
 returns-clause-front g c max bytes b =
     let begins = subst (λ h. BeginsHead max bytes c.args.parts h) (sym c.reserve.ensures.held) b in
     let rest = c.read_rest.ensures.front max bytes begins in
-    (rest.0, continue_text c.args.parts.is_waiting, rest.1, c.in_ok-put_continue.ensures.ok, rest.2)
+    (rest.0, continue_text c.args.parts.is_waiting, rest.1, c.in_ok-put_continue.ensures.writes.all, rest.2)
