@@ -4,6 +4,8 @@ use Rattle.std.proofs.lemmas.Bool.{cases_Bool, cases_lt}
 use Rattle.std.specs.Prelude.{codes}
 use Rattle.httparse.specs.Grammar.{RequestHead}
 use Rattle.httparse.proofs.GrammarLemmas.{request_unique}
+use Rattle.tus_steps.specs.Request.{Asked}
+use Rattle.tus_steps.specs.declared.reply.Reply.{Reply}
 use Rattle.tus_steps.specs.Field.{FieldText, is_absent}
 use Rattle.http_wire.specs.Fields.{field_text}
 use Rattle.http_wire.specs.Front.{Front, message, refused, cut_patch, cut_other, clean_end, Begins, BeginsWhole, LacksMemory, Parses, closing, framing_of, unknown_framing, judged, judged_front, parsed_front, with_body}
@@ -16,13 +18,14 @@ use Rattle.http_wire.proofs.FindLemmas.{whole_short}
 use Rattle.http_wire.proofs.FrontLemmas.{is_message, no_message, lacks_none}
 use Rattle.http_wire.proofs.Talk.{Turns-Conversation, Turns-followed, Turns-join}
 
-pub inputs_join : InputsJoin
-inputs_join before after first later b text b1 more b2 e turns goes =
-    Turns-Conversation before after (first ++ later) b text b1 later more b2 e (Turns-followed before first later b text b1 [] turns) goes
+module _ {A : Type 0} (steps : A → Asked → ℕ → Reply → A → Type 0) where
+  pub inputs_join : InputsJoin steps
+  inputs_join max before after first later b text b1 more b2 e turns goes =
+      Turns-Conversation steps max before after (first ++ later) b text b1 later more b2 e (Turns-followed steps max before first later b text b1 [] turns) goes
 
-pub turns_join : TurnsJoin
-turns_join before after first later b text b1 more b2 rest turns others =
-    Turns-join before after (first ++ later) b text b1 later more b2 rest (Turns-followed before first later b text b1 [] turns) others
+  pub turns_join : TurnsJoin steps
+  turns_join max before after first later b text b1 more b2 rest turns others =
+      Turns-join steps max before after (first ++ later) b text b1 later more b2 rest (Turns-followed steps max before first later b text b1 [] turns) others
 
 -- a text is one head at most
 Parses-unique : (text : List ℕ) (h k : Option RequestHead) → Parses text h → Parses text k → h ≡ k

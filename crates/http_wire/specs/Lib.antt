@@ -21,6 +21,7 @@ pub mod ReplyParts
 pub mod ReplyText
 pub mod Scan
 pub mod Shown
+pub mod TurnOnWire
 pub mod Turns
 pub mod Plain
 pub mod WireState

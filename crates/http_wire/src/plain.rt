@@ -63,7 +63,8 @@ pub fn plain_conversation(
     moments: &[Moment],
 ) -> Result<(Vec<u8>, Ended), AllocError>
     ensures { IfOk result (λ r.
-        Conversation moments.now input.now book.old r.0.items book.new r.1) }
+        Conversation IsStep book.old.settings.numbers.max_size moments.now
+        input.now book.old r.0.items book.new r.1) }
 {
     let Some((now, later)) = moments.split_first() else {
         return Ok((Vec::new(alloc), Ended::Moments));

@@ -7,9 +7,12 @@ ghost use Rattle.http_wire.specs.Lent.{IsLent};
 ghost use Rattle.http_wire.specs.Next.{next_in, told_in};
 ghost use Rattle.http_wire.specs.NextRead.{ReadsOn, WritesOn};
 ghost use Rattle.http_wire.specs.ReplyText.{reply_text, refusal_text};
+ghost use Rattle.http_wire.specs.TurnOnWire.{TurnOn};
 ghost use Rattle.http_wire.specs.WireState.{state_after, wire_of, IsSound};
 
+use crate::answer::Answer;
 use crate::buffers::Buffers;
+use crate::conversation::{Ended, take_turn};
 use crate::fault::WireFault;
 use crate::framing::Framing;
 use crate::inbox::Inbox;
@@ -40,7 +43,6 @@ enum State {
 /// and whether it still reads and still writes.
 #[derive(Drop)]
 pub struct Wire<R: Source + Drop, W: Sink + Drop> {
-    alloc: Global,
     reader: R,
     writer: W,
     buffers: Buffers,
@@ -55,7 +57,8 @@ impl<R: Source + Drop, W: Sink + Drop> Model for Wire<R, W> {
 
     ghost coded = { wire_code R.code W.code };
 
-    ghost use Rattle.http_wire.specs.WireState.{wire_of, IsSound};
+    ghost use Rattle.http_wire.specs.TurnOnWire.{TurnOn};
+ghost use Rattle.http_wire.specs.WireState.{wire_of, IsSound};
 
     ghost view = { λ w. wire_of w.reader w.writer w.buffers.inbox w.max_size w.state };
 
@@ -85,7 +88,6 @@ impl<R: Source + Drop, W: Sink + Drop> Wire<R, W> {
     {
         match Buffers::new(alloc) {
             Ok(buffers) => Ok(Wire {
-                alloc,
                 reader,
                 writer,
                 buffers,
@@ -106,7 +108,6 @@ impl<R: Source + Drop, W: Sink + Drop> Wire<R, W> {
             self.old new (told_of result))) }
     {
         let front = next_front(
-            self.alloc,
             &mut self.reader,
             &mut self.writer,
             &mut self.buffers,
@@ -114,6 +115,29 @@ impl<R: Source + Drop, W: Sink + Drop> Wire<R, W> {
             &mut self.state,
         )?;
         Ok(lend_front(front, &self.buffers.inbox))
+    }
+
+    /// Takes a turn: reads the next message, lets `answerer` answer it and writes the reply. A message
+    /// has the moment `now`. Where the conversation ends with it, it says how; then, and on a wire that
+    /// reads no more, every later call gives `Ended::Input`. The error is `WireFault::Read` or
+    /// `WireFault::Write`, and then every later call gives `WireFault::Failed`.
+    pub fn take_turn<A: Answer>(
+        &mut self,
+        answerer: &mut A,
+        now: Moment,
+    ) -> Result<Option<Ended>, WireFault>
+        ensures { TurnOn R.remaining R.has_failed W.contents W.has_failed A.steps now
+            self.old self.new answerer.old answerer.new result }
+    {
+        turn_on(
+            &mut self.reader,
+            &mut self.writer,
+            &mut self.buffers,
+            self.max_size,
+            &mut self.state,
+            answerer,
+            now,
+        )
     }
 
     /// Writes the reply to a message that came at this moment. The error is `WireFault::Write` where a
@@ -171,9 +195,42 @@ impl<R: Source + Drop, W: Sink + Drop> Wire<R, W> {
     }
 }
 
+// Takes a turn on a wire of these parts, where it still reads.
+fn turn_on<R: Source, W: Sink, A: Answer>(
+    reader: &mut R,
+    writer: &mut W,
+    buffers: &mut Buffers,
+    max_size: u64,
+    state: &mut State,
+    answerer: &mut A,
+    now: Moment,
+) -> Result<Option<Ended>, WireFault>
+    requires { IsSound R.remaining R.has_failed W.has_failed reader.old writer.old
+        buffers.old.inbox max_size state.old }
+    ensures sound { IsSound R.remaining R.has_failed W.has_failed reader.new writer.new
+        buffers.new.inbox max_size state.new }
+    ensures turn { TurnOn R.remaining R.has_failed W.contents W.has_failed A.steps now
+        (wire_of reader.old writer.old buffers.old.inbox max_size state.old)
+        (wire_of reader.new writer.new buffers.new.inbox max_size state.new)
+        answerer.old answerer.new result }
+{
+    match *state {
+        State::Open => {
+            let turn = take_turn(reader, writer, buffers, max_size, answerer, now);
+            *state = match &turn {
+                Ok(None) => State::Open,
+                Ok(Some(_)) => State::Ended,
+                Err(_) => State::Failed,
+            };
+            turn
+        }
+        State::Ended => Ok(Some(Ended::Input)),
+        State::Failed => Err(WireFault::Failed),
+    }
+}
+
 // Reads the next message of a wire of these parts, where it still reads.
 fn next_front<R: Source, W: Sink>(
-    alloc: Global,
     reader: &mut R,
     writer: &mut W,
     buffers: &mut Buffers,
@@ -193,7 +250,7 @@ fn next_front<R: Source, W: Sink>(
     match *state {
         State::Open => {
             let front = read_front(
-                alloc,
+                buffers.alloc,
                 reader,
                 writer,
                 &mut buffers.inbox,
