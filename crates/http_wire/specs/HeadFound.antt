@@ -6,12 +6,12 @@ use Rattle.http_wire.specs.HeadText.{head_limit, head_len, text_at, head_text, w
 use Rattle.http_wire.specs.declared.read.HeadFound.{HeadFound}
 use Rattle.http_wire.specs.declared.read.HeadFound.TheVariants.{Whole, TooLong, Cut, Nothing}
 
--- a whole head is held, and is no longer than a head may be
-abbrev pub IsHeldBy : Ahead → HeadFound → Type 0
-IsHeldBy a (Whole n) = (n ≤ length a.held) × (n ≤ 16384)
-IsHeldBy a TooLong = ⊤
-IsHeldBy a Cut = ⊤
-IsHeldBy a Nothing = ⊤
+-- a whole head is in these bytes, and is no longer than a head may be
+abbrev pub IsHeldBy : List ℕ → HeadFound → Type 0
+IsHeldBy text (Whole n) = (n ≤ length text) × (n ≤ 16384)
+IsHeldBy text TooLong = ⊤
+IsHeldBy text Cut = ⊤
+IsHeldBy text Nothing = ⊤
 
 -- Line ends were skipped in some bytes, and what is held follows them. Nothing is held only at the end, or
 -- after more line ends than a head may have; otherwise this holds whatever follows.

@@ -19,7 +19,8 @@ mod message;
 mod own_fields;
 mod page;
 mod parts;
-pub mod plain;
+#[cfg(test)]
+mod plain;
 mod read;
 mod refusal;
 mod reply;

@@ -54,7 +54,7 @@ pub enum Cut {
 
 /// The head that the input begins with.
 #[derive(Clone, Copy, Debug)]
-enum HeadFound {
+pub enum HeadFound {
     Whole(usize),
     TooLong,
     Cut,
@@ -81,7 +81,7 @@ pub fn read_front<R: Source, W: Sink>(
         → SeesEnd (R.remaining reader.new) inbox.new) }
     ensures stops { StopsAtEnd reader.old reader.new inbox.old inbox.new }
     ensures told { TellsEnd inbox.new.ended (told_in inbox.new result) }
-    ensures lent { IfOk result (λ f. IsLent inbox.new f) }
+    ensures lent { IfOk result (λ f. IsLent inbox.new.lent f) }
     ensures reader { IfOk result (λ f. R.has_failed reader.new
         ≡ is_cut_by_fault (next_in inbox.new f)) }
     ensures writer { OnOk result (W.has_failed writer.new ≡ false) }
@@ -101,7 +101,7 @@ pub fn read_front<R: Source, W: Sink>(
 // Reads until a head is held, or there can be none.
 fn find_head<R: Source>(reader: &mut R, inbox: &mut Inbox) -> Result<HeadFound, WireFault>
     requires { R.has_failed reader.old ≡ false }
-    ensures within { IfOk result (λ h. IsHeldBy inbox.new h) }
+    ensures within { IfOk result (λ h. IsHeldBy inbox.new.held h) }
     ensures found { IfOk result (λ h. (got : List ℕ)
         × Consumes (R.remaining reader.old) (R.remaining reader.new) got
         × IsFound (inbox.old.held ++ got) inbox.new h) }
@@ -197,7 +197,7 @@ fn read_body<R: Source, W: Sink>(
         → SeesEnd (R.remaining reader.new) inbox.new) }
     ensures stops { StopsAtEnd reader.old reader.new inbox.old inbox.new }
     ensures told { TellsEnd inbox.new.ended (told_in inbox.new result) }
-    ensures lent { IfOk result (λ f. IsLent inbox.new f) }
+    ensures lent { IfOk result (λ f. IsLent inbox.new.lent f) }
     ensures reader { IfOk result (λ f. R.has_failed reader.new
         ≡ is_cut_by_fault (next_in inbox.new f)) }
     ensures writer { OnOk result (W.has_failed writer.new ≡ false) }
@@ -239,7 +239,7 @@ fn read_rest<R: Source>(reader: &mut R, inbox: &mut Inbox, parts: Parts) -> Resu
         → SeesEnd (R.remaining reader.new) inbox.new) }
     ensures stops { StopsAtEnd reader.old reader.new inbox.old inbox.new }
     ensures told { TellsEnd inbox.new.ended (told_in inbox.new result) }
-    ensures lent { IfOk result (λ f. IsLent inbox.new f) }
+    ensures lent { IfOk result (λ f. IsLent inbox.new.lent f) }
     ensures reader { IfOk result (λ f. R.has_failed reader.new
         ≡ is_cut_by_fault (next_in inbox.new f)) }
     ensures failed { OnErr result (R.has_failed reader.new ≡ true) }

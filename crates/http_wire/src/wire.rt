@@ -245,7 +245,7 @@ fn next_front<R: Source, W: Sink>(
         (wire_of reader.old writer.old buffers.old.inbox max_size state.old)
         (wire_of reader.new writer.new buffers.new.inbox max_size state.new)
         (told_in buffers.new.inbox result) }
-    ensures lent { IfOk result (IsLent buffers.new.inbox) }
+    ensures lent { IfOk result (IsLent buffers.new.inbox.lent) }
 {
     match *state {
         State::Open => {
@@ -280,7 +280,7 @@ fn state_after(front: &Result<Front, WireFault>) -> State
 
 // What was read, with the bytes of a message as the inbox lends them.
 fn lend_front(front: Front, inbox: &Inbox) -> Incoming<'_>
-    requires { IsLent inbox.now front }
+    requires { IsLent inbox.now.lent front }
     ensures { next_of result ≡ next_in inbox.now front }
 {
     match front {
