@@ -58,7 +58,7 @@ impl<R: Source + Drop, W: Sink + Drop> Model for Wire<R, W> {
     ghost coded = { wire_code R.code W.code };
 
     ghost use Rattle.http_wire.specs.TurnOnWire.{TurnOn};
-ghost use Rattle.http_wire.specs.WireState.{wire_of, IsSound};
+    ghost use Rattle.http_wire.specs.WireState.{wire_of, IsSound};
 
     ghost view = { λ w. wire_of w.reader w.writer w.buffers.inbox w.max_size w.state };
 
@@ -96,6 +96,14 @@ impl<R: Source + Drop, W: Sink + Drop> Wire<R, W> {
             }),
             Err(_) => Err(WireFault::Memory),
         }
+    }
+
+    /// The reader and the writer. What was read ahead is lost.
+    pub fn into_streams(self) -> (R, W)
+        ensures reader { result.0 ≡ self.reader }
+        ensures writer { result.1 ≡ self.writer }
+    {
+        (self.reader, self.writer)
     }
 
     /// Reads the next message, and writes `100 Continue` where it is due. The error is

@@ -1,8 +1,7 @@
-use Rattle.std.proofs.Common.{◌≡◌, ℕ, ◌+◌, ◌∷◌, ◌++◌, [], None, Some, Ok, Err, take, drop, refl, ap, ◌∙◌, subst, subst₂, sym, append-nil, append_assoc, take_all}
+use Rattle.std.proofs.Common.{◌≡◌, ℕ, ◌+◌, ◌∷◌, ◌++◌, [], Ok, Err, take, drop, refl, ap, ◌∙◌, subst, subst₂, sym, append-nil, append_assoc, take_all}
 use Rattle.std.proofs.lemmas.List.{take_more}
 use Rattle.std.proofs.lemmas.Result.{err_from_is_err_and}
 use Rattle.http_wire.specs.Turns.{Breaks, Converses, TakesTurn}
-use Rattle.http_wire.specs.declared.conversation.Ended.TheVariants as ended
 use Rattle.http_wire.proofs.AheadLemmas.{Appends-none, Appends-more, Consumes-none, Consumes-more}
 use Rattle.http_wire.proofs.Talk.{Reached, Reached-more, Converses-last, Converses-all, Breaks-after, moments_split, IfErr-from}
 use Rattle.http_wire.proofs.serving.serve.Goals as goal
