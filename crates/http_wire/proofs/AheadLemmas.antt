@@ -1,9 +1,16 @@
 -- What reads and writes do to known bytes, one call after another.
-use Rattle.std.proofs.Common.{◌≡◌, ℕ, refl, ◌+◌, ◌≤◌, List, [], ◌++◌, Option, Some, None, Result, Ok, Err, OnOk, OnErr, length, take, drop, sym, ap, ◌∙◌, append-nil, append_assoc, arith, length-append}
+use Rattle.std.proofs.Common.{◌≡◌, Bool, subst, ℕ, refl, ◌+◌, ◌≤◌, List, [], ◌++◌, Option, Some, None, Result, Ok, Err, is_err, true, false, true≢false, OnOk, OnErr, length, take, drop, sym, ap, ◌∙◌, append-nil, append_assoc, arith, length-append}
 use Rattle.std.proofs.Math.Seq.{take-add, take-append-add}
 use Rattle.std.proofs.lemmas.List.{take-append-le}
 use Rattle.std.specs.Io.KnownBytes.{Appends, Consumes, Keeps}
+use Rattle.http_wire.specs.Ahead.{Ahead, StopsAtEnd}
+use Rattle.http_wire.specs.Writes.{Writes}
 use Rattle.http_wire.specs.declared.fault.WireFault.{WireFault}
+
+-- what holds of an error holds where there is one
+pub OnErr-known : {T E P : Type 0} (r : Result T E) → is_err r ≡ true → OnErr r P → P
+OnErr-known (Ok x) is h = absurd cc
+OnErr-known (Err e) is h = h
 
 -- bytes that stay are bytes of which none were taken
 pub Consumes-from_keeps : (before after : Option (List ℕ)) → Keeps before after → Consumes before after []
@@ -24,18 +31,12 @@ Appends-more (Some xs) (Some ys) None a b h k = absurd k
 Appends-more (Some xs) (Some ys) (Some zs) a b h k = k ∙ ap (λ l. l ++ b) h ∙ append_assoc xs a b
 
 -- two pieces of a text were written
-pub Appends-both : {T : Type 0} (r : Result T WireFault) (x y z : Option (List ℕ)) (first rest : List ℕ) → Appends x y first → OnOk r (Appends y z rest) → OnOk r (Appends x z (first ++ rest))
+Appends-both : {T : Type 0} (r : Result T WireFault) (x y z : Option (List ℕ)) (first rest : List ℕ) → Appends x y first → OnOk r (Appends y z rest) → OnOk r (Appends x z (first ++ rest))
 Appends-both (Ok done) x y z first rest h k = Appends-more x y z first rest h k
 Appends-both (Err e) x y z first rest h k = tt
 
--- a front of the first piece was written
-pub Appends-first : {T : Type 0} (r : Result T WireFault) (e : WireFault) (x y : Option (List ℕ)) (first rest : List ℕ) → r ≡ Err e
-    → (n : ℕ) × (n ≤ length first) × Appends x y (take n first) → OnErr r ((n : ℕ) × (n ≤ length (first ++ rest)) × Appends x y (take n (first ++ rest)))
-Appends-first r e x y first rest is h =
-    rw is (h.0, omega (arith, length-append first rest, h.1), rw (take-append-le h.0 first rest h.1) h.2)
-
 -- the first piece was written, and a front of the rest
-pub Appends-rest : {T : Type 0} (r : Result T WireFault) (x y z : Option (List ℕ)) (first rest : List ℕ) → Appends x y first
+Appends-rest : {T : Type 0} (r : Result T WireFault) (x y z : Option (List ℕ)) (first rest : List ℕ) → Appends x y first
     → OnErr r ((n : ℕ) × (n ≤ length rest) × Appends y z (take n rest)) → OnErr r ((n : ℕ) × (n ≤ length (first ++ rest)) × Appends x z (take n (first ++ rest)))
 Appends-rest (Ok done) x y z first rest h k = tt
 Appends-rest (Err e) x y z first rest h k =
@@ -71,3 +72,29 @@ Consumes-kept None y z a h k = tt
 Consumes-kept (Some xs) None z a h k = absurd h
 Consumes-kept (Some xs) (Some ys) None a h k = absurd k
 Consumes-kept (Some xs) (Some ys) (Some zs) a h k = h ∙ ap (λ l. a ++ l) (sym k)
+
+-- the end was not seen yet, so it was not seen before
+pub StopsAtEnd-open : {R : Type 0} (before here after : R) (old held new : Ahead) → StopsAtEnd before here old held → held.ended ≡ false → StopsAtEnd before after old new
+StopsAtEnd-open before here after old held new stops unended seen = absurd (true≢false (sym (stops seen).1 ∙ unended))
+
+-- the first of two pieces was not written whole
+pub Writes-first : {T U : Type 0} (r : Result U WireFault) (e given : WireFault) (x y : Option (List ℕ)) (failed : Bool) (first rest : List ℕ) → r ≡ Err e → e ≡ given
+    → Writes {T = T} x y failed first (Err given) → Writes x y failed (first ++ rest) r
+Writes-first r e given x y failed first rest is same w =
+    let part = w.part in
+    subst (λ (s : Result _ WireFault). Writes x y failed (first ++ rest) s) (sym is) (record {
+      all = tt;
+      part = (part.0, omega (arith, length-append first rest, part.1), rw (take-append-le part.0 first rest part.1) part.2);
+      failed = w.failed;
+      fault = same ∙ w.fault;
+    })
+
+-- the first piece was written, and then the rest
+pub Writes-rest : {T : Type 0} (r : Result T WireFault) (x y z : Option (List ℕ)) (failed : Bool) (first rest : List ℕ) → Appends x y first → Writes y z failed rest r
+    → Writes x z failed (first ++ rest) r
+Writes-rest r x y z failed first rest h w = record {
+  all = Appends-both r x y z first rest h w.all;
+  part = Appends-rest r x y z first rest h w.part;
+  failed = w.failed;
+  fault = w.fault;
+}

@@ -6,7 +6,7 @@ use Rattle.httparse.specs.Grammar.{RequestHead}
 use Rattle.tus_steps.specs.Request.{Asked}
 use Rattle.http_wire.specs.Ahead.{Ahead}
 use Rattle.http_wire.specs.Conversation.{continue_text}
-use Rattle.http_wire.specs.Front.{Front, Begins, BeginsWhole, IsFront, LacksMemory, message, refused, cut_patch, cut_other, clean_end, closing, framing_of, unknown_framing, is_patch, method_in, is_waiting, request_of, with_body, judged, judged_front, parsed_front}
+use Rattle.http_wire.specs.Front.{Front, Begins, BeginsWhole, IsFront, LacksMemory, message, refused, cut_patch, cut_other, clean_end, closing, framing_of, unknown_framing, sure_room, is_patch, method_in, is_waiting, request_of, with_body, judged, judged_front, parsed_front}
 use Rattle.http_wire.specs.FrontRead.{BeginsHead, ReadsFront}
 use Rattle.http_wire.specs.NextRead.{waits}
 use Rattle.http_wire.specs.HeadFound.{IsUnfinished}
@@ -46,12 +46,12 @@ IsFront-with_body max bytes p held b rest =
     subst (λ t. Begins max t f) (sym (b.begins rest)) (rw b.few (Some b.head, b.parses, inl same))
 
 -- the body found no memory
-pub IsFront-memory : (max : ℕ) (bytes : List ℕ) (p : Parts) (held : List ℕ) (b : BeginsHead max bytes p held) (rest : List ℕ)
-    → IsFront max (bytes ++ rest) (refused Memory (closing p.framing))
-IsFront-memory max bytes p held b rest =
+pub IsFront-memory : (max : ℕ) (bytes : List ℕ) (p : Parts) (held : List ℕ) (b : BeginsHead max bytes p held) (rest : List ℕ) → p.head_len ≤ length held
+    → 0 < p.body_len → sure_room < p.head_len + p.body_len → IsFront max (bytes ++ rest) (refused Memory (closing p.framing))
+IsFront-memory max bytes p held b rest within some large =
     let f = refused Memory (closing p.framing) in
     let same : f ≡ refused Memory (closing (framing_of b.head)) = ap (λ x. refused Memory (closing x)) b.shows.framing in
-    subst (λ t. Begins max t f) (sym (b.begins rest)) (rw b.few (Some b.head, b.parses, inr (inr (p.body_len, b.shows.body_len, same))))
+    subst (λ t. Begins max t f) (sym (b.begins rest)) (rw b.few (Some b.head, b.parses, inr (inr (p.body_len, b.shows.body_len, some, rw (length-take-le p.head_len held within) large), same)))
 
 -- the request of the parts is that of the head
 pub request_at-shows : (max : ℕ) (text head body : List ℕ) (h : RequestHead) (p : Parts) → ShowsHead max head h p → take p.head_len text ≡ head → drop p.head_len text ≡ body
@@ -207,11 +207,10 @@ parsed_front-followed : (max : ℕ) (h : Option RequestHead) (rest more : List �
 parsed_front-followed max None rest more is = refl
 parsed_front-followed max (Some h) rest more is = judged_front-followed h (judged max h) rest more is
 
--- no message is refused for want of memory
-pub lacks_none : (max : ℕ) (h : Option RequestHead) (f : Front) → is_message f ≡ true → LacksMemory max h f → ⊥
-lacks_none max None f is l = l
-lacks_none max (Some h) f is (inl same) = no_message f (refused Memory unknown_framing) is same refl
-lacks_none max (Some h) f is (inr l) = no_message f (refused Memory (closing (framing_of h))) is l.2 refl
+-- no message is refused because there is no memory
+pub lacks_none : (max : ℕ) (text : List ℕ) (h : Option RequestHead) (f : Front) → is_message f ≡ true → LacksMemory max text h f → ⊥
+lacks_none max text None f is l = l
+lacks_none max text (Some h) f is l = no_message f (refused Memory (closing (framing_of h))) is l.1 refl
 
 Begins-followed : (max : ℕ) (t : HeadText) (more : List ℕ) (f : Front) → is_message f ≡ true → Begins max t f
     → (text rest : List ℕ) × (t ≡ whole text rest) × Begins max (whole text (rest ++ more)) (followed more f)
@@ -229,7 +228,7 @@ Begins-followed max (whole text rest) more f is b = (
     kept w =
         elim w.2 [
           | inl same ↦ (w.0, w.1, inl (ap (followed more) same ∙ parsed_front-followed max w.0 rest more (ap is_message (sym same) ∙ is)))
-          | inr lacks ↦ absurd (lacks_none max w.0 f is lacks)
+          | inr lacks ↦ absurd (lacks_none max text w.0 f is lacks)
         ]
 Begins-followed max too_long more f is b = absurd (no_message f (refused HeadSize unknown_framing) is b refl)
 Begins-followed max cut more f is b = absurd (no_message f (cut_other false) is b refl)

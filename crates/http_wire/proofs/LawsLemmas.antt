@@ -4,6 +4,8 @@ use Rattle.std.proofs.lemmas.Bool.{cases_Bool, cases_lt}
 use Rattle.std.specs.Prelude.{codes}
 use Rattle.httparse.specs.Grammar.{RequestHead}
 use Rattle.httparse.proofs.GrammarLemmas.{request_unique}
+use Rattle.tus_steps.specs.Request.{Asked}
+use Rattle.tus_steps.specs.declared.reply.Reply.{Reply}
 use Rattle.tus_steps.specs.Field.{FieldText, is_absent}
 use Rattle.http_wire.specs.Fields.{field_text}
 use Rattle.http_wire.specs.Front.{Front, message, refused, cut_patch, cut_other, clean_end, Begins, BeginsWhole, LacksMemory, Parses, closing, framing_of, unknown_framing, judged, judged_front, parsed_front, with_body}
@@ -16,13 +18,14 @@ use Rattle.http_wire.proofs.FindLemmas.{whole_short}
 use Rattle.http_wire.proofs.FrontLemmas.{is_message, no_message, lacks_none}
 use Rattle.http_wire.proofs.Talk.{Turns-Conversation, Turns-followed, Turns-join}
 
-pub inputs_join : InputsJoin
-inputs_join before after first later b text b1 more b2 e turns goes =
-    Turns-Conversation before after (first ++ later) b text b1 later more b2 e (Turns-followed before first later b text b1 [] turns) goes
+module _ {A : Type 0} (steps : A → Asked → ℕ → Reply → A → Type 0) where
+  pub inputs_join : InputsJoin steps
+  inputs_join max before after first later b text b1 more b2 e turns goes =
+      Turns-Conversation steps max before after (first ++ later) b text b1 later more b2 e (Turns-followed steps max before first later b text b1 [] turns) goes
 
-pub turns_join : TurnsJoin
-turns_join before after first later b text b1 more b2 rest turns others =
-    Turns-join before after (first ++ later) b text b1 later more b2 rest (Turns-followed before first later b text b1 [] turns) others
+  pub turns_join : TurnsJoin steps
+  turns_join max before after first later b text b1 more b2 rest turns others =
+      Turns-join steps max before after (first ++ later) b text b1 later more b2 rest (Turns-followed steps max before first later b text b1 [] turns) others
 
 -- a text is one head at most
 Parses-unique : (text : List ℕ) (h k : Option RequestHead) → Parses text h → Parses text k → h ≡ k
@@ -32,10 +35,9 @@ Parses-unique text (Some h) None p q = absurd (q h p.0 p.1)
 Parses-unique text (Some h) (Some k) p q = ap (λ x. Some x) (request_unique text h k [] [] p.0 q.0).0
 
 -- what lacks memory is refused for it
-lacks_memory : (max : ℕ) (h : Option RequestHead) (f : Front) → LacksMemory max h f → RefusesForMemory f
-lacks_memory max None f l = absurd l
-lacks_memory max (Some h) f (inl same) = (unknown_framing, same)
-lacks_memory max (Some h) f (inr l) = (closing (framing_of h), l.2)
+lacks_memory : (max : ℕ) (text : List ℕ) (h : Option RequestHead) (f : Front) → LacksMemory max text h f → RefusesForMemory f
+lacks_memory max text None f l = absurd l
+lacks_memory max text (Some h) f l = (closing (framing_of h), l.1)
 
 Begins-unique : (max : ℕ) (t : HeadText) (f g : Front) → Begins max t f → Begins max t g → (f ≡ g) ⊎ (RefusesForMemory f ⊎ RefusesForMemory g)
 Begins-unique max (whole text rest) f g b d =
@@ -52,9 +54,9 @@ Begins-unique max (whole text rest) f g b d =
         elim v.2 [
           | inl x ↦ elim w.2 [
             | inl y ↦ inl (parsed v.0 w.0 (Parses-unique text v.0 w.0 v.1 w.1) x y)
-            | inr l ↦ inr (inr (lacks_memory max w.0 g l))
+            | inr l ↦ inr (inr (lacks_memory max text w.0 g l))
           ]
-          | inr l ↦ inr (inl (lacks_memory max v.0 f l))
+          | inr l ↦ inr (inl (lacks_memory max text v.0 f l))
         ]
 Begins-unique max too_long f g b d = inl (b ∙ sym d)
 Begins-unique max cut f g b d = inl (b ∙ sym d)
@@ -135,7 +137,7 @@ Begins-short max (whole text rest) f is_one b = (
     by w =
         elim w.2 [
           | inl same ↦ parsed-short max w.0 rest f is_one same
-          | inr lacks ↦ absurd (lacks_none max w.0 f is_one lacks)
+          | inr lacks ↦ absurd (lacks_none max text w.0 f is_one lacks)
         ]
 Begins-short max too_long f is_one b = absurd (no_message f (refused HeadSize unknown_framing) is_one b refl)
 Begins-short max cut f is_one b = absurd (no_message f (cut_other false) is_one b refl)

@@ -1,5 +1,5 @@
 -- The fields of a parsed head: where their values stand, and that their names are names.
-use Rattle.std.proofs.Common.{◌≡◌, ℕ, ◌-◌, ◌≤◌, List, [], ◌∷◌, length, drop, map, All, bytes_eq, refl, ap, ◌∙◌, inl, inr, arith, length-take, IsTrue}
+use Rattle.std.proofs.Common.{◌≡◌, ◌≢◌, ℕ, ◌-◌, ◌≤◌, List, [], ◌∷◌, length, drop, map, All, bytes_eq, refl, ap, ◌∙◌, inl, inr, arith, length-take, IsTrue}
 use Rattle.std.proofs.lemmas.Bool.{cases_Bool}
 use Rattle.std.proofs.lemmas.List.Elements.{All-nil, All-cons, All-head, All-tail, All-weaker}
 use Rattle.http_header.specs.FieldName.{IsFieldName}
@@ -72,3 +72,9 @@ map-spans_named head name (s ∷ spans) (f ∷ fields) e =
 pub HasFields-gathered : (head : List ℕ) (spans : List HeaderSpan) (fields : List Field) (found : Entries Span)
     → ((name : List ℕ) → get_all found name ≡ spans_named head name spans) → map (header_bytes head) spans ≡ map name_and_value fields → HasFields head found fields
 HasFields-gathered head spans fields found g e name = ap (map (span_bytes head)) (g name) ∙ map-spans_named head name spans fields e
+
+-- where some fields were parsed, the head has some
+pub has_fields : (head : List ℕ) (spans : List HeaderSpan) (fields : List Field) → map (header_bytes head) spans ≡ map name_and_value fields → spans ≢ [] → fields ≢ []
+has_fields head [] fields e some = absurd (some refl)
+has_fields head (s ∷ spans) [] e some = absurd cc
+has_fields head (s ∷ spans) (f ∷ fields) e some = λ none. absurd cc

@@ -1,6 +1,6 @@
 -- What the bytes of an input begin with: a message, or why there is none (RFC 9112, sections 2, 3, 5,
 -- 6 and 9.3; RFC 9110, section 10.1.1).
-use Rattle.std.specs.Prelude.{◌≡◌, ◌≤◌, ◌⊎◌, ℕ, Bool, true, false, ◌&&◌, ◌||◌, ◌==◌, nat_lt, nat_le, List, [], length, take, drop, codes, bytes_eq, if◌then◌else◌, MatchBool, Option, Some, None, Result, Ok, Err}
+use Rattle.std.specs.Prelude.{◌≡◌, ◌≢◌, ◌<◌, ◌≤◌, ◌+◌, ◌⊎◌, ℕ, Bool, true, false, ◌&&◌, ◌||◌, ◌==◌, nat_lt, nat_le, List, [], length, take, drop, codes, bytes_eq, if◌then◌else◌, MatchBool, Option, Some, None, Result, Ok, Err}
 use Rattle.httparse.specs.Grammar.{RequestHead, ReadsRequest}
 use Rattle.tus_text.specs.Path.{path_of}
 use Rattle.tus_steps.specs.declared.method.Method.{Method}
@@ -114,17 +114,26 @@ abbrev pub Parses : List ℕ → Option RequestHead → Type 0
 Parses text None = (h : RequestHead) → ReadsRequest text h [] → length h.fields ≤ 64 → ⊥
 Parses text (Some h) = ReadsRequest text h [] × (length h.fields ≤ 64)
 
--- a head that was parsed is refused for want of memory for its fields, or for its body
-abbrev pub LacksMemory : ℕ → Option RequestHead → Front → Type 0
-LacksMemory max None f = ⊥
-LacksMemory max (Some h) f =
-    (f ≡ refused Memory unknown_framing)
-    ⊎ ((n : ℕ) × (judged max h ≡ Ok n) × (f ≡ refused Memory (closing (framing_of h))))
+-- A head and its body with at most so many bytes together always have room: there is room for 65,536 bytes
+-- from the start, and a read asks for 16,384 of them.
+abbrev pub sure_room : ℕ
+sure_room = 49152
+
+-- the body of a head with this text may need more memory: it has bytes, and more than there is room for
+abbrev pub OutgrowsRoom : ℕ → List ℕ → RequestHead → Type 0
+OutgrowsRoom max text h = (n : ℕ) × (judged max h ≡ Ok n) × (0 < n) × (sure_room < length text + n)
+
+-- A head that was parsed is refused because there is no memory for its fields, of which it has some, or for
+-- its body.
+abbrev pub LacksMemory : ℕ → List ℕ → Option RequestHead → Front → Type 0
+LacksMemory max text None f = ⊥
+LacksMemory max text (Some h) f =
+    ((h.fields ≢ []) ⊎ OutgrowsRoom max text h) × (f ≡ refused Memory (closing (framing_of h)))
 
 -- what a whole head text begins
 abbrev pub BeginsWhole : ℕ → List ℕ → List ℕ → Front → Type 0
 BeginsWhole max text rest f =
-    (h : Option RequestHead) × Parses text h × ((f ≡ parsed_front max h rest) ⊎ LacksMemory max h f)
+    (h : Option RequestHead) × Parses text h × ((f ≡ parsed_front max h rest) ⊎ LacksMemory max text h f)
 
 -- what a head text begins
 abbrev pub Begins : ℕ → HeadText → Front → Type 0

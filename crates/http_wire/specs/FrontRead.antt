@@ -1,18 +1,14 @@
 -- What the reading of a front tells of the bytes that were read, and of the text that was written meanwhile.
-use Rattle.std.specs.Prelude.{◌≡◌, ℕ, false, List, ◌++◌, take, drop, Option, Some, Result, ⊤}
-use Rattle.std.specs.Io.KnownBytes.{IsAtEnd}
+use Rattle.std.specs.Prelude.{◌≡◌, ℕ, false, List, ◌++◌, take, drop, Some, Result}
 use Rattle.httparse.specs.Grammar.{RequestHead}
 use Rattle.http_wire.specs.Ahead.{Ahead}
 use Rattle.http_wire.specs.Front.{Parses}
-use Rattle.http_wire.specs.HeadFound.{SeesEnd}
 use Rattle.http_wire.specs.HeadText.{has_many_lines, head_text, whole}
 use Rattle.http_wire.specs.Next.{told_in}
 use Rattle.http_wire.specs.NextRead.{ReadsNext}
 use Rattle.http_wire.specs.Parts.{ShowsHead}
 use Rattle.http_wire.specs.declared.parts.Parts.{Parts}
-use Rattle.http_wire.specs.declared.read.Cut.TheVariants.{Ended, Fault}
 use Rattle.http_wire.specs.declared.read.Front.{Front}
-use Rattle.http_wire.specs.declared.read.Front.TheVariants.{Message, Refused, CutPatch, CutOther, End}
 use Rattle.http_wire.specs.declared.fault.WireFault.{WireFault}
 
 -- these bytes begin with a whole head of these parts, which is held with what follows it
@@ -26,12 +22,3 @@ pub record BeginsHead (max : ℕ) (bytes : List ℕ) (p : Parts) (held : List �
 -- what a reading gave, after these bytes
 abbrev pub ReadsFront : ℕ → List ℕ → List ℕ → Ahead → Result Front WireFault → Type 0
 ReadsFront max bytes text a r = ReadsNext max bytes text a.held (told_in a r)
-
--- the input is cut or ended only where no byte of it is left
-abbrev pub EndsOnlyAtEnd : Option (List ℕ) → Ahead → Front → Type 0
-EndsOnlyAtEnd remaining a (Message p) = SeesEnd remaining a
-EndsOnlyAtEnd remaining a (Refused why framing) = ⊤
-EndsOnlyAtEnd remaining a (CutPatch p Ended) = IsAtEnd remaining
-EndsOnlyAtEnd remaining a (CutPatch p Fault) = ⊤
-EndsOnlyAtEnd remaining a CutOther = IsAtEnd remaining
-EndsOnlyAtEnd remaining a End = IsAtEnd remaining

@@ -1,21 +1,17 @@
 -- A head that was found by reading, and how far the search for it has come.
 use Rattle.std.specs.Prelude.{◌≡◌, ◌≤◌, ◌⊎◌, ℕ, true, List, [], ◌++◌, length, take, drop, Option, ⊤}
-use Rattle.std.specs.Io.KnownBytes.{Consumes, IsAtEnd}
+use Rattle.std.specs.Io.KnownBytes.{Consumes}
 use Rattle.http_wire.specs.Ahead.{Ahead}
 use Rattle.http_wire.specs.HeadText.{head_limit, head_len, text_at, head_text, whole, too_long, cut, nothing}
 use Rattle.http_wire.specs.declared.read.HeadFound.{HeadFound}
 use Rattle.http_wire.specs.declared.read.HeadFound.TheVariants.{Whole, TooLong, Cut, Nothing}
 
--- a whole head is held, and is no longer than a head may be
-abbrev pub IsHeldBy : Ahead → HeadFound → Type 0
-IsHeldBy a (Whole n) = (n ≤ length a.held) × (n ≤ 16384)
-IsHeldBy a TooLong = ⊤
-IsHeldBy a Cut = ⊤
-IsHeldBy a Nothing = ⊤
-
--- the reader's end was seen only where it has no byte left
-abbrev pub SeesEnd : Option (List ℕ) → Ahead → Type 0
-SeesEnd remaining a = a.ended ≡ true → IsAtEnd remaining
+-- a whole head is in these bytes, and is no longer than a head may be
+abbrev pub IsHeldBy : List ℕ → HeadFound → Type 0
+IsHeldBy text (Whole n) = (n ≤ length text) × (n ≤ 16384)
+IsHeldBy text TooLong = ⊤
+IsHeldBy text Cut = ⊤
+IsHeldBy text Nothing = ⊤
 
 -- Line ends were skipped in some bytes, and what is held follows them. Nothing is held only at the end, or
 -- after more line ends than a head may have; otherwise this holds whatever follows.

@@ -1,8 +1,6 @@
 -- What a front that was read leaves: where a message stands, and that nothing failed.
 use Rattle.std.specs.Prelude.{◌≡◌, ◌≤◌, ℕ, List, Bool, false, true, length, ⊤}
-use Rattle.http_wire.specs.Ahead.{Ahead}
 use Rattle.http_wire.specs.Parts.{IsPartsWithin}
-use Rattle.http_wire.specs.declared.read.Cut.TheVariants.{Ended, Fault}
 use Rattle.http_wire.specs.declared.parts.Parts.{Parts}
 use Rattle.http_wire.specs.declared.fault.WireFault.{WireFault}
 use Rattle.http_wire.specs.declared.fault.WireFault.TheVariants as fault
@@ -14,22 +12,13 @@ pub record IsMessage (p : Parts) (text : List ℕ) : Type 0 where
   pub head : p.head_len ≤ length text
   pub within : IsPartsWithin p.head_len p
 
--- a message or a cut PATCH is lent
-abbrev pub IsLent : Ahead → Front → Type 0
-IsLent a (Message p) = IsMessage p a.lent
-IsLent a (Refused why framing) = ⊤
-IsLent a (CutPatch p why) = IsMessage p a.lent
-IsLent a CutOther = ⊤
-IsLent a End = ⊤
-
--- the reader has not failed, except where a read that failed cut a body
-abbrev pub IsAliveAfter : Bool → Front → Type 0
-IsAliveAfter failed (Message p) = failed ≡ false
-IsAliveAfter failed (Refused why framing) = failed ≡ false
-IsAliveAfter failed (CutPatch p Ended) = failed ≡ false
-IsAliveAfter failed (CutPatch p Fault) = failed ≡ true
-IsAliveAfter failed CutOther = failed ≡ false
-IsAliveAfter failed End = failed ≡ false
+-- these bytes are those of a message or of a cut PATCH, where there is one
+abbrev pub IsLent : List ℕ → Front → Type 0
+IsLent text (Message p) = IsMessage p text
+IsLent text (Refused why framing) = ⊤
+IsLent text (CutPatch p why) = IsMessage p text
+IsLent text CutOther = ⊤
+IsLent text End = ⊤
 
 -- A fault names the one that failed, the reader or the writer, and the other has not failed. So after a read
 -- that failed nothing is written, and after a write that failed nothing is read: such a call might fail too.

@@ -1,6 +1,7 @@
 pub mod Ahead
 pub mod Connection
 pub mod Conversation
+pub mod Fault
 pub mod Fields
 pub mod Front
 pub mod FrontRead
@@ -20,6 +21,8 @@ pub mod ReplyParts
 pub mod ReplyText
 pub mod Scan
 pub mod Shown
+pub mod TurnOnWire
 pub mod Turns
 pub mod Plain
 pub mod WireState
+pub mod Writes

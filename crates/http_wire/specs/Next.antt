@@ -1,11 +1,12 @@
 -- What stands next on a wire.
-use Rattle.std.specs.Prelude.{Result, Ok, Err}
+use Rattle.std.specs.Prelude.{Bool, true, false, Result, Ok, Err}
 use Rattle.tus_steps.specs.Request.{Asked}
 use Rattle.http_wire.specs.Ahead.{Ahead}
 use Rattle.http_wire.specs.Parts.{request_at}
 use Rattle.http_wire.specs.declared.fault.WireFault.{WireFault}
 use Rattle.http_wire.specs.declared.framing.Framing.{Framing}
 use Rattle.http_wire.specs.declared.read.Cut.{Cut}
+use Rattle.http_wire.specs.declared.read.Cut.TheVariants.{Ended, Fault}
 use Rattle.http_wire.specs.declared.read.Front.{Front}
 use Rattle.http_wire.specs.declared.read.Front.TheVariants.{Message, Refused, CutPatch, CutOther, End}
 use Rattle.http_wire.specs.declared.refusal.WireRefusal.{WireRefusal}
@@ -18,6 +19,15 @@ pub data Next : Type 0 where
   cut_other : Next
   refused : WireRefusal → Framing → Next
   ending : Next
+
+-- a read that failed cut it
+abbrev pub is_cut_by_fault : Next → Bool
+is_cut_by_fault (message asked framing) = false
+is_cut_by_fault (cut_patch asked framing Ended) = false
+is_cut_by_fault (cut_patch asked framing Fault) = true
+is_cut_by_fault cut_other = false
+is_cut_by_fault (refused why framing) = false
+is_cut_by_fault ending = false
 
 -- what was read, with its message as it is lent
 abbrev pub next_in : Ahead → Front → Next

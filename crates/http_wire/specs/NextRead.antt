@@ -1,12 +1,13 @@
 -- What the reading of the next message tells of the bytes that were read, and of the text that was written meanwhile.
-use Rattle.std.specs.Prelude.{◌≡◌, ◌⊎◌, ℕ, Bool, true, false, List, [], ◌++◌, take, Option, Result, Ok, Err, IfOk, IfErr, ⊤}
+use Rattle.std.specs.Prelude.{◌≡◌, ◌⊎◌, ◌&&◌, ℕ, Bool, true, false, List, [], ◌++◌, take, Option, Result, Ok, Err, is_ok, IfOk, OnOk, IfErr, ⊤}
 use Rattle.std.specs.Io.KnownBytes.{Appends, Consumes, IsAtEnd}
 use Rattle.http_wire.specs.Conversation.{continue_text}
 use Rattle.http_wire.specs.Front.{Front, IsFront, message, refused, cut_patch, cut_other, clean_end}
 use Rattle.http_wire.specs.Lent.{Names}
-use Rattle.http_wire.specs.Next.{Next}
+use Rattle.http_wire.specs.Next.{Next, is_cut_by_fault}
 use Rattle.http_wire.specs.Next as next
 use Rattle.http_wire.specs.OnWire.{OnWire}
+use Rattle.http_wire.specs.Writes.{Writes}
 use Rattle.http_wire.specs.WireState.{is_open, is_alive, state_after}
 use Rattle.http_wire.specs.declared.fault.WireFault.{WireFault}
 use Rattle.http_wire.specs.declared.fault.WireFault.TheVariants.{Read, Write, Memory, Failed}
@@ -59,13 +60,32 @@ ComesAtEnd remaining next.cut_other = IsAtEnd remaining
 ComesAtEnd remaining (next.refused why framing) = ⊤
 ComesAtEnd remaining next.ending = IsAtEnd remaining
 
+-- The reader's end was seen where the input ended or was cut by its end, and not where a read failed: after the
+-- end no read is tried.
+abbrev pub TellsEnd : Bool → Result Next WireFault → Type 0
+TellsEnd ended (Ok (next.message asked framing)) = ⊤
+TellsEnd ended (Ok (next.cut_patch asked framing Ended)) = ended ≡ true
+TellsEnd ended (Ok (next.cut_patch asked framing Fault)) = ended ≡ false
+TellsEnd ended (Ok next.cut_other) = ended ≡ true
+TellsEnd ended (Ok (next.refused why framing)) = ⊤
+TellsEnd ended (Ok next.ending) = ended ≡ true
+TellsEnd ended (Err Read) = ended ≡ false
+TellsEnd ended (Err Write) = ⊤
+TellsEnd ended (Err Memory) = ⊤
+TellsEnd ended (Err Failed) = ⊤
+
 -- What the reading of the next message did to a wire that reads: some bytes were read and some were written, and what came
--- in is what they begin with. Where a read or a write failed, the fault names which; nothing had failed before.
+-- in is what they begin with. Nothing had failed before. Where something did now, the fault names which; after what came in,
+-- the writer has not failed, and the reader only where a read that failed cut a PATCH. Nothing is read after the reader's end.
 pub record Reads {R W : Type 0} (remaining : R → Option (List ℕ)) (read_failed : R → Bool) (contents : W → Option (List ℕ)) (write_failed : W → Bool)
     (old new : OnWire R W) (r : Result Next WireFault) : Type 0 where
   pub next : (got text : List ℕ) × Consumes (remaining old.reader) (remaining new.reader) got × Appends (contents old.writer) (contents new.writer) text
       × ReadsNext old.max_size (old.held ++ got) text new.held r
   pub at_end : IfOk r (ComesAtEnd (remaining new.reader))
+  pub told : TellsEnd new.ended r
+  pub stops : old.ended ≡ true → (new.reader ≡ old.reader) × (new.ended ≡ true)
+  pub reader : IfOk r (λ n. read_failed new.reader ≡ is_cut_by_fault n)
+  pub writer : OnOk r (write_failed new.writer ≡ false)
   pub fault : IfErr r (Names (read_failed new.reader) (write_failed new.writer))
   pub alive : (read_failed old.reader ≡ false) × (write_failed old.writer ≡ false)
   pub size : new.max_size ≡ old.max_size
@@ -73,9 +93,19 @@ pub record Reads {R W : Type 0} (remaining : R → Option (List ℕ)) (read_fail
   pub writes : new.writes ≡ is_alive (state_after r)
 
 -- what a call of `read_request` did to a wire: after the end, a cut or a refusal it gives the end, and after a fault the
--- answer that it failed, and the wire is as it was
+-- answer that it failed, and the wire is as it was, its reader and its writer too
 pub record ReadsOn {R W : Type 0} (remaining : R → Option (List ℕ)) (read_failed : R → Bool) (contents : W → Option (List ℕ)) (write_failed : W → Bool)
     (old new : OnWire R W) (r : Result Next WireFault) : Type 0 where
   pub reading : old.reads ≡ true → Reads remaining read_failed contents write_failed old new r
   pub ended : old.reads ≡ false → old.writes ≡ true → (r ≡ Ok next.ending) × (new ≡ old)
   pub failed : old.reads ≡ false → old.writes ≡ false → (r ≡ Err Failed) × (new ≡ old)
+
+-- What a call that writes a text did to a wire. Where the wire writes, the text is written; or a write failed, a front of
+-- the text is written, and from then on the wire does nothing. Where it does not write, the call says that it failed, and
+-- the wire is as it was, its writer too.
+pub record WritesOn {R W T : Type 0} (contents : W → Option (List ℕ)) (write_failed : W → Bool) (text : List ℕ) (old new : OnWire R W)
+    (r : Result T WireFault) : Type 0 where
+  pub writing : old.writes ≡ true → Writes (contents old.writer) (contents new.writer) (write_failed new.writer) text r
+  pub alive : old.writes ≡ true → write_failed old.writer ≡ false
+  pub stays : old.writes ≡ true → new ≡ record old { writer = new.writer; reads = old.reads && is_ok r; writes = is_ok r }
+  pub failed : old.writes ≡ false → (r ≡ Err Failed) × (new ≡ old)

@@ -1,48 +1,28 @@
 -- What the plain program tells, as the definitions have it.
-use Rattle.std.specs.Prelude.{◌≤◌, ℕ, ◌+◌, List, length, take, drop, nat_le, if◌then◌else◌, ⊤}
+use Rattle.std.specs.Prelude.{ℕ, ◌+◌, Bool, List, length, take, drop, nat_le, if◌then◌else◌}
 use Rattle.http_wire.specs.Front.{Front, message, refused, cut_patch, cut_other, clean_end, is_patch}
 use Rattle.http_wire.specs.HeadText.{HeadText, whole, too_long, cut, nothing}
-use Rattle.http_wire.specs.Parts.{IsPartsWithin, request_at}
+use Rattle.http_wire.specs.Parts.{request_at}
 use Rattle.http_wire.specs.declared.parts.Parts.{Parts}
-use Rattle.http_wire.specs.declared.plain.PlainFront.{PlainFront}
-use Rattle.http_wire.specs.declared.plain.PlainFront.TheVariants.{Message, Refused, CutPatch, CutOther, End}
-use Rattle.http_wire.specs.declared.plain.PlainHead.{PlainHead}
-use Rattle.http_wire.specs.declared.plain.PlainHead.TheVariants as plain
+use Rattle.http_wire.specs.declared.read.Front.{Front as Told}
+use Rattle.http_wire.specs.declared.read.Front.TheVariants.{Message, Refused, CutPatch, CutOther, End}
+use Rattle.http_wire.specs.declared.read.HeadFound.{HeadFound}
+use Rattle.http_wire.specs.declared.read.HeadFound.TheVariants.{Whole, TooLong, Cut, Nothing}
 
--- the head that the input begins with
-abbrev pub head_value : PlainHead → HeadText
-head_value (plain.Whole text len) = whole (take len text.now) (drop len text.now)
-head_value plain.TooLong = too_long
-head_value plain.Cut = cut
-head_value plain.Nothing = nothing
+-- the head that a text begins with
+abbrev pub head_in : List ℕ → HeadFound → HeadText
+head_in text (Whole len) = whole (take len text) (drop len text)
+head_in text TooLong = too_long
+head_in text Cut = cut
+head_in text Nothing = nothing
 
--- a whole head lies in its text
-abbrev pub IsWithinText : PlainHead → Type 0
-IsWithinText (plain.Whole text len) = (len ≤ length text.now) × (len ≤ 16384)
-IsWithinText plain.TooLong = ⊤
-IsWithinText plain.Cut = ⊤
-IsWithinText plain.Nothing = ⊤
-
--- what the input begins with
-abbrev pub front_value : PlainFront → Front
-front_value (Message parts text rest) = message (request_at parts text.now) parts.framing parts.is_waiting rest.now
-front_value (Refused refusal) = refused refusal.refusal refusal.framing
-front_value (CutPatch parts text) = cut_patch (request_at parts text.now) parts.framing parts.is_waiting
-front_value (CutOther is_waiting) = cut_other is_waiting
-front_value End = clean_end
-
--- the parts of a message lie in its text
-pub record HoldsParts (parts : Parts) (text : List ℕ) : Type 0 where
-  pub head : parts.head_len ≤ length text
-  pub within : IsPartsWithin parts.head_len parts
-
--- the request of a message, also of a cut one, can be lent
-abbrev pub CanBeLent : PlainFront → Type 0
-CanBeLent (Message parts text rest) = HoldsParts parts text.now
-CanBeLent (Refused refusal) = ⊤
-CanBeLent (CutPatch parts text) = HoldsParts parts text.now
-CanBeLent (CutOther is_waiting) = ⊤
-CanBeLent End = ⊤
+-- what the input begins with, where its message has this text, and this follows it
+abbrev pub front_in : Told → Bool → List ℕ → List ℕ → Front
+front_in (Message p) waiting text rest = message (request_at p text) p.framing waiting rest
+front_in (Refused why framing) waiting text rest = refused why framing
+front_in (CutPatch p why) waiting text rest = cut_patch (request_at p text) p.framing waiting
+front_in CutOther waiting text rest = cut_other waiting
+front_in End waiting text rest = clean_end
 
 -- the message of a head with these parts, as far as the text goes
 abbrev pub body_front : Parts → List ℕ → Front

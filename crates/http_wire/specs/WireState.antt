@@ -1,7 +1,6 @@
 -- What a wire still does, and how a contract sees it.
 use Rattle.std.specs.Prelude.{◌≡◌, ◌<◌, ◌^◌, ℕ, Bool, true, false, List, Option, Result, Ok, Err}
-use Rattle.http_wire.specs.Ahead.{Ahead}
-use Rattle.http_wire.specs.HeadFound.{SeesEnd}
+use Rattle.http_wire.specs.Ahead.{Ahead, SeesEnd}
 use Rattle.http_wire.specs.Next.{Next, message, cut_patch, cut_other, refused, ending}
 use Rattle.http_wire.specs.OnWire.{OnWire}
 use Rattle.http_wire.specs.declared.fault.WireFault.{WireFault}
@@ -38,6 +37,7 @@ module _ {R W : Type 0} where
     reader = reader;
     writer = writer;
     held = inbox.held;
+    ended = inbox.ended;
     max_size = max_size;
     reads = is_open state;
     writes = is_alive state;

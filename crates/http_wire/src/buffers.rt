@@ -7,9 +7,10 @@ use httparse::spans::Span;
 use std::alloc::{AllocError, Global};
 
 /// The memory that the messages of a connection share: what was read ahead, the fields of the message
-/// that was read last, and the page of the reply that is written.
+/// that was read last, and the page of the reply that is written; and where more of it is taken.
 #[derive(Drop)]
 pub struct Buffers {
+    pub alloc: Global,
     pub inbox: Inbox,
     pub found: HeaderMap<Span>,
     pub page: Page,
@@ -25,6 +26,7 @@ impl Buffers {
         let inbox = Inbox::new(alloc)?;
         let page = Page::new(alloc)?;
         Ok(Buffers {
+            alloc,
             inbox,
             found: HeaderMap::empty(alloc),
             page,

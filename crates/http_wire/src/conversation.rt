@@ -1,14 +1,15 @@
-ghost use Rattle.std.specs.Prelude.{◌≡◌, ◌≤◌, ◌++◌, ℕ, List, Some, true, false, take, IfOk, IfErr, OnOk, OnErr};
+ghost use Rattle.std.specs.Prelude.{◌≡◌, ◌<◌, ◌^◌, ◌++◌, ℕ, List, Some, false, IfOk, IfErr, OnOk};
 ghost use Rattle.std.specs.Io.KnownBytes.{Appends, Consumes};
+ghost use Rattle.http_wire.specs.Ahead.{SeesEnd};
 ghost use Rattle.http_wire.specs.Conversation.{Conversation};
-ghost use Rattle.http_wire.specs.HeadFound.{SeesEnd};
 ghost use Rattle.http_wire.specs.Turns.{Breaks, Converses, EndsTurnAtEnd, IsReadWhen, TakesTurn};
 ghost use Rattle.http_wire.specs.ReplyText.{reply_text};
 ghost use Rattle.tus_steps.specs.Request.{asked_of};
-ghost use Rattle.tus_steps.specs.Step.{IsStep};
 ghost use Rattle.tus_steps.specs.declared.reply.Reply.{Reply};
 ghost use Rattle.http_wire.specs.Lent.{Names, NamesOrMemory};
+ghost use Rattle.http_wire.specs.Writes.{Writes};
 
+use crate::answer::Answer;
 use crate::buffers::Buffers;
 use crate::fault::WireFault;
 use crate::framing::Framing;
@@ -18,8 +19,8 @@ use crate::read::{Cut, Front, read_front};
 use crate::source::{Sink, Source};
 use crate::write::{write_refusal, write_reply};
 use std::alloc::Global;
-use tus_steps::{Request, answer};
-use upload_book::{Book, Moment};
+use tus_steps::Request;
+use upload_book::Moment;
 
 /// How a conversation ended.
 #[derive(Clone, Copy, Debug, PartialEq, Eq)]
@@ -34,15 +35,16 @@ pub enum Ended {
     Moments,
 }
 
-/// Reads messages and writes their replies until the input ends, the connection closes or no moment is
-/// left. The k-th message, a refused or cut one included, has the k-th moment. The error is
-/// `WireFault::Memory`, before anything was read, `WireFault::Read` or `WireFault::Write`; after it
-/// nothing more is read or written, and the steps that the book took before it stay.
-pub fn converse<R: Source, W: Sink>(
+/// Reads messages, lets `answerer` answer them and writes their replies until the input ends, the
+/// connection closes or no moment is left. The k-th message, a refused or cut one included, has the k-th
+/// moment. The error is `WireFault::Memory`, before anything was read, `WireFault::Read` or
+/// `WireFault::Write`; after it nothing more is read or written, and the steps that were made before it
+/// stay.
+pub fn converse<R: Source, W: Sink, A: Answer>(
     alloc: Global,
     reader: &mut R,
     writer: &mut W,
-    book: &mut Book,
+    answerer: &mut A,
     moments: &[Moment],
 ) -> Result<Ended, WireFault>
     requires reader { R.has_failed reader.old ≡ false }
@@ -50,16 +52,19 @@ pub fn converse<R: Source, W: Sink>(
     ensures known { (input before : List ℕ) → R.remaining reader.old ≡ Some input
         → W.contents writer.old ≡ Some before
         → IfOk result (λ e. (text : List ℕ) × (W.contents writer.new ≡ Some (before ++ text))
-        × Conversation moments.now input book.old text book.new e) }
+        × Conversation A.steps (A.max_size answerer.old) moments.now input
+        answerer.old text answerer.new e) }
     ensures converses { IfOk result (λ e. (got text : List ℕ)
         × Consumes (R.remaining reader.old) (R.remaining reader.new) got
         × Appends (W.contents writer.old) (W.contents writer.new) text
-        × Converses moments.now got text book.old book.new e) }
+        × Converses A.steps (A.max_size answerer.old) moments.now got text
+        answerer.old answerer.new e) }
     ensures read { IfOk result (λ e. IsReadWhen e (R.remaining reader.new)) }
     ensures breaks { IfErr result (λ f. (got text : List ℕ)
         × Consumes (R.remaining reader.old) (R.remaining reader.new) got
         × Appends (W.contents writer.old) (W.contents writer.new) text
-        × Breaks moments.now got text book.old book.new f) }
+        × Breaks A.steps (A.max_size answerer.old) moments.now got text
+        answerer.old answerer.new f) }
     ensures reader { OnOk result (R.has_failed reader.new ≡ false) }
     ensures writer { OnOk result (W.has_failed writer.new ≡ false) }
     ensures fault { IfErr result (NamesOrMemory (R.has_failed reader.new) (W.has_failed writer.new)) }
@@ -68,28 +73,34 @@ pub fn converse<R: Source, W: Sink>(
         Ok(buffers) => buffers,
         Err(_) => return Err(WireFault::Memory),
     };
+    let max_size = answerer.max_size();
     for moment in moments {
-        if let Some(ended) = take_turn(alloc, reader, writer, &mut buffers, book, *moment)? {
+        let turn = take_turn(reader, writer, &mut buffers, max_size, answerer, *moment)?;
+        if let Some(ended) = turn {
             return Ok(ended);
         }
     }
     Ok(Ended::Moments)
 }
 
-// Reads one message and writes its reply, and says whether the conversation ends with it.
-fn take_turn<R: Source, W: Sink>(
-    alloc: Global,
+/// Reads one message, lets `answerer` answer it and writes the reply, and says whether the conversation
+/// ends with it. A body has at most `max_size` bytes. The error is `WireFault::Read` or
+/// `WireFault::Write`.
+pub fn take_turn<R: Source, W: Sink, A: Answer>(
     reader: &mut R,
     writer: &mut W,
     buffers: &mut Buffers,
-    book: &mut Book,
+    max_size: u64,
+    answerer: &mut A,
     now: Moment,
 ) -> Result<Option<Ended>, WireFault>
     requires reader { R.has_failed reader.old ≡ false }
     requires writer { W.has_failed writer.old ≡ false }
+    requires max_size { max_size < 2 ^ 31 }
     ensures turn { (got text : List ℕ) × Consumes (R.remaining reader.old) (R.remaining reader.new) got
         × Appends (W.contents writer.old) (W.contents writer.new) text
-        × TakesTurn now (buffers.old.inbox.held ++ got) text buffers.new.inbox.held book.old book.new result }
+        × TakesTurn A.steps max_size now (buffers.old.inbox.held ++ got) text buffers.new.inbox.held
+        answerer.old answerer.new result }
     ensures end { IfOk result (λ r. SeesEnd (R.remaining reader.old) buffers.old.inbox
         → EndsTurnAtEnd (R.remaining reader.new) buffers.new.inbox r) }
     ensures reader { OnOk result (R.has_failed reader.new ≡ false) }
@@ -97,12 +108,12 @@ fn take_turn<R: Source, W: Sink>(
     ensures fault { IfErr result (Names (R.has_failed reader.new) (W.has_failed writer.new)) }
 {
     let front = read_front(
-        alloc,
+        buffers.alloc,
         reader,
         writer,
         &mut buffers.inbox,
         &mut buffers.found,
-        max_size(book),
+        max_size,
     )?;
     match front {
         Front::Message(parts) => {
@@ -110,7 +121,7 @@ fn take_turn<R: Source, W: Sink>(
             reply_to(
                 writer,
                 &mut buffers.page,
-                book,
+                answerer,
                 &request,
                 now,
                 parts.framing,
@@ -126,7 +137,7 @@ fn take_turn<R: Source, W: Sink>(
             Ok(Some(Ended::Closed))
         }
         Front::CutPatch(parts, why) => {
-            let _ = answer(book, &request_in(&parts, buffers.inbox.lent()), now);
+            let _ = answerer.answer(&request_in(&parts, buffers.inbox.lent()), now);
             match why {
                 Cut::Ended => Ok(Some(Ended::Cut)),
                 Cut::Fault => Err(WireFault::Read),
@@ -138,34 +149,19 @@ fn take_turn<R: Source, W: Sink>(
 }
 
 // Makes the step of a request and writes its reply. The step stays where the reply could not be written.
-fn reply_to<W: Sink>(
+fn reply_to<W: Sink, A: Answer>(
     writer: &mut W,
     page: &mut Page,
-    book: &mut Book,
+    answerer: &mut A,
     request: &Request,
     now: Moment,
     framing: Framing,
 ) -> Result<(), WireFault>
     requires { W.has_failed writer.old ≡ false }
-    ensures ok { OnOk result ((reply : Reply)
-        × IsStep book.old (asked_of request.now) now reply book.new
-        × Appends (W.contents writer.old) (W.contents writer.new) (reply_text reply now framing)) }
-    ensures part { OnErr result ((reply : Reply) × (n : ℕ)
-        × IsStep book.old (asked_of request.now) now reply book.new
-        × Appends (W.contents writer.old) (W.contents writer.new)
-        (take n (reply_text reply now framing))) }
-    ensures alive { OnOk result (W.has_failed writer.new ≡ false) }
-    ensures failed { OnErr result (W.has_failed writer.new ≡ true) }
-    ensures fault { IfErr result (λ e. e ≡ WireFault.Write) }
+    ensures { (reply : Reply) × A.steps answerer.old (asked_of request.now) now reply answerer.new
+        × Writes (W.contents writer.old) (W.contents writer.new) (W.has_failed writer.new)
+        (reply_text reply now framing) result }
 {
-    let reply = answer(book, request, now);
+    let reply = answerer.answer(request, now);
     write_reply(writer, page, &reply, now, framing)
-}
-
-// The most bytes of a request's body.
-fn max_size(book: &Book) -> u64
-    ensures value { result ≡ book.now.settings.numbers.max_size }
-    ensures range { result ≤ 16777216 }
-{
-    book.settings().numbers().max_size
 }

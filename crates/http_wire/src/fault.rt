@@ -1,21 +1,38 @@
-use thiserror::Error;
+use std::error::Error;
+use std::fmt;
 
-/// Why a wire stopped, other than by the end of its input or by what the peer sent.
-#[derive(Clone, Copy, Debug, PartialEq, Eq, Error)]
+/// Why a wire stopped, other than by the end of its input or by what the peer sent. It displays this in
+/// words.
+#[derive(Clone, Copy, Debug, PartialEq, Eq)]
 pub enum WireFault {
     /// A read of the reader failed.
-    #[error("a read failed")]
     Read,
 
     /// A write of the writer failed, or took nothing.
-    #[error("a write failed")]
     Write,
 
     /// The buffers of a new wire found no memory.
-    #[error("out of memory")]
     Memory,
 
     /// An earlier call gave a fault.
-    #[error("the wire failed before")]
     Failed,
 }
+
+impl fmt::Display for WireFault {
+    ghost use Rattle.std.specs.Prelude.{Some};
+    ghost use Rattle.http_wire.specs.Fault.{words_of};
+
+    ghost output = { λ fault. Some (words_of fault) };
+
+    fn fmt<W: fmt::Write>(&self, f: &mut fmt::Formatter<W>) -> fmt::Result {
+        let words = match self {
+            WireFault::Read => "a read failed",
+            WireFault::Write => "a write failed",
+            WireFault::Memory => "out of memory",
+            WireFault::Failed => "the wire failed before",
+        };
+        write!(f, "{words}")
+    }
+}
+
+impl Error for WireFault {}

@@ -1,4 +1,4 @@
-ghost use Rattle.std.specs.Prelude.{◌≡◌, ◌≤◌, ℕ, List, [], ◌∷◌, ◌++◌, length, map, All, OnOk};
+ghost use Rattle.std.specs.Prelude.{◌≡◌, ◌≢◌, ◌≤◌, ℕ, List, [], ◌∷◌, ◌++◌, length, map, All, OnOk, OnErr};
 ghost use Rattle.httparse.specs.Spans.{IsHeaderWithin, IsWithin, span_bytes};
 ghost use Rattle.http_header.specs.FieldName.{IsFieldName};
 ghost use Rattle.http_header.specs.HeaderMap.{get_all};
@@ -40,7 +40,8 @@ impl FieldSpan {
 }
 
 /// Puts the places of all values of `head` under their names into `found`, in place of what it had.
-/// The error is want of memory, and `found` is then of no use.
+/// The error is that there is no memory, which a head without fields needs none of; `found` is then of
+/// no use.
 pub fn gather(
     alloc: Global,
     head: &[u8],
@@ -49,8 +50,9 @@ pub fn gather(
 ) -> Result<(), AllocError>
     requires within { All (IsHeaderWithin (length head.now)) spans.now }
     requires names { All (λ h. IsFieldName (span_bytes head.now h.name)) spans.now }
-    ensures { OnOk result ((name : List ℕ)
+    ensures found { OnOk result ((name : List ℕ)
         → get_all found.new name ≡ spans_named head.now name spans.now) }
+    ensures memory { OnErr result (spans.now ≢ []) }
 {
     found.clear();
     for span in spans {

@@ -63,7 +63,13 @@ pub fn read_parts(
     };
     match gather(alloc, head, &spans[..line.headers], found) {
         Ok(()) => parts_of(line, head, found, max_size),
-        Err(_) => Err(unknown(WireRefusal::Memory)),
+        Err(_) => Err(RefusedHead {
+            refusal: WireRefusal::Memory,
+            framing: Framing {
+                bare: is_head(method_of(line.method.of(head))),
+                close: true,
+            },
+        }),
     }
 }
 

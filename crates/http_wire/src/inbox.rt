@@ -1,4 +1,4 @@
-ghost use Rattle.std.specs.Prelude.{◌≡◌, ◌+◌, ◌^◌, ◌<◌, ◌≤◌, ◌++◌, ◌||◌, [], true, false, length, take, drop, IfOk, OnOk, OnErr, IfErr, is_err, slice_range, vec_len};
+ghost use Rattle.std.specs.Prelude.{◌≡◌, ◌+◌, ◌^◌, ◌<◌, ◌≤◌, ◌++◌, [], true, false, length, take, drop, IfOk, OnOk, OnErr, IfErr, is_err, slice_range, vec_len};
 ghost use Rattle.std.specs.Io.KnownBytes.{Consumes, Keeps, IsAtEnd};
 ghost use Rattle.http_wire.specs.Ahead.{Ahead, Grew};
 
@@ -107,8 +107,9 @@ impl Inbox {
         self.at += count;
     }
 
-    /// Makes room for `total` bytes held at once and one more read after them. The error is want of
-    /// memory, which comes only where there was not room enough, and then nothing changed.
+    /// Makes room for `total` bytes held at once and one more read after them. The error is that there is
+    /// no memory, which comes only where there was not room enough, so never for 49,152 bytes or fewer.
+    /// Then nothing changed.
     pub fn reserve(&mut self, total: usize) -> Result<(), AllocError>
         requires { total < 2 ^ 32 }
         ensures held { self.new.held ≡ self.old.held }
@@ -116,6 +117,7 @@ impl Inbox {
         ensures ok { OnOk result (total + READ_SIZE ≤ self.new.room) }
         ensures err { OnErr result (self.new ≡ self.old) }
         ensures memory { OnErr result (self.old.room < total + READ_SIZE) }
+        ensures sure { OnErr result (49152 < total) }
     {
         let needed = total + READ_SIZE;
         if self.buffer.len() < needed {
@@ -132,6 +134,7 @@ impl Inbox {
     /// end. The error is `WireFault::Read`, and then nothing came.
     pub fn fill<R: Source>(&mut self, reader: &mut R) -> Result<(), WireFault>
         requires alive { R.has_failed reader.old ≡ false }
+        requires unended { self.old.ended ≡ false }
         requires room { length self.old.held + READ_SIZE ≤ self.old.room }
         ensures grew { Grew (R.remaining reader.old) (R.remaining reader.new) self.old self.new }
         ensures lent { self.new.lent ≡ [] }
@@ -182,7 +185,8 @@ fn place_with_room(buffer: &mut Vec<u8>, at: usize, count: usize, room: usize) -
 
 // One read into `buffer` from the place `at` on.
 fn read_after<R: Source>(reader: &mut R, buffer: &mut Vec<u8>, at: usize) -> io::Result<usize>
-    requires { at < vec_len buffer.old }
+    requires alive { R.has_failed reader.old ≡ false }
+    requires inside { at < vec_len buffer.old }
     ensures len { vec_len buffer.new ≡ vec_len buffer.old }
     ensures bound { IfOk result (λ n. at + n ≤ vec_len buffer.new) }
     ensures before { take at buffer.new.items ≡ take at buffer.old.items }
@@ -190,7 +194,7 @@ fn read_after<R: Source>(reader: &mut R, buffer: &mut Vec<u8>, at: usize) -> io:
         (slice_range buffer.new.items at (at + n))) }
     ensures end { IfOk result (λ n. n ≡ 0 → IsAtEnd (R.remaining reader.new)) }
     ensures err { OnErr result (Keeps (R.remaining reader.old) (R.remaining reader.new)) }
-    ensures failed { R.has_failed reader.new ≡ (R.has_failed reader.old || is_err result) }
+    ensures failed { R.has_failed reader.new ≡ is_err result }
 {
     reader.read(&mut buffer.as_mut_slice()[at..])
 }

@@ -2,12 +2,14 @@
 //! nothing, and holds of every input.
 ghost use Rattle.http_wire.specs.Laws.{InputsJoin, MessagesAreShort, OneFront, TurnsJoin};
 
+use crate::answer::Answer;
+
 /// An input may come in parts. Where some bytes are whole messages after which the connection stays
-/// open, a conversation goes on with what comes later as one that begins there does, from the book
+/// open, a conversation goes on with what comes later as one that begins there does, from the state
 /// that they left; and whole messages that come later only make more whole messages.
-pub fn inputs_join()
-    ensures conversation { InputsJoin }
-    ensures turns { TurnsJoin }
+pub fn inputs_join<A: Answer>()
+    ensures conversation { InputsJoin A.steps }
+    ensures turns { TurnsJoin A.steps }
 {}
 
 /// What an input begins with is determined by its bytes and the greatest length of a body, but for a

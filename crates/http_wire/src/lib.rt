@@ -1,6 +1,7 @@
 //! HTTP/1.1 messages in and out: requests read from bytes, replies written as bytes.
 #![tactic(auto)]
 
+mod answer;
 mod buffers;
 mod connection;
 mod conversation;
@@ -12,28 +13,34 @@ mod head_text;
 mod inbox;
 mod incoming;
 mod judge;
+mod known;
 pub mod laws;
 mod message;
 mod own_fields;
 mod page;
 mod parts;
-pub mod plain;
+#[cfg(test)]
+mod plain;
 mod read;
 mod refusal;
 mod reply;
 mod send;
+mod serving;
 mod source;
 #[cfg(test)]
 mod tests;
 mod wire;
 mod write;
 
+pub use answer::Answer;
 pub use conversation::{Ended, converse};
 pub use fault::WireFault;
 pub use framing::Framing;
 pub use incoming::{Incoming, Message};
+pub use known::conversation_of;
 pub use read::Cut;
 pub use refusal::WireRefusal;
 pub use send::put_all;
+pub use serving::serve;
 pub use source::{Sink, Source, Tapped};
 pub use wire::Wire;

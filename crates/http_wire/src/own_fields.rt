@@ -2,7 +2,7 @@
 ghost use Rattle.std.specs.Prelude.{◌≡◌, ◌+◌, ◌≤◌, ◌++◌, length, codes};
 ghost use Rattle.http_wire.specs.ReplyText.{own_fields, length_line, declared_line, upload_path, tells_version, extensions_in, max_size_in, allowed_in, location_in, offset_in, metadata_in, concat_in, expires_in, is_uncached, line, text_line};
 
-use crate::page::Page;
+use crate::page::{FIELDS_MAX, LINE_MAX, OPENING_MAX, Page, SHORT_MAX};
 use itoa::Buffer;
 use tus_steps::{Place, Reply};
 use upload_book::{Moment, Refusal};
@@ -10,9 +10,9 @@ use upload_book::{Moment, Refusal};
 /// Puts the fields of a reply of the steps.
 #[tactic(auto, unfolding(crate::specs::ReplyText::own_fields))]
 pub fn put_own_fields(page: &mut Page, reply: &Reply)
-    requires { length page.old ≤ 200 }
+    requires { length page.old ≤ OPENING_MAX }
     ensures text { page.new ≡ page.old ++ own_fields reply.now }
-    ensures len { length page.new ≤ 5000 }
+    ensures len { length page.new ≤ FIELDS_MAX }
 {
     page.put_line_if(tells_version(reply), b"Tus-Version", b"1.0.0");
     page.put_text_line(b"Tus-Extension", extensions_in(reply));
@@ -82,9 +82,9 @@ fn allowed_in(reply: &Reply) -> &'static [u8]
 
 #[tactic(auto, unfolding(crate::specs::ReplyText::text_line))]
 fn put_location(page: &mut Page, reply: &Reply)
-    requires { length page.old ≤ 1000 }
+    requires { length page.old ≤ SHORT_MAX }
     ensures text { page.new ≡ page.old ++ text_line (codes "Location") (location_in reply.now) }
-    ensures len { length page.new ≤ length page.old + 100 }
+    ensures len { length page.new ≤ length page.old + LINE_MAX }
 {
     match reply {
         Reply::Created { tenant, id, .. } => put_path(page, tenant.as_slice(), *id),
@@ -95,10 +95,10 @@ fn put_location(page: &mut Page, reply: &Reply)
 // The line of an upload's path.
 #[tactic(auto, unfolding(crate::specs::ReplyText::line))]
 fn put_path(page: &mut Page, tenant: &[u8], id: u64)
-    requires room { length page.old ≤ 1000 }
+    requires room { length page.old ≤ SHORT_MAX }
     requires tenant { length tenant.now ≤ 32 }
     ensures text { page.new ≡ page.old ++ line (codes "Location") (upload_path tenant.now id) }
-    ensures len { length page.new ≤ length page.old + 100 }
+    ensures len { length page.new ≤ length page.old + LINE_MAX }
 {
     let mut digits = Buffer::new();
     page.put(b"Location: /files/");
@@ -120,9 +120,9 @@ fn offset_in(reply: &Reply) -> Option<u64>
 
 #[tactic(auto, unfolding(crate::specs::ReplyText::length_line))]
 fn put_length(page: &mut Page, reply: &Reply)
-    requires { length page.old ≤ 1000 }
+    requires { length page.old ≤ SHORT_MAX }
     ensures text { page.new ≡ page.old ++ length_line reply.now }
-    ensures len { length page.new ≤ length page.old + 100 }
+    ensures len { length page.new ≤ length page.old + LINE_MAX }
 {
     match reply {
         Reply::Head(row) => put_declared(page, row.declared),
@@ -132,9 +132,9 @@ fn put_length(page: &mut Page, reply: &Reply)
 
 #[tactic(auto, unfolding(crate::specs::ReplyText::declared_line))]
 fn put_declared(page: &mut Page, declared: Option<u64>)
-    requires { length page.old ≤ 1000 }
+    requires { length page.old ≤ SHORT_MAX }
     ensures text { page.new ≡ page.old ++ declared_line declared }
-    ensures len { length page.new ≤ length page.old + 100 }
+    ensures len { length page.new ≤ length page.old + LINE_MAX }
 {
     match declared {
         Some(length) => page.put_number_line(b"Upload-Length", Some(length)),

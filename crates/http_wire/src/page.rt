@@ -6,9 +6,31 @@ use std::marker::Model;
 use tus_text::write_expires;
 use upload_book::Moment;
 
-/// The most bytes that a page takes. A reply of the steps has at most 1,024 bytes of metadata, 2,048 of
-/// a concatenation and some 600 of other lines.
+/// The most bytes that a page takes: more than [`HEAD_MAX`] and the word of a refusal.
 pub const PAGE_SIZE: usize = 8192;
+
+/// The most bytes of the lines that every reply begins with: its status, date and version.
+pub const OPENING_MAX: usize = 200;
+
+/// The most bytes of the line of a number, a date or a path.
+pub const LINE_MAX: usize = 100;
+
+/// The most bytes of a page before the two long lines, which are those of metadata and of a
+/// concatenation.
+pub const SHORT_MAX: usize = OPENING_MAX + 8 * LINE_MAX;
+
+/// The most bytes of a page with the fields of the steps. Metadata has at most 1,024 bytes, and a
+/// concatenation 2,048.
+pub const FIELDS_MAX: usize = SHORT_MAX + 4_000;
+
+/// The most bytes of the lines that tell the type and the length of a body.
+pub const CONTENT_MAX: usize = LINE_MAX;
+
+/// The most bytes of what ends a head: the lines of the body, that of the connection and the empty line.
+pub const ENDING_MAX: usize = CONTENT_MAX + LINE_MAX;
+
+/// The most bytes of the head of a reply.
+pub const HEAD_MAX: usize = FIELDS_MAX + ENDING_MAX;
 
 /// Where a reply is put together before it is written. Its memory is taken once, so that no reply
 /// needs any. A contract sees the bytes that were put.

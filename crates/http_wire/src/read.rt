@@ -1,12 +1,15 @@
 ghost use Rattle.std.specs.Prelude.{◌≡◌, ◌≤◌, ◌+◌, ◌<◌, ◌^◌, ◌++◌, ℕ, List, Bool, true, false, length, take, IfOk, OnOk, OnErr, IfErr};
 ghost use Rattle.std.specs.Io.KnownBytes.{Appends, Consumes};
-ghost use Rattle.http_wire.specs.Ahead.{Grew};
+ghost use Rattle.http_wire.specs.Ahead.{Grew, SeesEnd, StopsAtEnd};
 ghost use Rattle.http_wire.specs.Conversation.{continue_text};
 ghost use Rattle.http_wire.specs.Front.{is_patch};
-ghost use Rattle.http_wire.specs.FrontRead.{BeginsHead, EndsOnlyAtEnd, ReadsFront};
-ghost use Rattle.http_wire.specs.HeadFound.{BreaksHead, IsFound, IsHeldBy, SeesEnd, Skips};
-ghost use Rattle.http_wire.specs.Lent.{IsLent, IsAliveAfter, Names};
+ghost use Rattle.http_wire.specs.FrontRead.{BeginsHead, ReadsFront};
+ghost use Rattle.http_wire.specs.HeadFound.{BreaksHead, IsFound, IsHeldBy, Skips};
+ghost use Rattle.http_wire.specs.Lent.{IsLent, Names};
+ghost use Rattle.http_wire.specs.Next.{is_cut_by_fault, next_in, told_in};
+ghost use Rattle.http_wire.specs.NextRead.{TellsEnd};
 ghost use Rattle.http_wire.specs.Parts.{IsPartsWithin};
+ghost use Rattle.http_wire.specs.Writes.{Writes};
 
 use crate::fault::WireFault;
 use crate::framing::Framing;
@@ -51,7 +54,7 @@ pub enum Cut {
 
 /// The head that the input begins with.
 #[derive(Clone, Copy, Debug)]
-enum HeadFound {
+pub enum HeadFound {
     Whole(usize),
     TooLong,
     Cut,
@@ -74,10 +77,13 @@ pub fn read_front<R: Source, W: Sink>(
     ensures front { (got text : List ℕ) × Consumes (R.remaining reader.old) (R.remaining reader.new) got
         × Appends (W.contents writer.old) (W.contents writer.new) text
         × ReadsFront max_size (inbox.old.held ++ got) text inbox.new result }
-    ensures end { IfOk result (λ f. SeesEnd (R.remaining reader.old) inbox.old
-        → EndsOnlyAtEnd (R.remaining reader.new) inbox.new f) }
-    ensures lent { IfOk result (λ f. IsLent inbox.new f) }
-    ensures reader { IfOk result (λ f. IsAliveAfter (R.has_failed reader.new) f) }
+    ensures end { OnOk result (SeesEnd (R.remaining reader.old) inbox.old
+        → SeesEnd (R.remaining reader.new) inbox.new) }
+    ensures stops { StopsAtEnd reader.old reader.new inbox.old inbox.new }
+    ensures told { TellsEnd inbox.new.ended (told_in inbox.new result) }
+    ensures lent { IfOk result (λ f. IsLent inbox.new.lent f) }
+    ensures reader { IfOk result (λ f. R.has_failed reader.new
+        ≡ is_cut_by_fault (next_in inbox.new f)) }
     ensures writer { OnOk result (W.has_failed writer.new ≡ false) }
     ensures fault { IfErr result (λ e. Names (R.has_failed reader.new) (W.has_failed writer.new) e) }
 {
@@ -95,12 +101,14 @@ pub fn read_front<R: Source, W: Sink>(
 // Reads until a head is held, or there can be none.
 fn find_head<R: Source>(reader: &mut R, inbox: &mut Inbox) -> Result<HeadFound, WireFault>
     requires { R.has_failed reader.old ≡ false }
-    ensures within { IfOk result (λ h. IsHeldBy inbox.new h) }
+    ensures within { IfOk result (λ h. IsHeldBy inbox.new.held h) }
     ensures found { IfOk result (λ h. (got : List ℕ)
         × Consumes (R.remaining reader.old) (R.remaining reader.new) got
         × IsFound (inbox.old.held ++ got) inbox.new h) }
     ensures end { OnOk result (SeesEnd (R.remaining reader.old) inbox.old
         → SeesEnd (R.remaining reader.new) inbox.new) }
+    ensures stops { StopsAtEnd reader.old reader.new inbox.old inbox.new }
+    ensures unended { OnErr result (inbox.new.ended ≡ false) }
     ensures unfinished { OnErr result (BreaksHead (R.remaining reader.old) (R.remaining reader.new)
         inbox.old.held) }
     ensures alive { OnOk result (R.has_failed reader.new ≡ false) }
@@ -148,6 +156,8 @@ fn skip_blank<R: Source>(reader: &mut R, inbox: &mut Inbox) -> Result<usize, Wir
         × Skips (inbox.old.held ++ got) inbox.new n) }
     ensures end { OnOk result (SeesEnd (R.remaining reader.old) inbox.old
         → SeesEnd (R.remaining reader.new) inbox.new) }
+    ensures stops { StopsAtEnd reader.old reader.new inbox.old inbox.new }
+    ensures unended { OnErr result (inbox.new.ended ≡ false) }
     ensures unfinished { OnErr result (BreaksHead (R.remaining reader.old) (R.remaining reader.new)
         inbox.old.held) }
     ensures alive { OnOk result (R.has_failed reader.new ≡ false) }
@@ -175,7 +185,7 @@ fn read_body<R: Source, W: Sink>(
 ) -> Result<Front, WireFault>
     requires reader { R.has_failed reader.old ≡ false }
     requires writer { W.has_failed writer.old ≡ false }
-    requires head { parts.head_len ≤ 65535 }
+    requires head { parts.head_len ≤ 16384 }
     requires body { parts.body_len < 2 ^ 31 }
     requires held { parts.head_len ≤ length inbox.old.held }
     requires within { IsPartsWithin parts.head_len parts }
@@ -183,10 +193,13 @@ fn read_body<R: Source, W: Sink>(
         → (got text : List ℕ) × Consumes (R.remaining reader.old) (R.remaining reader.new) got
         × Appends (W.contents writer.old) (W.contents writer.new) text
         × ReadsFront max (bytes ++ got) text inbox.new result }
-    ensures end { IfOk result (λ f. SeesEnd (R.remaining reader.old) inbox.old
-        → EndsOnlyAtEnd (R.remaining reader.new) inbox.new f) }
-    ensures lent { IfOk result (λ f. IsLent inbox.new f) }
-    ensures reader { IfOk result (λ f. IsAliveAfter (R.has_failed reader.new) f) }
+    ensures end { OnOk result (SeesEnd (R.remaining reader.old) inbox.old
+        → SeesEnd (R.remaining reader.new) inbox.new) }
+    ensures stops { StopsAtEnd reader.old reader.new inbox.old inbox.new }
+    ensures told { TellsEnd inbox.new.ended (told_in inbox.new result) }
+    ensures lent { IfOk result (λ f. IsLent inbox.new.lent f) }
+    ensures reader { IfOk result (λ f. R.has_failed reader.new
+        ≡ is_cut_by_fault (next_in inbox.new f)) }
     ensures writer { OnOk result (W.has_failed writer.new ≡ false) }
     ensures fault { IfErr result (λ e. Names (R.has_failed reader.new) (W.has_failed writer.new) e) }
 {
@@ -200,14 +213,9 @@ fn read_body<R: Source, W: Sink>(
 // Writes `100 Continue` to a client that waits for it.
 fn put_continue<W: Sink>(writer: &mut W, is_waiting: bool) -> Result<(), WireFault>
     requires { W.has_failed writer.old ≡ false }
-    ensures ok { OnOk result (Appends (W.contents writer.old) (W.contents writer.new)
-        (continue_text is_waiting)) }
-    ensures part { OnErr result ((n : ℕ) × Appends (W.contents writer.old) (W.contents writer.new)
-        (take n (continue_text true))) }
+    ensures writes { Writes (W.contents writer.old) (W.contents writer.new)
+        (W.has_failed writer.new) (continue_text is_waiting) result }
     ensures waits { OnErr result (is_waiting ≡ true) }
-    ensures alive { OnOk result (W.has_failed writer.new ≡ false) }
-    ensures failed { OnErr result (W.has_failed writer.new ≡ true) }
-    ensures fault { IfErr result (λ e. e ≡ WireFault.Write) }
 {
     if is_waiting {
         put_all(writer, CONTINUE)
@@ -219,7 +227,7 @@ fn put_continue<W: Sink>(writer: &mut W, is_waiting: bool) -> Result<(), WireFau
 // Reads the body of a message for which there is room.
 fn read_rest<R: Source>(reader: &mut R, inbox: &mut Inbox, parts: Parts) -> Result<Front, WireFault>
     requires reader { R.has_failed reader.old ≡ false }
-    requires head { parts.head_len ≤ 65535 }
+    requires head { parts.head_len ≤ 16384 }
     requires body { parts.body_len < 2 ^ 31 }
     requires held { parts.head_len ≤ length inbox.old.held }
     requires room { parts.head_len + parts.body_len + READ_SIZE ≤ inbox.old.room }
@@ -227,10 +235,13 @@ fn read_rest<R: Source>(reader: &mut R, inbox: &mut Inbox, parts: Parts) -> Resu
     ensures front { (max : ℕ) (bytes : List ℕ) → BeginsHead max bytes parts inbox.old.held
         → (got : List ℕ) × Consumes (R.remaining reader.old) (R.remaining reader.new) got
         × ReadsFront max (bytes ++ got) (continue_text parts.is_waiting) inbox.new result }
-    ensures end { IfOk result (λ f. SeesEnd (R.remaining reader.old) inbox.old
-        → EndsOnlyAtEnd (R.remaining reader.new) inbox.new f) }
-    ensures lent { IfOk result (λ f. IsLent inbox.new f) }
-    ensures reader { IfOk result (λ f. IsAliveAfter (R.has_failed reader.new) f) }
+    ensures end { OnOk result (SeesEnd (R.remaining reader.old) inbox.old
+        → SeesEnd (R.remaining reader.new) inbox.new) }
+    ensures stops { StopsAtEnd reader.old reader.new inbox.old inbox.new }
+    ensures told { TellsEnd inbox.new.ended (told_in inbox.new result) }
+    ensures lent { IfOk result (λ f. IsLent inbox.new.lent f) }
+    ensures reader { IfOk result (λ f. R.has_failed reader.new
+        ≡ is_cut_by_fault (next_in inbox.new f)) }
     ensures failed { OnErr result (R.has_failed reader.new ≡ true) }
     ensures fault { IfErr result (λ e. e ≡ WireFault.Read) }
 {
@@ -270,7 +281,8 @@ fn is_patch(method: Method) -> bool
 
 // Lends all that is held.
 fn lend_all(inbox: &mut Inbox)
-    ensures { inbox.new.lent ≡ inbox.old.held }
+    ensures lent { inbox.new.lent ≡ inbox.old.held }
+    ensures ended { inbox.new.ended ≡ inbox.old.ended }
 {
     let len = inbox.held().len();
     inbox.lend(len);
@@ -287,6 +299,8 @@ fn fill_to<R: Source>(reader: &mut R, inbox: &mut Inbox, total: usize) -> Result
     ensures ended { IfOk result (λ all. all ≡ false → inbox.new.ended ≡ true) }
     ensures end { OnOk result (SeesEnd (R.remaining reader.old) inbox.old
         → SeesEnd (R.remaining reader.new) inbox.new) }
+    ensures stops { StopsAtEnd reader.old reader.new inbox.old inbox.new }
+    ensures unended { OnErr result (inbox.new.ended ≡ false) }
     ensures alive { OnOk result (R.has_failed reader.new ≡ false) }
     ensures failed { OnErr result (R.has_failed reader.new ≡ true) }
     ensures fault { IfErr result (λ e. e ≡ WireFault.Read) }

@@ -1,13 +1,13 @@
 ghost use Rattle.std.specs.Prelude.{◌≡◌};
 ghost use Rattle.http_wire.specs.Refusal.{number_of_refusal, word_of, status_of};
 
-use thiserror::Error;
+use std::error::Error;
+use std::fmt;
 use upload_book::Rule;
 
 /// Why the wire answers a request itself, without a step. Each closes the connection. It displays its
 /// word.
-#[derive(Clone, Copy, Debug, PartialEq, Eq, Error)]
-#[error("{}", self.rule().word)]
+#[derive(Clone, Copy, Debug, PartialEq, Eq)]
 pub enum WireRefusal {
     /// The fields or the body found no memory.
     Memory,
@@ -49,3 +49,16 @@ impl WireRefusal {
         }
     }
 }
+
+impl fmt::Display for WireRefusal {
+    ghost use Rattle.std.specs.Prelude.{Some};
+
+    ghost output = { λ refusal. Some (word_of refusal) };
+
+    fn fmt<W: fmt::Write>(&self, f: &mut fmt::Formatter<W>) -> fmt::Result {
+        let word = self.rule().word;
+        write!(f, "{word}")
+    }
+}
+
+impl Error for WireRefusal {}

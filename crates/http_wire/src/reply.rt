@@ -6,7 +6,7 @@ ghost use Rattle.http_wire.specs.Refusal as wire;
 
 use crate::framing::Framing;
 use crate::own_fields::put_own_fields;
-use crate::page::Page;
+use crate::page::{CONTENT_MAX, ENDING_MAX, FIELDS_MAX, HEAD_MAX, OPENING_MAX, Page};
 use crate::refusal::WireRefusal;
 use itoa::Buffer;
 use tus_steps::Reply;
@@ -67,7 +67,7 @@ pub fn put_refusal(page: &mut Page, refusal: WireRefusal, now: Moment, framing: 
 fn put_opening(page: &mut Page, status: u16, now: Moment)
     requires { length page.old ≤ 0 }
     ensures text { page.new ≡ page.old ++ opening status now }
-    ensures len { length page.new ≤ 200 }
+    ensures len { length page.new ≤ OPENING_MAX }
 {
     put_status_line(page, status);
     page.put_line(b"Date", &write_expires(now.secs()));
@@ -148,7 +148,7 @@ fn body_len(reply: &Reply) -> u64
 
 // The word of a reply that refuses.
 fn put_word_of(page: &mut Page, reply: &Reply)
-    requires { length page.old ≤ 6000 }
+    requires { length page.old ≤ HEAD_MAX }
     ensures { page.new ≡ page.old ++ word_in reply.now }
 {
     if let Reply::Refused { refusal, .. } = reply {
@@ -157,7 +157,7 @@ fn put_word_of(page: &mut Page, reply: &Reply)
 }
 
 fn put_word(page: &mut Page, word: &[u8])
-    requires room { length page.old ≤ 6000 }
+    requires room { length page.old ≤ HEAD_MAX }
     requires word { length word.now ≤ 20 }
     ensures { page.new ≡ page.old ++ word_body word.now }
 {
@@ -168,10 +168,10 @@ fn put_word(page: &mut Page, word: &[u8])
 // What follows the fields of the steps, to the empty line.
 #[tactic(auto, unfolding(crate::specs::ReplyText::ending))]
 fn put_ending(page: &mut Page, bare: bool, close: bool, media: &[u8], len: u64)
-    requires room { length page.old ≤ 5200 }
+    requires room { length page.old ≤ FIELDS_MAX }
     requires media { length media.now ≤ 24 }
     ensures text { page.new ≡ page.old ++ ending bare close media.now len }
-    ensures len { length page.new ≤ length page.old + 200 }
+    ensures len { length page.new ≤ length page.old + ENDING_MAX }
 {
     if !bare {
         put_content_fields(page, media, len);
@@ -182,10 +182,10 @@ fn put_ending(page: &mut Page, bare: bool, close: bool, media: &[u8], len: u64)
 
 #[tactic(auto, unfolding(crate::specs::ReplyText::content_fields))]
 fn put_content_fields(page: &mut Page, media: &[u8], len: u64)
-    requires room { length page.old ≤ 5200 }
+    requires room { length page.old ≤ FIELDS_MAX }
     requires media { length media.now ≤ 24 }
     ensures text { page.new ≡ page.old ++ content_fields media.now len }
-    ensures len { length page.new ≤ length page.old + 100 }
+    ensures len { length page.new ≤ length page.old + CONTENT_MAX }
 {
     page.put_text_line(b"Content-Type", media);
     page.put_number_line(b"Content-Length", Some(len));

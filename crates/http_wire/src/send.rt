@@ -1,5 +1,5 @@
-ghost use Rattle.std.specs.Prelude.{◌≡◌, ◌≤◌, ◌++◌, ℕ, true, false, length, take, OnOk, OnErr, IfErr};
-ghost use Rattle.std.specs.Io.KnownBytes.{Appends};
+ghost use Rattle.std.specs.Prelude.{◌≡◌, ◌++◌, false};
+ghost use Rattle.http_wire.specs.Writes.{Writes};
 
 use crate::fault::WireFault;
 use crate::source::Sink;
@@ -7,12 +7,8 @@ use crate::source::Sink;
 /// Writes all of `bytes`. The error is `WireFault::Write`, and then only a front of them was written.
 pub fn put_all<W: Sink>(writer: &mut W, bytes: &[u8]) -> Result<(), WireFault>
     requires { W.has_failed writer.old ≡ false }
-    ensures ok { OnOk result (Appends (W.contents writer.old) (W.contents writer.new) bytes.now) }
-    ensures part { OnErr result ((n : ℕ) × (n ≤ length bytes.now)
-        × Appends (W.contents writer.old) (W.contents writer.new) (take n bytes.now)) }
-    ensures alive { OnOk result (W.has_failed writer.new ≡ false) }
-    ensures failed { OnErr result (W.has_failed writer.new ≡ true) }
-    ensures fault { IfErr result (λ e. e ≡ WireFault.Write) }
+    ensures { Writes (W.contents writer.old) (W.contents writer.new) (W.has_failed writer.new)
+        bytes.now result }
 {
     let mut done = 0;
     while done < bytes.len() {
@@ -30,13 +26,8 @@ pub fn put_all<W: Sink>(writer: &mut W, bytes: &[u8]) -> Result<(), WireFault>
 /// of the two was written.
 pub fn put_both<W: Sink>(writer: &mut W, first: &[u8], rest: &[u8]) -> Result<(), WireFault>
     requires { W.has_failed writer.old ≡ false }
-    ensures ok { OnOk result (Appends (W.contents writer.old) (W.contents writer.new)
-        (first.now ++ rest.now)) }
-    ensures part { OnErr result ((n : ℕ) × (n ≤ length (first.now ++ rest.now))
-        × Appends (W.contents writer.old) (W.contents writer.new) (take n (first.now ++ rest.now))) }
-    ensures alive { OnOk result (W.has_failed writer.new ≡ false) }
-    ensures failed { OnErr result (W.has_failed writer.new ≡ true) }
-    ensures fault { IfErr result (λ e. e ≡ WireFault.Write) }
+    ensures { Writes (W.contents writer.old) (W.contents writer.new) (W.has_failed writer.new)
+        (first.now ++ rest.now) result }
 {
     put_all(writer, first)?;
     put_all(writer, rest)

@@ -1,4 +1,4 @@
-ghost use Rattle.std.specs.Prelude.{◌≡◌, ◌||◌, ℕ, List, Option, Bool, false, is_err};
+ghost use Rattle.std.specs.Prelude.{◌≡◌, ℕ, List, Option, Bool, false, is_err};
 ghost use Rattle.std.specs.Io.{ReadsAtMost, WritesAtMost};
 ghost use Rattle.std.specs.Io.KnownBytes.{ReadConsumes, WriteAppends};
 ghost use Rattle.http_wire.specs.Outcome.{took_nothing};
@@ -15,11 +15,13 @@ pub trait Source {
     ghost has_failed: { Self → Bool };
 
     /// Reads bytes into the front of `buf` and gives their number, 0 at the end of the input (or of
-    /// no room). An error takes nothing, and `failed` is true from then on.
+    /// no room). An error takes nothing, and `failed` is true from then on. After an error nothing is
+    /// read.
     fn read(&mut self, buf: &mut [u8]) -> io::Result<usize>
+        requires { has_failed self.old ≡ false }
         ensures bound { ReadsAtMost result buf.new }
         ensures bytes { ReadConsumes (remaining self.old) (remaining self.new) result buf.new }
-        ensures failed { has_failed self.new ≡ (has_failed self.old || is_err result) };
+        ensures failed { has_failed self.new ≡ is_err result };
 
     /// Whether a call failed.
     fn failed(&self) -> bool
@@ -35,12 +37,12 @@ pub trait Sink {
     ghost has_failed: { Self → Bool };
 
     /// Writes bytes from the front of `bytes` and gives their number. An error writes nothing; after
-    /// an error, or where none of some bytes were taken, `failed` is true.
+    /// an error, or where none of some bytes were taken, `failed` is true, and nothing more is written.
     fn write(&mut self, bytes: &[u8]) -> io::Result<usize>
+        requires { has_failed self.old ≡ false }
         ensures bound { WritesAtMost result bytes.now }
         ensures bytes { WriteAppends (contents self.old) (contents self.new) result bytes.now }
-        ensures failed { has_failed self.new
-            ≡ (has_failed self.old || took_nothing result bytes.now) };
+        ensures failed { has_failed self.new ≡ took_nothing result bytes.now };
 
     /// Whether a call failed.
     fn failed(&self) -> bool

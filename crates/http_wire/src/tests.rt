@@ -4,6 +4,7 @@ mod conversations;
 mod creations;
 mod cuts;
 mod faults;
+mod limits;
 mod memory;
 mod methods;
 mod wires;

@@ -1,16 +1,18 @@
-ghost use Rattle.std.specs.Prelude.{◌≡◌, ◌<◌, ◌≤◌, ◌^◌, ◌++◌, ◌&&◌, ℕ, List, [], Bool, true, false, length, take, Ok, Err, IfOk, IfErr, OnOk, OnErr, is_ok};
+ghost use Rattle.std.specs.Prelude.{◌≡◌, ◌<◌, ◌^◌, [], true, false, IfOk, IfErr};
 ghost use Rattle.std.specs.Borrow.{sem};
 ghost use Rattle.std.specs.Io.BufRead.{Rests};
-ghost use Rattle.std.specs.Io.KnownBytes.{Appends};
 ghost use Rattle.http_wire.specs.Ahead.{Ahead};
 ghost use Rattle.http_wire.specs.Message.{next_of, told_of};
 ghost use Rattle.http_wire.specs.Lent.{IsLent};
 ghost use Rattle.http_wire.specs.Next.{next_in, told_in};
-ghost use Rattle.http_wire.specs.NextRead.{ReadsOn};
+ghost use Rattle.http_wire.specs.NextRead.{ReadsOn, WritesOn};
 ghost use Rattle.http_wire.specs.ReplyText.{reply_text, refusal_text};
+ghost use Rattle.http_wire.specs.TurnOnWire.{TurnOn};
 ghost use Rattle.http_wire.specs.WireState.{state_after, wire_of, IsSound};
 
+use crate::answer::Answer;
 use crate::buffers::Buffers;
+use crate::conversation::{Ended, take_turn};
 use crate::fault::WireFault;
 use crate::framing::Framing;
 use crate::inbox::Inbox;
@@ -41,7 +43,6 @@ enum State {
 /// and whether it still reads and still writes.
 #[derive(Drop)]
 pub struct Wire<R: Source + Drop, W: Sink + Drop> {
-    alloc: Global,
     reader: R,
     writer: W,
     buffers: Buffers,
@@ -56,6 +57,7 @@ impl<R: Source + Drop, W: Sink + Drop> Model for Wire<R, W> {
 
     ghost coded = { wire_code R.code W.code };
 
+    ghost use Rattle.http_wire.specs.TurnOnWire.{TurnOn};
     ghost use Rattle.http_wire.specs.WireState.{wire_of, IsSound};
 
     ghost view = { λ w. wire_of w.reader w.writer w.buffers.inbox w.max_size w.state };
@@ -77,6 +79,7 @@ impl<R: Source + Drop, W: Sink + Drop> Wire<R, W> {
           reader = reader;
           writer = writer;
           held = [];
+          ended = false;
           max_size = max_size;
           reads = true;
           writes = true;
@@ -85,7 +88,6 @@ impl<R: Source + Drop, W: Sink + Drop> Wire<R, W> {
     {
         match Buffers::new(alloc) {
             Ok(buffers) => Ok(Wire {
-                alloc,
                 reader,
                 writer,
                 buffers,
@@ -94,6 +96,14 @@ impl<R: Source + Drop, W: Sink + Drop> Wire<R, W> {
             }),
             Err(_) => Err(WireFault::Memory),
         }
+    }
+
+    /// The reader and the writer. What was read ahead is lost.
+    pub fn into_streams(self) -> (R, W)
+        ensures reader { result.0 ≡ self.reader }
+        ensures writer { result.1 ≡ self.writer }
+    {
+        (self.reader, self.writer)
     }
 
     /// Reads the next message, and writes `100 Continue` where it is due. The error is
@@ -106,7 +116,6 @@ impl<R: Source + Drop, W: Sink + Drop> Wire<R, W> {
             self.old new (told_of result))) }
     {
         let front = next_front(
-            self.alloc,
             &mut self.reader,
             &mut self.writer,
             &mut self.buffers,
@@ -114,6 +123,29 @@ impl<R: Source + Drop, W: Sink + Drop> Wire<R, W> {
             &mut self.state,
         )?;
         Ok(lend_front(front, &self.buffers.inbox))
+    }
+
+    /// Takes a turn: reads the next message, lets `answerer` answer it and writes the reply. A message
+    /// has the moment `now`. Where the conversation ends with it, it says how; then, and on a wire that
+    /// reads no more, every later call gives `Ended::Input`. The error is `WireFault::Read` or
+    /// `WireFault::Write`, and then every later call gives `WireFault::Failed`.
+    pub fn take_turn<A: Answer>(
+        &mut self,
+        answerer: &mut A,
+        now: Moment,
+    ) -> Result<Option<Ended>, WireFault>
+        ensures { TurnOn R.remaining R.has_failed W.contents W.has_failed A.steps now
+            self.old self.new answerer.old answerer.new result }
+    {
+        turn_on(
+            &mut self.reader,
+            &mut self.writer,
+            &mut self.buffers,
+            self.max_size,
+            &mut self.state,
+            answerer,
+            now,
+        )
     }
 
     /// Writes the reply to a message that came at this moment. The error is `WireFault::Write` where a
@@ -125,20 +157,8 @@ impl<R: Source + Drop, W: Sink + Drop> Wire<R, W> {
         now: Moment,
         framing: Framing,
     ) -> Result<(), WireFault>
-        ensures ok { OnOk result (Appends (W.contents self.old.writer) (W.contents self.new.writer)
-            (reply_text reply.now now framing)) }
-        ensures part { self.old.writes ≡ true → OnErr result ((n : ℕ)
-            × Appends (W.contents self.old.writer) (W.contents self.new.writer)
-            (take n (reply_text reply.now now framing))) }
-        ensures fault { self.old.writes ≡ true → IfErr result (λ e. (e ≡ WireFault.Write)
-            × (W.has_failed self.old.writer ≡ false) × (W.has_failed self.new.writer ≡ true)) }
-        ensures stays { self.old.writes ≡ true → self.new ≡ record self.old {
-          writer = self.new.writer;
-          reads = self.old.reads && is_ok result;
-          writes = is_ok result;
-        } }
-        ensures failed { self.old.writes ≡ false
-            → (result ≡ Err WireFault.Failed) × (self.new ≡ self.old) }
+        ensures { WritesOn W.contents W.has_failed (reply_text reply.now now framing)
+            self.old self.new result }
     {
         if self.state == State::Failed {
             return Err(WireFault::Failed);
@@ -163,20 +183,8 @@ impl<R: Source + Drop, W: Sink + Drop> Wire<R, W> {
         now: Moment,
         framing: Framing,
     ) -> Result<(), WireFault>
-        ensures ok { OnOk result (Appends (W.contents self.old.writer) (W.contents self.new.writer)
-            (refusal_text refusal now framing)) }
-        ensures part { self.old.writes ≡ true → OnErr result ((n : ℕ)
-            × Appends (W.contents self.old.writer) (W.contents self.new.writer)
-            (take n (refusal_text refusal now framing))) }
-        ensures fault { self.old.writes ≡ true → IfErr result (λ e. (e ≡ WireFault.Write)
-            × (W.has_failed self.old.writer ≡ false) × (W.has_failed self.new.writer ≡ true)) }
-        ensures stays { self.old.writes ≡ true → self.new ≡ record self.old {
-          writer = self.new.writer;
-          reads = self.old.reads && is_ok result;
-          writes = is_ok result;
-        } }
-        ensures failed { self.old.writes ≡ false
-            → (result ≡ Err WireFault.Failed) × (self.new ≡ self.old) }
+        ensures { WritesOn W.contents W.has_failed (refusal_text refusal now framing)
+            self.old self.new result }
     {
         if self.state == State::Failed {
             return Err(WireFault::Failed);
@@ -195,9 +203,42 @@ impl<R: Source + Drop, W: Sink + Drop> Wire<R, W> {
     }
 }
 
+// Takes a turn on a wire of these parts, where it still reads.
+fn turn_on<R: Source, W: Sink, A: Answer>(
+    reader: &mut R,
+    writer: &mut W,
+    buffers: &mut Buffers,
+    max_size: u64,
+    state: &mut State,
+    answerer: &mut A,
+    now: Moment,
+) -> Result<Option<Ended>, WireFault>
+    requires { IsSound R.remaining R.has_failed W.has_failed reader.old writer.old
+        buffers.old.inbox max_size state.old }
+    ensures sound { IsSound R.remaining R.has_failed W.has_failed reader.new writer.new
+        buffers.new.inbox max_size state.new }
+    ensures turn { TurnOn R.remaining R.has_failed W.contents W.has_failed A.steps now
+        (wire_of reader.old writer.old buffers.old.inbox max_size state.old)
+        (wire_of reader.new writer.new buffers.new.inbox max_size state.new)
+        answerer.old answerer.new result }
+{
+    match *state {
+        State::Open => {
+            let turn = take_turn(reader, writer, buffers, max_size, answerer, now);
+            *state = match &turn {
+                Ok(None) => State::Open,
+                Ok(Some(_)) => State::Ended,
+                Err(_) => State::Failed,
+            };
+            turn
+        }
+        State::Ended => Ok(Some(Ended::Input)),
+        State::Failed => Err(WireFault::Failed),
+    }
+}
+
 // Reads the next message of a wire of these parts, where it still reads.
 fn next_front<R: Source, W: Sink>(
-    alloc: Global,
     reader: &mut R,
     writer: &mut W,
     buffers: &mut Buffers,
@@ -212,12 +253,12 @@ fn next_front<R: Source, W: Sink>(
         (wire_of reader.old writer.old buffers.old.inbox max_size state.old)
         (wire_of reader.new writer.new buffers.new.inbox max_size state.new)
         (told_in buffers.new.inbox result) }
-    ensures lent { IfOk result (IsLent buffers.new.inbox) }
+    ensures lent { IfOk result (IsLent buffers.new.inbox.lent) }
 {
     match *state {
         State::Open => {
             let front = read_front(
-                alloc,
+                buffers.alloc,
                 reader,
                 writer,
                 &mut buffers.inbox,
@@ -247,7 +288,7 @@ fn state_after(front: &Result<Front, WireFault>) -> State
 
 // What was read, with the bytes of a message as the inbox lends them.
 fn lend_front(front: Front, inbox: &Inbox) -> Incoming<'_>
-    requires { IsLent inbox.now front }
+    requires { IsLent inbox.now.lent front }
     ensures { next_of result ≡ next_in inbox.now front }
 {
     match front {

@@ -1,6 +1,6 @@
-ghost use Rattle.std.specs.Prelude.{◌≡◌, ◌≤◌, ℕ, true, false, length, take, OnOk, OnErr, IfErr};
-ghost use Rattle.std.specs.Io.KnownBytes.{Appends};
+ghost use Rattle.std.specs.Prelude.{◌≡◌, false};
 ghost use Rattle.http_wire.specs.ReplyText.{reply_text, refusal_text};
+ghost use Rattle.http_wire.specs.Writes.{Writes};
 
 use crate::fault::WireFault;
 use crate::framing::Framing;
@@ -22,14 +22,8 @@ pub fn write_reply<W: Sink>(
     framing: Framing,
 ) -> Result<(), WireFault>
     requires { W.has_failed writer.old ≡ false }
-    ensures ok { OnOk result (Appends (W.contents writer.old) (W.contents writer.new)
-        (reply_text reply.now now framing)) }
-    ensures part { OnErr result ((n : ℕ) × (n ≤ length (reply_text reply.now now framing))
-        × Appends (W.contents writer.old) (W.contents writer.new)
-        (take n (reply_text reply.now now framing))) }
-    ensures alive { OnOk result (W.has_failed writer.new ≡ false) }
-    ensures failed { OnErr result (W.has_failed writer.new ≡ true) }
-    ensures fault { IfErr result (λ e. e ≡ WireFault.Write) }
+    ensures { Writes (W.contents writer.old) (W.contents writer.new) (W.has_failed writer.new)
+        (reply_text reply.now now framing) result }
 {
     put_reply(page, reply, now, framing);
     put_both(writer, page.as_slice(), content_of(reply, framing))
@@ -44,14 +38,8 @@ pub fn write_refusal<W: Sink>(
     framing: Framing,
 ) -> Result<(), WireFault>
     requires { W.has_failed writer.old ≡ false }
-    ensures ok { OnOk result (Appends (W.contents writer.old) (W.contents writer.new)
-        (refusal_text refusal now framing)) }
-    ensures part { OnErr result ((n : ℕ) × (n ≤ length (refusal_text refusal now framing))
-        × Appends (W.contents writer.old) (W.contents writer.new)
-        (take n (refusal_text refusal now framing))) }
-    ensures alive { OnOk result (W.has_failed writer.new ≡ false) }
-    ensures failed { OnErr result (W.has_failed writer.new ≡ true) }
-    ensures fault { IfErr result (λ e. e ≡ WireFault.Write) }
+    ensures { Writes (W.contents writer.old) (W.contents writer.new) (W.has_failed writer.new)
+        (refusal_text refusal now framing) result }
 {
     put_refusal(page, refusal, now, framing);
     put_all(writer, page.as_slice())

@@ -82,6 +82,12 @@ pub fn new_book(alloc: Global) -> Result<Book, Fail> {
     Ok(Book::new(alloc, settings)?)
 }
 
+/// The conversation of some bytes with a book, all of whose messages come at moment 1000.
+pub fn talked(alloc: Global, book: &mut Book, input: &[u8]) -> Spoken {
+    let input = Input::new(input, usize::MAX);
+    talk(alloc, book, input, Output::new(alloc), &[at(1000); 8])
+}
+
 /// How many bytes the first upload of acme has, where there is one.
 pub fn offset_of(book: &Book) -> Option<u64> {
     let name = Name { tenant: 0, id: 1 };

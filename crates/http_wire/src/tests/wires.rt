@@ -1,9 +1,14 @@
-use super::conversations::{CHUNKED, POST, at, new_book};
+use super::conversations::{
+    CHUNKED, CREATED, HEAD, LOOKED, PATCH, PATCHED, POST, at, joined, new_book,
+};
 use super::memory::{Input, Output};
+use crate::conversation::Ended;
 use crate::fault::WireFault;
 use crate::framing::Framing;
 use crate::incoming::Incoming;
+use crate::known::conversation_of;
 use crate::refusal::WireRefusal;
+use crate::serving::serve;
 use crate::source::Tapped;
 use crate::wire::Wire;
 use std::test::Fail;
@@ -25,6 +30,40 @@ fn a_message_and_its_reply(rt: HostRuntime) -> Result<(), Fail> {
     wire.write_reply(&reply, at(1000), framing)?;
     assert!(rt; matches!(wire.read_request()?, Incoming::End));
     assert!(rt; matches!(wire.read_request()?, Incoming::End));
+    let (_, writer) = wire.into_streams();
+    assert_eq!(rt; writer.inner.written.as_slice(), CREATED);
+    Ok(())
+}
+
+#[test]
+fn turns_on_a_wire(rt: HostRuntime) -> Result<(), Fail> {
+    let alloc = rt.alloc();
+    let all = joined(alloc, &[POST, PATCH, HEAD])?;
+    let written = joined(alloc, &[CREATED, PATCHED, LOOKED])?;
+    let mut book = new_book(alloc)?;
+    let reader = Tapped::new(Input::new(&all, 7));
+    let mut wire = Wire::new(alloc, reader, Tapped::new(Output::new(alloc)), 64)?;
+    assert_eq!(rt;
+        serve(&mut wire, &mut book, &[at(1000); 2]),
+        Ok(Ended::Moments)
+    );
+    assert_eq!(rt; wire.take_turn(&mut book, at(1000)), Ok(None));
+    assert_eq!(rt; wire.take_turn(&mut book, at(1000)), Ok(Some(Ended::Input)));
+    assert_eq!(rt; wire.take_turn(&mut book, at(1000)), Ok(Some(Ended::Input)));
+    let (_, writer) = wire.into_streams();
+    assert_eq!(rt; writer.inner.written.as_slice(), written.as_slice());
+    Ok(())
+}
+
+#[test]
+fn known_bytes(rt: HostRuntime) -> Result<(), Fail> {
+    let alloc = rt.alloc();
+    let all = joined(alloc, &[POST, PATCH, HEAD])?;
+    let written = joined(alloc, &[CREATED, PATCHED, LOOKED])?;
+    let mut book = new_book(alloc)?;
+    let (text, ended) = conversation_of(alloc, &all, &mut book, &[at(1000); 8])?;
+    assert_eq!(rt; text.as_slice(), written.as_slice());
+    assert_eq!(rt; ended, Ended::Input);
     Ok(())
 }
 
@@ -58,5 +97,25 @@ fn a_fault_stays(rt: HostRuntime) -> Result<(), Fail> {
     assert!(rt; matches!(wire.read_request(), Err(WireFault::Failed)));
     let written = wire.write_refusal(WireRefusal::Head, at(1000), framing);
     assert!(rt; written == Err(WireFault::Failed));
+    Ok(())
+}
+
+#[test]
+fn nothing_is_written_after_a_failed_write(rt: HostRuntime) -> Result<(), Fail> {
+    let alloc = rt.alloc();
+    let mut book = new_book(alloc)?;
+    let all = joined(alloc, &[POST, PATCH])?;
+    let output = Output {
+        written: Vec::new(alloc),
+        piece: 10,
+        writes: 1,
+    };
+    let reader = Tapped::new(Input::new(&all, usize::MAX));
+    let mut wire = Wire::new(alloc, reader, Tapped::new(output), 64)?;
+    assert_eq!(rt; wire.take_turn(&mut book, at(1000)), Err(WireFault::Write));
+    assert_eq!(rt; wire.take_turn(&mut book, at(1000)), Err(WireFault::Failed));
+    assert!(rt; matches!(wire.read_request(), Err(WireFault::Failed)));
+    let (_, writer) = wire.into_streams();
+    assert_eq!(rt; writer.inner.written.as_slice(), b"HTTP/1.1 2".as_slice());
     Ok(())
 }

@@ -1,6 +1,6 @@
 use Rattle.std.proofs.Common.{◌≡◌, ℕ, List, take, false}
 use Rattle.std.specs.Io.KnownBytes.{Appends, Consumes}
-use Rattle.http_wire.specs.HeadFound.{SeesEnd}
+use Rattle.http_wire.specs.Ahead.{SeesEnd}
 use Rattle.http_wire.proofs.Talk.{Reached}
 use Rattle.http_wire.proofs.conversation.converse.Given as goal
 
@@ -9,6 +9,6 @@ abbrev pub invariant-loop-moment : goal.invariant-loop-moment
 invariant-loop-moment g l = record {
   reader : g.R.Source.has_failed l.reader ≡ false;
   writer : g.W.Sink.has_failed l.writer ≡ false;
-  reached : (got text : List ℕ) × Consumes (g.R.Source.remaining l.fn.reader) (g.R.Source.remaining l.reader) got × Appends (g.W.Sink.contents l.fn.writer) (g.W.Sink.contents l.writer) text × Reached (take l.moment-index l.moments) got l.fn.book text l.book l.buffers.inbox.held;
+  reached : (got text : List ℕ) × Consumes (g.R.Source.remaining l.fn.reader) (g.R.Source.remaining l.reader) got × Appends (g.W.Sink.contents l.fn.writer) (g.W.Sink.contents l.writer) text × Reached g.A.Answer.steps l.max_size (take l.moment-index l.moments) got l.fn.answerer text l.answerer l.buffers.inbox.held;
   end : SeesEnd (g.R.Source.remaining l.reader) l.buffers.inbox;
 }

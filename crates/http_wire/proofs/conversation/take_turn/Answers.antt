@@ -1,6 +1,5 @@
 use Rattle.std.proofs.Common.{◌++◌, ap, take, ◌∙◌, subst}
 use Rattle.std.proofs.lemmas.Result.{err_from_is_err_and}
-use Rattle.tus_steps.specs.Step.{IsStep}
 use Rattle.http_wire.specs.Parts.{request_at}
 use Rattle.http_wire.specs.ReplyText.{reply_text, refusal_text}
 use Rattle.http_wire.specs.declared.conversation.Ended.TheVariants as ended
@@ -12,44 +11,45 @@ use Rattle.http_wire.proofs.conversation.take_turn.Goals as goal
 pub returns-in_err-front-clause-turn : goal.returns-in_err-front-clause-turn
 returns-in_err-front-clause-turn g c =
     let p = err_from_is_err_and c.from_residual.result c.from_residual.ensures.1 in
-    let f = rw c.max_size.ensures.value at c.in_err-front.ensures.front in
-    let b = c.args.book.now in
+    let f = c.in_err-front.ensures.front in
+    let b = c.args.answerer.now in
     let bytes = c.args.buffers.now.inbox.held ++ f.0 in (
       f.0,
       f.1,
       f.2,
       f.3,
-      TakesTurn-broken c.args.now bytes f.1 c.read_front.new.inbox.held b b c.from_residual.result p.0 c.in_err-front.field-0.0 p.1 p.2
-          (BreaksTurn-front c.args.now bytes f.1 b c.in_err-front.field-0.0 f.4),
+      TakesTurn-broken g.A.Answer.steps c.args.max_size c.args.now bytes f.1 c.read_front.new.inbox.held b b c.from_residual.result p.0 c.in_err-front.field-0.0 p.1 p.2
+          (BreaksTurn-front g.A.Answer.steps c.args.max_size c.args.now bytes f.1 b c.in_err-front.field-0.0 f.4),
     )
 
 pub returns-in_err-reply_to-in-Message-clause-turn : goal.returns-in_err-reply_to-in-Message-clause-turn
 returns-in_err-reply_to-in-Message-clause-turn g c =
     let p = err_from_is_err_and c.from_residual-in_err-reply_to-in-Message.result c.from_residual-in_err-reply_to-in-Message.ensures.1 in
-    let f = rw (c.max_size.ensures.value, c.in-Message.is) at c.in_ok-front.ensures.front in
-    let b = c.args.book.now in
+    let f = rw c.in-Message.is at c.in_ok-front.ensures.front in
+    let b = c.args.answerer.now in
     let now = c.args.now in
     let parts = c.in-Message.parts in
     let a = c.read_front.new.inbox in
     let bytes = c.args.buffers.now.inbox.held ++ f.0 in
-    let told = c.in_err-reply_to-in-Message.ensures.part in
+    let told = c.in_err-reply_to-in-Message.ensures in
+    let part = told.2.part in
     let reply = told.0 in
     let asked = c.request_in-request.ensures ∙ ap (request_at parts) c.lent.ensures in
-    let step = subst (λ x. IsStep b x now reply c.reply_to.new.book) asked told.2 in
-    let last = take told.1 (reply_text reply now parts.framing) in (
+    let step = subst (λ x. g.A.Answer.steps b x now reply c.reply_to.new.answerer) asked told.1 in
+    let last = take part.0 (reply_text reply now parts.framing) in (
       f.0,
       f.1 ++ last,
       f.2,
-      Appends-more _ _ _ f.1 last f.3 told.3,
-      TakesTurn-broken now bytes (f.1 ++ last) a.held b c.reply_to.new.book c.from_residual-in_err-reply_to-in-Message.result p.0 Write p.1
-          (p.2 ∙ c.in_err-reply_to-in-Message.ensures.fault) (BreaksTurn-reply now told.1 bytes f.1 a parts b c.reply_to.new.book reply f.4 step),
+      Appends-more _ _ _ f.1 last f.3 part.2,
+      TakesTurn-broken g.A.Answer.steps c.args.max_size now bytes (f.1 ++ last) a.held b c.reply_to.new.answerer c.from_residual-in_err-reply_to-in-Message.result p.0 Write p.1
+          (p.2 ∙ told.2.fault) (BreaksTurn-reply g.A.Answer.steps c.args.max_size now part.0 bytes f.1 a parts b c.reply_to.new.answerer reply f.4 step),
     )
 
 pub returns-in_err-write_refusal-in-Refused-clause-turn : goal.returns-in_err-write_refusal-in-Refused-clause-turn
 returns-in_err-write_refusal-in-Refused-clause-turn g c =
     let p = err_from_is_err_and c.from_residual-in_err-write_refusal-in-Refused.result c.from_residual-in_err-write_refusal-in-Refused.ensures.1 in
-    let f = rw (c.max_size.ensures.value, c.in-Refused.is) at c.in_ok-front.ensures.front in
-    let b = c.args.book.now in
+    let f = rw c.in-Refused.is at c.in_ok-front.ensures.front in
+    let b = c.args.answerer.now in
     let now = c.args.now in
     let a = c.read_front.new.inbox in
     let bytes = c.args.buffers.now.inbox.held ++ f.0 in
@@ -59,54 +59,54 @@ returns-in_err-write_refusal-in-Refused-clause-turn g c =
       f.1 ++ last,
       f.2,
       Appends-more _ _ _ f.1 last f.3 part.2,
-      TakesTurn-broken now bytes (f.1 ++ last) a.held b b c.from_residual-in_err-write_refusal-in-Refused.result p.0 Write p.1
-          (p.2 ∙ c.in_err-write_refusal-in-Refused.ensures.fault) (BreaksTurn-refusal now part.0 bytes f.1 a c.in-Refused.refusal c.in-Refused.framing b f.4),
+      TakesTurn-broken g.A.Answer.steps c.args.max_size now bytes (f.1 ++ last) a.held b b c.from_residual-in_err-write_refusal-in-Refused.result p.0 Write p.1
+          (p.2 ∙ c.in_err-write_refusal-in-Refused.ensures.fault) (BreaksTurn-refusal g.A.Answer.steps c.args.max_size now part.0 bytes f.1 a c.in-Refused.refusal c.in-Refused.framing b f.4),
     )
 
 pub returns-then-parts-clause-turn : goal.returns-then-parts-clause-turn
 returns-then-parts-clause-turn g c =
-    let f = rw (c.max_size.ensures.value, c.in-Message.is) at c.in_ok-front.ensures.front in
-    let b = c.args.book.now in
+    let f = rw c.in-Message.is at c.in_ok-front.ensures.front in
+    let b = c.args.answerer.now in
     let now = c.args.now in
     let parts = c.in-Message.parts in
     let a = c.read_front.new.inbox in
     let bytes = c.args.buffers.now.inbox.held ++ f.0 in
-    let told = c.in_ok-reply_to-in-Message.ensures.ok in
+    let told = c.in_ok-reply_to-in-Message.ensures in
     let reply = told.0 in
     let asked = c.request_in-request.ensures ∙ ap (request_at parts) c.lent.ensures in
-    let step = subst (λ x. IsStep b x now reply c.reply_to.new.book) asked told.1 in
+    let step = subst (λ x. g.A.Answer.steps b x now reply c.reply_to.new.answerer) asked told.1 in
     let last = reply_text reply now parts.framing in (
       f.0,
       f.1 ++ last,
       f.2,
-      Appends-more _ _ _ f.1 last f.3 told.2,
-      λ rest _. Served-closed now bytes f.1 a parts b c.reply_to.new.book reply f.4 step c.if-parts.true rest,
+      Appends-more _ _ _ f.1 last f.3 told.2.all,
+      λ rest _. Served-closed g.A.Answer.steps c.args.max_size now bytes f.1 a parts b c.reply_to.new.answerer reply f.4 step c.if-parts.true rest,
     )
 
 pub returns-else-parts-clause-turn : goal.returns-else-parts-clause-turn
 returns-else-parts-clause-turn g c =
-    let f = rw (c.max_size.ensures.value, c.in-Message.is) at c.in_ok-front.ensures.front in
-    let b = c.args.book.now in
+    let f = rw c.in-Message.is at c.in_ok-front.ensures.front in
+    let b = c.args.answerer.now in
     let now = c.args.now in
     let parts = c.in-Message.parts in
     let a = c.read_front.new.inbox in
     let bytes = c.args.buffers.now.inbox.held ++ f.0 in
-    let told = c.in_ok-reply_to-in-Message.ensures.ok in
+    let told = c.in_ok-reply_to-in-Message.ensures in
     let reply = told.0 in
     let asked = c.request_in-request.ensures ∙ ap (request_at parts) c.lent.ensures in
-    let step = subst (λ x. IsStep b x now reply c.reply_to.new.book) asked told.1 in
+    let step = subst (λ x. g.A.Answer.steps b x now reply c.reply_to.new.answerer) asked told.1 in
     let last = reply_text reply now parts.framing in (
       f.0,
       f.1 ++ last,
       f.2,
-      Appends-more _ _ _ f.1 last f.3 told.2,
-      Served-stays now bytes f.1 a parts b c.reply_to.new.book reply f.4 step c.if-parts.false,
+      Appends-more _ _ _ f.1 last f.3 told.2.all,
+      Served-stays g.A.Answer.steps c.args.max_size now bytes f.1 a parts b c.reply_to.new.answerer reply f.4 step c.if-parts.false,
     )
 
 pub returns-in_ok-write_refusal-in-Refused-clause-turn : goal.returns-in_ok-write_refusal-in-Refused-clause-turn
 returns-in_ok-write_refusal-in-Refused-clause-turn g c =
-    let f = rw (c.max_size.ensures.value, c.in-Refused.is) at c.in_ok-front.ensures.front in
-    let b = c.args.book.now in
+    let f = rw c.in-Refused.is at c.in_ok-front.ensures.front in
+    let b = c.args.answerer.now in
     let now = c.args.now in
     let a = c.read_front.new.inbox in
     let bytes = c.args.buffers.now.inbox.held ++ f.0 in
@@ -114,39 +114,39 @@ returns-in_ok-write_refusal-in-Refused-clause-turn g c =
       f.0,
       f.1 ++ last,
       f.2,
-      Appends-more _ _ _ f.1 last f.3 c.in_ok-write_refusal-in-Refused.ensures.ok,
-      λ rest _. Served-refused now bytes f.1 a c.in-Refused.refusal c.in-Refused.framing b f.4 rest,
+      Appends-more _ _ _ f.1 last f.3 c.in_ok-write_refusal-in-Refused.ensures.all,
+      λ rest _. Served-refused g.A.Answer.steps c.args.max_size now bytes f.1 a c.in-Refused.refusal c.in-Refused.framing b f.4 rest,
     )
 
 pub returns-in-Ended-clause-turn : goal.returns-in-Ended-clause-turn
 returns-in-Ended-clause-turn g c =
-    let f = rw (c.max_size.ensures.value, c.in-CutPatch.is) at c.in_ok-front.ensures.front in
-    let b = c.args.book.now in
+    let f = rw c.in-CutPatch.is at c.in_ok-front.ensures.front in
+    let b = c.args.answerer.now in
     let now = c.args.now in
     let parts = c.in-CutPatch.parts in
     let a = c.read_front.new.inbox in
     let bytes = c.args.buffers.now.inbox.held ++ f.0 in
     let reply = c.answer.result in
     let asked = c.request_in.ensures ∙ ap (request_at parts) c.lent-in-CutPatch.ensures in
-    let step = subst (λ x. IsStep b x now reply c.answer.new.book) asked c.answer.ensures.step in
-    (f.0, f.1, f.2, f.3, λ rest none. LastTurn-alone now bytes f.1 rest b c.answer.new.book ended.Cut (Served-cut_patch now bytes f.1 a parts c.in-CutPatch.why b c.answer.new.book reply f.4 step) none)
+    let step = subst (λ x. g.A.Answer.steps b x now reply c.answer.new.self) asked c.answer.ensures in
+    (f.0, f.1, f.2, f.3, λ rest none. LastTurn-alone g.A.Answer.steps c.args.max_size now bytes f.1 rest b c.answer.new.self ended.Cut (Served-cut_patch g.A.Answer.steps c.args.max_size now bytes f.1 a parts c.in-CutPatch.why b c.answer.new.self reply f.4 step) none)
 
 pub returns-in-Fault-clause-turn : goal.returns-in-Fault-clause-turn
 returns-in-Fault-clause-turn g c =
-    let f = rw (c.max_size.ensures.value, c.in-CutPatch.is) at c.in_ok-front.ensures.front in
-    let b = c.args.book.now in
+    let f = rw c.in-CutPatch.is at c.in_ok-front.ensures.front in
+    let b = c.args.answerer.now in
     let now = c.args.now in
     let parts = c.in-CutPatch.parts in
     let a = c.read_front.new.inbox in
     let bytes = c.args.buffers.now.inbox.held ++ f.0 in
     let reply = c.answer.result in
     let asked = c.request_in.ensures ∙ ap (request_at parts) c.lent-in-CutPatch.ensures in
-    let step = subst (λ x. IsStep b x now reply c.answer.new.book) asked c.answer.ensures.step in
-    (f.0, f.1, f.2, f.3, (ended.Cut, tt, Served-cut_patch now bytes f.1 a parts c.in-CutPatch.why b c.answer.new.book reply f.4 step))
+    let step = subst (λ x. g.A.Answer.steps b x now reply c.answer.new.self) asked c.answer.ensures in
+    (f.0, f.1, f.2, f.3, (ended.Cut, tt, Served-cut_patch g.A.Answer.steps c.args.max_size now bytes f.1 a parts c.in-CutPatch.why b c.answer.new.self reply f.4 step))
 
 pub returns-in-CutOther-clause-turn : goal.returns-in-CutOther-clause-turn
 returns-in-CutOther-clause-turn g c =
-    let f = rw (c.max_size.ensures.value, c.in-CutOther.is) at c.in_ok-front.ensures.front in
-    let b = c.args.book.now in
+    let f = rw c.in-CutOther.is at c.in_ok-front.ensures.front in
+    let b = c.args.answerer.now in
     let bytes = c.args.buffers.now.inbox.held ++ f.0 in
-    (f.0, f.1, f.2, f.3, λ rest none. LastTurn-alone c.args.now bytes f.1 rest b b ended.Cut (Served-cut_other c.args.now bytes f.1 c.read_front.new.inbox b f.4) none)
+    (f.0, f.1, f.2, f.3, λ rest none. LastTurn-alone g.A.Answer.steps c.args.max_size c.args.now bytes f.1 rest b b ended.Cut (Served-cut_other g.A.Answer.steps c.args.max_size c.args.now bytes f.1 c.read_front.new.inbox b f.4) none)

@@ -1,5 +1,7 @@
-use Rattle.std.proofs.Common.{length, take, sym}
-use Rattle.http_wire.proofs.NameLemmas.{All-names, All-spans_named, HasFields-gathered}
+use Rattle.std.proofs.Common.{◌≡◌, ◌∙◌, Bool, true, length, take, ap, sym}
+use Rattle.tus_steps.specs.Step.{is_head}
+use Rattle.http_wire.specs.Front.{method_of}
+use Rattle.http_wire.proofs.NameLemmas.{All-names, All-spans_named, HasFields-gathered, has_fields}
 use Rattle.http_wire.proofs.HeadLemmas.{Gives-from_shows, Gives-memory}
 use Rattle.http_wire.proofs.head.read_parts.Goals as goal
 
@@ -11,7 +13,7 @@ gather-requires-clause-names c =
 
 pub parts_of-requires-clause-fields : goal.parts_of-requires-clause-fields
 parts_of-requires-clause-fields c name =
-    rw (c.in-Ok.ensures name)
+    rw (c.in-Ok.ensures.found name)
     (All-spans_named (length c.args.head.now) c.args.head.now name (take c.in-Some.line.headers c.parse.new.spans)
     (rw c.in-Some.ensures.1.whole at c.in-Some.ensures.1.within.section.headers_fit))
 
@@ -21,8 +23,14 @@ returns-in-Ok-clause-gives c =
     let line = c.in-Some.ensures.1 in
     Gives-from_shows c.args.max_size c.args.head.now h c.parts_of.result (sym c.if-has_many_lines.ensures) line.parses
     (c.parts_of.ensures.shown h (record { method = line.at.method; target = line.at.path; version = line.at.version })
-    (HasFields-gathered c.args.head.now (take c.in-Some.line.headers c.parse.new.spans) h.fields c.gather.new.found c.in-Ok.ensures line.at.fields))
+    (HasFields-gathered c.args.head.now (take c.in-Some.line.headers c.parse.new.spans) h.fields c.gather.new.found c.in-Ok.ensures.found line.at.fields))
 
 pub returns-in-Err-clause-gives : goal.returns-in-Err-clause-gives
 returns-in-Err-clause-gives c =
-    rw c.unknown-in-Err.ensures (Gives-memory c.args.max_size c.args.head.now c.in-Some.ensures.0 (sym c.if-has_many_lines.ensures) c.in-Some.ensures.1.parses)
+    let h = c.in-Some.ensures.0 in
+    let line = c.in-Some.ensures.1 in
+    let bare : c.is_head.result ≡ is_head (method_of h.method) =
+    c.is_head.ensures ∙ ap is_head (c.method_of.ensures ∙ ap method_of (c.of.ensures ∙ line.at.method)) in
+    Gives-memory c.args.max_size c.args.head.now h (record { bare = c.is_head.result; close = true }) (sym c.if-has_many_lines.ensures) line.parses
+    (has_fields c.args.head.now (take c.in-Some.line.headers c.parse.new.spans) h.fields line.at.fields c.in-Err.ensures.memory)
+    (ap (λ (b : Bool). record { bare = b; close = true }) bare)

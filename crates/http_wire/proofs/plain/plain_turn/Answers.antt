@@ -9,6 +9,6 @@ returns-clause-text c =
     let parts = c.args.parts.now in (
       c.answer-reply.result,
       subst (λ a. IsStep c.args.book.now a c.args.now c.answer-reply.result c.answer-reply.new.book) c.request_in.ensures c.answer-reply.ensures.step,
-      reply_text-joined c.answer-reply.result c.args.now parts.framing (continue_text parts.is_waiting) c.as_slice.result.now c.content_of.result.now c.in_ok-written.written.items c.extend_from_slice.new.self.items
+      reply_text-joined c.answer-reply.result c.args.now parts.framing (continue_text c.args.is_waiting) c.as_slice.result.now c.content_of.result.now c.in_ok-written.written.items c.extend_from_slice.new.self.items
           (c.as_slice.ensures ∙ c.put_reply.ensures) c.content_of.ensures (rw (← c.continue_text.ensures) c.in_ok-written.ensures) c.in_ok-extend_from_slice.ensures.items,
     )

@@ -1,7 +1,7 @@
 use Rattle.std.proofs.Common.{arith, ◌≡◌, ◌+◌, ◌++◌, None, length, ap, sym, ◌∙◌, inl}
 use Rattle.http_wire.specs.HeadFound.{BreaksHead}
 use Rattle.http_wire.specs.HeadText.{head_len_after, head_len}
-use Rattle.http_wire.proofs.AheadLemmas.{Consumes-more, Consumes-kept}
+use Rattle.http_wire.proofs.AheadLemmas.{StopsAtEnd-open, Consumes-more, Consumes-kept}
 use Rattle.http_wire.proofs.FindLemmas.{FindsSoFar-more, head_len-found, Searched-all, Searched-more, IsFound-whole, IsFound-longer, IsFound-endless, IsFound-cut, OnErr-from, none_held, unseen, unseen_within, some_grown, all_none}
 use Rattle.http_wire.proofs.read.find_head.Goals as goal
 
@@ -80,6 +80,7 @@ loop-more-preserved g c =
       held = some_grown held more.0 c.fill.new.self.held loop.held more.1;
       finds = (loop.finds.0 ++ more.0, Consumes-more _ _ _ loop.finds.0 more.0 loop.finds.1 more.2, FindsSoFar-more c.args.inbox.now.held loop.finds.0 held more.0 c.fill.new.self.held c.in_ok-skipped.skipped loop.finds.2 more.1);
       searched = rw (ap length c.held-held.ensures.bytes) (Searched-more c.end_in.new.self held more.0 c.fill.new.self.held all more.1);
+      stops = StopsAtEnd-open _ c.loop-more.reader c.fill.new.reader c.args.inbox.now c.loop-more.inbox c.fill.new.self loop.stops (sym c.is_ended.ensures ∙ c.if-is_ended.false);
       end = λ _ e. (c.in_ok-fill.ensures.end e).1;
     }
 

@@ -1,7 +1,7 @@
 use Rattle.std.proofs.Common.{◌≡◌, ◌≢◌, ◌+◌, ◌-◌, ◌++◌, ℕ, List, [], false, length}
 use Rattle.std.specs.Prelude.{if◌then◌else◌}
 use Rattle.std.specs.Io.KnownBytes.{Consumes}
-use Rattle.http_wire.specs.HeadFound.{SeesEnd}
+use Rattle.http_wire.specs.Ahead.{SeesEnd, StopsAtEnd}
 use Rattle.http_wire.specs.HeadText.{head_limit}
 use Rattle.http_wire.proofs.FindLemmas.{FindsSoFar, Searched}
 use Rattle.http_wire.proofs.read.find_head.Given as goal
@@ -13,6 +13,7 @@ invariant-loop-more g l = record {
   held : l.inbox.held ≢ [];
   finds : (got : List ℕ) × Consumes (g.R.Source.remaining l.fn.reader) (g.R.Source.remaining l.reader) got × FindsSoFar (l.fn.inbox.held ++ got) l.inbox.held l.skipped;
   searched : Searched l.scan l.seen l.inbox.held;
+  stops : StopsAtEnd l.fn.reader l.reader l.fn.inbox l.inbox;
   end : SeesEnd (g.R.Source.remaining l.fn.reader) l.fn.inbox → SeesEnd (g.R.Source.remaining l.reader) l.inbox;
 }
 

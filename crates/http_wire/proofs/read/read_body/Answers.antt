@@ -1,15 +1,15 @@
-use Rattle.std.proofs.Common.{◌++◌, [], true, take, refl, sym, ◌∙◌, subst, subst₂, append-nil}
+use Rattle.std.proofs.Common.{arith, ◌<◌, ◌+◌, ◌++◌, [], true, take, refl, sym, ◌∙◌, subst, subst₂, append-nil}
 use Rattle.std.proofs.lemmas.Result.{err_from_is_err_and}
 use Rattle.http_wire.specs.Conversation.{continue_text}
-use Rattle.http_wire.specs.Front.{IsFront, refused}
+use Rattle.http_wire.specs.Front.{IsFront, refused, sure_room}
 use Rattle.http_wire.specs.FrontRead.{BeginsHead}
 use Rattle.http_wire.specs.declared.refusal.WireRefusal.TheVariants.{Memory}
-use Rattle.http_wire.proofs.AheadLemmas.{Consumes-none, Appends-none}
+use Rattle.http_wire.proofs.AheadLemmas.{OnErr-known, Consumes-none, Appends-none}
 use Rattle.http_wire.proofs.FrontLemmas.{IsFront-memory, IsFront-waits, ReadsFront-unwritten}
 use Rattle.http_wire.proofs.read.read_body.Goals as goal
 
 pub returns-then-is_err-clause-front : goal.returns-then-is_err-clause-front
-returns-then-is_err-clause-front g c max bytes b = (
+returns-then-is_err-clause-front g c max bytes b = let large : sure_room < c.args.parts.head_len + c.args.parts.body_len = OnErr-known c.reserve.result (sym c.is_err.ensures.value ∙ c.if-is_err.true) c.reserve.ensures.sure in (
   [],
   [],
   Consumes-none (g.R.Source.remaining c.args.reader.now),
@@ -17,20 +17,21 @@ returns-then-is_err-clause-front g c max bytes b = (
   (
     refl,
     λ rest.
-        subst₂ (λ i x. IsFront max (i ++ rest) (refused Memory x)) (sym (append-nil bytes)) (sym c.closing.ensures) (IsFront-memory max bytes c.args.parts c.args.inbox.now.held b rest),
+        subst₂ (λ i x. IsFront max (i ++ rest) (refused Memory x)) (sym (append-nil bytes)) (sym c.closing.ensures) (IsFront-memory max bytes c.args.parts c.args.inbox.now.held b rest c.requires.held (omega (arith, c.requires.head, large)) large),
   ),
 )
 
 pub returns-in_err-put_continue-clause-front : goal.returns-in_err-put_continue-clause-front
 returns-in_err-put_continue-clause-front g c max bytes b =
     let p = err_from_is_err_and c.from_residual.result c.from_residual.ensures.1 in
-    let part = c.in_err-put_continue.ensures.part in
-    let front = IsFront-waits max bytes c.args.parts c.args.inbox.now.held b c.in_err-put_continue.ensures.waits in (
+    let waits = c.in_err-put_continue.ensures.waits in
+    let part = rw waits at c.in_err-put_continue.ensures.writes.part in
+    let front = IsFront-waits max bytes c.args.parts c.args.inbox.now.held b waits in (
       [],
       take part.0 (continue_text true),
       Consumes-none (g.R.Source.remaining c.args.reader.now),
-      part.1,
-      ReadsFront-unwritten max (bytes ++ []) c.reserve.new.self c.from_residual.result p.0 part.0 p.1 (p.2 ∙ c.in_err-put_continue.ensures.fault)
+      part.2,
+      ReadsFront-unwritten max (bytes ++ []) c.reserve.new.self c.from_residual.result p.0 part.0 p.1 (p.2 ∙ c.in_err-put_continue.ensures.writes.fault)
           front.0 (subst (λ i. IsFront max i front.0) (sym (append-nil bytes)) front.1) front.2,
     )
 
@@ -38,4 +39,4 @@ pub returns-clause-front : goal.returns-clause-front
 returns-clause-front g c max bytes b =
     let begins = subst (λ h. BeginsHead max bytes c.args.parts h) (sym c.reserve.ensures.held) b in
     let rest = c.read_rest.ensures.front max bytes begins in
-    (rest.0, continue_text c.args.parts.is_waiting, rest.1, c.in_ok-put_continue.ensures.ok, rest.2)
+    (rest.0, continue_text c.args.parts.is_waiting, rest.1, c.in_ok-put_continue.ensures.writes.all, rest.2)

@@ -31,7 +31,7 @@ returns-then-is_patch-clause-front g c max bytes b =
         p.is_waiting,
         refl,
         IsFront-cut_patch max (bytes ++ grew.0) p all more c.lend_all.new.inbox (c.in-Ok-false.ensures.short c.in-Ok-false.field-0-test)
-            (held_in p.head_len c.args.inbox.now.held grew.0 all c.requires.held grew.1) (sym c.is_patch.ensures ∙ c.if-is_patch.true) c.lend_all.ensures,
+            (held_in p.head_len c.args.inbox.now.held grew.0 all c.requires.held grew.1) (sym c.is_patch.ensures ∙ c.if-is_patch.true) c.lend_all.ensures.lent,
       ),
     )
 
@@ -63,7 +63,7 @@ returns-then-is_patch-2-clause-front g c max bytes b =
         p.is_waiting,
         refl,
         IsFront-cut_patch max (bytes ++ grew.0) p all more c.lend_all-then-is_patch-2.new.inbox c.in-Err.ensures.broken
-            (held_in p.head_len c.args.inbox.now.held grew.0 all c.requires.held grew.1) (sym c.is_patch-in-Err.ensures ∙ c.if-is_patch-2.true) c.lend_all-then-is_patch-2.ensures,
+            (held_in p.head_len c.args.inbox.now.held grew.0 all c.requires.held grew.1) (sym c.is_patch-in-Err.ensures ∙ c.if-is_patch-2.true) c.lend_all-then-is_patch-2.ensures.lent,
       ),
     )
 

@@ -1,8 +1,8 @@
-use Rattle.std.proofs.Common.{arith, ◌≡◌, ◌≤◌, ◌⊎◌, ◌+◌, [], ◌++◌, true, drop, ap, sym, ◌∙◌, inl, inr}
+use Rattle.std.proofs.Common.{arith, refl, false, ◌≡◌, ◌≤◌, ◌⊎◌, ◌+◌, [], ◌++◌, true, drop, ap, sym, ◌∙◌, inl, inr}
 use Rattle.http_wire.specs.Ahead.{Ahead}
 use Rattle.http_wire.specs.HeadText.{blank_len, head_limit}
 use Rattle.http_wire.specs.HeadFound.{BreaksHead}
-use Rattle.http_wire.proofs.AheadLemmas.{Consumes-none, Consumes-more, Consumes-kept}
+use Rattle.http_wire.proofs.AheadLemmas.{StopsAtEnd-open, Consumes-none, Consumes-more, Consumes-kept}
 use Rattle.http_wire.proofs.FindLemmas.{Skips-from, SkipsSoFar-start, SkipsSoFar-skipped, SkipsSoFar-more, IsUnfinished-blank, none_held, some_held, OnErr-from}
 use Rattle.http_wire.proofs.read.skip_blank.Goals as goal
 use Rattle.http_wire.proofs.read.skip_blank.Goals.{then-not-is_empty-via-then-not-is_empty, then-not-is_empty-via-else-not-is_empty+then-is_ended, then-not-is_empty-via-else-not-is_empty+else-is_ended+then-skipped-ge-HEAD_LIMIT}
@@ -12,6 +12,7 @@ loop-inbox-init g c = record {
   alive = c.requires;
   few = omega arith;
   skips = ([], Consumes-none (g.R.Source.remaining c.args.reader.now), SkipsSoFar-start c.args.inbox.now.held);
+  stops = λ h. (refl, h);
   end = λ h. h;
 }
 
@@ -39,10 +40,12 @@ loop-inbox-preserved g c =
     let start = c.args.inbox.now.held in
     let all = SkipsSoFar-skipped (start ++ skips.0) before c.skip.new.self.held c.loop-inbox.skipped c.count_blank-blank.result skips.2 blank (ap (λ (a : Ahead). a.held) c.skip.ensures) none in
     let more = c.fill.ensures.grew in
+    let unended : c.loop-inbox.inbox.ended ≡ false = sym (ap (λ (a : Ahead). a.ended) c.skip.ensures) ∙ sym c.is_ended.ensures ∙ c.if-is_ended.false in
     record {
       alive = c.in_ok-fill.ensures.alive;
       few = c.if-skipped-ge-HEAD_LIMIT.false;
       skips = (skips.0 ++ more.0, Consumes-more _ _ _ skips.0 more.0 skips.1 more.2, SkipsSoFar-more start skips.0 c.skip.new.self.held more.0 c.fill.new.self.held _ all more.1);
+      stops = StopsAtEnd-open _ c.loop-inbox.reader c.fill.new.reader c.args.inbox.now c.loop-inbox.inbox c.fill.new.self c.loop-inbox.invariant.stops unended;
       end = λ _ e. (c.in_ok-fill.ensures.end e).1;
     }
 

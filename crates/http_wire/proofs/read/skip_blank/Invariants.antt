@@ -1,8 +1,8 @@
 use Rattle.std.proofs.Common.{◌≡◌, ◌+◌, ◌-◌, ◌<◌, ◌++◌, false, List, ℕ, length}
 use Rattle.std.specs.Io.KnownBytes.{Consumes}
 use Rattle.std.specs.Prelude.{if◌then◌else◌}
+use Rattle.http_wire.specs.Ahead.{SeesEnd, StopsAtEnd}
 use Rattle.http_wire.specs.HeadText.{head_limit}
-use Rattle.http_wire.specs.HeadFound.{SeesEnd}
 use Rattle.http_wire.proofs.FindLemmas.{SkipsSoFar}
 use Rattle.http_wire.proofs.read.skip_blank.Given as goal
 
@@ -11,6 +11,7 @@ invariant-loop-inbox g l = record {
   alive : g.R.Source.has_failed l.reader ≡ false;
   few : l.skipped < head_limit;
   skips : (got : List ℕ) × Consumes (g.R.Source.remaining l.initial.reader) (g.R.Source.remaining l.reader) got × SkipsSoFar (l.initial.inbox.held ++ got) l.inbox.held l.skipped;
+  stops : StopsAtEnd l.initial.reader l.reader l.initial.inbox l.inbox;
   end : SeesEnd (g.R.Source.remaining l.initial.reader) l.initial.inbox → SeesEnd (g.R.Source.remaining l.reader) l.inbox;
 }
 

@@ -1,0 +1,41 @@
+ghost use Rattle.std.specs.Prelude.{◌≡◌, ◌<◌, ◌^◌, ℕ};
+ghost use Rattle.tus_steps.specs.Request.{Asked, asked_of};
+ghost use Rattle.tus_steps.specs.Step.{IsStep};
+ghost use Rattle.tus_steps.specs.declared.reply.Reply.{Reply};
+ghost use Rattle.upload_book.specs.PlainBook.{PlainBook};
+
+use tus_steps::{Reply, Request};
+use upload_book::{Book, Moment};
+
+/// What answers the requests of a connection: a book, or anything else that makes a step for each
+/// request. An `answer` may wait where its type holds a handle that may.
+pub trait Answer {
+    // The most bytes of a body.
+    ghost max_size: { Self → ℕ };
+
+    // Its steps: from a state, by a request at a moment, with this reply, to the state after it.
+    ghost steps: { Self → Asked → ℕ → Reply → Self → Type 0 };
+
+    /// The most bytes of a request's body.
+    fn max_size(&self) -> u64
+        ensures value { result ≡ max_size self.now }
+        ensures range { result < 2 ^ 31 };
+
+    /// Makes the step of a request at its moment, and gives the reply.
+    fn answer(&mut self, request: &Request, now: Moment) -> Reply
+        ensures { steps self.old (asked_of request.now) now result self.new };
+}
+
+impl Answer for Book {
+    ghost max_size = { λ (b : PlainBook). b.settings.numbers.max_size };
+
+    ghost steps = { IsStep };
+
+    fn max_size(&self) -> u64 {
+        self.settings().numbers().max_size
+    }
+
+    fn answer(&mut self, request: &Request, now: Moment) -> Reply {
+        tus_steps::answer(self, request, now)
+    }
+}

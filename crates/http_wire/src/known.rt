@@ -1,0 +1,27 @@
+ghost use Rattle.std.specs.Prelude.{◌≡◌, IfOk};
+ghost use Rattle.http_wire.specs.Conversation.{Conversation};
+
+use crate::answer::Answer;
+use crate::conversation::{Ended, converse};
+use crate::fault::WireFault;
+use crate::source::Tapped;
+use std::alloc::Global;
+use upload_book::Moment;
+
+/// The bytes that the conversation of some bytes writes, and how it ends: all that [`converse`] promises,
+/// over a reader and a writer whose bytes are known. The error is that there was no memory, at the
+/// start or for what is written.
+pub fn conversation_of<A: Answer>(
+    alloc: Global,
+    input: &[u8],
+    answerer: &mut A,
+    moments: &[Moment],
+) -> Result<(Vec<u8>, Ended), WireFault>
+    ensures { IfOk result (λ r.
+        Conversation A.steps (A.max_size answerer.old) moments.now input.now answerer.old r.0.items answerer.new r.1) }
+{
+    let mut reader = Tapped::new(input);
+    let mut writer = Tapped::new(Vec::new(alloc));
+    let ended = converse(alloc, &mut reader, &mut writer, answerer, moments)?;
+    Ok((writer.inner, ended))
+}
