@@ -3,10 +3,11 @@ use Rattle.std.proofs.Common.{◌≡◌, ℕ, ◌+◌, ◌<◌, ◌≤◌, Bool,
 use Rattle.std.proofs.lemmas.Bool.{lt-leb, cases_Bool, cases_lt}
 use Rattle.std.proofs.lemmas.List.{take-append-le, drop-append-le, drop-take}
 use Rattle.httparse.specs.Grammar.{RequestHead}
-use Rattle.tus_steps.specs.Request.{Asked}
+use Rattle.tus_steps.specs.Method.{is_applied_when_cut}
+use Rattle.tus_steps.specs.Request.{Request}
 use Rattle.http_wire.specs.Ahead.{Ahead}
 use Rattle.http_wire.specs.Conversation.{continue_text}
-use Rattle.http_wire.specs.Front.{Front, Begins, BeginsWhole, IsFront, LacksMemory, message, refused, cut_patch, cut_other, clean_end, closing, framing_of, unknown_framing, sure_room, is_patch, method_in, is_waiting, request_of, with_body, judged, judged_front, parsed_front}
+use Rattle.http_wire.specs.Front.{Front, Begins, BeginsWhole, IsFront, LacksMemory, message, refused, cut_patch, cut_other, clean_end, closing, framing_of, unknown_framing, sure_room, method_in, is_waiting, request_of, with_body, judged, judged_front, parsed_front}
 use Rattle.http_wire.specs.FrontRead.{BeginsHead, ReadsFront}
 use Rattle.http_wire.specs.NextRead.{waits}
 use Rattle.http_wire.specs.HeadFound.{IsUnfinished}
@@ -57,7 +58,7 @@ IsFront-memory max bytes p held b rest within some large =
 pub request_at-shows : (max : ℕ) (text head body : List ℕ) (h : RequestHead) (p : Parts) → ShowsHead max head h p → take p.head_len text ≡ head → drop p.head_len text ≡ body
     → request_at p text ≡ request_of h body
 request_at-shows max text head body h p s front rest =
-    rw (front, rest, s.method, s.target, s.version, s.length, s.defer, s.offset, s.metadata, s.concat, s.media) refl
+    rw (front, rest, s.method, s.target, s.fields) refl
 
 -- all of the body is held
 pub IsFront-message : (max : ℕ) (bytes : List ℕ) (p : Parts) (held : List ℕ) (b : BeginsHead max bytes p held) (a : Ahead) → p.head_len + p.body_len ≤ length held
@@ -90,11 +91,11 @@ alone max bytes p held b =
 
 -- not all of it is held
 short_body : (h : RequestHead) (n : ℕ) (rest : List ℕ) → length rest < n
-    → with_body h n rest ≡ (if is_patch (method_in h) then cut_patch (request_of h rest) (framing_of h) (is_waiting h n) else cut_other (is_waiting h n))
+    → with_body h n rest ≡ (if is_applied_when_cut (method_in h) then cut_patch (request_of h rest) (framing_of h) (is_waiting h n) else cut_other (is_waiting h n))
 short_body h n rest short = rw (lt-leb n (length rest) short) refl
 
 pub IsFront-cut_patch : (max : ℕ) (bytes : List ℕ) (p : Parts) (held : List ℕ) (b : BeginsHead max bytes p held) (a : Ahead) → length held < p.head_len + p.body_len
-    → p.head_len ≤ length held → is_patch p.method ≡ true → a.lent ≡ held → IsFront max bytes (cut_patch (request_at p a.lent) p.framing p.is_waiting)
+    → p.head_len ≤ length held → is_applied_when_cut p.method ≡ true → a.lent ≡ held → IsFront max bytes (cut_patch (request_at p a.lent) p.framing p.is_waiting)
 IsFront-cut_patch max bytes p held b a short within patch lent =
     let few : length (drop p.head_len held) < p.body_len = omega (arith, length-drop p.head_len held) in
     let request = request_at-shows max a.lent (take p.head_len held) (drop p.head_len held) b.head p b.shows (ap (take p.head_len) lent) (ap (drop p.head_len) lent) in
@@ -102,7 +103,7 @@ IsFront-cut_patch max bytes p held b a short within patch lent =
     subst (λ f. IsFront max bytes f) (short_body b.head p.body_len (drop p.head_len held) few ∙ rw (is, request, b.shows.framing, b.shows.is_waiting) refl) (alone max bytes p held b)
 
 pub IsFront-cut_other : (max : ℕ) (bytes : List ℕ) (p : Parts) (held : List ℕ) (b : BeginsHead max bytes p held) → length held < p.head_len + p.body_len
-    → p.head_len ≤ length held → is_patch p.method ≡ false → IsFront max bytes (cut_other p.is_waiting)
+    → p.head_len ≤ length held → is_applied_when_cut p.method ≡ false → IsFront max bytes (cut_other p.is_waiting)
 IsFront-cut_other max bytes p held b short within patch =
     let few : length (drop p.head_len held) < p.body_len = omega (arith, length-drop p.head_len held) in
     let is = rw b.shows.method at patch in
@@ -113,7 +114,7 @@ pub waits-with_body : (h : RequestHead) (n : ℕ) (rest : List ℕ) → is_waiti
 waits-with_body h n rest w =
     elim (cases_Bool (nat_le n (length rest))) [
       | inl t ↦ rw t w
-      | inr f ↦ rw f (elim (cases_Bool (is_patch (method_in h))) [
+      | inr f ↦ rw f (elim (cases_Bool (is_applied_when_cut (method_in h))) [
         | inl t ↦ rw t w
         | inr f2 ↦ rw f2 w
       ])
@@ -165,17 +166,17 @@ ReadsFront-unfinished max bytes a r e is is_read (inr n) = rw (is, is_read) (inr
 
 -- what an input begins with, where more bytes follow a message
 abbrev pub followed : List ℕ → Front → Front
-followed more (message asked framing waiting rest) = message asked framing waiting (rest ++ more)
+followed more (message request framing waiting rest) = message request framing waiting (rest ++ more)
 followed more (refused why framing) = refused why framing
-followed more (cut_patch asked framing waiting) = cut_patch asked framing waiting
+followed more (cut_patch request framing waiting) = cut_patch request framing waiting
 followed more (cut_other waiting) = cut_other waiting
 followed more clean_end = clean_end
 
 -- it begins with a message
 abbrev pub is_message : Front → Bool
-is_message (message asked framing waiting rest) = true
+is_message (message request framing waiting rest) = true
 is_message (refused why framing) = false
-is_message (cut_patch asked framing waiting) = false
+is_message (cut_patch request framing waiting) = false
 is_message (cut_other waiting) = false
 is_message clean_end = false
 
@@ -183,9 +184,9 @@ pub no_message : (f g : Front) → is_message f ≡ true → f ≡ g → is_mess
 no_message f g is same isnt = true≢false (sym is ∙ ap is_message same ∙ isnt)
 
 -- a body that the end cut off makes no message
-cut_message : (patch : Bool) (asked : Asked) (framing : Framing) (waiting : Bool) → is_message (if patch then cut_patch asked framing waiting else cut_other waiting) ≡ false
-cut_message true asked framing waiting = refl
-cut_message false asked framing waiting = refl
+cut_message : (patch : Bool) (request : Request) (framing : Framing) (waiting : Bool) → is_message (if patch then cut_patch request framing waiting else cut_other waiting) ≡ false
+cut_message true request framing waiting = refl
+cut_message false request framing waiting = refl
 
 with_body-followed : (h : RequestHead) (n : ℕ) (rest more : List ℕ) → is_message (with_body h n rest) ≡ true
     → followed more (with_body h n rest) ≡ with_body h n (rest ++ more)

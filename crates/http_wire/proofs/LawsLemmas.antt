@@ -4,7 +4,7 @@ use Rattle.std.proofs.lemmas.Bool.{cases_Bool, cases_lt}
 use Rattle.std.specs.Prelude.{codes}
 use Rattle.httparse.specs.Grammar.{RequestHead}
 use Rattle.httparse.proofs.GrammarLemmas.{request_unique}
-use Rattle.tus_steps.specs.Request.{Asked}
+use Rattle.tus_steps.specs.Request.{Request}
 use Rattle.tus_steps.specs.declared.reply.Reply.{Reply}
 use Rattle.tus_steps.specs.Field.{FieldText, is_absent}
 use Rattle.http_wire.specs.Fields.{field_text}
@@ -18,7 +18,7 @@ use Rattle.http_wire.proofs.FindLemmas.{whole_short}
 use Rattle.http_wire.proofs.FrontLemmas.{is_message, no_message, lacks_none}
 use Rattle.http_wire.proofs.Talk.{Turns-Conversation, Turns-followed, Turns-join}
 
-module _ {A : Type 0} (steps : A → Asked → ℕ → Reply → A → Type 0) where
+module _ {A : Type 0} (steps : A → Request → ℕ → Reply → A → Type 0) where
   pub inputs_join : InputsJoin steps
   inputs_join max before after first later b text b1 more b2 e turns goes =
       Turns-Conversation steps max before after (first ++ later) b text b1 later more b2 e (Turns-followed steps max before first later b text b1 [] turns) goes
@@ -67,9 +67,9 @@ one_front max input f g b d = Begins-unique max (head_text input) f g b d
 
 -- what follows a message
 abbrev rest_of : Front → List ℕ
-rest_of (message asked framing waiting rest) = rest
+rest_of (message request framing waiting rest) = rest
 rest_of (refused why framing) = []
-rest_of (cut_patch asked framing waiting) = []
+rest_of (cut_patch request framing waiting) = []
 rest_of (cut_other waiting) = []
 rest_of clean_end = []
 
@@ -144,6 +144,6 @@ Begins-short max cut f is_one b = absurd (no_message f (cut_other false) is_one 
 Begins-short max nothing f is_one b = absurd (no_message f clean_end is_one b refl)
 
 pub messages_are_short : MessagesAreShort
-messages_are_short max input asked framing waiting rest front =
-    let b = Begins-short max (head_text input) (message asked framing waiting rest) refl front in
+messages_are_short max input request framing waiting rest front =
+    let b = Begins-short max (head_text input) (message request framing waiting rest) refl front in
     omega (arith, whole_short input b.0 b.1 b.2, b.3)

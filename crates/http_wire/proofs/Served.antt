@@ -1,6 +1,6 @@
 -- One turn: what was read and written is the turn of its front.
 use Rattle.std.proofs.Common.{◌≡◌, ℕ, true, false, List, [], ◌++◌, Option, Result, Err, take, refl, sym, ap, subst, inl, inr, append-nil}
-use Rattle.tus_steps.specs.Request.{Asked}
+use Rattle.tus_steps.specs.Request.{Request}
 use Rattle.tus_steps.specs.declared.reply.Reply.{Reply}
 use Rattle.http_wire.specs.Ahead.{Ahead}
 use Rattle.http_wire.specs.Conversation.{continue_text}
@@ -20,13 +20,13 @@ use Rattle.http_wire.specs.declared.parts.Parts.{Parts}
 use Rattle.http_wire.specs.declared.read.Cut.{Cut}
 use Rattle.http_wire.specs.declared.refusal.WireRefusal.{WireRefusal}
 
-module _ {A : Type 0} (steps : A → Asked → ℕ → Reply → A → Type 0) (max : ℕ) where
+module _ {A : Type 0} (steps : A → Request → ℕ → Reply → A → Type 0) (max : ℕ) where
   -- a message is answered, and the connection stays open
   pub Served-stays : (now : ℕ) (bytes text : List ℕ) (a : Ahead) (p : Parts) (b b2 : A) (reply : Reply) → ComesIn max bytes text a.held (next.message (request_at p a.lent) p.framing)
       → steps b (request_at p a.lent) now reply b2 → p.framing.close ≡ false → (rest : List ℕ)
       → Answered steps max now (bytes ++ rest) b (text ++ reply_text reply now p.framing) b2 (a.held ++ rest)
   Served-stays now bytes text a p b b2 reply f step stays rest = record {
-    asked = request_at p a.lent;
+    request = request_at p a.lent;
     framing = p.framing;
     waiting = f.0;
     reply = reply;
@@ -70,9 +70,9 @@ module _ {A : Type 0} (steps : A → Asked → ℕ → Reply → A → Type 0) (
       rw none (subst (λ i. LastTurn steps max now i b text b2 e) (sym (append-nil bytes)) h)
 
   fails_waiting : (now n : ℕ) (f : Front) (b : A) → waits f ≡ true → FailsIn steps max now f b (take n (continue_text true)) b
-  fails_waiting now n (message asked framing waiting rest) b w = inl (w, refl, (n, refl))
+  fails_waiting now n (message request framing waiting rest) b w = inl (w, refl, (n, refl))
   fails_waiting now n (refused why framing) b w = absurd cc
-  fails_waiting now n (cut_patch asked framing waiting) b w = (w, refl, (n, refl))
+  fails_waiting now n (cut_patch request framing waiting) b w = (w, refl, (n, refl))
   fails_waiting now n (cut_other waiting) b w = (w, refl, (n, refl))
   fails_waiting now n clean_end b w = absurd cc
 

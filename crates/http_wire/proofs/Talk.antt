@@ -2,7 +2,7 @@
 use Rattle.std.proofs.Common.{◌≡◌, ℕ, ◌+◌, ◌<◌, IfErr, Option, Some, None, Result, Err, length, take, drop, get_or, take-append-drop, Bool, true, false, true≢false, List, [], ◌∷◌, ◌++◌, refl, sym, ap, ◌∙◌, subst, subst₂, inl, inr, append-nil, append_assoc}
 use Rattle.std.proofs.lemmas.List.{drop_more}
 use Rattle.std.specs.Io.KnownBytes.{Appends, Consumes}
-use Rattle.tus_steps.specs.Request.{Asked}
+use Rattle.tus_steps.specs.Request.{Request}
 use Rattle.tus_steps.specs.declared.reply.Reply.{Reply}
 use Rattle.http_wire.specs.Conversation.{Conversation, Goes, continue_text}
 use Rattle.http_wire.specs.Front.{Front, message, IsFront}
@@ -33,7 +33,7 @@ MayFollow-read ended.Moments rest h = tt
 longer : (got more rest : List ℕ) → (got ++ more) ++ rest ≡ got ++ (more ++ rest)
 longer got more rest = append_assoc got more rest
 
-module _ {A : Type 0} (steps : A → Asked → ℕ → Reply → A → Type 0) (max : ℕ) where
+module _ {A : Type 0} (steps : A → Request → ℕ → Reply → A → Type 0) (max : ℕ) where
   -- a reply after which the connection stays open
   pub Goes-stays : (close : Bool) (first : List ℕ) (moments rest : List ℕ) (b : A) (text : List ℕ) (b2 : A) (e : Ended) → close ≡ false
       → (later : List ℕ) → text ≡ first ++ later → Conversation steps max moments rest b later b2 e → Goes close first (Conversation steps max moments) rest b text b2 e
@@ -56,7 +56,7 @@ module _ {A : Type 0} (steps : A → Asked → ℕ → Reply → A → Type 0) (
       let rest = Turns-Conversation before after t.2 t.3 t.1 b1 middle later b2 e t.5 c in
       let whole : text ++ later ≡ (continue_text a.waiting ++ reply_text a.reply now a.framing) ++ (t.1 ++ later) =
       ap (λ l. l ++ later) (t.6 ∙ ap (λ l. l ++ t.1) a.wrote) ∙ append_assoc (continue_text a.waiting ++ reply_text a.reply now a.framing) t.1 later in
-      (message a.asked a.framing a.waiting t.2, a.front, (a.reply, t.3, a.step, Goes-stays a.framing.close (continue_text a.waiting ++ reply_text a.reply now a.framing) (before ++ after) t.2 t.3 (text ++ later) b2 e a.stays (t.1 ++ later) whole rest))
+      (message a.request a.framing a.waiting t.2, a.front, (a.reply, t.3, a.step, Goes-stays a.framing.close (continue_text a.waiting ++ reply_text a.reply now a.framing) (before ++ after) t.2 t.3 (text ++ later) b2 e a.stays (t.1 ++ later) whole rest))
 
   -- whole turns, and then more of them
   pub Turns-join : (before after input : List ℕ) (b : A) (text : List ℕ) (b1 : A) (middle later : List ℕ) (b2 : A) (rest : List ℕ)
@@ -70,11 +70,11 @@ module _ {A : Type 0} (steps : A → Asked → ℕ → Reply → A → Type 0) (
   Answered-followed : (now : ℕ) (input more : List ℕ) (b : A) (text : List ℕ) (b2 : A) (rest : List ℕ) → Answered steps max now input b text b2 rest
       → Answered steps max now (input ++ more) b text b2 (rest ++ more)
   Answered-followed now input more b text b2 rest a = record {
-    asked = a.asked;
+    request = a.request;
     framing = a.framing;
     waiting = a.waiting;
     reply = a.reply;
-    front = IsFront-followed max input more (message a.asked a.framing a.waiting rest) refl a.front;
+    front = IsFront-followed max input more (message a.request a.framing a.waiting rest) refl a.front;
     stays = a.stays;
     step = a.step;
     wrote = a.wrote;

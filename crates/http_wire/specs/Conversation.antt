@@ -1,7 +1,7 @@
 -- A conversation over a connection: what is written for an input, how what answers is left, and how it
 -- ends.
 use Rattle.std.specs.Prelude.{◌≡◌, ℕ, Bool, true, false, List, [], ◌∷◌, ◌++◌, codes, MatchBool}
-use Rattle.tus_steps.specs.Request.{Asked}
+use Rattle.tus_steps.specs.Request.{Request}
 use Rattle.tus_steps.specs.declared.reply.Reply.{Reply}
 use Rattle.http_wire.specs.Front.{Front, message, refused, cut_patch, cut_other, clean_end, IsFront}
 use Rattle.http_wire.specs.ReplyText.{crlf, reply_text, refusal_text}
@@ -32,15 +32,15 @@ module _ {A : Type 0} where
 
 -- Conversations with what makes these steps, each from a state, by a request at a moment, with a reply, to the
 -- state after it; a body has at most max bytes.
-module _ {A : Type 0} (steps : A → Asked → ℕ → Reply → A → Type 0) where
+module _ {A : Type 0} (steps : A → Request → ℕ → Reply → A → Type 0) where
   -- the turn of what the input begins with, at a moment
   abbrev pub Turn : ℕ → Course A → Front → A → List ℕ → A → Ended → Type 0
-  Turn now next (message asked framing waiting rest) b text b2 e =
-      (reply : Reply) × (b1 : A) × steps b asked now reply b1
+  Turn now next (message request framing waiting rest) b text b2 e =
+      (reply : Reply) × (b1 : A) × steps b request now reply b1
       × Goes framing.close (continue_text waiting ++ reply_text reply now framing) next rest b1 text b2 e
   Turn now next (refused why framing) b text b2 e = EndsWith b Closed (refusal_text why now framing) text b2 e
-  Turn now next (cut_patch asked framing waiting) b text b2 e =
-      (reply : Reply) × (b1 : A) × steps b asked now reply b1 × EndsWith b1 Cut (continue_text waiting) text b2 e
+  Turn now next (cut_patch request framing waiting) b text b2 e =
+      (reply : Reply) × (b1 : A) × steps b request now reply b1 × EndsWith b1 Cut (continue_text waiting) text b2 e
   Turn now next (cut_other waiting) b text b2 e = EndsWith b Cut (continue_text waiting) text b2 e
   Turn now next clean_end b text b2 e = EndsWith b Input [] text b2 e
 

@@ -6,8 +6,10 @@ use Rattle.tus_text.specs.Path.{path_of}
 use Rattle.tus_steps.specs.declared.method.Method.{Method}
 use Rattle.tus_steps.specs.declared.method.Method.TheVariants as method
 use Rattle.tus_steps.specs.Field.{FieldText, absent, one, many}
-use Rattle.tus_steps.specs.Request.{Asked}
-use Rattle.tus_steps.specs.Step.{is_head}
+use Rattle.tus_steps.specs.Request.{Request}
+use Rattle.tus_steps.specs.Method.{is_applied_when_cut, is_head}
+use Rattle.tus_steps.specs.declared.tus_fields.TusFields.{TusFields}
+use Rattle.tus_steps.specs.TusFields.{fields_by}
 use Rattle.http_wire.specs.Connection.{closes, asks_to_continue}
 use Rattle.http_wire.specs.Fields.{values_named, field_text}
 use Rattle.http_wire.specs.HeadText.{HeadText, whole, too_long, cut, nothing, head_text, has_many_lines}
@@ -20,9 +22,9 @@ use Rattle.http_wire.specs.declared.refusal.WireRefusal.TheVariants.{Memory, Hea
 -- and what follows it; a request that the wire refuses; the end of the input inside a body, that of a
 -- PATCH with the bytes that came; the end anywhere else inside a message; or the end between two.
 pub data Front : Type 0 where
-  message : Asked → Framing → Bool → List ℕ → Front
+  message : Request → Framing → Bool → List ℕ → Front
   refused : WireRefusal → Framing → Front
-  cut_patch : Asked → Framing → Bool → Front
+  cut_patch : Request → Framing → Bool → Front
   cut_other : Bool → Front
   clean_end : Front
 
@@ -46,23 +48,16 @@ method_by name many = method.Other
 abbrev pub method_in : RequestHead → Method
 method_in h = method_by h.method (field_text (codes "x-http-method-override") h.fields)
 
--- the method is PATCH
-abbrev pub is_patch : Method → Bool
-is_patch method.Patch = true
-is_patch _ = false
+-- the fields of a head that count for the steps
+abbrev pub tus_fields : RequestHead → TusFields FieldText
+tus_fields h = fields_by (λ name. field_text name h.fields)
 
 -- the request of a head with a body
-abbrev pub request_of : RequestHead → List ℕ → Asked
+abbrev pub request_of : RequestHead → List ℕ → Request
 request_of h body = record {
   method = method_in h;
   path = path_of h.target;
-  version = field_text (codes "tus-resumable") h.fields;
-  length = field_text (codes "upload-length") h.fields;
-  defer = field_text (codes "upload-defer-length") h.fields;
-  offset = field_text (codes "upload-offset") h.fields;
-  metadata = field_text (codes "upload-metadata") h.fields;
-  concat = field_text (codes "upload-concat") h.fields;
-  media = field_text (codes "content-type") h.fields;
+  fields = tus_fields h;
   body = body;
 }
 
@@ -96,7 +91,7 @@ is_waiting h n = h.minor == 1 && asks_to_continue (field_text (codes "expect") h
 abbrev pub with_body : RequestHead → ℕ → List ℕ → Front
 with_body h n rest =
     if nat_le n (length rest) then message (request_of h (take n rest)) (framing_of h) (is_waiting h n) (drop n rest)
-    else (if is_patch (method_in h) then cut_patch (request_of h rest) (framing_of h) (is_waiting h n)
+    else (if is_applied_when_cut (method_in h) then cut_patch (request_of h rest) (framing_of h) (is_waiting h n)
     else cut_other (is_waiting h n))
 
 -- a head whose fields were judged, with what follows it

@@ -1,6 +1,6 @@
 -- The length of a request's body, and the refusals of a request by its fields, in their order (RFC
 -- 9112, sections 3.2 and 6.3).
-use Rattle.std.specs.Prelude.{ℕ, Bool, true, false, ◌==◌, nat_lt, if◌then◌else◌, Option, Some, None, Result, Ok, Err}
+use Rattle.std.specs.Prelude.{ℕ, Bool, true, false, ◌==◌, not, nat_lt, if◌then◌else◌, List, [], ◌∷◌, Option, Some, None, is_none, unwrap_or, Result, Ok, Err}
 use Rattle.tus_text.specs.Number.{number_of}
 use Rattle.tus_steps.specs.Field.{FieldText, absent, one, many, is_absent}
 use Rattle.http_wire.specs.declared.refusal.WireRefusal.{WireRefusal}
@@ -28,3 +28,12 @@ abbrev pub judge : ℕ → ℕ → FieldText → FieldText → FieldText → Res
 judge max minor host coding length =
     if is_host_wrong minor host then Err Host
     else (if is_absent coding then sized max (body_len length) else Err Coding)
+
+-- the tests of a request by its fields, in their order
+abbrev pub judge_tests : ℕ → ℕ → FieldText → FieldText → FieldText → List (Bool × WireRefusal)
+judge_tests max minor host coding length =
+    (is_host_wrong minor host, Host)
+    ∷ (not (is_absent coding), Coding)
+    ∷ (is_none (body_len length), ContentLength)
+    ∷ (nat_lt max (unwrap_or (body_len length) 0), BodySize)
+    ∷ []

@@ -1,17 +1,24 @@
 -- Laws above the definitions: an input that comes in two parts, and what an input begins with.
-use Rattle.std.specs.Prelude.{◌≡◌, ◌≤◌, ◌⊎◌, ℕ, ◌+◌, Bool, List, [], ◌++◌, length}
-use Rattle.tus_steps.specs.Request.{Asked}
+use Rattle.std.specs.Prelude.{◌≡◌, ◌≤◌, ◌⊎◌, ℕ, ◌+◌, Bool, true, List, [], ◌∷◌, ◌++◌, map, length, codes}
+use Rattle.std.specs.Result.{result_err}
+use Rattle.upload_book.specs.Order.{order, stand_in}
+use Rattle.upload_book.specs.Refusal.{first_that_holds}
+use Rattle.tus_steps.specs.Field.{FieldText}
+use Rattle.tus_steps.specs.Request.{Request}
 use Rattle.tus_steps.specs.declared.reply.Reply.{Reply}
 use Rattle.http_wire.specs.Conversation.{Conversation}
 use Rattle.http_wire.specs.Front.{Front, message, refused, IsFront}
 use Rattle.http_wire.specs.HeadText.{head_limit}
+use Rattle.http_wire.specs.Judge.{judge, judge_tests}
+use Rattle.http_wire.specs.Refusal.{word_of}
 use Rattle.http_wire.specs.Turns.{Turns}
 use Rattle.http_wire.specs.declared.conversation.Ended.{Ended}
 use Rattle.http_wire.specs.declared.framing.Framing.{Framing}
+use Rattle.http_wire.specs.declared.refusal.WireRefusal.{WireRefusal}
 use Rattle.http_wire.specs.declared.refusal.WireRefusal.TheVariants.{Memory}
 
 -- laws of conversations with what makes these steps
-module _ {A : Type 0} (steps : A → Asked → ℕ → Reply → A → Type 0) where
+module _ {A : Type 0} (steps : A → Request → ℕ → Reply → A → Type 0) where
   -- Where some bytes are whole messages after which the connection stays open, a conversation over them and
   -- what comes later is the one over them, followed by one over what comes later from the state that they
   -- left, at the moments that are left.
@@ -33,8 +40,8 @@ module _ {A : Type 0} (steps : A → Asked → ℕ → Reply → A → Type 0) w
 -- greatest body.
 abbrev pub MessagesAreShort : Type 0
 MessagesAreShort =
-    (max : ℕ) (input : List ℕ) (asked : Asked) (framing : Framing) (waiting : Bool) (rest : List ℕ)
-    → IsFront max input (message asked framing waiting rest) → length input ≤ head_limit + max + length rest
+    (max : ℕ) (input : List ℕ) (request : Request) (framing : Framing) (waiting : Bool) (rest : List ℕ)
+    → IsFront max input (message request framing waiting rest) → length input ≤ head_limit + max + length rest
 
 -- the refusal for want of memory
 abbrev pub RefusesForMemory : Front → Type 0
@@ -46,3 +53,11 @@ abbrev pub OneFront : Type 0
 OneFront =
     (max : ℕ) (input : List ℕ) (f g : Front) → IsFront max input f → IsFront max input g
     → (f ≡ g) ⊎ (RefusesForMemory f ⊎ RefusesForMemory g)
+
+-- A request is refused by its fields exactly for the first of these reasons that applies; and all reasons of the
+-- wire, in the sequence in which it comes to them, stand in the order of refusals: too many bytes, no head of a
+-- request, no memory for its fields, the tests of its fields, no memory for its body.
+pub record WireFollowsOrder : Type 0 where
+  pub first : (max minor : ℕ) (host coding len : FieldText) → result_err (judge max minor host coding len) ≡ first_that_holds (judge_tests max minor host coding len)
+  pub order : (max minor : ℕ) (host coding len : FieldText)
+      → stand_in (codes "head-size" ∷ codes "head" ∷ codes "memory" ∷ map {A = Bool × WireRefusal} {B = List ℕ} (λ t. word_of t.1) (judge_tests max minor host coding len) ++ codes "memory" ∷ []) order ≡ true

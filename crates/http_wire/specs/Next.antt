@@ -1,6 +1,6 @@
 -- What stands next on a wire.
 use Rattle.std.specs.Prelude.{Bool, true, false, Result, Ok, Err}
-use Rattle.tus_steps.specs.Request.{Asked}
+use Rattle.tus_steps.specs.Request.{Request}
 use Rattle.http_wire.specs.Ahead.{Ahead}
 use Rattle.http_wire.specs.Parts.{request_at}
 use Rattle.http_wire.specs.declared.fault.WireFault.{WireFault}
@@ -14,17 +14,17 @@ use Rattle.http_wire.specs.declared.refusal.WireRefusal.{WireRefusal}
 -- A message, by its request and its framing; a PATCH that was cut, with the bytes that came, and what cut it; another
 -- message that was cut; a request that the wire refuses; or the end.
 pub data Next : Type 0 where
-  message : Asked → Framing → Next
-  cut_patch : Asked → Framing → Cut → Next
+  message : Request → Framing → Next
+  cut_patch : Request → Framing → Cut → Next
   cut_other : Next
   refused : WireRefusal → Framing → Next
   ending : Next
 
 -- a read that failed cut it
 abbrev pub is_cut_by_fault : Next → Bool
-is_cut_by_fault (message asked framing) = false
-is_cut_by_fault (cut_patch asked framing Ended) = false
-is_cut_by_fault (cut_patch asked framing Fault) = true
+is_cut_by_fault (message request framing) = false
+is_cut_by_fault (cut_patch request framing Ended) = false
+is_cut_by_fault (cut_patch request framing Fault) = true
 is_cut_by_fault cut_other = false
 is_cut_by_fault (refused why framing) = false
 is_cut_by_fault ending = false

@@ -16,11 +16,11 @@ use Rattle.http_wire.specs.declared.read.Cut.TheVariants.{Ended, Fault}
 -- These bytes begin with what came in, and this text was written meanwhile. What follows them changes no message and no
 -- refusal; after a message, these bytes of them are left.
 abbrev pub ComesIn : ℕ → List ℕ → List ℕ → List ℕ → Next → Type 0
-ComesIn max bytes text left (next.message asked framing) =
+ComesIn max bytes text left (next.message request framing) =
     (waiting : Bool) × (text ≡ continue_text waiting)
-    × ((rest : List ℕ) → IsFront max (bytes ++ rest) (message asked framing waiting (left ++ rest)))
-ComesIn max bytes text left (next.cut_patch asked framing why) =
-    (waiting : Bool) × (text ≡ continue_text waiting) × IsFront max bytes (cut_patch asked framing waiting)
+    × ((rest : List ℕ) → IsFront max (bytes ++ rest) (message request framing waiting (left ++ rest)))
+ComesIn max bytes text left (next.cut_patch request framing why) =
+    (waiting : Bool) × (text ≡ continue_text waiting) × IsFront max bytes (cut_patch request framing waiting)
 ComesIn max bytes text left next.cut_other =
     (waiting : Bool) × (text ≡ continue_text waiting) × IsFront max bytes (cut_other waiting)
 ComesIn max bytes text left (next.refused why framing) =
@@ -29,9 +29,9 @@ ComesIn max bytes text left next.ending = (text ≡ []) × IsFront max bytes cle
 
 -- the request waits for `100 Continue`
 abbrev pub waits : Front → Bool
-waits (message asked framing waiting rest) = waiting
+waits (message request framing waiting rest) = waiting
 waits (refused why framing) = false
-waits (cut_patch asked framing waiting) = waiting
+waits (cut_patch request framing waiting) = waiting
 waits (cut_other waiting) = waiting
 waits clean_end = false
 
@@ -53,9 +53,9 @@ ReadsNext max bytes text left (Err fault) = BreaksFront max bytes text fault
 
 -- the input is cut or ended only where no byte of it is left
 abbrev pub ComesAtEnd : Option (List ℕ) → Next → Type 0
-ComesAtEnd remaining (next.message asked framing) = ⊤
-ComesAtEnd remaining (next.cut_patch asked framing Ended) = IsAtEnd remaining
-ComesAtEnd remaining (next.cut_patch asked framing Fault) = ⊤
+ComesAtEnd remaining (next.message request framing) = ⊤
+ComesAtEnd remaining (next.cut_patch request framing Ended) = IsAtEnd remaining
+ComesAtEnd remaining (next.cut_patch request framing Fault) = ⊤
 ComesAtEnd remaining next.cut_other = IsAtEnd remaining
 ComesAtEnd remaining (next.refused why framing) = ⊤
 ComesAtEnd remaining next.ending = IsAtEnd remaining
@@ -63,9 +63,9 @@ ComesAtEnd remaining next.ending = IsAtEnd remaining
 -- The reader's end was seen where the input ended or was cut by its end, and not where a read failed: after the
 -- end no read is tried.
 abbrev pub TellsEnd : Bool → Result Next WireFault → Type 0
-TellsEnd ended (Ok (next.message asked framing)) = ⊤
-TellsEnd ended (Ok (next.cut_patch asked framing Ended)) = ended ≡ true
-TellsEnd ended (Ok (next.cut_patch asked framing Fault)) = ended ≡ false
+TellsEnd ended (Ok (next.message request framing)) = ⊤
+TellsEnd ended (Ok (next.cut_patch request framing Ended)) = ended ≡ true
+TellsEnd ended (Ok (next.cut_patch request framing Fault)) = ended ≡ false
 TellsEnd ended (Ok next.cut_other) = ended ≡ true
 TellsEnd ended (Ok (next.refused why framing)) = ⊤
 TellsEnd ended (Ok next.ending) = ended ≡ true

@@ -1,5 +1,5 @@
 -- Where the parts of a message stand in its bytes.
-use Rattle.std.specs.Prelude.{◌≡◌, ℕ, List, length, map, take, drop, Ok, Some, codes}
+use Rattle.std.specs.Prelude.{◌≡◌, ℕ, List, length, map, take, drop, Ok, Some}
 use Rattle.httparse.specs.Grammar.{Field, RequestHead}
 use Rattle.http_header.specs.HeaderMap.{Entries, get_all}
 use Rattle.httparse.specs.Spans.{span_bytes, IsWithin, IsRequestAt, IsRequestWithin}
@@ -7,9 +7,10 @@ use Rattle.httparse.specs.declared.spans.Span.{Span}
 use Rattle.httparse.specs.declared.spans.HeaderSpan.{HeaderSpan}
 use Rattle.httparse.specs.declared.spans.RequestSpans.{RequestSpans}
 use Rattle.tus_text.specs.Path.{path_of}
-use Rattle.tus_steps.specs.Request.{Asked}
-use Rattle.http_wire.specs.Fields.{IsInside, told_at, values_named, field_text}
-use Rattle.http_wire.specs.Front.{Parses, method_in, framing_of, is_waiting, judged}
+use Rattle.tus_steps.specs.Request.{Request}
+use Rattle.tus_steps.specs.TusFields.{EachField, map_fields}
+use Rattle.http_wire.specs.Fields.{IsInside, told_at, values_named}
+use Rattle.http_wire.specs.Front.{Parses, method_in, tus_fields, framing_of, is_waiting, judged}
 use Rattle.http_wire.specs.declared.parts.Parts.{Parts}
 
 -- a line that was parsed is that of a head, which is the whole text, with its fields
@@ -33,28 +34,16 @@ HasFields text found fields = (name : List ℕ) → map (span_bytes text) (get_a
 pub record IsPartsWithin (n : ℕ) (p : Parts) : Type 0 where
   pub head : p.head_len ≡ n
   pub target : IsWithin n p.target
-  pub version : IsInside n p.version
-  pub length : IsInside n p.length
-  pub defer : IsInside n p.defer
-  pub offset : IsInside n p.offset
-  pub metadata : IsInside n p.metadata
-  pub concat : IsInside n p.concat
-  pub media : IsInside n p.media
+  pub fields : EachField (IsInside n) p.fields
 
 -- the request of a message with these parts
-abbrev pub request_at : Parts → List ℕ → Asked
+abbrev pub request_at : Parts → List ℕ → Request
 request_at p text =
     let head = take p.head_len text in
     record {
       method = p.method;
       path = path_of (span_bytes head p.target);
-      version = told_at head p.version;
-      length = told_at head p.length;
-      defer = told_at head p.defer;
-      offset = told_at head p.offset;
-      metadata = told_at head p.metadata;
-      concat = told_at head p.concat;
-      media = told_at head p.media;
+      fields = map_fields (told_at head) p.fields;
       body = drop p.head_len text;
     }
 
@@ -65,10 +54,4 @@ pub record ShowsHead (max : ℕ) (head : List ℕ) (h : RequestHead) (p : Parts)
   pub is_waiting : p.is_waiting ≡ is_waiting h p.body_len
   pub body_len : judged max h ≡ Ok p.body_len
   pub target : span_bytes head p.target ≡ h.target
-  pub version : told_at head p.version ≡ field_text (codes "tus-resumable") h.fields
-  pub length : told_at head p.length ≡ field_text (codes "upload-length") h.fields
-  pub defer : told_at head p.defer ≡ field_text (codes "upload-defer-length") h.fields
-  pub offset : told_at head p.offset ≡ field_text (codes "upload-offset") h.fields
-  pub metadata : told_at head p.metadata ≡ field_text (codes "upload-metadata") h.fields
-  pub concat : told_at head p.concat ≡ field_text (codes "upload-concat") h.fields
-  pub media : told_at head p.media ≡ field_text (codes "content-type") h.fields
+  pub fields : map_fields (told_at head) p.fields ≡ tus_fields h

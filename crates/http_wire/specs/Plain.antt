@@ -1,6 +1,7 @@
 -- What the plain program tells, as the definitions have it.
 use Rattle.std.specs.Prelude.{ℕ, ◌+◌, Bool, List, length, take, drop, nat_le, if◌then◌else◌}
-use Rattle.http_wire.specs.Front.{Front, message, refused, cut_patch, cut_other, clean_end, is_patch}
+use Rattle.http_wire.specs.Front.{Front, message, refused, cut_patch, cut_other, clean_end}
+use Rattle.tus_steps.specs.Method.{is_applied_when_cut}
 use Rattle.http_wire.specs.HeadText.{HeadText, whole, too_long, cut, nothing}
 use Rattle.http_wire.specs.Parts.{request_at}
 use Rattle.http_wire.specs.declared.parts.Parts.{Parts}
@@ -29,4 +30,4 @@ abbrev pub body_front : Parts → List ℕ → Front
 body_front p text =
     let end = p.head_len + p.body_len in
     if nat_le end (length text) then message (request_at p (take end text)) p.framing p.is_waiting (drop end text)
-    else (if is_patch p.method then cut_patch (request_at p text) p.framing p.is_waiting else cut_other p.is_waiting)
+    else (if is_applied_when_cut p.method then cut_patch (request_at p text) p.framing p.is_waiting else cut_other p.is_waiting)

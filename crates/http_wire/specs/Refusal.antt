@@ -3,16 +3,6 @@ use Rattle.std.specs.Prelude.{ℕ, List, codes}
 use Rattle.http_wire.specs.declared.refusal.WireRefusal.{WireRefusal}
 use Rattle.http_wire.specs.declared.refusal.WireRefusal.TheVariants.{Memory, Head, HeadSize, Host, Coding, ContentLength, BodySize}
 
--- its number
-abbrev pub number_of_refusal : WireRefusal → ℕ
-number_of_refusal Memory = 20
-number_of_refusal Head = 21
-number_of_refusal HeadSize = 22
-number_of_refusal Host = 23
-number_of_refusal Coding = 24
-number_of_refusal ContentLength = 25
-number_of_refusal BodySize = 26
-
 -- the word that names it, which is the body of its reply
 abbrev pub word_of : WireRefusal → List ℕ
 word_of Memory = codes "memory"

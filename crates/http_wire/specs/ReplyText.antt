@@ -3,8 +3,9 @@
 -- server's choice.
 use Rattle.std.specs.Prelude.{ℕ, Bool, true, false, ◌||◌, ◌==◌, if◌then◌else◌, List, [], ◌∷◌, ◌++◌, length, codes, decimal, Option, Some, None}
 use Rattle.tus_text.specs.Date.{expires_text}
+use Rattle.upload_book.specs.declared.refusal.Refusal.{Refusal}
 use Rattle.upload_book.specs.declared.refusal.Refusal.TheVariants as refusal
-use Rattle.upload_book.specs.Refusal.{number_of, status_of, word_of}
+use Rattle.upload_book.specs.Refusal.{status_of, word_of}
 use Rattle.tus_steps.specs.declared.reply.Place.{Place}
 use Rattle.tus_steps.specs.declared.reply.Place.TheVariants as place
 use Rattle.tus_steps.specs.declared.reply.Reply.{Reply}
@@ -80,10 +81,20 @@ reply_status (Content bytes) = 200
 reply_status (Patched offset expires) = 204
 reply_status (Refused why head at expires) = status_of why
 
+-- the refusal is that of another version
+abbrev pub is_version : Refusal → Bool
+is_version refusal.Version = true
+is_version _ = false
+
+-- the refusal is that of a method that is not allowed
+abbrev pub is_method : Refusal → Bool
+is_method refusal.Method = true
+is_method _ = false
+
 -- an OPTIONS, and a request of another version of the protocol, are told the one that is served
 abbrev pub tells_version : Reply → Bool
 tells_version (Options max_size) = true
-tells_version (Refused why head at expires) = number_of why == number_of refusal.Version
+tells_version (Refused why head at expires) = is_version why
 tells_version _ = false
 
 -- an OPTIONS is told what is served beside the core protocol
@@ -104,7 +115,7 @@ allowed_at place.Other = []
 
 -- a request whose method is not allowed is told those that are
 abbrev pub allowed_in : Reply → List ℕ
-allowed_in (Refused why head at expires) = if number_of why == number_of refusal.Method then allowed_at at else []
+allowed_in (Refused why head at expires) = if is_method why then allowed_at at else []
 allowed_in _ = []
 
 -- the path of an upload

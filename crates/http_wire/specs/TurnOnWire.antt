@@ -1,7 +1,7 @@
 -- What a turn did to a wire and to what answers.
 use Rattle.std.specs.Prelude.{◌≡◌, ℕ, Bool, true, false, List, ◌++◌, Option, Some, None, Result, Ok, Err, is_ok, OnOk, IfOk, IfErr, ⊤}
 use Rattle.std.specs.Io.KnownBytes.{Appends, Consumes}
-use Rattle.tus_steps.specs.Request.{Asked}
+use Rattle.tus_steps.specs.Request.{Request}
 use Rattle.tus_steps.specs.declared.reply.Reply.{Reply}
 use Rattle.http_wire.specs.Lent.{Names}
 use Rattle.http_wire.specs.OnWire.{OnWire}
@@ -23,7 +23,7 @@ EndsAtEnd remaining None = ⊤
 EndsAtEnd remaining (Some e) = IsReadWhen e remaining
 
 module _ {R W A : Type 0} (remaining : R → Option (List ℕ)) (read_failed : R → Bool) (contents : W → Option (List ℕ)) (write_failed : W → Bool)
-    (steps : A → Asked → ℕ → Reply → A → Type 0) where
+    (steps : A → Request → ℕ → Reply → A → Type 0) where
   -- A turn on a wire that reads: some bytes were read and this text was written, and it is the turn of what they begin with.
   -- Nothing had failed before; where something did now, the fault names which. Then the wire reads on where the conversation
   -- goes on, and writes on unless something failed.

@@ -1,7 +1,7 @@
 -- A conversation turn by turn, and one that a fault breaks off.
 use Rattle.std.specs.Prelude.{◌≡◌, ◌⊎◌, ℕ, Bool, true, false, List, [], ◌∷◌, ◌++◌, take, Option, Some, None, Result, Ok, Err, ⊤}
 use Rattle.std.specs.Io.KnownBytes.{IsAtEnd}
-use Rattle.tus_steps.specs.Request.{Asked}
+use Rattle.tus_steps.specs.Request.{Request}
 use Rattle.tus_steps.specs.declared.reply.Reply.{Reply}
 use Rattle.http_wire.specs.Ahead.{Ahead, SeesEnd}
 use Rattle.http_wire.specs.Conversation.{continue_text, Conversation}
@@ -40,17 +40,17 @@ EndsTurnAtEnd remaining a None = SeesEnd remaining a
 EndsTurnAtEnd remaining a (Some e) = IsReadWhen e remaining
 
 -- what makes these steps, over a connection whose bodies have at most max bytes
-module _ {A : Type 0} (steps : A → Asked → ℕ → Reply → A → Type 0) (max : ℕ) where
+module _ {A : Type 0} (steps : A → Request → ℕ → Reply → A → Type 0) (max : ℕ) where
   -- The message that the input begins with is answered with this text, which leaves this book and this rest
   -- of the input, and the connection open.
   pub record Answered (now : ℕ) (input : List ℕ) (b : A) (text : List ℕ) (b2 : A) (rest : List ℕ) : Type 0 where
-    pub asked : Asked
+    pub request : Request
     pub framing : Framing
     pub waiting : Bool
     pub reply : Reply
-    pub front : IsFront max input (message asked framing waiting rest)
+    pub front : IsFront max input (message request framing waiting rest)
     pub stays : framing.close ≡ false
-    pub step : steps b asked now reply b2
+    pub step : steps b request now reply b2
     pub wrote : text ≡ continue_text waiting ++ reply_text reply now framing
 
   -- whole turns at these moments, one for each, that leave the connection open
@@ -67,11 +67,11 @@ module _ {A : Type 0} (steps : A → Asked → ℕ → Reply → A → Type 0) (
   -- The turn of a front was broken off by a write that failed: of its text this part was written. A step that
   -- was made before its reply could not be written stays.
   abbrev pub FailsIn : ℕ → Front → A → List ℕ → A → Type 0
-  FailsIn now (message asked framing waiting rest) b part b2 =
+  FailsIn now (message request framing waiting rest) b part b2 =
       FailsToContinue waiting b part b2
-      ⊎ ((reply : Reply) × (n : ℕ) × steps b asked now reply b2 × (part ≡ continue_text waiting ++ take n (reply_text reply now framing)))
+      ⊎ ((reply : Reply) × (n : ℕ) × steps b request now reply b2 × (part ≡ continue_text waiting ++ take n (reply_text reply now framing)))
   FailsIn now (refused why framing) b part b2 = (b2 ≡ b) × ((n : ℕ) × (part ≡ take n (refusal_text why now framing)))
-  FailsIn now (cut_patch asked framing waiting) b part b2 = FailsToContinue waiting b part b2
+  FailsIn now (cut_patch request framing waiting) b part b2 = FailsToContinue waiting b part b2
   FailsIn now (cut_other waiting) b part b2 = FailsToContinue waiting b part b2
   FailsIn now clean_end b part b2 = ⊥
 

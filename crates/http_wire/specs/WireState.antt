@@ -22,9 +22,9 @@ is_alive state.Failed = false
 
 -- what it does after this came in: it reads on after a message alone, and writes on unless a read or a write failed
 abbrev pub state_after : Result Next WireFault → State
-state_after (Ok (message asked framing)) = state.Open
-state_after (Ok (cut_patch asked framing cut.Ended)) = state.Ended
-state_after (Ok (cut_patch asked framing cut.Fault)) = state.Failed
+state_after (Ok (message request framing)) = state.Open
+state_after (Ok (cut_patch request framing cut.Ended)) = state.Ended
+state_after (Ok (cut_patch request framing cut.Fault)) = state.Failed
 state_after (Ok cut_other) = state.Ended
 state_after (Ok (refused why framing)) = state.Ended
 state_after (Ok ending) = state.Ended

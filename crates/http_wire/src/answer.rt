@@ -1,7 +1,8 @@
 ghost use Rattle.std.specs.Prelude.{◌≡◌, ◌<◌, ◌^◌, ℕ};
-ghost use Rattle.tus_steps.specs.Request.{Asked, asked_of};
+ghost use Rattle.tus_steps.specs.Request as spec;
 ghost use Rattle.tus_steps.specs.Step.{IsStep};
 ghost use Rattle.tus_steps.specs.declared.reply.Reply.{Reply};
+ghost use Rattle.upload_book.specs.Book.{plain_of};
 ghost use Rattle.upload_book.specs.PlainBook.{PlainBook};
 
 use tus_steps::{Reply, Request};
@@ -14,7 +15,7 @@ pub trait Answer {
     ghost max_size: { Self → ℕ };
 
     // Its steps: from a state, by a request at a moment, with this reply, to the state after it.
-    ghost steps: { Self → Asked → ℕ → Reply → Self → Type 0 };
+    ghost steps: { Self → spec.Request → ℕ → Reply → Self → Type 0 };
 
     /// The most bytes of a request's body.
     fn max_size(&self) -> u64
@@ -23,13 +24,13 @@ pub trait Answer {
 
     /// Makes the step of a request at its moment, and gives the reply.
     fn answer(&mut self, request: &Request, now: Moment) -> Reply
-        ensures { steps self.old (asked_of request.now) now result self.new };
+        ensures { steps self.old request.now now result self.new };
 }
 
 impl Answer for Book {
-    ghost max_size = { λ (b : PlainBook). b.settings.numbers.max_size };
+    ghost max_size = { λ (b : PlainBook). (plain_of b).settings.numbers.max_size };
 
-    ghost steps = { IsStep };
+    ghost steps = { λ (old : PlainBook) request now reply (new : PlainBook). IsStep (plain_of old) request now reply (plain_of new) };
 
     fn max_size(&self) -> u64 {
         self.settings().numbers().max_size

@@ -4,7 +4,6 @@ ghost use Rattle.http_wire.specs.Ahead.{SeesEnd};
 ghost use Rattle.http_wire.specs.Conversation.{Conversation};
 ghost use Rattle.http_wire.specs.Turns.{Breaks, Converses, EndsTurnAtEnd, IsReadWhen, TakesTurn};
 ghost use Rattle.http_wire.specs.ReplyText.{reply_text};
-ghost use Rattle.tus_steps.specs.Request.{asked_of};
 ghost use Rattle.tus_steps.specs.declared.reply.Reply.{Reply};
 ghost use Rattle.http_wire.specs.Lent.{Names, NamesOrMemory};
 ghost use Rattle.http_wire.specs.Writes.{Writes};
@@ -158,7 +157,7 @@ fn reply_to<W: Sink, A: Answer>(
     framing: Framing,
 ) -> Result<(), WireFault>
     requires { W.has_failed writer.old ≡ false }
-    ensures { (reply : Reply) × A.steps answerer.old (asked_of request.now) now reply answerer.new
+    ensures { (reply : Reply) × A.steps answerer.old request.now now reply answerer.new
         × Writes (W.contents writer.old) (W.contents writer.new) (W.has_failed writer.new)
         (reply_text reply now framing) result }
 {

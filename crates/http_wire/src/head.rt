@@ -5,14 +5,15 @@ ghost use Rattle.http_header.specs.HeaderMap.{get_all};
 ghost use Rattle.http_header.specs.Token.{lowercase};
 ghost use Rattle.http_wire.specs.Fields.{IsInside, span_of};
 ghost use Rattle.tus_steps.specs.Field.{text_of};
-ghost use Rattle.tus_steps.specs.Step.{is_head};
+ghost use Rattle.http_wire.specs.Fields.{told_at, told_by};
+ghost use Rattle.tus_steps.specs.TusFields.{EachField, fields_by, map_fields};
 ghost use Rattle.http_wire.specs.Connection.{closes};
 ghost use Rattle.http_wire.specs.Front.{Parses, method_of, method_by, closing, unknown_framing};
 ghost use Rattle.http_wire.specs.Shown.{Gives, Shows};
 ghost use Rattle.http_wire.specs.Parts.{HasFields, HasLine, IsLine, IsPartsWithin};
 
 use crate::connection::{asks_to_continue, has_close};
-use crate::fields::{field_of, gather};
+use crate::fields::{FieldSpan, field_of, gather};
 use crate::framing::Framing;
 use crate::head_text::has_many_lines;
 use crate::judge::judge;
@@ -22,7 +23,7 @@ use http_header::HeaderMap;
 use httparse::Status;
 use httparse::spans::{EMPTY_HEADER_SPAN, HeaderSpan, RequestSpans, Span, parse_request};
 use std::alloc::Global;
-use tus_steps::{Field, Method};
+use tus_steps::{Field, Method, TusFields};
 
 /// The most fields of a head.
 const FIELD_LIMIT: usize = 64;
@@ -66,7 +67,7 @@ pub fn read_parts(
         Err(_) => Err(RefusedHead {
             refusal: WireRefusal::Memory,
             framing: Framing {
-                bare: is_head(method_of(line.method.of(head))),
+                bare: method_of(line.method.of(head)).is_head(),
                 close: true,
             },
         }),
@@ -102,7 +103,7 @@ fn parts_of(
     let name = line.method.of(head);
     let instead = field_of(head, found, "x-http-method-override").of(head);
     let framing = Framing {
-        bare: is_head(method_of(name)),
+        bare: method_of(name).is_head(),
         close: line.version == 0 || closes(head, found),
     };
     let host = field_of(head, found, "host").of(head);
@@ -122,15 +123,27 @@ fn parts_of(
                 head_len: head.len(),
                 body_len: body_len as usize,
                 target: line.path,
-                version: field_of(head, found, "tus-resumable"),
-                length: field_of(head, found, "upload-length"),
-                defer: field_of(head, found, "upload-defer-length"),
-                offset: field_of(head, found, "upload-offset"),
-                metadata: field_of(head, found, "upload-metadata"),
-                concat: field_of(head, found, "upload-concat"),
-                media: field_of(head, found, "content-type"),
+                fields: tus_fields(head, found),
             })
         }
+    }
+}
+
+// Where the fields that count for the steps stand.
+fn tus_fields(head: &[u8], found: &HeaderMap<Span>) -> TusFields<FieldSpan>
+    requires { (name : List ℕ) → All (IsWithin (length head.now)) (get_all found.now name) }
+    ensures inside { EachField (IsInside (length head.now)) result }
+    ensures told { map_fields (told_at head.now) result
+        ≡ fields_by (λ name. told_by (map (span_bytes head.now) (get_all found.now name))) }
+{
+    TusFields {
+        version: field_of(head, found, "tus-resumable"),
+        length: field_of(head, found, "upload-length"),
+        defer: field_of(head, found, "upload-defer-length"),
+        offset: field_of(head, found, "upload-offset"),
+        metadata: field_of(head, found, "upload-metadata"),
+        concat: field_of(head, found, "upload-concat"),
+        media: field_of(head, found, "content-type"),
     }
 }
 
@@ -141,15 +154,6 @@ pub fn closing(framing: Framing) -> Framing
     Framing {
         bare: framing.bare,
         close: true,
-    }
-}
-
-fn is_head(method: Method) -> bool
-    ensures { result ≡ is_head method }
-{
-    match method {
-        Method::Head => true,
-        Method::Post | Method::Patch | Method::Get | Method::Options | Method::Other => false,
     }
 }
 

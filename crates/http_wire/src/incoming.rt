@@ -1,6 +1,5 @@
 ghost use Rattle.std.specs.Prelude.{◌≡◌};
 ghost use Rattle.http_wire.specs.Lent.{IsMessage};
-ghost use Rattle.tus_steps.specs.Request.{asked_of};
 
 use crate::framing::Framing;
 use crate::message::request_in;
@@ -33,11 +32,11 @@ pub struct Message<'a> {
 }
 
 impl Message<'_> {
-    ghost use Rattle.http_wire.specs.Message.{asked_in};
+    ghost use Rattle.http_wire.specs.Message.{request_in};
 
     /// The request of the message, whose fields and body are lent.
     pub fn request(&self) -> Request<'_>
-        ensures { asked_of result ≡ asked_in self.now }
+        ensures { result ≡ request_in self.now }
     {
         request_in(&self.parts, self.text)
     }

@@ -1,6 +1,6 @@
 //! Laws of the definitions that the contracts cite: each is the contract of a function that does
 //! nothing, and holds of every input.
-ghost use Rattle.http_wire.specs.Laws.{InputsJoin, MessagesAreShort, OneFront, TurnsJoin};
+ghost use Rattle.http_wire.specs.Laws.{InputsJoin, MessagesAreShort, OneFront, TurnsJoin, WireFollowsOrder};
 
 use crate::answer::Answer;
 
@@ -21,4 +21,10 @@ pub fn one_front()
 /// A message is at most 16,384 bytes of head, with the line ends before it, and the greatest body.
 pub fn messages_are_short()
     ensures { MessagesAreShort }
+{}
+
+/// The wire refuses a request by its fields for the first reason that applies, and all its reasons stand
+/// in the one order of refusals.
+pub fn refusals_follow_the_order()
+    ensures { WireFollowsOrder }
 {}

@@ -1,7 +1,7 @@
 use crate::fields::FieldSpan;
 use crate::framing::Framing;
 use httparse::spans::Span;
-use tus_steps::Method;
+use tus_steps::{Method, TusFields};
 
 /// Where the parts of a message stand in its bytes, a head and a body, and what its head says of it.
 #[derive(Clone, Copy, Debug)]
@@ -13,11 +13,6 @@ pub struct Parts {
     pub head_len: usize,
     pub body_len: usize,
     pub target: Span,
-    pub version: FieldSpan,
-    pub length: FieldSpan,
-    pub defer: FieldSpan,
-    pub offset: FieldSpan,
-    pub metadata: FieldSpan,
-    pub concat: FieldSpan,
-    pub media: FieldSpan,
+    /// Where the fields that count for the steps stand in the head.
+    pub fields: TusFields<FieldSpan>,
 }

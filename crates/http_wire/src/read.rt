@@ -2,7 +2,6 @@ ghost use Rattle.std.specs.Prelude.{◌≡◌, ◌≤◌, ◌+◌, ◌<◌, ◌^
 ghost use Rattle.std.specs.Io.KnownBytes.{Appends, Consumes};
 ghost use Rattle.http_wire.specs.Ahead.{Grew, SeesEnd, StopsAtEnd};
 ghost use Rattle.http_wire.specs.Conversation.{continue_text};
-ghost use Rattle.http_wire.specs.Front.{is_patch};
 ghost use Rattle.http_wire.specs.FrontRead.{BeginsHead, ReadsFront};
 ghost use Rattle.http_wire.specs.HeadFound.{BreaksHead, IsFound, IsHeldBy, Skips};
 ghost use Rattle.http_wire.specs.Lent.{IsLent, Names};
@@ -252,7 +251,7 @@ fn read_rest<R: Source>(reader: &mut R, inbox: &mut Inbox, parts: Parts) -> Resu
             Ok(Front::Message(parts))
         }
         Ok(false) => {
-            if is_patch(parts.method) {
+            if parts.method.is_applied_when_cut() {
                 lend_all(inbox);
                 Ok(Front::CutPatch(parts, Cut::Ended))
             } else {
@@ -260,22 +259,13 @@ fn read_rest<R: Source>(reader: &mut R, inbox: &mut Inbox, parts: Parts) -> Resu
             }
         }
         Err(fault) => {
-            if is_patch(parts.method) {
+            if parts.method.is_applied_when_cut() {
                 lend_all(inbox);
                 Ok(Front::CutPatch(parts, Cut::Fault))
             } else {
                 Err(fault)
             }
         }
-    }
-}
-
-fn is_patch(method: Method) -> bool
-    ensures { result ≡ is_patch method }
-{
-    match method {
-        Method::Patch => true,
-        Method::Post | Method::Head | Method::Get | Method::Options | Method::Other => false,
     }
 }
 

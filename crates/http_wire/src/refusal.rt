@@ -1,9 +1,8 @@
-ghost use Rattle.std.specs.Prelude.{◌≡◌};
-ghost use Rattle.http_wire.specs.Refusal.{number_of_refusal, word_of, status_of};
+ghost use Rattle.std.specs.Prelude.{◌≡◌, ◌≤◌, length};
+ghost use Rattle.http_wire.specs.Refusal.{word_of, status_of};
 
 use std::error::Error;
 use std::fmt;
-use upload_book::Rule;
 
 /// Why the wire answers a request itself, without a step. Each closes the connection. It displays its
 /// word.
@@ -26,26 +25,32 @@ pub enum WireRefusal {
 }
 
 impl WireRefusal {
-    /// Its number, which is that of a step's refusal where it has the same word, the word that is the
-    /// body of its reply, and its status (RFC 9110, section 15; 431: RFC 6585, section 5).
-    pub fn rule(self) -> Rule
-        ensures number { result.number ≡ number_of_refusal self }
-        ensures word { result.word.now ≡ word_of self }
-        ensures status { result.status ≡ status_of self }
+    /// The word that names it, at most 14 bytes: the body of its reply.
+    pub fn word(self) -> &'static str
+        ensures word { result.now ≡ word_of self }
+        ensures short { length result.now ≤ 14 }
     {
-        let (number, word, status) = match self {
-            WireRefusal::Memory => (20, "memory", 503),
-            WireRefusal::Head => (21, "head", 400),
-            WireRefusal::HeadSize => (22, "head-size", 431),
-            WireRefusal::Host => (23, "host", 400),
-            WireRefusal::Coding => (24, "coding", 411),
-            WireRefusal::ContentLength => (25, "content-length", 400),
-            WireRefusal::BodySize => (26, "body-size", 413),
-        };
-        Rule {
-            number,
-            word,
-            status,
+        match self {
+            WireRefusal::Memory => "memory",
+            WireRefusal::Head => "head",
+            WireRefusal::HeadSize => "head-size",
+            WireRefusal::Host => "host",
+            WireRefusal::Coding => "coding",
+            WireRefusal::ContentLength => "content-length",
+            WireRefusal::BodySize => "body-size",
+        }
+    }
+
+    /// The status of its reply (RFC 9110, section 15; 431: RFC 6585, section 5).
+    pub fn status(self) -> u16
+        ensures { result ≡ status_of self }
+    {
+        match self {
+            WireRefusal::Memory => 503,
+            WireRefusal::Head | WireRefusal::Host | WireRefusal::ContentLength => 400,
+            WireRefusal::HeadSize => 431,
+            WireRefusal::Coding => 411,
+            WireRefusal::BodySize => 413,
         }
     }
 }
@@ -56,8 +61,7 @@ impl fmt::Display for WireRefusal {
     ghost output = { λ refusal. Some (word_of refusal) };
 
     fn fmt<W: fmt::Write>(&self, f: &mut fmt::Formatter<W>) -> fmt::Result {
-        let word = self.rule().word;
-        write!(f, "{word}")
+        f.write_str(self.word())
     }
 }
 

@@ -46,10 +46,10 @@ pub fn put_refusal(page: &mut Page, refusal: WireRefusal, now: Moment, framing: 
     ensures { page.new ≡ refusal_text refusal now framing }
 {
     page.clear();
-    let rule = refusal.rule();
-    put_opening(page, rule.status, now);
-    let bare = framing.bare || rule.status == 204;
-    let word = rule.word.as_bytes();
+    let status = refusal.status();
+    put_opening(page, status, now);
+    let bare = framing.bare || status == 204;
+    let word = refusal.word().as_bytes();
     put_ending(
         page,
         bare,
@@ -120,7 +120,7 @@ fn status_of(reply: &Reply) -> u16
         Reply::Created { .. } => 201,
         Reply::Head(_) | Reply::Content(_) => 200,
         Reply::Options { .. } | Reply::Patched { .. } => 204,
-        Reply::Refused { refusal, .. } => refusal.rule().status,
+        Reply::Refused { refusal, .. } => refusal.status(),
     }
 }
 
@@ -141,7 +141,7 @@ fn body_len(reply: &Reply) -> u64
 {
     match reply {
         Reply::Content(content) => content.as_slice().len() as u64,
-        Reply::Refused { refusal, .. } => refusal.rule().word.len() as u64 + 1,
+        Reply::Refused { refusal, .. } => refusal.word().len() as u64 + 1,
         _ => 0,
     }
 }
@@ -152,7 +152,7 @@ fn put_word_of(page: &mut Page, reply: &Reply)
     ensures { page.new ≡ page.old ++ word_in reply.now }
 {
     if let Reply::Refused { refusal, .. } = reply {
-        put_word(page, refusal.rule().word.as_bytes());
+        put_word(page, refusal.word().as_bytes());
     }
 }
 

@@ -4,7 +4,7 @@
 
 mod field;
 pub mod laws;
-pub mod media;
+mod media;
 mod method;
 mod reply;
 mod request;
@@ -15,6 +15,7 @@ mod tests;
 mod tus_fields;
 
 pub use field::Field;
+pub use media::trim_blanks;
 pub use method::Method;
 pub use reply::{Place, Reply};
 pub use request::Request;

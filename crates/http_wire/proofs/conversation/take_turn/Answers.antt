@@ -34,8 +34,8 @@ returns-in_err-reply_to-in-Message-clause-turn g c =
     let told = c.in_err-reply_to-in-Message.ensures in
     let part = told.2.part in
     let reply = told.0 in
-    let asked = c.request_in-request.ensures ∙ ap (request_at parts) c.lent.ensures in
-    let step = subst (λ x. g.A.Answer.steps b x now reply c.reply_to.new.answerer) asked told.1 in
+    let request = c.request_in-request.ensures ∙ ap (request_at parts) c.lent.ensures in
+    let step = subst (λ x. g.A.Answer.steps b x now reply c.reply_to.new.answerer) request told.1 in
     let last = take part.0 (reply_text reply now parts.framing) in (
       f.0,
       f.1 ++ last,
@@ -73,8 +73,8 @@ returns-then-parts-clause-turn g c =
     let bytes = c.args.buffers.now.inbox.held ++ f.0 in
     let told = c.in_ok-reply_to-in-Message.ensures in
     let reply = told.0 in
-    let asked = c.request_in-request.ensures ∙ ap (request_at parts) c.lent.ensures in
-    let step = subst (λ x. g.A.Answer.steps b x now reply c.reply_to.new.answerer) asked told.1 in
+    let request = c.request_in-request.ensures ∙ ap (request_at parts) c.lent.ensures in
+    let step = subst (λ x. g.A.Answer.steps b x now reply c.reply_to.new.answerer) request told.1 in
     let last = reply_text reply now parts.framing in (
       f.0,
       f.1 ++ last,
@@ -93,8 +93,8 @@ returns-else-parts-clause-turn g c =
     let bytes = c.args.buffers.now.inbox.held ++ f.0 in
     let told = c.in_ok-reply_to-in-Message.ensures in
     let reply = told.0 in
-    let asked = c.request_in-request.ensures ∙ ap (request_at parts) c.lent.ensures in
-    let step = subst (λ x. g.A.Answer.steps b x now reply c.reply_to.new.answerer) asked told.1 in
+    let request = c.request_in-request.ensures ∙ ap (request_at parts) c.lent.ensures in
+    let step = subst (λ x. g.A.Answer.steps b x now reply c.reply_to.new.answerer) request told.1 in
     let last = reply_text reply now parts.framing in (
       f.0,
       f.1 ++ last,
@@ -127,8 +127,8 @@ returns-in-Ended-clause-turn g c =
     let a = c.read_front.new.inbox in
     let bytes = c.args.buffers.now.inbox.held ++ f.0 in
     let reply = c.answer.result in
-    let asked = c.request_in.ensures ∙ ap (request_at parts) c.lent-in-CutPatch.ensures in
-    let step = subst (λ x. g.A.Answer.steps b x now reply c.answer.new.self) asked c.answer.ensures in
+    let request = c.request_in.ensures ∙ ap (request_at parts) c.lent-in-CutPatch.ensures in
+    let step = subst (λ x. g.A.Answer.steps b x now reply c.answer.new.self) request c.answer.ensures in
     (f.0, f.1, f.2, f.3, λ rest none. LastTurn-alone g.A.Answer.steps c.args.max_size now bytes f.1 rest b c.answer.new.self ended.Cut (Served-cut_patch g.A.Answer.steps c.args.max_size now bytes f.1 a parts c.in-CutPatch.why b c.answer.new.self reply f.4 step) none)
 
 pub returns-in-Fault-clause-turn : goal.returns-in-Fault-clause-turn
@@ -140,8 +140,8 @@ returns-in-Fault-clause-turn g c =
     let a = c.read_front.new.inbox in
     let bytes = c.args.buffers.now.inbox.held ++ f.0 in
     let reply = c.answer.result in
-    let asked = c.request_in.ensures ∙ ap (request_at parts) c.lent-in-CutPatch.ensures in
-    let step = subst (λ x. g.A.Answer.steps b x now reply c.answer.new.self) asked c.answer.ensures in
+    let request = c.request_in.ensures ∙ ap (request_at parts) c.lent-in-CutPatch.ensures in
+    let step = subst (λ x. g.A.Answer.steps b x now reply c.answer.new.self) request c.answer.ensures in
     (f.0, f.1, f.2, f.3, (ended.Cut, tt, Served-cut_patch g.A.Answer.steps c.args.max_size now bytes f.1 a parts c.in-CutPatch.why b c.answer.new.self reply f.4 step))
 
 pub returns-in-CutOther-clause-turn : goal.returns-in-CutOther-clause-turn

@@ -1,5 +1,5 @@
 use Rattle.std.proofs.Common.{◌≡◌, ◌∙◌, Bool, true, length, take, ap, sym}
-use Rattle.tus_steps.specs.Step.{is_head}
+use Rattle.tus_steps.specs.Method.{is_head}
 use Rattle.http_wire.specs.Front.{method_of}
 use Rattle.http_wire.proofs.NameLemmas.{All-names, All-spans_named, HasFields-gathered, has_fields}
 use Rattle.http_wire.proofs.HeadLemmas.{Gives-from_shows, Gives-memory}

@@ -19,8 +19,8 @@ returns-in-Ok-true-clause-front g c max bytes b =
       ),
     )
 
-pub returns-then-is_patch-clause-front : goal.returns-then-is_patch-clause-front
-returns-then-is_patch-clause-front g c max bytes b =
+pub returns-then-is_applied_when_cut-clause-front : goal.returns-then-is_applied_when_cut-clause-front
+returns-then-is_applied_when_cut-clause-front g c max bytes b =
     let p = c.args.parts in
     let grew = c.fill_to.ensures.grew in
     let all = c.fill_to.new.inbox.held in
@@ -31,12 +31,12 @@ returns-then-is_patch-clause-front g c max bytes b =
         p.is_waiting,
         refl,
         IsFront-cut_patch max (bytes ++ grew.0) p all more c.lend_all.new.inbox (c.in-Ok-false.ensures.short c.in-Ok-false.field-0-test)
-            (held_in p.head_len c.args.inbox.now.held grew.0 all c.requires.held grew.1) (sym c.is_patch.ensures ∙ c.if-is_patch.true) c.lend_all.ensures.lent,
+            (held_in p.head_len c.args.inbox.now.held grew.0 all c.requires.held grew.1) (sym c.is_applied_when_cut.ensures ∙ c.if-is_applied_when_cut.true) c.lend_all.ensures.lent,
       ),
     )
 
-pub returns-else-is_patch-clause-front : goal.returns-else-is_patch-clause-front
-returns-else-is_patch-clause-front g c max bytes b =
+pub returns-else-is_applied_when_cut-clause-front : goal.returns-else-is_applied_when_cut-clause-front
+returns-else-is_applied_when_cut-clause-front g c max bytes b =
     let p = c.args.parts in
     let grew = c.fill_to.ensures.grew in
     let all = c.fill_to.new.inbox.held in
@@ -47,12 +47,12 @@ returns-else-is_patch-clause-front g c max bytes b =
         p.is_waiting,
         refl,
         IsFront-cut_other max (bytes ++ grew.0) p all more (c.in-Ok-false.ensures.short c.in-Ok-false.field-0-test)
-            (held_in p.head_len c.args.inbox.now.held grew.0 all c.requires.held grew.1) (sym c.is_patch.ensures ∙ c.if-is_patch.false),
+            (held_in p.head_len c.args.inbox.now.held grew.0 all c.requires.held grew.1) (sym c.is_applied_when_cut.ensures ∙ c.if-is_applied_when_cut.false),
       ),
     )
 
-pub returns-then-is_patch-2-clause-front : goal.returns-then-is_patch-2-clause-front
-returns-then-is_patch-2-clause-front g c max bytes b =
+pub returns-then-is_applied_when_cut-2-clause-front : goal.returns-then-is_applied_when_cut-2-clause-front
+returns-then-is_applied_when_cut-2-clause-front g c max bytes b =
     let p = c.args.parts in
     let grew = c.fill_to.ensures.grew in
     let all = c.fill_to.new.inbox.held in
@@ -62,13 +62,13 @@ returns-then-is_patch-2-clause-front g c max bytes b =
       (
         p.is_waiting,
         refl,
-        IsFront-cut_patch max (bytes ++ grew.0) p all more c.lend_all-then-is_patch-2.new.inbox c.in-Err.ensures.broken
-            (held_in p.head_len c.args.inbox.now.held grew.0 all c.requires.held grew.1) (sym c.is_patch-in-Err.ensures ∙ c.if-is_patch-2.true) c.lend_all-then-is_patch-2.ensures.lent,
+        IsFront-cut_patch max (bytes ++ grew.0) p all more c.lend_all-then-is_applied_when_cut-2.new.inbox c.in-Err.ensures.broken
+            (held_in p.head_len c.args.inbox.now.held grew.0 all c.requires.held grew.1) (sym c.is_applied_when_cut-in-Err.ensures ∙ c.if-is_applied_when_cut-2.true) c.lend_all-then-is_applied_when_cut-2.ensures.lent,
       ),
     )
 
-pub returns-else-is_patch-2-clause-front : goal.returns-else-is_patch-2-clause-front
-returns-else-is_patch-2-clause-front g c max bytes b =
+pub returns-else-is_applied_when_cut-2-clause-front : goal.returns-else-is_applied_when_cut-2-clause-front
+returns-else-is_applied_when_cut-2-clause-front g c max bytes b =
     let p = c.args.parts in
     let grew = c.fill_to.ensures.grew in
     let all = c.fill_to.new.inbox.held in
@@ -79,6 +79,6 @@ returns-else-is_patch-2-clause-front g c max bytes b =
         p.is_waiting,
         refl,
         IsFront-cut_other max (bytes ++ grew.0) p all more c.in-Err.ensures.broken
-            (held_in p.head_len c.args.inbox.now.held grew.0 all c.requires.held grew.1) (sym c.is_patch-in-Err.ensures ∙ c.if-is_patch-2.false),
+            (held_in p.head_len c.args.inbox.now.held grew.0 all c.requires.held grew.1) (sym c.is_applied_when_cut-in-Err.ensures ∙ c.if-is_applied_when_cut-2.false),
       )),
     )
