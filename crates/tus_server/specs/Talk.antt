@@ -1,6 +1,5 @@
 -- The settings that the command line tells, and the conversation that it holds.
 use Rattle.std.specs.Prelude.{◌≡◌, ℕ, Bool, List, replicate, Option, Some, None, Result, Ok, Err}
-use Rattle.std.specs.Borrow.{Bor}
 use Rattle.http_wire.specs.Conversation.{Conversation}
 use Rattle.http_wire.specs.Lent.{Names}
 use Rattle.http_wire.specs.Turns.{Breaks}
@@ -21,7 +20,7 @@ settings_with numbers None = Err TenantName
 settings_with numbers (Some tenants) = settings_of (record { numbers = numbers; tenants = tenants })
 
 -- the settings that numbers and words tell, or their first fault: that of a word comes before every other
-abbrev pub settings_told : Numbers → List (Bor (List ℕ)) → Result Limits SettingsFault
+abbrev pub settings_told : Numbers → List (List ℕ) → Result Limits SettingsFault
 settings_told numbers words = settings_with numbers (tenants_in words)
 
 -- the moments of the messages: one moment, for 4,096 of them
