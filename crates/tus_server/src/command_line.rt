@@ -24,7 +24,7 @@ Uploads are created by POST to /files/NAME, and live as long as the conversation
 Quotas and blocks are checked when the server starts, but not charged yet.
 
 Example, which creates an upload of 5 bytes for the tenant acme and tells where it is:
-  printf 'POST /files/acme HTTP/1.1\\r\\nHost: x\\r\\nTus-Resumable: 1.0.0\\r\\n\\
+  printf 'POST /files/acme HTTP/1.1\\r\\nHost: x\\r\\nTus-Resumable: 1.0.0\\r\\n\
 Upload-Length: 5\\r\\n\\r\\n' | tus-server talk acme:8";
 
 /// What the words of the command line tell; the first of them is the program's name. The error is why
