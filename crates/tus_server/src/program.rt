@@ -1,11 +1,11 @@
 //! The program over streams and words, from its command line to its exit status.
-ghost use Rattle.std.specs.Prelude.{◌≡◌, ◌≢◌, ◌⊎◌, ◌++◌, ◌∷◌, ℕ, List, [], false, Some, IfSome, IfErr, IfOk, map};
+ghost use Rattle.std.specs.Prelude.{◌≡◌, ◌≢◌, ◌⊎◌, ◌++◌, ◌∷◌, ℕ, List, [], false, Some, IfSome, IfNone, IfErr, IsErr, OnErr, map};
 ghost use Rattle.std.specs.Io.KnownBytes.{Appends, Consumes, Keeps};
 ghost use Rattle.clap.specs.Values.{kind_of};
 ghost use Rattle.clap.specs.declared.error.kind.ErrorKind.TheVariants.{DisplayHelp, DisplayVersion, OutOfMemory};
 ghost use Rattle.tus_server.specs.CommandLine.{AsksForHelp, Told, faults_in, told_in};
 ghost use Rattle.tus_server.specs.Fault.{WritesOrFails, line_of};
-ghost use Rattle.tus_server.specs.Talk.{settings_told, Talks, BreaksTalk};
+ghost use Rattle.tus_server.specs.Talk.{settings_in, Talks, BreaksTalk};
 
 use crate::command_line::parsed;
 use crate::fault::{TalkFault, tell};
@@ -41,17 +41,26 @@ pub fn run<S: AsStr, R: Source, W: Sink, E: Sink>(
     ensures unread { faults_in (map S.text words.now) ≢ [] → reader.new ≡ reader.old }
 
     // words that are taken
+    ensures no_command { faults_in (map S.text words.now) ≡ []
+        → IfNone (told_in (map S.text words.now)) (((result ≡ 2) ⊎ (result ≡ 4))
+        × (reader.new ≡ reader.old) × (writer.new ≡ writer.old)) }
+    ensures refused { result ≡ 2 → faults_in (map S.text words.now) ≡ []
+        → IfSome (told_in (map S.text words.now)) (λ told. IsErr (settings_in told)) }
+    ensures settings { faults_in (map S.text words.now) ≡ []
+        → IfSome (told_in (map S.text words.now)) (λ told.
+        OnErr (settings_in told) (((result ≡ 2) ⊎ (result ≡ 4))
+        × (reader.new ≡ reader.old) × (writer.new ≡ writer.old))) }
     ensures talks { (input before : List ℕ) → R.remaining reader.old ≡ Some input
         → W.contents writer.old ≡ Some before
         → result ≡ 0 → faults_in (map S.text words.now) ≡ []
         → (told : Told) × (told_in (map S.text words.now) ≡ Some told)
         × (text : List ℕ) × (W.contents writer.new ≡ Some (before ++ text))
-        × Talks (settings_told told.numbers told.tenants) told.moment input text }
+        × Talks (settings_in told) told.moment input text }
     ensures breaks { result ≡ 3 → faults_in (map S.text words.now) ≡ []
         → (told : Told) × (told_in (map S.text words.now) ≡ Some told) × (got text : List ℕ)
         × Consumes (R.remaining reader.old) (R.remaining reader.new) got
         × Appends (W.contents writer.old) (W.contents writer.new) text
-        × BreaksTalk (settings_told told.numbers told.tenants) told.moment
+        × BreaksTalk (settings_in told) told.moment
         (R.has_failed reader.new) (W.has_failed writer.new) got text }
     ensures alive { result ≡ 0
         → (R.has_failed reader.new ≡ false) × (W.has_failed writer.new ≡ false) }
@@ -59,7 +68,7 @@ pub fn run<S: AsStr, R: Source, W: Sink, E: Sink>(
     // the lines of the faults
     ensures settings_line { result ≡ 2 → faults_in (map S.text words.now) ≡ []
         → IfSome (told_in (map S.text words.now)) (λ told.
-        IfErr (settings_told told.numbers told.tenants) (λ fault.
+        IfErr (settings_in told) (λ fault.
         WritesOrFails (E.contents errors.old) (E.contents errors.new) (E.has_failed errors.new)
         (line_of (TalkFault.Settings fault)))) }
     ensures wire_line { result ≡ 3

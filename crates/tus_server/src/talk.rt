@@ -7,7 +7,7 @@ ghost use Rattle.clap.specs.Walk.{texts};
 ghost use Rattle.clap.specs.Words.{subcommand_rows_of};
 ghost use Rattle.tus_server.specs.CommandLine.{Told, talk_told};
 ghost use Rattle.tus_server.specs.Fault.{IsFaultOf, WritesOrFails, line_of};
-ghost use Rattle.tus_server.specs.Talk.{settings_told, Talks, BreaksTalk};
+ghost use Rattle.tus_server.specs.Talk.{settings_in, settings_told, Talks, BreaksTalk};
 ghost use Rattle.tus_server.specs.Words.{with_quota, tenant_in, tenants_in};
 
 use crate::command_line::talk_options;
@@ -40,23 +40,28 @@ pub fn talk_as_told<R: Source, W: Sink, E: Sink>(
     ensures no_command { talk_told (subcommand_rows_of matches.now) ≡ None
         → (result ≡ 2) × (reader.new ≡ reader.old) × (writer.new ≡ writer.old)
         × (errors.new ≡ errors.old) }
+    ensures refused { result ≡ 2 → IfSome (talk_told (subcommand_rows_of matches.now)) (λ told.
+        IsErr (settings_in told)) }
+    ensures settings { IfSome (talk_told (subcommand_rows_of matches.now)) (λ told.
+        OnErr (settings_in told) (((result ≡ 2) ⊎ (result ≡ 4))
+        × (reader.new ≡ reader.old) × (writer.new ≡ writer.old))) }
     ensures talks { (input before : List ℕ) → R.remaining reader.old ≡ Some input
         → W.contents writer.old ≡ Some before
         → result ≡ 0 → (told : Told) × (talk_told (subcommand_rows_of matches.now) ≡ Some told)
         × (text : List ℕ) × (W.contents writer.new ≡ Some (before ++ text))
-        × Talks (settings_told told.numbers told.tenants) told.moment input text }
+        × Talks (settings_in told) told.moment input text }
     ensures breaks { result ≡ 3
         → (told : Told) × (talk_told (subcommand_rows_of matches.now) ≡ Some told)
         × (got text : List ℕ)
         × Consumes (R.remaining reader.old) (R.remaining reader.new) got
         × Appends (W.contents writer.old) (W.contents writer.new) text
-        × BreaksTalk (settings_told told.numbers told.tenants) told.moment
+        × BreaksTalk (settings_in told) told.moment
         (R.has_failed reader.new) (W.has_failed writer.new) got text }
     ensures alive { result ≡ 0
         → (R.has_failed reader.new ≡ false) × (W.has_failed writer.new ≡ false) }
     ensures settings_line { result ≡ 2
         → IfSome (talk_told (subcommand_rows_of matches.now)) (λ told.
-        IfErr (settings_told told.numbers told.tenants) (λ fault.
+        IfErr (settings_in told) (λ fault.
         WritesOrFails (E.contents errors.old) (E.contents errors.new) (E.has_failed errors.new)
         (line_of (TalkFault.Settings fault)))) }
     ensures wire_line { result ≡ 3
