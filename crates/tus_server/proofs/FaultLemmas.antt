@@ -2,9 +2,24 @@
 use Rattle.std.proofs.Common.{◌≡◌, ℕ, ◌≤◌, ◌<◌, ◌⊎◌, Bool, true, false, List, length, take, Option, Result, Ok, Err, OnOk, OnErr, IfErr, refl, sym, subst, arith, inl, inr}
 use Rattle.std.specs.Io.KnownBytes.{Appends}
 use Rattle.upload_book.specs.declared.settings.SettingsFault.{SettingsFault}
-use Rattle.tus_server.specs.Fault.{WritesOrFails, line_of, status_of}
+use Rattle.upload_book.specs.declared.settings.SettingsFault.TheVariants as settings
+use Rattle.tus_server.specs.Fault.{WritesOrFails, fault_word, line_of, status_of}
 use Rattle.tus_server.specs.declared.fault.TalkFault.{TalkFault}
 use Rattle.tus_server.specs.declared.fault.TalkFault.TheVariants.{Words, Settings, Wire, Memory}
+
+-- no word of the settings' faults is long
+pub short_word : (fault : SettingsFault) → length (fault_word fault) ≤ 10
+short_word settings.Blocks = omega arith
+short_word settings.BlockSize = omega arith
+short_word settings.PoolBytes = omega arith
+short_word settings.Lifetime = omega arith
+short_word settings.MaxSize = omega arith
+short_word settings.Uploads = omega arith
+short_word settings.LastId = omega arith
+short_word settings.TenantCount = omega arith
+short_word settings.TenantName = omega arith
+short_word settings.TenantTwice = omega arith
+short_word settings.Quota = omega arith
 
 clash : (m n : ℕ) → m ≡ n → (m < n) ⊎ (n < m) → ⊥
 clash m n same (inl below) = omega (arith, same, below)

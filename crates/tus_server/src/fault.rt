@@ -1,4 +1,4 @@
-ghost use Rattle.std.specs.Prelude.{◌≡◌, ◌≤◌, false, length};
+ghost use Rattle.std.specs.Prelude.{◌≡◌, false};
 ghost use Rattle.tus_server.specs.Fault.{WritesOrFails, fault_of_wire, fault_word, line_of, status_of};
 ghost use Rattle.tus_server.specs.declared.fault.TalkFault.TheVariants.{Settings, Memory};
 
@@ -38,6 +38,7 @@ impl TalkFault {
 
     /// The line that names the fault: `tus-server: `, then `words`, `settings: ` and the word of its
     /// fault, `wire` or `memory`, and LF.
+    #[tactic(auto, using(crate::proofs::FaultLemmas::short_word))]
     pub fn line(self) -> ArrayString<LINE_MAX>
         ensures { result.bytes ≡ line_of self }
     {
@@ -59,8 +60,7 @@ impl TalkFault {
 
 /// The word of a fault of the settings.
 fn settings_word(fault: SettingsFault) -> &'static str
-    ensures word { result.now ≡ fault_word fault }
-    ensures short { length result.now ≤ 10 }
+    ensures { result.now ≡ fault_word fault }
 {
     match fault {
         SettingsFault::Blocks => "blocks",
