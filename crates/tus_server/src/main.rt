@@ -1,6 +1,9 @@
 //! The server's program: `tus-server talk` holds one conversation over its standard streams.
 #![tactic(auto)]
 
+ghost use Rattle.std.specs.Prelude.{◌≡◌, ◌≢◌};
+ghost use Rattle.std.specs.IoError.{error_kind};
+
 mod command_line;
 mod fault;
 mod program;
@@ -40,7 +43,10 @@ fn words(rt: &HostRuntime) -> Result<Vec<String>, TalkFault> {
 }
 
 /// What it is to the program that the words could not be read.
-fn fault_of(error: Error) -> TalkFault {
+fn fault_of(error: Error) -> TalkFault
+    ensures memory { error_kind error ≡ ErrorKind.OutOfMemory → result ≡ TalkFault.Memory }
+    ensures words { error_kind error ≢ ErrorKind.OutOfMemory → result ≡ TalkFault.Words }
+{
     if error.kind() == ErrorKind::OutOfMemory {
         TalkFault::Memory
     } else {
