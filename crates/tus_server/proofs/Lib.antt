@@ -1,2 +1,4 @@
+pub mod CommandLineLemmas
+pub mod FaultLemmas
 pub mod TalkLemmas
 pub mod WordLemmas

@@ -1,3 +1,4 @@
+pub mod CommandLine
 pub mod Fault
 pub mod Talk
 pub mod Words

@@ -1,6 +1,5 @@
 -- The settings that the command line tells, and the conversation that it holds.
 use Rattle.std.specs.Prelude.{◌≡◌, ℕ, Bool, List, replicate, Option, Some, None, Result, Ok, Err}
-use Rattle.std.specs.Borrow.{Bor}
 use Rattle.http_wire.specs.Conversation.{Conversation}
 use Rattle.http_wire.specs.Lent.{Names}
 use Rattle.http_wire.specs.Turns.{Breaks}
@@ -12,6 +11,7 @@ use Rattle.upload_book.specs.declared.settings.Numbers.{Numbers}
 use Rattle.upload_book.specs.declared.settings.SettingsFault.{SettingsFault}
 use Rattle.upload_book.specs.declared.settings.SettingsFault.TheVariants.{TenantName}
 use Rattle.upload_book.specs.declared.settings.TenantQuota.{TenantQuota}
+use Rattle.tus_server.specs.CommandLine.{Told}
 use Rattle.tus_server.specs.Words.{tenants_in}
 
 -- the settings of these numbers and tenants, or their first fault, which is that of a name where one of the
@@ -21,8 +21,12 @@ settings_with numbers None = Err TenantName
 settings_with numbers (Some tenants) = settings_of (record { numbers = numbers; tenants = tenants })
 
 -- the settings that numbers and words tell, or their first fault: that of a word comes before every other
-abbrev pub settings_told : Numbers → List (Bor (List ℕ)) → Result Limits SettingsFault
+abbrev pub settings_told : Numbers → List (List ℕ) → Result Limits SettingsFault
 settings_told numbers words = settings_with numbers (tenants_in words)
+
+-- the settings that the command line tells, or their first fault
+abbrev pub settings_in : Told → Result Limits SettingsFault
+settings_in told = settings_told told.numbers told.tenants
 
 -- the moments of the messages: one moment, for 4,096 of them
 unfoldable pub moments_at : ℕ → List ℕ

@@ -24,7 +24,7 @@ abbrev pub tenant_in : List ℕ → Option TenantQuota
 tenant_in word = option_and_then (tenant_named (before_first is_colon word)) (number_of (after_first is_colon word))
 
 -- the tenants that the words tell, in order; None where one of the words tells none
-abbrev pub tenants_in : List (Bor (List ℕ)) → Option (List TenantQuota)
+abbrev pub tenants_in : List (List ℕ) → Option (List TenantQuota)
 tenants_in [] = Some []
 tenants_in (word ∷ words) =
-    option_and_then (λ tenant. option_map (λ tenants. tenant ∷ tenants) (tenants_in words)) (tenant_in word.now)
+    option_and_then (λ tenant. option_map (λ tenants. tenant ∷ tenants) (tenants_in words)) (tenant_in word)

@@ -1,37 +1,102 @@
-ghost use Rattle.std.specs.Prelude.{◌≡◌};
-ghost use Rattle.tus_server.specs.Fault.{fault_of_wire, status_of};
+ghost use Rattle.std.specs.Prelude.{◌≡◌, false};
+ghost use Rattle.tus_server.specs.Fault.{WritesOrFails, fault_of_wire, fault_word, line_of, status_of};
 ghost use Rattle.tus_server.specs.declared.fault.TalkFault.TheVariants.{Settings, Memory};
 
-use http_wire::WireFault;
+use arrayvec::ArrayString;
+use http_wire::{Sink, WireFault, put_all};
 use std::alloc::AllocError;
-use thiserror::Error;
 use upload_book::SettingsFault;
 
-/// Why a conversation did not begin, or broke off.
-#[derive(Clone, Copy, Debug, PartialEq, Eq, Error)]
+/// The most bytes of a line that names a fault.
+const LINE_MAX: usize = 64;
+
+/// Why the program did not do what it was asked for.
+#[derive(Clone, Copy, Debug, PartialEq, Eq)]
 pub enum TalkFault {
+    /// A word of the command line is not UTF-8.
+    Words,
     /// The settings have a fault.
-    #[error("settings: {0}")]
     Settings(SettingsFault),
     /// A read or a write failed.
-    #[error("wire")]
     Wire,
     /// There was no memory to begin with.
-    #[error("memory")]
     Memory,
 }
 
 impl TalkFault {
-    /// The exit status of the program: 2 for the settings, 3 for the connection, 4 for memory.
+    /// The exit status of the program: 2 for the words and the settings, 3 for the connection, 4 for
+    /// memory.
     pub fn status(self) -> u8
         ensures { result ≡ status_of self }
     {
         match self {
-            TalkFault::Settings(_) => 2,
+            TalkFault::Words | TalkFault::Settings(_) => 2,
             TalkFault::Wire => 3,
             TalkFault::Memory => 4,
         }
     }
+
+    /// The line that names the fault: `tus-server: `, then `words`, `settings: ` and the word of its
+    /// fault, `wire` or `memory`, and LF.
+    #[tactic(auto, using(crate::proofs::FaultLemmas::short_word))]
+    pub fn line(self) -> ArrayString<LINE_MAX>
+        ensures { result.bytes ≡ line_of self }
+    {
+        let mut line = ArrayString::new();
+        line.push_str("tus-server: ");
+        match self {
+            TalkFault::Words => line.push_str("words"),
+            TalkFault::Settings(fault) => {
+                line.push_str("settings: ");
+                line.push_str(settings_word(fault));
+            }
+            TalkFault::Wire => line.push_str("wire"),
+            TalkFault::Memory => line.push_str("memory"),
+        }
+        line.push_str("\n");
+        line
+    }
+}
+
+/// The word of a fault of the settings.
+fn settings_word(fault: SettingsFault) -> &'static str
+    ensures { result.now ≡ fault_word fault }
+{
+    match fault {
+        SettingsFault::Blocks => "blocks",
+        SettingsFault::BlockSize => "block-size",
+        SettingsFault::PoolBytes => "pool-bytes",
+        SettingsFault::Lifetime => "lifetime",
+        SettingsFault::MaxSize => "max-size",
+        SettingsFault::Uploads => "uploads",
+        SettingsFault::LastId => "last-id",
+        SettingsFault::TenantCount => "tenants",
+        SettingsFault::TenantName => "tenant",
+        SettingsFault::TenantTwice => "twice",
+        SettingsFault::Quota => "quota",
+    }
+}
+
+/// Writes the line that names the fault to `errors`, whose own faults are passed over, and gives the
+/// exit status.
+pub fn tell<E: Sink>(fault: TalkFault, errors: &mut E) -> u8
+    requires { E.has_failed errors.old ≡ false }
+    ensures status { result ≡ status_of fault }
+    ensures line { WritesOrFails (E.contents errors.old) (E.contents errors.new)
+        (E.has_failed errors.new) (line_of fault) }
+{
+    let line = fault.line();
+    put_or_fail(line.as_bytes(), errors);
+    fault.status()
+}
+
+/// Writes the text, or a front of it where the stream fails.
+fn put_or_fail<E: Sink>(text: &[u8], errors: &mut E)
+    requires { E.has_failed errors.old ≡ false }
+    ensures { WritesOrFails (E.contents errors.old) (E.contents errors.new)
+        (E.has_failed errors.new) text.now }
+{
+    let _ = put_all(errors, text);
 }
 
 impl From<SettingsFault> for TalkFault {

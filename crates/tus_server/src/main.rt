@@ -1,31 +1,55 @@
 //! The server's program: `tus-server talk` holds one conversation over its standard streams.
 #![tactic(auto)]
 
+ghost use Rattle.std.specs.Prelude.{◌≡◌, ◌≢◌};
+ghost use Rattle.std.specs.IoError.{error_kind};
+
 mod command_line;
 mod fault;
+mod program;
 mod talk;
 #[cfg(test)]
 mod tests;
 
-use crate::command_line::{command, status};
-use crate::talk::talk_as_told;
+use crate::fault::{TalkFault, tell};
+use crate::program::run;
 use http_wire::Tapped;
 use std::env;
+use std::io::{Error, ErrorKind};
 use std::process::ExitCode;
 
-fn main(rt: HostRuntime) -> anyhow::Result<ExitCode> {
-    let words: Vec<String> = env::args(&rt)?.collect(rt.alloc())?;
-    let status = match command(rt.alloc())?.try_get_matches_from(words.as_slice()) {
-        Ok(matches) => {
-            let mut reader = Tapped::new(rt.stdin());
-            let mut writer = Tapped::new(rt.stdout());
-            let mut errors = Tapped::new(rt.stderr());
-            talk_as_told(rt.alloc(), &matches, &mut reader, &mut writer, &mut errors)
-        }
-        Err(error) => {
-            error.print(&rt)?;
-            status(&error)
-        }
+fn main(rt: HostRuntime) -> ExitCode {
+    let mut reader = Tapped::new(rt.stdin());
+    let mut writer = Tapped::new(rt.stdout());
+    let mut errors = Tapped::new(rt.stderr());
+    let status = match words(&rt) {
+        Ok(words) => run(
+            rt.alloc(),
+            words.as_slice(),
+            &mut reader,
+            &mut writer,
+            &mut errors,
+        ),
+        Err(fault) => tell(fault, &mut errors),
     };
-    Ok(ExitCode::from(status))
+    ExitCode::from(status)
+}
+
+/// The words of the command line, the program's name first. The error is `TalkFault::Words` where one is
+/// not UTF-8, or `TalkFault::Memory`.
+fn words(rt: &HostRuntime) -> Result<Vec<String>, TalkFault> {
+    let words = env::args(rt).map_err(fault_of)?;
+    Ok(words.collect(rt.alloc())?)
+}
+
+/// What it is to the program that the words could not be read.
+fn fault_of(error: Error) -> TalkFault
+    ensures memory { error_kind error ≡ ErrorKind.OutOfMemory → result ≡ TalkFault.Memory }
+    ensures words { error_kind error ≢ ErrorKind.OutOfMemory → result ≡ TalkFault.Words }
+{
+    if error.kind() == ErrorKind::OutOfMemory {
+        TalkFault::Memory
+    } else {
+        TalkFault::Words
+    }
 }

@@ -1,29 +1,31 @@
 //! The command `talk`, after its command line was read.
-ghost use Rattle.std.specs.Prelude.{◌≡◌, ◌⊎◌, ◌++◌, ℕ, List, false, Some, Ok, Err, IfOk, IfErr, OnOk, OnErr, IsErr, IsErrOf, ok_or, option_map};
-ghost use Rattle.std.specs.Borrow.{Bor};
+ghost use Rattle.std.specs.Prelude.{◌≡◌, ◌⊎◌, ◌++◌, ℕ, List, false, Some, None, Ok, Err, IfOk, IfErr, IfSome, OnOk, OnErr, IsErr, IsErrOf, ok_or, option_map};
 ghost use Rattle.std.specs.Io.KnownBytes.{Appends, Consumes, Keeps};
 ghost use Rattle.upload_book.specs.PlainBook.{opening_book};
 ghost use Rattle.upload_book.specs.Settings.{tenants_of};
-ghost use Rattle.upload_book.specs.declared.settings.Numbers.{Numbers};
-ghost use Rattle.tus_server.specs.Fault.{IsFaultOf};
-ghost use Rattle.tus_server.specs.Talk.{settings_told, Talks, BreaksTalk};
+ghost use Rattle.clap.specs.Walk.{texts};
+ghost use Rattle.clap.specs.Words.{subcommand_rows_of};
+ghost use Rattle.tus_server.specs.CommandLine.{Told, talk_told};
+ghost use Rattle.tus_server.specs.Fault.{IsFaultOf, WritesOrFails, line_of};
+ghost use Rattle.tus_server.specs.Talk.{settings_in, settings_told, Talks, BreaksTalk};
 ghost use Rattle.tus_server.specs.Words.{with_quota, tenant_in, tenants_in};
 
-use crate::command_line::{REFUSED, talk_options};
-use crate::fault::TalkFault;
-use arrayvec::ArrayString;
+use crate::command_line::talk_options;
+use crate::fault::{TalkFault, tell};
 use clap::ArgMatches;
-use http_wire::{Sink, Source, converse, put_all};
+use http_wire::{Sink, Source, converse};
 use std::alloc::{AllocError, Global};
-use std::fmt::Write;
 use tus_text::{is_tenant_name, read_number};
 use upload_book::{Book, Moment, Numbers, Settings, SettingsFault};
 
 /// The most messages of one conversation.
 pub const MESSAGES_MAX: usize = 4096;
 
+/// The exit status where the command line or the settings are refused.
+pub const REFUSED: u8 = 2;
+
 /// Does the command that the command line told, over these streams, and gives the exit status: that of
-/// [`talk`] with these options, or [`REFUSED`] where the command line told no command.
+/// [`talk`] with these options, or [`REFUSED`] with all streams untouched where it told no command.
 pub fn talk_as_told<R: Source, W: Sink, E: Sink>(
     alloc: Global,
     matches: &ArgMatches,
@@ -35,12 +37,42 @@ pub fn talk_as_told<R: Source, W: Sink, E: Sink>(
     requires writer { W.has_failed writer.old ≡ false }
     requires errors { E.has_failed errors.old ≡ false }
     ensures status { (result ≡ 0) ⊎ (result ≡ 2) ⊎ (result ≡ 3) ⊎ (result ≡ 4) }
-    // of what the matches tell, no more is said than that they tell some numbers, words and moment
+    ensures no_command { talk_told (subcommand_rows_of matches.now) ≡ None
+        → (result ≡ 2) × (reader.new ≡ reader.old) × (writer.new ≡ writer.old)
+        × (errors.new ≡ errors.old) }
+    ensures refused { result ≡ 2 → IfSome (talk_told (subcommand_rows_of matches.now)) (λ told.
+        IsErr (settings_in told)) }
+    ensures settings { IfSome (talk_told (subcommand_rows_of matches.now)) (λ told.
+        OnErr (settings_in told) (((result ≡ 2) ⊎ (result ≡ 4))
+        × (reader.new ≡ reader.old) × (writer.new ≡ writer.old))) }
     ensures talks { (input before : List ℕ) → R.remaining reader.old ≡ Some input
         → W.contents writer.old ≡ Some before
-        → result ≡ 0 → (numbers : Numbers) × (words : List (Bor (List ℕ))) × (now : ℕ)
+        → result ≡ 0 → (told : Told) × (talk_told (subcommand_rows_of matches.now) ≡ Some told)
         × (text : List ℕ) × (W.contents writer.new ≡ Some (before ++ text))
-        × Talks (settings_told numbers words) now input text }
+        × Talks (settings_in told) told.moment input text }
+    ensures breaks { result ≡ 3
+        → (told : Told) × (talk_told (subcommand_rows_of matches.now) ≡ Some told)
+        × (got text : List ℕ)
+        × Consumes (R.remaining reader.old) (R.remaining reader.new) got
+        × Appends (W.contents writer.old) (W.contents writer.new) text
+        × BreaksTalk (settings_in told) told.moment
+        (R.has_failed reader.new) (W.has_failed writer.new) got text }
+    ensures alive { result ≡ 0
+        → (R.has_failed reader.new ≡ false) × (W.has_failed writer.new ≡ false) }
+    ensures settings_line { result ≡ 2
+        → IfSome (talk_told (subcommand_rows_of matches.now)) (λ told.
+        IfErr (settings_in told) (λ fault.
+        WritesOrFails (E.contents errors.old) (E.contents errors.new) (E.has_failed errors.new)
+        (line_of (TalkFault.Settings fault)))) }
+    ensures wire_line { result ≡ 3
+        → WritesOrFails (E.contents errors.old) (E.contents errors.new) (E.has_failed errors.new)
+        (line_of TalkFault.Wire) }
+    ensures memory_line { result ≡ 4
+        → WritesOrFails (E.contents errors.old) (E.contents errors.new) (E.has_failed errors.new)
+        (line_of TalkFault.Memory) }
+    ensures memory { result ≡ 4
+        → Keeps (R.remaining reader.old) (R.remaining reader.new)
+        × Keeps (W.contents writer.old) (W.contents writer.new) }
 {
     match talk_options(matches) {
         Some(options) => talk(
@@ -77,30 +109,39 @@ pub fn talk<R: Source, W: Sink, E: Sink>(
     requires writer { W.has_failed writer.old ≡ false }
     requires errors { E.has_failed errors.old ≡ false }
     ensures status { (result ≡ 0) ⊎ (result ≡ 2) ⊎ (result ≡ 3) ⊎ (result ≡ 4) }
-    ensures settings { OnErr (settings_told numbers tenants.now) ((result ≡ 2) ⊎ (result ≡ 4)) }
-    ensures untouched { OnErr (settings_told numbers tenants.now)
+    ensures settings { OnErr (settings_told numbers (texts tenants.now)) ((result ≡ 2) ⊎ (result ≡ 4)) }
+    ensures untouched { OnErr (settings_told numbers (texts tenants.now))
         ((reader.new ≡ reader.old) × (writer.new ≡ writer.old)) }
-    ensures refused { result ≡ 2 → IsErr (settings_told numbers tenants.now) }
+    ensures refused { result ≡ 2 → IsErr (settings_told numbers (texts tenants.now)) }
     ensures talks { (input before : List ℕ) → R.remaining reader.old ≡ Some input
         → W.contents writer.old ≡ Some before
         → result ≡ 0 → (text : List ℕ) × (W.contents writer.new ≡ Some (before ++ text))
-        × Talks (settings_told numbers tenants.now) now input text }
+        × Talks (settings_told numbers (texts tenants.now)) now input text }
     ensures breaks { result ≡ 3 → (got text : List ℕ)
         × Consumes (R.remaining reader.old) (R.remaining reader.new) got
         × Appends (W.contents writer.old) (W.contents writer.new) text
-        × BreaksTalk (settings_told numbers tenants.now) now
+        × BreaksTalk (settings_told numbers (texts tenants.now)) now
         (R.has_failed reader.new) (W.has_failed writer.new) got text }
     ensures memory { result ≡ 4
         → Keeps (R.remaining reader.old) (R.remaining reader.new)
         × Keeps (W.contents writer.old) (W.contents writer.new) }
+    ensures alive { result ≡ 0
+        → (R.has_failed reader.new ≡ false) × (W.has_failed writer.new ≡ false) }
     ensures quiet { result ≡ 0 → errors.new ≡ errors.old }
+    ensures settings_line { result ≡ 2
+        → IfErr (settings_told numbers (texts tenants.now)) (λ fault.
+        WritesOrFails (E.contents errors.old) (E.contents errors.new) (E.has_failed errors.new)
+        (line_of (TalkFault.Settings fault))) }
+    ensures wire_line { result ≡ 3
+        → WritesOrFails (E.contents errors.old) (E.contents errors.new) (E.has_failed errors.new)
+        (line_of TalkFault.Wire) }
+    ensures memory_line { result ≡ 4
+        → WritesOrFails (E.contents errors.old) (E.contents errors.new) (E.has_failed errors.new)
+        (line_of TalkFault.Memory) }
 {
     match hold(alloc, numbers, tenants, now, reader, writer) {
         Ok(()) => 0,
-        Err(fault) => {
-            tell(fault, errors);
-            fault.status()
-        }
+        Err(fault) => tell(fault, errors),
     }
 }
 
@@ -117,24 +158,27 @@ fn hold<R: Source, W: Sink>(
 ) -> Result<(), TalkFault>
     requires reader { R.has_failed reader.old ≡ false }
     requires writer { W.has_failed writer.old ≡ false }
-    ensures settings { IfErr (settings_told numbers tenants.now)
+    ensures settings { IfErr (settings_told numbers (texts tenants.now))
         (λ fault. IsErrOf result (TalkFault.Settings fault) ⊎ IsErrOf result TalkFault.Memory) }
-    ensures untouched { OnErr (settings_told numbers tenants.now)
+    ensures untouched { OnErr (settings_told numbers (texts tenants.now))
         ((reader.new ≡ reader.old) × (writer.new ≡ writer.old)) }
     ensures refused { (fault : SettingsFault) → IsErrOf result (TalkFault.Settings fault)
-        → settings_told numbers tenants.now ≡ Err fault }
+        → settings_told numbers (texts tenants.now) ≡ Err fault }
     ensures talks { (input before : List ℕ) → R.remaining reader.old ≡ Some input
         → W.contents writer.old ≡ Some before
         → OnOk result ((text : List ℕ) × (W.contents writer.new ≡ Some (before ++ text))
-        × Talks (settings_told numbers tenants.now) now input text) }
+        × Talks (settings_told numbers (texts tenants.now)) now input text) }
     ensures breaks { IsErrOf result TalkFault.Wire → (got text : List ℕ)
         × Consumes (R.remaining reader.old) (R.remaining reader.new) got
         × Appends (W.contents writer.old) (W.contents writer.new) text
-        × BreaksTalk (settings_told numbers tenants.now) now
+        × BreaksTalk (settings_told numbers (texts tenants.now)) now
         (R.has_failed reader.new) (W.has_failed writer.new) got text }
     ensures memory { IsErrOf result TalkFault.Memory
         → Keeps (R.remaining reader.old) (R.remaining reader.new)
         × Keeps (W.contents writer.old) (W.contents writer.new) }
+    ensures alive { OnOk result
+        ((R.has_failed reader.new ≡ false) × (W.has_failed writer.new ≡ false)) }
+    ensures words { IsErrOf result TalkFault.Words → ⊥ }
 {
     let mut book = opening(alloc, numbers, tenants)?;
     converse(alloc, reader, writer, &mut book, &[now; MESSAGES_MAX])?;
@@ -144,9 +188,9 @@ fn hold<R: Source, W: Sink>(
 /// The new book with the settings that the numbers and the words tell, or their first fault, or
 /// `TalkFault::Memory`.
 fn opening(alloc: Global, numbers: Numbers, tenants: &[&str]) -> Result<Book, TalkFault>
-    ensures settings { IfOk result (λ book. settings_told numbers tenants.now ≡ Ok book.settings) }
+    ensures settings { IfOk result (λ book. settings_told numbers (texts tenants.now) ≡ Ok book.settings) }
     ensures new { IfOk result (λ book. book ≡ opening_book book.settings) }
-    ensures fault { IfErr result (IsFaultOf (settings_told numbers tenants.now)) }
+    ensures fault { IfErr result (IsFaultOf (settings_told numbers (texts tenants.now))) }
 {
     let tenants = tenants_of(alloc, tenants)?;
     let settings = Settings::new(numbers, tenants.as_slice())?;
@@ -156,8 +200,8 @@ fn opening(alloc: Global, numbers: Numbers, tenants: &[&str]) -> Result<Book, Ta
 /// The tenants that the words name. A word that is no tenant's name, `:` and a number is refused before
 /// every other fault of the settings.
 fn tenants_of<'a>(alloc: Global, words: &[&'a str]) -> Result<Vec<(&'a [u8], u64)>, TalkFault>
-    ensures tenants { IfOk result (λ tenants. tenants_in words.now ≡ Some (tenants_of tenants.items)) }
-    ensures fault { IfErr result (IsFaultOf (ok_or (tenants_in words.now) SettingsFault.TenantName)) }
+    ensures tenants { IfOk result (λ tenants. tenants_in (texts words.now) ≡ Some (tenants_of tenants.items)) }
+    ensures fault { IfErr result (IsFaultOf (ok_or (tenants_in (texts words.now)) SettingsFault.TenantName)) }
 {
     let mut tenants = Vec::with_capacity(alloc, words.len())?;
     for word in words {
@@ -175,14 +219,4 @@ fn tenant_of(word: &str) -> Option<(&[u8], u64)>
     let (name, quota) = word.split_once(':')?;
     let quota = read_number(quota.as_bytes())?;
     is_tenant_name(name.as_bytes()).then_some((name.as_bytes(), quota))
-}
-
-/// Writes the line that names the fault.
-fn tell<E: Sink>(fault: TalkFault, errors: &mut E)
-    requires { E.has_failed errors.old ≡ false }
-{
-    let mut line = ArrayString::<64>::new();
-    if writeln!(line, "tus-server: {fault}").is_ok() {
-        let _ = put_all(errors, line.as_bytes());
-    }
 }

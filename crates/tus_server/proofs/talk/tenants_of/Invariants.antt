@@ -1,5 +1,6 @@
 use Rattle.std.proofs.Common.{◌≡◌, ◌++◌, drop}
 use Rattle.std.specs.Prelude.{option_map}
+use Rattle.clap.specs.Walk.{texts}
 use Rattle.upload_book.specs.Settings.{tenants_of}
 use Rattle.tus_server.specs.Words.{tenants_in}
 use Rattle.tus_server.proofs.talk.tenants_of.Given as goal
@@ -7,4 +8,4 @@ use Rattle.tus_server.proofs.talk.tenants_of.Given as goal
 -- the tenants so far and those of the words that are left are those of all words
 abbrev pub invariant-loop-word : goal.invariant-loop-word
 invariant-loop-word l =
-    option_map (λ rest. tenants_of l.tenants.items ++ rest) (tenants_in (drop l.word-index l.words)) ≡ tenants_in l.words
+    option_map (λ rest. tenants_of l.tenants.items ++ rest) (tenants_in (texts (drop l.word-index l.words))) ≡ tenants_in (texts l.words)

@@ -1,0 +1,135 @@
+-- The command line of the program as clap reads it, and what it tells.
+use Rattle.std.specs.Prelude.{ℕ, ◌⊎◌, ◌^◌, ◌-◌, Bool, true, ◌&&◌, List, [], ◌∷◌, length, nat_lt, Option, Some, None, bytes_eq, codes, if◌then◌else◌}
+use Rattle.std.specs.List.{list_all}
+use Rattle.std.specs.Option.{option_map_or}
+use Rattle.std.specs.Char.{digit_value}
+use Rattle.std.specs.Str.Parse.{digits_value, without_leading_plus}
+use Rattle.clap.specs.Walk.{texts}
+use Rattle.clap.specs.Words.{App, IsAmong, Kinds, Row, Rule, Text, all_of, fault_of, new_app, new_rule, one_of, subcommand_of, with_rule, with_subcommand}
+use Rattle.clap.specs.declared.builder.ArgAction.TheVariants.{Append}
+use Rattle.clap.specs.declared.error.kind.ErrorKind.TheVariants.{DisplayHelp, DisplayVersion}
+use Rattle.clap.specs.declared.builder.value_parser.ValueParser.TheVariants as parser
+use Rattle.upload_book.specs.declared.settings.Numbers.{Numbers}
+use Rattle.tus_server.specs.declared.command_line.TalkOptions.{TalkOptions}
+
+-- the most values of an argument that may be repeated without end
+abbrev no_end : ℕ
+no_end = 2 ^ 64 - 1
+
+-- an option --NAME that takes one number from 0 to `most`, with this number where it is not given
+abbrev pub option_rule : Text → Text → ℕ → Rule
+option_rule name default most = record (new_rule name) {
+  long = Some name;
+  value_names = 1;
+  parser = Some (parser.Unsigned 0 most);
+  defaults = default ∷ [];
+}
+
+-- the words that stand for themselves: one or more, each a tenant
+abbrev pub tenant_rule : Rule
+tenant_rule = record (new_rule (codes "tenant")) {
+  value_names = 1;
+  required = true;
+  range = Some (record { start_inclusive = 1; end_inclusive = no_end });
+  action = Some Append;
+}
+
+-- the options that set up the book
+abbrev pub with_sizes : App → App
+with_sizes command =
+    with_rule
+    (with_rule
+    (with_rule
+    (with_rule
+    (with_rule command
+    (option_rule (codes "blocks") (codes "4096") no_end))
+    (option_rule (codes "block-size") (codes "4096") no_end))
+    (option_rule (codes "lifetime") (codes "86400") no_end))
+    (option_rule (codes "max-size") (codes "1048576") no_end))
+    (option_rule (codes "uploads") (codes "64") no_end)
+
+-- the command `talk`: its options with their defaults, and the tenants
+abbrev pub talk_command : App
+talk_command =
+    with_rule
+    (with_sizes (with_rule (new_app (codes "talk")) (option_rule (codes "moment") (codes "0") 253402300799)))
+    tenant_rule
+
+-- the program: it has the command `talk`, and does nothing without a command
+abbrev pub program : App
+program =
+    let bare = new_app (codes "tus-server") in
+    let asks = record bare { top = record bare.top { subcommand_required = true; arg_required_else_help = true } } in
+    with_subcommand asks talk_command.top
+
+-- the text is a decimal number below 2^64, perhaps after a plus
+abbrev pub is_number : Text → Bool
+is_number text =
+    let digits = without_leading_plus text in
+    nat_lt 0 (length digits) && list_all (λ d. nat_lt (digit_value d) 10) digits && nat_lt (digits_value 10 digits) (2 ^ 64)
+
+-- the number that a text writes, and 0 where it writes none
+abbrev pub number_in : Text → ℕ
+number_in text = if is_number text then digits_value 10 (without_leading_plus text) else 0
+
+-- the number that is told under a name, and 0 where none is
+abbrev pub number_under : Text → List Row → ℕ
+number_under name rows = option_map_or number_in (one_of name rows) 0
+
+-- The numbers that the options of `talk` tell, each under its name. Ids and totals have no option: they
+-- are bounded by their type alone.
+abbrev pub numbers_told : List Row → Numbers
+numbers_told rows = record {
+  blocks = number_under (codes "blocks") rows;
+  block_size = number_under (codes "block-size") rows;
+  lifetime = number_under (codes "lifetime") rows;
+  max_size = number_under (codes "max-size") rows;
+  uploads = number_under (codes "uploads") rows;
+  last_id = 2 ^ 64 - 2;
+  last_total = 2 ^ 64 - 1;
+}
+
+-- what `talk` is asked for: the numbers of the settings, the moment of every message, and the words
+-- NAME:QUOTA
+pub record Told : Type 0 where
+  pub numbers : Numbers
+  pub moment : ℕ
+  pub tenants : List Text
+
+-- what the options and the words tell, where there are words, and the moment is at most the last second
+-- of the year 9999
+abbrev pub told_with : ℕ → List Row → Option (List Text) → Option Told
+told_with moment rows None = None
+told_with moment rows (Some words) = if nat_lt 253402300799 moment then None else Some (record {
+  numbers = numbers_told rows;
+  moment = moment;
+  tenants = words;
+})
+
+abbrev pub told_by : List Row → Option Told
+told_by rows = told_with (number_under (codes "moment") rows) rows (all_of (codes "tenant") rows)
+
+-- the same of the command that was entered, where that is `talk`
+abbrev pub talk_told : Option (Text × List Row) → Option Told
+talk_told None = None
+talk_told (Some entered) = if bytes_eq entered.0 (codes "talk") then told_by entered.1 else None
+
+-- options as what they tell
+abbrev pub told_of : TalkOptions → Told
+told_of options = record {
+  numbers = options.numbers;
+  moment = options.moment;
+  tenants = texts options.tenants.now;
+}
+
+-- what the words of the command line tell `talk`, the program's name first
+abbrev pub told_in : List Text → Option Told
+told_in words = talk_told (subcommand_of program words)
+
+-- why the words are not taken, or that they ask for help: nothing where they are taken
+abbrev pub faults_in : List Text → Kinds
+faults_in words = fault_of program words
+
+-- the words may ask for help, or for a version
+abbrev pub AsksForHelp : List Text → Type 0
+AsksForHelp words = IsAmong DisplayHelp (faults_in words) ⊎ IsAmong DisplayVersion (faults_in words)
