@@ -1,5 +1,6 @@
 pub mod Ahead
 pub mod Connection
+pub mod BookStep
 pub mod Conversation
 pub mod Fault
 pub mod Fields

@@ -1,6 +1,6 @@
 ghost use Rattle.std.specs.Prelude.{◌≡◌, ◌<◌, ◌^◌, ℕ};
 ghost use Rattle.tus_steps.specs.Request as spec;
-ghost use Rattle.tus_steps.specs.Step.{IsStep};
+ghost use Rattle.http_wire.specs.BookStep.{BookStep};
 ghost use Rattle.tus_steps.specs.declared.reply.Reply.{Reply};
 ghost use Rattle.upload_book.specs.Book.{plain_of};
 ghost use Rattle.upload_book.specs.PlainBook.{PlainBook};
@@ -30,7 +30,7 @@ pub trait Answer {
 impl Answer for Book {
     ghost max_size = { λ (b : PlainBook). (plain_of b).settings.numbers.max_size };
 
-    ghost steps = { λ (old : PlainBook) request now reply (new : PlainBook). IsStep (plain_of old) request now reply (plain_of new) };
+    ghost steps = { BookStep };
 
     fn max_size(&self) -> u64 {
         self.settings().numbers().max_size

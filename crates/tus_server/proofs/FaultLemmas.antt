@@ -1,9 +1,12 @@
 -- The line of a fault.
 use Rattle.std.proofs.Common.{◌≡◌, ℕ, ◌≤◌, ◌<◌, ◌⊎◌, Bool, true, false, List, length, take, Option, Result, Ok, Err, OnOk, OnErr, IfErr, refl, sym, subst, arith, inl, inr}
 use Rattle.std.specs.Io.KnownBytes.{Appends}
-use Rattle.upload_book.specs.declared.settings.SettingsFault.{SettingsFault}
-use Rattle.upload_book.specs.declared.settings.SettingsFault.TheVariants as settings
-use Rattle.tus_server.specs.Fault.{WritesOrFails, fault_word, line_of, status_of}
+use Rattle.http_wire.specs.Writes.{Writes}
+use Rattle.http_wire.specs.declared.fault.WireFault.{WireFault}
+use Rattle.upload_book.specs.declared.settings_fault.SettingsFault.{SettingsFault}
+use Rattle.upload_book.specs.declared.settings_fault.SettingsFault.TheVariants as settings
+use Rattle.upload_book.specs.Settings.{fault_word}
+use Rattle.tus_server.specs.Fault.{WritesOrFails, line_of, status_of}
 use Rattle.tus_server.specs.declared.fault.TalkFault.{TalkFault}
 use Rattle.tus_server.specs.declared.fault.TalkFault.TheVariants.{Words, Settings, Wire, Memory}
 
@@ -26,14 +29,10 @@ clash m n same (inl below) = omega (arith, same, below)
 clash m n same (inr above) = omega (arith, same, above)
 
 -- what a write of a text leaves
-pub written : {T E : Type 0} (before after : Option (List ℕ)) (failed : Bool) (sent text : List ℕ) (r : Result T E) → sent ≡ text
-    → OnOk r (Appends before after sent) → OnErr r ((n : ℕ) × (n ≤ length sent) × Appends before after (take n sent))
-    → OnOk r (failed ≡ false) → OnErr r (failed ≡ true) → WritesOrFails before after failed text
+pub written : {T : Type 0} (before after : Option (List ℕ)) (failed : Bool) (text : List ℕ) (r : Result T WireFault) → Writes before after failed text r → WritesOrFails before after failed text
 unfolding WritesOrFails
-written before after failed sent text (Ok v) same whole part alive broken =
-    subst (λ f. WritesOrFails before after f text) (sym alive) (subst (λ t. Appends before after t) same whole)
-written before after failed sent text (Err e) same whole part alive broken =
-    subst (λ f. WritesOrFails before after f text) (sym broken) (subst (λ t. (n : ℕ) × (n ≤ length t) × Appends before after (take n t)) same part)
+written before after failed text (Ok v) h = subst (λ f. WritesOrFails before after f text) (sym h.failed) h.all
+written before after failed text (Err e) h = subst (λ f. WritesOrFails before after f text) (sym h.failed) h.part
 
 -- at status 2 the line is that of the settings' fault
 pub settings_line : {T : Type 0} (told : Result T SettingsFault) (before after : Option (List ℕ)) (failed : Bool) (f : TalkFault) → status_of f ≡ 2 → (f ≡ Words → ⊥)

@@ -2,6 +2,7 @@
 use Rattle.std.proofs.Common.{◌≡◌, ℕ, Bool, List, [], ◌++◌, Option, Some, None, Result, Ok, replicate, refl, ◌∙◌, ap, subst}
 use Rattle.std.specs.Io.KnownBytes.{Appends, Consumes, Keeps}
 use Rattle.std.proofs.lemmas.List.{append-nil}
+use Rattle.http_wire.specs.BookStep.{BookStep}
 use Rattle.http_wire.specs.Conversation.{Conversation}
 use Rattle.http_wire.specs.Lent.{Names, NamesOrMemory}
 use Rattle.http_wire.specs.Turns.{Breaks}
@@ -9,8 +10,8 @@ use Rattle.http_wire.specs.declared.conversation.Ended.{Ended}
 use Rattle.http_wire.specs.declared.fault.WireFault.{WireFault}
 use Rattle.http_wire.specs.declared.fault.WireFault.TheVariants as wire
 use Rattle.upload_book.specs.PlainBook.{PlainBook, opening_book}
-use Rattle.upload_book.specs.Settings.{Limits}
-use Rattle.upload_book.specs.declared.settings.SettingsFault.{SettingsFault}
+use Rattle.upload_book.specs.Settings.{Settings}
+use Rattle.upload_book.specs.declared.settings_fault.SettingsFault.{SettingsFault}
 use Rattle.tus_server.specs.Fault.{fault_of_wire}
 use Rattle.tus_server.specs.Talk.{moments_at, Talks, BreaksTalk}
 use Rattle.tus_server.specs.declared.fault.TalkFault.TheVariants.{Wire, Memory}
@@ -35,33 +36,33 @@ Names-wire reader writer wire.Memory is h = cc
 Names-wire reader writer wire.Failed is h = h
 
 -- where memory was lacking, nothing was read or written
-pub nothing-done : (moments got text : List ℕ) (b b2 : PlainBook) (f : WireFault) → fault_of_wire f ≡ Memory → Breaks moments got text b b2 f → (got ≡ []) × (text ≡ [])
-nothing-done moments got text b b2 wire.Read is h = cc
-nothing-done moments got text b b2 wire.Write is h = cc
-nothing-done moments got text b b2 wire.Memory is h = (h.0, h.1)
-nothing-done moments got text b b2 wire.Failed is h = absurd h
+pub nothing-done : (max : ℕ) (moments got text : List ℕ) (b b2 : PlainBook) (f : WireFault) → fault_of_wire f ≡ Memory → Breaks BookStep max moments got text b b2 f → (got ≡ []) × (text ≡ [])
+nothing-done max moments got text b b2 wire.Read is h = cc
+nothing-done max moments got text b b2 wire.Write is h = cc
+nothing-done max moments got text b b2 wire.Memory is h = (h.0, h.1)
+nothing-done max moments got text b b2 wire.Failed is h = absurd h
 
 laid : (now : ℕ) → replicate 4096 now ≡ moments_at now
 unfolding moments_at
 laid now = refl
 
 -- a conversation on the new book is one of the settings that were told
-pub Talks-from : (told : Result Limits SettingsFault) (now : ℕ) (input text : List ℕ) (b after : PlainBook) (e : Ended) → told ≡ Ok b.settings → b ≡ opening_book b.settings → Conversation (replicate 4096 now) input b text after e → Talks told now input text
+pub Talks-from : (told : Result Settings SettingsFault) (now : ℕ) (input text : List ℕ) (b after : PlainBook) (e : Ended) → told ≡ Ok b.settings → b ≡ opening_book b.settings → Conversation BookStep b.settings.numbers.max_size (replicate 4096 now) input b text after e → Talks told now input text
 Talks-from told now input text b after e given new h = record {
   settings = b.settings;
   given = given;
   after = after;
   ended = e;
-  conversation = subst (λ book. Conversation (moments_at now) input book text after e) new (subst (λ moments. Conversation moments input b text after e) (laid now) h);
+  conversation = subst (λ book. Conversation BookStep b.settings.numbers.max_size (moments_at now) input book text after e) new (subst (λ moments. Conversation BookStep b.settings.numbers.max_size moments input b text after e) (laid now) h);
 }
 
 -- the same of one that a fault broke off
-pub BreaksTalk-from : (told : Result Limits SettingsFault) (now : ℕ) (reader writer : Bool) (got text : List ℕ) (b after : PlainBook) (f : WireFault) → told ≡ Ok b.settings → b ≡ opening_book b.settings → Names reader writer f → Breaks (replicate 4096 now) got text b after f → BreaksTalk told now reader writer got text
+pub BreaksTalk-from : (told : Result Settings SettingsFault) (now : ℕ) (reader writer : Bool) (got text : List ℕ) (b after : PlainBook) (f : WireFault) → told ≡ Ok b.settings → b ≡ opening_book b.settings → Names reader writer f → Breaks BookStep b.settings.numbers.max_size (replicate 4096 now) got text b after f → BreaksTalk told now reader writer got text
 BreaksTalk-from told now reader writer got text b after f given new named h = record {
   settings = b.settings;
   given = given;
   after = after;
   fault = f;
   named = named;
-  breaks = subst (λ book. Breaks (moments_at now) got text book after f) new (subst (λ moments. Breaks moments got text b after f) (laid now) h);
+  breaks = subst (λ book. Breaks BookStep b.settings.numbers.max_size (moments_at now) got text book after f) new (subst (λ moments. Breaks BookStep b.settings.numbers.max_size moments got text b after f) (laid now) h);
 }

@@ -3,8 +3,8 @@ use Rattle.std.specs.Prelude.{◌≡◌, ℕ, ◌≤◌, Bool, true, false, List
 use Rattle.std.specs.Io.KnownBytes.{Appends}
 use Rattle.http_wire.specs.declared.fault.WireFault.{WireFault}
 use Rattle.http_wire.specs.declared.fault.WireFault.TheVariants as wire
-use Rattle.upload_book.specs.declared.settings.SettingsFault.{SettingsFault}
-use Rattle.upload_book.specs.declared.settings.SettingsFault.TheVariants as settings
+use Rattle.upload_book.specs.declared.settings_fault.SettingsFault.{SettingsFault}
+use Rattle.upload_book.specs.Settings.{fault_word}
 use Rattle.tus_server.specs.declared.fault.TalkFault.{TalkFault}
 use Rattle.tus_server.specs.declared.fault.TalkFault.TheVariants.{Words, Settings, Wire, Memory}
 
@@ -14,20 +14,6 @@ status_of Words = 2
 status_of (Settings fault) = 2
 status_of Wire = 3
 status_of Memory = 4
-
--- the word of a fault of the settings
-abbrev pub fault_word : SettingsFault → List ℕ
-fault_word settings.Blocks = codes "blocks"
-fault_word settings.BlockSize = codes "block-size"
-fault_word settings.PoolBytes = codes "pool-bytes"
-fault_word settings.Lifetime = codes "lifetime"
-fault_word settings.MaxSize = codes "max-size"
-fault_word settings.Uploads = codes "uploads"
-fault_word settings.LastId = codes "last-id"
-fault_word settings.TenantCount = codes "tenants"
-fault_word settings.TenantName = codes "tenant"
-fault_word settings.TenantTwice = codes "twice"
-fault_word settings.Quota = codes "quota"
 
 -- what the line says of the fault
 abbrev pub words_of : TalkFault → List ℕ

@@ -1,5 +1,5 @@
 ghost use Rattle.std.specs.Prelude.{◌≡◌, false};
-ghost use Rattle.tus_server.specs.Fault.{WritesOrFails, fault_of_wire, fault_word, line_of, status_of};
+ghost use Rattle.tus_server.specs.Fault.{WritesOrFails, fault_of_wire, line_of, status_of};
 ghost use Rattle.tus_server.specs.declared.fault.TalkFault.TheVariants.{Settings, Memory};
 
 use arrayvec::ArrayString;
@@ -48,32 +48,13 @@ impl TalkFault {
             TalkFault::Words => line.push_str("words"),
             TalkFault::Settings(fault) => {
                 line.push_str("settings: ");
-                line.push_str(settings_word(fault));
+                line.push_str(fault.word());
             }
             TalkFault::Wire => line.push_str("wire"),
             TalkFault::Memory => line.push_str("memory"),
         }
         line.push_str("\n");
         line
-    }
-}
-
-/// The word of a fault of the settings.
-fn settings_word(fault: SettingsFault) -> &'static str
-    ensures { result.now ≡ fault_word fault }
-{
-    match fault {
-        SettingsFault::Blocks => "blocks",
-        SettingsFault::BlockSize => "block-size",
-        SettingsFault::PoolBytes => "pool-bytes",
-        SettingsFault::Lifetime => "lifetime",
-        SettingsFault::MaxSize => "max-size",
-        SettingsFault::Uploads => "uploads",
-        SettingsFault::LastId => "last-id",
-        SettingsFault::TenantCount => "tenants",
-        SettingsFault::TenantName => "tenant",
-        SettingsFault::TenantTwice => "twice",
-        SettingsFault::Quota => "quota",
     }
 }
 

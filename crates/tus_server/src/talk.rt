@@ -1,6 +1,7 @@
 //! The command `talk`, after its command line was read.
 ghost use Rattle.std.specs.Prelude.{◌≡◌, ◌⊎◌, ◌++◌, ℕ, List, false, Some, None, Ok, Err, IfOk, IfErr, IfSome, OnOk, OnErr, IsErr, IsErrOf, ok_or, option_map};
 ghost use Rattle.std.specs.Io.KnownBytes.{Appends, Consumes, Keeps};
+ghost use Rattle.upload_book.specs.Book.{plain_of};
 ghost use Rattle.upload_book.specs.PlainBook.{opening_book};
 ghost use Rattle.upload_book.specs.Settings.{tenants_of};
 ghost use Rattle.clap.specs.Walk.{texts};
@@ -188,8 +189,8 @@ fn hold<R: Source, W: Sink>(
 /// The new book with the settings that the numbers and the words tell, or their first fault, or
 /// `TalkFault::Memory`.
 fn opening(alloc: Global, numbers: Numbers, tenants: &[&str]) -> Result<Book, TalkFault>
-    ensures settings { IfOk result (λ book. settings_told numbers (texts tenants.now) ≡ Ok book.settings) }
-    ensures new { IfOk result (λ book. book ≡ opening_book book.settings) }
+    ensures settings { IfOk result (λ book. settings_told numbers (texts tenants.now) ≡ Ok (plain_of book).settings) }
+    ensures new { IfOk result (λ book. plain_of book ≡ opening_book (plain_of book).settings) }
     ensures fault { IfErr result (IsFaultOf (settings_told numbers (texts tenants.now))) }
 {
     let tenants = tenants_of(alloc, tenants)?;

@@ -16,7 +16,7 @@ returns-in_err-converse-clause-breaks g c is =
       broke.1,
       broke.2,
       broke.3,
-      BreaksTalk-from _ c.args.now _ _ broke.0 broke.1 c.in_ok-book.book c.converse.new.book fault c.in_ok-book.ensures.settings c.in_ok-book.ensures.new named broke.4,
+      BreaksTalk-from _ c.args.now _ _ broke.0 broke.1 c.in_ok-book.book c.converse.new.answerer fault c.in_ok-book.ensures.settings c.in_ok-book.ensures.new named broke.4,
     )
 
 pub returns-in_err-converse-clause-memory : goal.returns-in_err-converse-clause-memory
@@ -25,7 +25,7 @@ returns-in_err-converse-clause-memory g c is =
     let made = err_from_is_err_and c.from_residual-in_err-converse.result c.from_residual-in_err-converse.ensures.1 in
     let memory : fault_of_wire fault ≡ Memory = cc (is, made.1, made.2) in
     let broke = c.in_err-converse.ensures.breaks in
-    let nothing = nothing-done (replicate 4096 c.args.now) broke.0 broke.1 c.in_ok-book.book c.converse.new.book fault memory broke.4 in
+    let nothing = nothing-done c.in_ok-book.book.settings.numbers.max_size (replicate 4096 c.args.now) broke.0 broke.1 c.in_ok-book.book c.converse.new.answerer fault memory broke.4 in
     (Keeps-consumed _ _ broke.0 broke.2 nothing.0, Keeps-appended _ _ broke.1 broke.3 nothing.1)
 
 pub returns-clause-talks : goal.returns-clause-talks
@@ -33,5 +33,5 @@ returns-clause-talks g c input before read wrote =
     let known = c.in_ok-converse.ensures.known input before read wrote in (
       known.0,
       known.1,
-      Talks-from _ c.args.now input known.0 c.in_ok-book.book c.converse.new.book c.in_ok-converse.field-0 c.in_ok-book.ensures.settings c.in_ok-book.ensures.new known.2,
+      Talks-from _ c.args.now input known.0 c.in_ok-book.book c.converse.new.answerer c.in_ok-converse.field-0 c.in_ok-book.ensures.settings c.in_ok-book.ensures.new known.2,
     )
