@@ -12,7 +12,7 @@ use Rattle.tus_steps.specs.declared.tus_fields.TusFields.{TusFields}
 use Rattle.tus_steps.specs.TusFields.{fields_by}
 use Rattle.http_wire.specs.Connection.{closes, asks_to_continue}
 use Rattle.http_wire.specs.Fields.{values_named, field_text}
-use Rattle.http_wire.specs.HeadText.{HeadText, whole, too_long, cut, nothing, head_text, has_many_lines}
+use Rattle.http_wire.specs.HeadText.{field_limit, HeadText, whole, too_long, cut, nothing, head_text, has_many_lines}
 use Rattle.http_wire.specs.Judge.{judge}
 use Rattle.http_wire.specs.declared.framing.Framing.{Framing}
 use Rattle.http_wire.specs.declared.refusal.WireRefusal.{WireRefusal}
@@ -104,10 +104,10 @@ abbrev pub parsed_front : ℕ → Option RequestHead → List ℕ → Front
 parsed_front max None rest = refused Head unknown_framing
 parsed_front max (Some h) rest = judged_front h (judged max h) rest
 
--- the text as a whole is a request head of httparse's grammar with at most 64 fields, or it is none
+-- the text as a whole is a request head of httparse's grammar with no more fields than a head may have, or it is none
 abbrev pub Parses : List ℕ → Option RequestHead → Type 0
-Parses text None = (h : RequestHead) → ReadsRequest text h [] → length h.fields ≤ 64 → ⊥
-Parses text (Some h) = ReadsRequest text h [] × (length h.fields ≤ 64)
+Parses text None = (h : RequestHead) → ReadsRequest text h [] → length h.fields ≤ field_limit → ⊥
+Parses text (Some h) = ReadsRequest text h [] × (length h.fields ≤ field_limit)
 
 -- A head and its body with at most so many bytes together always have room: there is room for 65,536 bytes
 -- from the start, and a read asks for 16,384 of them.

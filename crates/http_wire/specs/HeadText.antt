@@ -6,6 +6,10 @@ use Rattle.std.specs.List.{prefix_len}
 abbrev pub head_limit : ℕ
 head_limit = 16384
 
+-- the most fields of a head
+abbrev pub field_limit : ℕ
+field_limit = 64
+
 -- CR or LF
 abbrev pub is_line_end : ℕ → Bool
 is_line_end b = b == 13 || b == 10
@@ -48,6 +52,6 @@ head_text input = let text = drop (blank_len input) input in text_at (blank_len 
 abbrev pub line_count : List ℕ → ℕ
 line_count text = count_by (λ b. b == 10) text
 
--- more than 64 lines stand between the first line and the empty one
+-- more lines than a head may have fields stand between the first line and the empty one
 abbrev pub has_many_lines : List ℕ → Bool
-has_many_lines text = nat_lt 66 (line_count text)
+has_many_lines text = nat_lt (field_limit + 2) (line_count text)

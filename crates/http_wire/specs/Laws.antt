@@ -43,7 +43,7 @@ MessagesAreShort =
     (max : ℕ) (input : List ℕ) (request : Request) (framing : Framing) (waiting : Bool) (rest : List ℕ)
     → IsFront max input (message request framing waiting rest) → length input ≤ head_limit + max + length rest
 
--- the refusal for want of memory
+-- the refusal that memory is lacking
 abbrev pub RefusesForMemory : Front → Type 0
 RefusesForMemory f = (framing : Framing) × (f ≡ refused Memory framing)
 

@@ -90,7 +90,7 @@ module _ {A : Type 0} (steps : A → Request → ℕ → Reply → A → Type 0)
 
   -- A fault broke the conversation off. After a read that failed it is the conversation of the bytes that were
   -- read, as a whole input, and ends with that; after a write that failed, every text before the last is written
-  -- whole, and a front of the last. Memory is wanted only before anything is read.
+  -- whole, and a front of the last. Memory is lacking only before anything is read.
   abbrev pub Breaks : List ℕ → List ℕ → List ℕ → A → A → WireFault → Type 0
   Breaks moments got text b b2 fault.Read = (e : Ended) × EndsWithInput e × Conversation steps max moments got b text b2 e
   Breaks moments got text b b2 fault.Write = BreaksOff moments got b text b2

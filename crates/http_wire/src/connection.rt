@@ -2,8 +2,7 @@ ghost use Rattle.std.specs.Prelude.{◌≡◌};
 ghost use Rattle.tus_steps.specs.Field.{text_of};
 ghost use Rattle.http_wire.specs.Connection.{is_close, has_close, asks_to_continue};
 
-use tus_steps::Field;
-use tus_steps::trim_blanks;
+use tus_steps::{Field, trim_blanks};
 
 /// Whether the value of a Connection field has the token `close`.
 pub fn has_close(value: &[u8]) -> bool

@@ -28,7 +28,7 @@ Keeps-appended None new text h none = tt
 Keeps-appended (Some xs) None text h none = h
 Keeps-appended (Some xs) (Some ys) text h none = h ∙ (ap (λ t. xs ++ t) none ∙ append-nil xs)
 
--- a fault that is no want of memory names what failed
+-- a fault other than lacking memory names what failed
 pub Names-wire : (reader writer : Bool) (f : WireFault) → fault_of_wire f ≡ Wire → NamesOrMemory reader writer f → Names reader writer f
 Names-wire reader writer wire.Read is h = h
 Names-wire reader writer wire.Write is h = h

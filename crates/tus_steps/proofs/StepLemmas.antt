@@ -19,7 +19,7 @@ use Rattle.upload_book.proofs.AppendLemmas.{part_after_append-refused}
 use Rattle.tus_steps.specs.Reply.{append_reply}
 use Rattle.tus_steps.specs.Request.{Request}
 use Rattle.tus_steps.specs.declared.reply.Reply.{Reply}
-use Rattle.tus_steps.specs.Asked.{operation_of}
+use Rattle.tus_steps.specs.Operation.{operation_of}
 use Rattle.tus_steps.specs.Method.{is_options}
 use Rattle.tus_steps.specs.Step.{IsOperationStep, IsStep}
 
@@ -60,5 +60,5 @@ append-step b r now name chunk result after (inr lacks) accepted refused =
     inr (lacks.0, ap (append_reply r) lacks.1, kept b after result _ lacks.1 refused)
 
 -- the step of an operation is that of the request that asks for it
-pub asked-step : (b : PlainBook) (r : Request) (now : ℕ) (op : Operation) (told : Reply) (after : PlainBook) → is_options r.method ≡ false → operation_of b.settings r ≡ Ok op → IsOperationStep b r now op told after → IsStep b r now told after
-asked-step b r now op told after other asked step = rw (other, asked) step
+pub step-by : (b : PlainBook) (r : Request) (now : ℕ) (op : Operation) (told : Reply) (after : PlainBook) → is_options r.method ≡ false → operation_of b.settings r ≡ Ok op → IsOperationStep b r now op told after → IsStep b r now told after
+step-by b r now op told after other asked step = rw (other, asked) step

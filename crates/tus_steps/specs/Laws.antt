@@ -6,7 +6,7 @@ use Rattle.upload_book.specs.declared.refusal.Refusal.TheVariants as refusal
 use Rattle.upload_book.specs.Order.{order, stand_in}
 use Rattle.upload_book.specs.Refusal.{first_that_holds, words_of}
 use Rattle.upload_book.specs.Settings.{Settings, tenant_place}
-use Rattle.tus_steps.specs.Asked.{has_version, operation_on, operation_of}
+use Rattle.tus_steps.specs.Operation.{has_version, operation_on, operation_of}
 use Rattle.tus_steps.specs.Request.{Request}
 use Rattle.tus_steps.specs.Route.{route, tenant_name}
 

@@ -4,7 +4,7 @@ pub mod TusFields
 pub mod Media
 pub mod Request
 pub mod Route
-pub mod Asked
+pub mod Operation
 pub mod Reply
 pub mod Step
 pub mod Laws

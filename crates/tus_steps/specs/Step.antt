@@ -12,7 +12,7 @@ use Rattle.upload_book.specs.Operation.{book_after_operation, MayLackMemory}
 use Rattle.upload_book.specs.PlainBook.{PlainBook, answer_of}
 use Rattle.tus_steps.specs.declared.reply.Reply.{Reply}
 use Rattle.tus_steps.specs.declared.reply.Reply.TheVariants as reply
-use Rattle.tus_steps.specs.Asked.{operation_of}
+use Rattle.tus_steps.specs.Operation.{operation_of}
 use Rattle.tus_steps.specs.Method.{is_options}
 use Rattle.tus_steps.specs.Reply.{refusing, creation_reply, look_reply, content_reply, append_reply}
 use Rattle.tus_steps.specs.Request.{Request}
@@ -37,13 +37,13 @@ IsOperationStep b r now op told after =
     ⊎ (MayLackMemory b op now × (told ≡ lacking_reply b r now op) × (after ≡ b))
 
 -- the step of a request that asks for an operation, or for none for this reason
-abbrev pub IsAskedStep : PlainBook → Request → ℕ → Result Operation Refusal → Reply → PlainBook → Type 0
-IsAskedStep b r now (Ok op) told after = IsOperationStep b r now op told after
-IsAskedStep b r now (Err why) told after = (told ≡ refusing r why None) × (after ≡ b)
+abbrev pub IsStepBy : PlainBook → Request → ℕ → Result Operation Refusal → Reply → PlainBook → Type 0
+IsStepBy b r now (Ok op) told after = IsOperationStep b r now op told after
+IsStepBy b r now (Err why) told after = (told ≡ refusing r why None) × (after ≡ b)
 
 -- The step of a request. OPTIONS is answered whatever else the request says (tus 1.0.0, Core Protocol, OPTIONS).
 abbrev pub IsStep : PlainBook → Request → ℕ → Reply → PlainBook → Type 0
 IsStep b r now told after =
     MatchBool (is_options r.method)
     ((told ≡ reply.Options b.settings.numbers.max_size) × (after ≡ b))
-    (IsAskedStep b r now (operation_of b.settings r) told after)
+    (IsStepBy b r now (operation_of b.settings r) told after)

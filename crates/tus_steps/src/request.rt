@@ -40,7 +40,7 @@ impl<'a> Model for Request<'a> {
 }
 
 impl<'a> Request<'a> {
-    ghost use Rattle.tus_steps.specs.Asked.{has_version, length_told, is_plain_creation, new_upload_in, chunk_in, operation_on, operation_of, CanBeAsked};
+    ghost use Rattle.tus_steps.specs.Operation.{has_version, length_told, is_plain_creation, new_upload_in, chunk_in, operation_on, operation_of, CanBeAsked};
     ghost use Rattle.tus_steps.specs.Reply.{place_of};
     ghost use Rattle.tus_steps.specs.Route.{tenant_name};
     ghost use Rattle.upload_book.specs.Lawful.{is_kept_metadata};

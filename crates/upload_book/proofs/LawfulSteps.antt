@@ -129,13 +129,13 @@ IsCreatable-from_none n part new none =
     let unspent = test-passed (ltb n.last_id part.next) _ _ room.1 in
     record { small = small.0; room = grind (arith, nat_tests); unspent = grind (arith, nat_tests) }
 
--- a creation of this upload is one that the book is asked for
-pub record IsAsked (new : NewUpload) : Type 0 where
+-- the texts of a new upload are of their forms
+pub record HasLawfulTexts (new : NewUpload) : Type 0 where
   pub metadata : IsTrue (is_kept_metadata new.metadata)
   pub concat : IsConcatText (new_kind new.partial) new.concat
 
 -- a new upload is as it should be
-IsUploadOf-new : (n : Numbers) (part : TenantBook) (new : NewUpload) (now : ℕ) → is_above new.length n.max_size ≡ false → IsAsked new → IsUploadOf n part (created_upload n new now)
+IsUploadOf-new : (n : Numbers) (part : TenantBook) (new : NewUpload) (now : ℕ) → is_above new.length n.max_size ≡ false → HasLawfulTexts new → IsUploadOf n part (created_upload n new now)
 IsUploadOf-new n part new now small asked = record {
   within = elim new.length as (λ declared. is_above declared n.max_size ≡ false → IfSome declared (λ most. (0 ≤ most) × (most ≤ n.max_size))) [ None ↦ λ _. tt | Some most ↦ λ small. (omega arith, grind (arith, nat_tests)) ] small;
   size = omega arith;
@@ -145,7 +145,7 @@ IsUploadOf-new n part new now small asked = record {
 }
 
 -- a creation that is not refused leaves the tenant's part as it should be
-pub IsTenantOf-create : (n : Numbers) (part : TenantBook) (new : NewUpload) (now : ℕ) → creation_refusal n part new ≡ None → IsAsked new → IsTenantOf n part → IsTenantOf n (with_new part (created_upload n new now))
+pub IsTenantOf-create : (n : Numbers) (part : TenantBook) (new : NewUpload) (now : ℕ) → creation_refusal n part new ≡ None → HasLawfulTexts new → IsTenantOf n part → IsTenantOf n (with_new part (created_upload n new now))
 IsTenantOf-create n part new now none asked sound =
     let can = IsCreatable-from_none n part new none in
     let added : Entry Upload = record { id = part.next; kept = created_upload n new now } in

@@ -16,7 +16,7 @@ book_after_operation b (Content name) now = b
 book_after_operation b (Append name chunk) now = book_after b name.tenant (part_after_append name.id chunk now)
 
 -- The operation may lack memory: it is a GET or a PATCH of one byte or more, and is not refused. Where it
--- does, its answer is the refusal for want of memory, and the book stays as it was.
+-- does, its answer is the refusal Memory, and the book stays as it was.
 abbrev pub MayLackMemory : PlainBook → Operation → ℕ → Type 0
 MayLackMemory b (Create tenant new) now = ⊥
 MayLackMemory b (Look name) now = ⊥

@@ -1,11 +1,11 @@
 use Rattle.std.proofs.Common.{Ok, sym, ap, ◌∙◌, subst}
 use Rattle.upload_book.specs.declared.operation.Operation.TheVariants as operation
 use Rattle.tus_steps.specs.declared.reply.Reply.{Reply}
-use Rattle.tus_steps.specs.Asked.{operation_of}
+use Rattle.tus_steps.specs.Operation.{operation_of}
 use Rattle.tus_steps.specs.Method.{is_options}
 use Rattle.tus_steps.specs.Request.{Request}
 use Rattle.tus_steps.specs.Step.{IsStep}
-use Rattle.tus_steps.proofs.StepLemmas.{append-step, asked-step}
+use Rattle.tus_steps.proofs.StepLemmas.{append-step, step-by}
 use Rattle.tus_steps.proofs.step.answer.Goals as goal
 
 pub returns-in-Ok-Append-clause-step : goal.returns-in-Ok-Append-clause-step
@@ -20,4 +20,4 @@ returns-in-Ok-Append-clause-step c =
     let asked = ap (λ s. operation_of s r) (sym c.settings-2.ensures.value) ∙ sym c.operation.ensures.value ∙ c.in-Ok-Append.is ∙ ap Ok c.in-Ok-Append.field-0-is in
     let step = append-step b r c.args.now name chunk c.append-outcome.result after told.answer told.accepted told.refused in
     subst (λ (reply : Reply). IsStep b r c.args.now reply after) (sym c.to_append.ensures)
-    (asked-step b r c.args.now (operation.Append name chunk) _ after other asked step)
+    (step-by b r c.args.now (operation.Append name chunk) _ after other asked step)

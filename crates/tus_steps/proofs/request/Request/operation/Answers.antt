@@ -1,5 +1,5 @@
 use Rattle.std.proofs.Common.{ℕ, ◌<◌, length, sym, ◌∙◌}
-use Rattle.tus_steps.specs.Asked.{CanBeAsked}
+use Rattle.tus_steps.specs.Operation.{CanBeAsked}
 use Rattle.tus_steps.proofs.StepLemmas.{IfOk-ok_or, found-ok_or}
 use Rattle.tus_steps.proofs.request.Request.operation.Goals as goal
 

@@ -1,6 +1,6 @@
 use Rattle.std.proofs.Common.{◌≡◌, ℕ, ◌+◌, ◌^◌, ◌<◌, ◌≤◌, length, get_or, vec_len, vec_capacity, None, Some, refl, sym, ap, ◌∙◌, arith}
 use Rattle.upload_book.proofs.KeptLemmas.{IsPart, IsKept-with_part, IsTenantOf-part, answer_of-kept, book_after-kept, book_of-after, book_of-same, create_answer-none, create_answer-refused, creation_refusal-read, part_after_create-none, part_after_create-refused, part_of_tenant, room_of_part}
-use Rattle.upload_book.proofs.LawfulSteps.{IsAsked, IsCreatable-from_none, IsTenantOf-create}
+use Rattle.upload_book.proofs.LawfulSteps.{HasLawfulTexts, IsCreatable-from_none, IsTenantOf-create}
 use Rattle.upload_book.proofs.SettingsLemmas.{last_id-within}
 use Rattle.upload_book.specs.Create.{creation_refusal, created_upload, create_answer, part_after_create}
 use Rattle.upload_book.specs.declared.book.Book.TheInside.{Inside}
@@ -67,7 +67,7 @@ pub invariant_of-self-2 : goal.invariant_of-self-2
 invariant_of-self-2 c =
     let v = c.self.inside in
     let tenant = c.index_mut-part.result.now in
-    let asked : IsAsked c.args.new = record { metadata = c.requires.metadata; concat = c.requires.concat } in
+    let asked : HasLawfulTexts c.args.new = record { metadata = c.requires.metadata; concat = c.requires.concat } in
     let sound = IsTenantOf-create v.settings.numbers (part_of tenant) c.args.new c.args.now (none c) asked (IsTenantOf-part v c.args.tenant tenant c.self.invariant (part c)) in
     rw c.from.ensures
     (IsKept-with_part v c.args.tenant tenant _ c.self.invariant (part c) refl (rw (added c) sound) (rw c.push_reserved.ensures.capacity (room_of_part v c.args.tenant tenant c.self.invariant (part c))))
