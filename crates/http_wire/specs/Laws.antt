@@ -36,7 +36,7 @@ MessagesAreShort =
     (max : ℕ) (input : List ℕ) (asked : Asked) (framing : Framing) (waiting : Bool) (rest : List ℕ)
     → IsFront max input (message asked framing waiting rest) → length input ≤ head_limit + max + length rest
 
--- the refusal for want of memory
+-- the refusal because there is no memory
 abbrev pub RefusesForMemory : Front → Type 0
 RefusesForMemory f = (framing : Framing) × (f ≡ refused Memory framing)
 

@@ -41,7 +41,7 @@ EndsTurnAtEnd remaining a (Some e) = IsReadWhen e remaining
 
 -- what makes these steps, over a connection whose bodies have at most max bytes
 module _ {A : Type 0} (steps : A → Asked → ℕ → Reply → A → Type 0) (max : ℕ) where
-  -- The message that the input begins with is answered with this text, which leaves this book and this rest
+  -- The message that the input begins with is answered with this text, which leaves this state and this rest
   -- of the input, and the connection open.
   pub record Answered (now : ℕ) (input : List ℕ) (b : A) (text : List ℕ) (b2 : A) (rest : List ℕ) : Type 0 where
     pub asked : Asked
@@ -90,7 +90,7 @@ module _ {A : Type 0} (steps : A → Asked → ℕ → Reply → A → Type 0) (
 
   -- A fault broke the conversation off. After a read that failed it is the conversation of the bytes that were
   -- read, as a whole input, and ends with that; after a write that failed, every text before the last is written
-  -- whole, and a front of the last. Memory is wanted only before anything is read.
+  -- whole, and a front of the last. There is no memory only before anything is read.
   abbrev pub Breaks : List ℕ → List ℕ → List ℕ → A → A → WireFault → Type 0
   Breaks moments got text b b2 fault.Read = (e : Ended) × EndsWithInput e × Conversation steps max moments got b text b2 e
   Breaks moments got text b b2 fault.Write = BreaksOff moments got b text b2

@@ -17,7 +17,7 @@ pub struct Buffers {
 }
 
 impl Buffers {
-    /// Buffers that hold nothing. The error is want of memory.
+    /// Buffers that hold nothing. The error is that there is no memory.
     pub fn new(alloc: Global) -> Result<Self, AllocError>
         ensures held { IfOk result (λ b. b.inbox.held ≡ []) }
         ensures ended { IfOk result (λ b. b.inbox.ended ≡ false) }

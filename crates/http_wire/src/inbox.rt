@@ -44,7 +44,7 @@ impl Model for Inbox {
 }
 
 impl Inbox {
-    /// An inbox that holds nothing. The error is want of memory.
+    /// An inbox that holds nothing. The error is that there is no memory.
     pub fn new(alloc: Global) -> Result<Self, AllocError>
         ensures held { IfOk result (λ b. b.held ≡ []) }
         ensures lent { IfOk result (λ b. b.lent ≡ []) }

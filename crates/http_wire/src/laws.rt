@@ -13,7 +13,7 @@ pub fn inputs_join<A: Answer>()
 {}
 
 /// What an input begins with is determined by its bytes and the greatest length of a body, but for a
-/// refusal for want of memory.
+/// refusal because there is no memory.
 pub fn one_front()
     ensures { OneFront }
 {}

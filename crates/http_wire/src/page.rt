@@ -51,7 +51,7 @@ impl Model for Page {
 }
 
 impl Page {
-    /// An empty page. The error is want of memory.
+    /// An empty page. The error is that there is no memory.
     pub fn new(alloc: Global) -> Result<Self, AllocError>
         ensures { IfOk result (λ p. p ≡ []) }
     {
