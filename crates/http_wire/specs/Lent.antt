@@ -28,7 +28,7 @@ Names reader writer fault.Write = (reader ≡ false) × (writer ≡ true)
 Names reader writer fault.Memory = ⊥
 Names reader writer fault.Failed = ⊥
 
--- the same, or memory was wanted, and then nothing failed
+-- the same, or there was no memory, and then nothing failed
 abbrev pub NamesOrMemory : Bool → Bool → WireFault → Type 0
 NamesOrMemory reader writer fault.Read = (reader ≡ true) × (writer ≡ false)
 NamesOrMemory reader writer fault.Write = (reader ≡ false) × (writer ≡ true)
