@@ -36,6 +36,8 @@ impl Answer for Book {
         self.settings().numbers().max_size
     }
 
+    // A reply is large: inlined, it is not moved once more.
+    #[inline(always)]
     fn answer(&mut self, request: &Request, now: Moment) -> Reply {
         tus_steps::answer(self, request, now)
     }
