@@ -14,11 +14,11 @@ pub enum WireRefusal {
     Head,
     /// The head is longer than 16,384 bytes, or has more than 64 lines of fields.
     HeadSize,
-    /// A request of HTTP/1.1 without Host, or any with two (RFC 9112, section 3.2).
+    /// A request of HTTP/1.1 without Host, or any with two or more (RFC 9112, section 3.2).
     Host,
     /// There is a Transfer-Encoding field.
     Coding,
-    /// There are two Content-Length fields, or one that is no number (RFC 9112, section 6.3).
+    /// There are two or more Content-Length fields, or one that is no number (RFC 9112, section 6.3).
     ContentLength,
     /// Content-Length is above the greatest length of a body.
     BodySize,

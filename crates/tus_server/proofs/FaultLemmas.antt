@@ -1,6 +1,5 @@
 -- The line of a fault.
-use Rattle.std.proofs.Common.{◌≡◌, ℕ, ◌≤◌, ◌<◌, ◌⊎◌, Bool, true, false, List, length, take, Option, Result, Ok, Err, OnOk, OnErr, IfErr, refl, sym, subst, arith, inl, inr}
-use Rattle.std.specs.Io.KnownBytes.{Appends}
+use Rattle.std.proofs.Common.{◌≡◌, ℕ, ◌≤◌, ◌<◌, ◌⊎◌, Bool, List, length, Option, Result, Ok, Err, IfErr, refl, sym, subst, arith, inl, inr}
 use Rattle.http_wire.specs.Writes.{Writes}
 use Rattle.http_wire.specs.declared.fault.WireFault.{WireFault}
 use Rattle.upload_book.specs.declared.settings_fault.SettingsFault.{SettingsFault}

@@ -65,6 +65,10 @@ pub fn run<S: AsStr, R: Source, W: Sink, E: Sink>(
     ensures alive { result ≡ 0
         → (R.has_failed reader.new ≡ false) × (W.has_failed writer.new ≡ false) }
 
+    // streams that stay as they were
+    ensures untouched { result ≡ 2 → (reader.new ≡ reader.old) × (writer.new ≡ writer.old) }
+    ensures quiet { result ≡ 0 → errors.new ≡ errors.old }
+
     // the lines of the faults
     ensures settings_line { result ≡ 2 → faults_in (map S.text words.now) ≡ []
         → IfSome (told_in (map S.text words.now)) (λ told.
@@ -103,6 +107,7 @@ fn explain<W: Sink, E: Sink>(
         → (kind_of error.now ≡ DisplayHelp) ⊎ (kind_of error.now ≡ DisplayVersion) }
     ensures shown { kind_of error.now ≡ DisplayHelp → (result ≡ 0) ⊎ (result ≡ 3) ⊎ (result ≡ 4) }
     ensures alive { result ≡ 0 → W.has_failed writer.new ≡ false }
+    ensures quiet { result ≡ 0 → errors.new ≡ errors.old }
     ensures wire_line { result ≡ 3
         → WritesOrFails (E.contents errors.old) (E.contents errors.new) (E.has_failed errors.new)
         (line_of TalkFault.Wire) }

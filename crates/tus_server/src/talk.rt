@@ -43,6 +43,7 @@ pub fn talk_as_told<R: Source, W: Sink, E: Sink>(
         × (errors.new ≡ errors.old) }
     ensures refused { result ≡ 2 → IfSome (talk_told (subcommand_rows_of matches.now)) (λ told.
         IsErr (settings_in told)) }
+    ensures untouched { result ≡ 2 → (reader.new ≡ reader.old) × (writer.new ≡ writer.old) }
     ensures settings { IfSome (talk_told (subcommand_rows_of matches.now)) (λ told.
         OnErr (settings_in told) (((result ≡ 2) ⊎ (result ≡ 4))
         × (reader.new ≡ reader.old) × (writer.new ≡ writer.old))) }
@@ -60,6 +61,7 @@ pub fn talk_as_told<R: Source, W: Sink, E: Sink>(
         (R.has_failed reader.new) (W.has_failed writer.new) got text }
     ensures alive { result ≡ 0
         → (R.has_failed reader.new ≡ false) × (W.has_failed writer.new ≡ false) }
+    ensures quiet { result ≡ 0 → errors.new ≡ errors.old }
     ensures settings_line { result ≡ 2
         → IfSome (talk_told (subcommand_rows_of matches.now)) (λ told.
         IfErr (settings_in told) (λ fault.
@@ -111,9 +113,10 @@ pub fn talk<R: Source, W: Sink, E: Sink>(
     requires errors { E.has_failed errors.old ≡ false }
     ensures status { (result ≡ 0) ⊎ (result ≡ 2) ⊎ (result ≡ 3) ⊎ (result ≡ 4) }
     ensures settings { OnErr (settings_told numbers (texts tenants.now)) ((result ≡ 2) ⊎ (result ≡ 4)) }
-    ensures untouched { OnErr (settings_told numbers (texts tenants.now))
+    ensures settings_untouched { OnErr (settings_told numbers (texts tenants.now))
         ((reader.new ≡ reader.old) × (writer.new ≡ writer.old)) }
     ensures refused { result ≡ 2 → IsErr (settings_told numbers (texts tenants.now)) }
+    ensures untouched { result ≡ 2 → (reader.new ≡ reader.old) × (writer.new ≡ writer.old) }
     ensures talks { (input before : List ℕ) → R.remaining reader.old ≡ Some input
         → W.contents writer.old ≡ Some before
         → result ≡ 0 → (text : List ℕ) × (W.contents writer.new ≡ Some (before ++ text))

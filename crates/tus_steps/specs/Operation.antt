@@ -1,7 +1,6 @@
 -- What a request asks of the book, or why it is refused before the book is asked (tus 1.0.0, Core Protocol
 -- and Creation).
-use Rattle.std.specs.Prelude.{ℕ, Bool, false, ◌||◌, ◌&&◌, List, [], ◌∷◌, length, ◌==◌, Option, Some, None, option_map, option_and_then, Result, Ok, Err, ok_or, codes, IsTrue, ◌<◌, ⊤, if◌then◌else◌}
-use Rattle.tus_text.specs.declared.path.Path.{Path}
+use Rattle.std.specs.Prelude.{ℕ, Bool, false, ◌||◌, ◌&&◌, List, [], length, ◌==◌, Option, Some, None, option_map, option_and_then, Result, Err, ok_or, codes, IsTrue, ◌<◌, ⊤, if◌then◌else◌}
 use Rattle.upload_book.specs.Chunk.{Chunk}
 use Rattle.upload_book.specs.declared.operation.Operation.{Operation}
 use Rattle.upload_book.specs.declared.operation.Operation.TheVariants as operation

@@ -1,5 +1,5 @@
 -- What the outcome of a PATCH tells.
-use Rattle.std.proofs.Common.{◌≡◌, ℕ, ◌⊎◌, Option, Some, None, Result, Ok, Err, OnOk, OnErr, IsOk, refl, inl, inr, sym, ap, ◌∙◌}
+use Rattle.std.proofs.Common.{◌≡◌, ℕ, ◌⊎◌, Option, Some, None, Result, Ok, Err, OnOk, OnErr, refl, inl, inr}
 use Rattle.upload_book.specs.Append.{append_refusal, appended, appended_upload, telling, told, upload_with, with_appended, part_after_append, append_answer}
 use Rattle.upload_book.specs.Chunk.{Chunk}
 use Rattle.upload_book.specs.declared.append.Appended.{Appended}

@@ -8,8 +8,6 @@ use Rattle.upload_book.specs.Append.{append_refusal, upload_with, part_after_app
 use Rattle.upload_book.specs.Chunk.{Chunk}
 use Rattle.upload_book.specs.Create.{creation_refusal, created_upload, create_answer, part_after_create}
 use Rattle.upload_book.specs.declared.book.Book.TheInside.{Inside}
-use Rattle.upload_book.specs.declared.create.Created.{Created}
-use Rattle.upload_book.specs.declared.head_row.Name.{Name}
 use Rattle.upload_book.specs.declared.refusal.Refusal.{Refusal}
 use Rattle.upload_book.specs.declared.settings.Numbers.{Numbers}
 use Rattle.upload_book.specs.declared.settings.TenantQuota.{TenantQuota}
@@ -19,7 +17,7 @@ use Rattle.upload_book.specs.Kept.{book_of, part_of, IsKept, IsVisibleAt}
 use Rattle.upload_book.specs.Lawful.{IsTenantOf}
 use Rattle.upload_book.specs.NewUpload.{NewUpload}
 use Rattle.upload_book.specs.PlainBook.{PlainBook, answer_of, book_after, tenant_book, with_tenant_book}
-use Rattle.upload_book.specs.TenantBook.{TenantBook, opening_part, visible_upload, with_changed, with_kept, with_new}
+use Rattle.upload_book.specs.TenantBook.{TenantBook, opening_part, visible_upload, with_changed, with_new}
 use Rattle.upload_book.specs.Upload.{Upload, head_row_of}
 use Rattle.upload_book.proofs.Entries.{with_kept-place}
 use Rattle.upload_book.proofs.LawfulSteps.{IsLawful-with_tenant_book}

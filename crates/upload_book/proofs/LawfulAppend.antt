@@ -1,6 +1,5 @@
 -- A PATCH leaves a lawful book lawful.
-use Rattle.std.proofs.Common.{◌≡◌, ℕ, ◌+◌, ◌≤◌, ◌⊎◌, true, false, cond, not, eqb, List, [], ◌∷◌, ◌++◌, length, Option, Some, None, Result, Ok, Err, unwrap_or, is_some, IfSome, refl, inl, inr, sym, ap, ◌∙◌, subst, arith}
-use Rattle.std.specs.List.{All}
+use Rattle.std.proofs.Common.{◌≡◌, ℕ, ◌+◌, ◌≤◌, ◌⊎◌, true, false, cond, not, eqb, List, ◌++◌, length, Option, Some, None, unwrap_or, is_some, IfSome, refl, inl, inr, sym, ap, ◌∙◌, arith}
 use Rattle.std.proofs.Math.ListN.{length-map, length-append}
 use Rattle.std.proofs.lemmas.Bool.Decides.{eqb_tells, nat_tests}
 use Rattle.std.proofs.lemmas.Bool.{false≢true}
@@ -13,7 +12,7 @@ use Rattle.upload_book.specs.declared.head_row.Kind.TheVariants.{Plain, Partial,
 use Rattle.upload_book.specs.declared.settings.Numbers.{Numbers}
 use Rattle.upload_book.specs.Expiry.{lifetime_end, renewed}
 use Rattle.upload_book.specs.Lawful.{IsTenantOf, IsUploadOf, IsOfKind, IsWhole, IsGivenIn, IsSegmentOf}
-use Rattle.upload_book.specs.TenantBook.{Entry, TenantBook, kept_in, with_changed, with_kept}
+use Rattle.upload_book.specs.TenantBook.{Entry, TenantBook, kept_in, with_changed}
 use Rattle.upload_book.specs.Upload.{Upload, content_of, offset_of, is_whole, is_complete, IsComplete, head_row_of}
 use Rattle.upload_book.proofs.Entries.{ids_of-with_kept, kept_in-All, kept_in-with_other, kept_in-with_same}
 use Rattle.upload_book.proofs.FirstRefusal.{test-passed}

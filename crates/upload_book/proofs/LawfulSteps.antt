@@ -1,10 +1,8 @@
 -- The book at the start is lawful, and a creation leaves a lawful book lawful.
-use Rattle.std.proofs.Common.{◌≡◌, ◌≢◌, ℕ, zero, suc, ◌+◌, ◌<◌, ◌≤◌, Bool, true, false, cond, eqb, ltb, leb, List, [], ◌∷◌, ◌++◌, map, length, get_or, set, slice_get, take, Option, Some, None, IfSome, IsTrue, refl, inl, inr, sym, ap, ◌∙◌, subst, arith, rules}
-use Rattle.std.specs.List.{All}
-use Rattle.std.specs.List.Sorted.{IsStrictlyIncreasing}
-use Rattle.std.proofs.Math.ListN.{length-map, length-set, length-append}
+use Rattle.std.proofs.Common.{◌≡◌, ℕ, zero, suc, ◌<◌, ◌≤◌, Bool, true, false, ltb, leb, List, [], ◌∷◌, ◌++◌, map, length, get_or, set, slice_get, take, Option, Some, None, IfSome, IsTrue, refl, sym, ap, ◌∙◌, subst, arith, rules}
+use Rattle.std.proofs.Math.ListN.{length-append}
 use Rattle.std.proofs.lemmas.Bool.Decides.{nat_tests}
-use Rattle.std.proofs.lemmas.List.{map-append, map-set, set-get_or}
+use Rattle.std.proofs.lemmas.List.{map-append}
 use Rattle.std.proofs.lemmas.Slice.Zip.{length-zip, get_or-zip}
 use Rattle.std.proofs.lemmas.List.Elements.{All-push, All-set, All-map, All-weaker}
 use Rattle.upload_book.specs.Create.{is_above, creation_refusal, new_kind, created_upload}
@@ -16,7 +14,7 @@ use Rattle.upload_book.specs.Lawful.{IsLawful, IsTenantOf, IsUploadOf, IsOfKind,
 use Rattle.upload_book.specs.NewUpload.{NewUpload}
 use Rattle.upload_book.specs.PlainBook.{PlainBook, with_tenant_book, opening_book, tenant_book}
 use Rattle.upload_book.specs.Settings.{Settings, settings_fault}
-use Rattle.upload_book.specs.TenantBook.{Entry, TenantBook, with_new, opening_part, kept_in}
+use Rattle.upload_book.specs.TenantBook.{Entry, TenantBook, with_new, opening_part}
 use Rattle.upload_book.specs.Upload.{Upload}
 use Rattle.upload_book.proofs.Entries.{ids-push, kept_in-push}
 use Rattle.upload_book.proofs.FirstRefusal.{test-passed}

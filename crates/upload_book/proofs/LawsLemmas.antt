@@ -3,7 +3,7 @@ use Rattle.std.proofs.Common.{◌≡◌, ℕ, ◌+◌, ◌≤◌, nat_le, not, e
 use Rattle.std.specs.Option.{option_map_or}
 use Rattle.std.specs.Result.{IsOk}
 use Rattle.std.proofs.lemmas.Bool.Decides.{nat_tests}
-use Rattle.upload_book.specs.Append.{is_final, or_else, differ, is_too_long, append_refusal, append_answer, appended, appended_row, appended_upload, part_after_append, row_with, telling, told, upload_with}
+use Rattle.upload_book.specs.Append.{is_final, or_else, differ, is_too_long, append_refusal, append_answer, appended_upload, part_after_append, row_with, telling, told, upload_with}
 use Rattle.upload_book.specs.Chunk.{Chunk}
 use Rattle.upload_book.specs.declared.append.Appended.{Appended}
 use Rattle.upload_book.specs.declared.append.Refused.{Refused}
@@ -18,7 +18,7 @@ use Rattle.upload_book.specs.Lawful.{IsUploadOf, IsOfKind}
 use Rattle.upload_book.specs.Look.{row_of}
 use Rattle.upload_book.specs.Refusal.{unless}
 use Rattle.upload_book.specs.TenantBook.{TenantBook, visible_upload, with_changed}
-use Rattle.upload_book.specs.Upload.{Upload, content_of, offset_of, is_complete, is_whole, head_row_of}
+use Rattle.upload_book.specs.Upload.{Upload, content_of, offset_of, is_whole, head_row_of}
 use Rattle.upload_book.proofs.Entries.{kept_in-All, visible_in-changed, visible_in-fresh, visible_in-Ok, with_kept-twice}
 use Rattle.upload_book.proofs.LawfulAppend.{IsAppendable, IsAppendable-from_none, append_refusal-none, content_of-append, offset_of-append, complete_tells}
 

@@ -1,5 +1,5 @@
 -- Texts that are kept fit their tables.
-use Rattle.std.proofs.Common.{◌≡◌, ℕ, ◌≤◌, Bool, true, false, List, [], ◌∷◌, length, IsTrue, arith}
+use Rattle.std.proofs.Common.{ℕ, ◌≤◌, Bool, true, false, List, [], ◌∷◌, length, IsTrue, arith}
 use Rattle.std.proofs.lemmas.Bool.Decides.{nat_tests}
 use Rattle.tus_text.specs.Metadata.{is_metadata}
 use Rattle.upload_book.specs.Create.{new_kind}

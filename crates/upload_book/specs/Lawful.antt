@@ -1,5 +1,5 @@
 -- What every book that steps reach keeps.
-use Rattle.std.specs.Prelude.{◌≡◌, ℕ, ◌+◌, ◌<◌, ◌≤◌, ◌↔◌, Bool, true, List, [], length, map, zip, Option, Some, None, IfSome, IsSome, IsTrue, All, codes}
+use Rattle.std.specs.Prelude.{◌≡◌, ℕ, ◌+◌, ◌<◌, ◌≤◌, ◌↔◌, Bool, true, List, [], length, map, zip, Some, None, IfSome, IsSome, IsTrue, All, codes}
 use Rattle.std.specs.List.Sorted.{IsStrictlyIncreasing}
 use Rattle.tus_text.specs.Concat.{concat_of}
 use Rattle.tus_text.specs.Metadata.{is_metadata}
@@ -9,9 +9,9 @@ use Rattle.upload_book.specs.declared.head_row.Kind.{Kind}
 use Rattle.upload_book.specs.declared.head_row.Kind.TheVariants.{Plain, Partial, Final}
 use Rattle.upload_book.specs.declared.settings.Numbers.{Numbers}
 use Rattle.upload_book.specs.declared.settings.TenantQuota.{TenantQuota}
-use Rattle.upload_book.specs.Settings.{Settings, settings_fault}
+use Rattle.upload_book.specs.Settings.{settings_fault}
 use Rattle.upload_book.specs.Upload.{Upload, content_of, offset_of, IsComplete}
-use Rattle.upload_book.specs.TenantBook.{Entry, TenantBook, kept_in}
+use Rattle.upload_book.specs.TenantBook.{TenantBook, kept_in}
 use Rattle.upload_book.specs.PlainBook.{PlainBook}
 
 -- a text of metadata that is kept: none, or one of the field's form

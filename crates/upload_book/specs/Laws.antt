@@ -1,9 +1,8 @@
 -- Laws above the steps.
-use Rattle.std.specs.Prelude.{◌≡◌, ℕ, ◌+◌, Bool, true, List, [], ◌∷◌, ◌++◌, length, codes, IsOk, Result, Ok, Err}
+use Rattle.std.specs.Prelude.{◌≡◌, ℕ, ◌+◌, true, List, [], ◌∷◌, ◌++◌, length, codes, IsOk}
 use Rattle.upload_book.specs.Chunk.{Chunk}
 use Rattle.upload_book.specs.NewUpload.{NewUpload}
 use Rattle.upload_book.specs.declared.head_row.HeadRow.{HeadRow}
-use Rattle.upload_book.specs.declared.refusal.Refusal.{Refusal}
 use Rattle.upload_book.specs.declared.settings.Numbers.{Numbers}
 use Rattle.upload_book.specs.Append.{append_tests, append_answer, appended_row, appended_upload, part_after_append}
 use Rattle.upload_book.specs.Content.{content_tests}

@@ -10,9 +10,9 @@ order =
     codes "head-size"  -- the head has more than 16,384 bytes, line ends before it included, or more than 64 lines of fields
     ∷ codes "head"  -- it is no head of a request with at most 64 fields
     ∷ codes "memory"  -- its fields find no memory
-    ∷ codes "host"  -- HTTP/1.1 without Host, or two Host fields
+    ∷ codes "host"  -- HTTP/1.1 without Host, or two or more Host fields
     ∷ codes "coding"  -- there is a Transfer-Encoding
-    ∷ codes "content-length"  -- there are two Content-Length fields, or one that is no number
+    ∷ codes "content-length"  -- two or more Content-Length fields, or one that is no number
     ∷ codes "body-size"  -- Content-Length is above the greatest size
     ∷ codes "memory"  -- the body finds no memory
     ∷ codes "version"  -- Tus-Resumable is not one field `1.0.0`; a GET needs none

@@ -1,5 +1,5 @@
 -- The refusals of the steps: their words and statuses, and the first of several tests that applies.
-use Rattle.std.specs.Prelude.{◌≡◌, ◌⊎◌, ℕ, Bool, List, [], ◌∷◌, map, Option, Some, None, Result, Ok, Err, codes, if◌then◌else◌}
+use Rattle.std.specs.Prelude.{◌≡◌, ◌⊎◌, ℕ, Bool, List, [], ◌∷◌, Option, Some, None, Result, Ok, Err, codes, if◌then◌else◌}
 use Rattle.upload_book.specs.declared.refusal.Refusal.{Refusal}
 use Rattle.upload_book.specs.declared.refusal.Refusal.TheVariants.{Version, Path, Tenant, Method, Field, Unknown, Gone, IsFinal, Media, Offset, LengthFixed, TooLong, Unfinished, Uploads, Spent, Memory}
 

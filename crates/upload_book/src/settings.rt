@@ -19,7 +19,8 @@ pub struct Numbers {
     pub blocks: u64,
     /// How many bytes a block has: 1 to 65,536; all blocks together at most 2^30.
     pub block_size: u64,
-    /// For how many seconds an unfinished upload is kept after its last PATCH: 1 to 31,536,000.
+    /// For how many seconds an upload that expires is kept after its last PATCH, or after its creation: 1
+    /// to 31,536,000.
     pub lifetime: u64,
     /// The most bytes of an upload and of a request's body: 1 to 16,777,216.
     pub max_size: u64,

@@ -1,4 +1,4 @@
-use Rattle.std.proofs.Common.{◌≡◌, ◌≤◌, vec_capacity, ◌⊎◌, None, OnOk, inl, inr, refl, sym, ◌∙◌, subst}
+use Rattle.std.proofs.Common.{◌≡◌, ◌⊎◌, None, OnOk, inl, inr, refl, sym, ◌∙◌, subst}
 use Rattle.std.proofs.lemmas.Result.{on_ok_weaker, on_err_weaker}
 use Rattle.upload_book.specs.Append.{append_refusal, part_after_append, upload_with}
 use Rattle.upload_book.specs.declared.settings.Numbers.{Numbers}

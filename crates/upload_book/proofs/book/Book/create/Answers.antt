@@ -1,4 +1,4 @@
-use Rattle.std.proofs.Common.{◌≡◌, ℕ, ◌+◌, ◌^◌, ◌<◌, ◌≤◌, length, get_or, vec_len, vec_capacity, None, Some, refl, sym, ap, ◌∙◌, arith}
+use Rattle.std.proofs.Common.{◌≡◌, ℕ, ◌+◌, ◌^◌, ◌<◌, length, get_or, vec_len, vec_capacity, None, Some, refl, sym, ◌∙◌, arith}
 use Rattle.upload_book.proofs.KeptLemmas.{IsPart, IsKept-with_part, IsTenantOf-part, answer_of-kept, book_after-kept, book_of-after, book_of-same, create_answer-none, create_answer-refused, creation_refusal-read, part_after_create-none, part_after_create-refused, part_of_tenant, room_of_part}
 use Rattle.upload_book.proofs.LawfulSteps.{HasLawfulTexts, IsCreatable-from_none, IsTenantOf-create}
 use Rattle.upload_book.proofs.SettingsLemmas.{last_id-within}
