@@ -13,7 +13,7 @@ use Rattle.upload_book.specs.declared.settings.Numbers.{Numbers}
 use Rattle.upload_book.specs.Expiry.{lifetime_end, renewed}
 use Rattle.upload_book.specs.Lawful.{IsTenantOf, IsUploadOf, IsOfKind, IsWhole, IsGivenIn, IsSegmentOf}
 use Rattle.upload_book.specs.TenantBook.{Entry, TenantBook, kept_in, with_changed}
-use Rattle.upload_book.specs.Upload.{Upload, content_of, offset_of, is_whole, is_complete, IsComplete, head_row_of}
+use Rattle.upload_book.specs.Upload.{Upload, content_of, offset_of, is_reached, is_complete, IsComplete, head_row_of}
 use Rattle.upload_book.proofs.Entries.{ids_of-with_kept, kept_in-All, kept_in-with_other, kept_in-with_same}
 use Rattle.upload_book.proofs.FirstRefusal.{test-passed}
 use Rattle.upload_book.proofs.LawfulSteps.{IsUploadOf-beside}
@@ -55,7 +55,7 @@ ends_within n None end fits = (tt, grind (arith, nat_tests))
 ends_within n (Some most) end fits = ((grind (arith, nat_tests), grind (arith, nat_tests)), grind (arith, nat_tests))
 
 -- the test of completeness and the fact, over a length and an offset
-declared_tells : (declared : Option ℕ) (offset : ℕ) → let complete = is_whole declared offset in ((complete ≡ true) × (declared ≡ Some offset)) ⊎ ((complete ≡ false) × (declared ≡ Some offset → ⊥))
+declared_tells : (declared : Option ℕ) (offset : ℕ) → let complete = is_reached declared offset in ((complete ≡ true) × (declared ≡ Some offset)) ⊎ ((complete ≡ false) × (declared ≡ Some offset → ⊥))
 declared_tells None offset = inr (refl, λ is. cc)
 declared_tells (Some most) offset =
     elim (eqb_tells most offset) [ inl same ↦ inl (same.0, ap Some same.1) | inr differs ↦ inr (differs.0, λ is. differs.1 (cc)) ]
@@ -89,7 +89,7 @@ IsUploadOf-append n part later u chunk now can sound =
     let within = ends_within n (or_else u.declared chunk.length) (offset_of u + length chunk.bytes) can.fits in
     let end = offset_of-append n u chunk now in
     let whole = IsWhole-from_kind part u.kind u can.own sound.kind in
-    let expires : after.expires ≡ renewed u.kind (is_complete after) u.expires (lifetime_end n now) = ap (λ offset. renewed u.kind (is_whole (or_else u.declared chunk.length) offset) u.expires (lifetime_end n now)) (sym end) in
+    let expires : after.expires ≡ renewed u.kind (is_complete after) u.expires (lifetime_end n now) = ap (λ offset. renewed u.kind (is_reached (or_else u.declared chunk.length) offset) u.expires (lifetime_end n now)) (sym end) in
     record {
       within = rw end within.0;
       size = rw end within.1;

@@ -18,7 +18,7 @@ use Rattle.upload_book.specs.Lawful.{IsUploadOf, IsOfKind}
 use Rattle.upload_book.specs.Look.{row_of}
 use Rattle.upload_book.specs.Refusal.{unless}
 use Rattle.upload_book.specs.TenantBook.{TenantBook, visible_upload, with_changed}
-use Rattle.upload_book.specs.Upload.{Upload, content_of, offset_of, is_whole, head_row_of}
+use Rattle.upload_book.specs.Upload.{Upload, content_of, offset_of, is_reached, head_row_of}
 use Rattle.upload_book.proofs.Entries.{kept_in-All, visible_in-changed, visible_in-fresh, visible_in-Ok, with_kept-twice}
 use Rattle.upload_book.proofs.LawfulAppend.{IsAppendable, IsAppendable-from_none, append_refusal-none, content_of-append, offset_of-append, complete_tells}
 
@@ -105,9 +105,9 @@ upload_with-two n u chunk first later now whole can =
     end : offset_of after + length later ≡ offset_of u + length chunk.bytes
     end = omega (arith, count, offset_of-append n u (first_part chunk first) now)
 
-    expiry : renewed u.kind (is_whole declared (offset_of u + length chunk.bytes)) after.expires (lifetime_end n now) ≡ renewed u.kind (is_whole declared (offset_of u + length chunk.bytes)) u.expires (lifetime_end n now)
+    expiry : renewed u.kind (is_reached declared (offset_of u + length chunk.bytes)) after.expires (lifetime_end n now) ≡ renewed u.kind (is_reached declared (offset_of u + length chunk.bytes)) u.expires (lifetime_end n now)
     expiry =
-        renewed-twice u.kind (is_whole declared (offset_of u + length first)) (is_whole declared (offset_of u + length chunk.bytes)) u.expires (lifetime_end n now)
+        renewed-twice u.kind (is_reached declared (offset_of u + length first)) (is_reached declared (offset_of u + length chunk.bytes)) u.expires (lifetime_end n now)
         (complete_later n declared (offset_of u + length first) (offset_of u + length chunk.bytes) (omega (arith, count)) can.fits)
 
 -- an upload that is renewed has not expired
@@ -128,7 +128,7 @@ expires_none expires none some = true≢false (sym some ∙ ap (is_some {T = ℕ
 
 -- one that does not expire is complete, and stays so
 never_after : (n : Numbers) (part : TenantBook) (u : Upload) (chunk : Chunk) (now : ℕ) (kind : Kind) → IsAppendable n u chunk → is_final kind ≡ false → IsOfKind part u kind
-    → u.expires ≡ None → renewed kind (is_whole (or_else u.declared chunk.length) (offset_of u + length chunk.bytes)) u.expires (lifetime_end n now) ≡ None
+    → u.expires ≡ None → renewed kind (is_reached (or_else u.declared chunk.length) (offset_of u + length chunk.bytes)) u.expires (lifetime_end n now) ≡ None
 never_after n part u chunk now Plain can own sound none =
     elim (complete_tells u) [
       | inl complete ↦
@@ -144,7 +144,7 @@ never_after n part u chunk now Final can own sound none = absurd (true≢false o
 fresh_append : (n : Numbers) (part : TenantBook) (u : Upload) (chunk : Chunk) (now : ℕ) → IsAppendable n u chunk → IsUploadOf n part u → is_over now u.expires ≡ false
     → is_over now (upload_with n u chunk now).expires ≡ false
 fresh_append n part u chunk now can sound fresh =
-    fresh_after now u.kind (is_whole (or_else u.declared chunk.length) (offset_of u + length chunk.bytes)) u.expires (lifetime_end n now) fresh
+    fresh_after now u.kind (is_reached (or_else u.declared chunk.length) (offset_of u + length chunk.bytes)) u.expires (lifetime_end n now) fresh
     (never_after n part u chunk now u.kind can can.own sound.kind)
 
 -- the end of an upload that is visible

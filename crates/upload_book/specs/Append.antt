@@ -13,7 +13,7 @@ use Rattle.upload_book.specs.declared.settings.Numbers.{Numbers}
 use Rattle.upload_book.specs.Expiry.{lifetime_end, renewed}
 use Rattle.upload_book.specs.Refusal.{first_that_holds, unless}
 use Rattle.upload_book.specs.TenantBook.{TenantBook, with_changed, visible_upload}
-use Rattle.upload_book.specs.Upload.{Upload, content_of, is_whole, head_row_of}
+use Rattle.upload_book.specs.Upload.{Upload, content_of, is_reached, head_row_of}
 
 -- the kind is that of a final upload
 abbrev pub is_final : Kind → Bool
@@ -56,7 +56,7 @@ row_with n row chunk now =
     record row {
       offset = offset;
       declared = declared;
-      expires = renewed row.kind (is_whole declared offset) row.expires (lifetime_end n now);
+      expires = renewed row.kind (is_reached declared offset) row.expires (lifetime_end n now);
     }
 
 -- the row of an upload after a PATCH, or why it is refused

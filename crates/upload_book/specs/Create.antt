@@ -11,7 +11,7 @@ use Rattle.upload_book.specs.declared.settings.Numbers.{Numbers}
 use Rattle.upload_book.specs.Expiry.{lifetime_end, renewed}
 use Rattle.upload_book.specs.Refusal.{first_that_holds, unless}
 use Rattle.upload_book.specs.TenantBook.{TenantBook, with_new}
-use Rattle.upload_book.specs.Upload.{Upload, is_whole}
+use Rattle.upload_book.specs.Upload.{Upload, is_reached}
 
 -- a number that is there is above the most that is allowed
 abbrev pub is_above : Option ℕ → ℕ → Bool
@@ -42,7 +42,7 @@ created_upload n new now = record {
   segments = [] ∷ [];
   metadata = new.metadata;
   concat = new.concat;
-  expires = renewed (new_kind new.partial) (is_whole new.length 0) None (lifetime_end n now);
+  expires = renewed (new_kind new.partial) (is_reached new.length 0) None (lifetime_end n now);
 }
 
 -- the answer to a creation for the tenant at a place, whose part this is

@@ -25,12 +25,12 @@ abbrev pub offset_of : Upload → ℕ
 offset_of u = length (content_of u)
 
 -- the length is known, and so many bytes are all of them
-abbrev pub is_whole : Option ℕ → ℕ → Bool
-is_whole declared offset = option_map_or (λ n. n == offset) declared false
+abbrev pub is_reached : Option ℕ → ℕ → Bool
+is_reached declared offset = option_map_or (λ n. n == offset) declared false
 
 -- its length is known, and it has all of its bytes
 abbrev pub is_complete : Upload → Bool
-is_complete u = is_whole u.declared (offset_of u)
+is_complete u = is_reached u.declared (offset_of u)
 
 -- the same as a fact
 abbrev pub IsComplete : Upload → Type 0
