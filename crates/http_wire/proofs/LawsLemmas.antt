@@ -1,5 +1,5 @@
 -- The laws of conversations, and of what an input begins with.
-use Rattle.std.proofs.Common.{◌≡◌, ◌≤◌, ◌⊎◌, ℕ, ◌+◌, true, false, List, [], ◌++◌, length, drop, Option, None, Some, Result, Ok, Err, refl, sym, ap, ◌∙◌, inl, inr, arith, le-leb, le-ltb, lt-ltb, length-drop}
+use Rattle.std.proofs.Common.{◌≡◌, ◌≤◌, ◌⊎◌, ℕ, ◌+◌, true, false, List, [], length, drop, Option, None, Some, Result, Ok, Err, refl, sym, ap, ◌∙◌, subst, inl, inr, arith, le-leb, le-ltb, lt-ltb, length-drop}
 use Rattle.std.proofs.lemmas.Bool.{cases_Bool, cases_lt}
 use Rattle.std.specs.Prelude.{codes}
 use Rattle.httparse.specs.Grammar.{RequestHead}
@@ -7,11 +7,14 @@ use Rattle.httparse.proofs.GrammarLemmas.{request_unique}
 use Rattle.tus_steps.specs.Request.{Request}
 use Rattle.tus_steps.specs.declared.reply.Reply.{Reply}
 use Rattle.tus_steps.specs.Field.{FieldText, is_absent}
+use Rattle.http_wire.specs.Conversation.{Conversation}
+use Rattle.http_wire.specs.Exchange.{followed}
 use Rattle.http_wire.specs.Fields.{field_text}
 use Rattle.http_wire.specs.Front.{Front, message, refused, cut_patch, cut_other, clean_end, Begins, BeginsWhole, LacksMemory, Parses, closing, framing_of, unknown_framing, judged, judged_front, parsed_front, with_body}
 use Rattle.http_wire.specs.HeadText.{HeadText, whole, too_long, cut, nothing, head_text, has_many_lines}
 use Rattle.http_wire.specs.Judge.{is_host_wrong, body_len, judge, sized}
 use Rattle.http_wire.specs.Laws.{InputsJoin, MessagesAreShort, OneFront, RefusesForMemory, TurnsJoin}
+use Rattle.http_wire.specs.Turns.{Turns}
 use Rattle.http_wire.specs.declared.refusal.WireRefusal.{WireRefusal}
 use Rattle.http_wire.specs.declared.refusal.WireRefusal.TheVariants.{Host, Coding, BodySize, Head, HeadSize}
 use Rattle.http_wire.proofs.FindLemmas.{whole_short}
@@ -20,12 +23,14 @@ use Rattle.http_wire.proofs.Talk.{Turns-Conversation, Turns-followed, Turns-join
 
 module _ {A : Type 0} (steps : A → Request → ℕ → Reply → A → Type 0) where
   pub inputs_join : InputsJoin steps
-  inputs_join max before after first later b text b1 more b2 e turns goes =
-      Turns-Conversation steps max before after (first ++ later) b text b1 later more b2 e (Turns-followed steps max before first later b text b1 [] turns) goes
+  inputs_join max before after x y e meets turns goes =
+      Turns-Conversation steps max before after (followed x y.input) y.input y.text y.after e (Turns-followed steps max before y.input x [] turns)
+      (subst (λ (b : A). Conversation steps max after (record y { before = b }) e) meets goes)
 
   pub turns_join : TurnsJoin steps
-  turns_join max before after first later b text b1 more b2 rest turns others =
-      Turns-join steps max before after (first ++ later) b text b1 later more b2 rest (Turns-followed steps max before first later b text b1 [] turns) others
+  turns_join max before after x y rest meets turns others =
+      Turns-join steps max before after (followed x y.input) y.input y.text y.after rest (Turns-followed steps max before y.input x [] turns)
+      (subst (λ (b : A). Turns steps max after (record y { before = b }) rest) meets others)
 
 -- a text is one head at most
 Parses-unique : (text : List ℕ) (h k : Option RequestHead) → Parses text h → Parses text k → h ≡ k

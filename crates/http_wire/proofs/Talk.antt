@@ -4,7 +4,8 @@ use Rattle.std.proofs.lemmas.List.{drop_more}
 use Rattle.std.specs.Io.KnownBytes.{Appends, Consumes}
 use Rattle.tus_steps.specs.Request.{Request}
 use Rattle.tus_steps.specs.declared.reply.Reply.{Reply}
-use Rattle.http_wire.specs.Conversation.{Conversation, Goes, continue_text}
+use Rattle.http_wire.specs.Conversation.{Conversation, Course, Goes, continue_text}
+use Rattle.http_wire.specs.Exchange.{Exchange, first_part, last_part, followed}
 use Rattle.http_wire.specs.Front.{Front, message, IsFront}
 use Rattle.http_wire.specs.ReplyText.{reply_text}
 use Rattle.http_wire.specs.Turns.{Answered, Turns, FailsIn, BreaksOff, Breaks, BreaksTurn, Converses, IsReadWhen, LastTurn, MayFollow}
@@ -30,130 +31,158 @@ MayFollow-read ended.Closed rest h = tt
 MayFollow-read ended.Cut rest h = h
 MayFollow-read ended.Moments rest h = tt
 
-longer : (got more rest : List ℕ) → (got ++ more) ++ rest ≡ got ++ (more ++ rest)
-longer got more rest = append_assoc got more rest
-
 module _ {A : Type 0} (steps : A → Request → ℕ → Reply → A → Type 0) (max : ℕ) where
   -- a reply after which the connection stays open
-  pub Goes-stays : (close : Bool) (first : List ℕ) (moments rest : List ℕ) (b : A) (text : List ℕ) (b2 : A) (e : Ended) → close ≡ false
-      → (later : List ℕ) → text ≡ first ++ later → Conversation steps max moments rest b later b2 e → Goes close first (Conversation steps max moments) rest b text b2 e
-  Goes-stays true first moments rest b text b2 e is later whole c = absurd (true≢false is)
-  Goes-stays false first moments rest b text b2 e is later whole c = (later, whole, c)
+  Goes-stays : (close : Bool) (next : Course A) (x : Exchange A) (e : Ended) → close ≡ false → next x e → Goes close next x e
+  Goes-stays true next x e is h = absurd (true≢false is)
+  Goes-stays false next x e is h = h
 
   -- a reply after which it closes
-  pub Goes-closes : (close : Bool) (first : List ℕ) (moments rest : List ℕ) (b : A) (text : List ℕ) → close ≡ true → text ≡ first
-      → Goes close first (Conversation steps max moments) rest b text b ended.Closed
-  Goes-closes true first moments rest b text is whole = record { same = refl; ended = refl; text = whole }
-  Goes-closes false first moments rest b text is whole = absurd (true≢false (sym is))
+  pub Goes-closes : (close : Bool) (next : Course A) (x : Exchange A) → close ≡ true → x.text ≡ [] → x.after ≡ x.before → Goes close next x ended.Closed
+  Goes-closes true next x is none same = record { ended = refl; text = none; same = same }
+  Goes-closes false next x is none same = absurd (true≢false (sym is))
 
   -- whole turns, and then a conversation
-  pub Turns-Conversation : (before after input : List ℕ) (b : A) (text : List ℕ) (b1 : A) (middle later : List ℕ) (b2 : A) (e : Ended)
-      → Turns steps max before input b text b1 middle → Conversation steps max after middle b1 later b2 e → Conversation steps max (before ++ after) input b (text ++ later) b2 e
-  Turns-Conversation [] after input b text b1 middle later b2 e t c =
-      rw t.1 (subst₂ (λ i x. Conversation steps max after i x later b2 e) t.0 t.2 c)
-  Turns-Conversation (now ∷ before) after input b text b1 middle later b2 e t c =
+  pub Turns-Conversation : (before after : List ℕ) (x : Exchange A) (middle later : List ℕ) (b : A) (e : Ended) → Turns steps max before x middle
+      → Conversation steps max after (record { input = middle; text = later; before = x.after; after = b }) e
+      → Conversation steps max (before ++ after) (record x { text = x.text ++ later; after = b }) e
+  Turns-Conversation [] after x middle later b e t c =
+      rw t.1 (subst₂ (λ (i : List ℕ) (y : A). Conversation steps max after (record { input = i; text = later; before = y; after = b }) e) t.0 t.2 c)
+  Turns-Conversation (now ∷ before) after x middle later b e t c =
       let a = t.4 in
-      let rest = Turns-Conversation before after t.2 t.3 t.1 b1 middle later b2 e t.5 c in
-      let whole : text ++ later ≡ (continue_text a.waiting ++ reply_text a.reply now a.framing) ++ (t.1 ++ later) =
-      ap (λ l. l ++ later) (t.6 ∙ ap (λ l. l ++ t.1) a.wrote) ∙ append_assoc (continue_text a.waiting ++ reply_text a.reply now a.framing) t.1 later in
-      (message a.request a.framing a.waiting t.2, a.front, (a.reply, t.3, a.step, Goes-stays a.framing.close (continue_text a.waiting ++ reply_text a.reply now a.framing) (before ++ after) t.2 t.3 (text ++ later) b2 e a.stays (t.1 ++ later) whole rest))
+      let said = continue_text a.waiting ++ reply_text a.reply now a.framing in
+      let rest = Turns-Conversation before after (last_part x t.2 t.3 t.1) middle later b e t.5 c in
+      let whole : x.text ++ later ≡ said ++ (t.1 ++ later) = ap (λ l. l ++ later) (t.6 ∙ ap (λ l. l ++ t.1) a.wrote) ∙ append_assoc said t.1 later in (
+        message a.request a.framing a.waiting t.2,
+        a.front,
+        (a.reply, t.3, t.1 ++ later, a.step, whole, Goes-stays a.framing.close (Conversation steps max (before ++ after)) (record { input = t.2; text = t.1 ++ later; before = t.3; after = b }) e a.stays rest),
+      )
 
   -- whole turns, and then more of them
-  pub Turns-join : (before after input : List ℕ) (b : A) (text : List ℕ) (b1 : A) (middle later : List ℕ) (b2 : A) (rest : List ℕ)
-      → Turns steps max before input b text b1 middle → Turns steps max after middle b1 later b2 rest → Turns steps max (before ++ after) input b (text ++ later) b2 rest
-  Turns-join [] after input b text b1 middle later b2 rest t u =
-      rw t.1 (subst₂ (λ i x. Turns steps max after i x later b2 rest) t.0 t.2 u)
-  Turns-join (now ∷ before) after input b text b1 middle later b2 rest t u =
-      (t.0, t.1 ++ later, t.2, t.3, t.4, Turns-join before after t.2 t.3 t.1 b1 middle later b2 rest t.5 u, ap (λ l. l ++ later) t.6 ∙ append_assoc t.0 t.1 later)
+  pub Turns-join : (before after : List ℕ) (x : Exchange A) (middle later : List ℕ) (b : A) (rest : List ℕ) → Turns steps max before x middle
+      → Turns steps max after (record { input = middle; text = later; before = x.after; after = b }) rest
+      → Turns steps max (before ++ after) (record x { text = x.text ++ later; after = b }) rest
+  Turns-join [] after x middle later b rest t u =
+      rw t.1 (subst₂ (λ (i : List ℕ) (y : A). Turns steps max after (record { input = i; text = later; before = y; after = b }) rest) t.0 t.2 u)
+  Turns-join (now ∷ before) after x middle later b rest t u =
+      (t.0, t.1 ++ later, t.2, t.3, t.4, Turns-join before after (last_part x t.2 t.3 t.1) middle later b rest t.5 u, ap (λ l. l ++ later) t.6 ∙ append_assoc t.0 t.1 later)
 
   -- a turn stays when more bytes follow
-  Answered-followed : (now : ℕ) (input more : List ℕ) (b : A) (text : List ℕ) (b2 : A) (rest : List ℕ) → Answered steps max now input b text b2 rest
-      → Answered steps max now (input ++ more) b text b2 (rest ++ more)
-  Answered-followed now input more b text b2 rest a = record {
+  pub Answered-followed : (now : ℕ) (more : List ℕ) (x : Exchange A) (rest : List ℕ) → Answered steps max now x rest
+      → Answered steps max now (followed x more) (rest ++ more)
+  Answered-followed now more x rest a = record {
     request = a.request;
     framing = a.framing;
     waiting = a.waiting;
     reply = a.reply;
-    front = IsFront-followed max input more (message a.request a.framing a.waiting rest) refl a.front;
+    front = IsFront-followed max x.input more (message a.request a.framing a.waiting rest) refl a.front;
     stays = a.stays;
     step = a.step;
     wrote = a.wrote;
   }
 
   -- whole turns stay when more bytes follow
-  pub Turns-followed : (moments input more : List ℕ) (b : A) (text : List ℕ) (b2 : A) (rest : List ℕ) → Turns steps max moments input b text b2 rest
-      → Turns steps max moments (input ++ more) b text b2 (rest ++ more)
-  Turns-followed [] input more b text b2 rest t = (ap (λ l. l ++ more) t.0, t.1, t.2)
-  Turns-followed (now ∷ moments) input more b text b2 rest t =
-      (t.0, t.1, t.2 ++ more, t.3, Answered-followed now input more b t.0 t.3 t.2 t.4, Turns-followed moments t.2 more t.3 t.1 b2 rest t.5, t.6)
+  pub Turns-followed : (moments more : List ℕ) (x : Exchange A) (rest : List ℕ) → Turns steps max moments x rest
+      → Turns steps max moments (followed x more) (rest ++ more)
+  Turns-followed [] more x rest t = (ap (λ l. l ++ more) t.0, t.1, t.2)
+  Turns-followed (now ∷ moments) more x rest t = (
+    t.0,
+    t.1,
+    t.2 ++ more,
+    t.3,
+    Answered-followed now more (first_part x t.0 t.3) t.2 t.4,
+    Turns-followed moments more (last_part x t.2 t.3 t.1) rest t.5,
+    t.6,
+  )
 
   -- one turn more
-  pub Turns-snoc : (before : List ℕ) (now : ℕ) (input : List ℕ) (b : A) (text : List ℕ) (b1 : A) (middle first : List ℕ) (b2 : A) (rest : List ℕ)
-      → Turns steps max before input b text b1 middle → Answered steps max now middle b1 first b2 rest → Turns steps max (before ++ now ∷ []) input b (text ++ first) b2 rest
-  Turns-snoc [] now input b text b1 middle first b2 rest t a =
-      (first, [], rest, b2, subst₂ (λ i x. Answered steps max now i x first b2 rest) t.0 t.2 a, (refl, refl, refl), ap (λ l. l ++ first) t.1 ∙ sym (append-nil first))
-  Turns-snoc (m ∷ before) now input b text b1 middle first b2 rest t a =
-      (t.0, t.1 ++ first, t.2, t.3, t.4, Turns-snoc before now t.2 t.3 t.1 b1 middle first b2 rest t.5 a, ap (λ l. l ++ first) t.6 ∙ append_assoc t.0 t.1 first)
+  pub Turns-snoc : (before : List ℕ) (now : ℕ) (x : Exchange A) (middle text : List ℕ) (b : A) (rest : List ℕ) → Turns steps max before x middle
+      → Answered steps max now (record { input = middle; text = text; before = x.after; after = b }) rest
+      → Turns steps max (before ++ now ∷ []) (record x { text = x.text ++ text; after = b }) rest
+  Turns-snoc [] now x middle text b rest t a = (
+    text,
+    [],
+    rest,
+    b,
+    subst₂ (λ (i : List ℕ) (y : A). Answered steps max now (record { input = i; text = text; before = y; after = b }) rest) t.0 t.2 a,
+    (refl, refl, refl),
+    ap (λ l. l ++ text) t.1 ∙ sym (append-nil text),
+  )
+  Turns-snoc (m ∷ before) now x middle text b rest t a =
+      (t.0, t.1 ++ text, t.2, t.3, t.4, Turns-snoc before now (last_part x t.2 t.3 t.1) middle text b rest t.5 a, ap (λ l. l ++ text) t.6 ∙ append_assoc t.0 t.1 text)
 
   -- whole turns, and then one that was broken off
-  pub Turns-BreaksOff : (before after : List ℕ) (now : ℕ) (input : List ℕ) (b : A) (text : List ℕ) (b1 : A) (middle part : List ℕ) (b2 : A) (f : Front)
-      → Turns steps max before input b text b1 middle → IsFront max middle f → FailsIn steps max now f b1 part b2 → BreaksOff steps max (before ++ now ∷ after) input b (text ++ part) b2
-  Turns-BreaksOff [] after now input b text b1 middle part b2 f t front fails =
-      inl (f, subst (λ i. IsFront max i f) t.0 front, rw t.1 (subst (λ x. FailsIn steps max now f x part b2) t.2 fails))
-  Turns-BreaksOff (m ∷ before) after now input b text b1 middle part b2 f t front fails =
-      inr (t.0, t.1 ++ part, t.2, t.3, t.4, Turns-BreaksOff before after now t.2 t.3 t.1 b1 middle part b2 f t.5 front fails, ap (λ l. l ++ part) t.6 ∙ append_assoc t.0 t.1 part)
+  pub Turns-BreaksOff : (before after : List ℕ) (now : ℕ) (x : Exchange A) (middle part : List ℕ) (b : A) (f : Front) → Turns steps max before x middle → IsFront max middle f
+      → FailsIn steps max now f (record { input = middle; text = part; before = x.after; after = b })
+      → BreaksOff steps max (before ++ now ∷ after) (record x { text = x.text ++ part; after = b })
+  Turns-BreaksOff [] after now x middle part b f t front fails =
+      inl (
+        f,
+        subst (λ i. IsFront max i f) t.0 front,
+        rw t.1 (subst₂ (λ (i : List ℕ) (y : A). FailsIn steps max now f (record { input = i; text = part; before = y; after = b })) t.0 t.2 fails),
+      )
+  Turns-BreaksOff (m ∷ before) after now x middle part b f t front fails =
+      inr (t.0, t.1 ++ part, t.2, t.3, t.4, Turns-BreaksOff before after now (last_part x t.2 t.3 t.1) middle part b f t.5 front fails, ap (λ l. l ++ part) t.6 ∙ append_assoc t.0 t.1 part)
 
-  -- Some turns were taken: these bytes were read and this text was written. What follows the bytes changes
+  -- Some turns were taken, after which these bytes of the input are held. What follows the input changes
   -- nothing.
-  abbrev pub Reached : List ℕ → List ℕ → A → List ℕ → A → List ℕ → Type 0
-  Reached before got b text b1 held = (rest : List ℕ) → Turns steps max before (got ++ rest) b text b1 (held ++ rest)
+  abbrev pub Reached : List ℕ → Exchange A → List ℕ → Type 0
+  Reached before x held = (rest : List ℕ) → Turns steps max before (followed x rest) (held ++ rest)
 
-  pub Reached-start : (b : A) → Reached [] [] b [] b []
-  Reached-start b rest = (refl, refl, refl)
+  -- what goes on from some turns: bytes that were read after them, a text, and the state after it
+  abbrev pub longer_by : Exchange A → List ℕ → List ℕ → A → Exchange A
+  longer_by x more text b = record x { input = x.input ++ more; text = x.text ++ text; after = b }
+
+  -- the exchange of the turn that follows some turns
+  abbrev pub next_from : Exchange A → List ℕ → List ℕ → List ℕ → A → Exchange A
+  next_from x held more text b = record { input = held ++ more; text = text; before = x.after; after = b }
+
+  reached_further : (before : List ℕ) (x : Exchange A) (held more rest : List ℕ) → Reached before x held → Turns steps max before (followed (followed x more) rest) (held ++ (more ++ rest))
+  reached_further before x held more rest r =
+      subst (λ (i : List ℕ). Turns steps max before (record x { input = i }) (held ++ (more ++ rest))) (sym (append_assoc x.input more rest)) (r (more ++ rest))
 
   -- one turn more
-  pub Reached-more : (before : List ℕ) (now : ℕ) (got more : List ℕ) (b : A) (text first : List ℕ) (b1 b2 : A) (held held2 : List ℕ) → Reached before got b text b1 held
-      → ((rest : List ℕ) → Answered steps max now ((held ++ more) ++ rest) b1 first b2 (held2 ++ rest)) → Reached (before ++ now ∷ []) (got ++ more) b (text ++ first) b2 held2
-  Reached-more before now got more b text first b1 b2 held held2 r a rest =
-      Turns-snoc before now ((got ++ more) ++ rest) b text b1 (held ++ (more ++ rest)) first b2 (held2 ++ rest)
-      (subst (λ i. Turns steps max before i b text b1 (held ++ (more ++ rest))) (sym (longer got more rest)) (r (more ++ rest)))
-      (subst (λ i. Answered steps max now i b1 first b2 (held2 ++ rest)) (longer held more rest) (a rest))
+  pub Reached-more : (before : List ℕ) (now : ℕ) (x : Exchange A) (held more text : List ℕ) (b : A) (held2 : List ℕ) → Reached before x held
+      → ((rest : List ℕ) → Answered steps max now (followed (next_from x held more text b) rest) (held2 ++ rest)) → Reached (before ++ now ∷ []) (longer_by x more text b) held2
+  Reached-more before now x held more text b held2 r a rest =
+      Turns-snoc before now (followed (followed x more) rest) (held ++ (more ++ rest)) text b (held2 ++ rest)
+      (reached_further before x held more rest r)
+      (subst (λ (i : List ℕ). Answered steps max now (record (next_from x held more text b) { input = i }) (held2 ++ rest)) (append_assoc held more rest) (a rest))
 
   -- the turn with which the conversation ends
-  pub Converses-last : (before after : List ℕ) (now : ℕ) (got more : List ℕ) (b : A) (text last : List ℕ) (b1 b2 : A) (held : List ℕ) (e : Ended) → Reached before got b text b1 held
-      → ((rest : List ℕ) → MayFollow e rest → LastTurn steps max now ((held ++ more) ++ rest) b1 last b2 e) → Converses steps max (before ++ now ∷ after) (got ++ more) (text ++ last) b b2 e
-  Converses-last before after now got more b text last b1 b2 held e r t rest may =
-      Turns-Conversation before (now ∷ after) ((got ++ more) ++ rest) b text b1 (held ++ (more ++ rest)) last b2 e
-      (subst (λ i. Turns steps max before i b text b1 (held ++ (more ++ rest))) (sym (longer got more rest)) (r (more ++ rest)))
-      (subst (λ i. Conversation steps max (now ∷ after) i b1 last b2 e) (longer held more rest) (t rest may after))
+  pub Converses-last : (before after : List ℕ) (now : ℕ) (x : Exchange A) (held more text : List ℕ) (b : A) (e : Ended) → Reached before x held
+      → ((rest : List ℕ) → MayFollow e rest → LastTurn steps max now (followed (next_from x held more text b) rest) e) → Converses steps max (before ++ now ∷ after) (longer_by x more text b) e
+  Converses-last before after now x held more text b e r t rest may =
+      Turns-Conversation before (now ∷ after) (followed (followed x more) rest) (held ++ (more ++ rest)) text b e
+      (reached_further before x held more rest r)
+      (subst (λ (i : List ℕ). Conversation steps max (now ∷ after) (record (next_from x held more text b) { input = i }) e) (append_assoc held more rest) (t rest may after))
 
   -- no moment is left
-  pub Converses-all : (moments got : List ℕ) (b : A) (text : List ℕ) (b1 : A) (held : List ℕ) → Reached moments got b text b1 held
-      → Converses steps max moments got text b b1 ended.Moments
-  Converses-all moments got b text b1 held r rest may =
-      subst₂ (λ ms t. Conversation steps max ms (got ++ rest) b t b1 ended.Moments) (append-nil moments) (append-nil text)
-      (Turns-Conversation moments [] (got ++ rest) b text b1 (held ++ rest) [] b1 ended.Moments (r rest) (record { same = refl; ended = refl; text = refl }))
+  pub Converses-all : (moments : List ℕ) (x : Exchange A) (held : List ℕ) → Reached moments x held → Converses steps max moments x ended.Moments
+  Converses-all moments x held r rest may =
+      subst₂ (λ (ms t : List ℕ). Conversation steps max ms (record (followed x rest) { text = t }) ended.Moments) (append-nil moments) (append-nil x.text)
+      (Turns-Conversation moments [] (followed x rest) (held ++ rest) [] x.after ended.Moments (r rest) (record { ended = refl; text = refl; same = refl }))
 
   -- the turn that a fault breaks off
-  pub Breaks-after : (before after : List ℕ) (now : ℕ) (got more : List ℕ) (b : A) (text last : List ℕ) (b1 b2 : A) (held : List ℕ) (e : WireFault) → Reached before got b text b1 held
-      → BreaksTurn steps max now (held ++ more) last b1 b2 e → Breaks steps max (before ++ now ∷ after) (got ++ more) (text ++ last) b b2 e
-  Breaks-after before after now got more b text last b1 b2 held Read r t =
-      (t.0, t.1, Turns-Conversation before (now ∷ after) (got ++ more) b text b1 (held ++ more) last b2 t.0 (r more) (t.2 after))
-  Breaks-after before after now got more b text last b1 b2 held Write r t =
-      Turns-BreaksOff before after now (got ++ more) b text b1 (held ++ more) last b2 t.0 (r more) t.1 t.2
-  Breaks-after before after now got more b text last b1 b2 held Memory r t = absurd t
-  Breaks-after before after now got more b text last b1 b2 held Failed r t = absurd t
+  pub Breaks-after : (before after : List ℕ) (now : ℕ) (x : Exchange A) (held more text : List ℕ) (b : A) (e : WireFault) → Reached before x held
+      → BreaksTurn steps max now (next_from x held more text b) e → Breaks steps max (before ++ now ∷ after) (longer_by x more text b) e
+  Breaks-after before after now x held more text b Read r t =
+      (t.0, t.1, Turns-Conversation before (now ∷ after) (followed x more) (held ++ more) text b t.0 (r more) (t.2 after))
+  Breaks-after before after now x held more text b Write r t =
+      Turns-BreaksOff before after now (followed x more) (held ++ more) text b t.0 (r more) t.1 t.2
+  Breaks-after before after now x held more text b Memory r t = absurd t
+  Breaks-after before after now x held more text b Failed r t = absurd t
 
   -- where the reader's bytes and the writer's are known, it is the conversation of all that the reader had
-  pub Converses-known : (r0 r1 w0 w1 : Option (List ℕ)) (moments got text : List ℕ) (b b2 : A) (e : Ended) → Consumes r0 r1 got → Appends w0 w1 text → Converses steps max moments got text b b2 e
+  pub Converses-known : (r0 r1 w0 w1 : Option (List ℕ)) (moments : List ℕ) (x : Exchange A) (e : Ended) → Consumes r0 r1 x.input → Appends w0 w1 x.text → Converses steps max moments x e
       → IsReadWhen e r1 → (input before : List ℕ) → r0 ≡ Some input → w0 ≡ Some before
-      → (text : List ℕ) × (w1 ≡ Some (before ++ text)) × Conversation steps max moments input b text b2 e
-  Converses-known r0 r1 w0 w1 moments got text b b2 e reads writes c end input before known kept =
+      → (text : List ℕ) × (w1 ≡ Some (before ++ text)) × Conversation steps max moments (record x { input = input; text = text }) e
+  Converses-known r0 r1 w0 w1 moments x e reads writes c end input before known kept =
       by r1 w1 (rw known at reads) (rw kept at writes) end
     where
-      by : (r w : Option (List ℕ)) → Consumes (Some input) r got → Appends (Some before) w text → IsReadWhen e r
-          → (text : List ℕ) × (w ≡ Some (before ++ text)) × Conversation steps max moments input b text b2 e
+      by : (r w : Option (List ℕ)) → Consumes (Some input) r x.input → Appends (Some before) w x.text → IsReadWhen e r
+          → (text : List ℕ) × (w ≡ Some (before ++ text)) × Conversation steps max moments (record x { input = input; text = text }) e
       by None w h k read = absurd h
       by (Some rest) None h k read = absurd k
       by (Some rest) (Some after) h k read =
-          (text, ap (λ l. Some l) k, subst (λ i. Conversation steps max moments i b text b2 e) (sym h) (c rest (MayFollow-read e rest read)))
+          (x.text, ap (λ l. Some l) k, subst (λ (i : List ℕ). Conversation steps max moments (record x { input = i }) e) (sym h) (c rest (MayFollow-read e rest read)))

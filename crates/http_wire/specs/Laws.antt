@@ -7,6 +7,7 @@ use Rattle.tus_steps.specs.Field.{FieldText}
 use Rattle.tus_steps.specs.Request.{Request}
 use Rattle.tus_steps.specs.declared.reply.Reply.{Reply}
 use Rattle.http_wire.specs.Conversation.{Conversation}
+use Rattle.http_wire.specs.Exchange.{Exchange, joined}
 use Rattle.http_wire.specs.Front.{Front, message, refused, IsFront}
 use Rattle.http_wire.specs.HeadText.{head_limit}
 use Rattle.http_wire.specs.Judge.{judge, judge_tests}
@@ -24,17 +25,15 @@ module _ {A : Type 0} (steps : A → Request → ℕ → Reply → A → Type 0)
   -- left, at the moments that are left.
   abbrev pub InputsJoin : Type 0
   InputsJoin =
-      (max : ℕ) (before after first later : List ℕ) (b : A) (text : List ℕ) (b1 : A) (more : List ℕ) (b2 : A) (e : Ended)
-      → Turns steps max before first b text b1 [] → Conversation steps max after later b1 more b2 e
-      → Conversation steps max (before ++ after) (first ++ later) b (text ++ more) b2 e
+      (max : ℕ) (before after : List ℕ) (x y : Exchange A) (e : Ended) → y.before ≡ x.after
+      → Turns steps max before x [] → Conversation steps max after y e → Conversation steps max (before ++ after) (joined x y) e
 
   -- The same for whole messages followed by whole messages, so that an input may come in any number of parts.
   -- The later ones may leave a rest.
   abbrev pub TurnsJoin : Type 0
   TurnsJoin =
-      (max : ℕ) (before after first later : List ℕ) (b : A) (text : List ℕ) (b1 : A) (more : List ℕ) (b2 : A) (rest : List ℕ)
-      → Turns steps max before first b text b1 [] → Turns steps max after later b1 more b2 rest
-      → Turns steps max (before ++ after) (first ++ later) b (text ++ more) b2 rest
+      (max : ℕ) (before after : List ℕ) (x y : Exchange A) (rest : List ℕ) → y.before ≡ x.after
+      → Turns steps max before x [] → Turns steps max after y rest → Turns steps max (before ++ after) (joined x y) rest
 
 -- A message takes no more bytes of the input than a head may have, with the line ends before it, and the
 -- greatest body.

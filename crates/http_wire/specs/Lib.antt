@@ -2,6 +2,7 @@ pub mod Ahead
 pub mod Connection
 pub mod BookStep
 pub mod Conversation
+pub mod Exchange
 pub mod Fault
 pub mod Fields
 pub mod Front

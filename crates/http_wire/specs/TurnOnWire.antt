@@ -29,7 +29,7 @@ module _ {R W A : Type 0} (remaining : R → Option (List ℕ)) (read_failed : R
   -- goes on, and writes on unless something failed.
   pub record TakesTurnOn (now : ℕ) (old new : OnWire R W) (b b2 : A) (r : Result (Option Ended) WireFault) : Type 0 where
     pub turn : (got text : List ℕ) × Consumes (remaining old.reader) (remaining new.reader) got × Appends (contents old.writer) (contents new.writer) text
-        × TakesTurn steps old.max_size now (old.held ++ got) text new.held b b2 r
+        × TakesTurn steps old.max_size now (record { input = old.held ++ got; text = text; before = b; after = b2 }) new.held r
     pub end : IfOk r (EndsAtEnd (remaining new.reader))
     pub reader : OnOk r (read_failed new.reader ≡ false)
     pub writer : OnOk r (write_failed new.writer ≡ false)

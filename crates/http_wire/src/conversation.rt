@@ -51,19 +51,19 @@ pub fn converse<R: Source, W: Sink, A: Answer>(
     ensures known { (input before : List ℕ) → R.remaining reader.old ≡ Some input
         → W.contents writer.old ≡ Some before
         → IfOk result (λ e. (text : List ℕ) × (W.contents writer.new ≡ Some (before ++ text))
-        × Conversation A.steps (A.max_size answerer.old) moments.now input
-        answerer.old text answerer.new e) }
+        × Conversation A.steps (A.max_size answerer.old) moments.now
+        (record { input = input; text = text; before = answerer.old; after = answerer.new }) e) }
     ensures converses { IfOk result (λ e. (got text : List ℕ)
         × Consumes (R.remaining reader.old) (R.remaining reader.new) got
         × Appends (W.contents writer.old) (W.contents writer.new) text
-        × Converses A.steps (A.max_size answerer.old) moments.now got text
-        answerer.old answerer.new e) }
+        × Converses A.steps (A.max_size answerer.old) moments.now
+        (record { input = got; text = text; before = answerer.old; after = answerer.new }) e) }
     ensures read { IfOk result (λ e. IsReadWhen e (R.remaining reader.new)) }
     ensures breaks { IfErr result (λ f. (got text : List ℕ)
         × Consumes (R.remaining reader.old) (R.remaining reader.new) got
         × Appends (W.contents writer.old) (W.contents writer.new) text
-        × Breaks A.steps (A.max_size answerer.old) moments.now got text
-        answerer.old answerer.new f) }
+        × Breaks A.steps (A.max_size answerer.old) moments.now
+        (record { input = got; text = text; before = answerer.old; after = answerer.new }) f) }
     ensures reader { OnOk result (R.has_failed reader.new ≡ false) }
     ensures writer { OnOk result (W.has_failed writer.new ≡ false) }
     ensures fault { IfErr result (NamesOrMemory (R.has_failed reader.new) (W.has_failed writer.new)) }
@@ -98,8 +98,9 @@ pub fn take_turn<R: Source, W: Sink, A: Answer>(
     requires max_size { max_size < 2 ^ 31 }
     ensures turn { (got text : List ℕ) × Consumes (R.remaining reader.old) (R.remaining reader.new) got
         × Appends (W.contents writer.old) (W.contents writer.new) text
-        × TakesTurn A.steps max_size now (buffers.old.inbox.held ++ got) text buffers.new.inbox.held
-        answerer.old answerer.new result }
+        × TakesTurn A.steps max_size now
+        (record { input = buffers.old.inbox.held ++ got; text = text; before = answerer.old; after = answerer.new })
+        buffers.new.inbox.held result }
     ensures end { IfOk result (λ r. SeesEnd (R.remaining reader.old) buffers.old.inbox
         → EndsTurnAtEnd (R.remaining reader.new) buffers.new.inbox r) }
     ensures reader { OnOk result (R.has_failed reader.new ≡ false) }

@@ -19,9 +19,10 @@ pub fn conversation_of<A: Answer>(
     moments: &[Moment],
 ) -> Result<(Vec<u8>, Ended), WireFault>
     ensures whole { IfOk result (λ r. Conversation A.steps (A.max_size answerer.old) moments.now
-        input.now answerer.old r.0.items answerer.new r.1) }
+        (record { input = input.now; text = r.0.items; before = answerer.old; after = answerer.new }) r.1) }
     ensures breaks { IfErr result (λ f. (got rest text : List ℕ) × (input.now ≡ got ++ rest)
-        × Breaks A.steps (A.max_size answerer.old) moments.now got text answerer.old answerer.new f) }
+        × Breaks A.steps (A.max_size answerer.old) moments.now
+        (record { input = got; text = text; before = answerer.old; after = answerer.new }) f) }
 {
     let mut reader = Tapped::new(input);
     let mut writer = Tapped::new(Vec::new(alloc));

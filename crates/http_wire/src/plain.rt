@@ -62,7 +62,7 @@ pub fn plain_conversation(
 ) -> Result<(Vec<u8>, Ended), AllocError>
     ensures { IfOk result (λ r.
         Conversation IsStep book.old.settings.numbers.max_size moments.now
-        input.now book.old r.0.items book.new r.1) }
+        (record { input = input.now; text = r.0.items; before = book.old; after = book.new }) r.1) }
 {
     let Some((now, later)) = moments.split_first() else {
         return Ok((Vec::new(alloc), Ended::Moments));

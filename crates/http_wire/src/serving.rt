@@ -21,14 +21,14 @@ pub fn serve<R: Source + Drop, W: Sink + Drop, A: Answer>(
     ensures converses { IfOk result (λ e. (got text : List ℕ)
         × Consumes (R.remaining wire.old.reader) (R.remaining wire.new.reader) got
         × Appends (W.contents wire.old.writer) (W.contents wire.new.writer) text
-        × Converses A.steps wire.old.max_size moments.now (wire.old.held ++ got) text
-        answerer.old answerer.new e) }
+        × Converses A.steps wire.old.max_size moments.now
+        (record { input = wire.old.held ++ got; text = text; before = answerer.old; after = answerer.new }) e) }
     ensures read { IfOk result (λ e. IsReadWhen e (R.remaining wire.new.reader)) }
     ensures breaks { IfErr result (λ f. (got text : List ℕ)
         × Consumes (R.remaining wire.old.reader) (R.remaining wire.new.reader) got
         × Appends (W.contents wire.old.writer) (W.contents wire.new.writer) text
-        × Breaks A.steps wire.old.max_size moments.now (wire.old.held ++ got) text
-        answerer.old answerer.new f) }
+        × Breaks A.steps wire.old.max_size moments.now
+        (record { input = wire.old.held ++ got; text = text; before = answerer.old; after = answerer.new }) f) }
     ensures fault { IfErr result (Names (R.has_failed wire.new.reader) (W.has_failed wire.new.writer)) }
 {
     for moment in moments {

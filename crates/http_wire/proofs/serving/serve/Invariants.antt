@@ -8,5 +8,5 @@ abbrev pub invariant-loop-moment : goal.invariant-loop-moment
 invariant-loop-moment g l = record {
   reads : l.wire.reads ≡ true;
   size : l.wire.max_size ≡ l.fn.wire.max_size;
-  reached : (got text : List ℕ) × Consumes (g.R.Source.remaining l.fn.wire.reader) (g.R.Source.remaining l.wire.reader) got × Appends (g.W.Sink.contents l.fn.wire.writer) (g.W.Sink.contents l.wire.writer) text × Reached g.A.Answer.steps l.fn.wire.max_size (take l.moment-index l.moments) (l.fn.wire.held ++ got) l.fn.answerer text l.answerer l.wire.held;
+  reached : (got text : List ℕ) × Consumes (g.R.Source.remaining l.fn.wire.reader) (g.R.Source.remaining l.wire.reader) got × Appends (g.W.Sink.contents l.fn.wire.writer) (g.W.Sink.contents l.wire.writer) text × Reached g.A.Answer.steps l.fn.wire.max_size (take l.moment-index l.moments) (record { input = l.fn.wire.held ++ got; text = text; before = l.fn.answerer; after = l.answerer }) l.wire.held;
 }
