@@ -130,7 +130,7 @@ held_in n held got all h e = rw e (omega (arith, length-append held got, h))
 
 -- the write of `100 Continue` failed
 pub ReadsFront-unwritten : (max : ℕ) (bytes : List ℕ) (a : Ahead) (r : Result read.Front WireFault) (e : WireFault) (n : ℕ) → r ≡ Err e → e ≡ Write
-    → (f : Front) → IsFront max bytes f → waits f ≡ true → ReadsFront max bytes (take n (continue_text true)) a r
+    → (f : Front) → IsFront max bytes f → waits f ≡ true → ReadsFront max (record { input = bytes; text = take n (continue_text true) }) a r
 ReadsFront-unwritten max bytes a r e n is is_write f front w = rw (is, is_write) (f, front, w, (n, refl))
 
 -- a head that was found and read
@@ -160,7 +160,7 @@ IsFront-cut max bytes e = subst (λ t. Begins max t (cut_other false)) (sym e) r
 
 -- a read failed before a whole head came
 pub ReadsFront-unfinished : (max : ℕ) (bytes : List ℕ) (a : Ahead) (r : Result read.Front WireFault) (e : WireFault) → r ≡ Err e → e ≡ Read
-    → IsUnfinished bytes → ReadsFront max bytes [] a r
+    → IsUnfinished bytes → ReadsFront max (record { input = bytes; text = [] }) a r
 ReadsFront-unfinished max bytes a r e is is_read (inl c) = rw (is, is_read) (inl (false, refl, IsFront-cut max bytes c))
 ReadsFront-unfinished max bytes a r e is is_read (inr n) = rw (is, is_read) (inr (refl, subst (λ t. Begins max t clean_end) (sym n) refl))
 

@@ -27,7 +27,7 @@ module _ {A : Type 0} (steps : A → Request → ℕ → Reply → A → Type 0)
   with_text x text = record x { text = x.text ++ text }
 
   -- a message is answered, and the connection stays open
-  pub Served-stays : (now : ℕ) (x : Exchange A) (a : Ahead) (p : Parts) (reply : Reply) → ComesIn max x.input x.text a.held (next.message (request_at p a.lent) p.framing)
+  pub Served-stays : (now : ℕ) (x : Exchange A) (a : Ahead) (p : Parts) (reply : Reply) → ComesIn max (record { input = x.input; text = x.text }) a.held (next.message (request_at p a.lent) p.framing)
       → steps x.before (request_at p a.lent) now reply x.after → p.framing.close ≡ false → (rest : List ℕ)
       → Answered steps max now (followed (with_text x (reply_text reply now p.framing)) rest) (a.held ++ rest)
   Served-stays now x a p reply f step stays rest = record {
@@ -42,7 +42,7 @@ module _ {A : Type 0} (steps : A → Request → ℕ → Reply → A → Type 0)
   }
 
   -- a message is answered, and the connection closes
-  pub Served-closed : (now : ℕ) (x : Exchange A) (a : Ahead) (p : Parts) (reply : Reply) → ComesIn max x.input x.text a.held (next.message (request_at p a.lent) p.framing)
+  pub Served-closed : (now : ℕ) (x : Exchange A) (a : Ahead) (p : Parts) (reply : Reply) → ComesIn max (record { input = x.input; text = x.text }) a.held (next.message (request_at p a.lent) p.framing)
       → steps x.before (request_at p a.lent) now reply x.after → p.framing.close ≡ true → (rest : List ℕ)
       → LastTurn steps max now (followed (with_text x (reply_text reply now p.framing)) rest) ended.Closed
   Served-closed now x a p reply f step close rest moments =
@@ -54,19 +54,19 @@ module _ {A : Type 0} (steps : A → Request → ℕ → Reply → A → Type 0)
       )
 
   -- a request is refused
-  pub Served-refused : (now : ℕ) (x : Exchange A) (a : Ahead) (why : WireRefusal) (framing : Framing) → ComesIn max x.input x.text a.held (next.refused why framing)
+  pub Served-refused : (now : ℕ) (x : Exchange A) (a : Ahead) (why : WireRefusal) (framing : Framing) → ComesIn max (record { input = x.input; text = x.text }) a.held (next.refused why framing)
       → x.after ≡ x.before → (rest : List ℕ) → LastTurn steps max now (followed (with_text x (refusal_text why now framing)) rest) ended.Closed
   Served-refused now x a why framing f same rest moments =
       (refused why framing, f.1 rest, record { ended = refl; text = ap (λ l. l ++ refusal_text why now framing) f.0; same = same })
 
   -- a PATCH was cut, and is applied with the bytes that came
-  pub Served-cut_patch : (now : ℕ) (x : Exchange A) (a : Ahead) (p : Parts) (why : Cut) (reply : Reply) → ComesIn max x.input x.text a.held (next.cut_patch (request_at p a.lent) p.framing why)
+  pub Served-cut_patch : (now : ℕ) (x : Exchange A) (a : Ahead) (p : Parts) (why : Cut) (reply : Reply) → ComesIn max (record { input = x.input; text = x.text }) a.held (next.cut_patch (request_at p a.lent) p.framing why)
       → steps x.before (request_at p a.lent) now reply x.after → LastTurn steps max now x ended.Cut
   Served-cut_patch now x a p why reply f step moments =
       (cut_patch (request_at p a.lent) p.framing f.0, f.2, (reply, step, refl, f.1))
 
   -- another message was cut
-  pub Served-cut_other : (now : ℕ) (x : Exchange A) (a : Ahead) → ComesIn max x.input x.text a.held next.cut_other → x.after ≡ x.before → LastTurn steps max now x ended.Cut
+  pub Served-cut_other : (now : ℕ) (x : Exchange A) (a : Ahead) → ComesIn max (record { input = x.input; text = x.text }) a.held next.cut_other → x.after ≡ x.before → LastTurn steps max now x ended.Cut
   Served-cut_other now x a f same moments = (cut_other f.0, f.2, record { ended = refl; text = f.1; same = same })
 
   -- nothing follows
@@ -82,7 +82,7 @@ module _ {A : Type 0} (steps : A → Request → ℕ → Reply → A → Type 0)
   fails_waiting now n clean_end x w same part = absurd cc
 
   -- the front could not be read, or `100 Continue` could not be written
-  pub BreaksTurn-front : (now : ℕ) (x : Exchange A) (e : WireFault) → BreaksFront max x.input x.text e → x.after ≡ x.before → BreaksTurn steps max now x e
+  pub BreaksTurn-front : (now : ℕ) (x : Exchange A) (e : WireFault) → BreaksFront max (record { input = x.input; text = x.text }) e → x.after ≡ x.before → BreaksTurn steps max now x e
   BreaksTurn-front now x Read (inl f) same = (ended.Cut, tt, λ moments. (cut_other f.0, f.2, record { ended = refl; text = f.1; same = same }))
   BreaksTurn-front now x Read (inr f) same = (ended.Input, tt, λ moments. (clean_end, f.1, record { ended = refl; text = f.0; same = same }))
   BreaksTurn-front now x Write f same = (f.0, f.1, fails_waiting now f.3.0 f.0 x f.2 same f.3.1)
@@ -90,7 +90,7 @@ module _ {A : Type 0} (steps : A → Request → ℕ → Reply → A → Type 0)
   BreaksTurn-front now x Failed f same = absurd f
 
   -- the reply could not be written
-  pub BreaksTurn-reply : (now n : ℕ) (x : Exchange A) (a : Ahead) (p : Parts) (reply : Reply) → ComesIn max x.input x.text a.held (next.message (request_at p a.lent) p.framing)
+  pub BreaksTurn-reply : (now n : ℕ) (x : Exchange A) (a : Ahead) (p : Parts) (reply : Reply) → ComesIn max (record { input = x.input; text = x.text }) a.held (next.message (request_at p a.lent) p.framing)
       → steps x.before (request_at p a.lent) now reply x.after → BreaksTurn steps max now (with_text x (take n (reply_text reply now p.framing))) Write
   BreaksTurn-reply now n x a p reply f step = (
     message (request_at p a.lent) p.framing f.0 (a.held ++ []),
@@ -100,7 +100,7 @@ module _ {A : Type 0} (steps : A → Request → ℕ → Reply → A → Type 0)
 
   -- the refusal could not be written
   pub BreaksTurn-refusal : (now n : ℕ) (x : Exchange A) (a : Ahead) (why : WireRefusal) (framing : Framing)
-      → ComesIn max x.input x.text a.held (next.refused why framing) → x.after ≡ x.before → BreaksTurn steps max now (with_text x (take n (refusal_text why now framing))) Write
+      → ComesIn max (record { input = x.input; text = x.text }) a.held (next.refused why framing) → x.after ≡ x.before → BreaksTurn steps max now (with_text x (take n (refusal_text why now framing))) Write
   BreaksTurn-refusal now n x a why framing f same = (
     refused why framing,
     subst (λ i. IsFront max i (refused why framing)) (append-nil x.input) (f.1 []),

@@ -5,7 +5,7 @@ use Rattle.http_wire.specs.Ahead.{Ahead}
 use Rattle.http_wire.specs.Front.{Parses}
 use Rattle.http_wire.specs.HeadText.{has_many_lines, head_text, whole}
 use Rattle.http_wire.specs.Next.{told_in}
-use Rattle.http_wire.specs.NextRead.{ReadsNext}
+use Rattle.http_wire.specs.NextRead.{Intake, ReadsNext}
 use Rattle.http_wire.specs.Parts.{ShowsHead}
 use Rattle.http_wire.specs.declared.parts.Parts.{Parts}
 use Rattle.http_wire.specs.declared.read.Front.{Front}
@@ -19,6 +19,6 @@ pub record BeginsHead (max : ℕ) (bytes : List ℕ) (p : Parts) (held : List �
   pub shows : ShowsHead max (take p.head_len held) head p
   pub begins : (rest : List ℕ) → head_text (bytes ++ rest) ≡ whole (take p.head_len held) (drop p.head_len held ++ rest)
 
--- what a reading gave, after these bytes
-abbrev pub ReadsFront : ℕ → List ℕ → List ℕ → Ahead → Result Front WireFault → Type 0
-ReadsFront max bytes text a r = ReadsNext max bytes text a.held (told_in a r)
+-- what a reading gave
+abbrev pub ReadsFront : ℕ → Intake → Ahead → Result Front WireFault → Type 0
+ReadsFront max i a r = ReadsNext max i a.held (told_in a r)

@@ -22,6 +22,7 @@ pub mod Refusal
 pub mod ReplyParts
 pub mod ReplyText
 pub mod Scan
+pub mod Streams
 pub mod Shown
 pub mod TurnOnWire
 pub mod Turns

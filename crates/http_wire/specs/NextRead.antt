@@ -7,25 +7,31 @@ use Rattle.http_wire.specs.Lent.{Names}
 use Rattle.http_wire.specs.Next.{Next, is_cut_by_fault}
 use Rattle.http_wire.specs.Next as next
 use Rattle.http_wire.specs.OnWire.{OnWire}
+use Rattle.http_wire.specs.Streams.{Streams}
 use Rattle.http_wire.specs.Writes.{Writes}
 use Rattle.http_wire.specs.WireState.{is_open, is_alive, state_after}
 use Rattle.http_wire.specs.declared.fault.WireFault.{WireFault}
 use Rattle.http_wire.specs.declared.fault.WireFault.TheVariants.{Read, Write, Memory, Failed}
 use Rattle.http_wire.specs.declared.read.Cut.TheVariants.{Ended, Fault}
 
--- These bytes begin with what came in, and this text was written meanwhile. What follows them changes no message and no
--- refusal; after a message, these bytes of them are left.
-abbrev pub ComesIn : ℕ → List ℕ → List ℕ → List ℕ → Next → Type 0
-ComesIn max bytes text left (next.message request framing) =
-    (waiting : Bool) × (text ≡ continue_text waiting)
-    × ((rest : List ℕ) → IsFront max (bytes ++ rest) (message request framing waiting (left ++ rest)))
-ComesIn max bytes text left (next.cut_patch request framing why) =
-    (waiting : Bool) × (text ≡ continue_text waiting) × IsFront max bytes (cut_patch request framing waiting)
-ComesIn max bytes text left next.cut_other =
-    (waiting : Bool) × (text ≡ continue_text waiting) × IsFront max bytes (cut_other waiting)
-ComesIn max bytes text left (next.refused why framing) =
-    (text ≡ []) × ((rest : List ℕ) → IsFront max (bytes ++ rest) (refused why framing))
-ComesIn max bytes text left next.ending = (text ≡ []) × IsFront max bytes clean_end
+-- these bytes were read, and this text was written meanwhile
+pub record Intake : Type 0 where
+  pub input : List ℕ
+  pub text : List ℕ
+
+-- The input begins with what came in. What follows it changes no message and no refusal; after a message, these bytes of
+-- it are left.
+abbrev pub ComesIn : ℕ → Intake → List ℕ → Next → Type 0
+ComesIn max i left (next.message request framing) =
+    (waiting : Bool) × (i.text ≡ continue_text waiting)
+    × ((rest : List ℕ) → IsFront max (i.input ++ rest) (message request framing waiting (left ++ rest)))
+ComesIn max i left (next.cut_patch request framing why) =
+    (waiting : Bool) × (i.text ≡ continue_text waiting) × IsFront max i.input (cut_patch request framing waiting)
+ComesIn max i left next.cut_other =
+    (waiting : Bool) × (i.text ≡ continue_text waiting) × IsFront max i.input (cut_other waiting)
+ComesIn max i left (next.refused why framing) =
+    (i.text ≡ []) × ((rest : List ℕ) → IsFront max (i.input ++ rest) (refused why framing))
+ComesIn max i left next.ending = (i.text ≡ []) × IsFront max i.input clean_end
 
 -- the request waits for `100 Continue`
 abbrev pub waits : Front → Bool
@@ -35,21 +41,21 @@ waits (cut_patch request framing waiting) = waiting
 waits (cut_other waiting) = waiting
 waits clean_end = false
 
--- A read failed, and these bytes as a whole input would be cut, or nothing; or the write of `100 Continue` failed, and a
--- front of it was written.
-abbrev pub BreaksFront : ℕ → List ℕ → List ℕ → WireFault → Type 0
-BreaksFront max bytes text Read =
-    ((waiting : Bool) × (text ≡ continue_text waiting) × IsFront max bytes (cut_other waiting))
-    ⊎ ((text ≡ []) × IsFront max bytes clean_end)
-BreaksFront max bytes text Write =
-    (f : Front) × IsFront max bytes f × (waits f ≡ true) × ((n : ℕ) × (text ≡ take n (continue_text true)))
-BreaksFront max bytes text Memory = ⊥
-BreaksFront max bytes text Failed = ⊥
+-- A read failed, and the bytes that were read would be cut as a whole input, or nothing; or the write of `100 Continue`
+-- failed, and a front of it was written.
+abbrev pub BreaksFront : ℕ → Intake → WireFault → Type 0
+BreaksFront max i Read =
+    ((waiting : Bool) × (i.text ≡ continue_text waiting) × IsFront max i.input (cut_other waiting))
+    ⊎ ((i.text ≡ []) × IsFront max i.input clean_end)
+BreaksFront max i Write =
+    (f : Front) × IsFront max i.input f × (waits f ≡ true) × ((n : ℕ) × (i.text ≡ take n (continue_text true)))
+BreaksFront max i Memory = ⊥
+BreaksFront max i Failed = ⊥
 
--- what a reading gave, after these bytes
-abbrev pub ReadsNext : ℕ → List ℕ → List ℕ → List ℕ → Result Next WireFault → Type 0
-ReadsNext max bytes text left (Ok m) = ComesIn max bytes text left m
-ReadsNext max bytes text left (Err fault) = BreaksFront max bytes text fault
+-- what a reading gave, and these bytes are left
+abbrev pub ReadsNext : ℕ → Intake → List ℕ → Result Next WireFault → Type 0
+ReadsNext max i left (Ok m) = ComesIn max i left m
+ReadsNext max i left (Err fault) = BreaksFront max i fault
 
 -- the input is cut or ended only where no byte of it is left
 abbrev pub ComesAtEnd : Option (List ℕ) → Next → Type 0
@@ -77,35 +83,32 @@ TellsEnd ended (Err Failed) = ⊤
 -- What the reading of the next message did to a wire that reads: some bytes were read and some were written, and what came
 -- in is what they begin with. Nothing had failed before. Where something did now, the fault names which; after what came in,
 -- the writer has not failed, and the reader only where a read that failed cut a PATCH. Nothing is read after the reader's end.
-pub record Reads {R W : Type 0} (remaining : R → Option (List ℕ)) (read_failed : R → Bool) (contents : W → Option (List ℕ)) (write_failed : W → Bool)
-    (old new : OnWire R W) (r : Result Next WireFault) : Type 0 where
-  pub next : (got text : List ℕ) × Consumes (remaining old.reader) (remaining new.reader) got × Appends (contents old.writer) (contents new.writer) text
-      × ReadsNext old.max_size (old.held ++ got) text new.held r
-  pub at_end : IfOk r (ComesAtEnd (remaining new.reader))
+pub record Reads {R W : Type 0} (s : Streams R W) (old new : OnWire R W) (r : Result Next WireFault) : Type 0 where
+  pub next : (got text : List ℕ) × Consumes (s.remaining old.reader) (s.remaining new.reader) got × Appends (s.contents old.writer) (s.contents new.writer) text
+      × ReadsNext old.max_size (record { input = old.held ++ got; text = text }) new.held r
+  pub at_end : IfOk r (ComesAtEnd (s.remaining new.reader))
   pub told : TellsEnd new.ended r
   pub stops : old.ended ≡ true → (new.reader ≡ old.reader) × (new.ended ≡ true)
-  pub reader : IfOk r (λ n. read_failed new.reader ≡ is_cut_by_fault n)
-  pub writer : OnOk r (write_failed new.writer ≡ false)
-  pub fault : IfErr r (Names (read_failed new.reader) (write_failed new.writer))
-  pub alive : (read_failed old.reader ≡ false) × (write_failed old.writer ≡ false)
+  pub reader : IfOk r (λ n. s.read_failed new.reader ≡ is_cut_by_fault n)
+  pub writer : OnOk r (s.write_failed new.writer ≡ false)
+  pub fault : IfErr r (Names (s.read_failed new.reader) (s.write_failed new.writer))
+  pub alive : (s.read_failed old.reader ≡ false) × (s.write_failed old.writer ≡ false)
   pub size : new.max_size ≡ old.max_size
   pub reads : new.reads ≡ is_open (state_after r)
   pub writes : new.writes ≡ is_alive (state_after r)
 
 -- what a call of `read_request` did to a wire: after the end, a cut or a refusal it gives the end, and after a fault the
 -- answer that it failed, and the wire is as it was, its reader and its writer too
-pub record ReadsOn {R W : Type 0} (remaining : R → Option (List ℕ)) (read_failed : R → Bool) (contents : W → Option (List ℕ)) (write_failed : W → Bool)
-    (old new : OnWire R W) (r : Result Next WireFault) : Type 0 where
-  pub reading : old.reads ≡ true → Reads remaining read_failed contents write_failed old new r
+pub record ReadsOn {R W : Type 0} (s : Streams R W) (old new : OnWire R W) (r : Result Next WireFault) : Type 0 where
+  pub reading : old.reads ≡ true → Reads s old new r
   pub ended : old.reads ≡ false → old.writes ≡ true → (r ≡ Ok next.ending) × (new ≡ old)
   pub failed : old.reads ≡ false → old.writes ≡ false → (r ≡ Err Failed) × (new ≡ old)
 
 -- What a call that writes a text did to a wire. Where the wire writes, the text is written; or a write failed, a front of
 -- the text is written, and from then on the wire does nothing. Where it does not write, the call says that it failed, and
 -- the wire is as it was, its writer too.
-pub record WritesOn {R W T : Type 0} (contents : W → Option (List ℕ)) (write_failed : W → Bool) (text : List ℕ) (old new : OnWire R W)
-    (r : Result T WireFault) : Type 0 where
-  pub writing : old.writes ≡ true → Writes (contents old.writer) (contents new.writer) (write_failed new.writer) text r
-  pub alive : old.writes ≡ true → write_failed old.writer ≡ false
+pub record WritesOn {R W T : Type 0} (s : Streams R W) (text : List ℕ) (old new : OnWire R W) (r : Result T WireFault) : Type 0 where
+  pub writing : old.writes ≡ true → Writes (s.contents old.writer) (s.contents new.writer) (s.write_failed new.writer) text r
+  pub alive : old.writes ≡ true → s.write_failed old.writer ≡ false
   pub stays : old.writes ≡ true → new ≡ record old { writer = new.writer; reads = old.reads && is_ok r; writes = is_ok r }
   pub failed : old.writes ≡ false → (r ≡ Err Failed) × (new ≡ old)

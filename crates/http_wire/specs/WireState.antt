@@ -1,8 +1,10 @@
 -- What a wire still does, and how a contract sees it.
-use Rattle.std.specs.Prelude.{◌≡◌, ◌<◌, ◌^◌, ℕ, Bool, true, false, List, Option, Result, Ok, Err}
-use Rattle.http_wire.specs.Ahead.{Ahead, SeesEnd}
+use Rattle.std.specs.Prelude.{◌≡◌, ◌<◌, ◌^◌, ℕ, Bool, true, false, Result, Ok, Err}
+use Rattle.http_wire.specs.Ahead.{Ahead}
 use Rattle.http_wire.specs.Next.{Next, message, cut_patch, cut_other, refused, ending}
 use Rattle.http_wire.specs.OnWire.{OnWire}
+use Rattle.http_wire.specs.Streams.{Streams}
+use Rattle.std.specs.Io.KnownBytes.{IsAtEnd}
 use Rattle.http_wire.specs.declared.fault.WireFault.{WireFault}
 use Rattle.http_wire.specs.declared.read.Cut.TheVariants as cut
 use Rattle.http_wire.specs.declared.wire.State.{State}
@@ -43,11 +45,10 @@ module _ {R W : Type 0} where
     writes = is_alive state;
   }
 
-  -- What holds of the parts of every wire: while it reads, no read has failed and the reader's end was seen only there;
-  -- while it writes, no write has failed; and bodies have less than two gigabytes.
-  pub record IsSound (remaining : R → Option (List ℕ)) (read_failed : R → Bool) (write_failed : W → Bool) (reader : R) (writer : W) (inbox : Ahead)
-      (max_size : ℕ) (state : State) : Type 0 where
-    pub size : max_size < 2 ^ 31
-    pub reader_alive : is_open state ≡ true → read_failed reader ≡ false
-    pub writer_alive : is_alive state ≡ true → write_failed writer ≡ false
-    pub end : is_open state ≡ true → SeesEnd (remaining reader) inbox
+  -- What holds of every wire: while it reads, no read has failed and the reader's end was seen only there; while it writes,
+  -- no write has failed; and bodies have less than two gigabytes.
+  pub record IsSound (s : Streams R W) (w : OnWire R W) : Type 0 where
+    pub size : w.max_size < 2 ^ 31
+    pub reader_alive : w.reads ≡ true → s.read_failed w.reader ≡ false
+    pub writer_alive : w.writes ≡ true → s.write_failed w.writer ≡ false
+    pub end : w.reads ≡ true → w.ended ≡ true → IsAtEnd (s.remaining w.reader)

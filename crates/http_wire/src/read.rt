@@ -75,7 +75,8 @@ pub fn read_front<R: Source, W: Sink>(
     requires max_size { max_size < 2 ^ 31 }
     ensures front { (got text : List ℕ) × Consumes (R.remaining reader.old) (R.remaining reader.new) got
         × Appends (W.contents writer.old) (W.contents writer.new) text
-        × ReadsFront max_size (inbox.old.held ++ got) text inbox.new result }
+        × ReadsFront max_size (record { input = inbox.old.held ++ got; text = text })
+        inbox.new result }
     ensures end { OnOk result (SeesEnd (R.remaining reader.old) inbox.old
         → SeesEnd (R.remaining reader.new) inbox.new) }
     ensures stops { StopsAtEnd reader.old reader.new inbox.old inbox.new }
@@ -191,7 +192,7 @@ fn read_body<R: Source, W: Sink>(
     ensures front { (max : ℕ) (bytes : List ℕ) → BeginsHead max bytes parts inbox.old.held
         → (got text : List ℕ) × Consumes (R.remaining reader.old) (R.remaining reader.new) got
         × Appends (W.contents writer.old) (W.contents writer.new) text
-        × ReadsFront max (bytes ++ got) text inbox.new result }
+        × ReadsFront max (record { input = bytes ++ got; text = text }) inbox.new result }
     ensures end { OnOk result (SeesEnd (R.remaining reader.old) inbox.old
         → SeesEnd (R.remaining reader.new) inbox.new) }
     ensures stops { StopsAtEnd reader.old reader.new inbox.old inbox.new }
@@ -233,7 +234,8 @@ fn read_rest<R: Source>(reader: &mut R, inbox: &mut Inbox, parts: Parts) -> Resu
     requires within { IsPartsWithin parts.head_len parts }
     ensures front { (max : ℕ) (bytes : List ℕ) → BeginsHead max bytes parts inbox.old.held
         → (got : List ℕ) × Consumes (R.remaining reader.old) (R.remaining reader.new) got
-        × ReadsFront max (bytes ++ got) (continue_text parts.is_waiting) inbox.new result }
+        × ReadsFront max (record { input = bytes ++ got; text = continue_text parts.is_waiting })
+        inbox.new result }
     ensures end { OnOk result (SeesEnd (R.remaining reader.old) inbox.old
         → SeesEnd (R.remaining reader.new) inbox.new) }
     ensures stops { StopsAtEnd reader.old reader.new inbox.old inbox.new }

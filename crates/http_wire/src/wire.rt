@@ -7,6 +7,7 @@ ghost use Rattle.http_wire.specs.Lent.{IsLent};
 ghost use Rattle.http_wire.specs.Next.{next_in, told_in};
 ghost use Rattle.http_wire.specs.NextRead.{ReadsOn, WritesOn};
 ghost use Rattle.http_wire.specs.ReplyText.{reply_text, refusal_text};
+ghost use Rattle.http_wire.specs.Streams.{streams};
 ghost use Rattle.http_wire.specs.TurnOnWire.{TurnOn};
 ghost use Rattle.http_wire.specs.WireState.{state_after, wire_of, IsSound};
 
@@ -57,13 +58,13 @@ impl<R: Source + Drop, W: Sink + Drop> Model for Wire<R, W> {
 
     ghost coded = { wire_code R.code W.code };
 
-    ghost use Rattle.http_wire.specs.TurnOnWire.{TurnOn};
+    ghost use Rattle.http_wire.specs.Streams.{streams};
     ghost use Rattle.http_wire.specs.WireState.{wire_of, IsSound};
 
     ghost view = { λ w. wire_of w.reader w.writer w.buffers.inbox w.max_size w.state };
 
-    ghost invariant = { λ w. IsSound R.remaining R.has_failed W.has_failed w.reader w.writer w.buffers.inbox
-        w.max_size w.state };
+    ghost invariant = { λ w. IsSound (streams R.remaining R.has_failed W.contents W.has_failed)
+        (wire_of w.reader w.writer w.buffers.inbox w.max_size w.state) };
 }
 
 impl<R: Source + Drop, W: Sink + Drop> Wire<R, W> {
@@ -112,7 +113,7 @@ impl<R: Source + Drop, W: Sink + Drop> Wire<R, W> {
     /// cut or refused, and after the end, it gives `Incoming::End`.
     pub fn read_request(&mut self) -> Result<Incoming<'_>, WireFault>
         ensures* { sem 𝓛 (Rests (the_row R.row W.row R.Source W.Sink) self.entry
-            (λ new. ReadsOn R.remaining R.has_failed W.contents W.has_failed
+            (λ new. ReadsOn (streams R.remaining R.has_failed W.contents W.has_failed)
             self.old new (told_of result))) }
     {
         let front = next_front(
@@ -134,8 +135,9 @@ impl<R: Source + Drop, W: Sink + Drop> Wire<R, W> {
         answerer: &mut A,
         now: Moment,
     ) -> Result<Option<Ended>, WireFault>
-        ensures { TurnOn R.remaining R.has_failed W.contents W.has_failed A.steps now
-            self.old self.new answerer.old answerer.new result }
+        ensures { TurnOn (streams R.remaining R.has_failed W.contents W.has_failed) A.steps now
+            (record { wire = self.old; state = answerer.old })
+            (record { wire = self.new; state = answerer.new }) result }
     {
         turn_on(
             &mut self.reader,
@@ -157,8 +159,8 @@ impl<R: Source + Drop, W: Sink + Drop> Wire<R, W> {
         now: Moment,
         framing: Framing,
     ) -> Result<(), WireFault>
-        ensures { WritesOn W.contents W.has_failed (reply_text reply.now now framing)
-            self.old self.new result }
+        ensures { WritesOn (streams R.remaining R.has_failed W.contents W.has_failed)
+            (reply_text reply.now now framing) self.old self.new result }
     {
         if self.state == State::Failed {
             return Err(WireFault::Failed);
@@ -183,8 +185,8 @@ impl<R: Source + Drop, W: Sink + Drop> Wire<R, W> {
         now: Moment,
         framing: Framing,
     ) -> Result<(), WireFault>
-        ensures { WritesOn W.contents W.has_failed (refusal_text refusal now framing)
-            self.old self.new result }
+        ensures { WritesOn (streams R.remaining R.has_failed W.contents W.has_failed)
+            (refusal_text refusal now framing) self.old self.new result }
     {
         if self.state == State::Failed {
             return Err(WireFault::Failed);
@@ -213,14 +215,19 @@ fn turn_on<R: Source, W: Sink, A: Answer>(
     answerer: &mut A,
     now: Moment,
 ) -> Result<Option<Ended>, WireFault>
-    requires { IsSound R.remaining R.has_failed W.has_failed reader.old writer.old
-        buffers.old.inbox max_size state.old }
-    ensures sound { IsSound R.remaining R.has_failed W.has_failed reader.new writer.new
-        buffers.new.inbox max_size state.new }
-    ensures turn { TurnOn R.remaining R.has_failed W.contents W.has_failed A.steps now
-        (wire_of reader.old writer.old buffers.old.inbox max_size state.old)
-        (wire_of reader.new writer.new buffers.new.inbox max_size state.new)
-        answerer.old answerer.new result }
+    requires { IsSound (streams R.remaining R.has_failed W.contents W.has_failed)
+        (wire_of reader.old writer.old buffers.old.inbox max_size state.old) }
+    ensures sound { IsSound (streams R.remaining R.has_failed W.contents W.has_failed)
+        (wire_of reader.new writer.new buffers.new.inbox max_size state.new) }
+    ensures turn { TurnOn (streams R.remaining R.has_failed W.contents W.has_failed) A.steps now
+        (record {
+          wire = wire_of reader.old writer.old buffers.old.inbox max_size state.old;
+          state = answerer.old;
+        })
+        (record {
+          wire = wire_of reader.new writer.new buffers.new.inbox max_size state.new;
+          state = answerer.new;
+        }) result }
 {
     match *state {
         State::Open => {
@@ -245,11 +252,11 @@ fn next_front<R: Source, W: Sink>(
     max_size: u64,
     state: &mut State,
 ) -> Result<Front, WireFault>
-    requires { IsSound R.remaining R.has_failed W.has_failed reader.old writer.old
-        buffers.old.inbox max_size state.old }
-    ensures sound { IsSound R.remaining R.has_failed W.has_failed reader.new writer.new
-        buffers.new.inbox max_size state.new }
-    ensures reads { ReadsOn R.remaining R.has_failed W.contents W.has_failed
+    requires { IsSound (streams R.remaining R.has_failed W.contents W.has_failed)
+        (wire_of reader.old writer.old buffers.old.inbox max_size state.old) }
+    ensures sound { IsSound (streams R.remaining R.has_failed W.contents W.has_failed)
+        (wire_of reader.new writer.new buffers.new.inbox max_size state.new) }
+    ensures reads { ReadsOn (streams R.remaining R.has_failed W.contents W.has_failed)
         (wire_of reader.old writer.old buffers.old.inbox max_size state.old)
         (wire_of reader.new writer.new buffers.new.inbox max_size state.new)
         (told_in buffers.new.inbox result) }

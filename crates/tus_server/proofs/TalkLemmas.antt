@@ -1,9 +1,10 @@
 -- What the end of a conversation tells of it.
-use Rattle.std.proofs.Common.{◌≡◌, ℕ, Bool, List, [], ◌++◌, Option, Some, None, Result, Ok, replicate, refl, ◌∙◌, ap, subst}
+use Rattle.std.proofs.Common.{◌≡◌, ℕ, Bool, List, [], ◌++◌, Option, Some, None, Result, Ok, replicate, refl, ◌∙◌, ap, subst₂}
 use Rattle.std.specs.Io.KnownBytes.{Appends, Consumes, Keeps}
 use Rattle.std.proofs.lemmas.List.{append-nil}
 use Rattle.http_wire.specs.BookStep.{BookStep}
 use Rattle.http_wire.specs.Conversation.{Conversation}
+use Rattle.http_wire.specs.Exchange.{Exchange}
 use Rattle.http_wire.specs.Lent.{Names, NamesOrMemory}
 use Rattle.http_wire.specs.Turns.{Breaks}
 use Rattle.http_wire.specs.declared.conversation.Ended.{Ended}
@@ -36,33 +37,39 @@ Names-wire reader writer wire.Memory is h = cc
 Names-wire reader writer wire.Failed is h = h
 
 -- where memory was lacking, nothing was read or written
-pub nothing-done : (max : ℕ) (moments got text : List ℕ) (b b2 : PlainBook) (f : WireFault) → fault_of_wire f ≡ Memory → Breaks BookStep max moments got text b b2 f → (got ≡ []) × (text ≡ [])
-nothing-done max moments got text b b2 wire.Read is h = cc
-nothing-done max moments got text b b2 wire.Write is h = cc
-nothing-done max moments got text b b2 wire.Memory is h = (h.0, h.1)
-nothing-done max moments got text b b2 wire.Failed is h = absurd h
+pub nothing-done : (max : ℕ) (moments : List ℕ) (x : Exchange PlainBook) (f : WireFault) → fault_of_wire f ≡ Memory → Breaks BookStep max moments x f → (x.input ≡ []) × (x.text ≡ [])
+nothing-done max moments x wire.Read is h = cc
+nothing-done max moments x wire.Write is h = cc
+nothing-done max moments x wire.Memory is h = (h.0, h.1)
+nothing-done max moments x wire.Failed is h = absurd h
 
 laid : (now : ℕ) → replicate 4096 now ≡ moments_at now
 unfolding moments_at
 laid now = refl
 
 -- a conversation on the new book is one of the settings that were told
-pub Talks-from : (told : Result Settings SettingsFault) (now : ℕ) (input text : List ℕ) (b after : PlainBook) (e : Ended) → told ≡ Ok b.settings → b ≡ opening_book b.settings → Conversation BookStep b.settings.numbers.max_size (replicate 4096 now) input b text after e → Talks told now input text
-Talks-from told now input text b after e given new h = record {
-  settings = b.settings;
-  given = given;
-  after = after;
-  ended = e;
-  conversation = subst (λ book. Conversation BookStep b.settings.numbers.max_size (moments_at now) input book text after e) new (subst (λ moments. Conversation BookStep b.settings.numbers.max_size moments input b text after e) (laid now) h);
-}
+pub Talks-from : (told : Result Settings SettingsFault) (now : ℕ) (x : Exchange PlainBook) (e : Ended) → told ≡ Ok x.before.settings → x.before ≡ opening_book x.before.settings
+    → Conversation BookStep x.before.settings.numbers.max_size (replicate 4096 now) x e → Talks told now x.input x.text
+Talks-from told now x e given new h =
+    let max = x.before.settings.numbers.max_size in
+    record {
+      settings = x.before.settings;
+      given = given;
+      after = x.after;
+      ended = e;
+      conversation = subst₂ (λ (book : PlainBook) (moments : List ℕ). Conversation BookStep max moments (record x { before = book }) e) new (laid now) h;
+    }
 
 -- the same of one that a fault broke off
-pub BreaksTalk-from : (told : Result Settings SettingsFault) (now : ℕ) (reader writer : Bool) (got text : List ℕ) (b after : PlainBook) (f : WireFault) → told ≡ Ok b.settings → b ≡ opening_book b.settings → Names reader writer f → Breaks BookStep b.settings.numbers.max_size (replicate 4096 now) got text b after f → BreaksTalk told now reader writer got text
-BreaksTalk-from told now reader writer got text b after f given new named h = record {
-  settings = b.settings;
-  given = given;
-  after = after;
-  fault = f;
-  named = named;
-  breaks = subst (λ book. Breaks BookStep b.settings.numbers.max_size (moments_at now) got text book after f) new (subst (λ moments. Breaks BookStep b.settings.numbers.max_size moments got text b after f) (laid now) h);
-}
+pub BreaksTalk-from : (told : Result Settings SettingsFault) (now : ℕ) (reader writer : Bool) (x : Exchange PlainBook) (f : WireFault) → told ≡ Ok x.before.settings → x.before ≡ opening_book x.before.settings
+    → Names reader writer f → Breaks BookStep x.before.settings.numbers.max_size (replicate 4096 now) x f → BreaksTalk told now reader writer x.input x.text
+BreaksTalk-from told now reader writer x f given new named h =
+    let max = x.before.settings.numbers.max_size in
+    record {
+      settings = x.before.settings;
+      given = given;
+      after = x.after;
+      fault = f;
+      named = named;
+      breaks = subst₂ (λ (book : PlainBook) (moments : List ℕ). Breaks BookStep max moments (record x { before = book }) f) new (laid now) h;
+    }

@@ -39,7 +39,8 @@ pub record Talks (told : Result Settings SettingsFault) (now : ℕ) (input text 
   pub given : told ≡ Ok settings
   pub after : PlainBook
   pub ended : Ended
-  pub conversation : Conversation BookStep settings.numbers.max_size (moments_at now) input (opening_book settings) text after ended
+  pub conversation : Conversation BookStep settings.numbers.max_size (moments_at now)
+      (record { input = input; text = text; before = opening_book settings; after = after }) ended
 
 -- These bytes were read and this text was written in such a conversation, until a fault broke it off: a read
 -- that failed, where the reader has failed, or a write, where the writer has.
@@ -49,4 +50,5 @@ pub record BreaksTalk (told : Result Settings SettingsFault) (now : ℕ) (reader
   pub after : PlainBook
   pub fault : WireFault
   pub named : Names reader writer fault
-  pub breaks : Breaks BookStep settings.numbers.max_size (moments_at now) got text (opening_book settings) after fault
+  pub breaks : Breaks BookStep settings.numbers.max_size (moments_at now)
+      (record { input = got; text = text; before = opening_book settings; after = after }) fault

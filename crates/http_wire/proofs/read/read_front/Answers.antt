@@ -1,4 +1,4 @@
-use Rattle.std.proofs.Common.{◌++◌, [], false, refl, ◌∙◌, subst, append_assoc}
+use Rattle.std.proofs.Common.{ℕ, List, ◌++◌, [], false, refl, ◌∙◌, subst, append_assoc}
 use Rattle.std.proofs.lemmas.Result.{err_from_is_err_and}
 use Rattle.http_wire.specs.Front.{refused}
 use Rattle.http_wire.specs.FrontRead.{ReadsFront}
@@ -29,7 +29,7 @@ returns-in-Ok-clause-front g c =
       body.1,
       Consumes-more _ _ _ found.0 body.0 found.1 body.2,
       body.3,
-      subst (λ l. ReadsFront c.args.max_size l body.1 c.read_body.new.inbox c.read_body.result) (append_assoc start found.0 body.0) body.4,
+      subst (λ (l : List ℕ). ReadsFront c.args.max_size (record { input = l; text = body.1 }) c.read_body.new.inbox c.read_body.result) (append_assoc start found.0 body.0) body.4,
     )
 
 pub returns-in-Err-clause-front : goal.returns-in-Err-clause-front
