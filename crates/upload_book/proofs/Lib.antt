@@ -1,4 +1,5 @@
 pub mod AppendLemmas
+mod StoredLemmas
 pub mod Entries
 pub mod FirstRefusal
 pub mod KeptLemmas
