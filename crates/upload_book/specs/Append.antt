@@ -8,8 +8,9 @@ use Rattle.upload_book.specs.declared.head_row.HeadRow.{HeadRow}
 use Rattle.upload_book.specs.declared.head_row.Kind.{Kind}
 use Rattle.upload_book.specs.declared.head_row.Kind.TheVariants.{Plain, Partial, Final}
 use Rattle.upload_book.specs.declared.refusal.Refusal.{Refusal}
-use Rattle.upload_book.specs.declared.refusal.Refusal.TheVariants.{IsFinal, Media, Offset, LengthFixed, TooLong, Memory}
+use Rattle.upload_book.specs.declared.refusal.Refusal.TheVariants.{IsFinal, Media, Offset, LengthFixed, TooLong, Spent, Quota, Memory}
 use Rattle.upload_book.specs.declared.settings.Numbers.{Numbers}
+use Rattle.upload_book.specs.Account.{Account, account_in, account_with, blocks_added}
 use Rattle.upload_book.specs.Expiry.{lifetime_end, renewed}
 use Rattle.upload_book.specs.Refusal.{first_that_holds, unless}
 use Rattle.upload_book.specs.TenantBook.{TenantBook, with_changed, visible_upload}
@@ -34,19 +35,22 @@ differ known told = option_map_or (λ n. option_map_or (λ k. not (n == k)) told
 abbrev pub is_too_long : Numbers → ℕ → ℕ → Bool
 is_too_long n most end = nat_lt n.max_size most || nat_lt most end
 
--- the tests of a PATCH of a visible upload with this row, in their order
-abbrev pub append_tests : Numbers → HeadRow → Chunk → List (Bool × Refusal)
-append_tests n row chunk =
+-- the tests of a PATCH of a visible upload with this row, on this account, in their order
+abbrev pub append_tests : Numbers → Account → HeadRow → Chunk → List (Bool × Refusal)
+append_tests n account row chunk =
+    let after = account_with account (blocks_added n row.offset (length chunk.bytes)) in
     (is_final row.kind, IsFinal)
     ∷ (not chunk.typed, Media)
     ∷ (not (chunk.offset == row.offset), Offset)
     ∷ (differ row.declared chunk.length, LengthFixed)
     ∷ (is_too_long n (unwrap_or (or_else row.declared chunk.length) n.max_size) (row.offset + length chunk.bytes), TooLong)
+    ∷ (nat_lt n.last_total after.charged, Spent)
+    ∷ (nat_lt after.quota after.charge, Quota)
     ∷ []
 
 -- why a PATCH of a visible upload is refused, if it is
-abbrev pub append_refusal : Numbers → HeadRow → Chunk → Option Refusal
-append_refusal n row chunk = first_that_holds (append_tests n row chunk)
+abbrev pub append_refusal : Numbers → Account → HeadRow → Chunk → Option Refusal
+append_refusal n account row chunk = first_that_holds (append_tests n account row chunk)
 
 -- the row of an upload with the bytes at its end; a length that was not known becomes the one told
 abbrev pub row_with : Numbers → HeadRow → Chunk → ℕ → HeadRow
@@ -59,9 +63,11 @@ row_with n row chunk now =
       expires = renewed row.kind (is_reached declared offset) row.expires (lifetime_end n now);
     }
 
--- the row of an upload after a PATCH, or why it is refused
-abbrev pub appended_row : Numbers → HeadRow → Chunk → ℕ → Result HeadRow Refusal
-appended_row n row chunk now = unless (append_refusal n row chunk) (row_with n row chunk now)
+-- the row of an upload and the account of its tenant after a PATCH, or why it is refused
+abbrev pub appended_row : Numbers → Account → HeadRow → Chunk → ℕ → Result (HeadRow × Account) Refusal
+appended_row n account row chunk now =
+    unless (append_refusal n account row chunk)
+    (row_with n row chunk now, account_with account (blocks_added n row.offset (length chunk.bytes)))
 
 -- the upload with the bytes at its end, and for the rest as its row says
 abbrev pub upload_with : Numbers → Upload → Chunk → ℕ → Upload
@@ -74,19 +80,20 @@ upload_with n u chunk now =
     }
 
 -- the upload after a PATCH of it, or why it is refused
-abbrev pub appended_upload : Numbers → Upload → Chunk → ℕ → Result Upload Refusal
-appended_upload n u chunk now = unless (append_refusal n (head_row_of u) chunk) (upload_with n u chunk now)
+abbrev pub appended_upload : Numbers → Account → Upload → Chunk → ℕ → Result Upload Refusal
+appended_upload n account u chunk now =
+    unless (append_refusal n account (head_row_of u) chunk) (upload_with n u chunk now)
 
 -- a refusal tells when the upload expires
 abbrev pub telling : Option ℕ → Result Upload Refusal → Result Upload Refused
 telling expires (Ok u) = Ok u
 telling expires (Err refusal) = Err (record { refusal = refusal; expires = expires })
 
--- the upload of an id after a PATCH, or why it is refused
-abbrev pub appended : ℕ → Chunk → ℕ → Numbers → TenantBook → Result Upload Refused
-appended id chunk now n part = appended_where (visible_upload part id now) where
+-- the upload of an id after a PATCH, or why it is refused, where so many blocks were charged so far
+abbrev pub appended : ℕ → Chunk → ℕ → ℕ → Numbers → TenantBook → Result Upload Refused
+appended id chunk now charged n part = appended_where (visible_upload part id now) where
   appended_where : Result Upload Refusal → Result Upload Refused
-  appended_where (Ok u) = telling u.expires (appended_upload n u chunk now)
+  appended_where (Ok u) = telling u.expires (appended_upload n (account_in n part charged) u chunk now)
   appended_where (Err refusal) = Err (record { refusal = refusal; expires = None })
 
 -- what is told of it
@@ -95,8 +102,8 @@ told (Ok u) = Ok (record { offset = (head_row_of u).offset; expires = u.expires 
 told (Err refused) = Err refused
 
 -- the answer to a PATCH
-abbrev pub append_answer : ℕ → Chunk → ℕ → Numbers → TenantBook → Result Appended Refused
-append_answer id chunk now n part = told (appended id chunk now n part)
+abbrev pub append_answer : ℕ → Chunk → ℕ → ℕ → Numbers → TenantBook → Result Appended Refused
+append_answer id chunk now charged n part = told (appended id chunk now charged n part)
 
 -- the part with this upload under the id, if there is one
 abbrev pub with_appended : TenantBook → ℕ → Result Upload Refused → TenantBook
@@ -104,8 +111,8 @@ with_appended part id (Ok u) = with_changed part id u
 with_appended part id (Err refused) = part
 
 -- the part after a PATCH; one that is refused leaves it as it was
-abbrev pub part_after_append : ℕ → Chunk → ℕ → Numbers → TenantBook → TenantBook
-part_after_append id chunk now n part = with_appended part id (appended id chunk now n part)
+abbrev pub part_after_append : ℕ → Chunk → ℕ → ℕ → Numbers → TenantBook → TenantBook
+part_after_append id chunk now charged n part = with_appended part id (appended id chunk now charged n part)
 
 -- when the visible upload of an id expires, if there is one and it does
 abbrev pub expiry_told : ℕ → ℕ → TenantBook → Option ℕ

@@ -1,5 +1,6 @@
 -- What every book that steps reach keeps.
 use Rattle.std.specs.Prelude.{◌≡◌, ℕ, ◌+◌, ◌<◌, ◌≤◌, ◌↔◌, Bool, true, List, [], length, map, zip, Some, None, IfSome, IsSome, IsTrue, All, codes}
+use Rattle.std.specs.List.{sum_by}
 use Rattle.std.specs.List.Sorted.{IsStrictlyIncreasing}
 use Rattle.tus_text.specs.Concat.{concat_of}
 use Rattle.tus_text.specs.Metadata.{is_metadata}
@@ -9,6 +10,7 @@ use Rattle.upload_book.specs.declared.head_row.Kind.{Kind}
 use Rattle.upload_book.specs.declared.head_row.Kind.TheVariants.{Plain, Partial, Final}
 use Rattle.upload_book.specs.declared.settings.Numbers.{Numbers}
 use Rattle.upload_book.specs.declared.settings.TenantQuota.{TenantQuota}
+use Rattle.upload_book.specs.Charge.{charge_in}
 use Rattle.upload_book.specs.Settings.{settings_fault}
 use Rattle.upload_book.specs.Upload.{Upload, content_of, offset_of, IsComplete}
 use Rattle.upload_book.specs.TenantBook.{TenantBook, kept_in}
@@ -71,8 +73,12 @@ pub record IsTenantOf (n : Numbers) (part : TenantBook) : Type 0 where
   pub given : All (λ e. IsGivenIn part e.id) part.uploads
   pub uploads : All (λ e. IsUploadOf n part e.kept) part.uploads
 
--- the settings have no fault, and each tenant of theirs has a part with its quota that is as it should be
+-- The settings have no fault, and each tenant of theirs has a part with its quota that is as it should be. No
+-- tenant pays more than its quota; what was charged and not released is what they pay, and is within its bound.
 pub record IsLawful (b : PlainBook) : Type 0 where
   pub settings : settings_fault b.settings ≡ None
   pub quotas : map {A = TenantBook} {B = ℕ} (λ part. part.quota) b.tenants ≡ map {A = TenantQuota} {B = ℕ} (λ t. t.quota) b.settings.tenants
   pub tenants : All (IsTenantOf b.settings.numbers) b.tenants
+  pub charges : All (λ part. charge_in b.settings.numbers part ≤ part.quota) b.tenants
+  pub totals : b.charged ≡ b.released + sum_by (charge_in b.settings.numbers) b.tenants
+  pub last : b.charged ≤ b.settings.numbers.last_total

@@ -1,18 +1,21 @@
 -- Laws above the steps.
-use Rattle.std.specs.Prelude.{◌≡◌, ℕ, ◌+◌, true, List, [], ◌∷◌, ◌++◌, length, codes, IsOk}
+use Rattle.std.specs.Prelude.{◌≡◌, ℕ, ◌+◌, ◌-◌, true, List, [], ◌∷◌, ◌++◌, length, codes, IsOk, Option, Some, None, Result, Ok, Err}
 use Rattle.upload_book.specs.Chunk.{Chunk}
 use Rattle.upload_book.specs.NewUpload.{NewUpload}
 use Rattle.upload_book.specs.declared.head_row.HeadRow.{HeadRow}
 use Rattle.upload_book.specs.declared.settings.Numbers.{Numbers}
-use Rattle.upload_book.specs.Append.{append_tests, append_answer, appended_row, appended_upload, part_after_append}
+use Rattle.upload_book.specs.Account.{Account, account_in, account_with, blocks_added}
+use Rattle.upload_book.specs.Append.{append_tests, append_answer, append_refusal, appended_row, appended_upload, part_after_append, upload_with}
+use Rattle.upload_book.specs.Charge.{charge_in}
 use Rattle.upload_book.specs.Content.{content_tests}
 use Rattle.upload_book.specs.Create.{creation_tests}
 use Rattle.upload_book.specs.Lawful.{IsTenantOf}
 use Rattle.upload_book.specs.Look.{row_of}
 use Rattle.upload_book.specs.Order.{order, stand_in}
 use Rattle.upload_book.specs.Refusal.{words_of}
-use Rattle.upload_book.specs.TenantBook.{TenantBook}
-use Rattle.upload_book.specs.Upload.{Upload, head_row_of}
+use Rattle.upload_book.specs.TenantBook.{TenantBook, kept_in, with_changed}
+use Rattle.upload_book.specs.declared.refusal.Refusal.{Refusal}
+use Rattle.upload_book.specs.Upload.{Upload, head_row_of, offset_of}
 
 -- what is asked of every upload before its own tests
 abbrev pub visible_words : List (List ℕ)
@@ -25,14 +28,34 @@ memory_word = codes "memory" ∷ []
 -- the tests of a creation, of a PATCH and of a GET follow the order of refusals
 pub record FollowOrder : Type 0 where
   pub creation : (n : Numbers) (part : TenantBook) (new : NewUpload) → stand_in (words_of (creation_tests n part new)) order ≡ true
-  pub append : (n : Numbers) (row : HeadRow) (chunk : Chunk) → stand_in (visible_words ++ words_of (append_tests n row chunk) ++ memory_word) order ≡ true
+  pub append : (n : Numbers) (account : Account) (row : HeadRow) (chunk : Chunk) → stand_in (visible_words ++ words_of (append_tests n account row chunk) ++ memory_word) order ≡ true
   pub content : (u : Upload) → stand_in (visible_words ++ words_of (content_tests u) ++ memory_word) order ≡ true
 
--- What a HEAD tells of an upload after a PATCH is the row of the upload before, with the chunk: so a PATCH can
--- be followed by its rows alone.
+-- the row of the two
+abbrev pub row_in : Result (HeadRow × Account) Refusal → Result HeadRow Refusal
+row_in (Ok both) = Ok both.0
+row_in (Err refusal) = Err refusal
+
+-- What a HEAD tells of an upload after a PATCH is the row of the upload before, with the chunk, on the tenant's
+-- account.
 abbrev pub RowsFollow : Type 0
 RowsFollow =
-    (n : Numbers) (u : Upload) (chunk : Chunk) (now : ℕ) → row_of (appended_upload n u chunk now) ≡ appended_row n (head_row_of u) chunk now
+    (n : Numbers) (account : Account) (u : Upload) (chunk : Chunk) (now : ℕ)
+    → row_of (appended_upload n account u chunk now) ≡ row_in (appended_row n account (head_row_of u) chunk now)
+
+-- what was charged so far, after a part changed into another
+abbrev pub charged_after : Numbers → ℕ → TenantBook → TenantBook → ℕ
+charged_after n charged before after = charged + (charge_in n after - charge_in n before)
+
+-- A PATCH that is not refused adds to the tenant's account the blocks that its bytes take after the offset of the
+-- upload before. So a PATCH can be followed by its row and its account alone.
+abbrev pub AccountsFollow : Type 0
+AccountsFollow =
+    (n : Numbers) (part : TenantBook) (id charged : ℕ) (u : Upload) (chunk : Chunk) (now : ℕ) → IsTenantOf n part → kept_in part.uploads id ≡ Some u
+    → append_refusal n (account_in n part charged) (head_row_of u) chunk ≡ None
+    → let after = with_changed part id (upload_with n u chunk now) in
+    account_in n after (charged_after n charged part after)
+    ≡ account_with (account_in n part charged) (blocks_added n (offset_of u) (length chunk.bytes))
 
 -- the PATCH of the first of its bytes
 abbrev pub first_part : Chunk → List ℕ → Chunk
@@ -46,9 +69,10 @@ later_part chunk first later = record chunk { offset = chunk.offset + length fir
 -- moment both are accepted, the last answer is the one to the whole, and so is the tenant's part after it.
 abbrev pub ResumedPatch : Type 0
 ResumedPatch =
-    (n : Numbers) (part : TenantBook) (id : ℕ) (chunk : Chunk) (first later : List ℕ) (now : ℕ) → IsTenantOf n part → chunk.bytes ≡ first ++ later
-    → IsOk (append_answer id chunk now n part)
-    → let middle = part_after_append id (first_part chunk first) now n part in
-    IsOk (append_answer id (first_part chunk first) now n part)
-    × (append_answer id (later_part chunk first later) now n middle ≡ append_answer id chunk now n part)
-    × (part_after_append id (later_part chunk first later) now n middle ≡ part_after_append id chunk now n part)
+    (n : Numbers) (part : TenantBook) (id charged : ℕ) (chunk : Chunk) (first later : List ℕ) (now : ℕ) → IsTenantOf n part → chunk.bytes ≡ first ++ later
+    → IsOk (append_answer id chunk now charged n part)
+    → let middle = part_after_append id (first_part chunk first) now charged n part in
+    let more = charged_after n charged part middle in
+    IsOk (append_answer id (first_part chunk first) now charged n part)
+    × (append_answer id (later_part chunk first later) now more n middle ≡ append_answer id chunk now charged n part)
+    × (part_after_append id (later_part chunk first later) now more n middle ≡ part_after_append id chunk now charged n part)

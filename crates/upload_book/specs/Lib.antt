@@ -18,3 +18,6 @@ pub mod Laws
 pub mod Kept
 pub mod Book
 pub mod Charge
+pub mod Account
+pub mod Terminate
+pub mod Sweep

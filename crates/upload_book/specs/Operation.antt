@@ -2,10 +2,11 @@
 use Rattle.std.specs.Prelude.{◌≢◌, ℕ, [], IsOk}
 use Rattle.std.specs.Result.{IsOkAnd}
 use Rattle.upload_book.specs.declared.operation.Operation.{Operation}
-use Rattle.upload_book.specs.declared.operation.Operation.TheVariants.{Create, Look, Content, Append}
+use Rattle.upload_book.specs.declared.operation.Operation.TheVariants.{Create, Look, Content, Append, Terminate}
 use Rattle.upload_book.specs.Append.{append_answer, part_after_append}
 use Rattle.upload_book.specs.Content.{content_answer}
 use Rattle.upload_book.specs.Create.{part_after_create}
+use Rattle.upload_book.specs.Terminate.{part_after_terminate}
 use Rattle.upload_book.specs.PlainBook.{PlainBook, answer_of, book_after}
 
 -- the book after an operation at a moment: a HEAD and a GET leave it
@@ -13,7 +14,8 @@ abbrev pub book_after_operation : PlainBook → Operation → ℕ → PlainBook
 book_after_operation b (Create tenant new) now = book_after b tenant (part_after_create new now)
 book_after_operation b (Look name) now = b
 book_after_operation b (Content name) now = b
-book_after_operation b (Append name chunk) now = book_after b name.tenant (part_after_append name.id chunk now)
+book_after_operation b (Append name chunk) now = book_after b name.tenant (part_after_append name.id chunk now b.charged)
+book_after_operation b (Terminate name) now = book_after b name.tenant (part_after_terminate name.id now)
 
 -- The operation may lack memory: it is a GET or a PATCH of one byte or more, and is not refused. Where it
 -- does, its answer is the refusal Memory, and the book stays as it was.
@@ -22,4 +24,5 @@ MayLackMemory b (Create tenant new) now = ⊥
 MayLackMemory b (Look name) now = ⊥
 MayLackMemory b (Content name) now = IsOkAnd (answer_of b name.tenant (content_answer name.id now)) (λ bytes. bytes ≢ [])
 MayLackMemory b (Append name chunk) now =
-    IsOk (answer_of b name.tenant (append_answer name.id chunk now)) × (chunk.bytes ≢ [])
+    IsOk (answer_of b name.tenant (append_answer name.id chunk now b.charged)) × (chunk.bytes ≢ [])
+MayLackMemory b (Terminate name) now = ⊥

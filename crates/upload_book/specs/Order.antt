@@ -29,7 +29,9 @@ order =
     ∷ codes "too-long"  -- a length above the greatest size, or bytes past the upload's length
     ∷ codes "unfinished"  -- a GET of an upload that does not have all of its bytes
     ∷ codes "uploads"  -- the tenant has as many uploads as the book keeps for one
-    ∷ codes "spent"  -- the tenant's ids are used up
+    ∷ codes "spent"  -- the tenant's ids are used up, or the blocks that all tenants may be charged in all
+    ∷ codes "quota"  -- the tenant would pay for more blocks than its quota
+    ∷ codes "pool"  -- no block is free; never answered, since within the quotas there is one
     ∷ codes "memory"  -- the bytes of a PATCH or of a GET find no memory
     ∷ []
 

@@ -1,7 +1,7 @@
 -- The refusals of the steps: their words and statuses, and the first of several tests that applies.
 use Rattle.std.specs.Prelude.{◌≡◌, ◌⊎◌, ℕ, Bool, List, [], ◌∷◌, Option, Some, None, Result, Ok, Err, codes, if◌then◌else◌}
 use Rattle.upload_book.specs.declared.refusal.Refusal.{Refusal}
-use Rattle.upload_book.specs.declared.refusal.Refusal.TheVariants.{Version, Path, Tenant, Method, Field, Unknown, Gone, IsFinal, Media, Offset, LengthFixed, TooLong, Unfinished, Uploads, Spent, Memory}
+use Rattle.upload_book.specs.declared.refusal.Refusal.TheVariants.{Version, Path, Tenant, Method, Field, Unknown, Gone, IsFinal, Media, Offset, LengthFixed, TooLong, Unfinished, Uploads, Spent, Quota, Pool, Memory}
 
 -- the word that names it, which is the body of its reply
 abbrev pub word_of : Refusal → List ℕ
@@ -20,6 +20,8 @@ word_of TooLong = codes "too-long"
 word_of Unfinished = codes "unfinished"
 word_of Uploads = codes "uploads"
 word_of Spent = codes "spent"
+word_of Quota = codes "quota"
+word_of Pool = codes "pool"
 word_of Memory = codes "memory"
 
 -- the status of its reply: those of RFC 9110, section 15, and 507 of RFC 4918, section 11.5; 412 for
@@ -41,6 +43,8 @@ status_of TooLong = 413
 status_of Unfinished = 409
 status_of Uploads = 507
 status_of Spent = 507
+status_of Quota = 507
+status_of Pool = 507
 status_of Memory = 503
 
 -- the reason of the first test that holds, if one does

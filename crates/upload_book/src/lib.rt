@@ -16,7 +16,9 @@ mod refusal;
 mod settings;
 mod settings_fault;
 mod stored_upload;
+mod sweep;
 mod tenant_book;
+mod terminate;
 #[cfg(test)]
 mod tests;
 
@@ -30,3 +32,5 @@ pub use operation::Operation;
 pub use refusal::Refusal;
 pub use settings::{Numbers, Settings, TenantQuota};
 pub use settings_fault::SettingsFault;
+pub use sweep::Swept;
+pub use terminate::Removed;

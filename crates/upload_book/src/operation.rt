@@ -13,4 +13,6 @@ pub enum Operation<'a> {
     Content(Name),
     /// A PATCH.
     Append { name: Name, chunk: Chunk<'a> },
+    /// A DELETE.
+    Terminate(Name),
 }

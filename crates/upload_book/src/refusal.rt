@@ -37,8 +37,12 @@ pub enum Refusal {
     Unfinished,
     /// The tenant has as many uploads as the book keeps for one.
     Uploads,
-    /// The tenant's ids are used up.
+    /// The tenant's ids are used up, or the blocks that all tenants may be charged in all.
     Spent,
+    /// The tenant would pay for more blocks than its quota.
+    Quota,
+    /// No block is free. It is never answered: while every tenant is within its quota, there is one.
+    Pool,
     /// A growth was refused: out of memory.
     Memory,
 }
@@ -80,6 +84,8 @@ impl Refusal {
             Refusal::Unfinished => ("unfinished", 409),
             Refusal::Uploads => ("uploads", 507),
             Refusal::Spent => ("spent", 507),
+            Refusal::Quota => ("quota", 507),
+            Refusal::Pool => ("pool", 507),
             Refusal::Memory => ("memory", 503),
         }
     }
