@@ -4,16 +4,16 @@ use Rattle.std.specs.List.{position}
 use Rattle.std.proofs.lemmas.Bool.Decides.{nat_tests}
 use Rattle.std.proofs.lemmas.List.{get_or_default}
 use Rattle.std.proofs.lemmas.List.Quantifiers.{position-Some}
-use Rattle.upload_book.specs.declared.head_row.Kind.TheVariants.{Plain}
 use Rattle.upload_book.specs.declared.refusal.Refusal.TheVariants.{Gone}
 use Rattle.upload_book.specs.Expiry.{is_over}
 use Rattle.upload_book.specs.Kept.{IsVisibleAt}
-use Rattle.upload_book.specs.TenantBook.{Entry, TenantBook, visible_upload}
-use Rattle.upload_book.specs.Upload.{Upload}
+use Rattle.upload_book.specs.TenantBook.{Entry, visible_in}
+use Rattle.upload_book.specs.Store.{no_upload}
+use Rattle.upload_book.specs.Stored.{Shelf, StoredUpload}
 use Rattle.upload_book.proofs.Entries.{has_id, visible_in-given}
 
 -- an upload that is not over is visible at its place
-pub IsVisibleAt-found : (part : TenantBook) (id now place : ℕ) (e : Entry Upload) → 0 < id → id < part.next → position (has_id id) part.uploads ≡ Some place → e ≡ get_or part.uploads place e → is_over now e.kept.expires ≡ false → IsVisibleAt part id now place
+pub IsVisibleAt-found : (part : Shelf) (id now place : ℕ) (e : Entry StoredUpload) → 0 < id → id < part.next → position (has_id id) part.uploads ≡ Some place → e ≡ get_or part.uploads place e → is_over now e.kept.expires ≡ false → IsVisibleAt part id now place
 IsVisibleAt-found part id now place e some given is read stays =
     let found = position-Some (has_id id) part.uploads place in
     record {
@@ -25,14 +25,10 @@ IsVisibleAt-found part id now place e some given is read stays =
     }
 
 -- one that is over is gone
-pub visible-over : (part : TenantBook) (id now place : ℕ) (e : Entry Upload) → 0 < id → id < part.next → position (has_id id) part.uploads ≡ Some place → e ≡ get_or part.uploads place e → is_over now e.kept.expires ≡ true → visible_upload part id now ≡ Err Gone
+pub visible-over : (part : Shelf) (id now place : ℕ) (e : Entry StoredUpload) → 0 < id → id < part.next → position (has_id id) part.uploads ≡ Some place → e ≡ get_or part.uploads place e → is_over now e.kept.expires ≡ true → visible_in (λ u. u.expires) part id now ≡ Err Gone
 visible-over part id now place e some given is read over =
     visible_in-given (λ u. u.expires) part id now e (Some place) some given is ∙ rw (← read) (rw over refl)
 
--- an entry that stands where there is none
-some_entry : Entry Upload
-some_entry = record { id = 0; kept = record { kind = Plain; parts = []; declared = None; segments = []; metadata = []; concat = []; expires = None } }
-
 -- one that has ended is gone
-pub visible-ended : (part : TenantBook) (id now : ℕ) → 0 < id → id < part.next → position (has_id id) part.uploads ≡ None → visible_upload part id now ≡ Err Gone
-visible-ended part id now some given is = visible_in-given (λ u. u.expires) part id now some_entry None some given is
+pub visible-ended : (part : Shelf) (id now : ℕ) → 0 < id → id < part.next → position (has_id id) part.uploads ≡ None → visible_in (λ u. u.expires) part id now ≡ Err Gone
+visible-ended part id now some given is = visible_in-given (λ u. u.expires) part id now no_upload None some given is

@@ -1,6 +1,31 @@
 -- What the value of a book stands for.
+use Rattle.std.specs.Prelude.{◌≡◌, ℕ}
+use Rattle.block_pool.specs.Blocks.{size_of}
+use Rattle.upload_book.specs.Lawful.{IsLawful}
 use Rattle.upload_book.specs.PlainBook.{PlainBook}
+use Rattle.upload_book.specs.Settings.{Settings}
+use Rattle.upload_book.specs.Store.{Store, plain_in}
 
--- the plain book that a book stands for; today its value is that
-abbrev pub plain_of : PlainBook → PlainBook
-plain_of b = b
+-- the settings, the uploads in blocks, and how many blocks were charged and released so far
+pub record StoredBook : Type 0 where
+  pub settings : Settings
+  pub store : Store
+  pub charged : ℕ
+  pub released : ℕ
+
+-- the plain book that a book stands for: its uploads' bytes are read through their blocks
+abbrev pub plain_of : StoredBook → PlainBook
+plain_of b = record {
+  settings = b.settings;
+  tenants = plain_in b.store;
+  charged = b.charged;
+  released = b.released;
+}
+
+-- What every book keeps: it stands for a lawful plain book, over a pool of the settings, with room for as many
+-- uploads of each tenant as the settings allow.
+pub record IsBook (b : StoredBook) : Type 0 where
+  pub lawful : IsLawful (plain_of b)
+  pub size : b.store.pool.block_size ≡ b.settings.numbers.block_size
+  pub blocks : size_of b.store.pool ≡ b.settings.numbers.blocks
+  pub room : b.store.room ≡ b.settings.numbers.uploads

@@ -41,6 +41,10 @@ sources_of e =
     map {A = ℕ × List ℕ} {B = Source} (λ p. record { origin = p.0; len = length p.1 })
     (zip (origins e.kept.kind e.id e.kept.parts) e.kept.segments)
 
--- what a tenant pays, in blocks, for all of its uploads, expired ones included
+-- what a tenant pays, in blocks of a size, for all of its uploads, expired ones included
+abbrev pub charge_with : ℕ → TenantBook → ℕ
+charge_with size part = charge_of size part.next (flat_map sources_of part.uploads)
+
+-- the same by the settings' numbers
 abbrev pub charge_in : Numbers → TenantBook → ℕ
-charge_in n part = charge_of n.block_size part.next (flat_map sources_of part.uploads)
+charge_in n part = charge_with n.block_size part

@@ -1,30 +1,34 @@
--- How a book keeps the plain book.
-use Rattle.std.specs.Prelude.{◌≡◌, ◌≤◌, ◌<◌, ℕ, length, map, vec_capacity, Ok, All, slice_index_or}
-use Rattle.upload_book.specs.declared.book.Book.TheInside.{Inside}
-use Rattle.upload_book.specs.declared.tenant_book.TenantBook.{TenantBook as KeptTenant}
-use Rattle.upload_book.specs.Lawful.{IsLawful}
-use Rattle.upload_book.specs.PlainBook.{PlainBook}
-use Rattle.upload_book.specs.TenantBook.{TenantBook, Entry, visible_upload}
-use Rattle.upload_book.specs.Upload.{Upload}
+-- How a store keeps the uploads of all tenants.
+use Rattle.std.specs.Prelude.{◌≡◌, ◌≤◌, ◌<◌, ℕ, length, map, vec_capacity, All, Ok, slice_index_or}
+use Rattle.upload_book.specs.declared.shelf.Shelf.{Shelf as KeptShelf}
+use Rattle.upload_book.specs.declared.store.Store.TheInside.{Inside}
+use Rattle.upload_book.specs.Store.{Store}
+use Rattle.upload_book.specs.Stored.{Shelf, StoredUpload, IsStored, HasOwnPiece, ReadsWhole, pieces_of, charge_on}
+use Rattle.upload_book.specs.TenantBook.{TenantPart, Entry, visible_in}
 
 -- the tenant's part that is kept so
-abbrev pub part_of : KeptTenant → TenantBook
-part_of t = record { quota = t.quota; next = t.next; uploads = t.uploads.items }
+abbrev pub shelf_of : KeptShelf → Shelf
+shelf_of t = record { quota = t.quota; next = t.next; uploads = t.uploads.items }
 
--- the plain book that is kept so
-abbrev pub book_of : Inside → PlainBook
-book_of b = record {
-  settings = b.settings;
-  tenants = map {A = KeptTenant} {B = TenantBook} part_of b.tenants.items;
+-- the store that is kept so
+abbrev pub store_of : Inside → Store
+store_of s = record {
+  pool = s.pool;
+  shelves = map {A = KeptShelf} {B = Shelf} shelf_of s.shelves.items;
+  room = s.room;
 }
 
--- the plain book is lawful, and each tenant has room for the greatest number of uploads
-pub record IsKept (b : Inside) : Type 0 where
-  pub lawful : IsLawful (book_of b)
-  pub room : All (λ (t : KeptTenant). b.settings.numbers.uploads ≤ vec_capacity t.uploads) b.tenants.items
+-- The blocks are kept as they should be, an upload that is not final has its own piece, each part knows what its
+-- tenant pays and has room for as many uploads as it may have.
+pub record IsKept (s : Inside) : Type 0 where
+  pub stored : IsStored s.pool (store_of s).shelves
+  pub own : All (λ (shelf : Shelf). All HasOwnPiece shelf.uploads) (store_of s).shelves
+  pub reads : All (λ (shelf : Shelf). ReadsWhole s.pool (pieces_of shelf)) (store_of s).shelves
+  pub charges : All (λ (t : KeptShelf). t.charge ≡ charge_on s.pool.block_size (shelf_of t)) s.shelves.items
+  pub room : All (λ (t : KeptShelf). s.room ≤ vec_capacity t.uploads) s.shelves.items
 
 -- a request for the id sees, at this moment, the upload at this place
-pub record IsVisibleAt (part : TenantBook) (id now place : ℕ) : Type 0 where
-  pub there : place < length part.uploads
-  pub named : (d : Entry Upload) → (slice_index_or part.uploads place d).id ≡ id
-  pub visible : (d : Entry Upload) → visible_upload part id now ≡ Ok (slice_index_or part.uploads place d).kept
+pub record IsVisibleAt (shelf : Shelf) (id now place : ℕ) : Type 0 where
+  pub there : place < length shelf.uploads
+  pub named : (d : Entry StoredUpload) → (slice_index_or shelf.uploads place d).id ≡ id
+  pub visible : (d : Entry StoredUpload) → visible_in (λ u. u.expires) shelf id now ≡ Ok (slice_index_or shelf.uploads place d).kept

@@ -4,7 +4,8 @@ use Rattle.upload_book.specs.Chunk.{Chunk}
 use Rattle.upload_book.specs.NewUpload.{NewUpload}
 use Rattle.upload_book.specs.declared.head_row.HeadRow.{HeadRow}
 use Rattle.upload_book.specs.declared.settings.Numbers.{Numbers}
-use Rattle.upload_book.specs.Account.{Account, account_in, account_with, blocks_added}
+use Rattle.upload_book.specs.declared.account.Account.{Account}
+use Rattle.upload_book.specs.Account.{account_in, account_with, blocks_added}
 use Rattle.upload_book.specs.Append.{append_tests, append_answer, append_refusal, appended_row, appended_upload, part_after_append, upload_with}
 use Rattle.upload_book.specs.Charge.{charge_in}
 use Rattle.upload_book.specs.Content.{content_tests}

@@ -3,6 +3,8 @@ pub mod Refusal
 pub mod Settings
 pub mod Expiry
 pub mod Upload
+pub mod Standing
+pub mod Store
 pub mod Stored
 pub mod TenantBook
 pub mod PlainBook

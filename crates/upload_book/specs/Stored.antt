@@ -3,9 +3,9 @@ use Rattle.std.specs.Prelude.{◌≡◌, ◌≢◌, ℕ, ◌<◌, ◌≤◌, ◌
 use Rattle.std.specs.List.{sum_by}
 use Rattle.block_pool.specs.Blocks.{Blocks, count_at, places_of}
 use Rattle.block_bodies.specs.Bodies.{Chain, StandsOnce, blocks_for, content_of}
+use Rattle.upload_book.specs.Charge.{Source, charge_of}
 use Rattle.upload_book.specs.declared.head_row.Kind.{Kind}
 use Rattle.upload_book.specs.declared.head_row.Kind.TheVariants.{Plain, Partial, Final}
-use Rattle.upload_book.specs.Settings.{Settings}
 use Rattle.upload_book.specs.TenantBook.{TenantBook, TenantPart, Entry}
 use Rattle.upload_book.specs.Upload.{Upload}
 
@@ -26,14 +26,6 @@ pub record StoredUpload : Type 0 where
 -- a tenant's part as it is kept
 abbrev pub Shelf : Type 0
 Shelf = TenantPart StoredUpload
-
--- one pool, with the tenants' parts in the order of the settings, and what was charged and released so far
-pub record StoredBook : Type 0 where
-  pub settings : Settings
-  pub pool : Blocks
-  pub shelves : List Shelf
-  pub charged : ℕ
-  pub released : ℕ
 
 -- the ids of an upload's parts, which only a final one has
 abbrev pub parts_of : Kind → List ℕ → List ℕ
@@ -77,6 +69,12 @@ placed_in pieces = flat_map (λ (x : Piece). x.chain.blocks) pieces
 abbrev pub places_on : ℕ → Shelf → ℕ
 places_on b shelf = places_of b (placed_in (pieces_of shelf))
 
+-- what a tenant pays, in blocks of a size, by how its pieces are kept
+abbrev pub charge_on : ℕ → Shelf → ℕ
+charge_on size shelf =
+    charge_of size shelf.next
+    (map {A = Piece} {B = Source} (λ x. record { origin = x.origin; len = x.chain.len }) (pieces_of shelf))
+
 -- some, or none
 abbrev pub some_of : ℕ → ℕ
 some_of n = if n == 0 then 0 else 1
@@ -113,3 +111,7 @@ own_chain (x ∷ pieces) = x.chain
 -- an upload that is not final has one piece, whose bytes were sent to it
 abbrev pub HasOwnPiece : Entry StoredUpload → Type 0
 HasOwnPiece e = e.kept.kind ≢ Final → e.kept.pieces ≡ record { origin = e.id; chain = own_chain e.kept.pieces } ∷ []
+
+-- each piece reads as as many bytes as it has
+abbrev pub ReadsWhole : Blocks → List Piece → Type 0
+ReadsWhole p pieces = (x : Piece) → Contains pieces x → length (content_of p x.chain) ≡ x.chain.len

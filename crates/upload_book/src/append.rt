@@ -1,15 +1,19 @@
-ghost use Rattle.std.specs.Prelude.{◌≡◌, OnOk, OnErr};
-ghost use Rattle.upload_book.specs.Append.{append_answer, append_lacking, part_after_append};
+ghost use Rattle.std.specs.Prelude.{◌≡◌, ◌<◌, ℕ, Err, IsOk, OnOk, OnErr, length};
+ghost use Rattle.upload_book.specs.Account.{account_in, blocks_added};
+ghost use Rattle.upload_book.specs.Append.{append_answer, append_lacking, appended_upload, part_after_append, telling, told, upload_with};
 ghost use Rattle.upload_book.specs.Book.{plain_of};
 ghost use Rattle.upload_book.specs.Operation.{MayLackMemory};
 ghost use Rattle.upload_book.specs.declared.operation.Operation.TheVariants as operation;
-ghost use Rattle.upload_book.specs.PlainBook.{answer_of, book_after};
+ghost use Rattle.upload_book.specs.PlainBook.{answer_of, book_after, tenant_book};
+ghost use Rattle.upload_book.specs.Store.{entry_at, upload_at, IsVisibleIn};
+ghost use Rattle.upload_book.specs.TenantBook.{with_changed};
 ghost use Rattle.upload_book.specs.Refusal.{IsAnswer};
 
 use crate::book::Book;
 use crate::head_row::Name;
 use crate::moment::Moment;
 use crate::refusal::Refusal;
+use crate::standing::append_refusal;
 use std::marker::Model;
 
 /// The bytes of a PATCH, and what it says of them (tus 1.0.0, Core Protocol and Creation). A contract sees
@@ -72,15 +76,59 @@ impl Book {
             name.now.tenant (part_after_append name.now.id chunk.entry now)) }
         ensures refused { OnErr result (self.new ≡ self.old) }
     {
-        match self.place(name, now) {
-            Ok(place) => {
-                let part = &mut self.tenants[usize::from(name.tenant)];
-                let upload = &mut part.uploads[place];
-                upload.append(self.settings.numbers(), &chunk, now)
-            }
+        match self.store.place(name, now) {
+            Ok(place) => self.append_at(name.tenant, place, &chunk, now),
             Err(refusal) => Err(Refused {
                 refusal,
                 expires: None,
+            }),
+        }
+    }
+
+    // Adds the bytes of a PATCH at the end of the upload at a place.
+    fn append_at(
+        &mut self,
+        tenant: u8,
+        place: usize,
+        chunk: &Chunk,
+        now: Moment,
+    ) -> Result<Appended, Refused>
+        requires { (id : ℕ) × IsVisibleIn self.old.store tenant id now place }
+        ensures answer { IsAnswer
+            (told (telling (upload_at self.old.store tenant place).expires (appended_at self.old tenant place chunk.now now)))
+            (IsOk (appended_at self.old tenant place chunk.now now)
+            × (0 < blocks_added self.old.settings.numbers chunk.now.offset (length chunk.now.bytes)))
+            (Err (record {
+              refusal = Refusal.Memory;
+              expires = (upload_at self.old.store tenant place).expires;
+            })) result }
+        ensures accepted { OnOk result (plain_of self.new ≡ book_after (plain_of self.old) tenant (λ n part.
+            with_changed part (entry_at self.old.store tenant place).id
+            (upload_with n (upload_at self.old.store tenant place) chunk.now now))) }
+        ensures refused { OnErr result (self.new ≡ self.old) }
+    {
+        let at = usize::from(tenant);
+        let standing = self.store.standing(at, place);
+        let account = self.account(tenant);
+        let numbers = self.settings.numbers();
+        if let Some(refusal) = append_refusal(numbers, &account, &standing, chunk) {
+            return Err(Refused {
+                refusal,
+                expires: standing.expires,
+            });
+        }
+        let after = standing.with(numbers, chunk, now);
+        match self.store.append(at, place, chunk.bytes, after.declared, after.expires) {
+            Ok(taken) => {
+                self.charged += taken;
+                Ok(Appended {
+                    offset: after.offset,
+                    expires: after.expires,
+                })
+            }
+            Err(_) => Err(Refused {
+                refusal: Refusal::Memory,
+                expires: standing.expires,
             }),
         }
     }

@@ -1,52 +1,60 @@
-ghost use Rattle.std.specs.Prelude.{◌≡◌, IfOk};
+ghost use Rattle.std.specs.Prelude.{◌≡◌, ◌<◌, ◌+◌, length, IfOk};
+ghost use Rattle.std.specs.List.{sum_by};
+ghost use Rattle.upload_book.specs.Account.{account_in};
 ghost use Rattle.upload_book.specs.Book.{plain_of};
+ghost use Rattle.upload_book.specs.Charge.{charge_in};
 ghost use Rattle.upload_book.specs.Lawful.{IsLawful};
-ghost use Rattle.upload_book.specs.PlainBook.{opening_book};
+ghost use Rattle.upload_book.specs.PlainBook.{opening_book, tenant_book};
 
+use crate::account::Account;
 use crate::settings::Settings;
-use crate::tenant_book::TenantBook;
+use crate::store::Store;
 use std::alloc::{AllocError, Global};
 use std::marker::Model;
 
-/// The tenants and their uploads. A contract sees the plain book, in which an upload's bytes are a
-/// list.
+/// The tenants and their uploads, whose bytes lie in blocks of one pool. A contract sees the plain book
+/// that it stands for, in which an upload's bytes are a list.
 #[derive(Drop)]
 pub struct Book {
     pub(crate) settings: Settings,
-    pub(crate) tenants: Vec<TenantBook>,
+    pub(crate) store: Store,
+    pub(crate) charged: u64,
+    pub(crate) released: u64,
     pub(crate) alloc: Global,
 }
 
 impl Model for Book {
-    ghost use Rattle.upload_book.specs.PlainBook.{PlainBook};
+    ghost use Rattle.upload_book.specs.Book.{StoredBook, IsBook};
 
-    ghost Value = { PlainBook };
+    ghost Value = { StoredBook };
 
-    ghost use Rattle.upload_book.specs.Kept.{book_of, IsKept};
+    ghost view = { λ b. record {
+      settings = b.settings;
+      store = b.store;
+      charged = b.charged;
+      released = b.released;
+    } };
 
-    ghost view = { book_of };
-
-    ghost invariant = { IsKept };
+    ghost invariant = { λ b. IsBook (record {
+      settings = b.settings;
+      store = b.store;
+      charged = b.charged;
+      released = b.released;
+    }) };
 }
 
 impl Book {
-    /// The book with no upload. All its tables are reserved here; the error is that there was no memory
-    /// for them.
+    /// The book with no upload. All its tables and all its blocks are taken here; the error is that there
+    /// was too little memory for them.
     pub fn new(alloc: Global, settings: Settings) -> Result<Book, AllocError>
         ensures { IfOk result (λ b. plain_of b ≡ opening_book settings) }
     {
-        let room = settings.numbers().uploads as usize;
-        let mut tenants = Vec::with_capacity(alloc, settings.tenant_count())?;
-        for place in 0..settings.tenant_count() {
-            tenants.push_reserved(TenantBook {
-                quota: settings.quota(place),
-                next: 1,
-                uploads: Vec::with_capacity(alloc, room)?,
-            });
-        }
+        let store = Store::new(alloc, &settings)?;
         Ok(Book {
             settings,
-            tenants,
+            store,
+            charged: 0,
+            released: 0,
             alloc,
         })
     }
@@ -57,5 +65,48 @@ impl Book {
         ensures lawful { IsLawful (plain_of self.now) }
     {
         &self.settings
+    }
+
+    /// How many blocks the tenant at this place pays for its uploads, expired ones included.
+    pub fn charge(&self, tenant: u8) -> u64
+        requires { tenant < length (plain_of self.now).settings.tenants }
+        ensures { result ≡ charge_in (plain_of self.now).settings.numbers (tenant_book (plain_of self.now) tenant) }
+    {
+        self.store.charge(usize::from(tenant))
+    }
+
+    /// How many blocks all tenants together were charged so far.
+    pub fn charged_total(&self) -> u64
+        ensures { result ≡ (plain_of self.now).charged }
+    {
+        self.charged
+    }
+
+    /// How many of them were released.
+    pub fn released_total(&self) -> u64
+        ensures { result ≡ (plain_of self.now).released }
+    {
+        self.released
+    }
+
+    /// How many blocks are free: all but those that the tenants pay.
+    pub fn free_blocks(&self) -> u64
+        ensures { result + sum_by (charge_in (plain_of self.now).settings.numbers) (plain_of self.now).tenants
+            ≡ (plain_of self.now).settings.numbers.blocks }
+    {
+        u64::from(self.store.free())
+    }
+
+    // The account of the tenant at this place.
+    pub(crate) fn account(&self, tenant: u8) -> Account
+        requires { tenant < length (plain_of self.now).tenants }
+        ensures { result ≡ account_in (plain_of self.now).settings.numbers
+            (tenant_book (plain_of self.now) tenant) (plain_of self.now).charged }
+    {
+        Account {
+            charge: self.charge(tenant),
+            quota: self.settings.quota(usize::from(tenant)),
+            charged: self.charged,
+        }
     }
 }

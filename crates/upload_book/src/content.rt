@@ -62,8 +62,14 @@ impl Book {
             (MayLackMemory (plain_of self.now) (operation.Content name.now) now)
             (Err Refusal.Memory) result }
     {
-        let place = self.place(name, now)?;
-        let part = &self.tenants[usize::from(name.tenant)];
-        part.uploads[place].content(self.alloc)
+        let place = self.store.place(name, now)?;
+        let tenant = usize::from(name.tenant);
+        if !self.store.standing(tenant, place).is_complete() {
+            return Err(Refusal::Unfinished);
+        }
+        match self.store.read(self.alloc, tenant, place) {
+            Ok(bytes) => Ok(Content::of(bytes)),
+            Err(_) => Err(Refusal::Memory),
+        }
     }
 }

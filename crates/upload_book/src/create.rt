@@ -1,17 +1,17 @@
 ghost use Rattle.std.specs.Prelude.{◌≡◌, ◌<◌, length, IsTrue};
 ghost use Rattle.upload_book.specs.Book.{plain_of};
 ghost use Rattle.upload_book.specs.Create.{new_kind, creation_refusal, create_answer, part_after_create};
-ghost use Rattle.upload_book.specs.Kept.{part_of};
 ghost use Rattle.upload_book.specs.Lawful.{IsConcatText, is_kept_metadata};
 ghost use Rattle.upload_book.specs.PlainBook.{answer_of, book_after};
+ghost use Rattle.upload_book.specs.Store.{part_at};
 
 use crate::book::Book;
 use crate::head_row::Name;
 use crate::moment::Moment;
 use crate::refusal::Refusal;
 use crate::settings::Numbers;
+use crate::store::Store;
 use crate::stored_upload::StoredUpload;
-use crate::tenant_book::TenantBook;
 use std::marker::Model;
 
 /// The upload that a creation asks for (tus 1.0.0, Creation and Concatenation). A contract sees its texts
@@ -64,15 +64,14 @@ impl Book {
             ≡ book_after (plain_of self.old) tenant (part_after_create new.entry now) }
     {
         let numbers = self.settings.numbers();
-        let part = &mut self.tenants[usize::from(tenant)];
-        if let Some(refusal) = creation_refusal(numbers, part, &new) {
+        let place = usize::from(tenant);
+        if let Some(refusal) = creation_refusal(numbers, &self.store, place, &new) {
             return Err(refusal);
         }
-        let id = part.next;
+        let id = self.store.next(place);
         let upload = StoredUpload::new(self.alloc, numbers, id, &new, now);
         let expires = upload.expires();
-        part.uploads.push_reserved(upload);
-        part.next += 1;
+        self.store.push(place, upload);
         Ok(Created {
             name: Name { tenant, id },
             expires,
@@ -80,15 +79,21 @@ impl Book {
     }
 }
 
-// Why the tenant's next creation is refused, if it is.
-fn creation_refusal(numbers: &Numbers, part: &TenantBook, new: &NewUpload) -> Option<Refusal>
-    ensures { result ≡ creation_refusal numbers.now (part_of part.now) new.now }
+// Why the next creation of the tenant at this place is refused, if it is.
+fn creation_refusal(
+    numbers: &Numbers,
+    store: &Store,
+    tenant: usize,
+    new: &NewUpload,
+) -> Option<Refusal>
+    requires { tenant < length store.now.shelves }
+    ensures { result ≡ creation_refusal numbers.now (part_at store.now tenant) new.now }
 {
     if new.length.is_some_and(|n| n > numbers.max_size) {
         Some(Refusal::TooLong)
-    } else if part.uploads.len() as u64 >= numbers.uploads {
+    } else if store.count(tenant) as u64 >= numbers.uploads {
         Some(Refusal::Uploads)
-    } else if part.next > numbers.last_id {
+    } else if store.next(tenant) > numbers.last_id {
         Some(Refusal::Spent)
     } else {
         None

@@ -2,6 +2,7 @@
 //! book of byte lists answers it.
 #![tactic(auto)]
 
+mod account;
 mod append;
 mod book;
 mod content;
@@ -15,9 +16,11 @@ mod operation;
 mod refusal;
 mod settings;
 mod settings_fault;
+mod shelf;
+mod standing;
+mod store;
 mod stored_upload;
 mod sweep;
-mod tenant_book;
 mod terminate;
 #[cfg(test)]
 mod tests;

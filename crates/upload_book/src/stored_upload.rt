@@ -1,33 +1,34 @@
-ghost use Rattle.std.specs.Prelude.{◌≡◌, ◌≢◌, [], IsTrue, Ok, Err, IsOk, OnOk, OnErr};
-ghost use Rattle.std.specs.Result.{IsOkAnd};
-ghost use Rattle.upload_book.specs.Append.{differ, append_refusal, appended_upload, telling, told, upload_with};
-ghost use Rattle.upload_book.specs.Content.{content_told};
+ghost use Rattle.std.specs.Prelude.{◌≡◌, ◌+◌, ◌<◌, ◌≤◌, ◌∷◌, [], length, IfOk, IsOk, OnOk, OnErr, IsTrue};
+ghost use Rattle.block_pool.specs.Blocks.{Blocks, free_in};
+ghost use Rattle.block_bodies.specs.Bodies.{IsBodyOf, IsHeld, IsLastOwn, StandsOnce, blocks_with};
+ghost use Rattle.block_bodies.specs.Changes.{Puts, GivesBack};
 ghost use Rattle.upload_book.specs.Create.{created_upload, new_kind};
 ghost use Rattle.upload_book.specs.Expiry.{is_over};
 ghost use Rattle.upload_book.specs.Lawful.{is_kept_metadata, IsConcatText};
-ghost use Rattle.upload_book.specs.Refusal.{IsAnswer};
-ghost use Rattle.upload_book.specs.Upload.{head_row_of};
+ghost use Rattle.upload_book.specs.Standing.{standing_in};
+ghost use Rattle.upload_book.specs.Store.{with_chain, with_head};
+ghost use Rattle.upload_book.specs.Stored.{own_chain, placed_in, upload_of, HasOwnPiece, ReadsWhole};
+ghost use Rattle.upload_book.specs.Upload.{head_row_of, content_of as upload_content_of};
 
-use crate::append::{Appended, Chunk, Refused};
-use crate::content::Content;
 use crate::create::NewUpload;
 use crate::expiry::{is_over, lifetime_end, renewed};
 use crate::head_row::{HeadRow, Kind};
 use crate::moment::Moment;
-use crate::refusal::Refusal;
 use crate::settings::Numbers;
-use std::alloc::Global;
+use crate::standing::Standing;
+use block_bodies::{Body, BodyFault};
+use block_pool::Pool;
+use std::alloc::{AllocError, Global};
 use std::marker::Model;
 use tus_text::Text;
 
-/// An upload under its id, with its bytes in one piece. A contract sees it as an entry of the plain
-/// book.
+/// An upload under its id, with its bytes in blocks.
 #[derive(Drop)]
 pub(crate) struct StoredUpload {
     id: u64,
     kind: Kind,
     declared: Option<u64>,
-    content: Vec<u8>,
+    body: Body,
     metadata: Text<1024>,
     concat: Text<2048>,
     expires: Option<Moment>,
@@ -36,17 +37,16 @@ pub(crate) struct StoredUpload {
 impl Model for StoredUpload {
     ghost use Rattle.std.specs.Prelude.{[], ◌∷◌};
     ghost use Rattle.upload_book.specs.TenantBook.{Entry};
-    ghost use Rattle.upload_book.specs.Upload.{Upload};
+    ghost use Rattle.upload_book.specs.Stored as stored;
 
-    ghost Value = { Entry Upload };
+    ghost Value = { Entry stored.StoredUpload };
 
     ghost view = { λ u. record {
       id = u.id;
       kept = record {
         kind = u.kind;
-        parts = [];
         declared = u.declared;
-        segments = u.content.items ∷ [];
+        pieces = record { origin = u.id; chain = u.body } ∷ [];
         metadata = u.metadata;
         concat = u.concat;
         expires = u.expires;
@@ -55,7 +55,7 @@ impl Model for StoredUpload {
 }
 
 impl StoredUpload {
-    /// A new upload, which has no bytes.
+    /// A new upload, which has no bytes and takes no memory.
     pub(crate) fn new(
         alloc: Global,
         numbers: &Numbers,
@@ -65,7 +65,11 @@ impl StoredUpload {
     ) -> StoredUpload
         requires metadata { IsTrue (is_kept_metadata new.now.metadata) }
         requires concat { IsConcatText (new_kind new.now.partial) new.now.concat }
-        ensures { result ≡ record { id = id; kept = created_upload numbers.now new.now now } }
+        ensures id { result.id ≡ id }
+        ensures upload { (p : Blocks) → upload_of p result.kept ≡ created_upload numbers.now new.now now }
+        ensures piece { HasOwnPiece result }
+        ensures empty { (own_chain result.kept.pieces).blocks ≡ [] }
+        ensures len { (own_chain result.kept.pieces).len ≡ 0 }
     {
         let kind = if new.partial {
             Kind::Partial
@@ -77,7 +81,7 @@ impl StoredUpload {
             id,
             kind,
             declared: new.length,
-            content: Vec::new(alloc),
+            body: Body::empty(alloc),
             metadata: Text::of(new.metadata),
             concat: Text::of(new.concat),
             expires: renewed(kind, is_complete, None, lifetime_end(numbers, now)),
@@ -107,11 +111,12 @@ impl StoredUpload {
 
     /// What a HEAD tells of the upload.
     pub(crate) fn head_row(&self) -> HeadRow
-        ensures { result ≡ head_row_of self.now.kept }
+        ensures { (p : Blocks) → ReadsWhole p self.now.kept.pieces
+            → result ≡ head_row_of (upload_of p self.now.kept) }
     {
         HeadRow {
             kind: self.kind,
-            offset: self.content.len() as u64,
+            offset: self.body.len(),
             declared: self.declared,
             metadata: self.metadata.copied(),
             concat: self.concat.copied(),
@@ -119,97 +124,67 @@ impl StoredUpload {
         }
     }
 
-    /// The bytes of the upload, copied. It is refused as Unfinished where the upload does not have all of
-    /// them, or else as Memory where the copy finds no room; an upload without bytes needs none.
-    pub(crate) fn content(&self, alloc: Global) -> Result<Content, Refusal>
-        ensures { IsAnswer (content_told self.now.kept)
-            (IsOkAnd (content_told self.now.kept) (λ bytes. bytes ≢ [])) (Err Refusal.Memory) result }
+    /// How far the upload is.
+    pub(crate) fn standing(&self) -> Standing
+        ensures { (p : Blocks) → ReadsWhole p self.now.kept.pieces
+            → result ≡ standing_in (head_row_of (upload_of p self.now.kept)) }
     {
-        if self.declared != Some(self.content.len() as u64) {
-            return Err(Refusal::Unfinished);
-        }
-        let mut bytes = Vec::new(alloc);
-        if bytes.extend_from_slice(&self.content).is_err() {
-            return Err(Refusal::Memory);
-        }
-        Ok(Content::of(bytes))
-    }
-
-    /// Adds the bytes of a PATCH at the end of the upload, which gets the length that the PATCH tells
-    /// where it had none, and is renewed.
-    ///
-    /// It is refused by the first rule that applies, or as Memory where the bytes find no room. After a
-    /// refusal the upload is as it was.
-    pub(crate) fn append(
-        &mut self,
-        numbers: &Numbers,
-        chunk: &Chunk,
-        now: Moment,
-    ) -> Result<Appended, Refused>
-        ensures answer { let answer = told (telling self.old.kept.expires
-            (appended_upload numbers.now self.old.kept chunk.now now)) in
-            IsAnswer answer (IsOk answer × (chunk.now.bytes ≢ []))
-            (Err (record { refusal = Refusal.Memory; expires = self.old.kept.expires })) result }
-        ensures accepted { OnOk result (self.new
-            ≡ record self.old { kept = upload_with numbers.now self.old.kept chunk.now now }) }
-        ensures refused { OnErr result (self.new ≡ self.old) }
-    {
-        if let Some(refusal) = self.append_refusal(numbers, chunk) {
-            return Err(Refused {
-                refusal,
-                expires: self.expires,
-            });
-        }
-        if self.content.extend_from_slice(chunk.bytes).is_err() {
-            return Err(Refused {
-                refusal: Refusal::Memory,
-                expires: self.expires,
-            });
-        }
-        let offset = self.content.len() as u64;
-        let is_complete = self.declared.or(chunk.length) == Some(offset);
-        self.declared = self.declared.or(chunk.length);
-        self.expires = renewed(
-            self.kind,
-            is_complete,
-            self.expires,
-            lifetime_end(numbers, now),
-        );
-        Ok(Appended {
-            offset,
+        Standing {
+            kind: self.kind,
+            offset: self.body.len(),
+            declared: self.declared,
             expires: self.expires,
-        })
-    }
-
-    // Why a PATCH of the upload is refused, if it is.
-    fn append_refusal(&self, numbers: &Numbers, chunk: &Chunk) -> Option<Refusal>
-        ensures { result ≡ append_refusal numbers.now (head_row_of self.now.kept) chunk.now }
-    {
-        let offset = self.content.len() as u64;
-        let max_size = numbers.max_size;
-        let most = self.declared.or(chunk.length).unwrap_or(max_size);
-        if self.kind == Kind::Final {
-            Some(Refusal::IsFinal)
-        } else if !chunk.typed {
-            Some(Refusal::Media)
-        } else if chunk.offset != offset {
-            Some(Refusal::Offset)
-        } else if differ(self.declared, chunk.length) {
-            Some(Refusal::LengthFixed)
-        } else if most > max_size || offset + chunk.bytes.len() as u64 > most {
-            Some(Refusal::TooLong)
-        } else {
-            None
         }
     }
-}
 
-// Whether both are there, and differ.
-fn differ(known: Option<u64>, told: Option<u64>) -> bool
-    ensures { result ≡ differ known told }
-{
-    match (known, told) {
-        (Some(known), Some(told)) => known != told,
-        _ => false,
+    /// The bytes of the upload, copied once out of the pool. The error is that there was no memory for them,
+    /// which never comes where there are none.
+    pub(crate) fn read(&self, alloc: Global, pool: &Pool) -> Result<Vec<u8>, AllocError>
+        requires { IsBodyOf pool.now (own_chain self.now.kept.pieces) }
+        ensures bytes { IfOk result (λ v. v.items ≡ upload_content_of (upload_of pool.now self.now.kept)) }
+        ensures none { upload_content_of (upload_of pool.now self.now.kept) ≡ [] → IsOk result }
+    {
+        self.body.read(alloc, pool)
+    }
+
+    /// Adds bytes at the end of the upload, and gives how many blocks were taken for them. The error is that
+    /// there was no memory for the list of its blocks, and then nothing changes.
+    pub(crate) fn put(&mut self, pool: &mut Pool, bytes: &[u8]) -> Result<u64, AllocError>
+        requires body { IsBodyOf pool.old (own_chain self.old.kept.pieces) }
+        requires last { 0 < length bytes.now → IsLastOwn pool.old (own_chain self.old.kept.pieces) }
+        requires free { blocks_with pool.old (own_chain self.old.kept.pieces) (length bytes.now)
+            ≤ length (own_chain self.old.kept.pieces).blocks + free_in pool.old }
+        ensures taken { IfOk result (λ n. length (own_chain self.new.kept.pieces).blocks
+            ≡ length (own_chain self.old.kept.pieces).blocks + n) }
+        ensures puts { OnOk result (Puts pool.old (own_chain self.old.kept.pieces) bytes.now
+            pool.new (own_chain self.new.kept.pieces)) }
+        ensures once { StandsOnce (own_chain self.new.kept.pieces).blocks }
+        ensures upload { OnOk result (self.new ≡ with_chain self.old (own_chain self.new.kept.pieces)) }
+        ensures memory { OnErr result ((own_chain self.old.kept.pieces).room
+            < blocks_with pool.old (own_chain self.old.kept.pieces) (length bytes.now)) }
+        ensures unchanged { OnErr result (self.new ≡ self.old) }
+        ensures pool_unchanged { OnErr result (pool.new ≡ pool.old) }
+    {
+        match self.body.append(pool, bytes) {
+            Ok(taken) => Ok(taken),
+            Err(BodyFault::Memory) => Err(AllocError),
+            Err(BodyFault::Full) => unreachable!(),
+        }
+    }
+
+    /// Tells the upload's length, and when it expires.
+    pub(crate) fn renew(&mut self, declared: Option<u64>, expires: Option<Moment>)
+        ensures { self.new ≡ with_head self.old declared expires }
+    {
+        self.declared = declared;
+        self.expires = expires;
+    }
+
+    /// Ends the upload: each of its blocks is held once less. Gives how many became free.
+    pub(crate) fn give_back(self, pool: &mut Pool) -> u64
+        requires { IsHeld pool.old (placed_in self.kept.pieces) }
+        ensures { GivesBack pool.old (placed_in self.kept.pieces) result pool.new }
+    {
+        self.body.give_back(pool)
     }
 }

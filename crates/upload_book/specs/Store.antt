@@ -1,0 +1,78 @@
+-- The uploads of all tenants, in blocks of one pool.
+use Rattle.std.specs.Prelude.{◌≡◌, ◌≢◌, ℕ, ◌<◌, List, [], ◌∷◌, ◌++◌, map, length, get_or, Option, None, Contains, Ok}
+use Rattle.block_pool.specs.Blocks.{Blocks}
+use Rattle.block_bodies.specs.Bodies.{Chain}
+use Rattle.upload_book.specs.declared.head_row.Kind.TheVariants.{Plain, Final}
+use Rattle.upload_book.specs.Stored.{Shelf, StoredUpload, Piece, HasOwnPiece, own_chain, part_of, upload_of}
+use Rattle.upload_book.specs.TenantBook.{TenantBook, Entry, opening_part, visible_upload}
+use Rattle.upload_book.specs.Upload.{Upload, content_of}
+
+-- the pool, the tenants' parts in the order of the settings, and for how many uploads of each there is room
+pub record Store : Type 0 where
+  pub pool : Blocks
+  pub shelves : List Shelf
+  pub room : ℕ
+
+-- the tenants' parts as the plain book has them
+abbrev pub plain_in : Store → List TenantBook
+plain_in s = map {A = Shelf} {B = TenantBook} (part_of s.pool) s.shelves
+
+-- a tenant's part
+abbrev pub shelf_at : Store → ℕ → Shelf
+shelf_at s tenant = get_or s.shelves tenant (opening_part 0)
+
+-- the same as the plain book has it
+abbrev pub part_at : Store → ℕ → TenantBook
+part_at s tenant = part_of s.pool (shelf_at s tenant)
+
+-- no upload, and so nothing that is kept
+abbrev pub no_upload : Entry StoredUpload
+no_upload = record {
+  id = 0;
+  kept = record { kind = Plain; declared = None; pieces = []; metadata = []; concat = []; expires = None };
+}
+
+-- what is kept at a place of a tenant's part
+abbrev pub entry_at : Store → ℕ → ℕ → Entry StoredUpload
+entry_at s tenant place = get_or (shelf_at s tenant).uploads place no_upload
+
+-- the upload at a place as the plain book has it
+abbrev pub upload_at : Store → ℕ → ℕ → Upload
+upload_at s tenant place = upload_of s.pool (entry_at s tenant place).kept
+
+-- a request for the id sees, at this moment, the upload at this place
+pub record IsVisibleIn (s : Store) (tenant id now place : ℕ) : Type 0 where
+  pub there : place < length (shelf_at s tenant).uploads
+  pub named : (entry_at s tenant place).id ≡ id
+  pub visible : visible_upload (part_at s tenant) id now ≡ Ok (upload_at s tenant place)
+
+-- the upload with bytes at its end, this length and this end
+abbrev pub with_bytes : Upload → List ℕ → Option ℕ → Option ℕ → Upload
+with_bytes u bytes declared expires = record u {
+  declared = declared;
+  segments = (content_of u ++ bytes) ∷ [];
+  expires = expires;
+}
+
+-- The upload at a place is the only one with pieces of its origin, and it is not a final one: so nobody else
+-- sees what is written after its bytes.
+pub record IsAlone (s : Store) (tenant place : ℕ) : Type 0 where
+  pub own : (entry_at s tenant place).kept.kind ≢ Final
+  pub alone : (k : ℕ) → k < length (shelf_at s tenant).uploads → k ≢ place
+      → (x : Piece) → Contains (entry_at s tenant k).kept.pieces x → x.origin ≢ (entry_at s tenant place).id
+
+-- a new upload that has no bytes, under the next id of the tenant
+pub record IsNew (s : Store) (tenant : ℕ) (e : Entry StoredUpload) : Type 0 where
+  pub id : e.id ≡ (shelf_at s tenant).next
+  pub own : e.kept.kind ≢ Final
+  pub empty : (own_chain e.kept.pieces).blocks ≡ []
+  pub none : (own_chain e.kept.pieces).len ≡ 0
+  pub piece : HasOwnPiece e
+
+-- the upload with another list of its blocks
+abbrev pub with_chain : Entry StoredUpload → Chain → Entry StoredUpload
+with_chain e chain = record e { kept = record e.kept { pieces = record { origin = e.id; chain = chain } ∷ [] } }
+
+-- the upload with this length and this end
+abbrev pub with_head : Entry StoredUpload → Option ℕ → Option ℕ → Entry StoredUpload
+with_head e declared expires = record e { kept = record e.kept { declared = declared; expires = expires } }

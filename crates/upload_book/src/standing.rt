@@ -1,0 +1,93 @@
+ghost use Rattle.std.specs.Prelude.{◌≡◌, ◌+◌, ◌<◌, ◌≤◌, ◌^◌, length};
+ghost use Rattle.upload_book.specs.Append.{append_refusal, differ, row_with};
+ghost use Rattle.upload_book.specs.Standing.{row_at, standing_in};
+ghost use Rattle.upload_book.specs.Upload.{is_reached};
+
+use crate::account::Account;
+use crate::append::Chunk;
+use crate::expiry::{lifetime_end, renewed};
+use crate::head_row::Kind;
+use crate::moment::Moment;
+use crate::refusal::Refusal;
+use crate::settings::Numbers;
+
+/// How far an upload is: its row without the texts.
+#[derive(Clone, Copy, Debug)]
+pub(crate) struct Standing {
+    pub(crate) kind: Kind,
+    pub(crate) offset: u64,
+    pub(crate) declared: Option<u64>,
+    pub(crate) expires: Option<Moment>,
+}
+
+impl Standing {
+    /// Whether the upload has all of its bytes.
+    pub(crate) fn is_complete(&self) -> bool
+        ensures { result ≡ is_reached self.now.declared self.now.offset }
+    {
+        self.declared == Some(self.offset)
+    }
+
+    /// How far the upload is after a PATCH.
+    pub(crate) fn with(&self, numbers: &Numbers, chunk: &Chunk, now: Moment) -> Standing
+        requires { self.now.offset + length chunk.now.bytes < 2 ^ 64 }
+        ensures { result ≡ standing_in (row_with numbers.now (row_at self.now) chunk.now now) }
+    {
+        let declared = self.declared.or(chunk.length);
+        let offset = self.offset + chunk.bytes.len() as u64;
+        let end = lifetime_end(numbers, now);
+        Standing {
+            kind: self.kind,
+            offset,
+            declared,
+            expires: renewed(self.kind, declared == Some(offset), self.expires, end),
+        }
+    }
+}
+
+/// Why a PATCH of an upload is refused on its tenant's account, if it is.
+pub(crate) fn append_refusal(
+    numbers: &Numbers,
+    account: &Account,
+    standing: &Standing,
+    chunk: &Chunk,
+) -> Option<Refusal>
+    requires short { standing.now.offset + length chunk.now.bytes < 2 ^ 63 }
+    requires blocks { 0 < numbers.now.block_size }
+    requires quota { account.now.charge ≤ account.now.quota }
+    requires charged { account.now.charged ≤ numbers.now.last_total }
+    ensures { result ≡ append_refusal numbers.now account.now (row_at standing.now) chunk.now }
+{
+    let max_size = numbers.max_size;
+    let most = standing.declared.or(chunk.length).unwrap_or(max_size);
+    let end = standing.offset + chunk.bytes.len() as u64;
+    let size = numbers.block_size;
+    let added = end.div_ceil(size) - standing.offset.div_ceil(size);
+    if standing.kind == Kind::Final {
+        Some(Refusal::IsFinal)
+    } else if !chunk.typed {
+        Some(Refusal::Media)
+    } else if chunk.offset != standing.offset {
+        Some(Refusal::Offset)
+    } else if differ(standing.declared, chunk.length) {
+        Some(Refusal::LengthFixed)
+    } else if most > max_size || end > most {
+        Some(Refusal::TooLong)
+    } else if added > numbers.last_total - account.charged {
+        Some(Refusal::Spent)
+    } else if added > account.quota - account.charge {
+        Some(Refusal::Quota)
+    } else {
+        None
+    }
+}
+
+// Whether both are there, and differ.
+fn differ(known: Option<u64>, told: Option<u64>) -> bool
+    ensures { result ≡ differ known told }
+{
+    match (known, told) {
+        (Some(known), Some(told)) => known != told,
+        _ => false,
+    }
+}

@@ -1,0 +1,224 @@
+ghost use Rattle.std.specs.Prelude.{◌≡◌, ◌≢◌, ◌+◌, ◌<◌, ◌≤◌, ◌^◌, [], length, map, set, IfOk, IfErr, IsOk, OnOk, OnErr};
+ghost use Rattle.std.specs.List.{sum_by};
+ghost use Rattle.block_pool.specs.Blocks.{IsWithinLimits, all_free, free_in, size_of};
+ghost use Rattle.upload_book.specs.Account.{blocks_between};
+ghost use Rattle.upload_book.specs.Charge.{charge_with};
+ghost use Rattle.upload_book.specs.Standing.{standing_in};
+ghost use Rattle.upload_book.specs.Store.{plain_in, shelf_at, part_at, entry_at, upload_at, with_bytes, IsAlone, IsNew, IsVisibleIn};
+ghost use Rattle.upload_book.specs.Stored.{upload_of};
+ghost use Rattle.block_bodies.specs.Changes.{SameSizes};
+ghost use Rattle.upload_book.specs.TenantBook.{opening_part, visible_upload, with_changed, with_new};
+ghost use Rattle.upload_book.specs.Terminate.{without};
+ghost use Rattle.upload_book.specs.Upload.{content_of, head_row_of, offset_of};
+
+use crate::head_row::{HeadRow, Name};
+use crate::moment::Moment;
+use crate::refusal::Refusal;
+use crate::settings::Settings;
+use crate::shelf::Shelf;
+use crate::standing::Standing;
+use crate::stored_upload::StoredUpload;
+use block_pool::Pool;
+use std::alloc::{AllocError, Global};
+use std::marker::Model;
+
+/// The uploads of all tenants, in blocks of one pool.
+#[derive(Drop)]
+pub(crate) struct Store {
+    pool: Pool,
+    shelves: Vec<Shelf>,
+    room: usize,
+}
+
+impl Model for Store {
+    ghost use Rattle.upload_book.specs.Store as spec;
+
+    ghost Value = { spec.Store };
+
+    ghost use Rattle.upload_book.specs.Kept.{store_of, IsKept};
+
+    ghost view = { store_of };
+
+    ghost invariant = { IsKept };
+}
+
+impl Store {
+    /// The store with no upload, with a part for each tenant of the settings. All its memory is taken here,
+    /// but for the lists of the blocks of its uploads; the error is that there was too little.
+    pub(crate) fn new(alloc: Global, settings: &Settings) -> Result<Store, AllocError>
+        ensures { IfOk result (λ s. s ≡ record {
+          pool = all_free settings.now.numbers.blocks settings.now.numbers.block_size;
+          shelves = map (λ t. opening_part t.quota) settings.now.tenants;
+          room = settings.now.numbers.uploads;
+        }) }
+    {
+        let numbers = settings.numbers();
+        let pool = Pool::new(alloc, numbers.blocks as u32, numbers.block_size as u32)?;
+        let room = numbers.uploads as usize;
+        let mut shelves = Vec::with_capacity(alloc, settings.tenant_count())?;
+        for place in 0..settings.tenant_count() {
+            shelves.push_reserved(Shelf {
+                quota: settings.quota(place),
+                next: 1,
+                charge: 0,
+                uploads: Vec::with_capacity(alloc, room)?,
+            });
+        }
+        Ok(Store {
+            pool,
+            shelves,
+            room,
+        })
+    }
+
+    /// How many blocks are free: those that no tenant pays.
+    pub(crate) fn free(&self) -> u32
+        ensures value { result ≡ free_in self.now.pool }
+        ensures in_use { free_in self.now.pool + sum_by (charge_with self.now.pool.block_size) (plain_in self.now)
+            ≡ size_of self.now.pool }
+    {
+        self.pool.free()
+    }
+
+    /// How many blocks the tenant at this place pays.
+    pub(crate) fn charge(&self, tenant: usize) -> u64
+        requires { tenant < length self.now.shelves }
+        ensures { result ≡ charge_with self.now.pool.block_size (part_at self.now tenant) }
+    {
+        self.shelves[tenant].charge
+    }
+
+    /// The id that the tenant's next upload gets.
+    pub(crate) fn next(&self, tenant: usize) -> u64
+        requires { tenant < length self.now.shelves }
+        ensures { result ≡ (part_at self.now tenant).next }
+    {
+        self.shelves[tenant].next
+    }
+
+    /// How many uploads the tenant has, expired ones included.
+    pub(crate) fn count(&self, tenant: usize) -> usize
+        requires { tenant < length self.now.shelves }
+        ensures { result ≡ length (part_at self.now tenant).uploads }
+    {
+        self.shelves[tenant].uploads.len()
+    }
+
+    /// The place, in its tenant's part, of the upload that a request for `name` sees at `now`.
+    pub(crate) fn place(&self, name: &Name, now: Moment) -> Result<usize, Refusal>
+        ensures there { IfOk result (λ i. name.now.tenant < length self.now.shelves) }
+        ensures visible { IfOk result (λ i. IsVisibleIn self.now name.now.tenant name.now.id now i) }
+        ensures refused { IfErr result
+            (λ e. visible_upload (part_at self.now name.now.tenant) name.now.id now ≡ Err e) }
+    {
+        match self.shelves.get(usize::from(name.tenant)) {
+            Some(shelf) => shelf.visible(name.id, now),
+            None => Err(Refusal::Unknown),
+        }
+    }
+
+    /// What a HEAD tells of the upload at a place.
+    pub(crate) fn head_row(&self, tenant: usize, place: usize) -> HeadRow
+        requires tenant { tenant < length self.now.shelves }
+        requires place { place < length (shelf_at self.now tenant).uploads }
+        ensures { result ≡ head_row_of (upload_at self.now tenant place) }
+    {
+        self.shelves[tenant].uploads[place].head_row()
+    }
+
+    /// How far the upload at a place is.
+    pub(crate) fn standing(&self, tenant: usize, place: usize) -> Standing
+        requires tenant { tenant < length self.now.shelves }
+        requires place { place < length (shelf_at self.now tenant).uploads }
+        ensures { result ≡ standing_in (head_row_of (upload_at self.now tenant place)) }
+    {
+        self.shelves[tenant].uploads[place].standing()
+    }
+
+    /// The bytes of the upload at a place, copied once. The error is that there was no memory for them, which
+    /// never comes where there are none.
+    pub(crate) fn read(
+        &self,
+        alloc: Global,
+        tenant: usize,
+        place: usize,
+    ) -> Result<Vec<u8>, AllocError>
+        requires tenant { tenant < length self.now.shelves }
+        requires place { place < length (shelf_at self.now tenant).uploads }
+        ensures bytes { IfOk result (λ v. v.items ≡ content_of (upload_at self.now tenant place)) }
+        ensures none { content_of (upload_at self.now tenant place) ≡ [] → IsOk result }
+    {
+        self.shelves[tenant].uploads[place].read(alloc, &self.pool)
+    }
+
+    /// Keeps a new upload, which has no bytes, as the tenant's next one. It takes no memory.
+    pub(crate) fn push(&mut self, tenant: usize, upload: StoredUpload)
+        requires tenant { tenant < length self.old.shelves }
+        requires room { length (shelf_at self.old tenant).uploads < self.old.room }
+        requires id { (shelf_at self.old tenant).next + 1 < 2 ^ 64 }
+        requires new { IsNew self.old tenant upload }
+        ensures plain { plain_in self.new ≡ set (plain_in self.old) tenant
+            (with_new (part_at self.old tenant) (upload_of self.old.pool upload.kept)) }
+        ensures pool { self.new.pool ≡ self.old.pool }
+        ensures room_stays { self.new.room ≡ self.old.room }
+        ensures charge { charge_with self.old.pool.block_size (part_at self.new tenant)
+            ≡ charge_with self.old.pool.block_size (part_at self.old tenant) }
+    {
+        let shelf = &mut self.shelves[tenant];
+        shelf.uploads.push_reserved(upload);
+        shelf.next += 1;
+    }
+
+    /// Adds bytes at the end of the upload at a place, and tells its length and its end. Gives how many blocks
+    /// were taken for the bytes. The error is that there was no memory for the list of the upload's blocks,
+    /// which had to grow, and then nothing changes.
+    pub(crate) fn append(
+        &mut self,
+        tenant: usize,
+        place: usize,
+        bytes: &[u8],
+        declared: Option<u64>,
+        expires: Option<Moment>,
+    ) -> Result<u64, AllocError>
+        requires tenant { tenant < length self.old.shelves }
+        requires place { place < length (shelf_at self.old tenant).uploads }
+        requires alone { 0 < length bytes.now → IsAlone self.old tenant place }
+        requires free { blocks_between self.old.pool.block_size (offset_of (upload_at self.old tenant place))
+            (length bytes.now) ≤ free_in self.old.pool }
+        ensures plain { OnOk result (plain_in self.new ≡ set (plain_in self.old) tenant
+            (with_changed (part_at self.old tenant) (entry_at self.old tenant place).id
+            (with_bytes (upload_at self.old tenant place) bytes.now declared expires))) }
+        ensures taken { IfOk result (λ n. n ≡ blocks_between self.old.pool.block_size
+            (offset_of (upload_at self.old tenant place)) (length bytes.now)) }
+        ensures charge { IfOk result (λ n. charge_with self.old.pool.block_size (part_at self.new tenant)
+            ≡ charge_with self.old.pool.block_size (part_at self.old tenant) + n) }
+        ensures sizes { SameSizes self.old.pool self.new.pool }
+        ensures memory { OnErr result (0 < blocks_between self.old.pool.block_size
+            (offset_of (upload_at self.old tenant place)) (length bytes.now)) }
+        ensures unchanged { OnErr result (self.new ≡ self.old) }
+    {
+        let shelf = &mut self.shelves[tenant];
+        let upload = &mut shelf.uploads[place];
+        let taken = upload.put(&mut self.pool, bytes)?;
+        upload.renew(declared, expires);
+        shelf.charge += taken;
+        Ok(taken)
+    }
+
+    /// Ends the upload at a place. Gives how many blocks became free: those that its tenant no longer pays.
+    pub(crate) fn remove(&mut self, tenant: usize, place: usize) -> u64
+        requires tenant { tenant < length self.old.shelves }
+        requires place { place < length (shelf_at self.old tenant).uploads }
+        ensures plain { plain_in self.new ≡ set (plain_in self.old) tenant
+            (without (part_at self.old tenant) (entry_at self.old tenant place).id) }
+        ensures charge { charge_with self.old.pool.block_size (part_at self.new tenant) + result
+            ≡ charge_with self.old.pool.block_size (part_at self.old tenant) }
+        ensures free { free_in self.new.pool ≡ free_in self.old.pool + result }
+        ensures sizes { SameSizes self.old.pool self.new.pool }
+    {
+        let shelf = &mut self.shelves[tenant];
+        let freed = shelf.uploads.remove(place).give_back(&mut self.pool);
+        shelf.charge -= freed;
+        freed
+    }
+}
