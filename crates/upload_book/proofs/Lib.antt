@@ -10,3 +10,5 @@ pub mod SettingsLemmas
 pub mod TenantLists
 pub mod TextLemmas
 pub mod Visible
+pub mod SumsBelow
+pub mod InUse

@@ -5,6 +5,7 @@ use Rattle.block_pool.specs.Blocks.{Blocks, count_at, places_of}
 use Rattle.block_bodies.specs.Bodies.{Chain, StandsOnce, blocks_for, content_of}
 use Rattle.upload_book.specs.declared.head_row.Kind.{Kind}
 use Rattle.upload_book.specs.declared.head_row.Kind.TheVariants.{Plain, Partial, Final}
+use Rattle.upload_book.specs.Charge.{Source, charge_of}
 use Rattle.upload_book.specs.Settings.{Settings}
 use Rattle.upload_book.specs.TenantBook.{TenantBook, TenantPart, Entry}
 use Rattle.upload_book.specs.Upload.{Upload}
@@ -76,6 +77,12 @@ placed_in pieces = flat_map (λ (x : Piece). x.chain.blocks) pieces
 -- at how many places of a tenant's pieces a block stands
 abbrev pub places_on : ℕ → Shelf → ℕ
 places_on b shelf = places_of b (placed_in (pieces_of shelf))
+
+-- what a tenant pays, in blocks of a size, by how its pieces are kept
+abbrev pub charge_on : ℕ → Shelf → ℕ
+charge_on size shelf =
+    charge_of size shelf.next
+    (map {A = Piece} {B = Source} (λ x. record { origin = x.origin; len = x.chain.len }) (pieces_of shelf))
 
 -- some, or none
 abbrev pub some_of : ℕ → ℕ
