@@ -12,3 +12,4 @@ pub mod TextLemmas
 pub mod Visible
 pub mod SumsBelow
 pub mod InUse
+pub mod Shelves

@@ -1,9 +1,11 @@
 -- Sums over the numbers below an end, and over lists.
-use Rattle.std.proofs.Common.{◌≡◌, ◌≢◌, ℕ, zero, suc, ◌+◌, ◌<◌, ◌≤◌, List, [], ◌∷◌, length, get_or, refl, inl, inr, ap, sym, ◌∙◌, arith}
+use Rattle.std.proofs.Common.{◌≡◌, ◌≢◌, ℕ, zero, suc, ◌+◌, ◌-◌, ◌<◌, ◌≤◌, List, [], ◌∷◌, length, get_or, refl, inl, inr, ap, sym, ◌∙◌, arith}
 use Rattle.std.specs.List.{remove, sum_by, All, range_with_len}
 use Rattle.std.proofs.lemmas.Bool.Decides.{nat_tests, eqb_tells}
 use Rattle.std.proofs.lemmas.List.Elements.{All-head, All-tail}
-use Rattle.std.proofs.lemmas.List.Sums.{sum_by-cons, sum_by-remove}
+use Rattle.std.proofs.lemmas.Bool.{cases_lt}
+use Rattle.std.proofs.lemmas.List.Edits.{get_or-remove_below, get_or-remove_above, length-remove}
+use Rattle.std.proofs.lemmas.List.Sums.{get_or-le-sum_by, sum_by-cons, sum_by-remove}
 use Rattle.upload_book.specs.Charge.{sum_below}
 use Rattle.upload_book.specs.Stored.{some_of}
 
@@ -124,3 +126,16 @@ sum_by-alone f xs i d l few some =
     let one : some_of (f (get_or xs i d)) ≡ 1 = some_of-some (f (get_or xs i d)) some in
     let rest : sum_by f (remove xs i) ≡ 0 = sum_by-none f (remove xs i) (omega (arith, one, sum_by-remove (λ x. some_of (f x)) xs i d l)) in
     omega (arith, rest, sum_by-remove f xs i d l)
+
+-- two elements at different places are within the sum
+pub two-le-sum_by : {X : Type 0} (f : X → ℕ) (xs : List X) (i k : ℕ) (d : X) → i < length xs → k < length xs → k ≢ i → f (get_or xs i d) + f (get_or xs k d) ≤ sum_by f xs
+two-le-sum_by f xs i k d i_in k_in differs = elim (cases_lt k i) [
+  | inl below ↦
+      let same : f (get_or (remove xs i) k d) ≡ f (get_or xs k d) = ap f (get_or-remove_below xs i d k below i_in) in
+      omega (arith, same, sum_by-remove f xs i d i_in, length-remove xs i i_in, get_or-le-sum_by f (remove xs i) k d (omega (arith, length-remove xs i i_in)))
+  | inr above ↦
+      let back : k - 1 + 1 ≡ k = omega arith in
+      let same : f (get_or (remove xs i) (k - 1) d) ≡ f (get_or xs k d) =
+      ap f (get_or-remove_above xs i d (k - 1) (omega arith) i_in) ∙ ap (λ n. f (get_or xs n d)) back in
+      omega (arith, same, sum_by-remove f xs i d i_in, get_or-le-sum_by f (remove xs i) (k - 1) d (omega (arith, length-remove xs i i_in)))
+]
