@@ -13,3 +13,6 @@ pub mod Visible
 pub mod SumsBelow
 pub mod InUse
 pub mod Shelves
+pub mod Pieces
+pub mod GoneLemmas
+pub mod PutLemmas
