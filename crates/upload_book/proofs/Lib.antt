@@ -16,3 +16,4 @@ pub mod Shelves
 pub mod Pieces
 pub mod GoneLemmas
 pub mod PutLemmas
+pub mod JoinLemmas
