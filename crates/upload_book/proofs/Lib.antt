@@ -10,3 +10,10 @@ pub mod SettingsLemmas
 pub mod TenantLists
 pub mod TextLemmas
 pub mod Visible
+pub mod SumsBelow
+pub mod InUse
+pub mod Shelves
+pub mod Pieces
+pub mod GoneLemmas
+pub mod PutLemmas
+pub mod JoinLemmas
