@@ -17,3 +17,5 @@ pub mod Pieces
 pub mod GoneLemmas
 pub mod PutLemmas
 pub mod JoinLemmas
+pub mod PlainCharge
+pub mod PlainShelves
