@@ -16,3 +16,5 @@ pub mod Pieces
 pub mod GoneLemmas
 pub mod PutLemmas
 pub mod JoinLemmas
+pub mod PlainCharge
+pub mod PlainShelves

@@ -1,7 +1,9 @@
 -- The pieces of a tenant, entry by entry.
-use Rattle.std.proofs.Common.{◌≡◌, ◌⊎◌, ℕ, suc, ◌+◌, ◌<◌, ◌≤◌, List, [], ◌∷◌, ◌++◌, length, get_or, set, take, drop, refl, inl, inr, ap, sym, subst, ◌∙◌, arith, take-append-drop}
+use Rattle.std.proofs.Common.{◌≢◌, get_or, ◌≡◌, ◌⊎◌, ℕ, suc, ◌+◌, ◌<◌, ◌≤◌, List, [], ◌∷◌, ◌++◌, length, get_or, set, take, drop, refl, inl, inr, ap, sym, subst, ◌∙◌, arith, take-append-drop}
 use Rattle.std.specs.List.{sum_by, Contains, flat_map, remove}
+use Rattle.std.proofs.lemmas.Bool.{cases_lt}
 use Rattle.std.proofs.lemmas.List.{set_split}
+use Rattle.std.proofs.lemmas.List.Edits.{get_or-remove_below, get_or-remove_above, length-remove}
 use Rattle.std.proofs.lemmas.List.Concat.{flat_map-append}
 use Rattle.std.proofs.lemmas.List.Elements.{Contains-append_cases, Contains-append_left, Contains-append_right}
 use Rattle.std.proofs.lemmas.List.Sums.{sum_by-set, sum_by-remove, sum_by-cons}
@@ -36,6 +38,15 @@ Contains-remove xs i x c = elim (Contains-append_cases (take i xs) (drop (suc i)
   | inl front ↦ subst (λ ys. Contains ys x) (take-append-drop i xs) (Contains-append_left (take i xs) (drop i xs) x front)
   | inr back ↦ subst (λ ys. Contains ys x) (take-append-drop (suc i) xs) (Contains-append_right (take (suc i) xs) (drop (suc i) xs) x back)
 ]
+
+-- and at another place
+pub Contains-remove_at : {X : Type 0} (xs : List X) (i : ℕ) (x : X) → i < length xs → Contains (remove xs i) x → (k : ℕ) × (k < length xs) × (k ≢ i) × (get_or xs k x ≡ x)
+Contains-remove_at xs i x l c =
+    let long : length (remove xs i) + 1 ≡ length xs = length-remove xs i l in
+    elim (cases_lt c.0 i) [
+      | inl below ↦ (c.0, omega (arith, c.1), omega arith, sym (get_or-remove_below xs i x c.0 below l) ∙ c.2)
+      | inr above ↦ (c.0 + 1, omega (arith, c.1), omega arith, sym (get_or-remove_above xs i x c.0 above l) ∙ c.2)
+    ]
 
 -- where one element is set, there is that one, and what is left without the place
 pub Contains-set : {X : Type 0} (xs : List X) (i : ℕ) (y x : X) → i < length xs → Contains (set xs i y) x → (y ≡ x) ⊎ Contains (remove xs i) x

@@ -22,12 +22,12 @@ pub record IsAlone (old : Shelf) (i id : ℕ) : Type 0 where
   pub others : (z : Piece) → Contains (pieces_of (without old i)) z → z.origin ≢ id
 
 -- its piece is the tenant's
-own-contained : (old : Shelf) (i : ℕ) (e : Entry StoredUpload) (x : Chain) → IsEntry old i e → e.kept.pieces ≡ own_piece e.id x ∷ [] → Contains (pieces_of old) (own_piece e.id x)
+pub own-contained : (old : Shelf) (i : ℕ) (e : Entry StoredUpload) (x : Chain) → IsEntry old i e → e.kept.pieces ≡ own_piece e.id x ∷ [] → Contains (pieces_of old) (own_piece e.id x)
 own-contained old i e x is own =
     Contains-entry old i e (own_piece e.id x) is (subst (λ pieces. Contains pieces (own_piece e.id x)) (sym own) (Contains-first (own_piece e.id x) []))
 
 -- a block stands with it as often as in its body
-own-places : (b : ℕ) (e : Entry StoredUpload) (id : ℕ) (x : Chain) → e.kept.pieces ≡ own_piece id x ∷ [] → places_at b e ≡ places_of b x.blocks
+pub own-places : (b : ℕ) (e : Entry StoredUpload) (id : ℕ) (x : Chain) → e.kept.pieces ≡ own_piece id x ∷ [] → places_at b e ≡ places_of b x.blocks
 own-places b e id x own = ap (λ pieces. places_of b (placed_in pieces)) own ∙ both _ _ (places_of-append b x.blocks []) where
   both : (n m : ℕ) → n ≡ m + 0 → n ≡ m
   both n m same = omega arith
