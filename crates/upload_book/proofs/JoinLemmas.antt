@@ -6,7 +6,7 @@ use Rattle.std.proofs.lemmas.List.Concat.{flat_map-append, length-flat_map}
 use Rattle.std.proofs.lemmas.List.Elements.{Contains-append_cases, Contains-get_or}
 use Rattle.std.proofs.lemmas.List.Sums.{sum_by-le}
 use Rattle.std.proofs.Math.ListN.{length-map}
-use Rattle.block_pool.specs.Blocks.{Blocks, IsPool, count_at, places_of}
+use Rattle.block_pool.specs.Blocks.{Blocks, count_at, places_of}
 use Rattle.block_bodies.specs.Bodies.{Chain, blocks_for}
 use Rattle.block_bodies.specs.Changes.{Holds, MayHold}
 use Rattle.block_bodies.proofs.BodiesLaws.{blocks_for-none}
@@ -38,7 +38,7 @@ Contains-with_new old kept x c = elim (Contains-append_cases (pieces_of old) (ke
 ]
 
 -- what a new upload does to the shelf; the pool stays
-pub Changes-new : (p : Blocks) (old : Shelf) (kept : StoredUpload) (x : Chain) → IsPool p → IsStoredOn p old → kept.pieces ≡ own_piece old.next x ∷ [] → x.blocks ≡ [] → x.len ≡ 0 → Changes p old p (with_new old kept)
+pub Changes-new : (p : Blocks) (old : Shelf) (kept : StoredUpload) (x : Chain) → 0 < p.block_size → IsStoredOn p old → kept.pieces ≡ own_piece old.next x ∷ [] → x.blocks ≡ [] → x.len ≡ 0 → Changes p old p (with_new old kept)
 Changes-new p old kept x pool on own none no_bytes = record {
   sizes = record { blocks = refl; bytes = refl };
   pieces = record { each = each; agree = agree };
@@ -64,7 +64,7 @@ Changes-new p old kept x pool on own none no_bytes = record {
     mine : IsPiece p.block_size (old.next + 1) (own_piece old.next x)
     mine = record {
       given = omega arith;
-      blocks = ap (λ (list : List ℕ). length list) none ∙ sym (blocks_for-none p.block_size pool.limits.some_bytes) ∙ ap (blocks_for p.block_size) (sym no_bytes);
+      blocks = ap (λ (list : List ℕ). length list) none ∙ sym (blocks_for-none p.block_size pool) ∙ ap (blocks_for p.block_size) (sym no_bytes);
       once = record { once = λ b. omega (arith, no_place b) };
     }
 
@@ -108,13 +108,13 @@ Changes-new p old kept x pool on own none no_bytes = record {
     ]
 
 -- the stored book with the new upload
-pub IsStored-new : (p : Blocks) (shelves : List Shelf) (t : ℕ) (old : Shelf) (kept : StoredUpload) (x : Chain) → IsPool p → IsStored p shelves → IsShelf shelves t old → kept.pieces ≡ own_piece old.next x ∷ [] → x.blocks ≡ [] → x.len ≡ 0
+pub IsStored-new : (p : Blocks) (shelves : List Shelf) (t : ℕ) (old : Shelf) (kept : StoredUpload) (x : Chain) → 0 < p.block_size → IsStored p shelves → IsShelf shelves t old → kept.pieces ≡ own_piece old.next x ∷ [] → x.blocks ≡ [] → x.len ≡ 0
     → IsStored p (set shelves t (with_new old kept))
 IsStored-new p shelves t old kept x pool stored shelf own none no_bytes =
     IsStored-changed p shelves t old p (with_new old kept) stored shelf (Changes-new p old kept x pool (IsStoredOn-shelf p shelves t old stored shelf) own none no_bytes)
 
 -- the tenant pays nothing for it
-pub new-charge : (p : Blocks) (shelves : List Shelf) (t : ℕ) (old : Shelf) (kept : StoredUpload) (x : Chain) → IsPool p → IsStored p shelves → IsShelf shelves t old → kept.pieces ≡ own_piece old.next x ∷ [] → x.blocks ≡ [] → x.len ≡ 0
+pub new-charge : (p : Blocks) (shelves : List Shelf) (t : ℕ) (old : Shelf) (kept : StoredUpload) (x : Chain) → 0 < p.block_size → IsStored p shelves → IsShelf shelves t old → kept.pieces ≡ own_piece old.next x ∷ [] → x.blocks ≡ [] → x.len ≡ 0
     → charge_on p.block_size (with_new old kept) ≡ charge_on p.block_size old
 new-charge p shelves t old kept x pool stored shelf own none no_bytes =
     let change : Changes p old p (with_new old kept) = Changes-new p old kept x pool (IsStoredOn-shelf p shelves t old stored shelf) own none no_bytes in

@@ -18,3 +18,5 @@ pub mod PutLemmas
 pub mod JoinLemmas
 pub mod PlainCharge
 pub mod PlainShelves
+pub mod StoreLemmas
+pub mod StoreSteps

@@ -24,6 +24,7 @@ pub record IsKept (s : Inside) : Type 0 where
   pub stored : IsStored s.pool (store_of s).shelves
   pub own : All (λ (shelf : Shelf). All HasOwnPiece shelf.uploads) (store_of s).shelves
   pub reads : All (λ (shelf : Shelf). ReadsWhole s.pool (pieces_of shelf)) (store_of s).shelves
+  pub size : 0 < s.pool.block_size
   pub charges : All (λ (t : KeptShelf). t.charge ≡ charge_on s.pool.block_size (shelf_of t)) s.shelves.items
   pub room : All (λ (t : KeptShelf). s.room ≤ vec_capacity t.uploads) s.shelves.items
 

@@ -1,0 +1,136 @@
+-- A store in which one tenant's part changed, as it is kept.
+use Rattle.std.proofs.Common.{◌≡◌, ◌≢◌, ℕ, ◌+◌, ◌<◌, ◌≤◌, List, [], ◌∷◌, ◌++◌, map, length, get_or, set, vec_capacity, refl, sym, ap, ◌∙◌, subst, inl, inr, arith}
+use Rattle.std.specs.List.{All, Contains}
+use Rattle.std.specs.Vec.{with_item}
+use Rattle.std.proofs.Math.ListN.{length-map, length-set}
+use Rattle.std.proofs.lemmas.Bool.Decides.{eqb_tells}
+use Rattle.std.proofs.lemmas.List.{map-set, get_or-map, get_or-set_same, get_or-set_other, get_or_default}
+use Rattle.std.proofs.lemmas.List.Elements.{All-set}
+use Rattle.block_pool.specs.Blocks.{Blocks}
+use Rattle.block_bodies.specs.Changes.{SameSizes}
+use Rattle.upload_book.specs.Charge.{charge_with}
+use Rattle.upload_book.specs.declared.shelf.Shelf.{Shelf as KeptShelf}
+use Rattle.upload_book.specs.declared.store.Store.TheInside.{Inside}
+use Rattle.upload_book.specs.Kept.{shelf_of, store_of, IsKept}
+use Rattle.upload_book.specs.Store.{Store, plain_in, part_at, shelf_at}
+use Rattle.upload_book.specs.Stored.{Shelf, Piece, part_of, pieces_of, places_on, charge_on, IsStored, HasOwnPiece, ReadsWhole}
+use Rattle.upload_book.specs.TenantBook.{TenantBook, opening_part}
+use Rattle.upload_book.proofs.PlainCharge.{charge-plain}
+use Rattle.upload_book.proofs.PlainShelves.{KeepBytes, content-same, parts-changed}
+use Rattle.upload_book.proofs.InUse.{places-within}
+use Rattle.upload_book.proofs.Shelves.{IsShelf, IsStoredOn, IsStoredOn-shelf}
+
+-- the fields with another pool and one part changed
+abbrev pub with_shelf : Inside → Blocks → ℕ → KeptShelf → Inside
+with_shelf v q t changed = record v { pool = q; shelves = with_item v.shelves t changed }
+
+-- a tenant's part is read where there is one
+pub record IsPart (v : Inside) (t : ℕ) (old : KeptShelf) : Type 0 where
+  pub within : t < length v.shelves.items
+  pub read : old ≡ get_or v.shelves.items t old
+
+-- and so its shelf
+pub IsShelf-part : (v : Inside) (t : ℕ) (old : KeptShelf) → IsPart v t old → IsShelf (store_of v).shelves t (shelf_of old)
+IsShelf-part v t old is = record {
+  within = omega (arith, is.within, length-map v.shelves.items shelf_of);
+  read = ap shelf_of is.read ∙ sym (get_or-map shelf_of v.shelves.items t old (shelf_of old) is.within);
+}
+
+-- a tenant of the store has a part
+pub part_within : (v : Inside) (s : Store) (t : ℕ) → store_of v ≡ s → t < length s.shelves → t < length v.shelves.items
+part_within v s t is within =
+    let shelves : length (store_of v).shelves ≡ length s.shelves = ap (λ (s : Store). length s.shelves) is in
+    omega (arith, within, shelves, length-map v.shelves.items shelf_of)
+
+-- it is what is read
+pub shelf_at-part : (v : Inside) (t : ℕ) (old : KeptShelf) → IsPart v t old → shelf_at (store_of v) t ≡ shelf_of old
+shelf_at-part v t old is =
+    get_or-map shelf_of v.shelves.items t old (opening_part 0) is.within ∙ ap shelf_of (sym is.read)
+
+-- its uploads that are not final have their own pieces,
+pub own-part : (v : Inside) (t : ℕ) (old : KeptShelf) → IsKept v → IsPart v t old → All HasOwnPiece (shelf_of old).uploads
+own-part v t old kept is =
+    let shelf = IsShelf-part v t old is in
+    subst (λ (s : Shelf). All HasOwnPiece s.uploads) (sym shelf.read) (kept.own t (shelf_of old) shelf.within)
+
+-- its pieces read whole,
+pub reads-part : (v : Inside) (t : ℕ) (old : KeptShelf) → IsKept v → IsPart v t old → ReadsWhole v.pool (pieces_of (shelf_of old))
+reads-part v t old kept is =
+    let shelf = IsShelf-part v t old is in
+    subst (λ (s : Shelf). ReadsWhole v.pool (pieces_of s)) (sym shelf.read) (kept.reads t (shelf_of old) shelf.within)
+
+-- it knows what its tenant pays,
+pub charge-part : (v : Inside) (t : ℕ) (old : KeptShelf) → IsKept v → IsPart v t old → old.charge ≡ charge_on v.pool.block_size (shelf_of old)
+charge-part v t old kept is =
+    subst (λ (s : KeptShelf). s.charge ≡ charge_on v.pool.block_size (shelf_of s)) (sym is.read) (kept.charges t old is.within)
+
+-- by the plain book too,
+pub charge_with-part : (v : Inside) (t : ℕ) (old : KeptShelf) → IsKept v → IsPart v t old → charge_with v.pool.block_size (part_at (store_of v) t) ≡ charge_on v.pool.block_size (shelf_of old)
+charge_with-part v t old kept is =
+    ap (λ (s : Shelf). charge_with v.pool.block_size (part_of v.pool s)) (shelf_at-part v t old is)
+    ∙ charge-plain v.pool.block_size v.pool (shelf_of old) (own-part v t old kept is) (reads-part v t old kept is)
+
+-- and has room
+pub room-part : (v : Inside) (t : ℕ) (old : KeptShelf) → IsKept v → IsPart v t old → v.room ≤ vec_capacity old.uploads
+room-part v t old kept is =
+    subst (λ (s : KeptShelf). v.room ≤ vec_capacity s.uploads) (sym is.read) (kept.room t old is.within)
+
+-- the shelves with one changed
+pub shelves-with_shelf : (v : Inside) (q : Blocks) (t : ℕ) (changed : KeptShelf) → (store_of (with_shelf v q t changed)).shelves ≡ set (store_of v).shelves t (shelf_of changed)
+shelves-with_shelf v q t changed = map-set shelf_of v.shelves.items t changed
+
+-- what holds of each shelf where one is changed
+All-shelves : (P : Shelf → Type 0) (shelves : List Shelf) (t : ℕ) (s : Shelf) → P s → ((k : ℕ) (other : Shelf) → IsShelf shelves k other → k ≢ t → P other) → All P (set shelves t s)
+All-shelves P shelves t s here others k d within =
+    let inside : k < length shelves = omega (arith, within, length-set shelves t s) in
+    elim (eqb_tells k t) [
+      | inl same ↦ subst P (sym (ap (λ k. get_or (set shelves t s) k d) same.1 ∙ get_or-set_same shelves t s d (subst (λ k. k < length shelves) same.1 inside))) here
+      | inr differs ↦
+          let other = get_or shelves k d in
+          subst P (sym (get_or-set_other shelves t k s d differs.1)) (others k other (record { within = inside; read = get_or_default shelves k d other inside }) differs.1)
+    ]
+
+-- The store is kept where one part changes over another pool of the sizes, in which the blocks of the others keep
+-- their bytes.
+pub IsKept-with_shelf : (v : Inside) (q : Blocks) (t : ℕ) (old changed : KeptShelf) → IsKept v → IsPart v t old → SameSizes v.pool q
+    → IsStored q (set (store_of v).shelves t (shelf_of changed))
+    → ((k : ℕ) (other : Shelf) → IsShelf (store_of v).shelves k other → k ≢ t → KeepBytes v.pool q (λ b. places_on b other))
+    → All HasOwnPiece (shelf_of changed).uploads → ReadsWhole q (pieces_of (shelf_of changed)) → changed.charge ≡ charge_on v.pool.block_size (shelf_of changed)
+    → v.room ≤ vec_capacity changed.uploads → IsKept (with_shelf v q t changed)
+IsKept-with_shelf v q t old changed kept is sizes stored stay own reads charge room =
+    let shelves = shelves-with_shelf v q t changed in
+    record {
+      stored = rw shelves stored;
+      own = rw shelves (All-set (λ (s : Shelf). All HasOwnPiece s.uploads) (store_of v).shelves t (shelf_of changed) own kept.own);
+      reads = rw shelves (All-shelves (λ s. ReadsWhole q (pieces_of s)) (store_of v).shelves t (shelf_of changed) reads others);
+      size = rw sizes.bytes kept.size;
+      charges = rw sizes.bytes (All-set (λ (s : KeptShelf). s.charge ≡ charge_on v.pool.block_size (shelf_of s)) v.shelves.items t changed charge kept.charges);
+      room = All-set (λ (s : KeptShelf). v.room ≤ vec_capacity s.uploads) v.shelves.items t changed room kept.room;
+    }
+  where
+    others : (k : ℕ) (other : Shelf) → IsShelf (store_of v).shelves k other → k ≢ t → ReadsWhole q (pieces_of other)
+    others k other there differs x c =
+        let before : ReadsWhole v.pool (pieces_of other) = subst (λ (s : Shelf). ReadsWhole v.pool (pieces_of s)) (sym there.read) (kept.reads k other there.within) in
+        let same = content-same v.pool q x.chain (λ b some. stay k other there differs b (omega (arith, some, places-within b (pieces_of other) x c))) in
+        ap (length {A = ℕ}) same ∙ before x c
+
+-- what the plain book sees of it
+pub plain_in-with_shelf : (v : Inside) (q : Blocks) (t : ℕ) (old changed : KeptShelf) → IsPart v t old
+    → ((k : ℕ) (other : Shelf) → IsShelf (store_of v).shelves k other → k ≢ t → KeepBytes v.pool q (λ b. places_on b other))
+    → plain_in (store_of (with_shelf v q t changed)) ≡ set (plain_in (store_of v)) t (part_of q (shelf_of changed))
+plain_in-with_shelf v q t old changed is stay =
+    ap (map {A = Shelf} {B = TenantBook} (part_of q)) (shelves-with_shelf v q t changed)
+    ∙ parts-changed v.pool q (store_of v).shelves t (shelf_of changed) (IsShelf-part v t old is).within stay
+
+-- the changed part
+pub part_at-with_shelf : (v : Inside) (q : Blocks) (t : ℕ) (old changed : KeptShelf) → IsPart v t old → part_at (store_of (with_shelf v q t changed)) t ≡ part_of q (shelf_of changed)
+part_at-with_shelf v q t old changed is =
+    ap (λ (shelves : List Shelf). part_of q (get_or shelves t (opening_part 0))) (shelves-with_shelf v q t changed)
+    ∙ ap (part_of q) (get_or-set_same (store_of v).shelves t (shelf_of changed) (opening_part 0) (IsShelf-part v t old is).within)
+
+-- the changed part is read there
+pub with_shelf-part : (v : Inside) (q : Blocks) (t : ℕ) (old changed : KeptShelf) → IsPart v t old → IsPart (with_shelf v q t changed) t changed
+with_shelf-part v q t old changed is = record {
+  within = omega (arith, is.within, length-set v.shelves.items t changed);
+  read = sym (get_or-set_same v.shelves.items t changed changed is.within);
+}

@@ -1,0 +1,93 @@
+-- What each call of the store keeps, does to what the plain book sees, and to what the tenant pays.
+use Rattle.std.proofs.Common.{◌≡◌, ◌≢◌, ℕ, ◌+◌, ◌<◌, ◌≤◌, List, [], ◌∷◌, ◌++◌, length, get_or, set, vec_capacity, refl, sym, ap, ◌∙◌, subst, inl, inr, arith}
+use Rattle.std.specs.List.{All, Contains}
+use Rattle.std.proofs.lemmas.List.Elements.{All-push}
+use Rattle.block_pool.specs.Blocks.{Blocks}
+use Rattle.block_bodies.specs.Bodies.{Chain, content_of}
+use Rattle.upload_book.specs.Charge.{charge_with}
+use Rattle.upload_book.specs.declared.shelf.Shelf.{Shelf as KeptShelf}
+use Rattle.upload_book.specs.declared.store.Store.TheInside.{Inside}
+use Rattle.upload_book.specs.Kept.{shelf_of, store_of, IsKept}
+use Rattle.upload_book.specs.Store.{plain_in, part_at, shelf_at, IsNew}
+use Rattle.upload_book.specs.Stored.{Shelf, StoredUpload, Piece, part_of, pieces_of, own_chain, upload_of, charge_on, IsStored, HasOwnPiece, ReadsWhole}
+use Rattle.upload_book.specs.TenantBook.{Entry, with_new}
+use Rattle.upload_book.proofs.InUse.{Contains-cases, Contains-none}
+use Rattle.upload_book.proofs.JoinLemmas.{Contains-with_new, IsStored-new, new-charge}
+use Rattle.upload_book.proofs.PlainCharge.{charge-plain}
+use Rattle.upload_book.proofs.PlainShelves.{part-with_new}
+use Rattle.upload_book.proofs.PutLemmas.{own_piece}
+use Rattle.upload_book.proofs.StoreLemmas.{with_shelf, IsPart, IsShelf-part, shelf_at-part, own-part, reads-part, charge-part, charge_with-part, IsKept-with_shelf, plain_in-with_shelf, with_shelf-part}
+
+-- a part with one more upload
+pub record IsPushed (v : Inside) (t : ℕ) (old changed : KeptShelf) (e : Entry StoredUpload) : Type 0 where
+  pub part : IsPart v t old
+  pub new : IsNew (store_of v) t e
+  pub quota : changed.quota ≡ old.quota
+  pub next : changed.next ≡ old.next + 1
+  pub charge : changed.charge ≡ old.charge
+  pub uploads : changed.uploads.items ≡ old.uploads.items ++ e ∷ []
+  pub room : v.room ≤ vec_capacity changed.uploads
+
+-- its id is the next one
+pushed-id : (v : Inside) (t : ℕ) (old changed : KeptShelf) (e : Entry StoredUpload) → IsPushed v t old changed e → e.id ≡ old.next
+pushed-id v t old changed e is =
+    is.new.id ∙ ap (λ (s : Shelf). s.next) (shelf_at-part v t old is.part)
+
+-- it is the shelf with a new upload
+pushed-shelf : (v : Inside) (t : ℕ) (old changed : KeptShelf) (e : Entry StoredUpload) → IsPushed v t old changed e → shelf_of changed ≡ with_new (shelf_of old) e.kept
+pushed-shelf v t old changed e is =
+    let entry : e ≡ record { id = old.next; kept = e.kept } = ap (λ (id : ℕ). record e { id = id }) (pushed-id v t old changed e is) in
+    let uploads : changed.uploads.items ≡ old.uploads.items ++ record { id = old.next; kept = e.kept } ∷ [] =
+    is.uploads ∙ ap (λ (e : Entry StoredUpload). old.uploads.items ++ e ∷ []) entry in
+    rw (is.quota, is.next, uploads) refl
+
+-- its piece is its own
+pushed-piece : (v : Inside) (t : ℕ) (old changed : KeptShelf) (e : Entry StoredUpload) → IsPushed v t old changed e → e.kept.pieces ≡ own_piece (shelf_of old).next (own_chain e.kept.pieces) ∷ []
+pushed-piece v t old changed e is =
+    is.new.piece is.new.own ∙ ap (λ (id : ℕ). own_piece id (own_chain e.kept.pieces) ∷ []) (pushed-id v t old changed e is)
+
+-- its pieces read whole
+pushed-reads : (v : Inside) (t : ℕ) (old changed : KeptShelf) (e : Entry StoredUpload) → IsKept v → IsPushed v t old changed e → ReadsWhole v.pool (pieces_of (with_new (shelf_of old) e.kept))
+pushed-reads v t old changed e kept is x c =
+    let own = pushed-piece v t old changed e is in
+    elim (Contains-with_new (shelf_of old) e.kept x c) [
+      | inl before ↦ reads-part v t old kept is.part x before
+      | inr here ↦ elim (Contains-cases (own_piece (shelf_of old).next (own_chain e.kept.pieces)) x [] (subst (λ pieces. Contains pieces x) own here)) [
+        | inl same ↦ subst (λ (x : Piece). length (content_of v.pool x.chain) ≡ x.chain.len) same (rw is.new.none refl)
+        | inr nothing ↦ absurd (Contains-none x nothing)
+      ]
+    ]
+
+-- the store is kept
+pub IsKept-pushed : (v : Inside) (t : ℕ) (old changed : KeptShelf) (e : Entry StoredUpload) → IsKept v → IsPushed v t old changed e → IsKept (with_shelf v v.pool t changed)
+IsKept-pushed v t old changed e kept is =
+    let shelf = pushed-shelf v t old changed e is in
+    let part = IsShelf-part v t old is.part in
+    let own = pushed-piece v t old changed e is in
+    let chain = own_chain e.kept.pieces in
+    IsKept-with_shelf v v.pool t old changed kept is.part (record { blocks = refl; bytes = refl })
+    (subst (λ (s : Shelf). IsStored v.pool (set (store_of v).shelves t s)) (sym shelf) (IsStored-new v.pool (store_of v).shelves t (shelf_of old) e.kept chain kept.size kept.stored part own is.new.empty is.new.none))
+    (λ k other there differs b some. refl)
+    (subst (All HasOwnPiece) (sym is.uploads) (All-push HasOwnPiece old.uploads.items e (own-part v t old kept is.part) is.new.piece))
+    (subst (λ (s : Shelf). ReadsWhole v.pool (pieces_of s)) (sym shelf) (pushed-reads v t old changed e kept is))
+    (is.charge ∙ charge-part v t old kept is.part
+    ∙ sym (new-charge v.pool (store_of v).shelves t (shelf_of old) e.kept chain kept.size kept.stored part own is.new.empty is.new.none)
+    ∙ ap (charge_on v.pool.block_size) (sym shelf))
+    is.room
+
+-- the plain book gets the upload
+pub plain-pushed : (v : Inside) (t : ℕ) (old changed : KeptShelf) (e : Entry StoredUpload) → IsKept v → IsPushed v t old changed e
+    → plain_in (store_of (with_shelf v v.pool t changed)) ≡ set (plain_in (store_of v)) t (with_new (part_at (store_of v) t) (upload_of v.pool e.kept))
+plain-pushed v t old changed e kept is =
+    plain_in-with_shelf v v.pool t old changed is.part (λ k other there differs b some. refl)
+    ∙ ap (set (plain_in (store_of v)) t) (ap (part_of v.pool) (pushed-shelf v t old changed e is) ∙ part-with_new v.pool v.pool (shelf_of old) e.kept (λ b some. refl)
+    ∙ ap (λ (s : Shelf). with_new (part_of v.pool s) (upload_of v.pool e.kept)) (sym (shelf_at-part v t old is.part)))
+
+-- the tenant pays as much as before
+pub charge-pushed : (v : Inside) (t : ℕ) (old changed : KeptShelf) (e : Entry StoredUpload) → IsKept v → IsPushed v t old changed e
+    → charge_with v.pool.block_size (part_at (store_of (with_shelf v v.pool t changed)) t) ≡ charge_with v.pool.block_size (part_at (store_of v) t)
+charge-pushed v t old changed e kept is =
+    let part : IsPart (with_shelf v v.pool t changed) t changed = with_shelf-part v v.pool t old changed is.part in
+    charge_with-part (with_shelf v v.pool t changed) t changed (IsKept-pushed v t old changed e kept is) part
+    ∙ sym (charge-part (with_shelf v v.pool t changed) t changed (IsKept-pushed v t old changed e kept is) part)
+    ∙ is.charge ∙ charge-part v t old kept is.part ∙ sym (charge_with-part v t old kept is.part)
