@@ -20,3 +20,4 @@ pub mod PlainCharge
 pub mod PlainShelves
 pub mod StoreLemmas
 pub mod StoreSteps
+pub mod StoreGone

@@ -1,11 +1,11 @@
 -- The pieces of a tenant, entry by entry.
 use Rattle.std.proofs.Common.{◌≢◌, get_or, ◌≡◌, ◌⊎◌, ℕ, suc, ◌+◌, ◌<◌, ◌≤◌, List, [], ◌∷◌, ◌++◌, length, get_or, set, take, drop, refl, inl, inr, ap, sym, subst, ◌∙◌, arith, take-append-drop}
-use Rattle.std.specs.List.{sum_by, Contains, flat_map, remove}
+use Rattle.std.specs.List.{sum_by, All, Contains, flat_map, remove}
 use Rattle.std.proofs.lemmas.Bool.{cases_lt}
 use Rattle.std.proofs.lemmas.List.{set_split}
 use Rattle.std.proofs.lemmas.List.Edits.{get_or-remove_below, get_or-remove_above, length-remove}
 use Rattle.std.proofs.lemmas.List.Concat.{flat_map-append}
-use Rattle.std.proofs.lemmas.List.Elements.{Contains-append_cases, Contains-append_left, Contains-append_right}
+use Rattle.std.proofs.lemmas.List.Elements.{All-contains_itself, All-weaker, Contains-append_cases, Contains-append_left, Contains-append_right}
 use Rattle.std.proofs.lemmas.List.Sums.{sum_by-set, sum_by-remove, sum_by-cons}
 use Rattle.block_pool.specs.Blocks.{places_of}
 use Rattle.block_pool.proofs.BlocksLaws.{places_of-append}
@@ -47,6 +47,11 @@ Contains-remove_at xs i x l c =
       | inl below ↦ (c.0, omega (arith, c.1), omega arith, sym (get_or-remove_below xs i x c.0 below l) ∙ c.2)
       | inr above ↦ (c.0 + 1, omega (arith, c.1), omega arith, sym (get_or-remove_above xs i x c.0 above l) ∙ c.2)
     ]
+
+-- what holds of all holds of those that are left
+pub All-remove : {X : Type 0} (P : X → Type 0) (xs : List X) (i : ℕ) → All P xs → All P (remove xs i)
+All-remove {X} P xs i all =
+    All-weaker (Contains (remove xs i)) P (λ (x : X) c. let there = Contains-remove xs i x c in subst P there.2 (all there.0 x there.1)) (remove xs i) (All-contains_itself (remove xs i))
 
 -- where one element is set, there is that one, and what is left without the place
 pub Contains-set : {X : Type 0} (xs : List X) (i : ℕ) (y x : X) → i < length xs → Contains (set xs i y) x → (y ≡ x) ⊎ Contains (remove xs i) x

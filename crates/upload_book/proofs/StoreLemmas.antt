@@ -13,11 +13,12 @@ use Rattle.upload_book.specs.declared.shelf.Shelf.{Shelf as KeptShelf}
 use Rattle.upload_book.specs.declared.store.Store.TheInside.{Inside}
 use Rattle.upload_book.specs.Kept.{shelf_of, store_of, IsKept}
 use Rattle.upload_book.specs.Store.{Store, plain_in, part_at, shelf_at}
-use Rattle.upload_book.specs.Stored.{Shelf, Piece, part_of, pieces_of, places_on, charge_on, IsStored, HasOwnPiece, ReadsWhole}
-use Rattle.upload_book.specs.TenantBook.{TenantBook, opening_part}
+use Rattle.upload_book.specs.Stored.{Shelf, StoredUpload, Piece, part_of, pieces_of, places_on, charge_on, IsStored, HasOwnPiece, ReadsWhole}
+use Rattle.upload_book.specs.TenantBook.{TenantBook, Entry, opening_part}
 use Rattle.upload_book.proofs.PlainCharge.{charge-plain}
 use Rattle.upload_book.proofs.PlainShelves.{KeepBytes, content-same, parts-changed}
 use Rattle.upload_book.proofs.InUse.{places-within}
+use Rattle.upload_book.proofs.Pieces.{IsEntry}
 use Rattle.upload_book.proofs.Shelves.{IsShelf, IsStoredOn, IsStoredOn-shelf}
 
 -- the fields with another pool and one part changed
@@ -134,3 +135,14 @@ with_shelf-part v q t old changed is = record {
   within = omega (arith, is.within, length-set v.shelves.items t changed);
   read = sym (get_or-set_same v.shelves.items t changed changed is.within);
 }
+
+-- the part that a call reads
+pub IsPart-read : (v : Inside) (s : Store) (t : ℕ) (old : KeptShelf) → store_of v ≡ s → t < length s.shelves → old ≡ get_or v.shelves.items t old → IsPart v t old
+IsPart-read v s t old is within read = record { within = part_within v s t is within; read = read }
+
+-- and the upload that it reads in the part
+pub IsEntry-read : (v : Inside) (s : Store) (t i : ℕ) (old : KeptShelf) (e : Entry StoredUpload) → store_of v ≡ s → IsPart v t old → i < length (shelf_at s t).uploads → e ≡ get_or old.uploads.items i e
+    → IsEntry (shelf_of old) i e
+IsEntry-read v s t i old e is part within read =
+    let shelf : shelf_at s t ≡ shelf_of old = ap (λ (s : Store). shelf_at s t) (sym is) ∙ shelf_at-part v t old part in
+    record { within = subst (λ (s : Shelf). i < length s.uploads) shelf within; read = read }

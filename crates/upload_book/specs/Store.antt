@@ -1,10 +1,11 @@
 -- The uploads of all tenants, in blocks of one pool.
-use Rattle.std.specs.Prelude.{◌≡◌, ◌≢◌, ℕ, ◌<◌, List, [], ◌∷◌, ◌++◌, map, length, get_or, Option, None, Contains, Ok}
+use Rattle.std.specs.Prelude.{◌≡◌, ◌≢◌, ℕ, ◌<◌, List, [], ◌∷◌, ◌++◌, map, length, get_or, set, Option, None, Contains, Ok}
+use Rattle.std.specs.List.{remove}
 use Rattle.block_pool.specs.Blocks.{Blocks}
 use Rattle.block_bodies.specs.Bodies.{Chain}
 use Rattle.upload_book.specs.declared.head_row.Kind.TheVariants.{Plain, Final}
 use Rattle.upload_book.specs.Stored.{Shelf, StoredUpload, Piece, HasOwnPiece, own_chain, part_of, upload_of}
-use Rattle.upload_book.specs.TenantBook.{TenantBook, Entry, opening_part, visible_upload}
+use Rattle.upload_book.specs.TenantBook.{TenantBook, TenantPart, Entry, opening_part, visible_upload}
 use Rattle.upload_book.specs.Upload.{Upload, content_of}
 
 -- the pool, the tenants' parts in the order of the settings, and for how many uploads of each there is room
@@ -76,3 +77,11 @@ with_chain e chain = record e { kept = record e.kept { pieces = record { origin 
 -- the upload with this length and this end
 abbrev pub with_head : Entry StoredUpload → Option ℕ → Option ℕ → Entry StoredUpload
 with_head e declared expires = record e { kept = record e.kept { declared = declared; expires = expires } }
+
+-- a part with another entry at a place
+abbrev pub with_upload : {K : Type 0} → TenantPart K → ℕ → Entry K → TenantPart K
+with_upload part place e = record part { uploads = set part.uploads place e }
+
+-- a part without the entry at a place
+abbrev pub without_upload : {K : Type 0} → TenantPart K → ℕ → TenantPart K
+without_upload part place = record part { uploads = remove part.uploads place }

@@ -4,11 +4,10 @@ ghost use Rattle.block_pool.specs.Blocks.{IsWithinLimits, all_free, free_in, siz
 ghost use Rattle.upload_book.specs.Account.{blocks_between};
 ghost use Rattle.upload_book.specs.Charge.{charge_with};
 ghost use Rattle.upload_book.specs.Standing.{standing_in};
-ghost use Rattle.upload_book.specs.Store.{plain_in, shelf_at, part_at, entry_at, upload_at, with_bytes, IsAlone, IsNew, IsVisibleIn};
+ghost use Rattle.upload_book.specs.Store.{plain_in, shelf_at, part_at, entry_at, upload_at, with_bytes, with_upload, without_upload, IsAlone, IsNew, IsVisibleIn};
 ghost use Rattle.upload_book.specs.Stored.{upload_of};
 ghost use Rattle.block_bodies.specs.Changes.{SameSizes};
-ghost use Rattle.upload_book.specs.TenantBook.{opening_part, visible_upload, with_changed, with_new};
-ghost use Rattle.upload_book.specs.Terminate.{without};
+ghost use Rattle.upload_book.specs.TenantBook.{opening_part, visible_upload, with_new};
 ghost use Rattle.upload_book.specs.Upload.{content_of, head_row_of, offset_of};
 
 use crate::head_row::{HeadRow, Name};
@@ -186,8 +185,10 @@ impl Store {
         requires free { blocks_between self.old.pool.block_size (offset_of (upload_at self.old tenant place))
             (length bytes.now) ≤ free_in self.old.pool }
         ensures plain { OnOk result (plain_in self.new ≡ set (plain_in self.old) tenant
-            (with_changed (part_at self.old tenant) (entry_at self.old tenant place).id
-            (with_bytes (upload_at self.old tenant place) bytes.now declared expires))) }
+            (with_upload (part_at self.old tenant) place (record {
+              id = (entry_at self.old tenant place).id;
+              kept = with_bytes (upload_at self.old tenant place) bytes.now declared expires;
+            }))) }
         ensures taken { IfOk result (λ n. n ≡ blocks_between self.old.pool.block_size
             (offset_of (upload_at self.old tenant place)) (length bytes.now)) }
         ensures charge { IfOk result (λ n. charge_with self.old.pool.block_size (part_at self.new tenant)
@@ -210,7 +211,7 @@ impl Store {
         requires tenant { tenant < length self.old.shelves }
         requires place { place < length (shelf_at self.old tenant).uploads }
         ensures plain { plain_in self.new ≡ set (plain_in self.old) tenant
-            (without (part_at self.old tenant) (entry_at self.old tenant place).id) }
+            (without_upload (part_at self.old tenant) place) }
         ensures charge { charge_with self.old.pool.block_size (part_at self.new tenant) + result
             ≡ charge_with self.old.pool.block_size (part_at self.old tenant) }
         ensures free { free_in self.new.pool ≡ free_in self.old.pool + result }

@@ -1,33 +1,54 @@
-use Rattle.std.proofs.Common.{rules, ◌≡◌, ◌≢◌, ◌+◌, ◌<◌, ◌≤◌, ◌^◌, [], length, map, set, IfOk, IfErr, IsOk, OnOk, OnErr, ℕ, ◌-◌, ◌*◌, ◌/◌, ◌%◌, Bool, true, false, nat_eq, nat_lt, List, ◌∷◌, ◌++◌, slice_index_or, bit_and, bit_or, Fits, w8, w32, w64, Bor, MutBor}
-use Rattle.std.specs.List.{sum_by}
-use Rattle.block_pool.specs.Blocks.{IsWithinLimits, all_free, free_in, size_of}
-use Rattle.upload_book.specs.Account.{blocks_between}
-use Rattle.upload_book.specs.Charge.{charge_with}
-use Rattle.upload_book.specs.Standing.{standing_in}
-use Rattle.upload_book.specs.Store.{plain_in, shelf_at, part_at, entry_at, upload_at, with_bytes, IsAlone, IsNew, IsVisibleIn}
-use Rattle.upload_book.specs.Stored.{upload_of}
-use Rattle.block_bodies.specs.Changes.{SameSizes}
-use Rattle.upload_book.specs.TenantBook.{opening_part, visible_upload, with_changed, with_new}
-use Rattle.upload_book.specs.Terminate.{without}
-use Rattle.upload_book.specs.Upload.{content_of, head_row_of, offset_of}
+use Rattle.std.proofs.Common.{◌-◌, ◌+◌, ◌≤◌, refl, sym, arith}
+use Rattle.upload_book.specs.declared.shelf.Shelf.{Shelf as KeptShelf}
+use Rattle.upload_book.proofs.StoreLemmas.{IsPart-read, IsEntry-read, room-part}
+use Rattle.upload_book.proofs.StoreGone.{GivesUp, IsGivenUp, given-held, given-within, IsKept-given, plain-given, charge-given}
 use Rattle.upload_book.proofs.store.Store.remove.Goals as goal
 
--- src/store.rt:220:13
 pub give_back-freed-requires : goal.give_back-freed-requires
-give_back-freed-requires c = ?
+give_back-freed-requires c =
+    let part = IsPart-read c.self.inside c.args.self.now c.args.tenant c.index_mut-shelf.result.now c.self.view_is c.requires.tenant c.index_mut-shelf.ensures.value in
+    let entry = IsEntry-read c.self.inside c.args.self.now c.args.tenant c.args.place c.index_mut-shelf.result.now c.remove.result c.self.view_is part c.requires.place c.remove.ensures.value in
+    given-held c.self.inside c.args.tenant c.args.place c.index_mut-shelf.result.now c.remove.result c.self.invariant part entry
 
--- src/store.rt:221:9
 pub overflow_sub-shelf : goal.overflow_sub-shelf
-overflow_sub-shelf c = ?
+overflow_sub-shelf c =
+    let part = IsPart-read c.self.inside c.args.self.now c.args.tenant c.index_mut-shelf.result.now c.self.view_is c.requires.tenant c.index_mut-shelf.ensures.value in
+    let entry = IsEntry-read c.self.inside c.args.self.now c.args.tenant c.args.place c.index_mut-shelf.result.now c.remove.result c.self.view_is part c.requires.place c.remove.ensures.value in
+    given-within c.self.inside c.args.tenant c.args.place c.index_mut-shelf.result.now c.remove.result c.give_back-freed.result c.give_back-freed.new.pool c.self.invariant (record { part = part; entry = entry; gives = c.give_back-freed.ensures })
 
--- src/store.rt:209:5
+-- the part without the upload
+after : goal.After-self-1 → KeptShelf
+after c = record (c.index_mut-shelf.result.now) { charge = c.index_mut-shelf.result.now.charge - c.give_back-freed.result; uploads = c.remove.new.self }
+
+-- the upload's blocks are given back
+gave : (c : goal.After-self-1) → GivesUp c.self.inside c.args.tenant c.args.place c.index_mut-shelf.result.now c.remove.result c.give_back-freed.result c.give_back-freed.new.pool
+gave c =
+    let part = IsPart-read c.self.inside c.args.self.now c.args.tenant c.index_mut-shelf.result.now c.self.view_is c.requires.tenant c.index_mut-shelf.ensures.value in
+    let entry = IsEntry-read c.self.inside c.args.self.now c.args.tenant c.args.place c.index_mut-shelf.result.now c.remove.result c.self.view_is part c.requires.place c.remove.ensures.value in
+    record { part = part; entry = entry; gives = c.give_back-freed.ensures }
+
+-- the part lost it
+given : (c : goal.After-self-1) → IsGivenUp c.self.inside c.args.place c.index_mut-shelf.result.now (after c) c.give_back-freed.result
+unfolding after
+given c = record {
+  quota = refl;
+  next = refl;
+  charge = omega (arith, given-within c.self.inside c.args.tenant c.args.place c.index_mut-shelf.result.now c.remove.result c.give_back-freed.result c.give_back-freed.new.pool c.self.invariant (gave c));
+  uploads = c.remove.ensures.items;
+  room = omega (arith, room-part c.self.inside c.args.tenant c.index_mut-shelf.result.now c.self.invariant (gave c).part, c.remove.ensures.capacity);
+}
+
 pub invariant_of-self : goal.invariant_of-self
-invariant_of-self c = ?
+unfolding after
+invariant_of-self c =
+    IsKept-given c.self.inside c.args.tenant c.args.place c.index_mut-shelf.result.now (after c) c.remove.result c.give_back-freed.result c.give_back-freed.new.pool c.self.invariant (gave c) (given c)
 
--- src/store.rt:209:5
 pub returns-clause-plain : goal.returns-clause-plain
-returns-clause-plain c = ?
+unfolding after
+returns-clause-plain c =
+    rw (← c.self.view_is) (plain-given c.self.inside c.args.tenant c.args.place c.index_mut-shelf.result.now (after c) c.remove.result c.give_back-freed.result c.give_back-freed.new.pool c.self.invariant (gave c) (given c))
 
--- src/store.rt:209:5
 pub returns-clause-charge : goal.returns-clause-charge
-returns-clause-charge c = ?
+unfolding after
+returns-clause-charge c =
+    rw (← c.self.view_is) (charge-given c.self.inside c.args.tenant c.args.place c.index_mut-shelf.result.now (after c) c.remove.result c.give_back-freed.result c.give_back-freed.new.pool c.self.invariant (gave c) (given c))
