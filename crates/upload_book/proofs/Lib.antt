@@ -19,3 +19,6 @@ pub mod PutLemmas
 pub mod JoinLemmas
 pub mod PlainCharge
 pub mod PlainShelves
+pub mod AloneLemmas
+pub mod QuotaLemmas
+pub mod StayLemmas

@@ -1,5 +1,5 @@
 -- The pieces of a tenant, entry by entry.
-use Rattle.std.proofs.Common.{◌≢◌, get_or, ◌≡◌, ◌⊎◌, ℕ, suc, ◌+◌, ◌<◌, ◌≤◌, List, [], ◌∷◌, ◌++◌, length, get_or, set, take, drop, refl, inl, inr, ap, sym, subst, ◌∙◌, arith, take-append-drop}
+use Rattle.std.proofs.Common.{◌≢◌, ◌≡◌, ◌⊎◌, ℕ, suc, ◌+◌, ◌<◌, ◌≤◌, List, [], ◌∷◌, ◌++◌, length, get_or, set, take, drop, refl, inl, inr, ap, sym, subst, ◌∙◌, arith, take-append-drop}
 use Rattle.std.specs.List.{sum_by, Contains, flat_map, remove}
 use Rattle.std.proofs.lemmas.Bool.{cases_lt}
 use Rattle.std.proofs.lemmas.List.{set_split}
