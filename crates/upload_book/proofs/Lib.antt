@@ -22,3 +22,4 @@ pub mod PlainShelves
 pub mod AloneLemmas
 pub mod QuotaLemmas
 pub mod StayLemmas
+pub mod PriceLemmas
