@@ -60,19 +60,20 @@ ids-kept p [] = refl
 ids-kept p (e ∷ entries) = ap (λ ids. e.id ∷ ids) (ids-kept p entries)
 
 -- where ids ascend, no two places have one
-pub ids-differ : (entries : List (Entry StoredUpload)) (i k : ℕ) (d : Entry StoredUpload) → IsStrictlyIncreasing (map {A = Entry StoredUpload} {B = ℕ} (λ e. e.id) entries) → i < length entries → k < length entries → k ≢ i → (get_or entries k d).id ≢ (get_or entries i d).id
-ids-differ entries i k d ascending i_in k_in other =
-    let pairs = AllPairs-from_increasing (ids_on entries) ascending in
-    let long : length (ids_on entries) ≡ length entries = length-map entries (λ (e : Entry StoredUpload). e.id) in
-    let at_i : get_or (ids_on entries) i d.id ≡ (get_or entries i d).id = get_or-map (λ (e : Entry StoredUpload). e.id) entries i d d.id i_in in
-    let at_k : get_or (ids_on entries) k d.id ≡ (get_or entries k d).id = get_or-map (λ (e : Entry StoredUpload). e.id) entries k d d.id k_in in
+pub ids-differ : {K : Type 0} (entries : List (Entry K)) (i k : ℕ) (d : Entry K) → IsStrictlyIncreasing (map {A = Entry K} {B = ℕ} (λ e. e.id) entries) → i < length entries → k < length entries → k ≢ i → (get_or entries k d).id ≢ (get_or entries i d).id
+ids-differ {K} entries i k d ascending i_in k_in other =
+    let ids : List ℕ = map {A = Entry K} {B = ℕ} (λ e. e.id) entries in
+    let pairs = AllPairs-from_increasing ids ascending in
+    let long : length ids ≡ length entries = length-map entries (λ (e : Entry K). e.id) in
+    let at_i : get_or ids i d.id ≡ (get_or entries i d).id = get_or-map (λ (e : Entry K). e.id) entries i d d.id i_in in
+    let at_k : get_or ids k d.id ≡ (get_or entries k d).id = get_or-map (λ (e : Entry K). e.id) entries k d d.id k_in in
     λ same. elim (cases_lt i k) [
       | inl before ↦ omega (arith, pairs i k d.id before (omega arith), at_i, at_k)
       | inr after ↦ omega (arith, pairs k i d.id (omega arith) (omega arith), at_i, at_k)
     ]
 
 -- what stands at the first place of an id is what is kept under it
-kept_in-first : {K : Type 0} (entries : List (Entry K)) (i : ℕ) (d : Entry K) (id : ℕ) → i < length entries → (get_or entries i d).id ≡ id → ((k : ℕ) → k < i → (get_or entries k d).id ≢ id) → kept_in entries id ≡ Some (get_or entries i d).kept
+pub kept_in-first : {K : Type 0} (entries : List (Entry K)) (i : ℕ) (d : Entry K) (id : ℕ) → i < length entries → (get_or entries i d).id ≡ id → ((k : ℕ) → k < i → (get_or entries k d).id ≢ id) → kept_in entries id ≡ Some (get_or entries i d).kept
 kept_in-first [] i d id l named earlier = absurd (omega arith)
 kept_in-first (e ∷ entries) zero d id l named earlier = rw (eq-eqb e.id id named) refl
 kept_in-first (e ∷ entries) (suc i) d id l named earlier =

@@ -23,3 +23,4 @@ pub mod AloneLemmas
 pub mod QuotaLemmas
 pub mod StayLemmas
 pub mod PriceLemmas
+pub mod PlainPrice
