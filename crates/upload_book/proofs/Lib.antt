@@ -24,3 +24,5 @@ pub mod QuotaLemmas
 pub mod StayLemmas
 pub mod PriceLemmas
 pub mod PlainPrice
+pub mod OwnLemmas
+pub mod PutOnce
