@@ -26,3 +26,4 @@ pub mod PriceLemmas
 pub mod PlainPrice
 pub mod OwnLemmas
 pub mod PutOnce
+pub mod PlainSteps
