@@ -34,13 +34,15 @@ HasOwnPiece-final e final = λ not_final. absurd (not_final final)
 pub own-kept : (old : Shelf) (i : ℕ) (e : Entry StoredUpload) → All HasOwnPiece old.uploads → IsEntry old i e → e.kept.kind ≢ Final → e.kept.pieces ≡ own_piece e.id (own_chain e.kept.pieces) ∷ []
 own-kept old i e own is not_final = subst HasOwnPiece (sym is.read) (own i e is.within) not_final
 
--- all have where another entry has, one is taken out, or one more has
+-- all have where another entry at a place has,
 pub own-set : (old : Shelf) (i : ℕ) (new : Entry StoredUpload) → All HasOwnPiece old.uploads → HasOwnPiece new → All HasOwnPiece (with_entry old i new).uploads
 own-set old i new own is = All-set HasOwnPiece old.uploads i new is own
 
+-- where one is taken out,
 pub own-without : (old : Shelf) (i : ℕ) → All HasOwnPiece old.uploads → All HasOwnPiece (without old i).uploads
 own-without old i own = All-remove HasOwnPiece old.uploads i own
 
+-- and where one more has
 pub own-with_new : (old : Shelf) (kept : StoredUpload) → All HasOwnPiece old.uploads → HasOwnPiece (record { id = old.next; kept = kept }) → All HasOwnPiece (with_new old kept).uploads
 own-with_new old kept own is = All-push HasOwnPiece old.uploads (record { id = old.next; kept = kept }) own is
 

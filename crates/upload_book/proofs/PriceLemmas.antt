@@ -109,6 +109,7 @@ pub record IsChanged (xs ys : List Source) (id a b : ℕ) : Type 0 where
   pub stays : (s : Source) → Contains xs s → (s ≡ record { origin = id; len = a }) ⊎ ((s.origin ≢ id) × Contains ys s)
   pub was : (s : Source) → Contains ys s → (s ≡ record { origin = id; len = b }) ⊎ ((s.origin ≢ id) × Contains xs s)
 
+-- the origin of the segment costs what it takes
 price-alone : (size id a : ℕ) (xs ys : List Source) → Contains xs (record { origin = id; len = a }) → ((s : Source) → Contains xs s → (s ≡ record { origin = id; len = a }) ⊎ ((s.origin ≢ id) × Contains ys s)) → price size xs id ≡ blocks_for size a
 price-alone size id a xs ys there stays =
     let most : blocks_for size a ≤ price size xs id = price-most size id xs (record { origin = id; len = a }) there refl in
@@ -119,6 +120,7 @@ price-alone size id a xs ys there stays =
     ]) in
     omega arith
 
+-- another origin costs no more than before
 price-others : (size origin id a : ℕ) (xs ys : List Source) → origin ≢ id → ((s : Source) → Contains xs s → (s ≡ record { origin = id; len = a }) ⊎ ((s.origin ≢ id) × Contains ys s)) → price size xs origin ≤ price size ys origin
 price-others size origin id a xs ys differs stays =
     price-le size origin xs ys (λ s c same. elim (stays s c) [
@@ -126,6 +128,7 @@ price-others size origin id a xs ys differs stays =
       | inr other ↦ other.1
     ])
 
+-- what the segments cost changes by what that one takes
 pub charge-alone : (size next id a b : ℕ) (xs ys : List Source) → id < next → IsChanged xs ys id a b → charge_of size next ys + blocks_for size a ≡ charge_of size next xs + blocks_for size b
 charge-alone size next id a b xs ys l c =
     let only : ℕ → ℕ → ℕ = λ m origin. cond (eqb origin id) m 0 in
