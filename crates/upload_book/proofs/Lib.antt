@@ -21,3 +21,12 @@ pub mod PlainShelves
 pub mod StoreLemmas
 pub mod StoreSteps
 pub mod StoreGone
+pub mod AloneLemmas
+pub mod QuotaLemmas
+pub mod StayLemmas
+pub mod PriceLemmas
+pub mod PlainPrice
+pub mod OwnLemmas
+pub mod PutOnce
+pub mod PlainSteps
+pub mod StoreAppend

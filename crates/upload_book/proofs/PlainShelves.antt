@@ -92,7 +92,11 @@ part-with_entry p q old i new l same =
     ap (with_uploads (part_of p old)) (map-set_same {X = Entry StoredUpload} {Y = Entry Upload} (entry_of q) (entry_of p) old.uploads i new l (λ e c.
     entry-same p q e (λ b some. same b (entry-places b (remove old.uploads i) e c some))))
 
--- or loses it,
+-- each other entry of it stays,
+pub entry-beside : (p q : Blocks) (old : Shelf) (i : ℕ) (f : Entry StoredUpload) → KeepBytes p q (λ b. places_on b (without old i)) → Contains (remove old.uploads i) f → entry_of q f ≡ entry_of p f
+entry-beside p q old i f same c = entry-same p q f (λ b some. same b (entry-places b (remove old.uploads i) f c some))
+
+-- or it loses one,
 pub part-without : (p q : Blocks) (old : Shelf) (i : ℕ) → KeepBytes p q (λ b. places_on b (without old i)) → part_of q (without old i) ≡ record (part_of p old) { uploads = remove (part_of p old).uploads i }
 part-without p q old i same =
     part-same p q (without old i) same ∙ ap (with_uploads (part_of p old)) (map-remove {X = Entry StoredUpload} {Y = Entry Upload} (entry_of p) old.uploads i)

@@ -4,12 +4,13 @@ use Rattle.std.specs.List.{Contains}
 use Rattle.std.proofs.lemmas.Bool.{cases_lt}
 use Rattle.block_pool.specs.Blocks.{Blocks, count_at, places_of}
 use Rattle.block_pool.proofs.BlocksLaws.{places_of-append, places_of-at}
-use Rattle.block_bodies.specs.Bodies.{Chain, IsBodyOf, IsLastOwn, StandsOnce}
+use Rattle.block_bodies.specs.Bodies.{Chain, IsBodyOf, IsLastOwn}
 use Rattle.block_bodies.specs.Changes.{Puts}
 use Rattle.upload_book.specs.Stored.{Piece, Shelf, StoredUpload, pieces_of, placed_in, places_on, charge_on, Agree, IsPiece, IsStored}
 use Rattle.upload_book.specs.TenantBook.{Entry}
 use Rattle.upload_book.proofs.InUse.{places-within, places-found, Contains-first, Contains-cases, Contains-none}
 use Rattle.upload_book.proofs.Pieces.{IsEntry, with_entry, without, places_at, places-without, places-with_entry, Contains-entry, Contains-without, Contains-with_entry}
+use Rattle.upload_book.proofs.PutOnce.{put-once}
 use Rattle.upload_book.proofs.Shelves.{IsShelf, IsStoredOn, IsStoredOn-shelf, places_on-held, Changes, IsStored-changed, charge-changed}
 use Rattle.upload_book.proofs.GoneLemmas.{piece-body}
 
@@ -71,8 +72,8 @@ own-last p old i e x on is own alone = record {
 
 -- what putting bytes at its end does to the shelf
 pub Changes-put : (p : Blocks) (old : Shelf) (i : ℕ) (e new : Entry StoredUpload) (x : Chain) (bytes : List ℕ) (q : Blocks) (y : Chain) → IsStoredOn p old → IsEntry old i e → e.kept.pieces ≡ own_piece e.id x ∷ [] → IsAlone old i e.id
-    → Puts p x bytes q y → StandsOnce y.blocks → new.kept.pieces ≡ own_piece e.id y ∷ [] → Changes p old q (with_entry old i new)
-Changes-put p old i e new x bytes q y on is own alone f once put = record {
+    → Puts p x bytes q y → new.kept.pieces ≡ own_piece e.id y ∷ [] → Changes p old q (with_entry old i new)
+Changes-put p old i e new x bytes q y on is own alone f put = record {
   sizes = f.sizes;
   pieces = record { each = each; agree = agree };
   counts = λ b. omega (arith, f.counts b, places-with_entry b old i e new is, own-places b e e.id x own, own-places b new e.id y put);
@@ -97,7 +98,7 @@ Changes-put p old i e new x bytes q y on is own alone f once put = record {
     mine = record {
       given = (on.pieces.each (own_piece e.id x) (own-contained old i e x is own)).given;
       blocks = f.body.blocks;
-      once = once;
+      once = put-once p x bytes q y f (own-body p old i e x on is own) (on.pieces.each (own_piece e.id x) (own-contained old i e x is own)).once;
     }
 
     each : (z : Piece) → Contains (pieces_of (with_entry old i new)) z → IsPiece q.block_size old.next z
@@ -145,16 +146,16 @@ Changes-put p old i e new x bytes q y on is own alone f once put = record {
 
 -- the stored book with the bytes
 pub IsStored-put : (p : Blocks) (shelves : List Shelf) (t : ℕ) (old : Shelf) (i : ℕ) (e new : Entry StoredUpload) (x : Chain) (bytes : List ℕ) (q : Blocks) (y : Chain) → IsStored p shelves → IsShelf shelves t old → IsEntry old i e → e.kept.pieces ≡ own_piece e.id x ∷ [] → IsAlone old i e.id
-    → Puts p x bytes q y → StandsOnce y.blocks → new.kept.pieces ≡ own_piece e.id y ∷ [] → IsStored q (set shelves t (with_entry old i new))
-IsStored-put p shelves t old i e new x bytes q y kept shelf is own alone f once put =
-    IsStored-changed p shelves t old q (with_entry old i new) kept shelf (Changes-put p old i e new x bytes q y (IsStoredOn-shelf p shelves t old kept shelf) is own alone f once put)
+    → Puts p x bytes q y → new.kept.pieces ≡ own_piece e.id y ∷ [] → IsStored q (set shelves t (with_entry old i new))
+IsStored-put p shelves t old i e new x bytes q y kept shelf is own alone f put =
+    IsStored-changed p shelves t old q (with_entry old i new) kept shelf (Changes-put p old i e new x bytes q y (IsStoredOn-shelf p shelves t old kept shelf) is own alone f put)
 
 -- the tenant pays for the new body in place of the old one
 pub put-charge : (p : Blocks) (shelves : List Shelf) (t : ℕ) (old : Shelf) (i : ℕ) (e new : Entry StoredUpload) (x : Chain) (bytes : List ℕ) (q : Blocks) (y : Chain) → IsStored p shelves → IsShelf shelves t old → IsEntry old i e → e.kept.pieces ≡ own_piece e.id x ∷ [] → IsAlone old i e.id
-    → Puts p x bytes q y → StandsOnce y.blocks → new.kept.pieces ≡ own_piece e.id y ∷ []
+    → Puts p x bytes q y → new.kept.pieces ≡ own_piece e.id y ∷ []
     → charge_on p.block_size (with_entry old i new) + length x.blocks ≡ charge_on p.block_size old + length y.blocks
-put-charge p shelves t old i e new x bytes q y kept shelf is own alone f once put =
-    let change : Changes p old q (with_entry old i new) = Changes-put p old i e new x bytes q y (IsStoredOn-shelf p shelves t old kept shelf) is own alone f once put in
+put-charge p shelves t old i e new x bytes q y kept shelf is own alone f put =
+    let change : Changes p old q (with_entry old i new) = Changes-put p old i e new x bytes q y (IsStoredOn-shelf p shelves t old kept shelf) is own alone f put in
     more _ _ _ _ _ _ (charge-changed p shelves t old q (with_entry old i new) kept shelf change) f.free
   where
     more : (f g a b n m : ℕ) → g + b ≡ f + a → g + m ≡ f + n → b + n ≡ a + m

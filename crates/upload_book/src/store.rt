@@ -168,6 +168,31 @@ impl Store {
         shelf.next += 1;
     }
 
+    /// Tells the length and the end of the upload at a place, which is not a final one.
+    pub(crate) fn renew(
+        &mut self,
+        tenant: usize,
+        place: usize,
+        declared: Option<u64>,
+        expires: Option<Moment>,
+    )
+        requires tenant { tenant < length self.old.shelves }
+        requires place { place < length (shelf_at self.old tenant).uploads }
+        requires own { (entry_at self.old tenant place).kept.kind ≢ Kind.Final }
+        ensures plain { plain_in self.new ≡ set (plain_in self.old) tenant
+            (with_upload (part_at self.old tenant) place (record {
+              id = (entry_at self.old tenant place).id;
+              kept = with_bytes (upload_at self.old tenant place) [] declared expires;
+            })) }
+        ensures pool { self.new.pool ≡ self.old.pool }
+        ensures room_stays { self.new.room ≡ self.old.room }
+        ensures charge { charge_with self.old.pool.block_size (part_at self.new tenant)
+            ≡ charge_with self.old.pool.block_size (part_at self.old tenant) }
+    {
+        let shelf = &mut self.shelves[tenant];
+        shelf.uploads[place].renew(declared, expires);
+    }
+
     /// Adds bytes at the end of the upload at a place, and tells its length and its end. Gives how many blocks
     /// were taken for the bytes. The error is that there was no memory for the list of the upload's blocks,
     /// which had to grow, and then nothing changes.
@@ -181,7 +206,7 @@ impl Store {
     ) -> Result<u64, AllocError>
         requires tenant { tenant < length self.old.shelves }
         requires place { place < length (shelf_at self.old tenant).uploads }
-        requires alone { 0 < length bytes.now → IsAlone self.old tenant place }
+        requires alone { IsAlone self.old tenant place }
         requires free { blocks_between self.old.pool.block_size (offset_of (upload_at self.old tenant place))
             (length bytes.now) ≤ free_in self.old.pool }
         ensures plain { OnOk result (plain_in self.new ≡ set (plain_in self.old) tenant

@@ -1,0 +1,139 @@
+-- The store where an upload is told its length and its end, and where bytes are put at the end of one.
+use Rattle.std.proofs.Common.{◌≡◌, ◌≢◌, ℕ, ◌+◌, ◌-◌, ◌<◌, ◌≤◌, List, [], ◌∷◌, ◌++◌, length, set, vec_capacity, Option, refl, sym, ap, ◌∙◌, subst, inl, inr, arith}
+use Rattle.std.specs.List.{All, Contains}
+use Rattle.std.proofs.Math.ListN.{length-append}
+use Rattle.std.proofs.lemmas.List.{append-nil}
+use Rattle.block_pool.specs.Blocks.{Blocks}
+use Rattle.block_bodies.specs.Bodies.{Chain, IsBodyOf, IsLastOwn, StandsOnce, content_of}
+use Rattle.block_bodies.specs.Changes.{Puts, SameSizes}
+use Rattle.upload_book.specs.Charge.{charge_with}
+use Rattle.upload_book.specs.declared.head_row.Kind.TheVariants.{Final}
+use Rattle.upload_book.specs.declared.shelf.Shelf.{Shelf as KeptShelf}
+use Rattle.upload_book.specs.declared.store.Store.TheInside.{Inside}
+use Rattle.upload_book.specs.Kept.{shelf_of, store_of, IsKept}
+use Rattle.upload_book.specs.Store.{plain_in, part_at, with_chain, with_head, with_upload, with_bytes}
+use Rattle.upload_book.specs.Stored.{Shelf, StoredUpload, Piece, part_of, entry_of, upload_of, pieces_of, own_chain, charge_on, IsStored, HasOwnPiece, ReadsWhole}
+use Rattle.upload_book.specs.TenantBook.{Entry}
+use Rattle.upload_book.proofs.InUse.{Contains-cases, Contains-none, places-within}
+use Rattle.upload_book.proofs.OwnLemmas.{HasOwnPiece-from, own-kept, own-set}
+use Rattle.upload_book.proofs.Pieces.{IsEntry, with_entry, without, Contains-with_entry, Contains-without}
+use Rattle.upload_book.proofs.PlainShelves.{KeepBytes, content-same, put-keeps, put-keeps_elsewhere, part-with_entry}
+use Rattle.upload_book.proofs.PlainSteps.{upload-put}
+use Rattle.upload_book.proofs.PutLemmas.{own_piece, own-contained, IsAlone, own-body, own-last, IsStored-put, put-charge}
+use Rattle.upload_book.proofs.Shelves.{IsShelf, IsStoredOn, IsStoredOn-shelf}
+use Rattle.upload_book.proofs.StoreLemmas.{with_shelf, with_shelf-part, IsPart, IsShelf-part, shelf_at-part, own-part, reads-part, charge-part, charge_with-part, IsKept-with_shelf, plain_in-with_shelf}
+
+-- an upload that is not final is read in a part, and bytes are put at its end
+pub record PutsIn (v : Inside) (t i : ℕ) (old : KeptShelf) (e : Entry StoredUpload) (bytes : List ℕ) (q : Blocks) (y : Chain) : Type 0 where
+  pub part : IsPart v t old
+  pub entry : IsEntry (shelf_of old) i e
+  pub own : e.kept.kind ≢ Final
+  pub alone : IsAlone (shelf_of old) i e.id
+  pub puts : Puts v.pool (own_chain e.kept.pieces) bytes q y
+  pub once : StandsOnce y.blocks
+
+-- its one piece
+pub own-read : (v : Inside) (t i : ℕ) (old : KeptShelf) (e : Entry StoredUpload) → IsKept v → IsPart v t old → IsEntry (shelf_of old) i e → e.kept.kind ≢ Final
+    → e.kept.pieces ≡ own_piece e.id (own_chain e.kept.pieces) ∷ []
+own-read v t i old e kept part entry own = own-kept (shelf_of old) i e (own-part v t old kept part) entry own
+
+-- reads whole,
+pub own-whole : (v : Inside) (t i : ℕ) (old : KeptShelf) (e : Entry StoredUpload) → IsKept v → IsPart v t old → IsEntry (shelf_of old) i e → e.kept.pieces ≡ own_piece e.id (own_chain e.kept.pieces) ∷ []
+    → length (content_of v.pool (own_chain e.kept.pieces)) ≡ (own_chain e.kept.pieces).len
+own-whole v t i old e kept part entry own =
+    reads-part v t old kept part (own_piece e.id (own_chain e.kept.pieces)) (own-contained (shelf_of old) i e (own_chain e.kept.pieces) entry own)
+
+-- is a body,
+pub body-read : (v : Inside) (t i : ℕ) (old : KeptShelf) (e : Entry StoredUpload) → IsKept v → IsPart v t old → IsEntry (shelf_of old) i e → e.kept.kind ≢ Final → IsBodyOf v.pool (own_chain e.kept.pieces)
+body-read v t i old e kept part entry own =
+    own-body v.pool (shelf_of old) i e (own_chain e.kept.pieces) (IsStoredOn-shelf v.pool (store_of v).shelves t (shelf_of old) kept.stored (IsShelf-part v t old part)) entry (own-read v t i old e kept part entry own)
+
+-- whose last block is its own where it is alone
+pub last-read : (v : Inside) (t i : ℕ) (old : KeptShelf) (e : Entry StoredUpload) → IsKept v → IsPart v t old → IsEntry (shelf_of old) i e → e.kept.kind ≢ Final → IsAlone (shelf_of old) i e.id
+    → IsLastOwn v.pool (own_chain e.kept.pieces)
+last-read v t i old e kept part entry own alone =
+    own-last v.pool (shelf_of old) i e (own_chain e.kept.pieces) (IsStoredOn-shelf v.pool (store_of v).shelves t (shelf_of old) kept.stored (IsShelf-part v t old part)) entry (own-read v t i old e kept part entry own) alone
+
+-- the part in which the upload has another list of blocks, a length and an end
+pub record IsPutIn (v : Inside) (i : ℕ) (old changed : KeptShelf) (e : Entry StoredUpload) (y : Chain) (declared expires : Option ℕ) (taken : ℕ) : Type 0 where
+  pub quota : changed.quota ≡ old.quota
+  pub next : changed.next ≡ old.next
+  pub charge : changed.charge ≡ old.charge + taken
+  pub uploads : changed.uploads.items ≡ set old.uploads.items i (with_head (with_chain e y) declared expires)
+  pub room : v.room ≤ vec_capacity changed.uploads
+  pub taken : length y.blocks ≡ length (own_chain e.kept.pieces).blocks + taken
+
+put-shelf : (v : Inside) (i : ℕ) (old changed : KeptShelf) (e : Entry StoredUpload) (y : Chain) (declared expires : Option ℕ) (taken : ℕ) → IsPutIn v i old changed e y declared expires taken
+    → shelf_of changed ≡ with_entry (shelf_of old) i (with_head (with_chain e y) declared expires)
+put-shelf v i old changed e y declared expires taken is = rw (is.quota, is.next, is.uploads) refl
+
+module _ (v : Inside) (t i : ℕ) (old changed : KeptShelf) (e : Entry StoredUpload) (bytes : List ℕ) (q : Blocks) (y : Chain) (declared expires : Option ℕ) (taken : ℕ) (kept : IsKept v) (puts : PutsIn v t i old e bytes q y)
+    (is : IsPutIn v i old changed e y declared expires taken) where
+  abbrev after : Entry StoredUpload
+  after = with_head (with_chain e y) declared expires
+
+  -- all pieces read whole
+  put-reads : ReadsWhole q (pieces_of (with_entry (shelf_of old) i after))
+  put-reads x c =
+      let own = own-read v t i old e kept puts.part puts.entry puts.own in
+      let on = IsStoredOn-shelf v.pool (store_of v).shelves t (shelf_of old) kept.stored (IsShelf-part v t old puts.part) in
+      elim (Contains-with_entry (shelf_of old) i after x puts.entry.within c) [
+        | inl here ↦ elim (Contains-cases (own_piece e.id y) x [] here) [
+          | inl same ↦ subst (λ (x : Piece). length (content_of q x.chain) ≡ x.chain.len) same whole
+          | inr nothing ↦ absurd (Contains-none x nothing)
+        ]
+        | inr rest ↦
+            let same = content-same v.pool q x.chain (λ b some. put-keeps v.pool (shelf_of old) i e (own_chain e.kept.pieces) bytes q y on puts.entry own puts.puts b (omega (arith, some, places-within b (pieces_of (without (shelf_of old) i)) x rest))) in
+            ap (length {A = ℕ}) same ∙ reads-part v t old kept puts.part x (Contains-without (shelf_of old) i x rest)
+      ]
+    where
+      whole : length (content_of q y) ≡ y.len
+      whole =
+          let own = own-read v t i old e kept puts.part puts.entry puts.own in
+          let before : length (content_of v.pool (own_chain e.kept.pieces)) ≡ (own_chain e.kept.pieces).len = own-whole v t i old e kept puts.part puts.entry own in
+          omega (arith, ap (length {A = ℕ}) puts.puts.content, length-append (content_of v.pool (own_chain e.kept.pieces)) bytes, before, puts.puts.len)
+
+  -- the store is kept
+  pub IsKept-put : IsKept (with_shelf v q t changed)
+  IsKept-put =
+      let shelf = put-shelf v i old changed e y declared expires taken is in
+      let part = IsShelf-part v t old puts.part in
+      let own = own-read v t i old e kept puts.part puts.entry puts.own in
+      let x = own_chain e.kept.pieces in
+      IsKept-with_shelf v q t old changed kept puts.part puts.puts.sizes
+      (subst (λ (s : Shelf). IsStored q (set (store_of v).shelves t s)) (sym shelf) (IsStored-put v.pool (store_of v).shelves t (shelf_of old) i e after x bytes q y kept.stored part puts.entry own puts.alone puts.puts puts.once refl))
+      (put-keeps_elsewhere v.pool (store_of v).shelves t (shelf_of old) i e x bytes q y kept.stored part puts.entry own puts.puts)
+      (subst (λ (s : Shelf). All HasOwnPiece s.uploads) (sym shelf) (own-set (shelf_of old) i after (own-part v t old kept puts.part) (HasOwnPiece-from after y refl)))
+      (subst (λ (s : Shelf). ReadsWhole q (pieces_of s)) (sym shelf) put-reads)
+      (omega (
+        arith,
+        is.charge,
+        is.taken,
+        charge-part v t old kept puts.part,
+        put-charge v.pool (store_of v).shelves t (shelf_of old) i e after x bytes q y kept.stored part puts.entry own puts.alone puts.puts puts.once refl,
+        ap (charge_on v.pool.block_size) shelf,
+      ))
+      is.room
+
+  -- the plain book's upload has the bytes
+  pub plain-put : plain_in (store_of (with_shelf v q t changed))
+      ≡ set (plain_in (store_of v)) t (with_upload (part_at (store_of v) t) i (record { id = e.id; kept = with_bytes (upload_of v.pool e.kept) bytes declared expires }))
+  plain-put =
+      let shelf = put-shelf v i old changed e y declared expires taken is in
+      let part = IsShelf-part v t old puts.part in
+      let on = IsStoredOn-shelf v.pool (store_of v).shelves t (shelf_of old) kept.stored part in
+      let own = own-read v t i old e kept puts.part puts.entry puts.own in
+      let x = own_chain e.kept.pieces in
+      plain_in-with_shelf v q t old changed puts.part (put-keeps_elsewhere v.pool (store_of v).shelves t (shelf_of old) i e x bytes q y kept.stored part puts.entry own puts.puts)
+      ∙ ap (set (plain_in (store_of v)) t) (ap (part_of q) shelf ∙ part-with_entry v.pool q (shelf_of old) i after puts.entry.within (put-keeps v.pool (shelf_of old) i e x bytes q y on puts.entry own puts.puts)
+      ∙ ap (λ u. with_upload (part_of v.pool (shelf_of old)) i (record { id = e.id; kept = u })) (upload-put v.pool e.kept e.id x bytes q y declared expires own puts.puts)
+      ∙ ap (λ (s : Shelf). with_upload (part_of v.pool s) i (record { id = e.id; kept = with_bytes (upload_of v.pool e.kept) bytes declared expires })) (sym (shelf_at-part v t old puts.part)))
+
+  -- the tenant pays for the blocks that were taken
+  pub charge-put : charge_with v.pool.block_size (part_at (store_of (with_shelf v q t changed)) t) ≡ charge_with v.pool.block_size (part_at (store_of v) t) + taken
+  charge-put =
+      let w = with_shelf v q t changed in
+      let part : IsPart w t changed = with_shelf-part v q t old changed puts.part in
+      let now : charge_with v.pool.block_size (part_at (store_of w) t) ≡ changed.charge =
+      subst (λ size. charge_with size (part_at (store_of w) t) ≡ changed.charge) puts.puts.sizes.bytes (charge_with-part w t changed IsKept-put part ∙ sym (charge-part w t changed IsKept-put part)) in
+      omega (arith, now, is.charge, charge-part v t old kept puts.part, charge_with-part v t old kept puts.part)
