@@ -1,7 +1,6 @@
 pub mod AppendLemmas
 pub mod Entries
 pub mod FirstRefusal
-pub mod KeptLemmas
 pub mod LawfulSteps
 pub mod LawfulAppend
 pub mod LawsLemmas
@@ -16,3 +15,4 @@ pub mod Pieces
 pub mod GoneLemmas
 pub mod PutLemmas
 pub mod JoinLemmas
+pub mod PriceLemmas
