@@ -101,7 +101,7 @@ IsOfKind-renewed part Partial u before end own whole is = (whole, rw is refl)
 IsOfKind-renewed part Final u before end own whole is = absurd (cc)
 
 -- an upload that is not a final one is whole
-IsWhole-from_kind : (part : TenantBook) (kind : Kind) (u : Upload) → is_final kind ≡ false → IsOfKind part u kind → IsWhole u
+pub IsWhole-from_kind : (part : TenantBook) (kind : Kind) (u : Upload) → is_final kind ≡ false → IsOfKind part u kind → IsWhole u
 IsWhole-from_kind part Plain u own sound = sound.0
 IsWhole-from_kind part Partial u own sound = sound.0
 IsWhole-from_kind part Final u own sound = absurd (cc)
@@ -123,7 +123,7 @@ IsUploadOf-append n account part later u chunk now can sound =
     }
 
 -- past the end of a complete upload there is room for no byte
-no_bytes : (n : Numbers) (offset more : ℕ) → is_too_long n offset (offset + more) ≡ false → more ≡ 0
+pub no_bytes : (n : Numbers) (offset more : ℕ) → is_too_long n offset (offset + more) ≡ false → more ≡ 0
 no_bytes n offset more fits = grind (arith, nat_tests)
 
 -- a part of a final upload takes no more bytes

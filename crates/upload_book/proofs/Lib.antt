@@ -16,3 +16,5 @@ pub mod GoneLemmas
 pub mod PutLemmas
 pub mod JoinLemmas
 pub mod PriceLemmas
+pub mod ChargeLemmas
+pub mod LawfulFewer
