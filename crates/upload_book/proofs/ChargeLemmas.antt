@@ -1,19 +1,18 @@
 -- What a tenant pays after a creation and after a PATCH.
-use Rattle.std.proofs.Common.{◌≡◌, ◌≢◌, ◌⊎◌, ℕ, ◌+◌, ◌-◌, ◌<◌, ◌≤◌, Bool, true, false, true≢false, eqb, not, List, [], ◌∷◌, ◌++◌, length, get_or, set, Option, Some, None, refl, inl, inr, ap, sym, subst, ◌∙◌, arith}
-use Rattle.std.specs.List.{All, Contains, filter, flat_map, remove, zip}
+use Rattle.std.proofs.Common.{◌≡◌, ◌≢◌, ◌⊎◌, ℕ, ◌+◌, ◌-◌, ◌<◌, Bool, true, false, eqb, not, List, [], ◌∷◌, length, get_or, set, Some, None, refl, inl, inr, ap, subst, ◌∙◌, arith}
+use Rattle.std.specs.List.{All, Contains, filter, flat_map, remove}
 use Rattle.std.proofs.lemmas.Bool.{cases_lt}
 use Rattle.std.proofs.lemmas.Bool.Decides.{nat_tests}
 use Rattle.std.proofs.lemmas.List.Elements.{All-filter, All-weaker, filter_passes}
 use Rattle.std.proofs.lemmas.Slice.Zip.{length-zip, get_or-zip}
 use Rattle.block_bodies.specs.Bodies.{blocks_for}
-use Rattle.upload_book.specs.Account.{account_in, blocks_added, blocks_between}
+use Rattle.upload_book.specs.Account.{blocks_added, blocks_between}
 use Rattle.upload_book.specs.Append.{is_final, append_refusal, upload_with}
 use Rattle.upload_book.specs.Charge.{Source, sources_of, charge_in}
 use Rattle.upload_book.specs.Chunk.{Chunk}
 use Rattle.upload_book.specs.Create.{created_upload, new_kind}
 use Rattle.upload_book.specs.declared.account.Account.{Account}
-use Rattle.upload_book.specs.declared.head_row.Kind.{Kind}
-use Rattle.upload_book.specs.declared.head_row.Kind.TheVariants.{Plain, Partial, Final}
+use Rattle.upload_book.specs.declared.head_row.Kind.TheVariants.{Final}
 use Rattle.upload_book.specs.declared.settings.Numbers.{Numbers}
 use Rattle.upload_book.specs.Lawful.{IsTenantOf, IsUploadOf, IsOfKind, IsGivenIn, IsSegmentOf, IsWhole, HasParts}
 use Rattle.upload_book.specs.NewUpload.{NewUpload}
@@ -21,7 +20,7 @@ use Rattle.upload_book.specs.TenantBook.{Entry, TenantBook, kept_in, with_change
 use Rattle.upload_book.specs.Upload.{Upload, offset_of, head_row_of}
 use Rattle.upload_book.proofs.Entries.{with_kept-place, kept_in-contains, kept_in-All, without-place}
 use Rattle.upload_book.proofs.LawfulAppend.{IsAppendable, IsAppendable-from_none, IsWhole-from_kind, offset_of-append, no_bytes}
-use Rattle.upload_book.proofs.PriceLemmas.{All-flat_map, blocks_for-zero, blocks_between-adds, charge-more, charge-push, sources-All, sources-own}
+use Rattle.upload_book.proofs.PriceLemmas.{All-flat_map, blocks_between-adds, charge-more, charge-push, sources-All, sources-own}
 
 -- the parts of a final upload
 final_parts : (part : TenantBook) (u : Upload) → IsOfKind part u u.kind → u.kind ≡ Final → HasParts part u

@@ -1,20 +1,19 @@
 -- A DELETE and a sweep leave a lawful book lawful: fewer uploads cost no more, and what is left is as it should be.
-use Rattle.std.proofs.Common.{◌≡◌, ◌⊎◌, ℕ, ◌+◌, ◌-◌, ◌<◌, ◌≤◌, Bool, eqb, not, List, [], ◌∷◌, map, length, get_or, set, Option, Some, None, IfSome, Result, Ok, Err, refl, inl, inr, ap, sym, subst, ◌∙◌, arith}
-use Rattle.std.specs.List.{All, filter, sum_by}
+use Rattle.std.proofs.Common.{◌≡◌, ◌⊎◌, ℕ, ◌+◌, ◌-◌, ◌<◌, ◌≤◌, Bool, eqb, not, List, [], ◌∷◌, map, length, get_or, None, refl, inl, inr, ap, ◌∙◌, arith}
+use Rattle.std.specs.List.{filter, sum_by}
 use Rattle.std.proofs.lemmas.List.Elements.{All-filter, All-map, All-weaker}
 use Rattle.std.proofs.lemmas.List.Sums.{count_by-le-length, length-filter, sum_by-cons}
 use Rattle.upload_book.specs.Charge.{charge_in}
-use Rattle.upload_book.specs.declared.refusal.Refusal.{Refusal}
 use Rattle.upload_book.specs.declared.settings.Numbers.{Numbers}
 use Rattle.upload_book.specs.Expiry.{is_over}
 use Rattle.upload_book.specs.Lawful.{IsLawful, IsTenantOf, IsUploadOf, IsGivenIn, IsSegmentOf}
-use Rattle.upload_book.specs.PlainBook.{PlainBook, with_tenant_book, tenant_book, book_after}
-use Rattle.upload_book.specs.Sweep.{part_after_sweep, swept_blocks, book_after_sweep}
-use Rattle.upload_book.specs.TenantBook.{Entry, TenantBook, kept_in, visible_upload}
-use Rattle.upload_book.specs.Terminate.{without, given_back, part_after_terminate}
+use Rattle.upload_book.specs.PlainBook.{PlainBook, with_tenant_book, tenant_book}
+use Rattle.upload_book.specs.Sweep.{part_after_sweep, book_after_sweep}
+use Rattle.upload_book.specs.TenantBook.{Entry, TenantBook, kept_in}
+use Rattle.upload_book.specs.Terminate.{without, given_back}
 use Rattle.upload_book.specs.Upload.{Upload}
 use Rattle.upload_book.proofs.Entries.{kept_in-filter, ascending-filter}
-use Rattle.upload_book.proofs.LawfulSteps.{IsUploadOf-beside, IsLawful-with_tenant_book-less, IsLawful-with_tenant_book-same}
+use Rattle.upload_book.proofs.LawfulSteps.{IsUploadOf-beside, IsLawful-with_tenant_book-less}
 use Rattle.upload_book.proofs.PriceLemmas.{charge-filter}
 
 -- a part with those uploads that pass a test
@@ -94,7 +93,6 @@ quotas-swept now (part ∷ parts) = ap (λ rest. part.quota ∷ rest) (quotas-sw
 -- a sweep leaves a lawful book lawful
 pub IsLawful-sweep : (b : PlainBook) (now : ℕ) → IsLawful b → IsLawful (book_after_sweep b now)
 IsLawful-sweep b now lawful =
-    let n : Numbers = b.settings.numbers in
     record {
       settings = lawful.settings;
       quotas = quotas-swept now b.tenants ∙ lawful.quotas;

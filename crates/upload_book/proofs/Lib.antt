@@ -18,3 +18,5 @@ pub mod JoinLemmas
 pub mod PriceLemmas
 pub mod ChargeLemmas
 pub mod LawfulFewer
+pub mod Outcomes
+pub mod BookLemmas

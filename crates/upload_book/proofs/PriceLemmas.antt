@@ -1,26 +1,22 @@
 -- What segments cost, and what a tenant pays after a step.
-use Rattle.std.proofs.Common.{◌≡◌, ◌≢◌, ◌⊎◌, ℕ, zero, suc, ◌+◌, ◌-◌, ◌<◌, ◌≤◌, max, min, Bool, true, false, cond, eqb, not, List, [], ◌∷◌, ◌++◌, map, length, get_or, set, Option, Some, None, refl, inl, inr, ap, sym, subst, ◌∙◌, arith, append-nil, length-append}
-use Rattle.std.specs.List.{All, Contains, filter, flat_map, remove, zip}
-use Rattle.std.proofs.lemmas.Bool.{cases_lt}
+use Rattle.std.proofs.Common.{◌≡◌, ◌≢◌, ◌⊎◌, ℕ, zero, suc, ◌+◌, ◌-◌, ◌<◌, ◌≤◌, max, Bool, true, false, cond, eqb, not, List, [], ◌∷◌, ◌++◌, map, length, get_or, set, refl, inl, inr, ap, sym, subst, ◌∙◌, arith, append-nil}
+use Rattle.std.specs.List.{All, filter, flat_map, remove, zip}
 use Rattle.std.proofs.lemmas.Bool.Decides.{nat_tests, eqb_tells}
 use Rattle.std.proofs.lemmas.List.{get_or-set_same, take-set-le, drop-set-lt}
 use Rattle.std.proofs.lemmas.List.Concat.{flat_map-append}
-use Rattle.std.proofs.lemmas.List.Elements.{All-append, All-cons, All-nil, All-filter, All-head, All-tail, All-map, All-weaker, filter_passes}
+use Rattle.std.proofs.lemmas.List.Elements.{All-append, All-cons, All-nil, All-head, All-tail, All-map}
 use Rattle.std.proofs.lemmas.Slice.Zip.{length-zip, get_or-zip}
 use Rattle.std.proofs.Math.ListN.{length-set}
 use Rattle.block_bodies.specs.Bodies.{blocks_for}
 use Rattle.block_bodies.proofs.BlocksFor.{blocks_for-suffice, blocks_for-least}
-use Rattle.upload_book.specs.Account.{account_in, account_with, blocks_added, blocks_between}
-use Rattle.upload_book.specs.Append.{is_final, append_refusal, upload_with}
-use Rattle.upload_book.specs.Charge.{Source, sum_below, price, charge_of, origins, sources_of, charge_in, charge_with}
-use Rattle.upload_book.specs.Chunk.{Chunk}
-use Rattle.upload_book.specs.declared.account.Account.{Account}
+use Rattle.upload_book.specs.Account.{blocks_between}
+use Rattle.upload_book.specs.Append.{is_final}
+use Rattle.upload_book.specs.Charge.{Source, sum_below, price, charge_of, origins, sources_of, charge_in}
 use Rattle.upload_book.specs.declared.head_row.Kind.{Kind}
 use Rattle.upload_book.specs.declared.head_row.Kind.TheVariants.{Plain, Partial, Final}
 use Rattle.upload_book.specs.declared.settings.Numbers.{Numbers}
-use Rattle.upload_book.specs.TenantBook.{Entry, TenantBook, kept_in, with_kept, with_changed, with_new}
-use Rattle.upload_book.specs.Upload.{Upload, content_of, offset_of}
-use Rattle.upload_book.proofs.Entries.{with_kept-place, kept_in-contains, without-place}
+use Rattle.upload_book.specs.TenantBook.{Entry, TenantBook}
+use Rattle.upload_book.specs.Upload.{Upload, offset_of}
 use Rattle.upload_book.proofs.SumsBelow.{sum_below-same, sum_below-add, sum_below-one}
 
 -- no byte takes no block
