@@ -49,7 +49,7 @@ pub charge-create : (n : Numbers) (part : TenantBook) (new : NewUpload) (now : �
 charge-create n part new now sound = charge-next n part (created_upload n new now) sound (new_own new.partial) refl refl
 
 -- no final upload has a part that takes more bytes
-parts-differ : (n : Numbers) (account : Account) (part : TenantBook) (id : ℕ) (u : Upload) (chunk : Chunk) (v : Upload) → kept_in part.uploads id ≡ Some u → IsAppendable n account u chunk → 0 < length chunk.bytes → HasParts part v → All (λ o. o ≢ id) v.parts
+pub parts-differ : (n : Numbers) (account : Account) (part : TenantBook) (id : ℕ) (u : Upload) (chunk : Chunk) (v : Upload) → kept_in part.uploads id ≡ Some u → IsAppendable n account u chunk → 0 < length chunk.bytes → HasParts part v → All (λ o. o ≢ id) v.parts
 parts-differ n account part id u chunk v there can some parts = λ k d within same.
     let Q : (ℕ × List ℕ) → Type 0 = λ (p : ℕ × List ℕ). IsSegmentOf part p.0 p.1 in
     let in_segments : k < length v.segments = omega (arith, parts.each) in
@@ -61,8 +61,15 @@ parts-differ n account part id u chunk v there can some parts = λ k d within sa
     let none : length chunk.bytes ≡ 0 = no_bytes n (offset_of u) (length chunk.bytes) fits in
     omega arith
 
+-- so it is of every upload of the tenant
+pub uploads-differ : (n : Numbers) (account : Account) (part : TenantBook) (id : ℕ) (u : Upload) (chunk : Chunk) → IsTenantOf n part → kept_in part.uploads id ≡ Some u → IsAppendable n account u chunk → 0 < length chunk.bytes
+    → All (λ e. e.kept.kind ≡ Final → All (λ o. o ≢ id) e.kept.parts) part.uploads
+uploads-differ n account part id u chunk sound there can some = λ k d within final.
+    let e : Entry Upload = get_or part.uploads k d in
+    parts-differ n account part id u chunk e.kept there can some (final_parts part e.kept (sound.uploads k d within).kind final)
+
 -- nobody else has the bytes of an upload that takes more
-sources-differ : (n : Numbers) (account : Account) (part : TenantBook) (id : ℕ) (u : Upload) (chunk : Chunk) → IsTenantOf n part → kept_in part.uploads id ≡ Some u → IsAppendable n account u chunk → 0 < length chunk.bytes
+pub sources-differ : (n : Numbers) (account : Account) (part : TenantBook) (id : ℕ) (u : Upload) (chunk : Chunk) → IsTenantOf n part → kept_in part.uploads id ≡ Some u → IsAppendable n account u chunk → 0 < length chunk.bytes
     → All (λ s. s.origin ≢ id) (flat_map sources_of (filter (λ e. not (eqb e.id id)) part.uploads))
 sources-differ n account part id u chunk sound there can some =
     let p : Entry Upload → Bool = λ (e : Entry Upload). not (eqb e.id id) in

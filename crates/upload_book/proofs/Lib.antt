@@ -20,3 +20,4 @@ pub mod ChargeLemmas
 pub mod LawfulFewer
 pub mod Outcomes
 pub mod BookLemmas
+pub mod RoomLemmas
