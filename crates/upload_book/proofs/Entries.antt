@@ -1,14 +1,14 @@
 -- What is kept under ids, and at places.
-use Rattle.std.proofs.Common.{◌≡◌, ◌≢◌, ℕ, ◌+◌, ◌<◌, ◌≤◌, Bool, true, false, cond, eqb, ltb, not, List, [], ◌∷◌, ◌++◌, map, length, get_or, set, Option, Some, None, Result, Ok, Err, refl, inl, inr, one-add, sym, ap, ◌∙◌, subst, arith}
-use Rattle.std.specs.List.{All, position, position_or_len}
+use Rattle.std.proofs.Common.{◌≡◌, ◌≢◌, ◌⊎◌, ℕ, zero, suc, ◌+◌, ◌<◌, ◌≤◌, Bool, true, false, cond, eqb, ltb, not, List, [], ◌∷◌, ◌++◌, map, length, get_or, set, take, drop, Option, Some, None, Result, Ok, Err, refl, inl, inr, one-add, sym, ap, ◌∙◌, subst, arith}
+use Rattle.std.specs.List.{All, AllPairs, Contains, filter, remove, position, position_or_len}
 use Rattle.std.specs.List.Sorted.{IsStrictlyIncreasing}
 use Rattle.std.specs.Option.{option_map}
 use Rattle.std.proofs.lemmas.Bool.Decides.{eqb_tells, nat_tests}
 use Rattle.std.proofs.Math.ListN.{length-map, length-set, length-append, get_or-map}
 use Rattle.std.proofs.lemmas.Bool.{cases_Bool, cases_lt, eq-eqb}
-use Rattle.std.proofs.lemmas.List.{get_or_append_left, get_or_default, get_or_push, get_or-map as get_or-map_at, get_or-set_same, get_or-set_other, same_lists}
-use Rattle.std.proofs.lemmas.List.Elements.{All-head, All-tail}
-use Rattle.std.proofs.lemmas.List.Kept.{AllPairs-from_increasing}
+use Rattle.std.proofs.lemmas.List.{get_or_append_left, get_or_default, get_or_push, get_or-map as get_or-map_at, get_or-set_same, get_or-set_other, map-append, take-map, drop-map, same_lists}
+use Rattle.std.proofs.lemmas.List.Elements.{All-head, All-tail, All-contains, All-contains_itself, All-filter, All-from_get_or}
+use Rattle.std.proofs.lemmas.List.Kept.{AllPairs-filter, AllPairs-from_increasing}
 use Rattle.upload_book.specs.declared.refusal.Refusal.{Refusal}
 use Rattle.upload_book.specs.declared.refusal.Refusal.TheVariants.{Unknown, Gone}
 use Rattle.upload_book.specs.Expiry.{is_over}
@@ -107,7 +107,7 @@ module _ {K : Type 0} where
   ids_of entries = map {A = Entry K} {B = ℕ} (λ e. e.id) entries
 
   -- where ids ascend, no two places have one
-  ids_differ : (entries : List (Entry K)) (i k : ℕ) (d : Entry K) → IsStrictlyIncreasing (ids_of entries) → i < length entries → k < length entries → i ≢ k → (get_or entries i d).id ≢ (get_or entries k d).id
+  pub ids_differ : (entries : List (Entry K)) (i k : ℕ) (d : Entry K) → IsStrictlyIncreasing (ids_of entries) → i < length entries → k < length entries → i ≢ k → (get_or entries i d).id ≢ (get_or entries k d).id
   ids_differ entries i k d ascending i_in k_in other =
       let pairs = AllPairs-from_increasing (ids_of entries) ascending in
       let long = length-map entries (λ (e : Entry K). e.id) in
@@ -202,6 +202,100 @@ module _ {K : Type 0} where
             subst P is (All-head Q e entries sound)
         | inr differs ↦ kept_in-All P entries id u (All-tail Q e entries sound) (rw differs.0 at there)
       ]
+
+  -- what is kept under an id stands there under it
+  pub kept_in-contains : (entries : List (Entry K)) (id : ℕ) (u : K) → kept_in entries id ≡ Some u → Contains entries (record { id = id; kept = u })
+  kept_in-contains [] id u there = absurd (cc)
+  kept_in-contains (e ∷ entries) id u there =
+      elim (eqb_tells e.id id) [
+        | inl same ↦
+            let is : e.kept ≡ u = (let first = rw same.0 at there in cc) in
+            (0, omega arith, rw (same.1, is) refl)
+        | inr differs ↦
+            let rest = kept_in-contains entries id u (rw differs.0 at there) in
+            (suc rest.0, omega (arith, rest.1), rest.2)
+      ]
+
+  -- at every other place stands another id
+  abbrev pub AreOthers : List (Entry K) → ℕ → ℕ → Entry K → Type 0
+  AreOthers entries id place d = (k : ℕ) → k < length entries → k ≢ place → (get_or entries k d).id ≢ id
+
+  others_in : (entries : List (Entry K)) (id place : ℕ) (d : Entry K) → IsStrictlyIncreasing (ids_of entries) → place < length entries → (get_or entries place d).id ≡ id → AreOthers entries id place d
+  others_in entries id place d ascending within named =
+      λ k inside other again. ids_differ entries k place d ascending inside within other (again ∙ sym named)
+
+  others_later : (e : Entry K) (entries : List (Entry K)) (id place : ℕ) (d : Entry K) → AreOthers (e ∷ entries) id (suc place) d → AreOthers entries id place d
+  others_later e entries id place d others = λ k inside other. others (suc k) (omega arith) (λ same. other (omega arith))
+
+  kept_at : (entries : List (Entry K)) (id place : ℕ) (d : Entry K) → place < length entries → (get_or entries place d).id ≡ id → AreOthers entries id place d → kept_in entries id ≡ Some (get_or entries place d).kept
+  kept_at [] id place d within named others = absurd (omega arith)
+  kept_at (e ∷ entries) id zero d within named others = rw (eq-eqb e.id id named) refl
+  kept_at (e ∷ entries) id (suc place) d within named others =
+      rw (eqb-other e.id id (others 0 (omega arith) (λ same. omega arith))) (kept_at entries id place d (omega arith) named (others_later e entries id place d others))
+
+  -- where ids ascend, what stands at the place of an id is what is kept under it
+  pub kept_in-place : (entries : List (Entry K)) (id place : ℕ) (d : Entry K) → IsStrictlyIncreasing (ids_of entries) → place < length entries → (get_or entries place d).id ≡ id → kept_in entries id ≡ Some (get_or entries place d).kept
+  kept_in-place entries id place d ascending within named =
+      kept_at entries id place d within named (others_in entries id place d ascending within named)
+
+  -- a filter leaves a list whose elements all pass
+  filter_all : (p : Entry K → Bool) (entries : List (Entry K)) → All (λ e. p e ≡ true) entries → filter p entries ≡ entries
+  filter_all p [] pass = refl
+  filter_all p (e ∷ entries) pass =
+      rw (All-head (λ e. p e ≡ true) e entries pass) (ap (λ l. e ∷ l) (filter_all p entries (All-tail (λ e. p e ≡ true) e entries pass)))
+
+  removed_at : (entries : List (Entry K)) (id place : ℕ) (d : Entry K) → place < length entries → (get_or entries place d).id ≡ id → AreOthers entries id place d → filter (λ e. not (eqb e.id id)) entries ≡ remove entries place
+  removed_at [] id place d within named others = absurd (omega arith)
+  removed_at (e ∷ entries) id zero d within named others =
+      rw (eq-eqb e.id id named) (filter_all (λ e. not (eqb e.id id)) entries (All-from_get_or (λ e. not (eqb e.id id) ≡ true) entries d (λ k inside. ap not (eqb-other (get_or entries k d).id id (others (suc k) (omega arith) (λ same. omega arith))))))
+  removed_at (e ∷ entries) id (suc place) d within named others =
+      rw (eqb-other e.id id (others 0 (omega arith) (λ same. omega arith))) (ap (λ l. e ∷ l) (removed_at entries id place d (omega arith) named (others_later e entries id place d others)))
+
+  -- where ids ascend, what is left without an id is what is left without its place
+  pub without-place : (entries : List (Entry K)) (id place : ℕ) (d : Entry K) → IsStrictlyIncreasing (ids_of entries) → place < length entries → (get_or entries place d).id ≡ id → filter (λ e. not (eqb e.id id)) entries ≡ remove entries place
+  without-place entries id place d ascending within named =
+      removed_at entries id place d within named (others_in entries id place d ascending within named)
+
+  -- what a filter keeps was there
+  pub Contains-filter : (p : Entry K → Bool) (entries : List (Entry K)) (e : Entry K) → Contains (filter p entries) e → Contains entries e
+  Contains-filter p entries e there =
+      All-contains (Contains entries) (filter p entries) e (All-filter p (Contains entries) entries (All-contains_itself entries)) there
+
+  kept_found : (entries : List (Entry K)) (p : Entry K → Bool) (id : ℕ) (found : Option K) → IsStrictlyIncreasing (ids_of entries) → kept_in (filter p entries) id ≡ found → (found ≡ None) ⊎ (found ≡ kept_in entries id)
+  kept_found entries p id None ascending is = inl refl
+  kept_found entries p id (Some u) ascending is =
+      let e : Entry K = record { id = id; kept = u } in
+      let there = Contains-filter p entries e (kept_in-contains (filter p entries) id u is) in
+      let named : (get_or entries there.0 e).id ≡ id = ap (λ (e : Entry K). e.id) there.2 in
+      let kept : (get_or entries there.0 e).kept ≡ u = ap (λ (e : Entry K). e.kept) there.2 in
+      inr (sym (kept_in-place entries id there.0 e ascending there.1 named ∙ ap Some kept))
+
+  -- where ids ascend, an id keeps what it had in a filtered list, or has nothing
+  pub kept_in-filter : (p : Entry K → Bool) (entries : List (Entry K)) (id : ℕ) → IsStrictlyIncreasing (ids_of entries) → (kept_in (filter p entries) id ≡ None) ⊎ (kept_in (filter p entries) id ≡ kept_in entries id)
+  kept_in-filter p entries id ascending = kept_found entries p id (kept_in (filter p entries) id) ascending refl
+
+  ascending_pairs : (entries : List (Entry K)) → AllPairs (λ a b. a.id < b.id) entries → IsStrictlyIncreasing (ids_of entries)
+  ascending_pairs [] pairs = λ k within. absurd (omega arith)
+  ascending_pairs (e ∷ entries) pairs = λ k within.
+      let long = length-map (e ∷ entries) (λ (e : Entry K). e.id) in
+      let this = get_or-map_at (λ (e : Entry K). e.id) (e ∷ entries) k e 0 (omega (arith, long)) in
+      let next = get_or-map_at (λ (e : Entry K). e.id) (e ∷ entries) (k + 1) e 0 (omega (arith, long)) in
+      rw (this, next) (pairs k (k + 1) e (omega arith) (omega (arith, long)))
+
+  -- ids still ascend in a filtered list
+  pub ascending-filter : (p : Entry K → Bool) (entries : List (Entry K)) → IsStrictlyIncreasing (ids_of entries) → IsStrictlyIncreasing (ids_of (filter p entries))
+  ascending-filter p entries ascending =
+      let long = length-map entries (λ (e : Entry K). e.id) in
+      let pairs : AllPairs (λ (a b : Entry K). a.id < b.id) entries = λ i j d before inside.
+      let early : i < length entries = omega arith in
+      let at_i = get_or-map (λ (e : Entry K). e.id) entries i d in
+      let at_j = get_or-map (λ (e : Entry K). e.id) entries j d in
+      rw (← at_i, ← at_j) (AllPairs-from_increasing (ids_of entries) ascending i j d.id before (omega (arith, long))) in
+      ascending_pairs (filter p entries) (AllPairs-filter (λ (a b : Entry K). a.id < b.id) p entries pairs)
+
+-- the rest of a list without a place is what is left of what it gives
+pub remove-map : {A B : Type 0} (f : A → B) (xs : List A) (i : ℕ) → map f (remove xs i) ≡ remove (map f xs) i
+remove-map f xs i = map-append f (take i xs) (drop (suc i) xs) ∙ rw (take-map f i xs, drop-map f (suc i) xs) refl
 
 -- the ids still ascend where a greater one is added
 pub ids-push : (ids : List ℕ) (id : ℕ) → IsStrictlyIncreasing ids → All (λ a. a < id) ids → IsStrictlyIncreasing (ids ++ id ∷ [])

@@ -1,10 +1,13 @@
 -- The book at the start is lawful, and a creation leaves a lawful book lawful.
-use Rattle.std.proofs.Common.{◌≡◌, ℕ, zero, suc, ◌<◌, ◌≤◌, Bool, true, false, ltb, leb, List, [], ◌∷◌, ◌++◌, map, length, get_or, set, slice_get, take, Option, Some, None, IfSome, IsTrue, refl, sym, ap, ◌∙◌, subst, arith, rules}
+use Rattle.std.proofs.Common.{◌≡◌, ℕ, zero, suc, ◌+◌, ◌-◌, ◌<◌, ◌≤◌, Bool, true, false, ltb, leb, List, [], ◌∷◌, ◌++◌, map, length, get_or, set, slice_get, take, Option, Some, None, IfSome, IsTrue, refl, sym, ap, ◌∙◌, subst, arith, rules}
 use Rattle.std.proofs.Math.ListN.{length-append}
 use Rattle.std.proofs.lemmas.Bool.Decides.{nat_tests}
 use Rattle.std.proofs.lemmas.List.{map-append}
 use Rattle.std.proofs.lemmas.Slice.Zip.{length-zip, get_or-zip}
 use Rattle.std.proofs.lemmas.List.Elements.{All-push, All-set, All-map, All-weaker}
+use Rattle.std.proofs.lemmas.List.Sums.{sum_by-cons, sum_by-set}
+use Rattle.std.specs.List.{sum_by}
+use Rattle.upload_book.specs.Charge.{charge_in}
 use Rattle.upload_book.specs.Create.{is_above, creation_refusal, new_kind, created_upload}
 use Rattle.upload_book.specs.declared.head_row.Kind.{Kind}
 use Rattle.upload_book.specs.declared.head_row.Kind.TheVariants.{Plain, Partial, Final}
@@ -30,6 +33,10 @@ IsTenantOf-opening n quota = record {
   uploads = search rules;
 }
 
+-- it pays nothing
+charge-opening : (n : Numbers) (quota : ℕ) → charge_in n (opening_part quota) ≡ 0
+charge-opening n quota = refl
+
 -- the parts at the start
 abbrev pub opening_parts : List TenantQuota → List TenantBook
 opening_parts tenants = map {A = TenantQuota} {B = TenantBook} (λ t. opening_part t.quota) tenants
@@ -46,12 +53,21 @@ quotas-opening : (tenants : List TenantQuota) → map {A = TenantBook} {B = ℕ}
 quotas-opening [] = refl
 quotas-opening (t ∷ tenants) = ap (λ rest. t.quota ∷ rest) (quotas-opening tenants)
 
+-- no part at the start pays anything
+charges-opening : (n : Numbers) (tenants : List TenantQuota) → sum_by (charge_in n) (opening_parts tenants) ≡ 0
+charges-opening n [] = refl
+charges-opening n (t ∷ tenants) =
+    omega (arith, sum_by-cons (charge_in n) (opening_part t.quota) (opening_parts tenants), charges-opening n tenants, charge-opening n t.quota)
+
 -- the book at the start is lawful
 pub IsLawful-opening : (s : Settings) → settings_fault s ≡ None → IsLawful (opening_book s)
 IsLawful-opening s sound = record {
   settings = sound;
   quotas = quotas-opening s.tenants;
   tenants = All-map (IsTenantOf s.numbers) (λ (t : TenantQuota). opening_part t.quota) s.tenants (λ k d within. IsTenantOf-opening s.numbers _);
+  charges = All-map (λ (part : TenantBook). charge_in s.numbers part ≤ part.quota) (λ (t : TenantQuota). opening_part t.quota) s.tenants (λ k d within. omega (arith, charge-opening s.numbers (get_or s.tenants k d).quota));
+  totals = omega (arith, charges-opening s.numbers s.tenants);
+  last = omega arith;
 }
 
 -- the quotas stay where one part changes and keeps its own
@@ -60,13 +76,42 @@ quotas-set [] t part d same = refl
 quotas-set (first ∷ tenants) zero part d same = ap (λ q. q ∷ map {A = TenantBook} {B = ℕ} (λ part. part.quota) tenants) same
 quotas-set (first ∷ tenants) (suc t) part d same = ap (λ rest. first.quota ∷ rest) (quotas-set tenants t part d same)
 
--- one part changes into one that is as it should be, with the same quota
-pub IsLawful-with_tenant_book : (b : PlainBook) (t : ℕ) (part : TenantBook) → IsLawful b → part.quota ≡ (tenant_book b t).quota → IsTenantOf b.settings.numbers part → IsLawful (with_tenant_book b t part)
-IsLawful-with_tenant_book b t part lawful same sound = record {
+-- One part changes into one that is as it should be, with the same quota: it pays no more than its quota, and
+-- what is charged for it in all is within its bound.
+pub IsLawful-with_tenant_book : (b : PlainBook) (t : ℕ) (part : TenantBook) → IsLawful b → t < length b.tenants → part.quota ≡ (tenant_book b t).quota → IsTenantOf b.settings.numbers part
+    → charge_in b.settings.numbers part ≤ part.quota
+    → b.charged + (charge_in b.settings.numbers part - charge_in b.settings.numbers (tenant_book b t)) ≤ b.settings.numbers.last_total
+    → IsLawful (with_tenant_book b t part)
+IsLawful-with_tenant_book b t part lawful within same sound pays last = record {
   settings = lawful.settings;
   quotas = quotas-set b.tenants t part (opening_part 0) same ∙ lawful.quotas;
   tenants = All-set (IsTenantOf b.settings.numbers) b.tenants t part sound lawful.tenants;
+  charges = All-set (λ (part : TenantBook). charge_in b.settings.numbers part ≤ part.quota) b.tenants t part pays lawful.charges;
+  totals = moved_total _ _ _ _ _ _ lawful.totals (sum_by-set (charge_in b.settings.numbers) b.tenants t part (opening_part 0) within);
+  last = last;
 }
+  where
+    moved_total : (charged released all later before after : ℕ) → charged ≡ released + all → later + before ≡ all + after → charged + (after - before) ≡ released + (before - after) + later
+    moved_total charged released all later before after total sums = omega arith
+
+-- the part of a tenant pays no more than its quota
+pub charge-within : (b : PlainBook) (t : ℕ) → IsLawful b → t < length b.tenants → charge_in b.settings.numbers (tenant_book b t) ≤ (tenant_book b t).quota
+charge-within b t lawful within = lawful.charges t (opening_part 0) within
+
+-- the same where it pays no more than before
+pub IsLawful-with_tenant_book-less : (b : PlainBook) (t : ℕ) (part : TenantBook) → IsLawful b → t < length b.tenants → part.quota ≡ (tenant_book b t).quota → IsTenantOf b.settings.numbers part
+    → charge_in b.settings.numbers part ≤ charge_in b.settings.numbers (tenant_book b t) → IsLawful (with_tenant_book b t part)
+IsLawful-with_tenant_book-less b t part lawful within same sound less =
+    IsLawful-with_tenant_book b t part lawful within same sound (omega (arith, less, same, charge-within b t lawful within)) (bound _ _ _ _ less lawful.last)
+  where
+    bound : (after before charged last : ℕ) → after ≤ before → charged ≤ last → charged + (after - before) ≤ last
+    bound after before charged last less within = omega arith
+
+-- the same where it pays what it paid before
+pub IsLawful-with_tenant_book-same : (b : PlainBook) (t : ℕ) (part : TenantBook) → IsLawful b → t < length b.tenants → part.quota ≡ (tenant_book b t).quota → IsTenantOf b.settings.numbers part
+    → charge_in b.settings.numbers part ≡ charge_in b.settings.numbers (tenant_book b t) → IsLawful (with_tenant_book b t part)
+IsLawful-with_tenant_book-same b t part lawful within same sound pays =
+    IsLawful-with_tenant_book-less b t part lawful within same sound (omega (arith, pays))
 
 -- the same for what its kind asks
 IsOfKind-beside : (part later : TenantBook) (u : Upload) → ((id : ℕ) → IsGivenIn part id → IsGivenIn later id) → ((id : ℕ) (segment : List ℕ) → IsGivenIn part id → IsSegmentOf part id segment → IsSegmentOf later id segment) → (kind : Kind) → IsOfKind part u kind → IsOfKind later u kind

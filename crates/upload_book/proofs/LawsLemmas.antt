@@ -1,8 +1,11 @@
 -- A PATCH that is sent in two, and the rows that follow a PATCH.
-use Rattle.std.proofs.Common.{◌≡◌, ℕ, ◌+◌, ◌≤◌, nat_le, not, eqb, Bool, true, false, true≢false, List, [], ◌∷◌, ◌++◌, length, Option, Some, None, unwrap_or, is_some, IsSome, Result, Ok, Err, refl, inl, inr, sym, ap, ◌∙◌, arith, append_assoc, length-append}
+use Rattle.std.proofs.Common.{◌≡◌, ℕ, ◌+◌, ◌-◌, ◌≤◌, nat_le, not, eqb, Bool, true, false, true≢false, List, [], ◌∷◌, ◌++◌, length, Option, Some, None, unwrap_or, is_some, IsSome, Result, Ok, Err, refl, inl, inr, sym, ap, subst, ◌∙◌, arith, append_assoc, length-append}
 use Rattle.std.specs.Option.{option_map_or}
 use Rattle.std.specs.Result.{IsOk}
 use Rattle.std.proofs.lemmas.Bool.Decides.{nat_tests}
+use Rattle.upload_book.specs.Account.{account_in, account_with, blocks_added, blocks_between}
+use Rattle.upload_book.specs.Charge.{charge_in}
+use Rattle.upload_book.specs.declared.account.Account.{Account}
 use Rattle.upload_book.specs.Append.{is_final, or_else, differ, is_too_long, append_refusal, append_answer, appended_upload, part_after_append, row_with, telling, told, upload_with}
 use Rattle.upload_book.specs.Chunk.{Chunk}
 use Rattle.upload_book.specs.declared.append.Appended.{Appended}
@@ -13,13 +16,15 @@ use Rattle.upload_book.specs.declared.head_row.Kind.TheVariants.{Plain, Partial,
 use Rattle.upload_book.specs.declared.refusal.Refusal.{Refusal}
 use Rattle.upload_book.specs.declared.settings.Numbers.{Numbers}
 use Rattle.upload_book.specs.Expiry.{lifetime_end, renewed, is_over}
-use Rattle.upload_book.specs.Laws.{ResumedPatch, RowsFollow, first_part, later_part}
+use Rattle.upload_book.specs.Laws.{AccountsFollow, ResumedPatch, RowsFollow, charged_after, first_part, later_part, row_in}
 use Rattle.upload_book.specs.Lawful.{IsUploadOf, IsOfKind}
 use Rattle.upload_book.specs.Look.{row_of}
 use Rattle.upload_book.specs.Refusal.{unless}
-use Rattle.upload_book.specs.TenantBook.{TenantBook, visible_upload, with_changed}
+use Rattle.upload_book.specs.TenantBook.{TenantBook, kept_in, visible_upload, with_changed}
 use Rattle.upload_book.specs.Upload.{Upload, content_of, offset_of, is_reached, head_row_of}
 use Rattle.upload_book.proofs.Entries.{kept_in-All, visible_in-changed, visible_in-fresh, visible_in-Ok, with_kept-twice}
+use Rattle.upload_book.proofs.ChargeLemmas.{charge-append}
+use Rattle.upload_book.proofs.PriceLemmas.{blocks_between-two}
 use Rattle.upload_book.proofs.LawfulAppend.{IsAppendable, IsAppendable-from_none, append_refusal-none, content_of-append, offset_of-append, complete_tells}
 
 or_else-twice : (known told : Option ℕ) → or_else (or_else known told) told ≡ or_else known told
@@ -38,33 +43,48 @@ fewer_fit n most less end few fits = grind (arith, nat_tests)
 moved : (offset start more : ℕ) → not (eqb offset start) ≡ false → not (eqb (offset + more) (start + more)) ≡ false
 moved offset start more same = grind (arith, nat_tests)
 
+-- the first bytes take no more blocks than all
+fewer_blocks : (size offset first later : ℕ) → blocks_between size offset first ≤ blocks_between size offset (first + later)
+fewer_blocks size offset first later = omega (arith, blocks_between-two size offset first later)
+
 -- the first part is accepted
-IsAppendable-first : (n : Numbers) (u : Upload) (chunk : Chunk) (first later : List ℕ) → chunk.bytes ≡ first ++ later → IsAppendable n u chunk → IsAppendable n u (first_part chunk first)
-IsAppendable-first n u chunk first later whole can =
+IsAppendable-first : (n : Numbers) (account : Account) (u : Upload) (chunk : Chunk) (first later : List ℕ) → chunk.bytes ≡ first ++ later → IsAppendable n account u chunk → IsAppendable n account u (first_part chunk first)
+IsAppendable-first n account u chunk first later whole can =
     let count = ap length whole ∙ length-append first later in
+    let added : blocks_added n (offset_of u) (length chunk.bytes) ≡ blocks_added n (offset_of u) (length first + length later) = ap (blocks_added n (offset_of u)) count in
     record {
       own = can.own;
       typed = can.typed;
       offset = can.offset;
       fixed = can.fixed;
       fits = fewer_fit n (unwrap_or (or_else u.declared chunk.length) n.max_size) (offset_of u + length first) (offset_of u + length chunk.bytes) (omega (arith, count)) can.fits;
+      unspent = omega (arith, fewer_blocks n.block_size (offset_of u) (length first) (length later), added, can.unspent);
+      paid = omega (arith, fewer_blocks n.block_size (offset_of u) (length first) (length later), added, can.paid);
     }
 
 -- then the later part is
-IsAppendable-later : (n : Numbers) (u : Upload) (chunk : Chunk) (first later : List ℕ) (now : ℕ) → chunk.bytes ≡ first ++ later → IsAppendable n u chunk
-    → IsAppendable n (upload_with n u (first_part chunk first) now) (later_part chunk first later)
-IsAppendable-later n u chunk first later now whole can =
+IsAppendable-later : (n : Numbers) (account : Account) (u : Upload) (chunk : Chunk) (first later : List ℕ) (now : ℕ) → chunk.bytes ≡ first ++ later → IsAppendable n account u chunk
+    → IsAppendable n (account_with account (blocks_added n (offset_of u) (length first))) (upload_with n u (first_part chunk first) now) (later_part chunk first later)
+IsAppendable-later n account u chunk first later now whole can =
     let count = ap length whole ∙ length-append first later in
     let start = offset_of-append n u (first_part chunk first) now in
     let after = upload_with n u (first_part chunk first) now in
     let end : offset_of after + length later ≡ offset_of u + length chunk.bytes = omega (arith, count, start) in
+    let added : blocks_added n (offset_of u) (length chunk.bytes) ≡ blocks_added n (offset_of u) (length first + length later) = ap (blocks_added n (offset_of u)) count in
+    let more : blocks_added n (offset_of u) (length first) + blocks_added n (offset_of after) (length later) ≡ blocks_added n (offset_of u) (length first + length later) =
+    ap (λ offset. blocks_added n (offset_of u) (length first) + blocks_added n offset (length later)) start ∙ blocks_between-two n.block_size (offset_of u) (length first) (length later) in
     record {
       own = can.own;
       typed = can.typed;
       offset = rw start (moved chunk.offset (offset_of u) (length first) can.offset);
       fixed = differ-told u.declared chunk.length can.fixed;
       fits = rw (or_else-twice u.declared chunk.length, end) can.fits;
+      unspent = both _ _ _ _ _ _ added more can.unspent;
+      paid = both _ _ _ _ _ _ added more can.paid;
     }
+  where
+    both : (before first second all one limit : ℕ) → all ≡ one → first + second ≡ one → before + all ≤ limit → before + first + second ≤ limit
+    both before first second all one limit same two fits = omega arith
 
 -- an upload that is complete already takes no more
 complete_later : (n : Numbers) (declared : Option ℕ) (start end : ℕ) → start ≤ end → is_too_long n (unwrap_or declared n.max_size) end ≡ false
@@ -81,9 +101,9 @@ renewed-twice Partial early late before end grows = ap (λ end. Some end) (omega
 renewed-twice Final early late before end grows = refl
 
 -- the two leave the same upload
-upload_with-two : (n : Numbers) (u : Upload) (chunk : Chunk) (first later : List ℕ) (now : ℕ) → chunk.bytes ≡ first ++ later → IsAppendable n u chunk
+upload_with-two : (n : Numbers) (account : Account) (u : Upload) (chunk : Chunk) (first later : List ℕ) (now : ℕ) → chunk.bytes ≡ first ++ later → IsAppendable n account u chunk
     → upload_with n (upload_with n u (first_part chunk first) now) (later_part chunk first later) now ≡ upload_with n u chunk now
-upload_with-two n u chunk first later now whole can =
+upload_with-two n account u chunk first later now whole can =
     rw (or_else-twice u.declared chunk.length, content, end) (ap (λ e. record grown { expires = e }) expiry)
   where
     declared : Option ℕ
@@ -127,9 +147,9 @@ expires_none : (expires : Option ℕ) → expires ≡ None → IsSome expires �
 expires_none expires none some = true≢false (sym some ∙ ap (is_some {T = ℕ}) none)
 
 -- one that does not expire is complete, and stays so
-never_after : (n : Numbers) (part : TenantBook) (u : Upload) (chunk : Chunk) (now : ℕ) (kind : Kind) → IsAppendable n u chunk → is_final kind ≡ false → IsOfKind part u kind
+never_after : (n : Numbers) (account : Account) (part : TenantBook) (u : Upload) (chunk : Chunk) (now : ℕ) (kind : Kind) → IsAppendable n account u chunk → is_final kind ≡ false → IsOfKind part u kind
     → u.expires ≡ None → renewed kind (is_reached (or_else u.declared chunk.length) (offset_of u + length chunk.bytes)) u.expires (lifetime_end n now) ≡ None
-never_after n part u chunk now Plain can own sound none =
+never_after n account part u chunk now Plain can own sound none =
     elim (complete_tells u) [
       | inl complete ↦
           let late = complete_later n (or_else u.declared chunk.length) (offset_of u) (offset_of u + length chunk.bytes) (omega arith) can.fits
@@ -137,15 +157,15 @@ never_after n part u chunk now Plain can own sound none =
           rw late refl
       | inr open' ↦ absurd (expires_none u.expires none (sound.1.1 open'.1))
     ]
-never_after n part u chunk now Partial can own sound none = absurd (expires_none u.expires none sound.1)
-never_after n part u chunk now Final can own sound none = absurd (true≢false own)
+never_after n account part u chunk now Partial can own sound none = absurd (expires_none u.expires none sound.1)
+never_after n account part u chunk now Final can own sound none = absurd (true≢false own)
 
 -- a PATCH of an upload that is seen leaves one that is seen
-fresh_append : (n : Numbers) (part : TenantBook) (u : Upload) (chunk : Chunk) (now : ℕ) → IsAppendable n u chunk → IsUploadOf n part u → is_over now u.expires ≡ false
+fresh_append : (n : Numbers) (account : Account) (part : TenantBook) (u : Upload) (chunk : Chunk) (now : ℕ) → IsAppendable n account u chunk → IsUploadOf n part u → is_over now u.expires ≡ false
     → is_over now (upload_with n u chunk now).expires ≡ false
-fresh_append n part u chunk now can sound fresh =
+fresh_append n account part u chunk now can sound fresh =
     fresh_after now u.kind (is_reached (or_else u.declared chunk.length) (offset_of u + length chunk.bytes)) u.expires (lifetime_end n now) fresh
-    (never_after n part u chunk now u.kind can can.own sound.kind)
+    (never_after n account part u chunk now u.kind can can.own sound.kind)
 
 -- the end of an upload that is visible
 abbrev end_of : Upload → Option ℕ
@@ -156,14 +176,33 @@ row-with : (n : Numbers) (u : Upload) (chunk : Chunk) (now : ℕ) → head_row_o
 row-with n u chunk now =
     ap (λ offset. record (row_with n (head_row_of u) chunk now) { offset = offset }) (offset_of-append n u chunk now)
 
-row_of-unless : (why : Option Refusal) (u : Upload) (row : HeadRow) → head_row_of u ≡ row → row_of (unless why u) ≡ unless why row
-row_of-unless None u row is = ap Ok is
-row_of-unless (Some why) u row is = refl
+-- an account by its numbers
+record_account : ℕ → ℕ → ℕ → Account
+record_account charge quota charged = record { charge = charge; quota = quota; charged = charged }
+
+row_of-unless : (why : Option Refusal) (u : Upload) (row : HeadRow) (account : Account) → head_row_of u ≡ row → row_of (unless why u) ≡ row_in (unless why (row, account))
+row_of-unless None u row account is = ap Ok is
+row_of-unless (Some why) u row account is = refl
 
 -- what a HEAD tells after a PATCH
 pub rows_follow : RowsFollow
-rows_follow n u chunk now =
-    row_of-unless (append_refusal n (head_row_of u) chunk) (upload_with n u chunk now) _ (row-with n u chunk now)
+rows_follow n account u chunk now =
+    row_of-unless (append_refusal n account (head_row_of u) chunk) (upload_with n u chunk now) (row_with n (head_row_of u) chunk now) (account_with account (blocks_added n (offset_of u) (length chunk.bytes))) (row-with n u chunk now)
+
+-- what was charged after a part pays so many more
+charged_more : (charged before after added : ℕ) → after ≡ before + added → charged + (after - before) ≡ charged + added
+charged_more charged before after added is = omega arith
+
+same_accounts : (charge charge' charged charged' quota : ℕ) → charge ≡ charge' → charged ≡ charged' → record_account charge quota charged ≡ record_account charge' quota charged'
+unfolding record_account
+same_accounts charge charge' charged charged' quota is total = rw (is, total) refl
+
+-- the account after a PATCH follows from that before it
+pub accounts_follow : AccountsFollow
+unfolding record_account
+accounts_follow n part id charged u chunk now sound there none =
+    let is = charge-append n (account_in n part charged) part id u chunk now sound there none in
+    same_accounts _ _ _ _ part.quota is (charged_more charged (charge_in n part) _ (blocks_added n (offset_of u) (length chunk.bytes)) is)
 
 -- a PATCH that is accepted sees an upload, and no refusal applies
 unrefused_answer : (why : Option Refusal) (u : Upload) (expires : Option ℕ) → IsOk (told (telling expires (unless why u))) → why ≡ None
@@ -171,49 +210,53 @@ unrefused_answer None u expires accepted = refl
 unrefused_answer (Some why) u expires accepted = absurd (true≢false (sym accepted))
 
 -- what is told of a PATCH that sees this, and none is refused
-record Accepts (n : Numbers) (part : TenantBook) (id : ℕ) (chunk : Chunk) (now : ℕ) : Type 0 where
+record Accepts (n : Numbers) (part : TenantBook) (id : ℕ) (chunk : Chunk) (now charged : ℕ) : Type 0 where
   u : Upload
   visible : visible_upload part id now ≡ Ok u
-  none : append_refusal n (head_row_of u) chunk ≡ None
+  none : append_refusal n (account_in n part charged) (head_row_of u) chunk ≡ None
 
 -- the answer, by what is visible
-answer_where : Numbers → Chunk → ℕ → Result Upload Refusal → Result Appended Refused
-answer_where n chunk now (Ok u) = told (telling u.expires (appended_upload n u chunk now))
-answer_where n chunk now (Err why) = Err (record { refusal = why; expires = None })
+answer_where : Numbers → Account → Chunk → ℕ → Result Upload Refusal → Result Appended Refused
+answer_where n account chunk now (Ok u) = told (telling u.expires (appended_upload n account u chunk now))
+answer_where n account chunk now (Err why) = Err (record { refusal = why; expires = None })
 
-append_answer-where : (n : Numbers) (part : TenantBook) (id : ℕ) (chunk : Chunk) (now : ℕ) (seen : Result Upload Refusal) → visible_upload part id now ≡ seen → append_answer id chunk now n part ≡ answer_where n chunk now seen
+append_answer-where : (n : Numbers) (part : TenantBook) (id : ℕ) (chunk : Chunk) (now charged : ℕ) (seen : Result Upload Refusal) → visible_upload part id now ≡ seen → append_answer id chunk now charged n part ≡ answer_where n (account_in n part charged) chunk now seen
 unfolding answer_where
-append_answer-where n part id chunk now (Ok u) is = rw is refl
-append_answer-where n part id chunk now (Err why) is = rw is refl
+append_answer-where n part id chunk now charged (Ok u) is = rw is refl
+append_answer-where n part id chunk now charged (Err why) is = rw is refl
 
-accepted_where : (n : Numbers) (part : TenantBook) (id : ℕ) (chunk : Chunk) (now : ℕ) (seen : Result Upload Refusal) → visible_upload part id now ≡ seen → IsOk (answer_where n chunk now seen) → Accepts n part id chunk now
+accepted_where : (n : Numbers) (part : TenantBook) (id : ℕ) (chunk : Chunk) (now charged : ℕ) (seen : Result Upload Refusal) → visible_upload part id now ≡ seen → IsOk (answer_where n (account_in n part charged) chunk now seen) → Accepts n part id chunk now charged
 unfolding answer_where
-accepted_where n part id chunk now (Ok u) is accepted =
-    record { u = u; visible = is; none = unrefused_answer (append_refusal n (head_row_of u) chunk) _ u.expires accepted }
-accepted_where n part id chunk now (Err why) is accepted = absurd (true≢false (sym accepted))
+accepted_where n part id chunk now charged (Ok u) is accepted =
+    record { u = u; visible = is; none = unrefused_answer (append_refusal n (account_in n part charged) (head_row_of u) chunk) _ u.expires accepted }
+accepted_where n part id chunk now charged (Err why) is accepted = absurd (true≢false (sym accepted))
 
-Accepts-from_ok : (n : Numbers) (part : TenantBook) (id : ℕ) (chunk : Chunk) (now : ℕ) → IsOk (append_answer id chunk now n part) → Accepts n part id chunk now
-Accepts-from_ok n part id chunk now accepted =
-    accepted_where n part id chunk now (visible_upload part id now) refl (rw (append_answer-where n part id chunk now (visible_upload part id now) refl) at accepted)
+Accepts-from_ok : (n : Numbers) (part : TenantBook) (id : ℕ) (chunk : Chunk) (now charged : ℕ) → IsOk (append_answer id chunk now charged n part) → Accepts n part id chunk now charged
+Accepts-from_ok n part id chunk now charged accepted =
+    accepted_where n part id chunk now charged (visible_upload part id now) refl (rw (append_answer-where n part id chunk now charged (visible_upload part id now) refl) at accepted)
 
 -- the answer and the part then
 answer_of_upload : Upload → Result Appended Refused
 answer_of_upload u = Ok (record { offset = offset_of u; expires = u.expires })
 
-answer_accepted : (n : Numbers) (part : TenantBook) (id : ℕ) (chunk : Chunk) (now : ℕ) (u : Upload) → visible_upload part id now ≡ Ok u → IsAppendable n u chunk → append_answer id chunk now n part ≡ answer_of_upload (upload_with n u chunk now)
+answer_accepted : (n : Numbers) (part : TenantBook) (id : ℕ) (chunk : Chunk) (now charged : ℕ) (u : Upload) → visible_upload part id now ≡ Ok u → IsAppendable n (account_in n part charged) u chunk → append_answer id chunk now charged n part ≡ answer_of_upload (upload_with n u chunk now)
 unfolding answer_of_upload
-answer_accepted n part id chunk now u is can = rw (is, append_refusal-none n u chunk can) refl
+answer_accepted n part id chunk now charged u is can = rw (is, append_refusal-none n (account_in n part charged) u chunk can) refl
 
-part_accepted : (n : Numbers) (part : TenantBook) (id : ℕ) (chunk : Chunk) (now : ℕ) (u : Upload) → visible_upload part id now ≡ Ok u → IsAppendable n u chunk → part_after_append id chunk now n part ≡ with_changed part id (upload_with n u chunk now)
-part_accepted n part id chunk now u is can = rw (is, append_refusal-none n u chunk can) refl
+part_accepted : (n : Numbers) (part : TenantBook) (id : ℕ) (chunk : Chunk) (now charged : ℕ) (u : Upload) → visible_upload part id now ≡ Ok u → IsAppendable n (account_in n part charged) u chunk → part_after_append id chunk now charged n part ≡ with_changed part id (upload_with n u chunk now)
+part_accepted n part id chunk now charged u is can = rw (is, append_refusal-none n (account_in n part charged) u chunk can) refl
 
+-- a PATCH that is accepted may be sent in two
 pub resumed_patch : ResumedPatch
 unfolding answer_of_upload
-resumed_patch n part id chunk first later now sound whole accepted =
+resumed_patch n part id charged chunk first later now sound whole accepted =
     (rw answer_one refl, answer_two ∙ sym answer_whole, part_two ∙ sym part_whole)
   where
-    found : Accepts n part id chunk now
-    found = Accepts-from_ok n part id chunk now accepted
+    account : Account
+    account = account_in n part charged
+
+    found : Accepts n part id chunk now charged
+    found = Accepts-from_ok n part id chunk now charged accepted
 
     u : Upload
     u = found.u
@@ -224,48 +267,60 @@ resumed_patch n part id chunk first later now sound whole accepted =
     two : Chunk
     two = later_part chunk first later
 
-    can : IsAppendable n u chunk
-    can = IsAppendable-from_none n u chunk found.none
+    can : IsAppendable n account u chunk
+    can = IsAppendable-from_none n account u chunk found.none
 
-    can_one : IsAppendable n u one
-    can_one = IsAppendable-first n u chunk first later whole can
+    can_one : IsAppendable n account u one
+    can_one = IsAppendable-first n account u chunk first later whole can
 
     after : Upload
     after = upload_with n u one now
 
-    can_two : IsAppendable n after two
-    can_two = IsAppendable-later n u chunk first later now whole can
-
     middle : TenantBook
     middle = with_changed part id after
 
-    is_middle : part_after_append id one now n part ≡ middle
-    is_middle = part_accepted n part id one now u found.visible can_one
+    there : kept_in part.uploads id ≡ Some u
+    there = visible_in-Ok end_of part id now u found.visible
+
+    more : ℕ
+    more = charged_after n charged part middle
+
+    follows : account_in n middle more ≡ account_with account (blocks_added n (offset_of u) (length first))
+    follows = accounts_follow n part id charged u one now sound there (append_refusal-none n account u one can_one)
+
+    can_two : IsAppendable n (account_in n middle more) after two
+    can_two = subst (λ account. IsAppendable n account after two) (sym follows) (IsAppendable-later n account u chunk first later now whole can)
+
+    is_middle : part_after_append id one now charged n part ≡ middle
+    is_middle = part_accepted n part id one now charged u found.visible can_one
 
     sound_u : IsUploadOf n part u
-    sound_u = kept_in-All (IsUploadOf n part) part.uploads id u sound.uploads (visible_in-Ok end_of part id now u found.visible)
+    sound_u = kept_in-All (IsUploadOf n part) part.uploads id u sound.uploads there
 
     sees : visible_upload middle id now ≡ Ok after
     sees =
-        visible_in-changed end_of part id now u after found.visible (fresh_append n part u one now can_one sound_u (visible_in-fresh end_of part id now u found.visible).1)
+        visible_in-changed end_of part id now u after found.visible (fresh_append n account part u one now can_one sound_u (visible_in-fresh end_of part id now u found.visible).1)
 
     same : upload_with n after two now ≡ upload_with n u chunk now
-    same = upload_with-two n u chunk first later now whole can
+    same = upload_with-two n account u chunk first later now whole can
 
-    answer_one : append_answer id one now n part ≡ answer_of_upload (upload_with n u one now)
-    answer_one = answer_accepted n part id one now u found.visible can_one
+    answer_one : append_answer id one now charged n part ≡ answer_of_upload (upload_with n u one now)
+    answer_one = answer_accepted n part id one now charged u found.visible can_one
 
-    answer_whole : append_answer id chunk now n part ≡ answer_of_upload (upload_with n u chunk now)
-    answer_whole = answer_accepted n part id chunk now u found.visible can
+    answer_whole : append_answer id chunk now charged n part ≡ answer_of_upload (upload_with n u chunk now)
+    answer_whole = answer_accepted n part id chunk now charged u found.visible can
 
-    answer_two : append_answer id two now n (part_after_append id one now n part) ≡ answer_of_upload (upload_with n u chunk now)
+    answer_two : append_answer id two now (charged_after n charged part (part_after_append id one now charged n part)) n (part_after_append id one now charged n part) ≡ answer_of_upload (upload_with n u chunk now)
     answer_two =
-        ap (append_answer id two now n) is_middle ∙ answer_accepted n middle id two now after sees can_two ∙ ap answer_of_upload same
+        ap (λ part'. append_answer id two now (charged_after n charged part part') n part') is_middle
+        ∙ answer_accepted n middle id two now more after sees can_two
+        ∙ ap answer_of_upload same
 
-    part_whole : part_after_append id chunk now n part ≡ with_changed part id (upload_with n u chunk now)
-    part_whole = part_accepted n part id chunk now u found.visible can
+    part_whole : part_after_append id chunk now charged n part ≡ with_changed part id (upload_with n u chunk now)
+    part_whole = part_accepted n part id chunk now charged u found.visible can
 
-    part_two : part_after_append id two now n (part_after_append id one now n part) ≡ with_changed part id (upload_with n u chunk now)
+    part_two : part_after_append id two now (charged_after n charged part (part_after_append id one now charged n part)) n (part_after_append id one now charged n part) ≡ with_changed part id (upload_with n u chunk now)
     part_two =
-        ap (part_after_append id two now n) is_middle ∙ part_accepted n middle id two now after sees can_two
+        ap (λ part'. part_after_append id two now (charged_after n charged part part') n part') is_middle
+        ∙ part_accepted n middle id two now more after sees can_two
         ∙ rw (same, with_kept-twice part.uploads id after (upload_with n u chunk now)) refl

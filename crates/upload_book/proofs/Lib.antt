@@ -1,7 +1,6 @@
 pub mod AppendLemmas
 pub mod Entries
 pub mod FirstRefusal
-pub mod KeptLemmas
 pub mod LawfulSteps
 pub mod LawfulAppend
 pub mod LawsLemmas
@@ -25,8 +24,12 @@ pub mod AloneLemmas
 pub mod QuotaLemmas
 pub mod StayLemmas
 pub mod PriceLemmas
-pub mod PlainPrice
 pub mod OwnLemmas
 pub mod PutOnce
 pub mod PlainSteps
 pub mod StoreAppend
+pub mod ChargeLemmas
+pub mod LawfulFewer
+pub mod Outcomes
+pub mod BookLemmas
+pub mod RoomLemmas

@@ -1,5 +1,6 @@
 -- What settings with no fault keep.
-use Rattle.std.proofs.Common.{◌≡◌, ℕ, ◌≤◌, Bool, false, List, [], ◌∷◌, ◌++◌, None, arith}
+use Rattle.std.proofs.Common.{◌≡◌, ℕ, ◌<◌, ◌≤◌, Bool, false, ltb, List, [], ◌∷◌, ◌++◌, None, arith}
+use Rattle.std.specs.List.{sum_by}
 use Rattle.std.specs.Prelude.{⊤}
 use Rattle.std.proofs.lemmas.Bool.Decides.{nat_tests}
 use Rattle.upload_book.specs.declared.settings_fault.SettingsFault.{SettingsFault}
@@ -33,3 +34,30 @@ max_size-within s h =
     let tests = number_tests s.numbers ++ tenant_tests s.numbers.blocks s.tenants in
     let holds : NoneHolds tests = none_holds tests h in
     within s.numbers.max_size 16777216 holds.1.1.1.1.0
+
+-- the quotas are within the blocks
+pub quotas-within : (s : Settings) → settings_fault s ≡ None → sum_by (λ t. t.quota) s.tenants ≤ s.numbers.blocks
+quotas-within s h =
+    let tests = number_tests s.numbers ++ tenant_tests s.numbers.blocks s.tenants in
+    let holds : NoneHolds tests = none_holds tests h in
+    at_most s.numbers.blocks (sum_by (λ t. t.quota) s.tenants) holds.1.1.1.1.1.1.1.1.1.1.0
+  where
+    at_most : (most k : ℕ) → ltb most k ≡ false → k ≤ most
+    at_most most k test = grind (arith, nat_tests)
+
+-- there are not more blocks than a pool has
+pub blocks-within : (s : Settings) → settings_fault s ≡ None → s.numbers.blocks ≤ 1048576
+blocks-within s h =
+    let tests = number_tests s.numbers ++ tenant_tests s.numbers.blocks s.tenants in
+    let holds : NoneHolds tests = none_holds tests h in
+    within s.numbers.blocks 1048576 holds.0
+
+-- a block has a byte
+pub block_size-some : (s : Settings) → settings_fault s ≡ None → 0 < s.numbers.block_size
+block_size-some s h =
+    let tests = number_tests s.numbers ++ tenant_tests s.numbers.blocks s.tenants in
+    let holds : NoneHolds tests = none_holds tests h in
+    some s.numbers.block_size 65536 holds.1.0
+  where
+    some : (n most : ℕ) → is_outside n most ≡ false → 0 < n
+    some n most test = grind (arith, nat_tests)

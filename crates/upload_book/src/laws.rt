@@ -1,5 +1,5 @@
 //! Laws of the definitions that the contracts cite: each is the contract of a function that does nothing.
-ghost use Rattle.upload_book.specs.Laws.{FollowOrder, ResumedPatch, RowsFollow};
+ghost use Rattle.upload_book.specs.Laws.{AccountsFollow, FollowOrder, ResumedPatch, RowsFollow};
 
 /// The tests that decide on a creation, on a PATCH and on a GET follow the one order of refusals.
 pub fn refusals_follow_the_order()
@@ -16,4 +16,10 @@ pub fn resumed_patch()
 /// What a HEAD tells after a PATCH is determined by what it told before, and by the chunk.
 pub fn rows_follow()
     ensures { RowsFollow }
+{}
+
+/// What a tenant pays after a PATCH is determined by what it paid before, by the upload's offset and by how many
+/// bytes there are: so the account follows a PATCH without the bytes.
+pub fn accounts_follow()
+    ensures { AccountsFollow }
 {}
