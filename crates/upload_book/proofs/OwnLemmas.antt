@@ -81,15 +81,3 @@ parts-join p u parts final same =
     origins : (pieces : List Piece) → map {A = Piece} {B = ℕ} (λ x. x.origin) pieces ≡ map {A = Segment} {B = ℕ} (λ s. s.origin) (map segment_of pieces)
     origins [] = refl
     origins (x ∷ pieces) = ap (λ ids. x.origin ∷ ids) (origins pieces)
-
--- each tenant pays no more than its quota by its pieces where it does by the plain book
-pub quotas-kept : (n : Numbers) (p : Blocks) (shelves : List Shelf) → n.block_size ≡ p.block_size → IsPool p → IsStored p shelves → All (λ s. All HasOwnPiece s.uploads) shelves → All (λ (part : TenantBook). charge_in n part ≤ part.quota) (map (part_of p) shelves)
-    → All (λ s. charge_on p.block_size s ≤ s.quota) shelves
-quotas-kept n p shelves size pool kept own within k d l =
-    let s : Shelf = get_or shelves k d in
-    let at : get_or (map (part_of p) shelves) k (part_of p d) ≡ part_of p s = get_or-map (part_of p) shelves k d (part_of p d) l in
-    let plain : charge_in n (part_of p s) ≤ s.quota =
-    subst (λ (part : TenantBook). charge_in n part ≤ part.quota) at (within k (part_of p d) (omega (arith, length-map shelves (part_of p)))) in
-    let on : IsStoredOn p s = IsStoredOn-shelf p shelves k s kept (record { within = l; read = get_or_default shelves k d s l }) in
-    let pays : charge_in n (part_of p s) ≡ charge_on n.block_size s = charge-plain n p s size pool on (own k d l) in
-    omega (arith, pays, ap (λ size. charge_on size s) size)

@@ -61,7 +61,7 @@ pub record IsPutIn (v : Inside) (i : ℕ) (old changed : KeptShelf) (e : Entry S
   pub charge : changed.charge ≡ old.charge + taken
   pub uploads : changed.uploads.items ≡ set old.uploads.items i (with_head (with_chain e y) declared expires)
   pub room : v.room ≤ vec_capacity changed.uploads
-  pub taken : length y.blocks ≡ length (own_chain e.kept.pieces).blocks + taken
+  pub more : length y.blocks ≡ length (own_chain e.kept.pieces).blocks + taken
 
 put-shelf : (v : Inside) (i : ℕ) (old changed : KeptShelf) (e : Entry StoredUpload) (y : Chain) (declared expires : Option ℕ) (taken : ℕ) → IsPutIn v i old changed e y declared expires taken
     → shelf_of changed ≡ with_entry (shelf_of old) i (with_head (with_chain e y) declared expires)
@@ -108,7 +108,7 @@ module _ (v : Inside) (t i : ℕ) (old changed : KeptShelf) (e : Entry StoredUpl
       (omega (
         arith,
         is.charge,
-        is.taken,
+        is.more,
         charge-part v t old kept puts.part,
         put-charge v.pool (store_of v).shelves t (shelf_of old) i e after x bytes q y kept.stored part puts.entry own puts.alone puts.puts puts.once refl,
         ap (charge_on v.pool.block_size) shelf,

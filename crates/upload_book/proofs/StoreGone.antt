@@ -55,8 +55,8 @@ IsKept-given v t i old changed e freed q kept gives is =
     let part = IsShelf-part v t old gives.part in
     let on = IsStoredOn-shelf v.pool (store_of v).shelves t (shelf_of old) kept.stored part in
     let reads : ReadsWhole q (pieces_of (without (shelf_of old) i)) = λ x c.
-        let same = content-same v.pool q x.chain (λ b some. gone-keeps v.pool (shelf_of old) i e freed q on gives.entry gives.gives b (omega (arith, some, places-within b (pieces_of (without (shelf_of old) i)) x c))) in
-        ap (length {A = ℕ}) same ∙ reads-part v t old kept gives.part x (Contains-without (shelf_of old) i x c) in
+    let same = content-same v.pool q x.chain (λ b some. gone-keeps v.pool (shelf_of old) i e freed q on gives.entry gives.gives b (omega (arith, some, places-within b (pieces_of (without (shelf_of old) i)) x c))) in
+    ap (length {A = ℕ}) same ∙ reads-part v t old kept gives.part x (Contains-without (shelf_of old) i x c) in
     IsKept-with_shelf v q t old changed kept gives.part gives.gives.sizes
     (subst (λ (s : Shelf). IsStored q (set (store_of v).shelves t s)) (sym shelf) (IsStored-gone v.pool (store_of v).shelves t (shelf_of old) i e freed q kept.stored part gives.entry gives.gives))
     (gone-keeps_elsewhere v.pool (store_of v).shelves t (shelf_of old) i e freed q kept.stored part gives.entry gives.gives)

@@ -1,8 +1,9 @@
 -- The operations of the book as one: the book after each, and which may lack memory.
-use Rattle.std.specs.Prelude.{◌≢◌, ℕ, [], IsOk}
+use Rattle.std.specs.Prelude.{◌≢◌, ℕ, ◌<◌, [], length, IsOk}
 use Rattle.std.specs.Result.{IsOkAnd}
 use Rattle.upload_book.specs.declared.operation.Operation.{Operation}
 use Rattle.upload_book.specs.declared.operation.Operation.TheVariants.{Create, Look, Content, Append, Terminate}
+use Rattle.upload_book.specs.Account.{blocks_added}
 use Rattle.upload_book.specs.Append.{append_answer, part_after_append}
 use Rattle.upload_book.specs.Content.{content_answer}
 use Rattle.upload_book.specs.Create.{part_after_create}
@@ -17,12 +18,12 @@ book_after_operation b (Content name) now = b
 book_after_operation b (Append name chunk) now = book_after b name.tenant (part_after_append name.id chunk now b.charged)
 book_after_operation b (Terminate name) now = book_after b name.tenant (part_after_terminate name.id now)
 
--- The operation may lack memory: it is a GET or a PATCH of one byte or more, and is not refused. Where it
--- does, its answer is the refusal Memory, and the book stays as it was.
+-- The operation may lack memory: it is a GET of an upload with bytes, or a PATCH whose bytes take a block, and is
+-- not refused. Where it does, its answer is the refusal Memory, and the book stays as it was.
 abbrev pub MayLackMemory : PlainBook → Operation → ℕ → Type 0
 MayLackMemory b (Create tenant new) now = ⊥
 MayLackMemory b (Look name) now = ⊥
 MayLackMemory b (Content name) now = IsOkAnd (answer_of b name.tenant (content_answer name.id now)) (λ bytes. bytes ≢ [])
 MayLackMemory b (Append name chunk) now =
-    IsOk (answer_of b name.tenant (append_answer name.id chunk now b.charged)) × (chunk.bytes ≢ [])
+    IsOk (answer_of b name.tenant (append_answer name.id chunk now b.charged)) × (0 < blocks_added b.settings.numbers chunk.offset (length chunk.bytes))
 MayLackMemory b (Terminate name) now = ⊥

@@ -69,11 +69,13 @@ impl Book {
     /// refusal leaves the book as it was.
     pub fn append(&mut self, name: &Name, chunk: Chunk, now: Moment) -> Result<Appended, Refused>
         ensures answer { IsAnswer
-            (answer_of (plain_of self.old) name.now.tenant (append_answer name.now.id chunk.entry now))
+            (answer_of (plain_of self.old) name.now.tenant
+            (append_answer name.now.id chunk.entry now (plain_of self.old).charged))
             (MayLackMemory (plain_of self.old) (operation.Append name.now chunk.entry) now)
             (answer_of (plain_of self.old) name.now.tenant (append_lacking name.now.id now)) result }
         ensures accepted { OnOk result (plain_of self.new ≡ book_after (plain_of self.old)
-            name.now.tenant (part_after_append name.now.id chunk.entry now)) }
+            name.now.tenant
+            (part_after_append name.now.id chunk.entry now (plain_of self.old).charged)) }
         ensures refused { OnErr result (self.new ≡ self.old) }
     {
         match self.store.place(name, now) {
@@ -118,18 +120,25 @@ impl Book {
             });
         }
         let after = standing.with(numbers, chunk, now);
-        match self.store.append(at, place, chunk.bytes, after.declared, after.expires) {
-            Ok(taken) => {
-                self.charged += taken;
-                Ok(Appended {
-                    offset: after.offset,
-                    expires: after.expires,
-                })
+        if chunk.bytes.is_empty() {
+            self.store.renew(at, place, after.declared, after.expires);
+        } else {
+            match self
+                .store
+                .append(at, place, chunk.bytes, after.declared, after.expires)
+            {
+                Ok(taken) => self.charged += taken,
+                Err(_) => {
+                    return Err(Refused {
+                        refusal: Refusal::Memory,
+                        expires: standing.expires,
+                    });
+                }
             }
-            Err(_) => Err(Refused {
-                refusal: Refusal::Memory,
-                expires: standing.expires,
-            }),
         }
+        Ok(Appended {
+            offset: after.offset,
+            expires: after.expires,
+        })
     }
 }
