@@ -3,6 +3,7 @@ ghost use Rattle.std.specs.List.{sum_by};
 ghost use Rattle.block_pool.specs.Blocks.{IsWithinLimits, all_free, free_in, size_of};
 ghost use Rattle.upload_book.specs.Account.{blocks_between};
 ghost use Rattle.upload_book.specs.Charge.{charge_with};
+ghost use Rattle.upload_book.specs.declared.head_row.Kind.TheVariants.{Final};
 ghost use Rattle.upload_book.specs.Standing.{standing_in};
 ghost use Rattle.upload_book.specs.Store.{plain_in, shelf_at, part_at, entry_at, upload_at, with_bytes, with_upload, without_upload, IsAlone, IsNew, IsVisibleIn};
 ghost use Rattle.upload_book.specs.Stored.{upload_of};
@@ -178,7 +179,7 @@ impl Store {
     )
         requires tenant { tenant < length self.old.shelves }
         requires place { place < length (shelf_at self.old tenant).uploads }
-        requires own { (entry_at self.old tenant place).kept.kind ≢ Kind.Final }
+        requires own { (entry_at self.old tenant place).kept.kind ≢ Final }
         ensures plain { plain_in self.new ≡ set (plain_in self.old) tenant
             (with_upload (part_at self.old tenant) place (record {
               id = (entry_at self.old tenant place).id;

@@ -1,4 +1,4 @@
-ghost use Rattle.std.specs.Prelude.{◌≡◌, ◌+◌, ◌<◌, ◌≤◌, ◌∷◌, [], length, IfOk, IsOk, OnOk, OnErr, IsTrue};
+ghost use Rattle.std.specs.Prelude.{◌≡◌, ◌+◌, ◌<◌, ◌≤◌, [], length, IfOk, IsOk, OnOk, OnErr, IsTrue};
 ghost use Rattle.block_pool.specs.Blocks.{Blocks, free_in};
 ghost use Rattle.block_bodies.specs.Bodies.{IsBodyOf, IsHeld, IsLastOwn, StandsOnce, blocks_with};
 ghost use Rattle.block_bodies.specs.Changes.{Puts, GivesBack};
@@ -142,7 +142,7 @@ impl StoredUpload {
     pub(crate) fn read(&self, alloc: Global, pool: &Pool) -> Result<Vec<u8>, AllocError>
         requires { IsBodyOf pool.now (own_chain self.now.kept.pieces) }
         ensures bytes { IfOk result (λ v. v.items ≡ upload_content_of (upload_of pool.now self.now.kept)) }
-        ensures none { upload_content_of (upload_of pool.now self.now.kept) ≡ [] → IsOk result }
+        ensures none { (own_chain self.now.kept.pieces).len ≡ 0 → IsOk result }
     {
         self.body.read(alloc, pool)
     }
