@@ -3,6 +3,7 @@ use Rattle.std.proofs.Common.{◌≡◌, ◌≢◌, ℕ, ◌+◌, ◌-◌, ◌<�
 use Rattle.std.specs.List.{All, Contains}
 use Rattle.std.proofs.Math.ListN.{length-append}
 use Rattle.std.proofs.lemmas.List.{append-nil}
+use Rattle.std.proofs.lemmas.List.Elements.{All-set}
 use Rattle.block_pool.specs.Blocks.{Blocks}
 use Rattle.block_bodies.specs.Bodies.{Chain, IsBodyOf, IsLastOwn, StandsOnce, content_of}
 use Rattle.block_bodies.specs.Changes.{Puts, SameSizes}
@@ -10,18 +11,19 @@ use Rattle.upload_book.specs.Charge.{charge_with}
 use Rattle.upload_book.specs.declared.head_row.Kind.TheVariants.{Final}
 use Rattle.upload_book.specs.declared.shelf.Shelf.{Shelf as KeptShelf}
 use Rattle.upload_book.specs.declared.store.Store.TheInside.{Inside}
-use Rattle.upload_book.specs.Kept.{shelf_of, store_of, IsKept}
+use Rattle.upload_book.specs.Kept.{shelf_of, store_of, IsKept, IsSingle}
 use Rattle.upload_book.specs.Store.{plain_in, part_at, with_chain, with_head, with_upload, with_bytes}
 use Rattle.upload_book.specs.Stored.{Shelf, StoredUpload, Piece, part_of, entry_of, upload_of, pieces_of, own_chain, charge_on, IsStored, HasOwnPiece, ReadsWhole}
 use Rattle.upload_book.specs.TenantBook.{Entry}
+use Rattle.upload_book.specs.Upload.{content_of as upload_content_of}
 use Rattle.upload_book.proofs.InUse.{Contains-cases, Contains-none, places-within}
-use Rattle.upload_book.proofs.OwnLemmas.{HasOwnPiece-from, own-kept, own-set}
+use Rattle.upload_book.proofs.OwnLemmas.{HasOwnPiece-from, own-kept}
 use Rattle.upload_book.proofs.Pieces.{IsEntry, with_entry, without, Contains-with_entry, Contains-without}
-use Rattle.upload_book.proofs.PlainShelves.{KeepBytes, content-same, put-keeps, put-keeps_elsewhere, part-with_entry}
+use Rattle.upload_book.proofs.PlainShelves.{KeepBytes, content-own, content-same, put-keeps, put-keeps_elsewhere, part-with_entry}
 use Rattle.upload_book.proofs.PlainSteps.{upload-put}
 use Rattle.upload_book.proofs.PutLemmas.{own_piece, own-contained, IsAlone, own-body, own-last, IsStored-put, put-charge}
 use Rattle.upload_book.proofs.Shelves.{IsShelf, IsStoredOn, IsStoredOn-shelf}
-use Rattle.upload_book.proofs.StoreLemmas.{with_shelf, with_shelf-part, IsPart, IsShelf-part, shelf_at-part, own-part, reads-part, charge-part, charge_with-part, IsKept-with_shelf, plain_in-with_shelf}
+use Rattle.upload_book.proofs.StoreLemmas.{with_shelf, with_shelf-part, IsPart, IsShelf-part, shelf_at-part, single-part, own-part, reads-part, charge-part, charge_with-part, IsKept-with_shelf, plain_in-with_shelf}
 
 -- an upload that is not final is read in a part, and bytes are put at its end
 pub record PutsIn (v : Inside) (t i : ℕ) (old : KeptShelf) (e : Entry StoredUpload) (bytes : List ℕ) (q : Blocks) (y : Chain) : Type 0 where
@@ -42,6 +44,14 @@ pub own-whole : (v : Inside) (t i : ℕ) (old : KeptShelf) (e : Entry StoredUplo
     → length (content_of v.pool (own_chain e.kept.pieces)) ≡ (own_chain e.kept.pieces).len
 own-whole v t i old e kept part entry own =
     reads-part v t old kept part (own_piece e.id (own_chain e.kept.pieces)) (own-contained (shelf_of old) i e (own_chain e.kept.pieces) entry own)
+
+-- has no length where it reads as no bytes,
+pub empty-read : (v : Inside) (t i : ℕ) (old : KeptShelf) (e : Entry StoredUpload) → IsKept v → IsPart v t old → IsEntry (shelf_of old) i e → e.kept.kind ≢ Final → upload_content_of (upload_of v.pool e.kept) ≡ []
+    → (own_chain e.kept.pieces).len ≡ 0
+empty-read v t i old e kept part entry own none =
+    let piece = own-read v t i old e kept part entry own in
+    let bytes : content_of v.pool (own_chain e.kept.pieces) ≡ [] = sym (content-own v.pool e.kept e.id (own_chain e.kept.pieces) piece) ∙ none in
+    sym (own-whole v t i old e kept part entry piece) ∙ ap (length {A = ℕ}) bytes
 
 -- is a body,
 pub body-read : (v : Inside) (t i : ℕ) (old : KeptShelf) (e : Entry StoredUpload) → IsKept v → IsPart v t old → IsEntry (shelf_of old) i e → e.kept.kind ≢ Final → IsBodyOf v.pool (own_chain e.kept.pieces)
@@ -101,16 +111,16 @@ module _ (v : Inside) (t i : ℕ) (old changed : KeptShelf) (e : Entry StoredUpl
       let own = own-read v t i old e kept puts.part puts.entry puts.own in
       let x = own_chain e.kept.pieces in
       IsKept-with_shelf v q t old changed kept puts.part puts.puts.sizes
-      (subst (λ (s : Shelf). IsStored q (set (store_of v).shelves t s)) (sym shelf) (IsStored-put v.pool (store_of v).shelves t (shelf_of old) i e after x bytes q y kept.stored part puts.entry own puts.alone puts.puts puts.once refl))
+      (subst (λ (s : Shelf). IsStored q (set (store_of v).shelves t s)) (sym shelf) (IsStored-put v.pool (store_of v).shelves t (shelf_of old) i e after x bytes q y kept.stored part puts.entry own puts.alone puts.puts refl))
       (put-keeps_elsewhere v.pool (store_of v).shelves t (shelf_of old) i e x bytes q y kept.stored part puts.entry own puts.puts)
-      (subst (λ (s : Shelf). All HasOwnPiece s.uploads) (sym shelf) (own-set (shelf_of old) i after (own-part v t old kept puts.part) (HasOwnPiece-from after y refl)))
+      (subst (λ (s : Shelf). All IsSingle s.uploads) (sym shelf) (All-set IsSingle (shelf_of old).uploads i after (puts.own, HasOwnPiece-from after y refl) (single-part v t old kept puts.part)))
       (subst (λ (s : Shelf). ReadsWhole q (pieces_of s)) (sym shelf) put-reads)
       (omega (
         arith,
         is.charge,
         is.more,
         charge-part v t old kept puts.part,
-        put-charge v.pool (store_of v).shelves t (shelf_of old) i e after x bytes q y kept.stored part puts.entry own puts.alone puts.puts puts.once refl,
+        put-charge v.pool (store_of v).shelves t (shelf_of old) i e after x bytes q y kept.stored part puts.entry own puts.alone puts.puts refl,
         ap (charge_on v.pool.block_size) shelf,
       ))
       is.room

@@ -1,5 +1,6 @@
 -- How a store keeps the uploads of all tenants.
-use Rattle.std.specs.Prelude.{◌≡◌, ◌≤◌, ◌<◌, ℕ, length, map, vec_capacity, All, Ok, slice_index_or}
+use Rattle.std.specs.Prelude.{◌≡◌, ◌≢◌, ◌≤◌, ◌<◌, ℕ, length, map, vec_capacity, All, Ok, slice_index_or}
+use Rattle.upload_book.specs.declared.head_row.Kind.TheVariants.{Final}
 use Rattle.upload_book.specs.declared.shelf.Shelf.{Shelf as KeptShelf}
 use Rattle.upload_book.specs.declared.store.Store.TheInside.{Inside}
 use Rattle.upload_book.specs.Store.{Store}
@@ -18,11 +19,15 @@ store_of s = record {
   room = s.room;
 }
 
--- The blocks are kept as they should be, an upload that is not final has its own piece, each part knows what its
+-- an upload is not a final one, and has its own piece
+abbrev pub IsSingle : Entry StoredUpload → Type 0
+IsSingle e = (e.kept.kind ≢ Final) × HasOwnPiece e
+
+-- The blocks are kept as they should be, each upload has its own piece, each part knows what its
 -- tenant pays and has room for as many uploads as it may have.
 pub record IsKept (s : Inside) : Type 0 where
   pub stored : IsStored s.pool (store_of s).shelves
-  pub own : All (λ (shelf : Shelf). All HasOwnPiece shelf.uploads) (store_of s).shelves
+  pub own : All (λ (shelf : Shelf). All IsSingle shelf.uploads) (store_of s).shelves
   pub reads : All (λ (shelf : Shelf). ReadsWhole s.pool (pieces_of shelf)) (store_of s).shelves
   pub size : 0 < s.pool.block_size
   pub charges : All (λ (t : KeptShelf). t.charge ≡ charge_on s.pool.block_size (shelf_of t)) s.shelves.items
