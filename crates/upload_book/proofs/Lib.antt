@@ -35,3 +35,4 @@ pub mod BookLemmas
 pub mod RoomLemmas
 pub mod OneBody
 pub mod SeenLemmas
+pub mod StoreOpen

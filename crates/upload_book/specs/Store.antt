@@ -4,6 +4,7 @@ use Rattle.std.specs.List.{remove}
 use Rattle.block_pool.specs.Blocks.{Blocks}
 use Rattle.block_bodies.specs.Bodies.{Chain}
 use Rattle.upload_book.specs.declared.head_row.Kind.TheVariants.{Plain, Final}
+use Rattle.upload_book.specs.declared.settings.TenantQuota.{TenantQuota}
 use Rattle.upload_book.specs.Stored.{Shelf, StoredUpload, Piece, HasOwnPiece, own_chain, part_of, upload_of}
 use Rattle.upload_book.specs.TenantBook.{TenantBook, TenantPart, Entry, opening_part, visible_upload}
 use Rattle.upload_book.specs.Upload.{Upload, content_of}
@@ -13,6 +14,10 @@ pub record Store : Type 0 where
   pub pool : Blocks
   pub shelves : List Shelf
   pub room : ℕ
+
+-- the tenants' parts at the start
+abbrev pub opening_shelves : List TenantQuota → List Shelf
+opening_shelves tenants = map {A = TenantQuota} {B = Shelf} (λ t. opening_part t.quota) tenants
 
 -- the tenants' parts as the plain book has them
 abbrev pub plain_in : Store → List TenantBook

@@ -1,14 +1,15 @@
-ghost use Rattle.std.specs.Prelude.{◌≡◌, ◌≢◌, ◌+◌, ◌<◌, ◌≤◌, ◌^◌, [], length, map, set, IfOk, IfErr, IsOk, OnOk, OnErr};
+ghost use Rattle.std.specs.Prelude.{◌≡◌, ◌≢◌, ◌+◌, ◌<◌, ◌≤◌, ◌^◌, [], length, map, set, vec_capacity, All, IfOk, IfErr, IsOk, OnOk, OnErr};
 ghost use Rattle.std.specs.List.{sum_by};
 ghost use Rattle.block_pool.specs.Blocks.{IsWithinLimits, all_free, free_in, size_of};
 ghost use Rattle.upload_book.specs.Account.{blocks_between};
 ghost use Rattle.upload_book.specs.Charge.{charge_with};
 ghost use Rattle.upload_book.specs.declared.head_row.Kind.TheVariants.{Final};
+ghost use Rattle.upload_book.specs.Kept.{shelf_of};
 ghost use Rattle.upload_book.specs.Standing.{standing_in};
-ghost use Rattle.upload_book.specs.Store.{plain_in, shelf_at, part_at, entry_at, upload_at, with_bytes, with_upload, without_upload, IsAlone, IsNew, IsVisibleIn};
+ghost use Rattle.upload_book.specs.Store.{opening_shelves, plain_in, shelf_at, part_at, entry_at, upload_at, with_bytes, with_upload, without_upload, IsAlone, IsNew, IsVisibleIn};
 ghost use Rattle.upload_book.specs.Stored.{upload_of};
 ghost use Rattle.block_bodies.specs.Changes.{SameSizes};
-ghost use Rattle.upload_book.specs.TenantBook.{opening_part, visible_upload, with_new};
+ghost use Rattle.upload_book.specs.TenantBook.{visible_upload, with_new};
 ghost use Rattle.upload_book.specs.Upload.{content_of, head_row_of, offset_of};
 
 use crate::head_row::{HeadRow, Name};
@@ -48,26 +49,17 @@ impl Store {
     pub(crate) fn new(alloc: Global, settings: &Settings) -> Result<Store, AllocError>
         ensures { IfOk result (λ s. s ≡ record {
           pool = all_free settings.now.numbers.blocks settings.now.numbers.block_size;
-          shelves = map (λ t. opening_part t.quota) settings.now.tenants;
+          shelves = opening_shelves settings.now.tenants;
           room = settings.now.numbers.uploads;
         }) }
     {
         let numbers = settings.numbers();
         let pool = Pool::new(alloc, numbers.blocks as u32, numbers.block_size as u32)?;
-        let room = numbers.uploads as usize;
-        let mut shelves = Vec::with_capacity(alloc, settings.tenant_count())?;
-        for place in 0..settings.tenant_count() {
-            shelves.push_reserved(Shelf {
-                quota: settings.quota(place),
-                next: 1,
-                charge: 0,
-                uploads: Vec::with_capacity(alloc, room)?,
-            });
-        }
+        let shelves = empty_shelves(alloc, settings)?;
         Ok(Store {
             pool,
             shelves,
-            room,
+            room: numbers.uploads as usize,
         })
     }
 
@@ -248,4 +240,23 @@ impl Store {
         shelf.charge -= freed;
         freed
     }
+}
+
+// A part with no upload for each tenant of the settings, with room for as many as it may have.
+fn empty_shelves(alloc: Global, settings: &Settings) -> Result<Vec<Shelf>, AllocError>
+    ensures shelves { IfOk result (λ v. map shelf_of v.items ≡ opening_shelves settings.now.tenants) }
+    ensures charges { IfOk result (λ v. All (λ t. t.charge ≡ 0) v.items) }
+    ensures room { IfOk result (λ v. All (λ t. settings.now.numbers.uploads ≤ vec_capacity t.uploads) v.items) }
+{
+    let room = settings.numbers().uploads as usize;
+    let mut shelves = Vec::with_capacity(alloc, settings.tenant_count())?;
+    for place in 0..settings.tenant_count() {
+        shelves.push_reserved(Shelf {
+            quota: settings.quota(place),
+            next: 1,
+            charge: 0,
+            uploads: Vec::with_capacity(alloc, room)?,
+        });
+    }
+    Ok(shelves)
 }
