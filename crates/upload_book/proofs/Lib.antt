@@ -36,3 +36,4 @@ pub mod RoomLemmas
 pub mod OneBody
 pub mod SeenLemmas
 pub mod StoreOpen
+pub mod StoreRenew

@@ -17,6 +17,7 @@ use Rattle.upload_book.specs.Kept.{shelf_of, store_of, IsKept, IsSingle}
 use Rattle.upload_book.specs.Store.{Store, plain_in, part_at, shelf_at, entry_at, upload_at, no_upload}
 use Rattle.upload_book.specs.Stored.{Shelf, StoredUpload, Piece, part_of, upload_of, pieces_of, places_on, charge_on, IsStored, HasOwnPiece, ReadsWhole}
 use Rattle.upload_book.specs.TenantBook.{TenantBook, Entry, opening_part}
+use Rattle.upload_book.specs.Upload.{Upload}
 use Rattle.upload_book.proofs.PlainCharge.{charge-plain}
 use Rattle.upload_book.proofs.PlainShelves.{KeepBytes, content-same, parts-changed}
 use Rattle.upload_book.proofs.InUse.{places-within}
@@ -184,3 +185,9 @@ charges-kept v kept = sums (store_of v).shelves kept.own kept.reads
         let here = charge-plain v.pool.block_size v.pool s (All-weaker IsSingle HasOwnPiece (λ e single. single.1) s.uploads (All-head (λ (s : Shelf). All IsSingle s.uploads) s shelves own)) (All-head (λ (s : Shelf). ReadsWhole v.pool (pieces_of s)) s shelves reads) in
         let rest = sums shelves (All-tail (λ (s : Shelf). All IsSingle s.uploads) s shelves own) (All-tail (λ (s : Shelf). ReadsWhole v.pool (pieces_of s)) s shelves reads) in
         sum_by-cons (charge_with v.pool.block_size) (part_of v.pool s) (map {A = Shelf} {B = TenantBook} (part_of v.pool) shelves) ∙ ap₂ (λ (a b : ℕ). a + b) here rest ∙ sym (sum_by-cons (charge_on v.pool.block_size) s shelves)
+
+-- what is said of the upload that was read is said of what stands at its place
+pub at-place : (v : Inside) (t i : ℕ) (old : KeptShelf) (e : Entry StoredUpload) → IsPart v t old → IsEntry (shelf_of old) i e → {X : Type 0} (f : Entry StoredUpload → Upload → X)
+    → f e (upload_of v.pool e.kept) ≡ f (entry_at (store_of v) t i) (upload_at (store_of v) t i)
+at-place v t i old e part entry f =
+    ap₂ f (sym (entry_at-read v (store_of v) t i old e refl part entry)) (sym (upload_at-read v (store_of v) t i old e refl part entry))

@@ -5,6 +5,7 @@ use Rattle.std.proofs.Math.ListN.{length-map}
 use Rattle.std.proofs.lemmas.List.{map-append, get_or-map}
 use Rattle.std.proofs.lemmas.List.Elements.{All-push, All-map, All-weaker}
 use Rattle.block_pool.specs.Blocks.{Blocks, count_at}
+use Rattle.upload_book.specs.Charge.{sum_below}
 use Rattle.upload_book.specs.declared.settings.TenantQuota.{TenantQuota}
 use Rattle.upload_book.specs.declared.shelf.Shelf.{Shelf as KeptShelf}
 use Rattle.upload_book.specs.declared.store.Store.TheInside.{Inside}
@@ -38,6 +39,15 @@ each-more P parts items made is here before = subst (All P) (sym is) (All-push P
 no_uploads : (tenants : List TenantQuota) → All (λ (s : Shelf). s.uploads ≡ []) (opening_shelves tenants)
 no_uploads tenants = All-map (λ (s : Shelf). s.uploads ≡ []) (λ (t : TenantQuota). opening_part t.quota) tenants (λ k d within. refl)
 
+-- a part with no upload costs nothing
+empty_prices : (n : ℕ) → sum_below n (λ origin. 0) ≡ 0
+empty_prices zero = refl
+empty_prices (suc n) = ap (λ k. k + 0) (empty_prices n) ∙ omega arith
+
+empty_charge : (size : ℕ) (shelf : Shelf) → shelf.uploads ≡ [] → charge_on size shelf ≡ 0
+empty_charge size shelf empty =
+    ap (λ uploads. charge_on size (record shelf { uploads = uploads })) empty ∙ empty_prices shelf.next
+
 -- the store is kept
 pub IsKept-opening : (v : Inside) (tenants : List TenantQuota) → (store_of v).shelves ≡ opening_shelves tenants → ((b : ℕ) → count_at v.pool b ≡ 0) → 0 < v.pool.block_size
     → All (λ (t : KeptShelf). t.charge ≡ 0) v.shelves.items → All (λ (t : KeptShelf). v.room ≤ vec_capacity t.uploads) v.shelves.items → IsKept v
@@ -48,6 +58,10 @@ IsKept-opening v tenants opens free size charges room =
       own = All-weaker (λ (s : Shelf). s.uploads ≡ []) (λ (s : Shelf). All IsSingle s.uploads) (λ s empty. rw empty (search rules)) (store_of v).shelves none;
       reads = All-weaker (λ (s : Shelf). s.uploads ≡ []) (λ (s : Shelf). ReadsWhole v.pool (pieces_of s)) (λ s empty x c. absurd (Contains-none x (rw empty at c))) (store_of v).shelves none;
       size = size;
-      charges = ?;
+      charges = λ k d within.
+          let inside : k < length (store_of v).shelves = omega (arith, within, length-map v.shelves.items shelf_of) in
+          let t = get_or v.shelves.items k d in
+          let empty : (shelf_of t).uploads ≡ [] = subst (λ (s : Shelf). s.uploads ≡ []) (get_or-map shelf_of v.shelves.items k d (shelf_of d) within) (none k (shelf_of d) inside) in
+          charges k d within ∙ sym (empty_charge v.pool.block_size (shelf_of t) empty);
       room = room;
     }

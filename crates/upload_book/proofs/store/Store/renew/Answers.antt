@@ -1,25 +1,52 @@
-use Rattle.std.proofs.Common.{rules, ◌≡◌, ◌≢◌, ◌+◌, ◌<◌, ◌≤◌, ◌^◌, [], length, map, set, IfOk, IfErr, IsOk, OnOk, OnErr, ℕ, ◌-◌, ◌*◌, ◌/◌, ◌%◌, Bool, true, false, nat_eq, nat_lt, List, ◌∷◌, ◌++◌, slice_index_or, bit_and, bit_or, Fits, w8, w32, w64, Bor, MutBor}
-use Rattle.std.specs.List.{sum_by}
-use Rattle.block_pool.specs.Blocks.{IsWithinLimits, all_free, free_in, size_of}
-use Rattle.upload_book.specs.Account.{blocks_between}
-use Rattle.upload_book.specs.Charge.{charge_with}
-use Rattle.upload_book.specs.declared.head_row.Kind.TheVariants.{Final}
-use Rattle.upload_book.specs.Standing.{standing_in}
-use Rattle.upload_book.specs.Store.{plain_in, shelf_at, part_at, entry_at, upload_at, with_bytes, with_upload, without_upload, IsAlone, IsNew, IsVisibleIn}
-use Rattle.upload_book.specs.Stored.{upload_of}
-use Rattle.block_bodies.specs.Changes.{SameSizes}
-use Rattle.upload_book.specs.TenantBook.{opening_part, visible_upload, with_new}
-use Rattle.upload_book.specs.Upload.{content_of, head_row_of, offset_of}
+use Rattle.std.proofs.Common.{[], List, set, refl, ap, ◌∙◌}
+use Rattle.upload_book.specs.declared.shelf.Shelf.{Shelf as KeptShelf}
+use Rattle.upload_book.specs.Store.{plain_in, part_at, with_upload, with_bytes}
+use Rattle.upload_book.specs.Kept.{store_of}
+use Rattle.upload_book.specs.Stored.{StoredUpload}
+use Rattle.upload_book.specs.TenantBook.{TenantBook, Entry}
+use Rattle.upload_book.specs.Upload.{Upload}
+use Rattle.upload_book.proofs.StoreLemmas.{IsPart-read, IsEntry-read, not_final, at-place, room-part}
+use Rattle.upload_book.proofs.StoreRenew.{IsRenewed, IsKept-renewed, plain-renewed, charge-renewed}
+use Rattle.std.specs.Vec.{with_item}
 use Rattle.upload_book.proofs.store.Store.renew.Goals as goal
 
--- src/store.rt:173:5
+-- the part with the upload as it is told
+after : goal.After-self-1 → KeptShelf
+after c = record (c.index_mut-shelf.result.now) { uploads = with_item c.index_mut-shelf.result.now.uploads c.args.place c.renew.new.self }
+
+renewed : (c : goal.After-self-1) → IsRenewed c.self.inside c.args.tenant c.args.place c.index_mut-shelf.result.now (after c) c.index_mut.result.now c.args.declared c.args.expires
+unfolding after
+renewed c =
+    let part = IsPart-read c.self.inside c.args.self.now c.args.tenant c.index_mut-shelf.result.now c.self.view_is c.requires.tenant c.index_mut-shelf.ensures.value in
+    let entry = IsEntry-read c.self.inside c.args.self.now c.args.tenant c.args.place c.index_mut-shelf.result.now c.index_mut.result.now c.self.view_is part c.requires.place c.index_mut.ensures.value in
+    record {
+      part = part;
+      entry = entry;
+      own = not_final c.self.inside c.args.tenant c.args.place c.index_mut-shelf.result.now c.index_mut.result.now c.self.invariant part entry;
+      quota = refl;
+      next = refl;
+      charge = refl;
+      uploads = ap (set c.index_mut-shelf.result.now.uploads.items c.args.place) c.renew.ensures;
+      room = room-part c.self.inside c.args.tenant c.index_mut-shelf.result.now c.self.invariant part;
+    }
+
 pub invariant_of-self : goal.invariant_of-self
-invariant_of-self c = ?
+unfolding after
+invariant_of-self c =
+    IsKept-renewed c.self.inside c.args.tenant c.args.place c.index_mut-shelf.result.now (after c) c.index_mut.result.now c.args.declared c.args.expires c.self.invariant (renewed c)
 
--- src/store.rt:173:5
 pub returns-clause-plain : goal.returns-clause-plain
-returns-clause-plain c = ?
+unfolding after
+returns-clause-plain c =
+    let is = renewed c in
+    let v = c.self.inside in
+    let t = c.args.tenant in
+    let i = c.args.place in
+    let told : Entry StoredUpload → Upload → List TenantBook =
+    λ e u. set (plain_in (store_of v)) t (with_upload (part_at (store_of v) t) i (record { id = e.id; kept = with_bytes u [] c.args.declared c.args.expires })) in
+    rw (← c.self.view_is) (plain-renewed v t i c.index_mut-shelf.result.now (after c) c.index_mut.result.now c.args.declared c.args.expires c.self.invariant is ∙ at-place v t i c.index_mut-shelf.result.now c.index_mut.result.now is.part is.entry told)
 
--- src/store.rt:173:5
 pub returns-clause-charge : goal.returns-clause-charge
-returns-clause-charge c = ?
+unfolding after
+returns-clause-charge c =
+    rw (← c.self.view_is) (charge-renewed c.self.inside c.args.tenant c.args.place c.index_mut-shelf.result.now (after c) c.index_mut.result.now c.args.declared c.args.expires c.self.invariant (renewed c))
