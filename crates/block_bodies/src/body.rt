@@ -83,6 +83,8 @@ impl Body {
         ensures full { (result ≡ Err BodyFault.Full)
             ↔ (length self.old.blocks + free_in pool.old < blocks_with pool.old self.old (length bytes.now)) }
         ensures memory { result ≡ Err BodyFault.Memory → self.old.room < blocks_with pool.old self.old (length bytes.now) }
+        ensures blocks { result ≡ Err BodyFault.Memory
+            → length self.old.blocks < blocks_with pool.old self.old (length bytes.now) }
         ensures body_unchanged { OnErr result (self.new ≡ self.old) }
         ensures pool_unchanged { OnErr result (pool.new ≡ pool.old) }
     {
@@ -106,6 +108,7 @@ impl Body {
         ensures full { (result ≡ Err BodyFault.Full)
             ↔ (length self.old.blocks + free_in pool.now < blocks_with pool.now self.old more) }
         ensures memory { result ≡ Err BodyFault.Memory → self.old.room < blocks_with pool.now self.old more }
+        ensures blocks { result ≡ Err BodyFault.Memory → length self.old.blocks < blocks_with pool.now self.old more }
         ensures unchanged { OnErr result (self.new ≡ self.old) }
     {
         let needed = self.blocks_needed(pool, more);

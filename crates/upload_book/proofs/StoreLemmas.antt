@@ -1,10 +1,10 @@
 -- A store in which one tenant's part changed, as it is kept.
-use Rattle.std.proofs.Common.{◌≡◌, ◌≢◌, ℕ, ◌+◌, ◌<◌, ◌≤◌, List, [], ◌∷◌, ◌++◌, map, length, get_or, set, vec_capacity, refl, sym, ap, ◌∙◌, ap₂, subst, inl, inr, arith}
+use Rattle.std.proofs.Common.{◌≡◌, ◌≢◌, ℕ, ◌+◌, ◌<◌, ◌≤◌, List, [], ◌∷◌, ◌++◌, map, length, get_or, set, vec_capacity, Result, Ok, Err, OnErr, refl, sym, ap, ◌∙◌, ap₂, subst, inl, inr, arith}
 use Rattle.std.specs.List.{All, Contains, sum_by}
 use Rattle.std.specs.Vec.{with_item}
 use Rattle.std.proofs.Math.ListN.{length-map, length-set}
 use Rattle.std.proofs.lemmas.Bool.Decides.{eqb_tells}
-use Rattle.std.proofs.lemmas.List.{map-set, get_or-map, get_or-set_same, get_or-set_other, get_or_default}
+use Rattle.std.proofs.lemmas.List.{map-set, set-get_or, get_or-map, get_or-set_same, get_or-set_other, get_or_default}
 use Rattle.std.proofs.lemmas.List.Elements.{All-set, All-weaker, All-head, All-tail}
 use Rattle.std.proofs.lemmas.List.Sums.{sum_by-cons}
 use Rattle.block_pool.specs.Blocks.{Blocks}
@@ -191,3 +191,16 @@ pub at-place : (v : Inside) (t i : ℕ) (old : KeptShelf) (e : Entry StoredUploa
     → f e (upload_of v.pool e.kept) ≡ f (entry_at (store_of v) t i) (upload_at (store_of v) t i)
 at-place v t i old e part entry f =
     ap₂ f (sym (entry_at-read v (store_of v) t i old e refl part entry)) (sym (upload_at-read v (store_of v) t i old e refl part entry))
+
+-- a part that stays leaves the store
+pub store_of-same : (v : Inside) (t : ℕ) (old changed : KeptShelf) → IsPart v t old → shelf_of changed ≡ shelf_of old → store_of (with_shelf v v.pool t changed) ≡ store_of v
+store_of-same v t old changed is same =
+    let shelf = IsShelf-part v t old is in
+    let shelves : (store_of (with_shelf v v.pool t changed)).shelves ≡ (store_of v).shelves =
+    shelves-with_shelf v v.pool t changed ∙ ap (set (store_of v).shelves t) (same ∙ shelf.read) ∙ set-get_or (store_of v).shelves t (shelf_of old) in
+    ap (λ (list : List Shelf). record (store_of v) { shelves = list }) shelves
+
+-- what holds holds of an error
+pub OnErr-of : {T E P : Type 0} (r : Result T E) → P → OnErr r P
+OnErr-of (Ok x) p = tt
+OnErr-of (Err e) p = p

@@ -202,6 +202,9 @@ impl Store {
         requires alone { IsAlone self.old tenant place }
         requires free { blocks_between self.old.pool.block_size (offset_of (upload_at self.old tenant place))
             (length bytes.now) ≤ free_in self.old.pool }
+        requires fits { charge_with self.old.pool.block_size (part_at self.old tenant)
+            + blocks_between self.old.pool.block_size (offset_of (upload_at self.old tenant place))
+            (length bytes.now) < 2 ^ 64 }
         ensures plain { OnOk result (plain_in self.new ≡ set (plain_in self.old) tenant
             (with_upload (part_at self.old tenant) place (record {
               id = (entry_at self.old tenant place).id;

@@ -160,7 +160,7 @@ impl StoredUpload {
             pool.new (own_chain self.new.kept.pieces)) }
         ensures once { StandsOnce (own_chain self.new.kept.pieces).blocks }
         ensures upload { OnOk result (self.new ≡ with_chain self.old (own_chain self.new.kept.pieces)) }
-        ensures memory { OnErr result ((own_chain self.old.kept.pieces).room
+        ensures memory { OnErr result (length (own_chain self.old.kept.pieces).blocks
             < blocks_with pool.old (own_chain self.old.kept.pieces) (length bytes.now)) }
         ensures unchanged { OnErr result (self.new ≡ self.old) }
         ensures pool_unchanged { OnErr result (pool.new ≡ pool.old) }

@@ -1,57 +1,162 @@
-use Rattle.std.proofs.Common.{rules, ◌≡◌, ◌≢◌, ◌+◌, ◌<◌, ◌≤◌, ◌^◌, [], length, map, set, IfOk, IfErr, IsOk, OnOk, OnErr, ℕ, ◌-◌, ◌*◌, ◌/◌, ◌%◌, Bool, true, false, nat_eq, nat_lt, List, ◌∷◌, ◌++◌, slice_index_or, bit_and, bit_or, Fits, w8, w32, w64, Bor, MutBor}
-use Rattle.std.specs.List.{sum_by}
-use Rattle.block_pool.specs.Blocks.{IsWithinLimits, all_free, free_in, size_of}
-use Rattle.upload_book.specs.Account.{blocks_between}
-use Rattle.upload_book.specs.Charge.{charge_with}
+use Rattle.std.proofs.Common.{◌≡◌, ℕ, ◌+◌, ◌≤◌, List, set, length, ◌≢◌, refl, sym, ap, ap₂, ◌∙◌, arith}
+use Rattle.std.proofs.lemmas.List.{set-get_or}
+use Rattle.std.specs.Vec.{with_item}
+use Rattle.block_pool.specs.Blocks.{Blocks, free_in}
+use Rattle.block_bodies.specs.Bodies.{Chain, blocks_for, blocks_with}
+use Rattle.block_bodies.specs.Changes.{Puts}
 use Rattle.upload_book.specs.declared.head_row.Kind.TheVariants.{Final}
-use Rattle.upload_book.specs.Standing.{standing_in}
-use Rattle.upload_book.specs.Store.{plain_in, shelf_at, part_at, entry_at, upload_at, with_bytes, with_upload, without_upload, IsAlone, IsNew, IsVisibleIn}
-use Rattle.upload_book.specs.Stored.{upload_of}
-use Rattle.block_bodies.specs.Changes.{SameSizes}
-use Rattle.upload_book.specs.TenantBook.{opening_part, visible_upload, with_new}
-use Rattle.upload_book.specs.Upload.{content_of, head_row_of, offset_of}
+use Rattle.upload_book.specs.declared.store.Store.TheInside.{Inside}
+use Rattle.upload_book.specs.Account.{blocks_between}
+use Rattle.upload_book.specs.declared.shelf.Shelf.{Shelf as KeptShelf}
+use Rattle.upload_book.specs.Kept.{shelf_of, store_of, IsKept}
+use Rattle.upload_book.proofs.Pieces.{IsEntry}
+use Rattle.upload_book.specs.Store.{Store, plain_in, part_at, upload_at, with_head, with_upload, with_bytes}
+use Rattle.upload_book.specs.Stored.{StoredUpload, own_chain, upload_of}
+use Rattle.upload_book.specs.TenantBook.{TenantBook, Entry}
+use Rattle.upload_book.specs.Upload.{Upload, offset_of}
+use Rattle.upload_book.proofs.StoreAppend.{PutsIn, IsPutIn, alone-read, body-read, last-read, needs-read, IsKept-put, plain-put, charge-put}
+use Rattle.upload_book.proofs.StoreLemmas.{OnErr-of, IsPart, IsPart-read, IsEntry-read, not_final, at-place, charge-part, charge_with-part, room-part, store_of-same}
+use Rattle.upload_book.proofs.StoreRenew.{IsRenewed, IsKept-renewed}
 use Rattle.upload_book.proofs.store.Store.append.Goals as goal
 
--- src/store.rt:229:21
 pub put-requires-clause-body : goal.put-requires-clause-body
-put-requires-clause-body c = ?
+put-requires-clause-body c =
+    let part = IsPart-read c.self.inside c.args.self.now c.args.tenant c.index_mut-shelf.result.now c.self.view_is c.requires.tenant c.index_mut-shelf.ensures.value in
+    let entry = IsEntry-read c.self.inside c.args.self.now c.args.tenant c.args.place c.index_mut-shelf.result.now c.index_mut-upload.result.now c.self.view_is part c.requires.place c.index_mut-upload.ensures.value in
+    let own = not_final c.self.inside c.args.tenant c.args.place c.index_mut-shelf.result.now c.index_mut-upload.result.now c.self.invariant part entry in
+    body-read c.self.inside c.args.tenant c.args.place c.index_mut-shelf.result.now c.index_mut-upload.result.now c.self.invariant part entry own
 
--- src/store.rt:229:21
 pub put-requires-clause-last : goal.put-requires-clause-last
-put-requires-clause-last c = ?
+put-requires-clause-last c some =
+    let part = IsPart-read c.self.inside c.args.self.now c.args.tenant c.index_mut-shelf.result.now c.self.view_is c.requires.tenant c.index_mut-shelf.ensures.value in
+    let entry = IsEntry-read c.self.inside c.args.self.now c.args.tenant c.args.place c.index_mut-shelf.result.now c.index_mut-upload.result.now c.self.view_is part c.requires.place c.index_mut-upload.ensures.value in
+    let own = not_final c.self.inside c.args.tenant c.args.place c.index_mut-shelf.result.now c.index_mut-upload.result.now c.self.invariant part entry in
+    last-read c.self.inside c.args.tenant c.args.place c.index_mut-shelf.result.now c.index_mut-upload.result.now c.self.invariant part entry own (alone-read c.self.inside c.args.self.now c.args.tenant c.args.place c.index_mut-shelf.result.now c.index_mut-upload.result.now c.self.view_is part entry c.requires.alone)
 
--- src/store.rt:229:21
 pub put-requires-clause-free : goal.put-requires-clause-free
-put-requires-clause-free c = ?
+put-requires-clause-free c =
+    let part = IsPart-read c.self.inside c.args.self.now c.args.tenant c.index_mut-shelf.result.now c.self.view_is c.requires.tenant c.index_mut-shelf.ensures.value in
+    let entry = IsEntry-read c.self.inside c.args.self.now c.args.tenant c.args.place c.index_mut-shelf.result.now c.index_mut-upload.result.now c.self.view_is part c.requires.place c.index_mut-upload.ensures.value in
+    let own = not_final c.self.inside c.args.tenant c.args.place c.index_mut-shelf.result.now c.index_mut-upload.result.now c.self.invariant part entry in
+    let v = c.self.inside in
+    let free = rw (← c.self.view_is) at c.requires.free in
+    let same = at-place v c.args.tenant c.args.place c.index_mut-shelf.result.now c.index_mut-upload.result.now part entry (λ e u. blocks_between v.pool.block_size (offset_of u) (length c.args.bytes.now)) in
+    omega (arith, free, same, needs-read v c.args.tenant c.args.place c.index_mut-shelf.result.now c.index_mut-upload.result.now (length c.args.bytes.now) c.self.invariant part entry own)
 
--- src/store.rt:229:21
-pub invariant_of-self : goal.invariant_of-self
-invariant_of-self c = ?
+-- as many blocks are taken as lie between the upload's length and the new one
+taken : (v : Inside) (t i : ℕ) (old : KeptShelf) (e : Entry StoredUpload) (bytes : List ℕ) (q : Blocks) (y : Chain) (n : ℕ) → IsKept v → IsPart v t old → IsEntry (shelf_of old) i e → e.kept.kind ≢ Final
+    → Puts v.pool (own_chain e.kept.pieces) bytes q y → length y.blocks ≡ length (own_chain e.kept.pieces).blocks + n
+    → n ≡ blocks_between v.pool.block_size (offset_of (upload_at (store_of v) t i)) (length bytes)
+taken v t i old e bytes q y n kept part entry own f more =
+    let same = at-place v t i old e part entry (λ e u. blocks_between v.pool.block_size (offset_of u) (length bytes)) in
+    let blocks : length y.blocks ≡ blocks_with v.pool (own_chain e.kept.pieces) (length bytes) = f.body.blocks ∙ ap₂ blocks_for f.sizes.bytes f.len in
+    omega (arith, blocks, more, same, needs-read v t i old e (length bytes) kept part entry own)
 
--- src/store.rt:229:21
-pub returns-in_err-taken-clause-memory : goal.returns-in_err-taken-clause-memory
-returns-in_err-taken-clause-memory c = ?
-
--- src/store.rt:229:21
-pub returns-in_err-taken-clause-unchanged : goal.returns-in_err-taken-clause-unchanged
-returns-in_err-taken-clause-unchanged c = ?
-
--- src/store.rt:231:9
 pub overflow_add-shelf : goal.overflow_add-shelf
-overflow_add-shelf c = ?
+overflow_add-shelf c =
+    let part = IsPart-read c.self.inside c.args.self.now c.args.tenant c.index_mut-shelf.result.now c.self.view_is c.requires.tenant c.index_mut-shelf.ensures.value in
+    let entry = IsEntry-read c.self.inside c.args.self.now c.args.tenant c.args.place c.index_mut-shelf.result.now c.index_mut-upload.result.now c.self.view_is part c.requires.place c.index_mut-upload.ensures.value in
+    let own = not_final c.self.inside c.args.tenant c.args.place c.index_mut-shelf.result.now c.index_mut-upload.result.now c.self.invariant part entry in
+    let v = c.self.inside in
+    let n = taken v c.args.tenant c.args.place c.index_mut-shelf.result.now c.index_mut-upload.result.now c.args.bytes.now c.put.new.pool (own_chain c.put.new.self.kept.pieces) c.in_ok-taken.taken c.self.invariant part entry own c.in_ok-taken.ensures.puts c.in_ok-taken.ensures.taken in
+    let fits = rw (← c.self.view_is) at c.requires.fits in
+    omega (arith, n, fits, charge-part v c.args.tenant c.index_mut-shelf.result.now c.self.invariant part, charge_with-part v c.args.tenant c.index_mut-shelf.result.now c.self.invariant part)
 
--- src/store.rt:200:5
-pub invariant_of-self-2 : goal.invariant_of-self-2
-invariant_of-self-2 c = ?
-
--- src/store.rt:200:5
-pub returns-clause-plain : goal.returns-clause-plain
-returns-clause-plain c = ?
-
--- src/store.rt:200:5
 pub returns-clause-taken : goal.returns-clause-taken
-returns-clause-taken c = ?
+returns-clause-taken c =
+    let part = IsPart-read c.self.inside c.args.self.now c.args.tenant c.index_mut-shelf.result.now c.self.view_is c.requires.tenant c.index_mut-shelf.ensures.value in
+    let entry = IsEntry-read c.self.inside c.args.self.now c.args.tenant c.args.place c.index_mut-shelf.result.now c.index_mut-upload.result.now c.self.view_is part c.requires.place c.index_mut-upload.ensures.value in
+    let own = not_final c.self.inside c.args.tenant c.args.place c.index_mut-shelf.result.now c.index_mut-upload.result.now c.self.invariant part entry in
+    rw (← c.self.view_is) (taken c.self.inside c.args.tenant c.args.place c.index_mut-shelf.result.now c.index_mut-upload.result.now c.args.bytes.now c.put.new.pool (own_chain c.put.new.self.kept.pieces) c.in_ok-taken.taken c.self.invariant part entry own c.in_ok-taken.ensures.puts c.in_ok-taken.ensures.taken)
 
--- src/store.rt:200:5
+-- the part where the bytes found no memory
+same_part : goal.After-from_residual → KeptShelf
+same_part c = record (c.index_mut-shelf.result.now) { uploads = with_item c.index_mut-shelf.result.now.uploads c.args.place c.put.new.self }
+
+stays : (c : goal.After-from_residual) → IsRenewed c.self.inside c.args.tenant c.args.place c.index_mut-shelf.result.now (same_part c) c.index_mut-upload.result.now c.index_mut-upload.result.now.kept.declared c.index_mut-upload.result.now.kept.expires
+unfolding same_part
+stays c =
+    let part = IsPart-read c.self.inside c.args.self.now c.args.tenant c.index_mut-shelf.result.now c.self.view_is c.requires.tenant c.index_mut-shelf.ensures.value in
+    let entry = IsEntry-read c.self.inside c.args.self.now c.args.tenant c.args.place c.index_mut-shelf.result.now c.index_mut-upload.result.now c.self.view_is part c.requires.place c.index_mut-upload.ensures.value in
+    let own = not_final c.self.inside c.args.tenant c.args.place c.index_mut-shelf.result.now c.index_mut-upload.result.now c.self.invariant part entry in
+    record {
+      part = part;
+      entry = entry;
+      own = own;
+      quota = refl;
+      next = refl;
+      charge = refl;
+      uploads = ap (set c.index_mut-shelf.result.now.uploads.items c.args.place) c.in_err-taken.ensures.unchanged;
+      room = room-part c.self.inside c.args.tenant c.index_mut-shelf.result.now c.self.invariant part;
+    }
+
+pub invariant_of-self : goal.invariant_of-self
+unfolding same_part
+invariant_of-self c =
+    rw c.in_err-taken.ensures.pool_unchanged (IsKept-renewed c.self.inside c.args.tenant c.args.place c.index_mut-shelf.result.now (same_part c) c.index_mut-upload.result.now c.index_mut-upload.result.now.kept.declared c.index_mut-upload.result.now.kept.expires c.self.invariant (stays c))
+
+pub returns-in_err-taken-clause-memory : goal.returns-in_err-taken-clause-memory
+returns-in_err-taken-clause-memory c =
+    let part = IsPart-read c.self.inside c.args.self.now c.args.tenant c.index_mut-shelf.result.now c.self.view_is c.requires.tenant c.index_mut-shelf.ensures.value in
+    let entry = IsEntry-read c.self.inside c.args.self.now c.args.tenant c.args.place c.index_mut-shelf.result.now c.index_mut-upload.result.now c.self.view_is part c.requires.place c.index_mut-upload.ensures.value in
+    let own = not_final c.self.inside c.args.tenant c.args.place c.index_mut-shelf.result.now c.index_mut-upload.result.now c.self.invariant part entry in
+    let v = c.self.inside in
+    let same = at-place v c.args.tenant c.args.place c.index_mut-shelf.result.now c.index_mut-upload.result.now part entry (λ e u. blocks_between v.pool.block_size (offset_of u) (length c.args.bytes.now)) in
+    OnErr-of c.from_residual.result (rw (← c.self.view_is) (omega (arith, same, c.in_err-taken.ensures.memory, needs-read v c.args.tenant c.args.place c.index_mut-shelf.result.now c.index_mut-upload.result.now (length c.args.bytes.now) c.self.invariant part entry own)))
+
+pub returns-in_err-taken-clause-unchanged : goal.returns-in_err-taken-clause-unchanged
+unfolding same_part
+returns-in_err-taken-clause-unchanged c =
+    let part = IsPart-read c.self.inside c.args.self.now c.args.tenant c.index_mut-shelf.result.now c.self.view_is c.requires.tenant c.index_mut-shelf.ensures.value in
+    let entry = IsEntry-read c.self.inside c.args.self.now c.args.tenant c.args.place c.index_mut-shelf.result.now c.index_mut-upload.result.now c.self.view_is part c.requires.place c.index_mut-upload.ensures.value in
+    let own = not_final c.self.inside c.args.tenant c.args.place c.index_mut-shelf.result.now c.index_mut-upload.result.now c.self.invariant part entry in
+    let kept : set c.index_mut-shelf.result.now.uploads.items c.args.place c.put.new.self ≡ c.index_mut-shelf.result.now.uploads.items = ap (set c.index_mut-shelf.result.now.uploads.items c.args.place) (c.in_err-taken.ensures.unchanged ∙ c.index_mut-upload.ensures.value) ∙ set-get_or c.index_mut-shelf.result.now.uploads.items c.args.place c.index_mut-upload.result.now in
+    OnErr-of c.from_residual.result (rw c.in_err-taken.ensures.pool_unchanged (store_of-same c.self.inside c.args.tenant c.index_mut-shelf.result.now (same_part c) part (rw kept refl) ∙ c.self.view_is))
+
+-- the part with the upload
+after : goal.After-self-2-1 → KeptShelf
+after c = record (c.index_mut-shelf.result.now) { charge = c.index_mut-shelf.result.now.charge + c.in_ok-taken.taken; uploads = with_item c.index_mut-shelf.result.now.uploads c.args.place c.renew.new.self }
+
+puts : (c : goal.After-self-2-1) → PutsIn c.self.inside c.args.tenant c.args.place c.index_mut-shelf.result.now c.index_mut-upload.result.now c.args.bytes.now c.put.new.pool (own_chain c.put.new.self.kept.pieces)
+puts c =
+    let part = IsPart-read c.self.inside c.args.self.now c.args.tenant c.index_mut-shelf.result.now c.self.view_is c.requires.tenant c.index_mut-shelf.ensures.value in
+    let entry = IsEntry-read c.self.inside c.args.self.now c.args.tenant c.args.place c.index_mut-shelf.result.now c.index_mut-upload.result.now c.self.view_is part c.requires.place c.index_mut-upload.ensures.value in
+    let own = not_final c.self.inside c.args.tenant c.args.place c.index_mut-shelf.result.now c.index_mut-upload.result.now c.self.invariant part entry in
+    record {
+      part = part;
+      entry = entry;
+      own = own;
+      alone = alone-read c.self.inside c.args.self.now c.args.tenant c.args.place c.index_mut-shelf.result.now c.index_mut-upload.result.now c.self.view_is part entry c.requires.alone;
+      puts = c.in_ok-taken.ensures.puts;
+      once = c.put.ensures.once;
+    }
+
+is_put : (c : goal.After-self-2-1) → IsPutIn c.self.inside c.args.place c.index_mut-shelf.result.now (after c) c.index_mut-upload.result.now (own_chain c.put.new.self.kept.pieces) c.args.declared c.args.expires c.in_ok-taken.taken
+unfolding after
+is_put c = record {
+  quota = refl;
+  next = refl;
+  charge = refl;
+  uploads = ap (set c.index_mut-shelf.result.now.uploads.items c.args.place) (c.renew.ensures ∙ ap (λ e. with_head e c.args.declared c.args.expires) c.in_ok-taken.ensures.upload);
+  room = room-part c.self.inside c.args.tenant c.index_mut-shelf.result.now c.self.invariant (puts c).part;
+  more = c.in_ok-taken.ensures.taken;
+}
+
+pub invariant_of-self-2 : goal.invariant_of-self-2
+unfolding after
+invariant_of-self-2 c =
+    IsKept-put c.self.inside c.args.tenant c.args.place c.index_mut-shelf.result.now (after c) c.index_mut-upload.result.now c.args.bytes.now c.put.new.pool (own_chain c.put.new.self.kept.pieces) c.args.declared c.args.expires c.in_ok-taken.taken c.self.invariant (puts c) (is_put c)
+
+pub returns-clause-plain : goal.returns-clause-plain
+unfolding after
+returns-clause-plain c =
+    let v = c.self.inside in
+    let told : Entry StoredUpload → Upload → List TenantBook =
+    λ e u. set (plain_in (store_of v)) c.args.tenant (with_upload (part_at (store_of v) c.args.tenant) c.args.place (record { id = e.id; kept = with_bytes u c.args.bytes.now c.args.declared c.args.expires })) in
+    rw (← c.self.view_is) (plain-put v c.args.tenant c.args.place c.index_mut-shelf.result.now (after c) c.index_mut-upload.result.now c.args.bytes.now c.put.new.pool (own_chain c.put.new.self.kept.pieces) c.args.declared c.args.expires c.in_ok-taken.taken c.self.invariant (puts c) (is_put c)
+    ∙ at-place v c.args.tenant c.args.place c.index_mut-shelf.result.now c.index_mut-upload.result.now (puts c).part (puts c).entry told)
+
 pub returns-clause-charge : goal.returns-clause-charge
-returns-clause-charge c = ?
+unfolding after
+returns-clause-charge c =
+    rw (← c.self.view_is) (charge-put c.self.inside c.args.tenant c.args.place c.index_mut-shelf.result.now (after c) c.index_mut-upload.result.now c.args.bytes.now c.put.new.pool (own_chain c.put.new.self.kept.pieces) c.args.declared c.args.expires c.in_ok-taken.taken c.self.invariant (puts c) (is_put c))
