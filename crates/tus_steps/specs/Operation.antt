@@ -11,7 +11,7 @@ use Rattle.upload_book.specs.Lawful.{IsConcatText, is_kept_metadata}
 use Rattle.upload_book.specs.NewUpload.{NewUpload}
 use Rattle.upload_book.specs.Settings.{Settings, tenant_place}
 use Rattle.tus_steps.specs.declared.route.Route.{Route}
-use Rattle.tus_steps.specs.declared.route.Route.TheVariants.{Create, Look, Content, Append}
+use Rattle.tus_steps.specs.declared.route.Route.TheVariants.{Create, Look, Content, Append, Terminate}
 use Rattle.tus_steps.specs.Field.{is_absent, is_just, number_in, optional_number_in, metadata_in}
 use Rattle.tus_steps.specs.Media.{has_patch_type}
 use Rattle.tus_steps.specs.Method.{is_get}
@@ -56,6 +56,7 @@ abbrev pub operation_on : Request → ℕ → Route → Option Operation
 operation_on r tenant Create = option_map (λ new. operation.Create tenant new) (new_upload_in r)
 operation_on r tenant (Look id) = Some (operation.Look (record { tenant = tenant; id = id }))
 operation_on r tenant (Content id) = Some (operation.Content (record { tenant = tenant; id = id }))
+operation_on r tenant (Terminate id) = Some (operation.Terminate (record { tenant = tenant; id = id }))
 operation_on r tenant (Append id) = option_map (λ chunk. operation.Append (record { tenant = tenant; id = id }) chunk) (chunk_in r)
 
 -- what was found, handed on; or this refusal, where nothing was found

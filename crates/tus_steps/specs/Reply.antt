@@ -7,6 +7,7 @@ use Rattle.upload_book.specs.declared.append.Refused.{Refused}
 use Rattle.upload_book.specs.declared.create.Created.{Created}
 use Rattle.upload_book.specs.declared.head_row.HeadRow.{HeadRow}
 use Rattle.upload_book.specs.declared.refusal.Refusal.{Refusal}
+use Rattle.upload_book.specs.declared.terminate.Removed.{Removed}
 use Rattle.tus_steps.specs.declared.reply.Place.{Place}
 use Rattle.tus_steps.specs.declared.reply.Place.TheVariants as place
 use Rattle.tus_steps.specs.declared.reply.Reply.{Reply}
@@ -44,3 +45,8 @@ content_reply r (Err why) = refusing r why None
 abbrev pub append_reply : Request → Result Appended Refused → Reply
 append_reply r (Ok appended) = reply.Patched appended.offset appended.expires
 append_reply r (Err why) = refusing r why.refusal why.expires
+
+-- the reply to a DELETE
+abbrev pub deletion_reply : Request → Result Removed Refusal → Reply
+deletion_reply r (Ok removed) = reply.Deleted
+deletion_reply r (Err why) = refusing r why None

@@ -1,7 +1,7 @@
 -- The step of a request on the plain book: its reply, and the book after it.
 use Rattle.std.specs.Prelude.{◌≡◌, ◌⊎◌, ℕ, None, Result, Ok, Err, MatchBool}
 use Rattle.upload_book.specs.declared.operation.Operation.{Operation}
-use Rattle.upload_book.specs.declared.operation.Operation.TheVariants.{Create, Look, Content, Append}
+use Rattle.upload_book.specs.declared.operation.Operation.TheVariants.{Create, Look, Content, Append, Terminate}
 use Rattle.upload_book.specs.declared.refusal.Refusal.{Refusal}
 use Rattle.upload_book.specs.declared.refusal.Refusal.TheVariants as refusal
 use Rattle.upload_book.specs.Append.{append_answer, append_lacking}
@@ -10,11 +10,12 @@ use Rattle.upload_book.specs.Create.{create_answer}
 use Rattle.upload_book.specs.Look.{look_answer}
 use Rattle.upload_book.specs.Operation.{book_after_operation, MayLackMemory}
 use Rattle.upload_book.specs.PlainBook.{PlainBook, answer_of}
+use Rattle.upload_book.specs.Terminate.{terminate_answer}
 use Rattle.tus_steps.specs.declared.reply.Reply.{Reply}
 use Rattle.tus_steps.specs.declared.reply.Reply.TheVariants as reply
 use Rattle.tus_steps.specs.Operation.{operation_of}
 use Rattle.tus_steps.specs.Method.{is_options}
-use Rattle.tus_steps.specs.Reply.{refusing, creation_reply, look_reply, content_reply, append_reply}
+use Rattle.tus_steps.specs.Reply.{refusing, creation_reply, look_reply, content_reply, append_reply, deletion_reply}
 use Rattle.tus_steps.specs.Request.{Request}
 
 -- the reply to a request for an operation, which the answer of the plain book determines
@@ -22,7 +23,8 @@ abbrev pub operation_reply : PlainBook → Request → ℕ → Operation → Rep
 operation_reply b r now (Create tenant new) = creation_reply r (answer_of b tenant (create_answer tenant new now))
 operation_reply b r now (Look name) = look_reply r (answer_of b name.tenant (look_answer name.id now))
 operation_reply b r now (Content name) = content_reply r (answer_of b name.tenant (content_answer name.id now))
-operation_reply b r now (Append name chunk) = append_reply r (answer_of b name.tenant (append_answer name.id chunk now))
+operation_reply b r now (Append name chunk) = append_reply r (answer_of b name.tenant (append_answer name.id chunk now b.charged))
+operation_reply b r now (Terminate name) = deletion_reply r (answer_of b name.tenant (terminate_answer name.id now))
 
 -- the reply where the operation lacks memory
 abbrev pub lacking_reply : PlainBook → Request → ℕ → Operation → Reply

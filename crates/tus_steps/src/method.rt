@@ -12,6 +12,8 @@ pub enum Method {
     Get,
     /// PATCH: bytes for an upload.
     Patch,
+    /// DELETE: the end of an upload.
+    Delete,
     /// OPTIONS: what the server can do.
     Options,
     /// Any other, which is not served.

@@ -1,6 +1,6 @@
 use crate::request::Request;
 use tus_text::{Tenant, Text};
-use upload_book::{Appended, Content, Created, HeadRow, Moment, Refusal, Refused};
+use upload_book::{Appended, Content, Created, HeadRow, Moment, Refusal, Refused, Removed};
 
 /// What the path of a request names, as far as a reply tells it.
 #[derive(Clone, Copy, Debug, PartialEq, Eq)]
@@ -40,6 +40,9 @@ pub enum Reply {
         expires: Option<Moment>,
     },
 
+    /// 204: the upload has ended.
+    Deleted,
+
     /// The request was refused, and changed nothing. `head` is true for a HEAD; `expires` is when the
     /// upload expires, for a PATCH of a visible upload that does.
     Refused {
@@ -52,7 +55,7 @@ pub enum Reply {
 
 impl Reply {
     ghost use Rattle.std.specs.Prelude.{◌≡◌};
-    ghost use Rattle.tus_steps.specs.Reply.{refusing, creation_reply, look_reply, content_reply, append_reply};
+    ghost use Rattle.tus_steps.specs.Reply.{refusing, creation_reply, look_reply, content_reply, append_reply, deletion_reply};
 
     /// The reply that refuses the request, and tells when its upload expires.
     pub fn refusing(request: &Request, refusal: Refusal, expires: Option<Moment>) -> Reply
@@ -110,6 +113,16 @@ impl Reply {
                 expires: appended.expires,
             },
             Err(refused) => Reply::refusing(request, refused.refusal, refused.expires),
+        }
+    }
+
+    /// The reply to a DELETE.
+    pub fn to_deletion(request: &Request, outcome: Result<Removed, Refusal>) -> Reply
+        ensures { result ≡ deletion_reply request.now outcome }
+    {
+        match outcome {
+            Ok(_) => Reply::Deleted,
+            Err(refusal) => Reply::refusing(request, refusal, None),
         }
     }
 }

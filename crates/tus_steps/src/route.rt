@@ -14,6 +14,8 @@ pub(crate) enum Route {
     Content(u64),
     /// PATCH of the upload with this id.
     Append(u64),
+    /// DELETE of the upload with this id.
+    Terminate(u64),
 }
 
 impl Route {
@@ -28,6 +30,7 @@ impl Route {
             (Path::Upload { id, .. }, Method::Head) => Some(Route::Look(*id)),
             (Path::Upload { id, .. }, Method::Get) => Some(Route::Content(*id)),
             (Path::Upload { id, .. }, Method::Patch) => Some(Route::Append(*id)),
+            (Path::Upload { id, .. }, Method::Delete) => Some(Route::Terminate(*id)),
             _ => None,
         }
     }

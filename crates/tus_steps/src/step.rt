@@ -31,5 +31,6 @@ pub fn answer(book: &mut Book, request: &Request, now: Moment) -> Reply
             let outcome = book.append(&name, chunk, now);
             Reply::to_append(request, outcome)
         }
+        Ok(Operation::Terminate(name)) => Reply::to_deletion(request, book.terminate(&name, now)),
     }
 }
