@@ -52,10 +52,10 @@ alone-from old i e l own differ no_part = record {
 }
 
 -- the ids are those of the plain book
-abbrev ids_on : List (Entry StoredUpload) → List ℕ
+abbrev pub ids_on : List (Entry StoredUpload) → List ℕ
 ids_on entries = map {A = Entry StoredUpload} {B = ℕ} (λ e. e.id) entries
 
-ids-kept : (p : Blocks) (entries : List (Entry StoredUpload)) → map {A = Entry Upload} {B = ℕ} (λ e. e.id) (map {A = Entry StoredUpload} {B = Entry Upload} (entry_of p) entries) ≡ ids_on entries
+pub ids-kept : (p : Blocks) (entries : List (Entry StoredUpload)) → map {A = Entry Upload} {B = ℕ} (λ e. e.id) (map {A = Entry StoredUpload} {B = Entry Upload} (entry_of p) entries) ≡ ids_on entries
 ids-kept p [] = refl
 ids-kept p (e ∷ entries) = ap (λ ids. e.id ∷ ids) (ids-kept p entries)
 

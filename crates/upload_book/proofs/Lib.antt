@@ -37,3 +37,5 @@ pub mod OneBody
 pub mod SeenLemmas
 pub mod StoreOpen
 pub mod StoreRenew
+pub mod BookSteps
+pub mod PatchSteps

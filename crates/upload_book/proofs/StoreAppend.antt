@@ -1,10 +1,12 @@
 -- The store where an upload is told its length and its end, and where bytes are put at the end of one.
-use Rattle.std.proofs.Common.{◌≡◌, ◌≢◌, ℕ, ◌+◌, ◌-◌, ◌<◌, ◌≤◌, List, [], ◌∷◌, ◌++◌, length, get_or, set, vec_capacity, Option, refl, sym, ap, ◌∙◌, subst, inl, inr, arith}
-use Rattle.std.specs.List.{All, Contains, remove}
+use Rattle.std.proofs.Common.{◌≡◌, ◌≢◌, ℕ, ◌+◌, ◌-◌, ◌<◌, ◌≤◌, ◌^◌, List, [], ◌∷◌, ◌++◌, map, length, get_or, set, vec_capacity, Option, refl, sym, ap, ◌∙◌, subst, inl, inr, arith}
+use Rattle.std.specs.List.{All, Contains, sum_by}
+use Rattle.std.specs.List.Sorted.{IsStrictlyIncreasing}
+use Rattle.std.proofs.lemmas.List.Sums.{sum_by-remove}
 use Rattle.std.proofs.Math.ListN.{length-append}
 use Rattle.std.proofs.lemmas.List.{get_or_default}
 use Rattle.std.proofs.lemmas.List.Elements.{All-set}
-use Rattle.block_pool.specs.Blocks.{Blocks}
+use Rattle.block_pool.specs.Blocks.{Blocks, free_in, size_of}
 use Rattle.block_bodies.specs.Bodies.{blocks_with, Chain, IsBodyOf, IsLastOwn, StandsOnce, content_of}
 use Rattle.block_bodies.specs.Changes.{Puts, SameSizes}
 use Rattle.upload_book.specs.Account.{blocks_between}
@@ -14,19 +16,20 @@ use Rattle.upload_book.specs.declared.shelf.Shelf.{Shelf as KeptShelf}
 use Rattle.upload_book.specs.declared.store.Store.TheInside.{Inside}
 use Rattle.upload_book.specs.Kept.{shelf_of, store_of, IsKept, IsSingle}
 use Rattle.upload_book.specs.Store as store
-use Rattle.upload_book.specs.Store.{Store, no_upload, entry_at, shelf_at, plain_in, part_at, with_chain, with_head, with_upload, with_bytes}
+use Rattle.upload_book.specs.Store.{Store, plain_in, part_at, with_chain, with_head, with_upload, with_bytes}
 use Rattle.upload_book.specs.Stored.{Shelf, StoredUpload, Piece, part_of, entry_of, upload_of, pieces_of, own_chain, charge_on, IsStored, HasOwnPiece, ReadsWhole}
-use Rattle.upload_book.specs.TenantBook.{Entry}
-use Rattle.upload_book.specs.Upload.{content_of as upload_content_of, offset_of}
-use Rattle.upload_book.proofs.InUse.{Contains-cases, Contains-none, places-within}
+use Rattle.upload_book.specs.TenantBook.{TenantBook, Entry}
+use Rattle.upload_book.specs.Upload.{Upload, content_of as upload_content_of, offset_of}
+use Rattle.upload_book.proofs.InUse.{blocks_in_use, Contains-cases, Contains-none, places-within}
+use Rattle.upload_book.proofs.AloneLemmas.{alone-from, ids-differ, ids-kept, ids_on}
 use Rattle.upload_book.proofs.OwnLemmas.{HasOwnPiece-from, own-kept}
-use Rattle.upload_book.proofs.Pieces.{IsEntry, with_entry, without, kept_pieces, Contains-flat_map, Contains-remove_at, Contains-with_entry, Contains-without}
+use Rattle.upload_book.proofs.Pieces.{IsEntry, with_entry, without, Contains-with_entry, Contains-without}
 use Rattle.upload_book.proofs.PlainShelves.{KeepBytes, content-own, content-same, put-keeps, put-keeps_elsewhere, part-with_entry}
 use Rattle.upload_book.proofs.PlainSteps.{upload-put}
 use Rattle.upload_book.proofs.PriceLemmas.{blocks_between-adds}
 use Rattle.upload_book.proofs.PutLemmas.{own_piece, own-contained, IsAlone, own-body, own-last, IsStored-put, put-charge}
 use Rattle.upload_book.proofs.Shelves.{IsShelf, IsStoredOn, IsStoredOn-shelf}
-use Rattle.upload_book.proofs.StoreLemmas.{entry_at-read, with_shelf, with_shelf-part, IsPart, IsShelf-part, shelf_at-part, single-part, own-part, reads-part, charge-part, charge_with-part, IsKept-with_shelf, plain_in-with_shelf}
+use Rattle.upload_book.proofs.StoreLemmas.{charges-kept, with_shelf, with_shelf-part, IsPart, IsShelf-part, shelf_at-part, single-part, own-part, reads-part, charge-part, charge_with-part, IsKept-with_shelf, plain_in-with_shelf}
 
 -- an upload that is not final is read in a part, and bytes are put at its end
 pub record PutsIn (v : Inside) (t i : ℕ) (old : KeptShelf) (e : Entry StoredUpload) (bytes : List ℕ) (q : Blocks) (y : Chain) : Type 0 where
@@ -151,19 +154,27 @@ module _ (v : Inside) (t i : ℕ) (old changed : KeptShelf) (e : Entry StoredUpl
       subst (λ size. charge_with size (part_at (store_of w) t) ≡ changed.charge) puts.puts.sizes.bytes (charge_with-part w t changed IsKept-put part ∙ sym (charge-part w t changed IsKept-put part)) in
       omega (arith, now, is.charge, charge-part v t old kept puts.part, charge_with-part v t old kept puts.part)
 
--- the upload at a place is alone with its origin as the store sees it
-pub alone-read : (v : Inside) (s : Store) (t i : ℕ) (old : KeptShelf) (e : Entry StoredUpload) → store_of v ≡ s → IsPart v t old → IsEntry (shelf_of old) i e → store.IsAlone s t i → IsAlone (shelf_of old) i e.id
-alone-read v s t i old e is part entry alone = record { others = others }
-  where
-    others : (z : Piece) → Contains (pieces_of (without (shelf_of old) i)) z → z.origin ≢ e.id
-    others z c =
-        let found = Contains-flat_map kept_pieces (remove (shelf_of old).uploads i) z c in
-        let at = Contains-remove_at (shelf_of old).uploads i found.0 entry.within found.1 in
-        let shelf : shelf_at s t ≡ shelf_of old = ap (λ (s : Store). shelf_at s t) (sym is) ∙ shelf_at-part v t old part in
-        let there : at.0 < length (shelf_at s t).uploads = rw shelf at.1 in
-        let stands : entry_at s t at.0 ≡ found.0 = ap (λ (s : Shelf). get_or s.uploads at.0 no_upload) shelf ∙ get_or_default (shelf_of old).uploads at.0 no_upload found.0 at.1 ∙ at.3 in
-        let id : (entry_at s t i).id ≡ e.id = ap (λ (e : Entry StoredUpload). e.id) (entry_at-read v s t i old e is part entry) in
-        subst (λ id. z.origin ≢ id) id (alone.alone at.0 there at.2 z (subst (λ (e : Entry StoredUpload). Contains e.kept.pieces z) (sym stands) found.2))
+-- the upload at a place is alone with its origin
+pub alone-read : (v : Inside) (s : Store) (t i : ℕ) (old : KeptShelf) (e : Entry StoredUpload) → IsKept v → store_of v ≡ s → IsPart v t old → IsEntry (shelf_of old) i e → store.IsAlone s t i → IsAlone (shelf_of old) i e.id
+alone-read v s t i old e kept is part entry alone =
+    let shelf = shelf_of old in
+    let ids : IsStrictlyIncreasing (ids_on shelf.uploads) =
+    subst IsStrictlyIncreasing (ids-kept v.pool shelf.uploads)
+    (subst (λ (part : TenantBook). IsStrictlyIncreasing (map {A = Entry Upload} {B = ℕ} (λ e. e.id) part.uploads)) (ap (λ (s : Store). part_at s t) (sym is) ∙ ap (part_of v.pool) (shelf_at-part v t old part)) alone.ids) in
+    alone-from shelf i e entry.within (own-part v t old kept part)
+    (λ k d within other same. ids-differ shelf.uploads i k d ids entry.within within other (same ∙ ap (λ (e : Entry StoredUpload). e.id) (entry.read ∙ get_or_default shelf.uploads i e d entry.within)))
+    (λ f z c final here. absurd (subst (λ (f : Entry StoredUpload). f.kept.kind ≢ Final) c.2 (single-part v t old kept part c.0 f c.1).0 final))
+
+-- so many blocks are free
+pub free-read : (v : Inside) (more : ℕ) → IsKept v → sum_by (charge_with v.pool.block_size) (plain_in (store_of v)) + more ≤ size_of v.pool → more ≤ free_in v.pool
+free-read v more kept room = omega (arith, room, charges-kept v kept, blocks_in_use v.pool (store_of v).shelves kept.stored)
+
+-- a tenant pays no more than all do
+pub charge-few : (v : Inside) (t : ℕ) (old : KeptShelf) (more : ℕ) → IsKept v → IsPart v t old → sum_by (charge_with v.pool.block_size) (plain_in (store_of v)) + more ≤ size_of v.pool → old.charge + more < 2 ^ 64
+charge-few v t old more kept part room =
+    let shelf = IsShelf-part v t old part in
+    let here : charge_on v.pool.block_size (get_or (store_of v).shelves t (shelf_of old)) ≡ charge_on v.pool.block_size (shelf_of old) = ap (charge_on v.pool.block_size) (sym shelf.read) in
+    omega (arith, room, here, kept.blocks, charges-kept v kept, charge-part v t old kept part, sum_by-remove (charge_on v.pool.block_size) (store_of v).shelves t (shelf_of old) shelf.within)
 
 -- the blocks that bytes need are those between its length and theirs
 pub needs-read : (v : Inside) (t i : ℕ) (old : KeptShelf) (e : Entry StoredUpload) (more : ℕ) → IsKept v → IsPart v t old → IsEntry (shelf_of old) i e → e.kept.kind ≢ Final

@@ -112,6 +112,7 @@ IsKept-with_shelf v q t old changed kept is sizes stored stay own reads charge r
       own = rw shelves (All-set (λ (s : Shelf). All IsSingle s.uploads) (store_of v).shelves t (shelf_of changed) own kept.own);
       reads = rw shelves (All-shelves (λ s. ReadsWhole q (pieces_of s)) (store_of v).shelves t (shelf_of changed) reads others);
       size = rw sizes.bytes kept.size;
+      blocks = rw sizes.blocks kept.blocks;
       charges = rw sizes.bytes (All-set (λ (s : KeptShelf). s.charge ≡ charge_on v.pool.block_size (shelf_of s)) v.shelves.items t changed charge kept.charges);
       room = All-set (λ (s : KeptShelf). v.room ≤ vec_capacity s.uploads) v.shelves.items t changed room kept.room;
     }

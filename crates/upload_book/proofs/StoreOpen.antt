@@ -1,10 +1,10 @@
 -- The store at the start.
-use Rattle.std.proofs.Common.{◌≡◌, ℕ, zero, suc, ◌+◌, ◌<◌, ◌≤◌, List, [], ◌∷◌, ◌++◌, map, length, get_or, slice_get, take, vec_capacity, Some, add-one, refl, ap, sym, ◌∙◌, subst, arith, rules}
+use Rattle.std.proofs.Common.{◌≡◌, ℕ, zero, suc, ◌+◌, ◌<◌, ◌≤◌, ◌^◌, List, [], ◌∷◌, ◌++◌, map, length, get_or, slice_get, take, vec_capacity, Some, add-one, refl, ap, sym, ◌∙◌, subst, arith, rules}
 use Rattle.std.specs.List.{All, Contains}
 use Rattle.std.proofs.Math.ListN.{length-map}
 use Rattle.std.proofs.lemmas.List.{map-append, get_or-map}
 use Rattle.std.proofs.lemmas.List.Elements.{All-push, All-map, All-weaker}
-use Rattle.block_pool.specs.Blocks.{Blocks, count_at}
+use Rattle.block_pool.specs.Blocks.{Blocks, count_at, size_of}
 use Rattle.upload_book.specs.Charge.{sum_below}
 use Rattle.upload_book.specs.declared.settings.TenantQuota.{TenantQuota}
 use Rattle.upload_book.specs.declared.shelf.Shelf.{Shelf as KeptShelf}
@@ -49,15 +49,16 @@ empty_charge size shelf empty =
     ap (λ uploads. charge_on size (record shelf { uploads = uploads })) empty ∙ empty_prices shelf.next
 
 -- the store is kept
-pub IsKept-opening : (v : Inside) (tenants : List TenantQuota) → (store_of v).shelves ≡ opening_shelves tenants → ((b : ℕ) → count_at v.pool b ≡ 0) → 0 < v.pool.block_size
+pub IsKept-opening : (v : Inside) (tenants : List TenantQuota) → (store_of v).shelves ≡ opening_shelves tenants → ((b : ℕ) → count_at v.pool b ≡ 0) → 0 < v.pool.block_size → size_of v.pool < 2 ^ 64
     → All (λ (t : KeptShelf). t.charge ≡ 0) v.shelves.items → All (λ (t : KeptShelf). v.room ≤ vec_capacity t.uploads) v.shelves.items → IsKept v
-IsKept-opening v tenants opens free size charges room =
+IsKept-opening v tenants opens free size few charges room =
     let none : All (λ (s : Shelf). s.uploads ≡ []) (store_of v).shelves = subst (All (λ (s : Shelf). s.uploads ≡ [])) (sym opens) (no_uploads tenants) in
     record {
       stored = IsStored-opening v.pool (store_of v).shelves free none;
       own = All-weaker (λ (s : Shelf). s.uploads ≡ []) (λ (s : Shelf). All IsSingle s.uploads) (λ s empty. rw empty (search rules)) (store_of v).shelves none;
       reads = All-weaker (λ (s : Shelf). s.uploads ≡ []) (λ (s : Shelf). ReadsWhole v.pool (pieces_of s)) (λ s empty x c. absurd (Contains-none x (rw empty at c))) (store_of v).shelves none;
       size = size;
+      blocks = few;
       charges = λ k d within.
           let inside : k < length (store_of v).shelves = omega (arith, within, length-map v.shelves.items shelf_of) in
           let t = get_or v.shelves.items k d in

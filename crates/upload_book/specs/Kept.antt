@@ -1,5 +1,6 @@
 -- How a store keeps the uploads of all tenants.
-use Rattle.std.specs.Prelude.{◌≡◌, ◌≢◌, ◌≤◌, ◌<◌, ℕ, length, map, vec_capacity, All, Ok, slice_index_or}
+use Rattle.std.specs.Prelude.{◌≡◌, ◌≢◌, ◌≤◌, ◌<◌, ◌^◌, ℕ, length, map, vec_capacity, All, Ok, slice_index_or}
+use Rattle.block_pool.specs.Blocks.{size_of}
 use Rattle.upload_book.specs.declared.head_row.Kind.TheVariants.{Final}
 use Rattle.upload_book.specs.declared.shelf.Shelf.{Shelf as KeptShelf}
 use Rattle.upload_book.specs.declared.store.Store.TheInside.{Inside}
@@ -30,6 +31,7 @@ pub record IsKept (s : Inside) : Type 0 where
   pub own : All (λ (shelf : Shelf). All IsSingle shelf.uploads) (store_of s).shelves
   pub reads : All (λ (shelf : Shelf). ReadsWhole s.pool (pieces_of shelf)) (store_of s).shelves
   pub size : 0 < s.pool.block_size
+  pub blocks : size_of s.pool < 2 ^ 64
   pub charges : All (λ (t : KeptShelf). t.charge ≡ charge_on s.pool.block_size (shelf_of t)) s.shelves.items
   pub room : All (λ (t : KeptShelf). s.room ≤ vec_capacity t.uploads) s.shelves.items
 

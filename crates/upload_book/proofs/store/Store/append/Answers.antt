@@ -14,8 +14,8 @@ use Rattle.upload_book.specs.Store.{Store, plain_in, part_at, upload_at, with_he
 use Rattle.upload_book.specs.Stored.{StoredUpload, own_chain, upload_of}
 use Rattle.upload_book.specs.TenantBook.{TenantBook, Entry}
 use Rattle.upload_book.specs.Upload.{Upload, offset_of}
-use Rattle.upload_book.proofs.StoreAppend.{PutsIn, IsPutIn, alone-read, body-read, last-read, needs-read, IsKept-put, plain-put, charge-put}
-use Rattle.upload_book.proofs.StoreLemmas.{OnErr-of, IsPart, IsPart-read, IsEntry-read, not_final, at-place, charge-part, charge_with-part, room-part, store_of-same}
+use Rattle.upload_book.proofs.StoreAppend.{PutsIn, IsPutIn, alone-read, body-read, last-read, needs-read, free-read, charge-few, IsKept-put, plain-put, charge-put}
+use Rattle.upload_book.proofs.StoreLemmas.{OnErr-of, IsPart, IsPart-read, IsEntry-read, not_final, at-place, room-part, store_of-same}
 use Rattle.upload_book.proofs.StoreRenew.{IsRenewed, IsKept-renewed}
 use Rattle.upload_book.proofs.store.Store.append.Goals as goal
 
@@ -31,7 +31,7 @@ put-requires-clause-last c some =
     let part = IsPart-read c.self.inside c.args.self.now c.args.tenant c.index_mut-shelf.result.now c.self.view_is c.requires.tenant c.index_mut-shelf.ensures.value in
     let entry = IsEntry-read c.self.inside c.args.self.now c.args.tenant c.args.place c.index_mut-shelf.result.now c.index_mut-upload.result.now c.self.view_is part c.requires.place c.index_mut-upload.ensures.value in
     let own = not_final c.self.inside c.args.tenant c.args.place c.index_mut-shelf.result.now c.index_mut-upload.result.now c.self.invariant part entry in
-    last-read c.self.inside c.args.tenant c.args.place c.index_mut-shelf.result.now c.index_mut-upload.result.now c.self.invariant part entry own (alone-read c.self.inside c.args.self.now c.args.tenant c.args.place c.index_mut-shelf.result.now c.index_mut-upload.result.now c.self.view_is part entry c.requires.alone)
+    last-read c.self.inside c.args.tenant c.args.place c.index_mut-shelf.result.now c.index_mut-upload.result.now c.self.invariant part entry own (alone-read c.self.inside c.args.self.now c.args.tenant c.args.place c.index_mut-shelf.result.now c.index_mut-upload.result.now c.self.invariant c.self.view_is part entry c.requires.alone)
 
 pub put-requires-clause-free : goal.put-requires-clause-free
 put-requires-clause-free c =
@@ -39,7 +39,8 @@ put-requires-clause-free c =
     let entry = IsEntry-read c.self.inside c.args.self.now c.args.tenant c.args.place c.index_mut-shelf.result.now c.index_mut-upload.result.now c.self.view_is part c.requires.place c.index_mut-upload.ensures.value in
     let own = not_final c.self.inside c.args.tenant c.args.place c.index_mut-shelf.result.now c.index_mut-upload.result.now c.self.invariant part entry in
     let v = c.self.inside in
-    let free = rw (← c.self.view_is) at c.requires.free in
+    let room = rw (← c.self.view_is) at c.requires.room in
+    let free = free-read v (blocks_between v.pool.block_size (offset_of (upload_at (store_of v) c.args.tenant c.args.place)) (length c.args.bytes.now)) c.self.invariant room in
     let same = at-place v c.args.tenant c.args.place c.index_mut-shelf.result.now c.index_mut-upload.result.now part entry (λ e u. blocks_between v.pool.block_size (offset_of u) (length c.args.bytes.now)) in
     omega (arith, free, same, needs-read v c.args.tenant c.args.place c.index_mut-shelf.result.now c.index_mut-upload.result.now (length c.args.bytes.now) c.self.invariant part entry own)
 
@@ -59,8 +60,8 @@ overflow_add-shelf c =
     let own = not_final c.self.inside c.args.tenant c.args.place c.index_mut-shelf.result.now c.index_mut-upload.result.now c.self.invariant part entry in
     let v = c.self.inside in
     let n = taken v c.args.tenant c.args.place c.index_mut-shelf.result.now c.index_mut-upload.result.now c.args.bytes.now c.put.new.pool (own_chain c.put.new.self.kept.pieces) c.in_ok-taken.taken c.self.invariant part entry own c.in_ok-taken.ensures.puts c.in_ok-taken.ensures.taken in
-    let fits = rw (← c.self.view_is) at c.requires.fits in
-    omega (arith, n, fits, charge-part v c.args.tenant c.index_mut-shelf.result.now c.self.invariant part, charge_with-part v c.args.tenant c.index_mut-shelf.result.now c.self.invariant part)
+    let room = rw (← c.self.view_is) at c.requires.room in
+    omega (arith, n, charge-few v c.args.tenant c.index_mut-shelf.result.now (blocks_between v.pool.block_size (offset_of (upload_at (store_of v) c.args.tenant c.args.place)) (length c.args.bytes.now)) c.self.invariant part room)
 
 pub returns-clause-taken : goal.returns-clause-taken
 returns-clause-taken c =
@@ -126,7 +127,7 @@ puts c =
       part = part;
       entry = entry;
       own = own;
-      alone = alone-read c.self.inside c.args.self.now c.args.tenant c.args.place c.index_mut-shelf.result.now c.index_mut-upload.result.now c.self.view_is part entry c.requires.alone;
+      alone = alone-read c.self.inside c.args.self.now c.args.tenant c.args.place c.index_mut-shelf.result.now c.index_mut-upload.result.now c.self.invariant c.self.view_is part entry c.requires.alone;
       puts = c.in_ok-taken.ensures.puts;
       once = c.put.ensures.once;
     }

@@ -1,10 +1,15 @@
-use Rattle.std.proofs.Common.{◌≡◌, ◌<◌, sym, ap, ◌∙◌, subst, arith}
-use Rattle.block_pool.specs.Blocks.{Blocks, count_at}
+use Rattle.std.proofs.Common.{◌≡◌, ◌<◌, ◌≤◌, ◌^◌, ℕ, sym, ap, ◌∙◌, subst, arith}
+use Rattle.std.proofs.lemmas.List.{length-replicate}
+use Rattle.block_pool.specs.Blocks.{Blocks, all_free, count_at, free_block, size_of}
 use Rattle.upload_book.specs.declared.settings.Numbers.{Numbers}
-use Rattle.upload_book.proofs.SettingsLemmas.{block_size-some}
+use Rattle.upload_book.proofs.SettingsLemmas.{blocks-within, block_size-some}
 use Rattle.upload_book.proofs.StayLemmas.{count_at-free}
 use Rattle.upload_book.proofs.StoreOpen.{IsKept-opening}
 use Rattle.upload_book.proofs.store.Store.new.Goals as goal
+
+-- a free pool has as many blocks as were asked for
+few : (n size : ℕ) (p : Blocks) → p ≡ all_free n size → n ≤ 1048576 → size_of p < 2 ^ 64
+few n size p is most = rw is (omega (arith, length-replicate n free_block))
 
 pub invariant_of-result : goal.invariant_of-result
 invariant_of-result c =
@@ -14,5 +19,6 @@ invariant_of-result c =
     IsKept-opening _ c.args.settings.now.tenants c.in_ok-shelves.ensures.shelves
     (λ b. ap (λ (p : Blocks). count_at p b) c.in_ok-pool.ensures ∙ count_at-free c.numbers-numbers.result.now.blocks c.numbers-numbers.result.now.block_size b)
     (rw size some)
+    (few _ _ _ c.in_ok-pool.ensures (omega (arith, ap (λ (n : Numbers). n.blocks) numbers, blocks-within c.args.settings.now c.numbers-numbers.ensures.sound)))
     c.in_ok-shelves.ensures.charges
     (rw numbers c.in_ok-shelves.ensures.room)
