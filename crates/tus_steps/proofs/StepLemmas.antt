@@ -1,7 +1,6 @@
 -- What the book's answer to a PATCH says of the step, and what is ready to be asked.
 use Rattle.std.proofs.Common.{◌≡◌, ℕ, false, Option, Some, None, Result, Ok, Err, OnOk, OnErr, IfOk, IfSome, inl, inr, sym, ap, ◌∙◌, subst}
 use Rattle.std.specs.Prelude.{ok_or}
-use Rattle.std.proofs.lemmas.List.{set-get_or}
 use Rattle.upload_book.specs.Append.{append_answer, append_lacking, part_after_append}
 use Rattle.upload_book.specs.Chunk.{Chunk}
 use Rattle.upload_book.specs.declared.append.Appended.{Appended}
@@ -9,12 +8,11 @@ use Rattle.upload_book.specs.declared.append.Refused.{Refused}
 use Rattle.upload_book.specs.declared.head_row.Name.{Name}
 use Rattle.upload_book.specs.declared.operation.Operation.{Operation}
 use Rattle.upload_book.specs.declared.operation.Operation.TheVariants as operation
-use Rattle.upload_book.specs.declared.settings.Numbers.{Numbers}
 use Rattle.upload_book.specs.Operation.{MayLackMemory}
-use Rattle.upload_book.specs.PlainBook.{PlainBook, answer_of, book_after, tenant_book, with_tenant_book}
+use Rattle.upload_book.specs.PlainBook.{PlainBook, answer_of, book_after, tenant_book}
 use Rattle.upload_book.specs.Refusal.{IsAnswer}
-use Rattle.upload_book.specs.TenantBook.{TenantBook, opening_part}
 use Rattle.upload_book.proofs.AppendLemmas.{part_after_append-refused}
+use Rattle.upload_book.proofs.BookLemmas.{book_after-stays}
 use Rattle.tus_steps.specs.Reply.{append_reply}
 use Rattle.tus_steps.specs.Request.{Request}
 use Rattle.tus_steps.specs.declared.reply.Reply.{Reply}
@@ -32,17 +30,12 @@ pub found-ok_or : {A E : Type 0} (found : Option A) (why : E) (P : A → Type 0)
 found-ok_or (Some y) why P x holds is = let same : y ≡ x = cc in subst P same holds
 found-ok_or None why P x holds is = absurd cc
 
--- a step that leaves the tenant's part leaves the book
-book_after-same : (b : PlainBook) (tenant : ℕ) (after : Numbers → TenantBook → TenantBook) → after b.settings.numbers (tenant_book b tenant) ≡ tenant_book b tenant → book_after b tenant after ≡ b
-book_after-same b tenant after same =
-    ap (with_tenant_book b tenant) same ∙ ap (λ tenants. record b { tenants = tenants }) (set-get_or b.tenants tenant (opening_part 0))
-
 -- the book after a PATCH, which a refusal leaves as it was
-after_append : (b : PlainBook) (name : Name) (chunk : Chunk) (now : ℕ) (result : Result Appended Refused) (after : PlainBook) → result ≡ answer_of b name.tenant (append_answer name.id chunk now) → OnOk result (after ≡ book_after b name.tenant (part_after_append name.id chunk now)) → OnErr result (after ≡ b)
-    → after ≡ book_after b name.tenant (part_after_append name.id chunk now)
+after_append : (b : PlainBook) (name : Name) (chunk : Chunk) (now : ℕ) (result : Result Appended Refused) (after : PlainBook) → result ≡ answer_of b name.tenant (append_answer name.id chunk now b.charged) → OnOk result (after ≡ book_after b name.tenant (part_after_append name.id chunk now b.charged)) → OnErr result (after ≡ b)
+    → after ≡ book_after b name.tenant (part_after_append name.id chunk now b.charged)
 after_append b name chunk now (Ok told) after is accepted refused = accepted
 after_append b name chunk now (Err why) after is accepted refused =
-    refused ∙ sym (book_after-same b name.tenant (part_after_append name.id chunk now) (part_after_append-refused name.id chunk now b.settings.numbers (tenant_book b name.tenant) why (sym is)))
+    refused ∙ sym (book_after-stays b name.tenant (part_after_append name.id chunk now b.charged) (part_after_append-refused name.id chunk now b.charged b.settings.numbers (tenant_book b name.tenant) why (sym is)))
 
 -- after a refusal the book is as it was
 kept : (b after : PlainBook) (result : Result Appended Refused) (why : Refused) → result ≡ Err why → OnErr result (after ≡ b) → after ≡ b
@@ -51,8 +44,8 @@ kept b after (Err told) why is refused = refused
 
 -- the answer to a PATCH is that of its step
 pub append-step : (b : PlainBook) (r : Request) (now : ℕ) (name : Name) (chunk : Chunk) (result : Result Appended Refused) (after : PlainBook)
-    → IsAnswer (answer_of b name.tenant (append_answer name.id chunk now)) (MayLackMemory b (operation.Append name chunk) now) (answer_of b name.tenant (append_lacking name.id now)) result
-    → OnOk result (after ≡ book_after b name.tenant (part_after_append name.id chunk now)) → OnErr result (after ≡ b) → IsOperationStep b r now (operation.Append name chunk) (append_reply r result) after
+    → IsAnswer (answer_of b name.tenant (append_answer name.id chunk now b.charged)) (MayLackMemory b (operation.Append name chunk) now) (answer_of b name.tenant (append_lacking name.id now)) result
+    → OnOk result (after ≡ book_after b name.tenant (part_after_append name.id chunk now b.charged)) → OnErr result (after ≡ b) → IsOperationStep b r now (operation.Append name chunk) (append_reply r result) after
 append-step b r now name chunk result after (inl same) accepted refused =
     inl (ap (append_reply r) same, after_append b name chunk now result after same accepted refused)
 append-step b r now name chunk result after (inr lacks) accepted refused =

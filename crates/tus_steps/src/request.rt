@@ -101,6 +101,7 @@ impl<'a> Request<'a> {
             }),
             Route::Look(id) => Some(Operation::Look(Name { tenant, id })),
             Route::Content(id) => Some(Operation::Content(Name { tenant, id })),
+            Route::Terminate(id) => Some(Operation::Terminate(Name { tenant, id })),
             Route::Append(id) => Some(Operation::Append {
                 name: Name { tenant, id },
                 chunk: self.chunk()?,

@@ -1,4 +1,6 @@
 use Rattle.std.proofs.Common.{Ok, sym, ap, ◌∙◌, subst}
+use Rattle.std.proofs.lemmas.Result.{on_err_weaker}
+use Rattle.upload_book.specs.Book.{plain_of}
 use Rattle.upload_book.specs.declared.operation.Operation.TheVariants as operation
 use Rattle.tus_steps.specs.declared.reply.Reply.{Reply}
 use Rattle.tus_steps.specs.Operation.{operation_of}
@@ -10,14 +12,14 @@ use Rattle.tus_steps.proofs.step.answer.Goals as goal
 
 pub returns-in-Ok-Append-clause-step : goal.returns-in-Ok-Append-clause-step
 returns-in-Ok-Append-clause-step c =
-    let b = c.args.book.now in
+    let b = plain_of c.args.book.now in
     let r = c.args.request.now in
     let name = c.in-Ok-Append.name in
     let chunk = c.in-Ok-Append.chunk in
-    let after = c.append-outcome.new.self in
+    let after = plain_of c.append-outcome.new.self in
     let told = c.append-outcome.ensures in
     let other = ap (λ (r : Request). is_options r.method) (sym c.request.view_is) ∙ sym c.is_options.ensures ∙ c.if-is_options.false in
     let asked = ap (λ s. operation_of s r) (sym c.settings-2.ensures.value) ∙ sym c.operation.ensures.value ∙ c.in-Ok-Append.is ∙ ap Ok c.in-Ok-Append.field-0-is in
-    let step = append-step b r c.args.now name chunk c.append-outcome.result after told.answer told.accepted told.refused in
+    let step = append-step b r c.args.now name chunk c.append-outcome.result after told.answer told.accepted (on_err_weaker c.append-outcome.result (ap plain_of) told.refused) in
     subst (λ (reply : Reply). IsStep b r c.args.now reply after) (sym c.to_append.ensures)
     (step-by b r c.args.now (operation.Append name chunk) _ after other asked step)
