@@ -2,7 +2,7 @@
 use Rattle.std.proofs.Common.{◌≡◌, ℕ, List, ◌++◌, Bool, true, false, refl, sym, ap, ◌∙◌, append-nil, append_assoc}
 use Rattle.std.specs.Prelude.{◌||◌, ◌==◌}
 use Rattle.tus_steps.specs.declared.reply.Reply.{Reply}
-use Rattle.tus_steps.specs.declared.reply.Reply.TheVariants.{Options, Created, Head, Content, Patched, Refused}
+use Rattle.tus_steps.specs.declared.reply.Reply.TheVariants.{Options, Created, Head, Content, Patched, Deleted, Refused}
 use Rattle.http_wire.specs.ReplyParts.{word_in, content_in, page_text, content_sent}
 use Rattle.http_wire.specs.ReplyText.{reply_head, reply_text, reply_status, body_in, body_sent, is_bare}
 use Rattle.http_wire.specs.declared.framing.Framing.{Framing}
@@ -14,6 +14,7 @@ body_parts false (Created tenant id expires) = sym (append-nil _)
 body_parts false (Head row) = sym (append-nil _)
 body_parts false (Content bytes) = refl
 body_parts false (Patched offset expires) = sym (append-nil _)
+body_parts false Deleted = sym (append-nil _)
 body_parts false (Refused why head at expires) = sym (append-nil _)
 
 pub reply_text-parts : (r : Reply) (now : ℕ) (framing : Framing) → reply_text r now framing ≡ page_text r now framing ++ content_sent r framing

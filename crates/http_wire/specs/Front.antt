@@ -35,7 +35,8 @@ method_of name =
     else (if bytes_eq name (codes "HEAD") then method.Head
     else (if bytes_eq name (codes "PATCH") then method.Patch
     else (if bytes_eq name (codes "GET") then method.Get
-    else (if bytes_eq name (codes "OPTIONS") then method.Options else method.Other))))
+    else (if bytes_eq name (codes "DELETE") then method.Delete
+    else (if bytes_eq name (codes "OPTIONS") then method.Options else method.Other)))))
 
 -- the method that one X-HTTP-Method-Override names stands in place of the request's own, and two or more
 -- name none (tus 1.0.0, Core Protocol, X-HTTP-Method-Override)

@@ -9,7 +9,7 @@ use Rattle.upload_book.specs.Refusal.{status_of, word_of}
 use Rattle.tus_steps.specs.declared.reply.Place.{Place}
 use Rattle.tus_steps.specs.declared.reply.Place.TheVariants as place
 use Rattle.tus_steps.specs.declared.reply.Reply.{Reply}
-use Rattle.tus_steps.specs.declared.reply.Reply.TheVariants.{Options, Created, Head, Content, Patched, Refused}
+use Rattle.tus_steps.specs.declared.reply.Reply.TheVariants.{Options, Created, Head, Content, Patched, Deleted, Refused}
 use Rattle.http_wire.specs.Refusal as wire
 use Rattle.http_wire.specs.declared.framing.Framing.{Framing}
 use Rattle.http_wire.specs.declared.refusal.WireRefusal.{WireRefusal}
@@ -79,6 +79,7 @@ reply_status (Created tenant id expires) = 201
 reply_status (Head row) = 200
 reply_status (Content bytes) = 200
 reply_status (Patched offset expires) = 204
+reply_status Deleted = 204
 reply_status (Refused why head at expires) = status_of why
 
 -- the refusal is that of another version
@@ -99,7 +100,7 @@ tells_version _ = false
 
 -- an OPTIONS is told what is served beside the core protocol
 abbrev pub extensions_in : Reply → List ℕ
-extensions_in (Options max_size) = codes "creation,creation-defer-length,expiration"
+extensions_in (Options max_size) = codes "creation,creation-defer-length,expiration,termination"
 extensions_in _ = []
 
 -- and how many bytes an upload may have
@@ -110,7 +111,7 @@ max_size_in _ = None
 -- the methods that are served at a place
 abbrev pub allowed_at : Place → List ℕ
 allowed_at place.Create = codes "POST, OPTIONS"
-allowed_at place.Upload = codes "HEAD, GET, PATCH, OPTIONS"
+allowed_at place.Upload = codes "HEAD, GET, PATCH, DELETE, OPTIONS"
 allowed_at place.Other = []
 
 -- a request whose method is not allowed is told those that are

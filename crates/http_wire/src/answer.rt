@@ -2,8 +2,7 @@ ghost use Rattle.std.specs.Prelude.{◌≡◌, ◌<◌, ◌^◌, ℕ};
 ghost use Rattle.tus_steps.specs.Request as spec;
 ghost use Rattle.http_wire.specs.BookStep.{BookStep};
 ghost use Rattle.tus_steps.specs.declared.reply.Reply.{Reply};
-ghost use Rattle.upload_book.specs.Book.{plain_of};
-ghost use Rattle.upload_book.specs.PlainBook.{PlainBook};
+ghost use Rattle.upload_book.specs.Book.{StoredBook, plain_of};
 
 use tus_steps::{Reply, Request};
 use upload_book::{Book, Moment};
@@ -28,7 +27,7 @@ pub trait Answer {
 }
 
 impl Answer for Book {
-    ghost max_size = { λ (b : PlainBook). (plain_of b).settings.numbers.max_size };
+    ghost max_size = { λ (b : StoredBook). (plain_of b).settings.numbers.max_size };
 
     ghost steps = { BookStep };
 

@@ -179,6 +179,8 @@ const PATCH: &[u8] = b"PATCH";
 
 const GET: &[u8] = b"GET";
 
+const DELETE: &[u8] = b"DELETE";
+
 const OPTIONS: &[u8] = b"OPTIONS";
 
 // The method that a name stands for, which is told by exact case.
@@ -193,6 +195,8 @@ fn method_of(name: &[u8]) -> Method
         Method::Patch
     } else if name == GET {
         Method::Get
+    } else if name == DELETE {
+        Method::Delete
     } else if name == OPTIONS {
         Method::Options
     } else {

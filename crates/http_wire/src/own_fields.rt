@@ -46,7 +46,7 @@ fn extensions_in(reply: &Reply) -> &'static [u8]
     ensures len { length result.now ≤ 41 }
 {
     match reply {
-        Reply::Options { .. } => b"creation,creation-defer-length,expiration",
+        Reply::Options { .. } => b"creation,creation-defer-length,expiration,termination",
         _ => b"",
     }
 }
@@ -75,7 +75,7 @@ fn allowed_in(reply: &Reply) -> &'static [u8]
             refusal: Refusal::Method,
             place: Place::Upload,
             ..
-        } => b"HEAD, GET, PATCH, OPTIONS",
+        } => b"HEAD, GET, PATCH, DELETE, OPTIONS",
         _ => b"",
     }
 }

@@ -11,7 +11,8 @@ ghost use Rattle.http_wire.specs.HeadFound.{IsHeldBy};
 ghost use Rattle.http_wire.specs.Lent.{IsLent, IsMessage};
 ghost use Rattle.http_wire.specs.Plain.{front_in, head_in, body_front};
 ghost use Rattle.http_wire.specs.ReplyText.{reply_text};
-ghost use Rattle.tus_steps.specs.Step.{IsStep};
+ghost use Rattle.upload_book.specs.Book.{plain_of};
+ghost use Rattle.http_wire.specs.BookStep.{BookStep};
 ghost use Rattle.tus_steps.specs.declared.reply.Reply.{Reply};
 
 use crate::conversation::Ended;
@@ -61,7 +62,7 @@ pub fn plain_conversation(
     moments: &[Moment],
 ) -> Result<(Vec<u8>, Ended), AllocError>
     ensures { IfOk result (λ r.
-        Conversation IsStep book.old.settings.numbers.max_size moments.now
+        Conversation BookStep (plain_of book.old).settings.numbers.max_size moments.now
         (record { input = input.now; text = r.0.items; before = book.old; after = book.new }) r.1) }
 {
     let Some((now, later)) = moments.split_first() else {
@@ -108,9 +109,9 @@ fn plain_turn(
 ) -> Result<Vec<u8>, AllocError>
     requires { IsMessage parts.now text.now }
     ensures text { IfOk result (λ written. (reply : Reply)
-        × IsStep book.old (request_at parts.now text.now) now reply book.new
+        × BookStep book.old (request_at parts.now text.now) now reply book.new
         × (written.items ≡ continue_text is_waiting ++ reply_text reply now parts.now.framing)) }
-    ensures settings { book.new.settings ≡ book.old.settings }
+    ensures settings { (plain_of book.new).settings ≡ (plain_of book.old).settings }
 {
     let reply = answer(book, &request_in(parts, text), now);
     let mut page = Page::new(alloc)?;

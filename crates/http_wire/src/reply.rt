@@ -119,7 +119,7 @@ fn status_of(reply: &Reply) -> u16
     match reply {
         Reply::Created { .. } => 201,
         Reply::Head(_) | Reply::Content(_) => 200,
-        Reply::Options { .. } | Reply::Patched { .. } => 204,
+        Reply::Options { .. } | Reply::Patched { .. } | Reply::Deleted => 204,
         Reply::Refused { refusal, .. } => refusal.status(),
     }
 }
