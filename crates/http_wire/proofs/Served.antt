@@ -1,9 +1,9 @@
 -- One turn: what was read and written is the turn of its front.
-use Rattle.std.proofs.Common.{◌≡◌, ℕ, true, false, List, [], ◌++◌, Option, Result, Err, take, refl, sym, ap, ◌∙◌, subst, inl, inr, append-nil}
+use Rattle.std.proofs.Common.{◌≡◌, ℕ, true, false, List, [], ◌++◌, Option, Result, Err, take, refl, sym, ap, subst, inl, inr, append-nil}
 use Rattle.tus_steps.specs.Request.{Request}
 use Rattle.tus_steps.specs.declared.reply.Reply.{Reply}
 use Rattle.http_wire.specs.Ahead.{Ahead}
-use Rattle.http_wire.specs.Conversation.{Conversation, continue_text}
+use Rattle.http_wire.specs.Conversation.{continue_text}
 use Rattle.http_wire.specs.Exchange.{Exchange, followed}
 use Rattle.http_wire.specs.Front.{Front, message, refused, cut_patch, cut_other, clean_end, IsFront}
 use Rattle.http_wire.specs.Next as next
