@@ -83,8 +83,8 @@ pub fn converse<R: Source, W: Sink, A: Answer>(
 }
 
 /// Reads one message, lets `answerer` answer it and writes the reply, and says whether the conversation
-/// ends with it. A body has at most `max_size` bytes. The error is `WireFault::Read` or
-/// `WireFault::Write`.
+/// ends with it. A body has at most `max_size` bytes. Where the reader gave its end before, nothing is
+/// read. The error is `WireFault::Read` or `WireFault::Write`.
 pub fn take_turn<R: Source, W: Sink, A: Answer>(
     reader: &mut R,
     writer: &mut W,
