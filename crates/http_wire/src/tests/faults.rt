@@ -1,3 +1,5 @@
+ghost use Rattle.std.specs.Prelude.{◌≤◌, length};
+
 use super::conversations::{
     CONTINUE, CREATED, FIRST_UPLOAD, HEAD, LOOKED, NONE, PATCH_WAITING, PATCHED, POST, REPLIES,
 };
@@ -10,8 +12,11 @@ use std::alloc::Global;
 use std::process::Abort;
 use std::test::Fail;
 
-/// Asserts how a conversation of the first upload ends, whose reads fail after `len` bytes.
-fn assert_read_fails(rt: &impl Abort, alloc: Global, all: &[u8], len: usize) -> Result<(), Fail> {
+/// Asserts how a conversation of the first upload ends where the read after its first `len` bytes fails.
+/// Nothing is read after that.
+fn assert_read_fails(rt: &impl Abort, alloc: Global, all: &[u8], len: usize) -> Result<(), Fail>
+    requires { len ≤ length all.now }
+{
     let mut input = Input::new(all, 1);
     input.reads = len;
     let spoken = talk_of(alloc, input, Output::new(alloc), &at_1000())?;
@@ -24,6 +29,7 @@ fn assert_read_fails(rt: &impl Abort, alloc: Global, all: &[u8], len: usize) -> 
     };
     let what = format!(in alloc; "{len} reads")?;
     assert_spoken(rt, &what, &spoken, &expected);
+    assert_eq!(rt; spoken.rest, &all[len..], "{what}: rest");
     Ok(())
 }
 
@@ -40,20 +46,42 @@ static WAITING_UPLOAD: [&[u8]; 3] = [POST, PATCH_WAITING, HEAD];
 
 static WAITING_REPLIES: [&[u8]; 4] = [CREATED, CONTINUE, PATCHED, LOOKED];
 
-/// Asserts how a conversation ends whose writes fail after these first bytes of its replies.
+/// How many bytes of the upload that waits are read before the byte of its replies that stands after
+/// `len` others: the message that this byte answers, without its body where that is waited for.
+fn read_before(len: usize) -> usize {
+    let created = CREATED.len();
+    let told = created.saturating_add(CONTINUE.len());
+    let patched = told.saturating_add(PATCHED.len());
+    let first = POST.len();
+    let second = first.saturating_add(PATCH_WAITING.len());
+    if len < created {
+        first
+    } else if len < told {
+        second.saturating_sub(5)
+    } else if len < patched {
+        second
+    } else {
+        second.saturating_add(HEAD.len())
+    }
+}
+
+/// Asserts how a conversation of the upload that waits ends where the write after these first bytes of
+/// its replies fails, or takes no byte. Nothing is read or written after that.
 fn assert_write_fails(
     rt: &impl Abort,
     alloc: Global,
     sent: &[u8],
     written: &[u8],
+    fails: bool,
 ) -> Result<(), Fail> {
     let len = written.len();
     let output = Output {
         written: Vec::new(alloc),
         piece: 1,
         writes: len,
+        fails,
     };
-    let spoken = talk_of(alloc, Input::new(sent, usize::MAX), output, &at_1000())?;
+    let spoken = talk_of(alloc, Input::new(sent, 1), output, &at_1000())?;
     let before_patch = CREATED.len().saturating_add(CONTINUE.len());
     let expected = Expected {
         text: written,
@@ -62,6 +90,8 @@ fn assert_write_fails(
     };
     let what = format!(in alloc; "{len} writes")?;
     assert_spoken(rt, &what, &spoken, &expected);
+    let left = sent.len().saturating_sub(read_before(len));
+    assert_eq!(rt; spoken.rest.len(), left, "{what}: rest");
     Ok(())
 }
 
@@ -70,7 +100,9 @@ fn failing_writes(rt: HostRuntime) -> Result<(), Fail> {
     let sent = joined(rt.alloc(), &WAITING_UPLOAD)?;
     let replies = joined(rt.alloc(), &WAITING_REPLIES)?;
     for len in 0..replies.len() {
-        assert_write_fails(&rt, rt.alloc(), &sent, &replies[..len])?;
+        for fails in [true, false] {
+            assert_write_fails(&rt, rt.alloc(), &sent, &replies[..len], fails)?;
+        }
     }
     Ok(())
 }

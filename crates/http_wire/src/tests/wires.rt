@@ -164,6 +164,7 @@ fn nothing_is_written_after_a_failed_write(rt: HostRuntime) -> Result<(), Fail> 
         written: Vec::new(alloc),
         piece: 10,
         writes: 1,
+        fails: true,
     };
     let mut wire = new_wire(alloc, Input::new(&all, usize::MAX), output)?;
     assert_turn(
