@@ -1,4 +1,5 @@
 pub mod AppendLemmas
+mod StoredLemmas
 pub mod Entries
 pub mod FirstRefusal
 pub mod KeptLemmas
@@ -9,3 +10,20 @@ pub mod SettingsLemmas
 pub mod TenantLists
 pub mod TextLemmas
 pub mod Visible
+pub mod SumsBelow
+pub mod InUse
+pub mod Shelves
+pub mod Pieces
+pub mod GoneLemmas
+pub mod PutLemmas
+pub mod JoinLemmas
+pub mod PlainCharge
+pub mod PlainShelves
+pub mod AloneLemmas
+pub mod QuotaLemmas
+pub mod StayLemmas
+pub mod PriceLemmas
+pub mod PlainPrice
+pub mod OwnLemmas
+pub mod PutOnce
+pub mod PlainSteps

@@ -3,6 +3,7 @@ pub mod Refusal
 pub mod Settings
 pub mod Expiry
 pub mod Upload
+pub mod Stored
 pub mod TenantBook
 pub mod PlainBook
 pub mod NewUpload
@@ -16,3 +17,4 @@ pub mod Lawful
 pub mod Laws
 pub mod Kept
 pub mod Book
+pub mod Charge

@@ -1,0 +1,95 @@
+-- Uploads as they are kept: which have a piece of their own, and their bytes and parts as the plain book has them.
+use Rattle.std.proofs.Common.{◌≡◌, ◌≢◌, ℕ, ◌≤◌, List, [], ◌∷◌, ◌++◌, map, length, get_or, refl, ap, sym, ◌∙◌, subst, arith, length-append}
+use Rattle.std.specs.List.{All, Contains, flat_map, sum_by}
+use Rattle.std.proofs.Math.ListN.{length-map}
+use Rattle.std.proofs.lemmas.List.{get_or-map, get_or_default}
+use Rattle.std.proofs.lemmas.List.Elements.{All-set, All-push}
+use Rattle.std.proofs.lemmas.List.Sums.{sum_by-cons}
+use Rattle.block_pool.specs.Blocks.{Blocks, IsPool}
+use Rattle.block_bodies.specs.Bodies.{Chain, content_of}
+use Rattle.block_bodies.proofs.BodiesLaws.{length-content_of}
+use Rattle.upload_book.specs.declared.head_row.Kind.TheVariants.{Final}
+use Rattle.upload_book.specs.declared.settings.Numbers.{Numbers}
+use Rattle.upload_book.specs.Charge.{charge_in}
+use Rattle.upload_book.specs.Stored.{Piece, Shelf, StoredUpload, upload_of, part_of, parts_of, charge_on, own_chain, HasOwnPiece, IsStored}
+use Rattle.upload_book.specs.TenantBook.{Entry, TenantBook, with_new}
+use Rattle.upload_book.specs.Upload.{content_of as upload_content_of, offset_of}
+use Rattle.upload_book.proofs.GoneLemmas.{piece-body}
+use Rattle.upload_book.proofs.InUse.{Contains-first, Contains-later}
+use Rattle.upload_book.proofs.Pieces.{IsEntry, with_entry, without, Segment, segment_of, Contains-entry}
+use Rattle.upload_book.proofs.PlainCharge.{charge-plain}
+use Rattle.upload_book.proofs.PutLemmas.{own_piece}
+use Rattle.upload_book.proofs.QuotaLemmas.{All-remove}
+use Rattle.upload_book.proofs.Shelves.{IsStoredOn, IsStoredOn-shelf}
+
+-- an upload with one piece, sent to itself, has its own
+pub HasOwnPiece-from : (e : Entry StoredUpload) (x : Chain) → e.kept.pieces ≡ own_piece e.id x ∷ [] → HasOwnPiece e
+HasOwnPiece-from e x own = λ not_final. own ∙ ap (λ y. own_piece e.id y ∷ []) (sym (ap own_chain own))
+
+-- so has a final one, of which nothing is asked
+pub HasOwnPiece-final : (e : Entry StoredUpload) → e.kept.kind ≡ Final → HasOwnPiece e
+HasOwnPiece-final e final = λ not_final. absurd (not_final final)
+
+-- an upload that is not final has one piece
+pub own-kept : (old : Shelf) (i : ℕ) (e : Entry StoredUpload) → All HasOwnPiece old.uploads → IsEntry old i e → e.kept.kind ≢ Final → e.kept.pieces ≡ own_piece e.id (own_chain e.kept.pieces) ∷ []
+own-kept old i e own is not_final = subst HasOwnPiece (sym is.read) (own i e is.within) not_final
+
+-- all have where another entry at a place has,
+pub own-set : (old : Shelf) (i : ℕ) (new : Entry StoredUpload) → All HasOwnPiece old.uploads → HasOwnPiece new → All HasOwnPiece (with_entry old i new).uploads
+own-set old i new own is = All-set HasOwnPiece old.uploads i new is own
+
+-- where one is taken out,
+pub own-without : (old : Shelf) (i : ℕ) → All HasOwnPiece old.uploads → All HasOwnPiece (without old i).uploads
+own-without old i own = All-remove HasOwnPiece old.uploads i own
+
+-- and where one more has
+pub own-with_new : (old : Shelf) (kept : StoredUpload) → All HasOwnPiece old.uploads → HasOwnPiece (record { id = old.next; kept = kept }) → All HasOwnPiece (with_new old kept).uploads
+own-with_new old kept own is = All-push HasOwnPiece old.uploads (record { id = old.next; kept = kept }) own is
+
+-- the bytes of an upload are those of its pieces, in order
+pub content-kept : (p : Blocks) (u : StoredUpload) → upload_content_of (upload_of p u) ≡ flat_map (λ (x : Piece). content_of p x.chain) u.pieces
+content-kept p u = joined u.pieces where
+  joined : (pieces : List Piece) → flat_map {X = List ℕ} {A = ℕ} (λ segment. segment) (map {A = Piece} {B = List ℕ} (λ x. content_of p x.chain) pieces) ≡ flat_map (λ (x : Piece). content_of p x.chain) pieces
+  joined [] = refl
+  joined (x ∷ pieces) = ap (λ bytes. content_of p x.chain ++ bytes) (joined pieces)
+
+-- they are as many as the lengths of its pieces together
+pub offset-kept : (p : Blocks) (old : Shelf) (i : ℕ) (e : Entry StoredUpload) → IsPool p → IsStoredOn p old → IsEntry old i e → offset_of (upload_of p e.kept) ≡ sum_by (λ (x : Piece). x.chain.len) e.kept.pieces
+offset-kept p old i e pool on is =
+    ap (λ (bytes : List ℕ). length bytes) (content-kept p e.kept) ∙ lengths e.kept.pieces (λ x c. length-content_of p x.chain pool (piece-body p old x on (Contains-entry old i e x is c)))
+  where
+    lengths : (pieces : List Piece) → ((x : Piece) → Contains pieces x → length (content_of p x.chain) ≡ x.chain.len) → length (flat_map (λ (x : Piece). content_of p x.chain) pieces) ≡ sum_by (λ (x : Piece). x.chain.len) pieces
+    lengths [] each = refl
+    lengths (x ∷ pieces) each =
+        omega (
+          arith,
+          length-append (content_of p x.chain) (flat_map (λ (x : Piece). content_of p x.chain) pieces),
+          sum_by-cons (λ (x : Piece). x.chain.len) x pieces,
+          each x (Contains-first x pieces),
+          lengths pieces (λ y c. each y (Contains-later x y pieces c)),
+        )
+
+-- of an upload that is not final, as many as its body has
+pub offset-own : (p : Blocks) (old : Shelf) (i : ℕ) (e : Entry StoredUpload) (x : Chain) → IsPool p → IsStoredOn p old → IsEntry old i e → e.kept.pieces ≡ own_piece e.id x ∷ [] → offset_of (upload_of p e.kept) ≡ x.len
+offset-own p old i e x pool on is own = offset-kept p old i e pool on is ∙ ap (sum_by (λ (x : Piece). x.chain.len)) own ∙ omega arith
+
+-- the parts of a joined upload are the origins of the pieces that it copies
+pub parts-join : (p : Blocks) (u : StoredUpload) (parts : List Piece) → u.kind ≡ Final → map segment_of u.pieces ≡ map segment_of parts → (upload_of p u).parts ≡ map {A = Piece} {B = ℕ} (λ x. x.origin) parts
+parts-join p u parts final same =
+    ap (λ kind. parts_of kind (map {A = Piece} {B = ℕ} (λ x. x.origin) u.pieces)) final ∙ origins u.pieces ∙ ap (map {A = Segment} {B = ℕ} (λ s. s.origin)) same ∙ sym (origins parts)
+  where
+    origins : (pieces : List Piece) → map {A = Piece} {B = ℕ} (λ x. x.origin) pieces ≡ map {A = Segment} {B = ℕ} (λ s. s.origin) (map segment_of pieces)
+    origins [] = refl
+    origins (x ∷ pieces) = ap (λ ids. x.origin ∷ ids) (origins pieces)
+
+-- each tenant pays no more than its quota by its pieces where it does by the plain book
+pub quotas-kept : (n : Numbers) (p : Blocks) (shelves : List Shelf) → n.block_size ≡ p.block_size → IsPool p → IsStored p shelves → All (λ s. All HasOwnPiece s.uploads) shelves → All (λ (part : TenantBook). charge_in n part ≤ part.quota) (map (part_of p) shelves)
+    → All (λ s. charge_on p.block_size s ≤ s.quota) shelves
+quotas-kept n p shelves size pool kept own within k d l =
+    let s : Shelf = get_or shelves k d in
+    let at : get_or (map (part_of p) shelves) k (part_of p d) ≡ part_of p s = get_or-map (part_of p) shelves k d (part_of p d) l in
+    let plain : charge_in n (part_of p s) ≤ s.quota =
+    subst (λ (part : TenantBook). charge_in n part ≤ part.quota) at (within k (part_of p d) (omega (arith, length-map shelves (part_of p)))) in
+    let on : IsStoredOn p s = IsStoredOn-shelf p shelves k s kept (record { within = l; read = get_or_default shelves k d s l }) in
+    let pays : charge_in n (part_of p s) ≡ charge_on n.block_size s = charge-plain n p s size pool on (own k d l) in
+    omega (arith, pays, ap (λ size. charge_on size s) size)
