@@ -1,5 +1,4 @@
 pub mod AppendLemmas
-mod StoredLemmas
 pub mod Entries
 pub mod FirstRefusal
 pub mod KeptLemmas
