@@ -1,9 +1,9 @@
 -- One turn: what was read and written is the turn of its front.
-use Rattle.std.proofs.Common.{◌≡◌, ℕ, true, false, List, [], ◌++◌, Option, Result, Err, take, refl, sym, ap, ◌∙◌, subst, inl, inr, append-nil}
+use Rattle.std.proofs.Common.{◌≡◌, ℕ, true, false, List, [], ◌++◌, Option, Result, Err, take, refl, sym, ap, subst, inl, inr, append-nil}
 use Rattle.tus_steps.specs.Request.{Request}
 use Rattle.tus_steps.specs.declared.reply.Reply.{Reply}
 use Rattle.http_wire.specs.Ahead.{Ahead}
-use Rattle.http_wire.specs.Conversation.{Conversation, continue_text}
+use Rattle.http_wire.specs.Conversation.{continue_text}
 use Rattle.http_wire.specs.Exchange.{Exchange, followed}
 use Rattle.http_wire.specs.Front.{Front, message, refused, cut_patch, cut_other, clean_end, IsFront}
 use Rattle.http_wire.specs.Next as next
@@ -11,7 +11,7 @@ use Rattle.http_wire.specs.NextRead.{waits, ComesIn, BreaksFront}
 use Rattle.http_wire.specs.Parts.{request_at}
 use Rattle.http_wire.specs.ReplyText.{reply_text, refusal_text}
 use Rattle.http_wire.specs.Turns.{TakesTurn, Answered, LastTurn, FailsIn, BreaksTurn}
-use Rattle.http_wire.proofs.Talk.{Goes-closes}
+use Rattle.http_wire.proofs.Talk.{Conversation-closed}
 use Rattle.http_wire.specs.declared.conversation.Ended.{Ended}
 use Rattle.http_wire.specs.declared.conversation.Ended.TheVariants as ended
 use Rattle.http_wire.specs.declared.fault.WireFault.{WireFault}
@@ -47,11 +47,7 @@ module _ {A : Type 0} (steps : A → Request → ℕ → Reply → A → Type 0)
       → LastTurn steps max now (followed (with_text x (reply_text reply now p.framing)) rest) ended.Closed
   Served-closed now x a p reply f step close rest moments =
       let text = reply_text reply now p.framing in
-      let wrote = ap (λ l. l ++ text) f.1 ∙ sym (append-nil (continue_text f.0 ++ text)) in (
-        message (request_at p a.lent) p.framing f.0 (a.held ++ rest),
-        f.2 rest,
-        (reply, x.after, [], step, wrote, Goes-closes steps max p.framing.close (Conversation steps max moments) (record { input = a.held ++ rest; text = []; before = x.after; after = x.after }) close refl refl),
-      )
+      Conversation-closed steps max now moments (followed (with_text x text) rest) (request_at p a.lent) p.framing f.0 (a.held ++ rest) reply (f.2 rest) step close (ap (λ l. l ++ text) f.1)
 
   -- a request is refused
   pub Served-refused : (now : ℕ) (x : Exchange A) (a : Ahead) (why : WireRefusal) (framing : Framing) → ComesIn max (record { input = x.input; text = x.text }) a.held (next.refused why framing)

@@ -12,6 +12,7 @@ use Rattle.http_wire.specs.Turns.{Answered, Turns, FailsIn, BreaksOff, Breaks, B
 use Rattle.http_wire.specs.declared.conversation.Ended.{Ended}
 use Rattle.http_wire.specs.declared.conversation.Ended.TheVariants as ended
 use Rattle.http_wire.specs.declared.fault.WireFault.{WireFault}
+use Rattle.http_wire.specs.declared.framing.Framing.{Framing}
 use Rattle.http_wire.specs.declared.fault.WireFault.TheVariants.{Read, Write, Memory, Failed}
 use Rattle.http_wire.proofs.FrontLemmas.{IsFront-followed}
 
@@ -38,9 +39,27 @@ module _ {A : Type 0} (steps : A → Request → ℕ → Reply → A → Type 0)
   Goes-stays false next x e is h = h
 
   -- a reply after which it closes
-  pub Goes-closes : (close : Bool) (next : Course A) (x : Exchange A) → close ≡ true → x.text ≡ [] → x.after ≡ x.before → Goes close next x ended.Closed
+  Goes-closes : (close : Bool) (next : Course A) (x : Exchange A) → close ≡ true → x.text ≡ [] → x.after ≡ x.before → Goes close next x ended.Closed
   Goes-closes true next x is none same = record { ended = refl; text = none; same = same }
   Goes-closes false next x is none same = absurd (true≢false (sym is))
+
+  -- a message is answered, and the connection closes
+  pub Conversation-closed : (now : ℕ) (moments : List ℕ) (x : Exchange A) (request : Request) (framing : Framing) (waiting : Bool) (rest : List ℕ) (reply : Reply)
+      → IsFront max x.input (message request framing waiting rest) → steps x.before request now reply x.after → framing.close ≡ true
+      → x.text ≡ continue_text waiting ++ reply_text reply now framing → Conversation steps max (now ∷ moments) x ended.Closed
+  Conversation-closed now moments x request framing waiting rest reply front step close wrote =
+      let last : Exchange A = record { input = rest; text = []; before = x.after; after = x.after } in (
+        message request framing waiting rest,
+        front,
+        (
+          reply,
+          x.after,
+          [],
+          step,
+          wrote ∙ sym (append-nil (continue_text waiting ++ reply_text reply now framing)),
+          Goes-closes framing.close (Conversation steps max moments) last close refl refl,
+        ),
+      )
 
   -- whole turns, and then a conversation
   pub Turns-Conversation : (before after : List ℕ) (x : Exchange A) (middle later : List ℕ) (b : A) (e : Ended) → Turns steps max before x middle

@@ -30,16 +30,18 @@ pub record Served (R W A : Type 0) : Type 0 where
 
 module _ {R W A : Type 0} (s : Streams R W) (steps : A → Request → ℕ → Reply → A → Type 0) where
   -- A turn on a wire that reads: some bytes were read and this text was written, and it is the turn of what they begin with.
-  -- Nothing had failed before; where something did now, the fault names which. Then the wire reads on where the conversation
-  -- goes on, and writes on unless something failed.
+  -- Nothing had failed before; where something did now, the fault names which. Nothing is read after the reader's end. Then
+  -- the wire reads on where the conversation goes on, and writes on unless something failed.
   pub record TakesTurnOn (now : ℕ) (old new : Served R W A) (r : Result (Option Ended) WireFault) : Type 0 where
     pub turn : (got text : List ℕ) × Consumes (s.remaining old.wire.reader) (s.remaining new.wire.reader) got
         × Appends (s.contents old.wire.writer) (s.contents new.wire.writer) text
         × TakesTurn steps old.wire.max_size now (record { input = old.wire.held ++ got; text = text; before = old.state; after = new.state }) new.wire.held r
     pub end : IfOk r (EndsAtEnd (s.remaining new.wire.reader))
+    pub stops : old.wire.ended ≡ true → (new.wire.reader ≡ old.wire.reader) × (new.wire.ended ≡ true)
     pub reader : OnOk r (s.read_failed new.wire.reader ≡ false)
     pub writer : OnOk r (s.write_failed new.wire.writer ≡ false)
     pub fault : IfErr r (Names (s.read_failed new.wire.reader) (s.write_failed new.wire.writer))
+    pub alive : (s.read_failed old.wire.reader ≡ false) × (s.write_failed old.wire.writer ≡ false)
     pub size : new.wire.max_size ≡ old.wire.max_size
     pub reads : new.wire.reads ≡ goes_on r
     pub writes : new.wire.writes ≡ is_ok r

@@ -1,6 +1,6 @@
 ghost use Rattle.std.specs.Prelude.{◌≡◌, ◌<◌, ◌^◌, ◌++◌, ℕ, List, Some, false, IfOk, IfErr, OnOk};
 ghost use Rattle.std.specs.Io.KnownBytes.{Appends, Consumes};
-ghost use Rattle.http_wire.specs.Ahead.{SeesEnd};
+ghost use Rattle.http_wire.specs.Ahead.{SeesEnd, StopsAtEnd};
 ghost use Rattle.http_wire.specs.Conversation.{Conversation};
 ghost use Rattle.http_wire.specs.Turns.{Breaks, Converses, EndsTurnAtEnd, IsReadWhen, TakesTurn};
 ghost use Rattle.http_wire.specs.ReplyText.{reply_text};
@@ -83,8 +83,8 @@ pub fn converse<R: Source, W: Sink, A: Answer>(
 }
 
 /// Reads one message, lets `answerer` answer it and writes the reply, and says whether the conversation
-/// ends with it. A body has at most `max_size` bytes. The error is `WireFault::Read` or
-/// `WireFault::Write`.
+/// ends with it. A body has at most `max_size` bytes. Where the reader gave its end before, nothing is
+/// read. The error is `WireFault::Read` or `WireFault::Write`.
 pub fn take_turn<R: Source, W: Sink, A: Answer>(
     reader: &mut R,
     writer: &mut W,
@@ -103,6 +103,7 @@ pub fn take_turn<R: Source, W: Sink, A: Answer>(
         buffers.new.inbox.held result }
     ensures end { IfOk result (λ r. SeesEnd (R.remaining reader.old) buffers.old.inbox
         → EndsTurnAtEnd (R.remaining reader.new) buffers.new.inbox r) }
+    ensures stops { StopsAtEnd reader.old reader.new buffers.old.inbox buffers.new.inbox }
     ensures reader { OnOk result (R.has_failed reader.new ≡ false) }
     ensures writer { OnOk result (W.has_failed writer.new ≡ false) }
     ensures fault { IfErr result (Names (R.has_failed reader.new) (W.has_failed writer.new)) }

@@ -107,14 +107,18 @@ impl Inbox {
         self.at += count;
     }
 
-    /// Makes room for `total` bytes held at once and one more read after them. The error is that there is
-    /// no memory, which comes only where there was not room enough, so never for 49,152 bytes or fewer.
-    /// Then nothing changed.
+    /// Makes room for `total` bytes held at once and one more read after them, and for no more; where
+    /// there is room enough, it stays. The error is that there is no memory, which comes only where there
+    /// was not room enough, so never for 49,152 bytes or fewer. Then nothing changed.
     pub fn reserve(&mut self, total: usize) -> Result<(), AllocError>
         requires { total < 2 ^ 32 }
         ensures held { self.new.held ≡ self.old.held }
         ensures ended { self.new.ended ≡ self.old.ended }
         ensures ok { OnOk result (total + READ_SIZE ≤ self.new.room) }
+        ensures exact { OnOk result (self.old.room < total + READ_SIZE
+            → self.new.room ≡ total + READ_SIZE) }
+        ensures kept { OnOk result (total + READ_SIZE ≤ self.old.room
+            → self.new.room ≡ self.old.room) }
         ensures err { OnErr result (self.new ≡ self.old) }
         ensures memory { OnErr result (self.old.room < total + READ_SIZE) }
         ensures sure { OnErr result (49152 < total) }

@@ -7,4 +7,5 @@ mod faults;
 mod limits;
 mod memory;
 mod methods;
+mod spoken;
 mod wires;

@@ -1,5 +1,5 @@
 //! The program over streams and words, from its command line to its exit status.
-ghost use Rattle.std.specs.Prelude.{◌≡◌, ◌≢◌, ◌⊎◌, ◌++◌, ◌∷◌, ℕ, List, [], false, Some, IfSome, IfNone, IfErr, IsErr, OnErr, map};
+ghost use Rattle.std.specs.Prelude.{◌≡◌, ◌≢◌, ◌⊎◌, ◌++◌, ◌∷◌, ℕ, List, [], true, false, Some, IfSome, IfNone, IfErr, IsErr, OnErr, map};
 ghost use Rattle.std.specs.Io.KnownBytes.{Appends, Consumes, Keeps};
 ghost use Rattle.clap.specs.Values.{kind_of};
 ghost use Rattle.clap.specs.declared.error.kind.ErrorKind.TheVariants.{DisplayHelp, DisplayVersion, OutOfMemory};
@@ -39,6 +39,8 @@ pub fn run<S: AsStr, R: Source, W: Sink, E: Sink>(
     ensures help { faults_in (map S.text words.now) ≡ DisplayHelp ∷ []
         → (result ≡ 0) ⊎ (result ≡ 3) ⊎ (result ≡ 4) }
     ensures unread { faults_in (map S.text words.now) ≢ [] → reader.new ≡ reader.old }
+    ensures help_failed { result ≡ 3 → faults_in (map S.text words.now) ≢ []
+        → W.has_failed writer.new ≡ true }
 
     // words that are taken
     ensures no_command { faults_in (map S.text words.now) ≡ []
@@ -107,6 +109,7 @@ fn explain<W: Sink, E: Sink>(
         → (kind_of error.now ≡ DisplayHelp) ⊎ (kind_of error.now ≡ DisplayVersion) }
     ensures shown { kind_of error.now ≡ DisplayHelp → (result ≡ 0) ⊎ (result ≡ 3) ⊎ (result ≡ 4) }
     ensures alive { result ≡ 0 → W.has_failed writer.new ≡ false }
+    ensures failed { result ≡ 3 → W.has_failed writer.new ≡ true }
     ensures quiet { result ≡ 0 → errors.new ≡ errors.old }
     ensures wire_line { result ≡ 3
         → WritesOrFails (E.contents errors.old) (E.contents errors.new) (E.has_failed errors.new)

@@ -1,14 +1,10 @@
-ghost use Rattle.std.specs.Prelude.{◌≤◌};
-
 use super::memory::{Input, Output};
-use crate::conversation::{Ended, converse};
-use crate::fault::WireFault;
-use crate::plain::plain_conversation;
-use crate::source::Tapped;
+use super::spoken::{Expected, assert_both, assert_spoken, at, at_1000, joined, talk_of};
+use crate::conversation::Ended;
 use std::alloc::{AllocError, Global};
 use std::process::Abort;
 use std::test::Fail;
-use upload_book::{Book, Moment, Name, Numbers, Settings};
+use upload_book::Moment;
 
 pub const POST: &[u8] = b"POST /files/acme HTTP/1.1\r\nHost: x\r\nTus-Resumable: 1.0.0\r\n\
 Upload-Length: 10\r\n\r\n";
@@ -29,80 +25,6 @@ Upload-Expires: Thu, 01 Jan 1970 01:16:40 GMT\r\n\r\n";
 
 pub const LOOKED: &[u8] = b"HTTP/1.1 200 OK\r\nDate: Thu, 01 Jan 1970 00:16:40 GMT\r\n\
 Tus-Resumable: 1.0.0\r\nUpload-Offset: 5\r\nUpload-Length: 10\r\nCache-Control: no-store\r\n\r\n";
-
-/// What a conversation wrote, and how it ended.
-#[derive(Drop)]
-pub struct Spoken {
-    pub text: Vec<u8>,
-    pub ended: Result<Ended, WireFault>,
-}
-
-pub fn at(secs: u64) -> Moment
-    requires { secs ≤ 253402300799 }
-{
-    Moment::new(secs).unwrap()
-}
-
-pub fn joined(alloc: Global, parts: &[&[u8]]) -> Result<Vec<u8>, AllocError> {
-    let mut all = Vec::new(alloc);
-    for part in parts {
-        all.extend_from_slice(part)?;
-    }
-    Ok(all)
-}
-
-pub fn talk(
-    alloc: Global,
-    book: &mut Book,
-    input: Input<'_>,
-    output: Output,
-    moments: &[Moment],
-) -> Spoken {
-    let mut reader = Tapped::new(input);
-    let mut writer = Tapped::new(output);
-    let ended = converse(alloc, &mut reader, &mut writer, book, moments);
-    Spoken {
-        text: writer.inner.written,
-        ended,
-    }
-}
-
-/// A book with no upload.
-pub fn new_book(alloc: Global) -> Result<Book, Fail> {
-    let numbers = Numbers {
-        blocks: 12,
-        block_size: 4,
-        lifetime: 3600,
-        max_size: 64,
-        uploads: 64,
-        last_id: u64::MAX - 1,
-        last_total: u64::MAX,
-    };
-    let settings = Settings::new(numbers, &[(b"acme", 8), (b"beta", 4)])?;
-    Ok(Book::new(alloc, settings)?)
-}
-
-/// The conversation of some bytes with a book, all of whose messages come at moment 1000.
-pub fn talked(alloc: Global, book: &mut Book, input: &[u8]) -> Spoken {
-    let input = Input::new(input, usize::MAX);
-    talk(alloc, book, input, Output::new(alloc), &[at(1000); 8])
-}
-
-/// How many bytes the first upload of acme has, where there is one.
-pub fn offset_of(book: &Book) -> Option<u64> {
-    let name = Name { tenant: 0, id: 1 };
-    match book.look(&name, at(1000)) {
-        Ok(row) => Some(row.offset),
-        Err(_) => None,
-    }
-}
-
-/// The conversation of some bytes with a new book, at moment 1000.
-fn talk_of(alloc: Global, input: &[u8], piece: usize) -> Result<Spoken, Fail> {
-    let mut book = new_book(alloc)?;
-    let input = Input::new(input, piece);
-    Ok(talk(alloc, &mut book, input, Output::new(alloc), &[at(1000); 8]))
-}
 
 pub const NONE: &[u8] = b"";
 
@@ -189,68 +111,57 @@ Content-Type: text/plain\r\nContent-Length: 7\r\n\r\nmethod\n";
 const UNKNOWN: &[u8] = b"HTTP/1.1 404 Not Found\r\nDate: Thu, 01 Jan 1970 00:16:40 GMT\r\n\
 Tus-Resumable: 1.0.0\r\nCache-Control: no-store\r\nConnection: close\r\n\r\n";
 
-/// A conversation of some messages with a new upload, what it writes, and how it ends.
+/// The messages of a conversation with a new book, its replies, how it ends, and how many bytes the first
+/// upload of acme has then.
 #[derive(Clone, Copy)]
 pub struct Row {
     pub name: &'static str,
     pub sent: [&'static [u8]; 4],
     pub written: [&'static [u8]; 4],
     pub ended: Ended,
+    pub offset: Option<u64>,
 }
 
+/// Asserts that a conversation is as its row says.
 pub fn check_row(rt: &impl Abort, alloc: Global, row: &Row) -> Result<(), Fail> {
     let sent = joined(alloc, &row.sent)?;
     let written = joined(alloc, &row.written)?;
-    check(rt, alloc, row.name, &sent, &written, row.ended)
+    let expected = Expected {
+        text: &written,
+        ended: Ok(row.ended),
+        offset: row.offset,
+    };
+    assert_both(rt, alloc, row.name, &sent, &at_1000(), &expected)
 }
 
-fn check(
-    rt: &impl Abort,
-    alloc: Global,
-    name: &str,
-    sent: &[u8],
-    written: &[u8],
-    ended: Ended,
-) -> Result<(), Fail> {
-    let mut book = new_book(alloc)?;
-    let (text, end) = plain_conversation(alloc, sent, &mut book, &[at(1000); 8])?;
-    assert!(rt;
-        text.as_slice() == written,
-        "{name}: text of the plain program"
-    );
-    assert!(rt; end == ended, "{name}: end of the plain program");
-    for piece in [1, 7, usize::MAX] {
-        let spoken = talk_of(alloc, sent, piece)?;
-        assert!(rt; spoken.text.as_slice() == written, "{name}: text");
-        assert!(rt; spoken.ended == Ok(ended), "{name}: end");
-    }
-    Ok(())
-}
-
-const WHOLE: [Row; 11] = [
+static WHOLE: [Row; 11] = [
     Row {
         name: "the first upload",
         sent: [POST, PATCH, HEAD, NONE],
         written: [CREATED, PATCHED, LOOKED, NONE],
         ended: Ended::Input,
+        offset: Some(5),
     },
     Row {
         name: "a wrong offset",
         sent: [POST, PATCH, WRONG_OFFSET, HEAD],
         written: [CREATED, PATCHED, OFFSET, LOOKED],
         ended: Ended::Input,
+        offset: Some(5),
     },
     Row {
         name: "bytes past the length are refused, all of them",
         sent: [POST, PATCH, PATCH_PAST, HEAD],
         written: [CREATED, PATCHED, TOO_LONG, LOOKED],
         ended: Ended::Input,
+        offset: Some(5),
     },
     Row {
         name: "the rest of the bytes complete the upload, and a greater one is refused",
         sent: [POST, PATCH, PATCH_REST, POST_TOO_LONG],
         written: [CREATED, PATCHED, COMPLETED, CREATION_TOO_LONG],
         ended: Ended::Input,
+        offset: Some(10),
     },
     Row {
         name: "another version, and then a method that is not served",
@@ -262,6 +173,7 @@ const WHOLE: [Row; 11] = [
         ],
         written: [VERSION, CREATED, METHOD, NONE],
         ended: Ended::Input,
+        offset: Some(0),
     },
     Row {
         name: "an unknown upload, and the wish to close",
@@ -274,24 +186,28 @@ Connection: x, Close\r\n\r\n",
         ],
         written: [UNKNOWN, NONE, NONE, NONE],
         ended: Ended::Closed,
+        offset: None,
     },
     Row {
         name: "no input",
         sent: [NONE, NONE, NONE, NONE],
         written: [NONE, NONE, NONE, NONE],
         ended: Ended::Input,
+        offset: None,
     },
     Row {
         name: "line ends before messages",
         sent: [b"\r\n\n", POST, b"\n\r\n", PATCH],
         written: [CREATED, PATCHED, NONE, NONE],
         ended: Ended::Input,
+        offset: Some(5),
     },
     Row {
         name: "a body that waits",
         sent: [POST, PATCH_WAITING, NONE, NONE],
         written: [CREATED, CONTINUE, PATCHED, NONE],
         ended: Ended::Input,
+        offset: Some(5),
     },
     Row {
         name: "a POST cut before its body",
@@ -303,12 +219,14 @@ Connection: x, Close\r\n\r\n",
         ],
         written: [NONE, NONE, NONE, NONE],
         ended: Ended::Cut,
+        offset: None,
     },
     Row {
         name: "HTTP/1.0 closes, and is not told to continue",
         sent: [POST, PATCH_OLD, HEAD, NONE],
         written: [CREATED, PATCHED_CLOSE, NONE, NONE],
         ended: Ended::Closed,
+        offset: Some(5),
     },
 ];
 
@@ -320,12 +238,13 @@ fn whole_messages(rt: HostRuntime) -> Result<(), Fail> {
     Ok(())
 }
 
-const REFUSED: [Row; 11] = [
+static REFUSED: [Row; 11] = [
     Row {
         name: "a transfer coding",
         sent: [CHUNKED, HEAD, NONE, NONE],
         written: [CODING, NONE, NONE, NONE],
         ended: Ended::Closed,
+        offset: None,
     },
     Row {
         name: "a body above the greatest size",
@@ -337,6 +256,7 @@ const REFUSED: [Row; 11] = [
         ],
         written: [BODY_SIZE, NONE, NONE, NONE],
         ended: Ended::Closed,
+        offset: None,
     },
     Row {
         name: "the greatest length, which is above it",
@@ -348,6 +268,7 @@ const REFUSED: [Row; 11] = [
         ],
         written: [BODY_SIZE, NONE, NONE, NONE],
         ended: Ended::Closed,
+        offset: None,
     },
     Row {
         name: "a length past 64 bits",
@@ -359,6 +280,7 @@ const REFUSED: [Row; 11] = [
         ],
         written: [LENGTH, NONE, NONE, NONE],
         ended: Ended::Closed,
+        offset: None,
     },
     Row {
         name: "a length of 30 digits",
@@ -370,6 +292,7 @@ const REFUSED: [Row; 11] = [
         ],
         written: [LENGTH, NONE, NONE, NONE],
         ended: Ended::Closed,
+        offset: None,
     },
     Row {
         name: "two equal lengths",
@@ -381,6 +304,7 @@ const REFUSED: [Row; 11] = [
         ],
         written: [LENGTH, NONE, NONE, NONE],
         ended: Ended::Closed,
+        offset: None,
     },
     Row {
         name: "two hosts",
@@ -392,24 +316,28 @@ const REFUSED: [Row; 11] = [
         ],
         written: [HOST, NONE, NONE, NONE],
         ended: Ended::Closed,
+        offset: None,
     },
     Row {
         name: "a HEAD without a host, which is answered bare",
         sent: [b"HEAD / HTTP/1.1\r\n\r\n", NONE, NONE, NONE],
         written: [BARE_HOST, NONE, NONE, NONE],
         ended: Ended::Closed,
+        offset: None,
     },
     Row {
         name: "a byte 0 in a value",
         sent: [b"POST / HTTP/1.1\r\nHost: \x00\r\n\r\n", NONE, NONE, NONE],
         written: [MALFORMED, NONE, NONE, NONE],
         ended: Ended::Closed,
+        offset: None,
     },
     Row {
         name: "bytes that are no text",
         sent: [b"\xff\xff\r\n\r\n", NONE, NONE, NONE],
         written: [MALFORMED, NONE, NONE, NONE],
         ended: Ended::Closed,
+        offset: None,
     },
     Row {
         name: "another version of HTTP",
@@ -421,6 +349,7 @@ const REFUSED: [Row; 11] = [
         ],
         written: [MALFORMED, NONE, NONE, NONE],
         ended: Ended::Closed,
+        offset: None,
     },
 ];
 
@@ -432,129 +361,208 @@ fn refused_messages(rt: HostRuntime) -> Result<(), Fail> {
     Ok(())
 }
 
-/// A message of `count` fields beside Host, and a last one of `more` bytes.
-fn with_fields(alloc: Global, count: usize, more: usize) -> Result<Vec<u8>, AllocError> {
+/// The messages of the first upload, and their replies.
+pub static FIRST_UPLOAD: [&[u8]; 3] = [POST, PATCH, HEAD];
+
+pub static REPLIES: [&[u8]; 3] = [CREATED, PATCHED, LOOKED];
+
+/// Asserts that a HEAD of the first upload is answered after a POST and a PATCH of it.
+pub fn assert_looked(rt: &impl Abort, alloc: Global, what: &str, head: &[u8]) -> Result<(), Fail> {
+    let sent = joined(alloc, &[POST, PATCH, head])?;
+    let written = joined(alloc, &REPLIES)?;
+    let expected = Expected {
+        text: &written,
+        ended: Ok(Ended::Input),
+        offset: Some(5),
+    };
+    assert_both(rt, alloc, what, &sent, &at_1000(), &expected)
+}
+
+/// The HEAD of the first upload with `count` fields beside Host, Tus-Resumable and a last one, which fills
+/// it up to `len` bytes.
+fn with_fields(alloc: Global, count: usize, len: usize) -> Result<Vec<u8>, AllocError> {
     let mut text = Vec::from_slice(alloc, b"HEAD /files/acme/1 HTTP/1.1\r\nHost: x\r\n")?;
     for _ in 0..count {
         text.extend_from_slice(b"X: y\r\n")?;
     }
     text.extend_from_slice(b"Tus-Resumable: 1.0.0\r\nFill: ")?;
-    for _ in 0..more {
-        text.push(b'z')?;
-    }
+    let filled = text.len().max(len.saturating_sub(4));
+    text.resize(filled, b'z')?;
     text.extend_from_slice(b"\r\n\r\n")?;
     Ok(text)
 }
 
+/// The HEAD of the first upload with so many fields as `with_fields` gives it, which is refused where it is
+/// too large.
+#[derive(Clone, Copy)]
+struct HeadRow {
+    name: &'static str,
+    count: usize,
+    len: usize,
+    is_too_large: bool,
+}
+
+/// Asserts that a head is answered or refused, as its row says.
+fn check_head(rt: &impl Abort, alloc: Global, row: &HeadRow) -> Result<(), Fail> {
+    let head = with_fields(alloc, row.count, row.len)?;
+    if row.is_too_large {
+        let expected = Expected {
+            text: HEAD_SIZE,
+            ended: Ok(Ended::Closed),
+            offset: None,
+        };
+        assert_both(rt, alloc, row.name, &head, &at_1000(), &expected)
+    } else {
+        assert_looked(rt, alloc, row.name, &head)
+    }
+}
+
+static HEADS: [HeadRow; 4] = [
+    HeadRow {
+        name: "16,384 bytes",
+        count: 0,
+        len: 16_384,
+        is_too_large: false,
+    },
+    HeadRow {
+        name: "16,385 bytes",
+        count: 0,
+        len: 16_385,
+        is_too_large: true,
+    },
+    HeadRow {
+        name: "64 fields",
+        count: 61,
+        len: 0,
+        is_too_large: false,
+    },
+    HeadRow {
+        name: "65 fields",
+        count: 62,
+        len: 0,
+        is_too_large: true,
+    },
+];
+
+/// One byte, `count` times, what is written for it, and how the conversation ends.
+#[derive(Clone, Copy)]
+struct RunRow {
+    name: &'static str,
+    byte: u8,
+    count: usize,
+    written: &'static [u8],
+    ended: Ended,
+}
+
+/// Asserts that a conversation is as its row says.
+fn check_run(rt: &impl Abort, alloc: Global, row: &RunRow) -> Result<(), Fail> {
+    let mut input = Vec::new(alloc);
+    input.resize(row.count, row.byte)?;
+    let expected = Expected {
+        text: row.written,
+        ended: Ok(row.ended),
+        offset: None,
+    };
+    assert_both(rt, alloc, row.name, &input, &at_1000(), &expected)
+}
+
+static RUNS: [RunRow; 3] = [
+    RunRow {
+        name: "no end",
+        byte: b'a',
+        count: 16_384,
+        written: HEAD_SIZE,
+        ended: Ended::Closed,
+    },
+    RunRow {
+        name: "16,384 line ends",
+        byte: b'\n',
+        count: 16_384,
+        written: HEAD_SIZE,
+        ended: Ended::Closed,
+    },
+    RunRow {
+        name: "16,383 line ends",
+        byte: b'\n',
+        count: 16_383,
+        written: NONE,
+        ended: Ended::Input,
+    },
+];
+
 #[test]
 fn large_heads(rt: HostRuntime) -> Result<(), Fail> {
-    let alloc = rt.alloc();
-    let bare = with_fields(alloc, 0, 0)?.len();
-    let greatest = with_fields(alloc, 0, 16_384_usize.saturating_sub(bare))?;
+    let greatest = with_fields(rt.alloc(), 0, 16_384)?;
     assert_eq!(rt; greatest.len(), 16_384);
-    let larger = with_fields(alloc, 0, 16_385_usize.saturating_sub(bare))?;
-    let most_fields = with_fields(alloc, 61, 0)?;
-    let more_fields = with_fields(alloc, 62, 0)?;
-    let mut endless = Vec::new(alloc);
-    let mut blank = Vec::new(alloc);
-    for _ in 0..16_384 {
-        endless.push(b'a')?;
-        blank.push(b'\n')?;
+    for row in &HEADS {
+        check_head(&rt, rt.alloc(), row)?;
     }
-    let looked = joined(alloc, &[CREATED, PATCHED, LOOKED])?;
-    let whole = joined(alloc, &[POST, PATCH, &greatest])?;
-    check(&rt, alloc, "16,384 bytes", &whole, &looked, Ended::Input)?;
-    check(
-        &rt,
-        alloc,
-        "16,385 bytes",
-        &larger,
-        HEAD_SIZE,
-        Ended::Closed,
-    )?;
-    check(&rt, alloc, "no end", &endless, HEAD_SIZE, Ended::Closed)?;
-    let fields = joined(alloc, &[POST, PATCH, &most_fields])?;
-    check(&rt, alloc, "64 fields", &fields, &looked, Ended::Input)?;
-    check(
-        &rt,
-        alloc,
-        "65 fields",
-        &more_fields,
-        HEAD_SIZE,
-        Ended::Closed,
-    )?;
-    check(
-        &rt,
-        alloc,
-        "16,384 line ends",
-        &blank,
-        HEAD_SIZE,
-        Ended::Closed,
-    )?;
-    let _ = blank.pop();
-    check(&rt, alloc, "16,383 line ends", &blank, b"", Ended::Input)?;
+    for row in &RUNS {
+        check_run(&rt, rt.alloc(), row)?;
+    }
     Ok(())
 }
 
 #[test]
 fn few_moments(rt: HostRuntime) -> Result<(), Fail> {
     let alloc = rt.alloc();
-    let all = joined(alloc, &[POST, PATCH, HEAD])?;
-    let mut book = new_book(alloc)?;
-    let mut reader = Tapped::new(Input {
-        rest: &all,
+    let sent = joined(alloc, &FIRST_UPLOAD)?;
+    let written = joined(alloc, &REPLIES[..2])?;
+    let moments = [at(1000); 2];
+    let expected = Expected {
+        text: &written,
+        ended: Ok(Ended::Moments),
+        offset: Some(5),
+    };
+    assert_both(&rt, alloc, "two moments", &sent, &moments, &expected)?;
+    let input = Input {
+        rest: &sent,
         first: POST.len(),
         more: PATCH.len(),
         reads: usize::MAX,
-    });
-    let mut writer = Tapped::new(Output::new(alloc));
-    let ended = converse(alloc, &mut reader, &mut writer, &mut book, &[at(1000); 2]);
-    assert_eq!(rt; ended, Ok(Ended::Moments));
-    assert_eq!(rt; reader.inner.rest, HEAD);
-    let written = joined(alloc, &[CREATED, PATCHED])?;
-    assert_eq!(rt; writer.inner.written.as_slice(), written.as_slice());
-    let mut book = new_book(alloc)?;
-    let (text, end) = plain_conversation(alloc, &all, &mut book, &[at(1000); 2])?;
-    assert_eq!(rt; text.as_slice(), written.as_slice());
-    assert_eq!(rt; end, Ended::Moments);
+    };
+    let spoken = talk_of(alloc, input, Output::new(alloc), &moments)?;
+    assert_spoken(&rt, "a message a read", &spoken, &expected);
+    assert_eq!(rt; spoken.rest, HEAD);
     Ok(())
+}
+
+/// Whether one of the lines of a text, which end with CR and LF, is this one.
+fn has_line(text: &[u8], line: &[u8]) -> bool {
+    let mut lines = text.split(|byte| *byte == b'\n');
+    lines.any(|each| each.strip_suffix(b"\r") == Some(line))
+}
+
+/// Asserts that the reply to a PATCH, which comes at moment `then` after a POST at 1000, has a line.
+fn assert_second_has(
+    rt: &impl Abort,
+    alloc: Global,
+    name: &str,
+    then: Moment,
+    line: &[u8],
+) -> Result<(), Fail> {
+    let sent = joined(alloc, &FIRST_UPLOAD[..2])?;
+    let moments = [at(1000), then];
+    let input = Input::new(&sent, usize::MAX);
+    let spoken = talk_of(alloc, input, Output::new(alloc), &moments)?;
+    let text = spoken.text.as_slice();
+    let second = text.strip_prefix(CREATED).ok_or("the first reply")?;
+    assert!(rt; has_line(second, line), "{name}");
+    let expected = Expected {
+        text,
+        ended: Ok(Ended::Moments),
+        offset: Some(5),
+    };
+    assert_both(rt, alloc, name, &sent, &moments, &expected)
 }
 
 #[test]
 fn later_and_earlier_moments(rt: HostRuntime) -> Result<(), Fail> {
     let alloc = rt.alloc();
-    let all = joined(alloc, &[POST, PATCH])?;
-    for (then, expires) in [
-        (500, b"Upload-Expires: Thu, 01 Jan 1970 01:16:40 GMT"),
-        (2000, b"Upload-Expires: Thu, 01 Jan 1970 01:33:20 GMT"),
-    ] {
-        let mut book = new_book(alloc)?;
-        let input = Input::new(&all, usize::MAX);
-        let spoken = talk(
-            alloc,
-            &mut book,
-            input,
-            Output::new(alloc),
-            &[at(1000), at(then)],
-        );
-        let second = spoken
-            .text
-            .as_slice()
-            .strip_prefix(CREATED)
-            .ok_or("the first reply")?;
-        let mut lines = second.split(|byte| *byte == b'\n');
-        assert!(rt;
-            lines.any(|line| line.strip_suffix(b"\r") == Some(expires.as_slice())),
-            "{then}"
-        );
-        let mut book = new_book(alloc)?;
-        let (text, _) = plain_conversation(alloc, &all, &mut book, &[at(1000), at(then)])?;
-        assert!(rt;
-            text.as_slice() == spoken.text.as_slice(),
-            "{then}: plain program"
-        );
-    }
-    Ok(())
+    let kept = b"Upload-Expires: Thu, 01 Jan 1970 01:16:40 GMT";
+    let later = b"Upload-Expires: Thu, 01 Jan 1970 01:33:20 GMT";
+    assert_second_has(&rt, alloc, "500", at(500), kept)?;
+    assert_second_has(&rt, alloc, "2000", at(2000), later)
 }
 
 const LAST: &[u8] = b"HTTP/1.1 201 Created\r\nDate: Fri, 31 Dec 9999 23:59:59 GMT\r\n\
@@ -565,16 +573,19 @@ Cache-Control: no-store\r\n\r\n";
 
 #[test]
 fn the_last_moment(rt: HostRuntime) -> Result<(), Fail> {
-    let alloc = rt.alloc();
-    let all = joined(alloc, &[POST, HEAD])?;
-    let mut book = new_book(alloc)?;
-    let input = Input::new(&all, usize::MAX);
+    let sent = joined(rt.alloc(), &[POST, HEAD])?;
+    let expected = Expected {
+        text: LAST,
+        ended: Ok(Ended::Input),
+        offset: Some(0),
+    };
     let moments = [at(253_402_300_799); 3];
-    let spoken = talk(alloc, &mut book, input, Output::new(alloc), &moments);
-    assert_eq!(rt; spoken.text.as_slice(), LAST);
-    assert_eq!(rt; spoken.ended, Ok(Ended::Input));
-    let mut book = new_book(alloc)?;
-    let (text, _) = plain_conversation(alloc, &all, &mut book, &moments)?;
-    assert_eq!(rt; text.as_slice(), LAST);
-    Ok(())
+    assert_both(
+        &rt,
+        rt.alloc(),
+        "the last moment",
+        &sent,
+        &moments,
+        &expected,
+    )
 }

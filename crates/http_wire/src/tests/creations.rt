@@ -112,18 +112,20 @@ Tus-Resumable: 1.0.0\r\nUpload-Offset: 0\r\nUpload-Length: 10\r\nCache-Control: 
 const POST_PARTIAL: &[u8] = b"POST /files/acme HTTP/1.1\r\nHost: x\r\nTus-Resumable: 1.0.0\r\n\
 Upload-Length: 10\r\nUpload-Concat: partial\r\n\r\n";
 
-const CREATIONS: [Row; 9] = [
+static CREATIONS: [Row; 9] = [
     Row {
         name: "a length that is told later, and a refused PATCH that tells one",
         sent: [POST_DEFERRED, HEAD, PATCH_AT_ONE, HEAD],
         written: [CREATED, LOOKED_DEFERRED, OFFSET, LOOKED_DEFERRED],
         ended: Ended::Input,
+        offset: Some(0),
     },
     Row {
         name: "a told length is fixed",
         sent: [POST_DEFERRED, PATCH_WITH_LENGTH, PATCH_LONGER, PATCH_SAME],
         written: [CREATED, COMPLETED_FIVE, LENGTH_FIXED, COMPLETED_FIVE],
         ended: Ended::Input,
+        offset: Some(5),
     },
     Row {
         name: "lengths that are not told",
@@ -135,6 +137,7 @@ const CREATIONS: [Row; 9] = [
         ],
         written: [FIELD, FIELD, FIELD, FIELD],
         ended: Ended::Input,
+        offset: None,
     },
     Row {
         name: "numbers that are too great, and two offsets",
@@ -146,24 +149,28 @@ const CREATIONS: [Row; 9] = [
         ],
         written: [TOO_LONG, FIELD, CREATED, FIELD],
         ended: Ended::Input,
+        offset: Some(0),
     },
     Row {
         name: "an upload of no bytes",
         sent: [POST_ZERO, PATCH_EMPTY, GET, NONE],
         written: [CREATED_COMPLETE, PATCHED_NONE, NO_CONTENT, NONE],
         ended: Ended::Input,
+        offset: Some(0),
     },
     Row {
         name: "metadata is given back as it was sent",
         sent: [POST_TWO_KEYS, HEAD, NONE, NONE],
         written: [CREATED, LOOKED_TWO_KEYS, NONE, NONE],
         ended: Ended::Input,
+        offset: Some(0),
     },
     Row {
         name: "metadata with a value is given back as it was sent",
         sent: [POST_KEY_AND_VALUE, HEAD, NONE, NONE],
         written: [CREATED, LOOKED_KEY_AND_VALUE, NONE, NONE],
         ended: Ended::Input,
+        offset: Some(0),
     },
     Row {
         name: "metadata that is none",
@@ -175,12 +182,14 @@ const CREATIONS: [Row; 9] = [
         ],
         written: [FIELD, FIELD, FIELD, FIELD],
         ended: Ended::Input,
+        offset: None,
     },
     Row {
         name: "empty metadata is none, and a part is not served",
         sent: [POST_PARTIAL, POST_EMPTY_METADATA, HEAD, NONE],
         written: [FIELD, CREATED, LOOKED_NEW, NONE],
         ended: Ended::Input,
+        offset: Some(0),
     },
 ];
 

@@ -1,42 +1,32 @@
 ghost use Rattle.std.specs.Prelude.{◌≤◌};
 
-use super::conversations::{
-    CREATED, HEAD, LOOKED, PATCH, PATCHED, POST, at, joined, new_book, offset_of, talk,
-};
-use super::memory::{Input, Output};
+use super::conversations::{CREATED, FIRST_UPLOAD, NONE, PATCH, POST, REPLIES, Row, check_row};
+use super::spoken::{Expected, assert_both, at_1000, joined};
 use crate::conversation::Ended;
-use crate::plain::plain_conversation;
+use std::alloc::Global;
+use std::process::Abort;
 use std::test::Fail;
+
+/// Asserts that the conversation of the first bytes of the first upload is cut where they end.
+fn assert_cut(rt: &impl Abort, alloc: Global, input: &[u8]) -> Result<(), Fail> {
+    let len = input.len();
+    let (whole, is_cut, offset) = cut_at(len);
+    let written = joined(alloc, &REPLIES[..whole])?;
+    let ended = if is_cut { Ended::Cut } else { Ended::Input };
+    let expected = Expected {
+        text: &written,
+        ended: Ok(ended),
+        offset,
+    };
+    let what = format!(in alloc; "{len} bytes")?;
+    assert_both(rt, alloc, &what, input, &at_1000(), &expected)
+}
 
 #[test]
 fn cut_messages(rt: HostRuntime) -> Result<(), Fail> {
-    let alloc = rt.alloc();
-    let all = joined(alloc, &[POST, PATCH, HEAD])?;
-    let replies = [CREATED, PATCHED, LOOKED];
+    let all = joined(rt.alloc(), &FIRST_UPLOAD)?;
     for len in 0..all.len() {
-        let mut book = new_book(alloc)?;
-        let input = Input::new(&all[..len], usize::MAX);
-        let spoken = talk(alloc, &mut book, input, Output::new(alloc), &[at(1000); 8]);
-        let (whole, is_cut, body) = cut_at(len);
-        let written = joined(alloc, &replies[..whole])?;
-        assert!(rt;
-            spoken.text.as_slice() == written.as_slice(),
-            "{len} bytes: text"
-        );
-        let ended = if is_cut { Ended::Cut } else { Ended::Input };
-        assert!(rt; spoken.ended == Ok(ended), "{len} bytes: end");
-        assert!(rt; offset_of(&book) == body, "{len} bytes: offset");
-        let mut book = new_book(alloc)?;
-        let (text, end) = plain_conversation(alloc, &all[..len], &mut book, &[at(1000); 8])?;
-        assert!(rt;
-            text.as_slice() == written.as_slice(),
-            "{len} bytes: text of the plain program"
-        );
-        assert!(rt; end == ended, "{len} bytes: end of the plain program");
-        assert!(rt;
-            offset_of(&book) == body,
-            "{len} bytes: offset of the plain program"
-        );
+        assert_cut(&rt, rt.alloc(), &all[..len])?;
     }
     Ok(())
 }
@@ -46,22 +36,17 @@ const PATCH_CUT: &[u8] = b"PATCH /files/acme/1 HTTP/1.1\r\nHost: x\r\nTus-Resuma
 Content-Type: application/offset+octet-stream\r\nUpload-Offset: 0\r\nContent-Length: 8\r\n\r\n\
 hello";
 
+static CUT_BODY: Row = Row {
+    name: "a cut body",
+    sent: [POST, PATCH_CUT, NONE, NONE],
+    written: [CREATED, NONE, NONE, NONE],
+    ended: Ended::Cut,
+    offset: Some(5),
+};
+
 #[test]
 fn a_cut_body_is_kept(rt: HostRuntime) -> Result<(), Fail> {
-    let alloc = rt.alloc();
-    let all = joined(alloc, &[POST, PATCH_CUT])?;
-    let mut book = new_book(alloc)?;
-    let input = Input::new(&all, usize::MAX);
-    let spoken = talk(alloc, &mut book, input, Output::new(alloc), &[at(1000); 8]);
-    assert_eq!(rt; spoken.text.as_slice(), CREATED);
-    assert_eq!(rt; spoken.ended, Ok(Ended::Cut));
-    assert_eq!(rt; offset_of(&book), Some(5));
-    let mut book = new_book(alloc)?;
-    let (text, end) = plain_conversation(alloc, &all, &mut book, &[at(1000); 8])?;
-    assert_eq!(rt; text.as_slice(), CREATED);
-    assert_eq!(rt; end, Ended::Cut);
-    assert_eq!(rt; offset_of(&book), Some(5));
-    Ok(())
+    check_row(&rt, rt.alloc(), &CUT_BODY)
 }
 
 /// How many messages of the first upload are whole in its first `len` bytes, whether the next is cut,

@@ -1,5 +1,8 @@
-use super::conversations::{CREATED, HEAD, LOOKED, PATCH, PATCHED, POST, joined, new_book, talked};
+use super::conversations::{
+    CREATED, HEAD, LOOKED, PATCH, PATCHED, POST, Row, assert_looked, check_row,
+};
 use super::memory::{Input, Output};
+use super::spoken::joined;
 use crate::conversation::Ended;
 use crate::incoming::Incoming;
 use crate::source::Tapped;
@@ -23,21 +26,17 @@ fn with_names(alloc: Global, firsts: &[u8], seconds: &[u8]) -> Result<Vec<u8>, A
     Ok(text)
 }
 
+static NAMES: [(&[u8], &[u8], &str); 3] = [
+    (b"a", b"a", "3 fields"),
+    (b"abcdefghijklmnopqrstuvwxyzABCDE", b"a", "33 fields"),
+    (b"ab", b"abcdefghijklmnopqrstuvwxyzABCDE", "64 fields"),
+];
+
 #[test]
 fn fields_of_many_names(rt: HostRuntime) -> Result<(), Fail> {
-    let alloc = rt.alloc();
-    let looked = joined(alloc, &[CREATED, PATCHED, LOOKED])?;
-    for (firsts, seconds, what) in [
-        (b"a".as_slice(), b"a".as_slice(), "3 fields"),
-        (b"abcdefghijklmnopqrstuvwxyzABCDE", b"a", "33 fields"),
-        (b"ab", b"abcdefghijklmnopqrstuvwxyzABCDE", "64 fields"),
-    ] {
-        let head = with_names(alloc, firsts, seconds)?;
-        let sent = joined(alloc, &[POST, PATCH, &head])?;
-        let mut book = new_book(alloc)?;
-        let spoken = talked(alloc, &mut book, &sent);
-        assert!(rt; spoken.text.as_slice() == looked.as_slice(), "{what}: text");
-        assert!(rt; spoken.ended == Ok(Ended::Input), "{what}: end");
+    for (firsts, seconds, what) in &NAMES {
+        let head = with_names(rt.alloc(), firsts, seconds)?;
+        assert_looked(&rt, rt.alloc(), what, &head)?;
     }
     Ok(())
 }
@@ -50,40 +49,46 @@ Content-Type: application/offset+octet-stream\r\nUpload-Offset: 0\r\nContent-Len
 const UNKNOWN: &[u8] = b"HTTP/1.1 404 Not Found\r\nDate: Thu, 01 Jan 1970 00:16:40 GMT\r\n\
 Tus-Resumable: 1.0.0\r\nContent-Type: text/plain\r\nContent-Length: 8\r\n\r\nunknown\n";
 
+static GREATEST: Row = Row {
+    name: "the greatest body",
+    sent: [PATCH_GREATEST, POST, PATCH, HEAD],
+    written: [UNKNOWN, CREATED, PATCHED, LOOKED],
+    ended: Ended::Input,
+    offset: Some(5),
+};
+
 #[test]
 fn the_greatest_body(rt: HostRuntime) -> Result<(), Fail> {
-    let alloc = rt.alloc();
-    let mut book = new_book(alloc)?;
-    let sent = joined(alloc, &[PATCH_GREATEST, POST, PATCH, HEAD])?;
-    let written = joined(alloc, &[UNKNOWN, CREATED, PATCHED, LOOKED])?;
-    let spoken = talked(alloc, &mut book, &sent);
-    assert_eq!(rt; spoken.text.as_slice(), written.as_slice());
-    assert_eq!(rt; spoken.ended, Ok(Ended::Input));
-    Ok(())
+    check_row(&rt, rt.alloc(), &GREATEST)
 }
 
 const LARGE: &[u8] = b"PATCH / HTTP/1.1\r\nHost: x\r\nContent-Length: ";
 
+/// How long a body is that a wire reads, where its head has these digits as its length, and head and body
+/// have `all` bytes.
+fn read_body_len(alloc: Global, digits: &[u8], all: usize) -> Result<usize, Fail> {
+    let mut sent = joined(alloc, &[LARGE, digits, b"\r\n\r\n"])?;
+    sent.resize(all, b'a')?;
+    let reader = Tapped::new(Input::new(&sent, usize::MAX));
+    let mut wire = Wire::new(alloc, reader, Tapped::new(Output::new(alloc)), 300_000)?;
+    match wire.read_request()? {
+        Incoming::Message(message) => Ok(message.request().body.len()),
+        _ => Err(Fail::from("a whole message was sent")),
+    }
+}
+
 /// Head and body have 49,152 bytes together, 49,153, and more than there is room for at the start.
+static BODIES: [(&[u8], usize, usize); 3] = [
+    (b"49100", 49_100, 49_152),
+    (b"49101", 49_101, 49_153),
+    (b"300000", 300_000, 300_053),
+];
+
 #[test]
 fn bodies_that_fit_and_outgrow_the_room(rt: HostRuntime) -> Result<(), Fail> {
-    let alloc = rt.alloc();
-    for (digits, len, all) in [
-        (b"49100".as_slice(), 49_100_usize, 49_152_usize),
-        (b"49101", 49_101, 49_153),
-        (b"300000", 300_000, 300_053),
-    ] {
-        let mut sent = joined(alloc, &[LARGE, digits, b"\r\n\r\n"])?;
-        sent.resize(all, b'a')?;
-        let reader = Tapped::new(Input::new(&sent, usize::MAX));
-        let mut wire = Wire::new(alloc, reader, Tapped::new(Output::new(alloc)), 300_000)?;
-        match wire.read_request()? {
-            Incoming::Message(message) => assert!(rt;
-                message.request().body.len() == len,
-                "a body of {len} bytes"
-            ),
-            _ => return Err(Fail::from("a whole message was sent")),
-        }
+    for (digits, len, all) in &BODIES {
+        let read = read_body_len(rt.alloc(), digits, *all)?;
+        assert!(rt; read == *len, "a body of {len} bytes");
     }
     Ok(())
 }

@@ -5,7 +5,7 @@ use std::io;
 use std::io::{ErrorKind, Read, Write};
 
 /// A reader of some bytes: the first read gives at most `first` of them, each later one at most
-/// `more`. After `reads` reads it fails.
+/// `more`. The read after `reads` of them fails, and reads after that one would give bytes again.
 #[derive(Drop)]
 pub struct Input<'a> {
     pub rest: &'a [u8],
@@ -29,6 +29,7 @@ impl<'a> Input<'a> {
 impl Read for Input<'_> {
     fn read(&mut self, buf: &mut [u8]) -> io::Result<usize> {
         if self.reads == 0 {
+            self.reads = usize::MAX;
             return Err(io::Error::from(ErrorKind::Other));
         }
         self.reads -= 1;
@@ -41,12 +42,14 @@ impl Read for Input<'_> {
     }
 }
 
-/// A writer that keeps what is written, at most `piece` bytes a write. After `writes` writes it fails.
+/// A writer that keeps what is written, at most `piece` bytes a write. The write after `writes` of them
+/// fails, or takes no byte where not `fails`, and writes after that one would take bytes again.
 #[derive(Drop)]
 pub struct Output {
     pub written: Vec<u8>,
     pub piece: usize,
     pub writes: usize,
+    pub fails: bool,
 }
 
 impl Output {
@@ -56,6 +59,7 @@ impl Output {
             written: Vec::new(alloc),
             piece: usize::MAX,
             writes: usize::MAX,
+            fails: true,
         }
     }
 }
@@ -63,7 +67,12 @@ impl Output {
 impl Write for Output {
     fn write(&mut self, buf: &[u8]) -> io::Result<usize> {
         if self.writes == 0 {
-            return Err(io::Error::from(ErrorKind::Other));
+            self.writes = usize::MAX;
+            return if self.fails {
+                Err(io::Error::from(ErrorKind::Other))
+            } else {
+                Ok(0)
+            };
         }
         self.writes -= 1;
         let count = self.piece.min(buf.len());

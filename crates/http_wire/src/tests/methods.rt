@@ -81,42 +81,48 @@ Tus-Resumable: 1.0.0\r\n\r\n";
 const UNKNOWN: &[u8] = b"HTTP/1.1 404 Not Found\r\nDate: Thu, 01 Jan 1970 00:16:40 GMT\r\n\
 Tus-Resumable: 1.0.0\r\nCache-Control: no-store\r\n\r\n";
 
-const METHODS: [Row; 6] = [
+static METHODS: [Row; 6] = [
     Row {
         name: "OPTIONS of any version and target",
         sent: [OPTIONS_NO_VERSION, OPTIONS_OTHER_VERSION, NONE, NONE],
         written: [ABLE, ABLE, NONE, NONE],
         ended: Ended::Input,
+        offset: None,
     },
     Row {
         name: "GET of an upload before it is finished, and after",
         sent: [POST, GET, PATCH_ALL, GET],
         written: [CREATED, UNFINISHED, COMPLETED, CONTENT],
         ended: Ended::Input,
+        offset: Some(10),
     },
     Row {
         name: "a POST that stands for a PATCH or a HEAD",
         sent: [POST, POST_AS_PATCH, POST_AS_PATCH_UNTYPED, POST_AS_HEAD],
         written: [CREATED, PATCHED, MEDIA, LOOKED_WITH_LENGTH],
         ended: Ended::Input,
+        offset: Some(5),
     },
     Row {
         name: "a HEAD that stands for a GET has a bare reply",
         sent: [POST, PATCH_ALL, HEAD_AS_GET, NONE],
         written: [CREATED, COMPLETED, BARE_CONTENT, NONE],
         ended: Ended::Input,
+        offset: Some(10),
     },
     Row {
         name: "two fields of one name",
         sent: [POST_TWO_OVERRIDES, POST_TWO_VERSIONS, POST, PATCH_TWO_TYPES],
         written: [METHOD, VERSION, CREATED, MEDIA],
         ended: Ended::Input,
+        offset: Some(0),
     },
     Row {
         name: "an id that was never given, and a path with none",
         sent: [HEAD_GREATEST_ID, HEAD_NO_ID, NONE, NONE],
         written: [UNKNOWN, UNKNOWN, NONE, NONE],
         ended: Ended::Input,
+        offset: None,
     },
 ];
 
