@@ -35,3 +35,4 @@ pub mod BookLemmas
 pub mod RoomLemmas
 pub mod BookSteps
 pub mod PatchSteps
+pub mod SweepSteps
