@@ -14,6 +14,7 @@ use Rattle.upload_book.specs.declared.head_row.Kind.{Kind}
 use Rattle.upload_book.specs.declared.head_row.Kind.TheVariants.{Plain, Partial, Final}
 use Rattle.upload_book.specs.declared.settings.Numbers.{Numbers}
 use Rattle.upload_book.specs.Lawful.{IsTenantOf, IsUploadOf, IsOfKind, IsSegmentOf}
+use Rattle.upload_book.specs.Store.{Store, IsAlone as IsAloneIn, no_upload, shelf_at, part_at, entry_at}
 use Rattle.upload_book.specs.Stored.{Piece, Shelf, StoredUpload, upload_of, entry_of, part_of, parts_of, placed_in, own_chain, HasOwnPiece}
 use Rattle.upload_book.specs.TenantBook.{Entry, TenantBook, kept_in}
 use Rattle.upload_book.specs.Upload.{Upload, IsComplete, content_of as upload_content_of}
@@ -132,6 +133,21 @@ alone-lawful p n old i e sound own is unfinished =
     let stands : kept_in (part_of p old).uploads z.origin ≡ Some (upload_of p e.kept) = ap (kept_in (part_of p old).uploads) same ∙ kept_in-entry p old i e ascending is in
     let complete = part-complete p n old e f z sound there final c stands in
     unfinished complete.0 complete.1)
+
+-- nobody else has the bytes of an upload where no other of the store's uploads has its id, as its own or as a part
+pub alone-store : (s : Store) (t i : ℕ) (e : Entry StoredUpload) → All HasOwnPiece (shelf_at s t).uploads → IsEntry (shelf_at s t) i e → IsAloneIn s t i → IsAlone (shelf_at s t) i e.id
+alone-store s t i e own is alone =
+    let old : Shelf = shelf_at s t in
+    let ascending : IsStrictlyIncreasing (ids_on old.uploads) = subst IsStrictlyIncreasing (ids-kept s.pool old.uploads) alone.ids in
+    let named : (d : Entry StoredUpload) → e.id ≡ (get_or old.uploads i d).id = λ d. ap (λ (e : Entry StoredUpload). e.id) (get_or_read old.uploads i e is.within is.read d) in
+    alone-from old i e is.within own
+    (λ k d l other same. ids-differ old.uploads i k d ascending is.within l other (same ∙ named d))
+    (λ f z there final c same.
+    let at : get_or (part_at s t).uploads there.0 (entry_of s.pool f) ≡ entry_of s.pool f = get_or-map (entry_of s.pool) old.uploads there.0 f (entry_of s.pool f) there.1 ∙ ap (entry_of s.pool) there.2 in
+    let others = subst (λ (f : Entry Upload). f.kept.kind ≡ Final → All (λ o. o ≢ (entry_at s t i).id) f.kept.parts) at (alone.parts there.0 (entry_of s.pool f) (omega (arith, there.1, length-map old.uploads (entry_of s.pool)))) final in
+    let origins : List ℕ = map {A = Piece} {B = ℕ} (λ x. x.origin) f.kept.pieces in
+    let differ : All (λ o. o ≢ (entry_at s t i).id) origins = subst (λ kind. All (λ o. o ≢ (entry_at s t i).id) (parts_of kind origins)) final others in
+    All-contains (λ o. o ≢ (entry_at s t i).id) origins z.origin differ (Contains-map (λ (x : Piece). x.origin) f.kept.pieces z c) (same ∙ named no_upload))
 
 -- an upload of each kind has at most 32 segments
 segments-few : (part : TenantBook) (u : Upload) (kind : Kind) → IsOfKind part u kind → length u.segments ≤ 32

@@ -1,10 +1,12 @@
 -- The plain book that a book over a store stands for, and what the book keeps where its store changes.
 use Rattle.std.proofs.Common.{◌≡◌, ℕ, ◌+◌, ◌-◌, ◌<◌, ◌≤◌, List, map, length, get_or, set, slice_get, Some, None, Ok, refl, ap, sym, subst, ◌∙◌, arith}
 use Rattle.std.proofs.lemmas.List.{length-replicate}
+use Rattle.std.proofs.lemmas.List.Sums.{sum_by-le}
 use Rattle.std.proofs.lemmas.Option.{get_or_from_slice_get}
 use Rattle.std.proofs.lemmas.Simd.{map-map}
 use Rattle.std.proofs.Math.ListN.{length-map, get_or-map}
 use Rattle.std.proofs.lemmas.List.{get_or-set_same}
+use Rattle.std.specs.List.{All, sum_by}
 use Rattle.std.specs.List.Sorted.{IsStrictlyIncreasing}
 use Rattle.block_pool.specs.Blocks.{Blocks, all_free, free_block, size_of}
 use Rattle.block_bodies.specs.Changes.{SameSizes}
@@ -19,16 +21,18 @@ use Rattle.upload_book.specs.PlainBook.{PlainBook, answer_of, book_after, openin
 use Rattle.upload_book.specs.Settings.{Settings, settings_fault}
 use Rattle.upload_book.specs.Store.{Store, IsVisibleIn, no_upload, plain_in, part_at, shelf_at, entry_at, upload_at, with_upload, without_upload}
 use Rattle.upload_book.specs.Stored.{Shelf, entry_of, part_of}
+use Rattle.upload_book.specs.Sweep.{book_after_sweep, part_after_sweep, swept_blocks}
 use Rattle.upload_book.specs.TenantBook.{TenantBook, Entry, kept_in, opening_part, visible_upload, with_changed, with_new}
 use Rattle.upload_book.specs.Terminate.{without, given_back}
 use Rattle.upload_book.specs.Upload.{Upload}
 use Rattle.upload_book.proofs.BookLemmas.{book_with, IsLawful-create, IsTenantOf-book, with_tenant_book-less, with_tenant_book-same}
 use Rattle.upload_book.proofs.ChargeLemmas.{charge-create}
 use Rattle.upload_book.proofs.Entries.{kept_in-All, visible_in-Ok, with_kept-place, without-place}
-use Rattle.upload_book.proofs.LawfulFewer.{IsLawful-without, charge-terminate}
+use Rattle.upload_book.proofs.LawfulFewer.{IsLawful-sweep, IsLawful-without, charge-terminate, swept-total}
 use Rattle.upload_book.proofs.LawfulSteps.{HasLawfulTexts, IsLawful-opening}
 use Rattle.upload_book.proofs.Outcomes.{part_after_create-none}
 use Rattle.upload_book.proofs.RoomLemmas.{released-within}
+use Rattle.upload_book.proofs.SettingsLemmas.{tenants-within, uploads-within}
 
 -- a tenant's part of the plain book is its shelf as the plain book has it
 pub part-plain : (b : StoredBook) (t : ℕ) → tenant_book (plain_of b) t ≡ part_at b.store t
@@ -208,6 +212,47 @@ plain-removes b s t id freed f =
 pub removes-within : (b : StoredBook) (s : Store) (t id freed : ℕ) → Removes b s t id freed → b.released + freed ≤ b.charged
 removes-within b s t id freed f =
     omega (arith, removes-freed b s t id freed f, released-within (plain_of b) t (without (tenant_book (plain_of b) t) id) f.kept.lawful (part-within b t f.within))
+
+-- the tenants have few uploads
+pub uploads-few : (b : StoredBook) → IsBook b → sum_by (λ (part : TenantBook). length part.uploads) (plain_in b.store) ≤ 1024
+uploads-few b kept =
+    let each : All (λ (part : TenantBook). length part.uploads ≤ 64) (plain_in b.store) =
+    λ k d within. omega (arith, (kept.lawful.tenants k d within).few, uploads-within b.settings kept.lawful.settings) in
+    omega (arith, sum_by-le (λ (part : TenantBook). length part.uploads) 64 (plain_in b.store) each, parts-shelves b.store, shelves-settings b kept, tenants-within b.settings kept.lawful.settings)
+
+-- a sweep of the store, and the blocks that became free
+pub record Sweeps (b : StoredBook) (s : Store) (now blocks : ℕ) : Type 0 where
+  pub kept : IsBook b
+  pub plain : plain_in s ≡ map {A = TenantBook} {B = TenantBook} (part_after_sweep now) (plain_in b.store)
+  pub freed : blocks ≡ sum_by (λ (part : TenantBook). charge_with b.store.pool.block_size part - charge_with b.store.pool.block_size (part_after_sweep now part)) (plain_in b.store)
+  pub sizes : SameSizes b.store.pool s.pool
+  pub room : s.room ≡ b.store.room
+
+-- they are those of the plain book
+sweeps-freed : (b : StoredBook) (s : Store) (now blocks : ℕ) → Sweeps b s now blocks → blocks ≡ swept_blocks (plain_of b) now
+sweeps-freed b s now blocks f =
+    f.freed ∙ ap (λ size. sum_by (λ (part : TenantBook). charge_with size part - charge_with size (part_after_sweep now part)) (plain_in b.store)) f.kept.size
+
+-- what is released is within what was charged
+pub sweeps-within : (b : StoredBook) (s : Store) (now blocks : ℕ) → Sweeps b s now blocks → b.released + blocks ≤ b.charged
+sweeps-within b s now blocks f =
+    less _ _ _ _ _ _ (sweeps-freed b s now blocks f) f.kept.lawful.totals (swept-total b.settings.numbers now (plain_in b.store))
+  where
+    less : (released blocks back charged all left : ℕ) → blocks ≡ back → charged ≡ released + all → left + back ≡ all → released + blocks ≤ charged
+    less released blocks back charged all left is total sums = omega arith
+
+-- it leaves a book
+pub IsBook-sweeps : (b : StoredBook) (s : Store) (now blocks : ℕ) → Sweeps b s now blocks → IsBook (stored_with b s b.charged (b.released + blocks))
+IsBook-sweeps b s now blocks f =
+    let after : plain_of (stored_with b s b.charged (b.released + blocks)) ≡ book_after_sweep (plain_of b) now =
+    ap (λ tenants. book_with (plain_of b) tenants b.charged (b.released + blocks)) f.plain
+    ∙ ap (λ n. book_with (plain_of b) (map {A = TenantBook} {B = TenantBook} (part_after_sweep now) (plain_in b.store)) b.charged (b.released + n)) (sweeps-freed b s now blocks f) in
+    record {
+      lawful = subst IsLawful (sym after) (IsLawful-sweep (plain_of b) now f.kept.lawful);
+      size = f.sizes.bytes ∙ f.kept.size;
+      blocks = f.sizes.blocks ∙ f.kept.blocks;
+      room = f.room ∙ f.kept.room;
+    }
 
 -- The upload at a place that a request sees.
 module _ (b : StoredBook) (t id place now : ℕ) (kept : IsBook b) (within : t < length b.store.shelves) (seen : IsVisibleIn b.store t id now place) where

@@ -39,3 +39,4 @@ pub mod StoreOpen
 pub mod StoreRenew
 pub mod BookSteps
 pub mod PatchSteps
+pub mod SweepSteps

@@ -1,5 +1,5 @@
 -- What settings with no fault keep.
-use Rattle.std.proofs.Common.{◌≡◌, ℕ, ◌<◌, ◌≤◌, Bool, false, ltb, List, [], ◌∷◌, ◌++◌, None, arith}
+use Rattle.std.proofs.Common.{◌≡◌, ℕ, ◌<◌, ◌≤◌, Bool, false, ltb, List, [], ◌∷◌, ◌++◌, length, None, arith}
 use Rattle.std.specs.List.{sum_by}
 use Rattle.std.specs.Prelude.{⊤}
 use Rattle.std.proofs.lemmas.Bool.Decides.{nat_tests}
@@ -61,3 +61,17 @@ block_size-some s h =
   where
     some : (n most : ℕ) → is_outside n most ≡ false → 0 < n
     some n most test = grind (arith, nat_tests)
+
+-- a tenant has few uploads
+pub uploads-within : (s : Settings) → settings_fault s ≡ None → s.numbers.uploads ≤ 64
+uploads-within s h =
+    let tests = number_tests s.numbers ++ tenant_tests s.numbers.blocks s.tenants in
+    let holds : NoneHolds tests = none_holds tests h in
+    within s.numbers.uploads 64 holds.1.1.1.1.1.0
+
+-- there are few tenants
+pub tenants-within : (s : Settings) → settings_fault s ≡ None → length s.tenants ≤ 16
+tenants-within s h =
+    let tests = number_tests s.numbers ++ tenant_tests s.numbers.blocks s.tenants in
+    let holds : NoneHolds tests = none_holds tests h in
+    within (length s.tenants) 16 holds.1.1.1.1.1.1.1.0
