@@ -33,3 +33,4 @@ pub mod LawfulFewer
 pub mod Outcomes
 pub mod BookLemmas
 pub mod RoomLemmas
+pub mod BookSteps

@@ -1,10 +1,11 @@
 -- The uploads of all tenants, in blocks of one pool.
-use Rattle.std.specs.Prelude.{◌≡◌, ◌≢◌, ℕ, ◌<◌, List, [], ◌∷◌, ◌++◌, map, length, get_or, set, Option, None, Contains, Ok}
+use Rattle.std.specs.Prelude.{◌≡◌, ◌≢◌, ℕ, ◌<◌, List, [], ◌∷◌, ◌++◌, map, length, get_or, set, Option, None, All, Ok}
 use Rattle.std.specs.List.{remove}
+use Rattle.std.specs.List.Sorted.{IsStrictlyIncreasing}
 use Rattle.block_pool.specs.Blocks.{Blocks}
 use Rattle.block_bodies.specs.Bodies.{Chain}
 use Rattle.upload_book.specs.declared.head_row.Kind.TheVariants.{Plain, Final}
-use Rattle.upload_book.specs.Stored.{Shelf, StoredUpload, Piece, HasOwnPiece, own_chain, part_of, upload_of}
+use Rattle.upload_book.specs.Stored.{Shelf, StoredUpload, HasOwnPiece, own_chain, part_of, upload_of}
 use Rattle.upload_book.specs.TenantBook.{TenantBook, TenantPart, Entry, opening_part, visible_upload}
 use Rattle.upload_book.specs.Upload.{Upload, content_of}
 
@@ -55,12 +56,12 @@ with_bytes u bytes declared expires = record u {
   expires = expires;
 }
 
--- The upload at a place is the only one with pieces of its origin, and it is not a final one: so nobody else
--- sees what is written after its bytes.
+-- No other upload has the bytes of the upload at a place: it is not a final one, it alone has its id, and no
+-- final one has it as a part. So nobody else sees what is written after its bytes.
 pub record IsAlone (s : Store) (tenant place : ℕ) : Type 0 where
   pub own : (entry_at s tenant place).kept.kind ≢ Final
-  pub alone : (k : ℕ) → k < length (shelf_at s tenant).uploads → k ≢ place
-      → (x : Piece) → Contains (entry_at s tenant k).kept.pieces x → x.origin ≢ (entry_at s tenant place).id
+  pub ids : IsStrictlyIncreasing (map {A = Entry Upload} {B = ℕ} (λ e. e.id) (part_at s tenant).uploads)
+  pub parts : All (λ e. e.kept.kind ≡ Final → All (λ o. o ≢ (entry_at s tenant place).id) e.kept.parts) (part_at s tenant).uploads
 
 -- a new upload that has no bytes, under the next id of the tenant
 pub record IsNew (s : Store) (tenant : ℕ) (e : Entry StoredUpload) : Type 0 where

@@ -1,12 +1,10 @@
-ghost use Rattle.std.specs.Prelude.{◌≡◌, ◌<◌, ℕ, Err, IsOk, OnOk, OnErr, length};
-ghost use Rattle.upload_book.specs.Account.{account_in, blocks_added};
-ghost use Rattle.upload_book.specs.Append.{append_answer, append_lacking, appended_upload, part_after_append, telling, told, upload_with};
+ghost use Rattle.std.specs.Prelude.{◌≡◌, ◌<◌, OnOk, OnErr, length};
+ghost use Rattle.upload_book.specs.Append.{append_answer, append_lacking, part_after_append};
 ghost use Rattle.upload_book.specs.Book.{plain_of};
 ghost use Rattle.upload_book.specs.Operation.{MayLackMemory};
 ghost use Rattle.upload_book.specs.declared.operation.Operation.TheVariants as operation;
-ghost use Rattle.upload_book.specs.PlainBook.{answer_of, book_after, tenant_book};
-ghost use Rattle.upload_book.specs.Store.{entry_at, upload_at, IsVisibleIn};
-ghost use Rattle.upload_book.specs.TenantBook.{with_changed};
+ghost use Rattle.upload_book.specs.PlainBook.{answer_of, book_after};
+ghost use Rattle.upload_book.specs.Store.{IsVisibleIn};
 ghost use Rattle.upload_book.specs.Refusal.{IsAnswer};
 
 use crate::book::Book;
@@ -79,7 +77,7 @@ impl Book {
         ensures refused { OnErr result (self.new ≡ self.old) }
     {
         match self.store.place(name, now) {
-            Ok(place) => self.append_at(name.tenant, place, &chunk, now),
+            Ok(place) => self.append_at(name, place, &chunk, now),
             Err(refusal) => Err(Refused {
                 refusal,
                 expires: None,
@@ -87,31 +85,30 @@ impl Book {
         }
     }
 
-    // Adds the bytes of a PATCH at the end of the upload at a place.
+    // Adds the bytes of a PATCH at the end of the upload that it sees, which stands at this place.
     fn append_at(
         &mut self,
-        tenant: u8,
+        name: &Name,
         place: usize,
         chunk: &Chunk,
         now: Moment,
     ) -> Result<Appended, Refused>
-        requires { (id : ℕ) × IsVisibleIn self.old.store tenant id now place }
+        requires tenant { name.now.tenant < length self.old.settings.tenants }
+        requires visible { IsVisibleIn self.old.store name.now.tenant name.now.id now place }
         ensures answer { IsAnswer
-            (told (telling (upload_at self.old.store tenant place).expires (appended_at self.old tenant place chunk.now now)))
-            (IsOk (appended_at self.old tenant place chunk.now now)
-            × (0 < blocks_added self.old.settings.numbers chunk.now.offset (length chunk.now.bytes)))
-            (Err (record {
-              refusal = Refusal.Memory;
-              expires = (upload_at self.old.store tenant place).expires;
-            })) result }
-        ensures accepted { OnOk result (plain_of self.new ≡ book_after (plain_of self.old) tenant (λ n part.
-            with_changed part (entry_at self.old.store tenant place).id
-            (upload_with n (upload_at self.old.store tenant place) chunk.now now))) }
+            (answer_of (plain_of self.old) name.now.tenant
+            (append_answer name.now.id chunk.now now (plain_of self.old).charged))
+            (MayLackMemory (plain_of self.old) (operation.Append name.now chunk.now) now)
+            (answer_of (plain_of self.old) name.now.tenant (append_lacking name.now.id now)) result }
+        ensures accepted { OnOk result (plain_of self.new ≡ book_after (plain_of self.old)
+            name.now.tenant
+            (part_after_append name.now.id chunk.now now (plain_of self.old).charged)) }
         ensures refused { OnErr result (self.new ≡ self.old) }
     {
-        let at = usize::from(tenant);
-        let standing = self.store.standing(at, place);
-        let account = self.account(tenant);
+        let bytes = chunk.bytes;
+        let account = self.account(name.tenant);
+        let tenant = usize::from(name.tenant);
+        let standing = self.store.standing(tenant, place);
         let numbers = self.settings.numbers();
         if let Some(refusal) = append_refusal(numbers, &account, &standing, chunk) {
             return Err(Refused {
@@ -120,25 +117,29 @@ impl Book {
             });
         }
         let after = standing.with(numbers, chunk, now);
-        if chunk.bytes.is_empty() {
-            self.store.renew(at, place, after.declared, after.expires);
-        } else {
-            match self
-                .store
-                .append(at, place, chunk.bytes, after.declared, after.expires)
-            {
-                Ok(taken) => self.charged += taken,
-                Err(_) => {
-                    return Err(Refused {
-                        refusal: Refusal::Memory,
-                        expires: standing.expires,
-                    });
-                }
-            }
+        if bytes.is_empty() {
+            self.store
+                .renew(tenant, place, after.declared, after.expires);
+            return Ok(Appended {
+                offset: after.offset,
+                expires: after.expires,
+            });
         }
-        Ok(Appended {
-            offset: after.offset,
-            expires: after.expires,
-        })
+        match self
+            .store
+            .append(tenant, place, bytes, after.declared, after.expires)
+        {
+            Ok(taken) => {
+                self.charged += taken;
+                Ok(Appended {
+                    offset: after.offset,
+                    expires: after.expires,
+                })
+            }
+            Err(_) => Err(Refused {
+                refusal: Refusal::Memory,
+                expires: standing.expires,
+            }),
+        }
     }
 }

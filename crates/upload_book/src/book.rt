@@ -99,7 +99,7 @@ impl Book {
 
     // The account of the tenant at this place.
     pub(crate) fn account(&self, tenant: u8) -> Account
-        requires { tenant < length (plain_of self.now).tenants }
+        requires { tenant < length (plain_of self.now).settings.tenants }
         ensures { result ≡ account_in (plain_of self.now).settings.numbers
             (tenant_book (plain_of self.now) tenant) (plain_of self.now).charged }
     {

@@ -52,7 +52,7 @@ pub(crate) fn append_refusal(
     standing: &Standing,
     chunk: &Chunk,
 ) -> Option<Refusal>
-    requires short { standing.now.offset + length chunk.now.bytes < 2 ^ 63 }
+    requires short { standing.now.offset + length chunk.now.bytes < 2 ^ 64 }
     requires blocks { 0 < numbers.now.block_size }
     requires quota { account.now.charge ≤ account.now.quota }
     requires charged { account.now.charged ≤ numbers.now.last_total }

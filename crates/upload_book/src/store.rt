@@ -1,8 +1,10 @@
-ghost use Rattle.std.specs.Prelude.{◌≡◌, ◌≢◌, ◌+◌, ◌<◌, ◌≤◌, ◌^◌, [], length, map, set, IfOk, IfErr, IsOk, OnOk, OnErr};
+ghost use Rattle.std.specs.Prelude.{◌≡◌, ◌≢◌, ◌+◌, ◌<◌, ◌≤◌, ◌^◌, [], length, map, set, None, IfOk, IfErr, IsOk, OnOk, OnErr};
 ghost use Rattle.std.specs.List.{sum_by};
 ghost use Rattle.block_pool.specs.Blocks.{IsWithinLimits, all_free, free_in, size_of};
 ghost use Rattle.upload_book.specs.Account.{blocks_between};
 ghost use Rattle.upload_book.specs.Charge.{charge_with};
+ghost use Rattle.upload_book.specs.declared.head_row.Kind.TheVariants.{Final};
+ghost use Rattle.upload_book.specs.Settings.{settings_fault};
 ghost use Rattle.upload_book.specs.Standing.{standing_in};
 ghost use Rattle.upload_book.specs.Store.{plain_in, shelf_at, part_at, entry_at, upload_at, with_bytes, with_upload, without_upload, IsAlone, IsNew, IsVisibleIn};
 ghost use Rattle.upload_book.specs.Stored.{upload_of};
@@ -45,11 +47,12 @@ impl Store {
     /// The store with no upload, with a part for each tenant of the settings. All its memory is taken here,
     /// but for the lists of the blocks of its uploads; the error is that there was too little.
     pub(crate) fn new(alloc: Global, settings: &Settings) -> Result<Store, AllocError>
-        ensures { IfOk result (λ s. s ≡ record {
+        ensures value { IfOk result (λ s. s ≡ record {
           pool = all_free settings.now.numbers.blocks settings.now.numbers.block_size;
           shelves = map (λ t. opening_part t.quota) settings.now.tenants;
           room = settings.now.numbers.uploads;
         }) }
+        ensures sound { settings_fault settings.now ≡ None }
     {
         let numbers = settings.numbers();
         let pool = Pool::new(alloc, numbers.blocks as u32, numbers.block_size as u32)?;
@@ -178,7 +181,7 @@ impl Store {
     )
         requires tenant { tenant < length self.old.shelves }
         requires place { place < length (shelf_at self.old tenant).uploads }
-        requires own { (entry_at self.old tenant place).kept.kind ≢ Kind.Final }
+        requires own { (entry_at self.old tenant place).kept.kind ≢ Final }
         ensures plain { plain_in self.new ≡ set (plain_in self.old) tenant
             (with_upload (part_at self.old tenant) place (record {
               id = (entry_at self.old tenant place).id;
@@ -207,8 +210,9 @@ impl Store {
         requires tenant { tenant < length self.old.shelves }
         requires place { place < length (shelf_at self.old tenant).uploads }
         requires alone { IsAlone self.old tenant place }
-        requires free { blocks_between self.old.pool.block_size (offset_of (upload_at self.old tenant place))
-            (length bytes.now) ≤ free_in self.old.pool }
+        requires room { sum_by (charge_with self.old.pool.block_size) (plain_in self.old)
+            + blocks_between self.old.pool.block_size (offset_of (upload_at self.old tenant place)) (length bytes.now)
+            ≤ size_of self.old.pool }
         ensures plain { OnOk result (plain_in self.new ≡ set (plain_in self.old) tenant
             (with_upload (part_at self.old tenant) place (record {
               id = (entry_at self.old tenant place).id;
@@ -219,6 +223,7 @@ impl Store {
         ensures charge { IfOk result (λ n. charge_with self.old.pool.block_size (part_at self.new tenant)
             ≡ charge_with self.old.pool.block_size (part_at self.old tenant) + n) }
         ensures sizes { SameSizes self.old.pool self.new.pool }
+        ensures room_stays { self.new.room ≡ self.old.room }
         ensures memory { OnErr result (0 < blocks_between self.old.pool.block_size
             (offset_of (upload_at self.old tenant place)) (length bytes.now)) }
         ensures unchanged { OnErr result (self.new ≡ self.old) }
@@ -241,6 +246,7 @@ impl Store {
             ≡ charge_with self.old.pool.block_size (part_at self.old tenant) }
         ensures free { free_in self.new.pool ≡ free_in self.old.pool + result }
         ensures sizes { SameSizes self.old.pool self.new.pool }
+        ensures room_stays { self.new.room ≡ self.old.room }
     {
         let shelf = &mut self.shelves[tenant];
         let freed = shelf.uploads.remove(place).give_back(&mut self.pool);
