@@ -83,7 +83,7 @@ sources-differ n account part id u chunk sound there can some =
     differs a b test = λ same. (grind (arith, nat_tests))
 
 -- no byte takes no more blocks
-blocks_between-none : (size offset more : ℕ) → more ≡ 0 → blocks_between size offset more ≡ 0
+pub blocks_between-none : (size offset more : ℕ) → more ≡ 0 → blocks_between size offset more ≡ 0
 blocks_between-none size offset more none =
     let end : blocks_for size (offset + more) ≡ blocks_for size offset = ap (blocks_for size) (omega arith) in
     nothing _ _ end

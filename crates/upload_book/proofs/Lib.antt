@@ -34,3 +34,4 @@ pub mod Outcomes
 pub mod BookLemmas
 pub mod RoomLemmas
 pub mod BookSteps
+pub mod PatchSteps

@@ -56,9 +56,11 @@ pub(crate) fn append_refusal(
     requires blocks { 0 < numbers.now.block_size }
     requires quota { account.now.charge ≤ account.now.quota }
     requires charged { account.now.charged ≤ numbers.now.last_total }
-    ensures { result ≡ append_refusal numbers.now account.now (row_at standing.now) chunk.now }
+    ensures value { result ≡ append_refusal numbers.now account.now (row_at standing.now) chunk.now }
+    ensures last { numbers.now.last_total < 2 ^ 64 }
 {
     let max_size = numbers.max_size;
+    let last_total = numbers.last_total;
     let most = standing.declared.or(chunk.length).unwrap_or(max_size);
     let end = standing.offset + chunk.bytes.len() as u64;
     let size = numbers.block_size;
@@ -73,7 +75,7 @@ pub(crate) fn append_refusal(
         Some(Refusal::LengthFixed)
     } else if most > max_size || end > most {
         Some(Refusal::TooLong)
-    } else if added > numbers.last_total - account.charged {
+    } else if added > last_total - account.charged {
         Some(Refusal::Spent)
     } else if added > account.quota - account.charge {
         Some(Refusal::Quota)
