@@ -79,6 +79,73 @@ fn refused(rt: &impl Abort, refusal: Refusal, expires: Option<u64>) -> Result<Ap
     })
 }
 
+// The name of an upload of acme.
+fn acme(id: u64) -> Name {
+    Name { tenant: 0, id }
+}
+
+// The name of an upload of beta.
+fn beta(id: u64) -> Name {
+    Name { tenant: 1, id }
+}
+
+// The name of a new upload of a tenant, of this length and with these bytes.
+fn put(
+    rt: &impl Abort,
+    book: &mut Book,
+    tenant: &[u8],
+    length: u64,
+    bytes: &[u8],
+    secs: u64,
+) -> Result<Name, Refusal> {
+    let tenant = book.settings().tenant(tenant).expect(rt, "a tenant");
+    let new = NewUpload {
+        partial: false,
+        length: Some(length),
+        metadata: b"",
+        concat: b"",
+    };
+    let name = book.create(tenant, new, moment(rt, secs))?.name;
+    let chunk = Chunk {
+        offset: 0,
+        length: None,
+        typed: true,
+        bytes,
+    };
+    match book.append(&name, chunk, moment(rt, secs)) {
+        Ok(_) => Ok(name),
+        Err(refused) => Err(refused.refusal),
+    }
+}
+
+// What acme and beta pay, and how many blocks are free.
+fn paid(rt: &impl Abort, book: &Book) -> (u64, u64, u64) {
+    let acme = book.settings().tenant(b"acme").expect(rt, "acme");
+    let beta = book.settings().tenant(b"beta").expect(rt, "beta");
+    (book.charge(acme), book.charge(beta), book.free_blocks())
+}
+
+// The blocks that were charged so far, and those of them that were released.
+fn totals(book: &Book) -> (u64, u64) {
+    (book.charged_total(), book.released_total())
+}
+
+// The bytes that a GET gave.
+fn told<'a>(content: &'a Result<Content, Refusal>) -> Result<&'a [u8], Refusal> {
+    match content {
+        Ok(content) => Ok(content.as_slice()),
+        Err(refusal) => Err(*refusal),
+    }
+}
+
+fn swept(uploads: u64, blocks: u64) -> Swept {
+    Swept {
+        uploads,
+        blocks,
+        released: blocks,
+    }
+}
+
 // The offset and the length that a HEAD of an upload of acme tells.
 fn head(rt: &impl Abort, book: &Book, id: u64, secs: u64) -> Result<(u64, Option<u64>), Refusal> {
     let row = book.look(&Name { tenant: 0, id }, moment(rt, secs))?;
@@ -214,11 +281,7 @@ fn contents(rt: HostRuntime) -> Result<(), Fail> {
     for (id, secs, expected) in rows {
         let name = Name { tenant: 0, id };
         let content = book.content(&name, moment(&rt, secs));
-        let told = match &content {
-            Ok(content) => Ok(content.as_slice()),
-            Err(refusal) => Err(*refusal),
-        };
-        assert_eq!(rt; told, expected);
+        assert_eq!(rt; told(&content), expected);
     }
     let finished = patch(&rt, &mut book, 1, 0, b"abcde", 1000);
     assert_eq!(rt; finished, appended(&rt, 5, None));
@@ -287,6 +350,360 @@ fn refused_creations(rt: HostRuntime) -> Result<(), Fail> {
         created(&rt, 1, Some(4600))
     );
     assert_eq!(rt; post(&rt, &mut book, Some(1), 1000), Err(Refusal::Spent));
+    Ok(())
+}
+
+#[test]
+fn charges_go_by_blocks(rt: HostRuntime) -> Result<(), Fail> {
+    let mut book = book_of(rt, NUMBERS)?;
+    assert_eq!(rt;
+        post(&rt, &mut book, Some(10), 1000),
+        created(&rt, 1, Some(4600))
+    );
+    assert_eq!(rt; paid(&rt, &book), (0, 0, 12));
+    let first = patch(&rt, &mut book, 1, 0, b"hello", 1000);
+    assert_eq!(rt; first, appended(&rt, 5, Some(4600)));
+    assert_eq!(rt; paid(&rt, &book), (2, 0, 10));
+    assert_eq!(rt; totals(&book), (2, 0));
+    let last = patch(&rt, &mut book, 1, 5, b"world", 1000);
+    assert_eq!(rt; last, appended(&rt, 10, None));
+    assert_eq!(rt; paid(&rt, &book), (3, 0, 9));
+    assert_eq!(rt; totals(&book), (3, 0));
+    Ok(())
+}
+
+// The last block of a quota is filled to its last byte, and no further.
+#[test]
+fn a_quota_is_filled(rt: HostRuntime) -> Result<(), Fail> {
+    let mut book = book_of(rt, NUMBERS)?;
+    assert_eq!(rt;
+        post(&rt, &mut book, Some(33), 1000),
+        created(&rt, 1, Some(4600))
+    );
+    let rows = [
+        (
+            0,
+            b"abcdefghijklmnopqrstuvwxyz0123".as_slice(),
+            appended(&rt, 30, Some(4600)),
+            30,
+        ),
+        (30, b"45".as_slice(), appended(&rt, 32, Some(4600)), 32),
+        (
+            32,
+            b"6".as_slice(),
+            refused(&rt, Refusal::Quota, Some(4600)),
+            32,
+        ),
+    ];
+    for (offset, bytes, answer, after) in rows {
+        assert_eq!(rt; patch(&rt, &mut book, 1, offset, bytes, 1000), answer);
+        assert_eq!(rt; head(&rt, &book, 1, 1000), Ok((after, Some(33))));
+        assert_eq!(rt; paid(&rt, &book), (8, 0, 4));
+        assert_eq!(rt; totals(&book), (8, 0));
+    }
+    Ok(())
+}
+
+// With no block free, the quota refuses before the pool could.
+#[test]
+fn quotas_fill_the_pool(rt: HostRuntime) -> Result<(), Fail> {
+    let mut book = book_of(rt, NUMBERS)?;
+    let of_beta = put(&rt, &mut book, b"beta", 16, b"0123456789abcdef", 1000)?;
+    assert_eq!(rt; of_beta, beta(1));
+    assert_eq!(rt; paid(&rt, &book), (0, 4, 8));
+    let long = b"abcdefghijklmnopqrstuvwxyz012345";
+    assert_eq!(rt; put(&rt, &mut book, b"acme", 32, long, 1000)?, acme(1));
+    assert_eq!(rt; paid(&rt, &book), (8, 4, 0));
+    for (tenant, id) in [(b"acme", 2), (b"beta", 2)] {
+        let more = put(&rt, &mut book, tenant, 1, b"x", 1000);
+        assert_eq!(rt; more, Err(Refusal::Quota));
+        let place = book.settings().tenant(tenant).ok_or("a tenant")?;
+        let name = Name { tenant: place, id };
+        let row = book.look(&name, moment(&rt, 1000))?;
+        assert_eq!(rt; (row.offset, row.declared), (0, Some(1)));
+    }
+    assert_eq!(rt; paid(&rt, &book), (8, 4, 0));
+    assert_eq!(rt; totals(&book), (12, 0));
+    Ok(())
+}
+
+// What was charged once counts for ever, also where the blocks are free again.
+#[test]
+fn charges_are_spent(rt: HostRuntime) -> Result<(), Fail> {
+    let two_blocks = Numbers {
+        last_total: 2,
+        ..NUMBERS
+    };
+    let mut book = book_of(rt, two_blocks)?;
+    for id in [1, 2] {
+        let made = post(&rt, &mut book, Some(10), 1000);
+        assert_eq!(rt; made, created(&rt, id, Some(4600)));
+    }
+    let first = patch(&rt, &mut book, 1, 0, b"hello", 1000);
+    assert_eq!(rt; first, appended(&rt, 5, Some(4600)));
+    let second = patch(&rt, &mut book, 2, 0, b"x", 1000);
+    assert_eq!(rt; second, refused(&rt, Refusal::Spent, Some(4600)));
+    assert_eq!(rt; head(&rt, &book, 2, 1000), Ok((0, Some(10))));
+    assert_eq!(rt; paid(&rt, &book), (2, 0, 10));
+    let in_the_block = patch(&rt, &mut book, 1, 5, b"wor", 1000);
+    assert_eq!(rt; in_the_block, appended(&rt, 8, Some(4600)));
+    let removed = book.terminate(&acme(1), moment(&rt, 1000))?;
+    assert_eq!(rt; (removed.blocks, removed.released), (2, 2));
+    let again = patch(&rt, &mut book, 2, 0, b"x", 1000);
+    assert_eq!(rt; again, refused(&rt, Refusal::Spent, Some(4600)));
+    assert_eq!(rt; paid(&rt, &book), (0, 0, 12));
+    assert_eq!(rt; totals(&book), (2, 2));
+    Ok(())
+}
+
+// Where several refusals apply to a PATCH, the answer is the first in their order.
+#[test]
+fn refusals_come_in_their_order(rt: HostRuntime) -> Result<(), Fail> {
+    for (last_total, refusal) in [(8, Refusal::Spent), (9, Refusal::Quota)] {
+        let numbers = Numbers {
+            last_total,
+            ..NUMBERS
+        };
+        let mut book = book_of(rt, numbers)?;
+        let long = b"abcdefghijklmnopqrstuvwxyz012345";
+        assert_eq!(rt; put(&rt, &mut book, b"acme", 32, long, 1000)?, acme(1));
+        assert_eq!(rt; put(&rt, &mut book, b"acme", 1, b"x", 1000), Err(refusal));
+        let past_length = patch(&rt, &mut book, 2, 0, b"xy", 1000);
+        assert_eq!(rt; past_length, refused(&rt, Refusal::TooLong, Some(4600)));
+    }
+    Ok(())
+}
+
+// An empty PATCH costs nothing, also where quota and total are used up.
+#[test]
+fn an_empty_patch_is_free(rt: HostRuntime) -> Result<(), Fail> {
+    let eight_blocks = Numbers {
+        last_total: 8,
+        ..NUMBERS
+    };
+    let mut book = book_of(rt, eight_blocks)?;
+    let long = b"abcdefghijklmnopqrstuvwxyz01";
+    assert_eq!(rt; put(&rt, &mut book, b"acme", 28, long, 1000)?, acme(1));
+    assert_eq!(rt; put(&rt, &mut book, b"acme", 10, b"hi", 1000)?, acme(2));
+    let complete = patch(&rt, &mut book, 1, 28, b"", 2000);
+    assert_eq!(rt; complete, appended(&rt, 28, None));
+    let renewed = patch(&rt, &mut book, 2, 2, b"", 2000);
+    assert_eq!(rt; renewed, appended(&rt, 2, Some(5600)));
+    assert_eq!(rt; paid(&rt, &book), (8, 0, 4));
+    assert_eq!(rt; totals(&book), (8, 0));
+    let content = book.content(&acme(1), moment(&rt, 2000));
+    assert_eq!(rt; told(&content), Ok(long.as_slice()));
+    Ok(())
+}
+
+#[test]
+fn an_upload_is_ended(rt: HostRuntime) -> Result<(), Fail> {
+    let mut book = book_of(rt, NUMBERS)?;
+    assert_eq!(rt; put(&rt, &mut book, b"acme", 10, b"hello", 1000)?, acme(1));
+    for name in [acme(0), acme(2), beta(1), Name { tenant: 2, id: 1 }] {
+        let unknown = book.terminate(&name, moment(&rt, 1000));
+        assert_eq!(rt; unknown, Err(Refusal::Unknown));
+    }
+    assert_eq!(rt; paid(&rt, &book), (2, 0, 10));
+    assert_eq!(rt; totals(&book), (2, 0));
+    let removed = book.terminate(&acme(1), moment(&rt, 1000));
+    assert_eq!(rt;
+        removed,
+        Ok(Removed {
+            blocks: 2,
+            released: 2,
+        })
+    );
+    assert_eq!(rt; head(&rt, &book, 1, 1000), Err(Refusal::Gone));
+    assert_eq!(rt; paid(&rt, &book), (0, 0, 12));
+    assert_eq!(rt; totals(&book), (2, 2));
+    let again = book.terminate(&acme(1), moment(&rt, 1000));
+    assert_eq!(rt; again, Err(Refusal::Gone));
+    assert_eq!(rt; put(&rt, &mut book, b"acme", 10, b"hi", 1000)?, acme(2));
+    let expired = book.terminate(&acme(2), moment(&rt, 4600));
+    assert_eq!(rt; expired, Err(Refusal::Gone));
+    assert_eq!(rt; paid(&rt, &book), (1, 0, 11));
+    assert_eq!(rt; totals(&book), (3, 2));
+    Ok(())
+}
+
+// A middle one of three uploads ends, and each of the others goes on with its own bytes.
+#[test]
+fn an_end_leaves_the_others(rt: HostRuntime) -> Result<(), Fail> {
+    let mut book = book_of(rt, NUMBERS)?;
+    assert_eq!(rt; put(&rt, &mut book, b"acme", 6, b"aaaaa", 1000)?, acme(1));
+    assert_eq!(rt; put(&rt, &mut book, b"acme", 6, b"bbbbb", 1000)?, acme(2));
+    assert_eq!(rt; put(&rt, &mut book, b"acme", 6, b"ccccc", 1000)?, acme(3));
+    let removed = book.terminate(&acme(2), moment(&rt, 1000))?;
+    assert_eq!(rt; (removed.blocks, removed.released), (2, 2));
+    assert_eq!(rt; paid(&rt, &book), (4, 0, 8));
+    for (id, bytes, whole) in [
+        (3, b"C".as_slice(), b"cccccC".as_slice()),
+        (1, b"A".as_slice(), b"aaaaaA".as_slice()),
+    ] {
+        let last = patch(&rt, &mut book, id, 5, bytes, 1000);
+        assert_eq!(rt; last, appended(&rt, 6, None));
+        let content = book.content(&acme(id), moment(&rt, 1000));
+        assert_eq!(rt; told(&content), Ok(whole));
+    }
+    assert_eq!(rt; paid(&rt, &book), (4, 0, 8));
+    Ok(())
+}
+
+// An ended upload leaves room among the greatest number of uploads.
+#[test]
+fn an_end_makes_room(rt: HostRuntime) -> Result<(), Fail> {
+    let one_upload = Numbers {
+        uploads: 1,
+        ..NUMBERS
+    };
+    let mut book = book_of(rt, one_upload)?;
+    for id in [1, 2, 3] {
+        let made = post(&rt, &mut book, Some(1), 1000);
+        assert_eq!(rt; made, created(&rt, id, Some(4600)));
+        assert_eq!(rt; post(&rt, &mut book, Some(1), 1000), Err(Refusal::Uploads));
+        let removed = book.terminate(&acme(id), moment(&rt, 1000))?;
+        assert_eq!(rt; (removed.blocks, removed.released), (0, 0));
+    }
+    assert_eq!(rt; totals(&book), (0, 0));
+    Ok(())
+}
+
+// The bytes of a pool that was filled, emptied, and filled again in other pieces are read back.
+#[test]
+fn a_pool_is_filled_again(rt: HostRuntime) -> Result<(), Fail> {
+    let mut book = book_of(rt, NUMBERS)?;
+    let long = b"abcdefghijklmnopqrstuvwxyz012345";
+    assert_eq!(rt; put(&rt, &mut book, b"acme", 32, long, 1000)?, acme(1));
+    let short = b"0123456789abcdef";
+    assert_eq!(rt; put(&rt, &mut book, b"beta", 16, short, 1000)?, beta(1));
+    assert_eq!(rt; paid(&rt, &book), (8, 4, 0));
+    for (name, bytes, blocks) in [
+        (acme(1), long.as_slice(), 8),
+        (beta(1), short.as_slice(), 4),
+    ] {
+        let content = book.content(&name, moment(&rt, 1000));
+        assert_eq!(rt; told(&content), Ok(bytes));
+        let removed = book.terminate(&name, moment(&rt, 1000))?;
+        assert_eq!(rt; (removed.blocks, removed.released), (blocks, blocks));
+    }
+    assert_eq!(rt; paid(&rt, &book), (0, 0, 12));
+    assert_eq!(rt; totals(&book), (12, 12));
+
+    assert_eq!(rt; put(&rt, &mut book, b"acme", 16, b"ABCDEF", 1000)?, acme(2));
+    assert_eq!(rt;
+        put(&rt, &mut book, b"beta", 16, b"abcdefg", 1000)?,
+        beta(2)
+    );
+    assert_eq!(rt; put(&rt, &mut book, b"acme", 13, b"--", 1000)?, acme(3));
+    for (id, offset, bytes, after, expires) in [
+        (2, 6, b"GHIJKLM".as_slice(), 13, Some(4600)),
+        (3, 2, b"+++++++++++".as_slice(), 13, None),
+        (2, 13, b"NOP".as_slice(), 16, None),
+    ] {
+        let answer = patch(&rt, &mut book, id, offset, bytes, 1000);
+        assert_eq!(rt; answer, appended(&rt, after, expires));
+    }
+    let chunk = Chunk {
+        offset: 7,
+        length: None,
+        typed: true,
+        bytes: b"hijklmnop",
+    };
+    let last = book.append(&beta(2), chunk, moment(&rt, 1000));
+    assert_eq!(rt; last, appended(&rt, 16, None));
+    assert_eq!(rt; paid(&rt, &book), (8, 4, 0));
+    assert_eq!(rt; totals(&book), (24, 12));
+    for (name, bytes) in [
+        (acme(2), b"ABCDEFGHIJKLMNOP".as_slice()),
+        (beta(2), b"abcdefghijklmnop".as_slice()),
+        (acme(3), b"--+++++++++++".as_slice()),
+    ] {
+        let content = book.content(&name, moment(&rt, 1000));
+        assert_eq!(rt; told(&content), Ok(bytes));
+    }
+    Ok(())
+}
+
+// An expired upload costs its blocks until a sweep ends it.
+#[test]
+fn an_expired_upload_is_charged_until_a_sweep(rt: HostRuntime) -> Result<(), Fail> {
+    let mut book = book_of(rt, NUMBERS)?;
+    assert_eq!(rt; put(&rt, &mut book, b"acme", 10, b"hello", 1000)?, acme(1));
+    assert_eq!(rt; book.sweep(moment(&rt, 4599)), swept(0, 0));
+    assert_eq!(rt; head(&rt, &book, 1, 4599), Ok((5, Some(10))));
+    assert_eq!(rt; head(&rt, &book, 1, 4600), Err(Refusal::Gone));
+    assert_eq!(rt; paid(&rt, &book), (2, 0, 10));
+    assert_eq!(rt; totals(&book), (2, 0));
+    assert_eq!(rt; book.sweep(moment(&rt, 4600)), swept(1, 2));
+    assert_eq!(rt; paid(&rt, &book), (0, 0, 12));
+    assert_eq!(rt; totals(&book), (2, 2));
+    assert_eq!(rt; book.sweep(moment(&rt, 4600)), swept(0, 0));
+    assert_eq!(rt; head(&rt, &book, 1, 1000), Err(Refusal::Gone));
+    assert_eq!(rt; put(&rt, &mut book, b"acme", 10, b"hi", 4600)?, acme(2));
+    Ok(())
+}
+
+// Expired uploads of two tenants end in one sweep, and complete ones stay.
+#[test]
+fn a_sweep_goes_over_all_tenants(rt: HostRuntime) -> Result<(), Fail> {
+    let mut book = book_of(rt, NUMBERS)?;
+    assert_eq!(rt; put(&rt, &mut book, b"acme", 10, b"hello", 1000)?, acme(1));
+    assert_eq!(rt; put(&rt, &mut book, b"acme", 5, b"world", 1000)?, acme(2));
+    assert_eq!(rt; put(&rt, &mut book, b"beta", 1, b"!", 1000)?, beta(1));
+    assert_eq!(rt; put(&rt, &mut book, b"beta", 10, b"hi", 1000)?, beta(2));
+    assert_eq!(rt; paid(&rt, &book), (4, 2, 6));
+    assert_eq!(rt; book.sweep(moment(&rt, 4600)), swept(2, 3));
+    assert_eq!(rt; paid(&rt, &book), (2, 1, 9));
+    assert_eq!(rt; totals(&book), (6, 3));
+    for (name, expected) in [
+        (acme(1), Err(Refusal::Gone)),
+        (acme(2), Ok(b"world".as_slice())),
+        (beta(1), Ok(b"!".as_slice())),
+        (beta(2), Err(Refusal::Gone)),
+    ] {
+        let content = book.content(&name, moment(&rt, 253_402_300_799));
+        assert_eq!(rt; told(&content), expected);
+    }
+    Ok(())
+}
+
+// The first, the third and the last of five uploads end in one sweep. The others stay, each with its own
+// bytes, until they are complete or expire themselves.
+#[test]
+fn a_sweep_leaves_what_has_not_expired(rt: HostRuntime) -> Result<(), Fail> {
+    let mut book = book_of(rt, NUMBERS)?;
+    for (id, bytes, secs) in [
+        (1, b"a".as_slice(), 1000),
+        (2, b"bbbbb".as_slice(), 2000),
+        (3, b"ccccc".as_slice(), 1000),
+        (4, b"d".as_slice(), 2000),
+        (5, b"e".as_slice(), 1000),
+    ] {
+        let name = put(&rt, &mut book, b"acme", 6, bytes, secs)?;
+        assert_eq!(rt; name, acme(id));
+    }
+    assert_eq!(rt; paid(&rt, &book), (7, 0, 5));
+    assert_eq!(rt; book.sweep(moment(&rt, 4600)), swept(3, 4));
+    assert_eq!(rt; paid(&rt, &book), (3, 0, 9));
+    assert_eq!(rt; totals(&book), (7, 4));
+    for (id, row) in [
+        (1, Err(Refusal::Gone)),
+        (2, Ok((5, Some(6)))),
+        (3, Err(Refusal::Gone)),
+        (4, Ok((1, Some(6)))),
+        (5, Err(Refusal::Gone)),
+        (6, Err(Refusal::Unknown)),
+    ] {
+        assert_eq!(rt; head(&rt, &book, id, 4600), row);
+    }
+    let last = patch(&rt, &mut book, 2, 5, b"B", 4600);
+    assert_eq!(rt; last, appended(&rt, 6, None));
+    let content = book.content(&acme(2), moment(&rt, 4600));
+    assert_eq!(rt; told(&content), Ok(b"bbbbbB".as_slice()));
+    assert_eq!(rt; book.sweep(moment(&rt, 5600)), swept(1, 1));
+    assert_eq!(rt; paid(&rt, &book), (2, 0, 10));
+    assert_eq!(rt; totals(&book), (7, 5));
     Ok(())
 }
 
