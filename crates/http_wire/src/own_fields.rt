@@ -43,7 +43,7 @@ fn tells_version(reply: &Reply) -> bool
 // What is served beside the core protocol.
 fn extensions_in(reply: &Reply) -> &'static [u8]
     ensures text { result.now ≡ extensions_in reply.now }
-    ensures len { length result.now ≤ 41 }
+    ensures len { length result.now ≤ 53 }
 {
     match reply {
         Reply::Options { .. } => b"creation,creation-defer-length,expiration,termination",

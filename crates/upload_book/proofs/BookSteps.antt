@@ -1,5 +1,5 @@
 -- The plain book that a book over a store stands for, and what the book keeps where its store changes.
-use Rattle.std.proofs.Common.{◌≡◌, ℕ, ◌+◌, ◌-◌, ◌<◌, ◌≤◌, List, map, length, get_or, set, slice_get, Some, None, Ok, refl, ap, sym, subst, ◌∙◌, arith}
+use Rattle.std.proofs.Common.{◌≡◌, ℕ, ◌+◌, ◌-◌, ◌<◌, ◌≤◌, List, map, length, get_or, set, slice_get, Some, None, Ok, ap, sym, subst, ◌∙◌, arith}
 use Rattle.std.proofs.lemmas.List.{length-replicate}
 use Rattle.std.proofs.lemmas.List.Sums.{sum_by-le}
 use Rattle.std.proofs.lemmas.Option.{get_or_from_slice_get}
@@ -17,7 +17,7 @@ use Rattle.upload_book.specs.declared.settings.Numbers.{Numbers}
 use Rattle.upload_book.specs.declared.settings.TenantQuota.{TenantQuota}
 use Rattle.upload_book.specs.Lawful.{IsLawful, IsTenantOf, IsUploadOf}
 use Rattle.upload_book.specs.NewUpload.{NewUpload}
-use Rattle.upload_book.specs.PlainBook.{PlainBook, answer_of, book_after, opening_book, tenant_book, with_tenant_book}
+use Rattle.upload_book.specs.PlainBook.{answer_of, book_after, opening_book, tenant_book, with_tenant_book}
 use Rattle.upload_book.specs.Settings.{Settings, settings_fault}
 use Rattle.upload_book.specs.Store.{Store, IsVisibleIn, no_upload, plain_in, part_at, shelf_at, entry_at, upload_at, with_upload, without_upload}
 use Rattle.upload_book.specs.Stored.{Shelf, entry_of, part_of}

@@ -1,26 +1,21 @@
 -- Uploads as they are kept: which have a piece of their own, and their bytes and parts as the plain book has them.
-use Rattle.std.proofs.Common.{◌≡◌, ◌≢◌, ℕ, ◌≤◌, List, [], ◌∷◌, ◌++◌, map, length, get_or, refl, ap, sym, ◌∙◌, subst, arith, length-append}
+use Rattle.std.proofs.Common.{◌≡◌, ◌≢◌, ℕ, List, [], ◌∷◌, ◌++◌, map, length, refl, ap, sym, ◌∙◌, subst, arith, length-append}
 use Rattle.std.specs.List.{All, Contains, flat_map, sum_by}
-use Rattle.std.proofs.Math.ListN.{length-map}
-use Rattle.std.proofs.lemmas.List.{get_or-map, get_or_default}
 use Rattle.std.proofs.lemmas.List.Elements.{All-set, All-push}
 use Rattle.std.proofs.lemmas.List.Sums.{sum_by-cons}
 use Rattle.block_pool.specs.Blocks.{Blocks, IsPool}
 use Rattle.block_bodies.specs.Bodies.{Chain, content_of}
 use Rattle.block_bodies.proofs.BodiesLaws.{length-content_of}
 use Rattle.upload_book.specs.declared.head_row.Kind.TheVariants.{Final}
-use Rattle.upload_book.specs.declared.settings.Numbers.{Numbers}
-use Rattle.upload_book.specs.Charge.{charge_in}
-use Rattle.upload_book.specs.Stored.{Piece, Shelf, StoredUpload, upload_of, part_of, parts_of, charge_on, own_chain, HasOwnPiece, IsStored}
-use Rattle.upload_book.specs.TenantBook.{Entry, TenantBook, with_new}
+use Rattle.upload_book.specs.Stored.{Piece, Shelf, StoredUpload, upload_of, parts_of, own_chain, HasOwnPiece}
+use Rattle.upload_book.specs.TenantBook.{Entry, with_new}
 use Rattle.upload_book.specs.Upload.{content_of as upload_content_of, offset_of}
 use Rattle.upload_book.proofs.GoneLemmas.{piece-body}
 use Rattle.upload_book.proofs.InUse.{Contains-first, Contains-later}
 use Rattle.upload_book.proofs.Pieces.{IsEntry, with_entry, without, Segment, segment_of, Contains-entry}
-use Rattle.upload_book.proofs.PlainCharge.{charge-plain}
 use Rattle.upload_book.proofs.PutLemmas.{own_piece}
 use Rattle.upload_book.proofs.Pieces.{All-remove}
-use Rattle.upload_book.proofs.Shelves.{IsStoredOn, IsStoredOn-shelf}
+use Rattle.upload_book.proofs.Shelves.{IsStoredOn}
 
 -- an upload with one piece, sent to itself, has its own
 pub HasOwnPiece-from : (e : Entry StoredUpload) (x : Chain) → e.kept.pieces ≡ own_piece e.id x ∷ [] → HasOwnPiece e

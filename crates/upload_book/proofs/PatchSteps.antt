@@ -1,10 +1,9 @@
 -- What a book over a store keeps and tells where a PATCH of the upload at a place is not refused, and where it is.
-use Rattle.std.proofs.Common.{◌≡◌, ◌≢◌, ℕ, ◌+◌, ◌<◌, ◌≤◌, Bool, true, false, eqb, not, List, [], ◌∷◌, ◌++◌, map, length, set, Option, Some, None, Ok, Err, inl, inr, refl, ap, sym, subst, ◌∙◌, arith}
+use Rattle.std.proofs.Common.{◌≡◌, ◌≢◌, ℕ, ◌+◌, ◌<◌, ◌≤◌, false, List, [], length, set, Option, Some, None, Ok, Err, refl, ap, sym, subst, ◌∙◌, arith}
 use Rattle.std.specs.List.{All, sum_by}
 use Rattle.std.specs.Result.{IsOk}
 use Rattle.std.proofs.lemmas.Bool.{false≢true}
 use Rattle.std.proofs.lemmas.Bool.Decides.{nat_tests}
-use Rattle.std.proofs.Math.ListN.{length-map}
 use Rattle.block_pool.specs.Blocks.{size_of}
 use Rattle.block_bodies.specs.Changes.{SameSizes}
 use Rattle.upload_book.specs.Account.{account_in, blocks_added, blocks_between}
@@ -14,7 +13,6 @@ use Rattle.upload_book.specs.Charge.{charge_in, charge_with}
 use Rattle.upload_book.specs.Chunk.{Chunk}
 use Rattle.upload_book.specs.declared.account.Account.{Account}
 use Rattle.upload_book.specs.declared.append.Appended.{Appended}
-use Rattle.upload_book.specs.declared.append.Refused.{Refused}
 use Rattle.upload_book.specs.declared.head_row.Kind.{Kind}
 use Rattle.upload_book.specs.declared.head_row.Kind.TheVariants.{Plain, Partial, Final}
 use Rattle.upload_book.specs.declared.refusal.Refusal.{Refusal}
@@ -25,7 +23,7 @@ use Rattle.upload_book.specs.PlainBook.{book_after, tenant_book, with_tenant_boo
 use Rattle.upload_book.specs.Standing.{row_at, standing_in}
 use Rattle.upload_book.specs.Store.{Store, IsAlone, IsVisibleIn, plain_in, part_at, entry_at, upload_at, with_bytes, with_upload}
 use Rattle.upload_book.specs.TenantBook.{TenantBook, Entry, visible_upload, with_changed}
-use Rattle.upload_book.specs.Upload.{Upload, content_of, head_row_of, offset_of}
+use Rattle.upload_book.specs.Upload.{Upload, head_row_of, offset_of}
 use Rattle.upload_book.proofs.BookLemmas.{book_with, IsLawful-append, with_tenant_book-more}
 use Rattle.upload_book.proofs.BookSteps.{Follows, IsBook-follows, part-plain, part-sound, part-within, plain-follows, seen-changed, seen-kept, seen-sound, seen-upload, seen-visible, shelves-settings, stored_with}
 use Rattle.upload_book.proofs.AppendLemmas.{part_after_append-none}

@@ -1,8 +1,8 @@
 -- Where each tenant pays no more than its quota, and the quotas are no more than the pool has, a tenant finds
 -- free blocks for all that its quota leaves it.
-use Rattle.std.proofs.Common.{◌≡◌, ℕ, suc, ◌+◌, ◌≤◌, List, [], ◌∷◌, get_or, take, drop, ap, sym, arith}
+use Rattle.std.proofs.Common.{◌≡◌, ℕ, ◌+◌, ◌≤◌, List, [], ◌∷◌, get_or, ap, sym, arith}
 use Rattle.std.specs.List.{sum_by, All, remove}
-use Rattle.std.proofs.lemmas.List.Elements.{All-append, All-take, All-drop, All-head, All-tail}
+use Rattle.std.proofs.lemmas.List.Elements.{All-head, All-tail}
 use Rattle.std.proofs.lemmas.List.Sums.{sum_by-cons, sum_by-remove}
 use Rattle.block_pool.specs.Blocks.{Blocks, free_in, size_of}
 use Rattle.upload_book.specs.Stored.{Shelf, charge_on, IsStored}

@@ -1,5 +1,5 @@
 -- What a request sees of what is kept.
-use Rattle.std.proofs.Common.{◌≡◌, ℕ, ◌<◌, Bool, true, false, cond, eqb, List, [], ◌∷◌, map, length, get_or, Option, None, Some, Result, Ok, Err, refl, sym, ap, ◌∙◌, subst}
+use Rattle.std.proofs.Common.{◌≡◌, ℕ, Bool, true, false, cond, eqb, List, [], ◌∷◌, map, Option, None, Some, Result, Ok, Err, refl, ap, ◌∙◌, subst}
 use Rattle.std.specs.Option.{option_map}
 use Rattle.block_pool.specs.Blocks.{Blocks}
 use Rattle.upload_book.specs.declared.refusal.Refusal.{Refusal}
@@ -8,7 +8,7 @@ use Rattle.upload_book.specs.declared.shelf.Shelf.{Shelf as KeptShelf}
 use Rattle.upload_book.specs.declared.store.Store.TheInside.{Inside}
 use Rattle.upload_book.specs.Expiry.{is_over}
 use Rattle.upload_book.specs.Kept.{shelf_of, store_of, IsVisibleAt}
-use Rattle.upload_book.specs.Store.{Store, part_at, shelf_at, entry_at, no_upload, IsVisibleIn}
+use Rattle.upload_book.specs.Store.{Store, part_at, shelf_at, no_upload, IsVisibleIn}
 use Rattle.upload_book.specs.Stored.{Shelf, StoredUpload, entry_of, part_of, upload_of}
 use Rattle.upload_book.specs.TenantBook.{Entry, kept_in, is_given, visible, visible_in, visible_upload}
 use Rattle.upload_book.specs.Upload.{Upload}

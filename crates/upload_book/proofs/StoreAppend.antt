@@ -1,6 +1,6 @@
 -- The store where an upload is told its length and its end, and where bytes are put at the end of one.
-use Rattle.std.proofs.Common.{◌≡◌, ◌≢◌, ℕ, ◌+◌, ◌-◌, ◌<◌, ◌≤◌, ◌^◌, List, [], ◌∷◌, ◌++◌, map, length, get_or, set, vec_capacity, Option, refl, sym, ap, ◌∙◌, subst, inl, inr, arith}
-use Rattle.std.specs.List.{All, Contains, sum_by}
+use Rattle.std.proofs.Common.{◌≡◌, ◌≢◌, ℕ, ◌+◌, ◌<◌, ◌≤◌, ◌^◌, List, [], ◌∷◌, map, length, get_or, set, vec_capacity, Option, refl, sym, ap, ◌∙◌, subst, inl, inr, arith}
+use Rattle.std.specs.List.{All, sum_by}
 use Rattle.std.specs.List.Sorted.{IsStrictlyIncreasing}
 use Rattle.std.proofs.lemmas.List.Sums.{sum_by-remove}
 use Rattle.std.proofs.Math.ListN.{length-append}
@@ -8,7 +8,7 @@ use Rattle.std.proofs.lemmas.List.{get_or_default}
 use Rattle.std.proofs.lemmas.List.Elements.{All-set}
 use Rattle.block_pool.specs.Blocks.{Blocks, free_in, size_of}
 use Rattle.block_bodies.specs.Bodies.{blocks_with, Chain, IsBodyOf, IsLastOwn, StandsOnce, content_of}
-use Rattle.block_bodies.specs.Changes.{Puts, SameSizes}
+use Rattle.block_bodies.specs.Changes.{Puts}
 use Rattle.upload_book.specs.Account.{blocks_between}
 use Rattle.upload_book.specs.Charge.{charge_with}
 use Rattle.upload_book.specs.declared.head_row.Kind.TheVariants.{Final}
@@ -17,18 +17,18 @@ use Rattle.upload_book.specs.declared.store.Store.TheInside.{Inside}
 use Rattle.upload_book.specs.Kept.{shelf_of, store_of, IsKept, IsSingle}
 use Rattle.upload_book.specs.Store as store
 use Rattle.upload_book.specs.Store.{Store, plain_in, part_at, with_chain, with_head, with_upload, with_bytes}
-use Rattle.upload_book.specs.Stored.{Shelf, StoredUpload, Piece, part_of, entry_of, upload_of, pieces_of, own_chain, charge_on, IsStored, HasOwnPiece, ReadsWhole}
+use Rattle.upload_book.specs.Stored.{Shelf, StoredUpload, Piece, part_of, upload_of, pieces_of, own_chain, charge_on, IsStored, ReadsWhole}
 use Rattle.upload_book.specs.TenantBook.{TenantBook, Entry}
 use Rattle.upload_book.specs.Upload.{Upload, content_of as upload_content_of, offset_of}
 use Rattle.upload_book.proofs.InUse.{blocks_in_use, Contains-cases, Contains-none, places-within}
 use Rattle.upload_book.proofs.AloneLemmas.{alone-from, ids-differ, ids-kept, ids_on}
 use Rattle.upload_book.proofs.OwnLemmas.{HasOwnPiece-from, own-kept}
 use Rattle.upload_book.proofs.Pieces.{IsEntry, with_entry, without, Contains-with_entry, Contains-without}
-use Rattle.upload_book.proofs.PlainShelves.{KeepBytes, content-own, content-same, put-keeps, put-keeps_elsewhere, part-with_entry}
+use Rattle.upload_book.proofs.PlainShelves.{content-own, content-same, put-keeps, put-keeps_elsewhere, part-with_entry}
 use Rattle.upload_book.proofs.PlainSteps.{upload-put}
 use Rattle.upload_book.proofs.PriceLemmas.{blocks_between-adds}
 use Rattle.upload_book.proofs.PutLemmas.{own_piece, own-contained, IsAlone, own-body, own-last, IsStored-put, put-charge}
-use Rattle.upload_book.proofs.Shelves.{IsShelf, IsStoredOn, IsStoredOn-shelf}
+use Rattle.upload_book.proofs.Shelves.{IsStoredOn-shelf}
 use Rattle.upload_book.proofs.StoreLemmas.{charges-kept, with_shelf, with_shelf-part, IsPart, IsShelf-part, shelf_at-part, single-part, own-part, reads-part, charge-part, charge_with-part, IsKept-with_shelf, plain_in-with_shelf}
 
 -- an upload that is not final is read in a part, and bytes are put at its end

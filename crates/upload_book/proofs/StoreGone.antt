@@ -1,5 +1,5 @@
 -- The store where an upload ends.
-use Rattle.std.proofs.Common.{◌≡◌, ℕ, ◌+◌, ◌<◌, ◌≤◌, length, set, vec_capacity, refl, sym, ap, ◌∙◌, subst, arith}
+use Rattle.std.proofs.Common.{◌≡◌, ℕ, ◌+◌, ◌≤◌, length, set, vec_capacity, refl, sym, ap, ◌∙◌, subst, arith}
 use Rattle.std.specs.List.{All, remove}
 use Rattle.block_pool.specs.Blocks.{Blocks}
 use Rattle.block_bodies.specs.Bodies.{IsHeld}
@@ -9,7 +9,7 @@ use Rattle.upload_book.specs.declared.shelf.Shelf.{Shelf as KeptShelf}
 use Rattle.upload_book.specs.declared.store.Store.TheInside.{Inside}
 use Rattle.upload_book.specs.Kept.{shelf_of, store_of, IsKept, IsSingle}
 use Rattle.upload_book.specs.Store.{plain_in, part_at, without_upload}
-use Rattle.upload_book.specs.Stored.{Shelf, StoredUpload, part_of, pieces_of, placed_in, charge_on, IsStored, HasOwnPiece, ReadsWhole}
+use Rattle.upload_book.specs.Stored.{Shelf, StoredUpload, part_of, pieces_of, placed_in, charge_on, IsStored, ReadsWhole}
 use Rattle.upload_book.specs.TenantBook.{Entry}
 use Rattle.upload_book.proofs.GoneLemmas.{gone-held, IsStored-gone, gone-charge}
 use Rattle.upload_book.proofs.InUse.{places-within}

@@ -1,6 +1,6 @@
 -- A store in which one tenant's part changed, as it is kept.
-use Rattle.std.proofs.Common.{◌≡◌, ◌≢◌, ℕ, ◌+◌, ◌<◌, ◌≤◌, List, [], ◌∷◌, ◌++◌, map, length, get_or, set, vec_capacity, Result, Ok, Err, OnErr, refl, sym, ap, ◌∙◌, ap₂, subst, inl, inr, arith}
-use Rattle.std.specs.List.{All, Contains, sum_by}
+use Rattle.std.proofs.Common.{◌≡◌, ◌≢◌, ℕ, ◌+◌, ◌<◌, ◌≤◌, List, [], ◌∷◌, map, length, get_or, set, vec_capacity, Result, Ok, Err, OnErr, refl, sym, ap, ◌∙◌, ap₂, subst, inl, inr, arith}
+use Rattle.std.specs.List.{All, sum_by}
 use Rattle.std.specs.Vec.{with_item}
 use Rattle.std.proofs.Math.ListN.{length-map, length-set}
 use Rattle.std.proofs.lemmas.Bool.Decides.{eqb_tells}
@@ -15,14 +15,14 @@ use Rattle.upload_book.specs.declared.shelf.Shelf.{Shelf as KeptShelf}
 use Rattle.upload_book.specs.declared.store.Store.TheInside.{Inside}
 use Rattle.upload_book.specs.Kept.{shelf_of, store_of, IsKept, IsSingle}
 use Rattle.upload_book.specs.Store.{Store, plain_in, part_at, shelf_at, entry_at, upload_at, no_upload}
-use Rattle.upload_book.specs.Stored.{Shelf, StoredUpload, Piece, part_of, upload_of, pieces_of, places_on, charge_on, IsStored, HasOwnPiece, ReadsWhole}
+use Rattle.upload_book.specs.Stored.{Shelf, StoredUpload, part_of, upload_of, pieces_of, places_on, charge_on, IsStored, HasOwnPiece, ReadsWhole}
 use Rattle.upload_book.specs.TenantBook.{TenantBook, Entry, opening_part}
 use Rattle.upload_book.specs.Upload.{Upload}
 use Rattle.upload_book.proofs.PlainCharge.{charge-plain}
 use Rattle.upload_book.proofs.PlainShelves.{KeepBytes, content-same, parts-changed}
 use Rattle.upload_book.proofs.InUse.{places-within}
 use Rattle.upload_book.proofs.Pieces.{IsEntry, Contains-entry}
-use Rattle.upload_book.proofs.Shelves.{IsShelf, IsStoredOn, IsStoredOn-shelf}
+use Rattle.upload_book.proofs.Shelves.{IsShelf}
 
 -- the fields with another pool and one part changed
 abbrev pub with_shelf : Inside → Blocks → ℕ → KeptShelf → Inside

@@ -1,17 +1,17 @@
 -- The store at the start.
 use Rattle.std.proofs.Common.{◌≡◌, ℕ, zero, suc, ◌+◌, ◌<◌, ◌≤◌, ◌^◌, List, [], ◌∷◌, ◌++◌, map, length, get_or, slice_get, take, vec_capacity, Some, add-one, refl, ap, sym, ◌∙◌, subst, arith, rules}
-use Rattle.std.specs.List.{All, Contains}
+use Rattle.std.specs.List.{All}
 use Rattle.std.proofs.Math.ListN.{length-map}
 use Rattle.std.proofs.lemmas.List.{map-append, get_or-map}
 use Rattle.std.proofs.lemmas.List.Elements.{All-push, All-map, All-weaker}
-use Rattle.block_pool.specs.Blocks.{Blocks, count_at, size_of}
+use Rattle.block_pool.specs.Blocks.{count_at, size_of}
 use Rattle.upload_book.specs.Charge.{sum_below}
 use Rattle.upload_book.specs.declared.settings.TenantQuota.{TenantQuota}
 use Rattle.upload_book.specs.declared.shelf.Shelf.{Shelf as KeptShelf}
 use Rattle.upload_book.specs.declared.store.Store.TheInside.{Inside}
 use Rattle.upload_book.specs.Kept.{shelf_of, store_of, IsKept, IsSingle}
 use Rattle.upload_book.specs.Store.{opening_shelves}
-use Rattle.upload_book.specs.Stored.{Shelf, Piece, pieces_of, charge_on, ReadsWhole}
+use Rattle.upload_book.specs.Stored.{Shelf, pieces_of, charge_on, ReadsWhole}
 use Rattle.upload_book.specs.TenantBook.{opening_part}
 use Rattle.upload_book.proofs.InUse.{Contains-none}
 use Rattle.upload_book.proofs.StayLemmas.{IsStored-opening}

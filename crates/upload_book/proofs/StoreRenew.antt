@@ -2,15 +2,13 @@
 use Rattle.std.proofs.Common.{◌≡◌, ◌≢◌, ℕ, ◌≤◌, List, [], ◌∷◌, ◌++◌, set, vec_capacity, Option, refl, sym, ap, ◌∙◌, subst, append-nil}
 use Rattle.std.specs.List.{All}
 use Rattle.std.proofs.lemmas.List.Elements.{All-set}
-use Rattle.block_pool.specs.Blocks.{Blocks}
-use Rattle.block_bodies.specs.Bodies.{Chain}
 use Rattle.upload_book.specs.Charge.{charge_with}
 use Rattle.upload_book.specs.declared.head_row.Kind.TheVariants.{Final}
 use Rattle.upload_book.specs.declared.shelf.Shelf.{Shelf as KeptShelf}
 use Rattle.upload_book.specs.declared.store.Store.TheInside.{Inside}
 use Rattle.upload_book.specs.Kept.{shelf_of, store_of, IsKept, IsSingle}
 use Rattle.upload_book.specs.Store.{plain_in, part_at, with_head, with_upload, with_bytes}
-use Rattle.upload_book.specs.Stored.{Shelf, StoredUpload, Piece, part_of, upload_of, pieces_of, own_chain, charge_on, IsStored, ReadsWhole}
+use Rattle.upload_book.specs.Stored.{Shelf, StoredUpload, part_of, upload_of, pieces_of, own_chain, charge_on, IsStored, ReadsWhole}
 use Rattle.upload_book.specs.TenantBook.{Entry}
 use Rattle.upload_book.specs.Upload.{content_of}
 use Rattle.upload_book.proofs.Pieces.{IsEntry, with_entry}

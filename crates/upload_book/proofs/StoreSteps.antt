@@ -1,19 +1,17 @@
 -- What each call of the store keeps, does to what the plain book sees, and to what the tenant pays.
-use Rattle.std.proofs.Common.{◌≡◌, ◌≢◌, ℕ, ◌+◌, ◌<◌, ◌≤◌, List, [], ◌∷◌, ◌++◌, length, get_or, set, vec_capacity, refl, sym, ap, ◌∙◌, subst, inl, inr, arith}
+use Rattle.std.proofs.Common.{◌≡◌, ℕ, ◌+◌, ◌≤◌, [], ◌∷◌, ◌++◌, length, set, vec_capacity, refl, sym, ap, ◌∙◌, subst, inl, inr}
 use Rattle.std.specs.List.{All, Contains}
 use Rattle.std.proofs.lemmas.List.Elements.{All-push}
-use Rattle.block_pool.specs.Blocks.{Blocks}
-use Rattle.block_bodies.specs.Bodies.{Chain, content_of}
+use Rattle.block_bodies.specs.Bodies.{content_of}
 use Rattle.upload_book.specs.Charge.{charge_with}
 use Rattle.upload_book.specs.declared.shelf.Shelf.{Shelf as KeptShelf}
 use Rattle.upload_book.specs.declared.store.Store.TheInside.{Inside}
 use Rattle.upload_book.specs.Kept.{shelf_of, store_of, IsKept, IsSingle}
-use Rattle.upload_book.specs.Store.{plain_in, part_at, shelf_at, IsNew}
-use Rattle.upload_book.specs.Stored.{Shelf, StoredUpload, Piece, part_of, pieces_of, own_chain, upload_of, charge_on, IsStored, HasOwnPiece, ReadsWhole}
+use Rattle.upload_book.specs.Store.{plain_in, part_at, IsNew}
+use Rattle.upload_book.specs.Stored.{Shelf, StoredUpload, Piece, part_of, pieces_of, own_chain, upload_of, charge_on, IsStored, ReadsWhole}
 use Rattle.upload_book.specs.TenantBook.{Entry, with_new}
 use Rattle.upload_book.proofs.InUse.{Contains-cases, Contains-none}
 use Rattle.upload_book.proofs.JoinLemmas.{Contains-with_new, IsStored-new, new-charge}
-use Rattle.upload_book.proofs.PlainCharge.{charge-plain}
 use Rattle.upload_book.proofs.PlainShelves.{part-with_new}
 use Rattle.upload_book.proofs.PutLemmas.{own_piece}
 use Rattle.upload_book.proofs.StoreLemmas.{with_shelf, IsPart, IsShelf-part, shelf_at-part, single-part, reads-part, charge-part, charge_with-part, IsKept-with_shelf, plain_in-with_shelf, with_shelf-part}

@@ -6,7 +6,7 @@ use Rattle.upload_book.specs.declared.shelf.Shelf.{Shelf as KeptShelf}
 use Rattle.upload_book.specs.declared.store.Store.TheInside.{Inside}
 use Rattle.upload_book.specs.Store.{Store}
 use Rattle.upload_book.specs.Stored.{Shelf, StoredUpload, IsStored, HasOwnPiece, ReadsWhole, pieces_of, charge_on}
-use Rattle.upload_book.specs.TenantBook.{TenantPart, Entry, visible_in}
+use Rattle.upload_book.specs.TenantBook.{Entry, visible_in}
 
 -- the tenant's part that is kept so
 abbrev pub shelf_of : KeptShelf → Shelf

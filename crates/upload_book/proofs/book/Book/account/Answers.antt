@@ -1,4 +1,4 @@
-use Rattle.std.proofs.Common.{◌≡◌, ℕ, ap₂, sym}
+use Rattle.std.proofs.Common.{ℕ, ap₂, sym}
 use Rattle.upload_book.specs.contracts.book.Book.{the_view}
 use Rattle.upload_book.specs.declared.account.Account.{Account}
 use Rattle.upload_book.proofs.BookSteps.{part-quota}

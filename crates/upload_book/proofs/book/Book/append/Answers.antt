@@ -1,4 +1,4 @@
-use Rattle.std.proofs.Common.{◌≡◌, inl, ap, sym, ◌∙◌, refl}
+use Rattle.std.proofs.Common.{inl, sym, ◌∙◌, refl}
 use Rattle.upload_book.specs.Append.{append_answer}
 use Rattle.upload_book.specs.contracts.book.Book.{the_view}
 use Rattle.upload_book.proofs.BookSteps.{answer-plain}

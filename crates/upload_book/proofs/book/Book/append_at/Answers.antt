@@ -5,7 +5,6 @@ use Rattle.block_pool.specs.Blocks.{Blocks, size_of}
 use Rattle.upload_book.specs.Chunk.{Chunk}
 use Rattle.upload_book.specs.contracts.book.Book.{the_view}
 use Rattle.upload_book.specs.declared.append.Refused.{Refused}
-use Rattle.upload_book.specs.declared.refusal.Refusal.{Refusal}
 use Rattle.upload_book.specs.declared.refusal.Refusal.TheVariants.{Memory}
 use Rattle.upload_book.specs.declared.settings.Numbers.{Numbers}
 use Rattle.upload_book.specs.declared.standing.Standing.{Standing}

@@ -1,12 +1,10 @@
-use Rattle.std.proofs.Common.{◌≡◌, ◌≢◌, [], Bool, true, Ok, Err, inl, inr, refl, ap, sym, subst, ◌∙◌}
+use Rattle.std.proofs.Common.{◌≡◌, ◌≢◌, [], true, Ok, inl, inr, refl, ap, sym, subst, ◌∙◌}
 use Rattle.std.specs.Result.{IsOkAnd}
 use Rattle.std.proofs.lemmas.Bool.{false≢true}
 use Rattle.std.proofs.lemmas.Result.{err_from_is_err_and}
 use Rattle.upload_book.specs.Content.{bytes_of, content_answer, content_told}
 use Rattle.upload_book.specs.contracts.book.Book.{the_view}
 use Rattle.upload_book.specs.declared.standing.Standing.{Standing}
-use Rattle.upload_book.specs.PlainBook.{answer_of}
-use Rattle.upload_book.specs.Book.{plain_of}
 use Rattle.upload_book.specs.Store.{upload_at}
 use Rattle.upload_book.specs.Upload.{Upload, content_of, is_complete, is_reached}
 use Rattle.upload_book.proofs.BookSteps.{answer-plain}

@@ -1,13 +1,12 @@
 use Rattle.std.proofs.Common.{◌≡◌, ◌≢◌, ◌<◌, ℕ, ◌+◌, Bool, true, false, length, Option, Some, None, refl, ap, sym, ◌∙◌, arith}
-use Rattle.block_pool.specs.Blocks.{Blocks}
 use Rattle.upload_book.specs.contracts.book.Book.{the_view}
 use Rattle.upload_book.specs.Book.{plain_of, IsBook, StoredBook}
-use Rattle.upload_book.specs.Create.{new_kind, creation_refusal, created_upload, create_answer, part_after_create}
+use Rattle.upload_book.specs.Create.{new_kind, creation_refusal, created_upload, part_after_create}
 use Rattle.upload_book.specs.declared.head_row.Kind.TheVariants.{Final}
 use Rattle.upload_book.specs.declared.refusal.Refusal.{Refusal}
 use Rattle.upload_book.specs.declared.settings.Numbers.{Numbers}
 use Rattle.upload_book.specs.NewUpload.{NewUpload}
-use Rattle.upload_book.specs.PlainBook.{answer_of, tenant_book}
+use Rattle.upload_book.specs.PlainBook.{tenant_book}
 use Rattle.upload_book.specs.Store.{part_at}
 use Rattle.upload_book.specs.TenantBook.{TenantBook}
 use Rattle.upload_book.specs.Upload.{Upload}

@@ -1,4 +1,4 @@
-use Rattle.std.proofs.Common.{◌≡◌, ◌<◌, ◌≤◌, ◌+◌, ℕ, arith}
+use Rattle.std.proofs.Common.{arith}
 use Rattle.upload_book.specs.contracts.book.Book.{the_view}
 use Rattle.upload_book.proofs.BookSteps.{IsBook-sweeps, Sweeps, sweeps-within, uploads-few}
 use Rattle.upload_book.proofs.book.Book.sweep.Goals as goal

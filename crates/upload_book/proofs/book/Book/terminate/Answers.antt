@@ -1,11 +1,11 @@
-use Rattle.std.proofs.Common.{◌≡◌, ℕ, ◌≤◌, ◌+◌, Ok, ap, sym, ◌∙◌, arith}
+use Rattle.std.proofs.Common.{ℕ, Ok, ap, sym, ◌∙◌, arith}
 use Rattle.std.proofs.lemmas.Result.{err_from_is_err_and}
 use Rattle.upload_book.specs.Book.{plain_of}
 use Rattle.upload_book.specs.contracts.book.Book.{the_view}
 use Rattle.upload_book.specs.PlainBook.{tenant_book, with_tenant_book}
 use Rattle.upload_book.specs.Store.{upload_at}
 use Rattle.upload_book.specs.TenantBook.{visible_upload}
-use Rattle.upload_book.specs.Terminate.{terminate_answer, part_after_terminate}
+use Rattle.upload_book.specs.Terminate.{part_after_terminate}
 use Rattle.upload_book.proofs.BookLemmas.{book_after-stays}
 use Rattle.upload_book.proofs.BookSteps.{Removes, IsBook-removes, part-plain, plain-removes, removes-freed, removes-within, seen-removes, seen-visible}
 use Rattle.upload_book.proofs.Outcomes.{terminate_answer-refused, terminate_answer-visible, part_after_terminate-refused, part_after_terminate-visible}

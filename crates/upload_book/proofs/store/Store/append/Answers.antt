@@ -1,7 +1,7 @@
-use Rattle.std.proofs.Common.{◌≡◌, ℕ, ◌+◌, ◌≤◌, List, set, length, ◌≢◌, refl, sym, ap, ap₂, ◌∙◌, arith}
+use Rattle.std.proofs.Common.{◌≡◌, ℕ, ◌+◌, List, set, length, ◌≢◌, refl, ap, ap₂, ◌∙◌, arith}
 use Rattle.std.proofs.lemmas.List.{set-get_or}
 use Rattle.std.specs.Vec.{with_item}
-use Rattle.block_pool.specs.Blocks.{Blocks, free_in}
+use Rattle.block_pool.specs.Blocks.{Blocks}
 use Rattle.block_bodies.specs.Bodies.{Chain, blocks_for, blocks_with}
 use Rattle.block_bodies.specs.Changes.{Puts}
 use Rattle.upload_book.specs.declared.head_row.Kind.TheVariants.{Final}
@@ -10,8 +10,8 @@ use Rattle.upload_book.specs.Account.{blocks_between}
 use Rattle.upload_book.specs.declared.shelf.Shelf.{Shelf as KeptShelf}
 use Rattle.upload_book.specs.Kept.{shelf_of, store_of, IsKept}
 use Rattle.upload_book.proofs.Pieces.{IsEntry}
-use Rattle.upload_book.specs.Store.{Store, plain_in, part_at, upload_at, with_head, with_upload, with_bytes}
-use Rattle.upload_book.specs.Stored.{StoredUpload, own_chain, upload_of}
+use Rattle.upload_book.specs.Store.{plain_in, part_at, upload_at, with_head, with_upload, with_bytes}
+use Rattle.upload_book.specs.Stored.{StoredUpload, own_chain}
 use Rattle.upload_book.specs.TenantBook.{TenantBook, Entry}
 use Rattle.upload_book.specs.Upload.{Upload, offset_of}
 use Rattle.upload_book.proofs.StoreAppend.{PutsIn, IsPutIn, alone-read, body-read, last-read, needs-read, free-read, charge-few, IsKept-put, plain-put, charge-put}

@@ -1,4 +1,4 @@
-use Rattle.std.proofs.Common.{◌-◌, ◌+◌, ◌≤◌, refl, sym, arith}
+use Rattle.std.proofs.Common.{◌-◌, refl, arith}
 use Rattle.upload_book.specs.declared.shelf.Shelf.{Shelf as KeptShelf}
 use Rattle.upload_book.proofs.StoreLemmas.{IsPart-read, IsEntry-read, room-part}
 use Rattle.upload_book.proofs.StoreGone.{GivesUp, IsGivenUp, given-held, given-within, IsKept-given, plain-given, charge-given}

@@ -1,4 +1,4 @@
-use Rattle.std.proofs.Common.{◌≡◌, ◌<◌, ◌≤◌, ◌+◌, ℕ, Fits, w64, arith}
+use Rattle.std.proofs.Common.{◌<◌, ◌≤◌, ℕ, Fits, w64, arith}
 use Rattle.upload_book.proofs.SweepSteps.{SweepsNext, AreSweptTo-next, next-blocks_within, next-uploads_within}
 use Rattle.upload_book.proofs.store.Store.sweep.Goals as goal
 

@@ -1,8 +1,5 @@
 use Rattle.std.proofs.Common.{◌≡◌, ◌<◌, ◌≤◌, ◌+◌, ◌-◌, ℕ, length, ap, ap₂, sym, ◌∙◌, arith}
-use Rattle.upload_book.specs.TenantBook.{Entry, TenantBook}
-use Rattle.upload_book.specs.Upload.{Upload}
-use Rattle.upload_book.specs.Store.{Store, part_at}
-use Rattle.upload_book.specs.Sweep.{part_after_sweep}
+use Rattle.upload_book.specs.Store.{part_at}
 use Rattle.upload_book.proofs.SweepSteps.{Ends, IsSweptTo-ended, IsSweptTo-none, IsSweptTo-passed, charge_with-sweep, ended-shorter, length-sweep, swept-charge, swept-plain, swept-uploads}
 use Rattle.upload_book.proofs.store.Store.sweep_part.Goals as goal
 

@@ -1,11 +1,5 @@
-use Rattle.std.proofs.Common.{◌≡◌, ℕ, ◌<◌, ◌≤◌, ◌-◌, true, false, not, length, get_or, set}
-use Rattle.std.specs.List.{filter}
-use Rattle.block_bodies.specs.Changes.{SameSizes}
-use Rattle.upload_book.specs.Expiry.{is_over}
-use Rattle.upload_book.specs.Store.{plain_in, part_at}
-use Rattle.upload_book.specs.Sweep.{part_after_sweep}
-use Rattle.upload_book.specs.TenantBook.{Entry}
-use Rattle.upload_book.specs.Upload.{Upload}
+use Rattle.std.proofs.Common.{◌-◌, length}
+use Rattle.upload_book.specs.Store.{part_at}
 use Rattle.upload_book.proofs.SweepSteps.{IsSweptTo}
 use Rattle.upload_book.proofs.store.Store.sweep_part.Given as goal
 
