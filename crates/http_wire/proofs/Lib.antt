@@ -12,3 +12,4 @@ pub mod ReplyLemmas
 pub mod Served
 pub mod Talk
 pub mod PlainLemmas
+pub mod Carried

@@ -1,11 +1,11 @@
 -- The settings that the command line tells, and the conversation that it holds.
 use Rattle.std.specs.Prelude.{◌≡◌, ℕ, Bool, List, replicate, Option, Some, None, Result, Ok, Err}
-use Rattle.http_wire.specs.BookStep.{BookStep}
 use Rattle.http_wire.specs.Conversation.{Conversation}
 use Rattle.http_wire.specs.Lent.{Names}
 use Rattle.http_wire.specs.Turns.{Breaks}
 use Rattle.http_wire.specs.declared.conversation.Ended.{Ended}
 use Rattle.http_wire.specs.declared.fault.WireFault.{WireFault}
+use Rattle.tus_steps.specs.Step.{IsStep}
 use Rattle.upload_book.specs.PlainBook.{PlainBook, opening_book}
 use Rattle.upload_book.specs.Settings.{Settings, settings_of}
 use Rattle.upload_book.specs.declared.settings.Numbers.{Numbers}
@@ -39,7 +39,7 @@ pub record Talks (told : Result Settings SettingsFault) (now : ℕ) (input text 
   pub given : told ≡ Ok settings
   pub after : PlainBook
   pub ended : Ended
-  pub conversation : Conversation BookStep settings.numbers.max_size (moments_at now)
+  pub conversation : Conversation IsStep settings.numbers.max_size (moments_at now)
       (record { input = input; text = text; before = opening_book settings; after = after }) ended
 
 -- These bytes were read and this text was written in such a conversation, until a fault broke it off: a read
@@ -50,5 +50,5 @@ pub record BreaksTalk (told : Result Settings SettingsFault) (now : ℕ) (reader
   pub after : PlainBook
   pub fault : WireFault
   pub named : Names reader writer fault
-  pub breaks : Breaks BookStep settings.numbers.max_size (moments_at now)
+  pub breaks : Breaks IsStep settings.numbers.max_size (moments_at now)
       (record { input = got; text = text; before = opening_book settings; after = after }) fault

@@ -26,6 +26,7 @@ enum Told<'a> {
         offset: u64,
         expires: Option<u64>,
     },
+    Deleted,
     Refused {
         refusal: Refusal,
         head: bool,
@@ -52,6 +53,7 @@ fn told_by(reply: &Reply) -> Told<'_> {
             offset: *offset,
             expires: expires.map(|end| end.secs()),
         },
+        Reply::Deleted => Told::Deleted,
         Reply::Refused {
             refusal,
             head,
@@ -415,6 +417,21 @@ fn a_get_gives_the_bytes(rt: HostRuntime) -> Result<(), Fail> {
         let reply = answer(&mut book, &request, now);
         assert_eq!(rt; told_by(&reply), Told::Content(b"hello"));
     }
+    Ok(())
+}
+
+#[test]
+fn an_upload_is_ended(rt: HostRuntime) -> Result<(), Fail> {
+    let mut book = book(rt.alloc())?;
+    let now = at(1000)?;
+    let delete = request(Method::Delete, b"/files/acme/1");
+    let reply = answer(&mut book, &delete, now);
+    assert_eq!(rt; told_by(&reply), refused(Refusal::Unknown));
+    answer(&mut book, &creation(b"10"), now);
+    let reply = answer(&mut book, &delete, now);
+    assert_eq!(rt; told_by(&reply), Told::Deleted);
+    let reply = answer(&mut book, &delete, now);
+    assert_eq!(rt; told_by(&reply), refused(Refusal::Gone));
     Ok(())
 }
 

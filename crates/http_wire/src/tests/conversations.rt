@@ -105,8 +105,16 @@ Date: Thu, 01 Jan 1970 00:16:40 GMT\r\nTus-Resumable: 1.0.0\r\nTus-Version: 1.0.
 Content-Type: text/plain\r\nContent-Length: 8\r\n\r\nversion\n";
 
 const METHOD: &[u8] = b"HTTP/1.1 405 Method Not Allowed\r\n\
-Date: Thu, 01 Jan 1970 00:16:40 GMT\r\nTus-Resumable: 1.0.0\r\nAllow: HEAD, GET, PATCH, OPTIONS\r\n\
+Date: Thu, 01 Jan 1970 00:16:40 GMT\r\nTus-Resumable: 1.0.0\r\nAllow: HEAD, GET, PATCH, DELETE, OPTIONS\r\n\
 Content-Type: text/plain\r\nContent-Length: 7\r\n\r\nmethod\n";
+
+const DELETE: &[u8] = b"DELETE /files/acme/1 HTTP/1.1\r\nHost: x\r\nTus-Resumable: 1.0.0\r\n\r\n";
+
+const DELETED: &[u8] = b"HTTP/1.1 204 No Content\r\nDate: Thu, 01 Jan 1970 00:16:40 GMT\r\n\
+Tus-Resumable: 1.0.0\r\n\r\n";
+
+const GONE: &[u8] = b"HTTP/1.1 410 Gone\r\nDate: Thu, 01 Jan 1970 00:16:40 GMT\r\n\
+Tus-Resumable: 1.0.0\r\nCache-Control: no-store\r\n\r\n";
 
 const UNKNOWN: &[u8] = b"HTTP/1.1 404 Not Found\r\nDate: Thu, 01 Jan 1970 00:16:40 GMT\r\n\
 Tus-Resumable: 1.0.0\r\nCache-Control: no-store\r\nConnection: close\r\n\r\n";
@@ -134,7 +142,7 @@ pub fn check_row(rt: &impl Abort, alloc: Global, row: &Row) -> Result<(), Fail> 
     assert_both(rt, alloc, row.name, &sent, &at_1000(), &expected)
 }
 
-static WHOLE: [Row; 11] = [
+static WHOLE: [Row; 12] = [
     Row {
         name: "the first upload",
         sent: [POST, PATCH, HEAD, NONE],
@@ -168,12 +176,19 @@ static WHOLE: [Row; 11] = [
         sent: [
             b"POST /files/acme HTTP/1.1\r\nHost: x\r\nTus-Resumable: 0.2.2\r\n\r\n",
             POST,
-            b"DELETE /files/acme/1 HTTP/1.1\r\nHost: x\r\nTus-Resumable: 1.0.0\r\n\r\n",
+            b"PUT /files/acme/1 HTTP/1.1\r\nHost: x\r\nTus-Resumable: 1.0.0\r\n\r\n",
             NONE,
         ],
         written: [VERSION, CREATED, METHOD, NONE],
         ended: Ended::Input,
         offset: Some(0),
+    },
+    Row {
+        name: "an upload that is ended is gone",
+        sent: [POST, PATCH, DELETE, HEAD],
+        written: [CREATED, PATCHED, DELETED, GONE],
+        ended: Ended::Input,
+        offset: None,
     },
     Row {
         name: "an unknown upload, and the wish to close",

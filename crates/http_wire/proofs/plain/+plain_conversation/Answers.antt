@@ -2,7 +2,8 @@ use Rattle.std.proofs.Common.{◌≡◌, ℕ, ◌∷◌, ◌∙◌, ap, subst₂
 use Rattle.http_wire.specs.Front.{message, IsFront}
 use Rattle.http_wire.specs.Parts.{request_at}
 use Rattle.http_wire.specs.Plain.{front_in}
-use Rattle.tus_steps.specs.Step.{IsStep}
+use Rattle.upload_book.specs.Book.{plain_of}
+use Rattle.http_wire.specs.BookStep.{BookStep}
 use Rattle.upload_book.specs.declared.settings.Numbers.{Numbers}
 use Rattle.upload_book.specs.Settings.{Settings}
 use Rattle.http_wire.specs.declared.read.Front.{Front}
@@ -11,7 +12,7 @@ use Rattle.http_wire.proofs.plain.+plain_conversation.Goals as goal
 
 pub returns-then-parts : goal.returns-then-parts
 returns-then-parts n c =
-    let max = c.args.book.now.settings.numbers.max_size in
+    let max = (plain_of c.args.book.now).settings.numbers.max_size in
     let parts = c.in-Message.parts in
     let plain = c.plain_front-plain.result in
     let told = c.in_ok-written-in-Message.ensures.text in
@@ -21,4 +22,4 @@ returns-then-parts n c =
     let front : IsFront max c.args.input.now (message (request_at parts plain.text.now) parts.framing plain.is_waiting plain.rest.now) =
     subst₂ (λ (m : ℕ) (f : Front). IsFront m c.args.input.now (front_in f plain.is_waiting plain.text.now plain.rest.now)) size c.in-Message.is seen in
     rw given
-    (Conversation-closed IsStep max c.in-Some.now.now c.in-Some.later.now (record { input = c.args.input.now; text = c.in_ok-written-in-Message.written.items; before = c.args.book.now; after = c.plain_turn.new.book }) (request_at parts plain.text.now) parts.framing plain.is_waiting plain.rest.now told.0 front told.1 c.if-parts.true told.2)
+    (Conversation-closed BookStep max c.in-Some.now.now c.in-Some.later.now (record { input = c.args.input.now; text = c.in_ok-written-in-Message.written.items; before = c.args.book.now; after = c.plain_turn.new.book }) (request_at parts plain.text.now) parts.framing plain.is_waiting plain.rest.now told.0 front told.1 c.if-parts.true told.2)

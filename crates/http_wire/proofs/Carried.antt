@@ -1,0 +1,74 @@
+-- A conversation with what stands for something else is one with that.
+use Rattle.std.proofs.Common.{◌≡◌, ℕ, Bool, true, false, List, [], ◌∷◌, inl, inr, ap}
+use Rattle.tus_steps.specs.Request.{Request}
+use Rattle.tus_steps.specs.declared.reply.Reply.{Reply}
+use Rattle.http_wire.specs.Conversation.{Course, Conversation, EndsWith, Goes, Turn}
+use Rattle.http_wire.specs.Exchange.{Exchange, first_part, last_part}
+use Rattle.http_wire.specs.Front.{Front, message, refused, cut_patch, cut_other, clean_end}
+use Rattle.http_wire.specs.Turns.{Answered, Breaks, BreaksOff, FailsIn, FailsToContinue}
+use Rattle.http_wire.specs.declared.conversation.Ended.{Ended}
+use Rattle.http_wire.specs.declared.fault.WireFault.{WireFault}
+use Rattle.http_wire.specs.declared.fault.WireFault.TheVariants.{Read, Write, Memory, Failed}
+
+-- the exchange with what it stands for
+abbrev pub carried : {A B : Type 0} → (A → B) → Exchange A → Exchange B
+carried f x = record { input = x.input; text = x.text; before = f x.before; after = f x.after }
+
+module _ {A B : Type 0} (f : A → B) (steps : A → Request → ℕ → Reply → A → Type 0) (others : B → Request → ℕ → Reply → B → Type 0)
+    (carries : (a : A) (r : Request) (now : ℕ) (reply : Reply) (b : A) → steps a r now reply b → others (f a) r now reply (f b)) (max : ℕ) where
+  EndsWith-carried : (ends : Ended) (last : List ℕ) (x : Exchange A) (e : Ended) → EndsWith ends last x e → EndsWith ends last (carried f x) e
+  EndsWith-carried ends last x e h = record { ended = h.ended; text = h.text; same = ap f h.same }
+
+  Goes-carried : (close : Bool) (next : Course A) (then : Course B) (x : Exchange A) (e : Ended) → (next x e → then (carried f x) e) → Goes close next x e → Goes close then (carried f x) e
+  Goes-carried true next then x e on h = EndsWith-carried _ _ x e h
+  Goes-carried false next then x e on h = on h
+
+  Turn-carried : (now : ℕ) (next : Course A) (then : Course B) (front : Front) (x : Exchange A) (e : Ended) → ((y : Exchange A) → next y e → then (carried f y) e) → Turn steps now next front x e → Turn others now then front (carried f x) e
+  Turn-carried now next then (message request framing waiting rest) x e on h =
+      (h.0, f h.1, h.2, carries x.before request now h.0 h.1 h.3, h.4, Goes-carried framing.close next then (last_part x rest h.1 h.2) e (on (last_part x rest h.1 h.2)) h.5)
+  Turn-carried now next then (refused why framing) x e on h = EndsWith-carried _ _ x e h
+  Turn-carried now next then (cut_patch request framing waiting) x e on h = (h.0, carries x.before request now h.0 x.after h.1, h.2, h.3)
+  Turn-carried now next then (cut_other waiting) x e on h = EndsWith-carried _ _ x e h
+  Turn-carried now next then clean_end x e on h = EndsWith-carried _ _ x e h
+
+  -- a whole conversation
+  pub Conversation-carried : (moments : List ℕ) (x : Exchange A) (e : Ended) → Conversation steps max moments x e → Conversation others max moments (carried f x) e
+  Conversation-carried [] x e h = EndsWith-carried _ _ x e h
+  Conversation-carried (now ∷ moments) x e h =
+      (h.0, h.1, Turn-carried now (Conversation steps max moments) (Conversation others max moments) h.0 x e (λ y. Conversation-carried moments y e) h.2)
+
+  Answered-carried : (now : ℕ) (x : Exchange A) (rest : List ℕ) → Answered steps max now x rest → Answered others max now (carried f x) rest
+  Answered-carried now x rest a = record {
+    request = a.request;
+    framing = a.framing;
+    waiting = a.waiting;
+    reply = a.reply;
+    front = a.front;
+    stays = a.stays;
+    step = carries x.before a.request now a.reply x.after a.step;
+    wrote = a.wrote;
+  }
+
+  waits-carried : (waiting : Bool) (x : Exchange A) → FailsToContinue steps max waiting x → FailsToContinue others max waiting (carried f x)
+  waits-carried waiting x h = (h.0, ap f h.1, h.2)
+
+  FailsIn-carried : (now : ℕ) (front : Front) (x : Exchange A) → FailsIn steps max now front x → FailsIn others max now front (carried f x)
+  FailsIn-carried now (message request framing waiting rest) x (inl h) = inl (waits-carried waiting x h)
+  FailsIn-carried now (message request framing waiting rest) x (inr h) = inr (h.0, h.1, carries x.before request now h.0 x.after h.2, h.3)
+  FailsIn-carried now (refused why framing) x h = (ap f h.0, h.1)
+  FailsIn-carried now (cut_patch request framing waiting) x h = waits-carried waiting x h
+  FailsIn-carried now (cut_other waiting) x h = waits-carried waiting x h
+  FailsIn-carried now clean_end x h = absurd h
+
+  BreaksOff-carried : (moments : List ℕ) (x : Exchange A) → BreaksOff steps max moments x → BreaksOff others max moments (carried f x)
+  BreaksOff-carried [] x h = absurd h
+  BreaksOff-carried (now ∷ moments) x (inl h) = inl (h.0, h.1, FailsIn-carried now h.0 x h.2)
+  BreaksOff-carried (now ∷ moments) x (inr h) =
+      inr (h.0, h.1, h.2, f h.3, Answered-carried now (first_part x h.0 h.3) h.2 h.4, BreaksOff-carried moments (last_part x h.2 h.3 h.1) h.5, h.6)
+
+  -- one that a fault broke off
+  pub Breaks-carried : (moments : List ℕ) (x : Exchange A) (fault : WireFault) → Breaks steps max moments x fault → Breaks others max moments (carried f x) fault
+  Breaks-carried moments x Read h = (h.0, h.1, Conversation-carried moments x h.0 h.2)
+  Breaks-carried moments x Write h = BreaksOff-carried moments x h
+  Breaks-carried moments x Memory h = (h.0, h.1, ap f h.2)
+  Breaks-carried moments x Failed h = absurd h
