@@ -21,7 +21,7 @@ At 2, 3 and 4 standard error says why.";
 
 const TALK_HELP: &str = "\
 Uploads are created by POST to /files/NAME, and live as long as the conversation.
-Quotas and blocks are checked when the server starts, but not charged yet.
+A PATCH that would take more blocks than the tenant's quota is refused with 507.
 
 Example, which creates an upload of 5 bytes for the tenant acme and tells where it is:
   printf 'POST /files/acme HTTP/1.1\\r\\nHost: x\\r\\nTus-Resumable: 1.0.0\\r\\n\

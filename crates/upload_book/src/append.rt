@@ -62,9 +62,12 @@ impl Book {
     /// length that the PATCH tells where it had none; one of its own that is now complete does not
     /// expire, and any other expires a lifetime after `now`, or as before where that is later.
     ///
+    /// Its tenant pays the blocks that its bytes take beyond the room in the upload's last block.
+    ///
     /// It is refused by the first of these that applies: Unknown, Gone, IsFinal, Media, Offset,
-    /// LengthFixed, TooLong; and where none of them does, as Memory where the bytes find no room. A
-    /// refusal leaves the book as it was.
+    /// LengthFixed, TooLong, Spent, Quota. Where none of them does and the bytes take a block or more,
+    /// it may be refused as Memory: there was none for the list of the upload's blocks. A refusal
+    /// leaves the book as it was.
     pub fn append(&mut self, name: &Name, chunk: Chunk, now: Moment) -> Result<Appended, Refused>
         ensures answer { IsAnswer
             (answer_of (plain_of self.old) name.now.tenant
