@@ -245,7 +245,7 @@ fn a_mebibyte_is_stored_and_given_back(rt: HostRuntime) -> Result<(), Fail> {
     let mut wanted = Vec::new(alloc);
     wanted.extend_from_slice(REPLIES_BEFORE_BODY)?;
     wanted.extend_from_slice(body.as_slice())?;
-    let (status, output) = served(alloc, &["tus-server", "talk", "acme:8"], input.as_slice())?;
+    let (status, output) = served(alloc, &["tus-server", "talk", "acme:256"], input.as_slice())?;
     assert_eq!(rt; status, 0);
     assert!(rt; output.as_slice() == wanted.as_slice());
     Ok(())
