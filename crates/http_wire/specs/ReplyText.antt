@@ -100,7 +100,7 @@ tells_version _ = false
 
 -- an OPTIONS is told what is served beside the core protocol
 abbrev pub extensions_in : Reply → List ℕ
-extensions_in (Options max_size) = codes "creation,creation-defer-length,expiration,termination"
+extensions_in (Options max_size) = codes "creation,creation-defer-length,expiration,termination,concatenation"
 extensions_in _ = []
 
 -- and how many bytes an upload may have

@@ -43,10 +43,11 @@ fn tells_version(reply: &Reply) -> bool
 // What is served beside the core protocol.
 fn extensions_in(reply: &Reply) -> &'static [u8]
     ensures text { result.now ≡ extensions_in reply.now }
-    ensures len { length result.now ≤ 53 }
+    ensures len { length result.now ≤ 67 }
 {
     match reply {
-        Reply::Options { .. } => b"creation,creation-defer-length,expiration,termination",
+        Reply::Options { .. } =>
+            b"creation,creation-defer-length,expiration,termination,concatenation",
         _ => b"",
     }
 }

@@ -1,5 +1,6 @@
 //! Conversations from bytes to bytes, over readers and writers in memory.
 
+mod concatenations;
 mod conversations;
 mod creations;
 mod cuts;

@@ -1,19 +1,26 @@
--- What the book's answer to a PATCH says of the step, and what is ready to be asked.
-use Rattle.std.proofs.Common.{◌≡◌, ℕ, false, Option, Some, None, Result, Ok, Err, OnOk, OnErr, IfOk, IfSome, inl, inr, sym, ap, ◌∙◌, subst}
+-- What the book's answer to a PATCH and to a concatenation says of the step, and what is ready to be asked.
+use Rattle.std.proofs.Common.{◌≡◌, ℕ, false, Option, Some, None, Result, Ok, Err, OnOk, OnErr, IfOk, IfSome, refl, inl, inr, sym, ap, ◌∙◌, subst}
 use Rattle.std.specs.Prelude.{ok_or}
 use Rattle.upload_book.specs.Append.{append_answer, append_lacking, part_after_append}
 use Rattle.upload_book.specs.Chunk.{Chunk}
+use Rattle.upload_book.specs.Concat.{concat_answer, concat_refusal, part_after_concat}
 use Rattle.upload_book.specs.declared.append.Appended.{Appended}
 use Rattle.upload_book.specs.declared.append.Refused.{Refused}
+use Rattle.upload_book.specs.declared.create.Created.{Created}
 use Rattle.upload_book.specs.declared.head_row.Name.{Name}
 use Rattle.upload_book.specs.declared.operation.Operation.{Operation}
 use Rattle.upload_book.specs.declared.operation.Operation.TheVariants as operation
+use Rattle.upload_book.specs.declared.refusal.Refusal.{Refusal}
+use Rattle.upload_book.specs.declared.refusal.Refusal.TheVariants as refusal
+use Rattle.upload_book.specs.declared.settings.Numbers.{Numbers}
+use Rattle.upload_book.specs.NewFinal.{NewFinal}
 use Rattle.upload_book.specs.Operation.{MayLackMemory}
 use Rattle.upload_book.specs.PlainBook.{PlainBook, answer_of, book_after, tenant_book}
-use Rattle.upload_book.specs.Refusal.{IsAnswer}
+use Rattle.upload_book.specs.Refusal.{IsAnswer, unless}
+use Rattle.upload_book.specs.TenantBook.{TenantBook}
 use Rattle.upload_book.proofs.AppendLemmas.{part_after_append-refused}
 use Rattle.upload_book.proofs.BookLemmas.{book_after-stays}
-use Rattle.tus_steps.specs.Reply.{append_reply}
+use Rattle.tus_steps.specs.Reply.{append_reply, creation_reply}
 use Rattle.tus_steps.specs.Request.{Request}
 use Rattle.tus_steps.specs.declared.reply.Reply.{Reply}
 use Rattle.tus_steps.specs.Operation.{operation_of}
@@ -38,7 +45,7 @@ after_append b name chunk now (Err why) after is accepted refused =
     refused ∙ sym (book_after-stays b name.tenant (part_after_append name.id chunk now b.charged) (part_after_append-refused name.id chunk now b.charged b.settings.numbers (tenant_book b name.tenant) why (sym is)))
 
 -- after a refusal the book is as it was
-kept : (b after : PlainBook) (result : Result Appended Refused) (why : Refused) → result ≡ Err why → OnErr result (after ≡ b) → after ≡ b
+kept : {A E : Type 0} (b after : PlainBook) (result : Result A E) (why : E) → result ≡ Err why → OnErr result (after ≡ b) → after ≡ b
 kept b after (Ok told) why is refused = absurd cc
 kept b after (Err told) why is refused = refused
 
@@ -50,6 +57,32 @@ append-step b r now name chunk result after (inl same) accepted refused =
     inl (ap (append_reply r) same, after_append b name chunk now result after same accepted refused)
 append-step b r now name chunk result after (inr lacks) accepted refused =
     inr (lacks.0, ap (append_reply r) lacks.1, kept b after result _ lacks.1 refused)
+
+-- what refuses is the refusal
+unless-Err : {A : Type 0} (found : Option Refusal) (value : A) (why : Refusal) → unless found value ≡ Err why → found ≡ Some why
+unless-Err None value why is = absurd cc
+unless-Err (Some told) value why is = cc
+
+-- a concatenation that is refused leaves the part as it was
+part_after_concat-refused : (n : Numbers) (part : TenantBook) (tenant : ℕ) (new : NewFinal) (now : ℕ) (why : Refusal) → concat_answer tenant new now n part ≡ Err why → part_after_concat new now n part ≡ part
+part_after_concat-refused n part tenant new now why is =
+    let refused = unless-Err (concat_refusal n part new now) (record { name = record { tenant = tenant; id = part.next }; expires = None }) why is in rw refused refl
+
+-- the book after a concatenation, which a refusal leaves as it was
+after_concat : (b : PlainBook) (tenant : ℕ) (new : NewFinal) (now : ℕ) (result : Result Created Refusal) (after : PlainBook) → result ≡ answer_of b tenant (concat_answer tenant new now) → OnOk result (after ≡ book_after b tenant (part_after_concat new now)) → OnErr result (after ≡ b)
+    → after ≡ book_after b tenant (part_after_concat new now)
+after_concat b tenant new now (Ok told) after is accepted refused = accepted
+after_concat b tenant new now (Err why) after is accepted refused =
+    refused ∙ sym (book_after-stays b tenant (part_after_concat new now) (part_after_concat-refused b.settings.numbers (tenant_book b tenant) tenant new now why (sym is)))
+
+-- the answer to a concatenation is that of its step
+pub concat-step : (b : PlainBook) (r : Request) (now tenant : ℕ) (new : NewFinal) (result : Result Created Refusal) (after : PlainBook)
+    → IsAnswer (answer_of b tenant (concat_answer tenant new now)) (MayLackMemory b (operation.Concat tenant new) now) (Err refusal.Memory) result
+    → OnOk result (after ≡ book_after b tenant (part_after_concat new now)) → OnErr result (after ≡ b) → IsOperationStep b r now (operation.Concat tenant new) (creation_reply r result) after
+concat-step b r now tenant new result after (inl same) accepted refused =
+    inl (ap (creation_reply r) same, after_concat b tenant new now result after same accepted refused)
+concat-step b r now tenant new result after (inr lacks) accepted refused =
+    inr (lacks.0, ap (creation_reply r) lacks.1, kept b after result _ lacks.1 refused)
 
 -- the step of an operation is that of the request that asks for it
 pub step-by : (b : PlainBook) (r : Request) (now : ℕ) (op : Operation) (told : Reply) (after : PlainBook) → is_options r.method ≡ false → operation_of b.settings r ≡ Ok op → IsOperationStep b r now op told after → IsStep b r now told after

@@ -4,6 +4,7 @@ pub mod TusFields
 pub mod Media
 pub mod Request
 pub mod Route
+pub mod Creation
 pub mod Operation
 pub mod Reply
 pub mod Step

@@ -2,6 +2,7 @@
 //! and applied as the plain book does.
 #![tactic(auto)]
 
+mod creation;
 mod field;
 pub mod laws;
 mod media;
@@ -14,6 +15,7 @@ mod step;
 mod tests;
 mod tus_fields;
 
+pub use creation::PartIds;
 pub use field::Field;
 pub use media::trim_blanks;
 pub use method::Method;

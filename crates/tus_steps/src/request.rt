@@ -1,5 +1,6 @@
-ghost use Rattle.std.specs.Prelude.{◌≡◌, ℕ, ◌<◌, length, option_copied, IfOk, IfSome, IsTrue};
+ghost use Rattle.std.specs.Prelude.{◌≡◌, ℕ, ◌<◌, length, option_copied, IfOk, IfSome};
 
+use crate::creation::PartIds;
 use crate::field::Field;
 use crate::method::Method;
 use crate::reply::Place;
@@ -7,7 +8,7 @@ use crate::route::Route;
 use crate::tus_fields::TusFields;
 use std::marker::Model;
 use tus_text::{Path, Tenant};
-use upload_book::{Chunk, Name, NewUpload, Operation, Refusal, Settings};
+use upload_book::{Chunk, Name, Operation, Refusal, Settings};
 
 /// The only version of the protocol that is spoken.
 const VERSION: &[u8] = b"1.0.0";
@@ -40,14 +41,20 @@ impl<'a> Model for Request<'a> {
 }
 
 impl<'a> Request<'a> {
-    ghost use Rattle.tus_steps.specs.Operation.{has_version, length_told, is_plain_creation, new_upload_in, chunk_in, operation_on, operation_of, CanBeAsked};
+    ghost use Rattle.tus_steps.specs.Operation.{has_version, chunk_in, operation_on, operation_of, CanBeAsked};
     ghost use Rattle.tus_steps.specs.Reply.{place_of};
     ghost use Rattle.tus_steps.specs.Route.{tenant_name};
-    ghost use Rattle.upload_book.specs.Lawful.{is_kept_metadata};
 
-    /// The operation that the request asks for. It is refused, in this order, as Version, Path, Tenant,
-    /// Method and Field. OPTIONS is answered before this is asked.
-    pub fn operation(&self, settings: &Settings) -> Result<Operation<'a>, Refusal>
+    /// The operation that the request asks for, which borrows from `ids` where it is a concatenation. It is
+    /// refused, in this order, as Version, Path, Tenant, Method and Field. OPTIONS is answered before this
+    /// is asked.
+    pub fn operation<'b>(
+        &self,
+        settings: &Settings,
+        ids: &'b mut PartIds,
+    ) -> Result<Operation<'b>, Refusal>
+    where
+        'a: 'b,
         ensures value { result ≡ operation_of settings.now self.now }
         ensures ready { IfOk result (CanBeAsked (length settings.now.tenants)) }
     {
@@ -57,7 +64,7 @@ impl<'a> Request<'a> {
         let name = self.tenant_name().ok_or(Refusal::Path)?;
         let tenant = settings.tenant(name.as_slice()).ok_or(Refusal::Tenant)?;
         let route = Route::of(&self.path, self.method).ok_or(Refusal::Method)?;
-        self.operation_on(tenant, route).ok_or(Refusal::Field)
+        self.operation_on(tenant, route, ids).ok_or(Refusal::Field)
     }
 
     // Whether the request names the version, or is a GET, which needs none.
@@ -90,15 +97,19 @@ impl<'a> Request<'a> {
     }
 
     // The operation on this route, where the fields tell what it needs.
-    fn operation_on(&self, tenant: u8, route: Route) -> Option<Operation<'a>>
+    fn operation_on<'b>(
+        &self,
+        tenant: u8,
+        route: Route,
+        ids: &'b mut PartIds,
+    ) -> Option<Operation<'b>>
+    where
+        'a: 'b,
         ensures value { result ≡ operation_on self.now tenant route }
         ensures ready { (tenants : ℕ) → tenant < tenants → IfSome result (CanBeAsked tenants) }
     {
         match route {
-            Route::Create => Some(Operation::Create {
-                tenant,
-                new: self.new_upload()?,
-            }),
+            Route::Create => self.creation(tenant, ids),
             Route::Look(id) => Some(Operation::Look(Name { tenant, id })),
             Route::Content(id) => Some(Operation::Content(Name { tenant, id })),
             Route::Terminate(id) => Some(Operation::Terminate(Name { tenant, id })),
@@ -109,46 +120,10 @@ impl<'a> Request<'a> {
         }
     }
 
-    // The upload that a creation asks for, where its fields tell one.
-    fn new_upload(&self) -> Option<NewUpload<'a>>
-        ensures value { result ≡ new_upload_in self.now }
-        ensures metadata { IfSome result (λ new. IsTrue (is_kept_metadata new.metadata)) }
-    {
-        if !self.is_plain_creation() {
-            return None;
-        }
-        let length = self.length_told()?;
-        let metadata = self.fields.metadata.metadata()?;
-        Some(NewUpload {
-            partial: false,
-            length,
-            metadata,
-            concat: b"",
-        })
-    }
-
-    // Whether a creation has no body, and is no concatenation, which is not served.
-    fn is_plain_creation(&self) -> bool
-        ensures { result ≡ is_plain_creation self.now }
-    {
-        self.fields.concat.is_absent() && self.body.is_empty()
-    }
-
-    // The length that a creation tells, or None in it where it will be told later.
-    fn length_told(&self) -> Option<Option<u64>>
-        ensures { result ≡ length_told self.now }
-    {
-        if self.fields.defer.is_absent() {
-            self.fields.length.number().map(Some)
-        } else if self.fields.length.is_absent() && self.fields.defer.is_just(b"1") {
-            Some(None)
-        } else {
-            None
-        }
-    }
-
     // The chunk of a PATCH, where its fields tell one.
-    fn chunk(&self) -> Option<Chunk<'a>>
+    fn chunk<'b>(&self) -> Option<Chunk<'b>>
+    where
+        'a: 'b,
         ensures { result ≡ chunk_in self.now }
     {
         let offset = self.fields.offset.number()?;

@@ -2,14 +2,15 @@ ghost use Rattle.std.specs.Prelude.{◌≡◌};
 ghost use Rattle.upload_book.specs.Book.{plain_of};
 ghost use Rattle.tus_steps.specs.Step.{IsStep};
 
+use crate::creation::PartIds;
 use crate::reply::Reply;
 use crate::request::Request;
 use upload_book::{Book, Moment, Operation};
 
 /// Answers a request and applies it to the book, as the plain book does at this moment: refused by the
 /// first refusal of the order that applies, and then the book is as it was, or else by its operation.
-/// OPTIONS is answered whatever the request says. Where the bytes of a PATCH or of a GET find no memory,
-/// it is refused as Memory, and the book is as it was.
+/// OPTIONS is answered whatever the request says. Where the bytes of a PATCH or of a GET, or the lists of a
+/// final upload, find no memory, it is refused as Memory, and the book is as it was.
 pub fn answer(book: &mut Book, request: &Request, now: Moment) -> Reply
     ensures step { IsStep (plain_of book.old) request.now now result (plain_of book.new) }
     ensures settings { (plain_of book.new).settings ≡ (plain_of book.old).settings }
@@ -19,10 +20,15 @@ pub fn answer(book: &mut Book, request: &Request, now: Moment) -> Reply
             max_size: book.settings().numbers().max_size,
         };
     }
-    match request.operation(book.settings()) {
+    let mut ids = PartIds::new();
+    match request.operation(book.settings(), &mut ids) {
         Err(refusal) => Reply::refusing(request, refusal, None),
         Ok(Operation::Create { tenant, new }) => {
             let outcome = book.create(tenant, new, now);
+            Reply::to_creation(request, outcome)
+        }
+        Ok(Operation::Concat { tenant, new }) => {
+            let outcome = book.concat(tenant, new, now);
             Reply::to_creation(request, outcome)
         }
         Ok(Operation::Look(name)) => Reply::to_look(request, book.look(&name, now)),

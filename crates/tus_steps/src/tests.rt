@@ -20,6 +20,7 @@ enum Told<'a> {
         offset: u64,
         length: Option<u64>,
         metadata: &'a [u8],
+        concat: &'a [u8],
     },
     Content(&'a [u8]),
     Patched {
@@ -47,6 +48,7 @@ fn told_by(reply: &Reply) -> Told<'_> {
             offset: row.offset,
             length: row.declared,
             metadata: row.metadata.as_slice(),
+            concat: row.concat.as_slice(),
         },
         Reply::Content(content) => Told::Content(content.as_slice()),
         Reply::Patched { offset, expires } => Told::Patched {
@@ -199,6 +201,7 @@ fn an_upload_grows_to_its_end(rt: HostRuntime) -> Result<(), Fail> {
                 offset: 5,
                 length: Some(10),
                 metadata: b"",
+                concat: b"",
             },
         ),
         (
@@ -297,13 +300,6 @@ fn each_reason_comes_in_its_order(rt: HostRuntime) -> Result<(), Fail> {
         (with_metadata(Field::One(b"a YQ")), Refusal::Field),
         (with_metadata(Field::One(b"a,,b")), Refusal::Field),
         (
-            creation_with(TusFields {
-                concat: Field::One(b"partial"),
-                ..length_fields(b"10")
-            }),
-            Refusal::Field,
-        ),
-        (
             request_with(Method::Post, b"/files/acme", length_fields(b"10"), b"x"),
             Refusal::Field,
         ),
@@ -389,6 +385,7 @@ fn a_head_tells_what_was_created(rt: HostRuntime) -> Result<(), Fail> {
             offset: 0,
             length: *length,
             metadata,
+            concat: b"",
         };
         assert_eq!(rt; told_by(&reply), told);
     }
@@ -416,6 +413,117 @@ fn a_get_gives_the_bytes(rt: HostRuntime) -> Result<(), Fail> {
     for request in [get, unversioned] {
         let reply = answer(&mut book, &request, now);
         assert_eq!(rt; told_by(&reply), Told::Content(b"hello"));
+    }
+    Ok(())
+}
+
+// A creation of a part of this length for acme.
+fn part<'a>(length: &'a [u8]) -> Request<'a> {
+    creation_with(TusFields {
+        concat: Field::One(b"partial"),
+        ..length_fields(length)
+    })
+}
+
+// A creation for acme with this concat text, and with no length.
+fn concat<'a>(text: &'a [u8]) -> Request<'a> {
+    creation_with(TusFields {
+        concat: Field::One(text),
+        ..fields()
+    })
+}
+
+// What a HEAD tells of a complete upload of so many bytes with this concat text.
+fn joined<'a>(len: u64, concat: &'a [u8]) -> Told<'a> {
+    Told::Head {
+        offset: len,
+        length: Some(len),
+        metadata: b"",
+        concat,
+    }
+}
+
+fn created<'a>(id: u64, expires: Option<u64>) -> Told<'a> {
+    Told::Created { id, expires }
+}
+
+#[test]
+fn parts_are_joined(rt: HostRuntime) -> Result<(), Fail> {
+    let mut book = book(rt.alloc())?;
+    let now = at(1000)?;
+    let twice = b"final;/files/acme/1 http://h:1/files/acme/1";
+    let offset = Told::Patched {
+        offset: 5,
+        expires: Some(4600),
+    };
+    let late = request_with(Method::Patch, b"/files/acme/3", patch_fields(b"10"), b"x");
+    let rows = [
+        (part(b"5"), created(1, Some(4600))),
+        (concat(twice), refused(Refusal::PartOpen)),
+        (patch(b"0", b"hello"), offset),
+        (creation(b"0"), created(2, None)),
+        (
+            concat(b"final;/files/acme/1 /files/acme/2"),
+            refused(Refusal::Part),
+        ),
+        (concat(b"final;/files/beta/1"), refused(Refusal::Part)),
+        (concat(twice), created(3, None)),
+        (
+            request(Method::Head, b"/files/acme/1"),
+            joined(5, b"partial"),
+        ),
+        (request(Method::Head, b"/files/acme/3"), joined(10, twice)),
+        (
+            request(Method::Get, b"/files/acme/3"),
+            Told::Content(b"hellohello"),
+        ),
+        (late, refused(Refusal::IsFinal)),
+    ];
+    for (request, expected) in &rows {
+        let reply = answer(&mut book, request, now);
+        assert_eq!(rt; &told_by(&reply), expected);
+    }
+    Ok(())
+}
+
+#[test]
+fn fields_that_ask_for_no_concatenation(rt: HostRuntime) -> Result<(), Fail> {
+    let mut book = book(rt.alloc())?;
+    let now = at(1000)?;
+    let whole = TusFields {
+        concat: Field::One(b"final;/files/acme/1"),
+        ..fields()
+    };
+    let rows = [
+        concat(b""),
+        concat(b"final;"),
+        concat(b"Partial"),
+        concat(b"partial"),
+        creation_with(TusFields {
+            concat: Field::Many,
+            ..length_fields(b"10")
+        }),
+        creation_with(TusFields {
+            length: Field::One(b"10"),
+            ..whole
+        }),
+        creation_with(TusFields {
+            length: Field::Many,
+            ..whole
+        }),
+        creation_with(TusFields {
+            defer: Field::One(b"1"),
+            ..whole
+        }),
+        creation_with(TusFields {
+            metadata: Field::One(b"a YQ"),
+            ..whole
+        }),
+        request_with(Method::Post, b"/files/acme", whole, b"x"),
+    ];
+    for request in &rows {
+        let reply = answer(&mut book, request, now);
+        assert_eq!(rt; told_by(&reply), refused(Refusal::Field));
     }
     Ok(())
 }
@@ -502,6 +610,7 @@ fn an_expired_upload_is_gone(rt: HostRuntime) -> Result<(), Fail> {
         offset: 0,
         length: Some(10),
         metadata: b"",
+        concat: b"",
     };
     assert_eq!(rt; told_by(&answer(&mut book, &head, at(4599)?)), shown);
     let renewed = Told::Patched {
@@ -516,6 +625,7 @@ fn an_expired_upload_is_gone(rt: HostRuntime) -> Result<(), Fail> {
         offset: 1,
         length: Some(10),
         metadata: b"",
+        concat: b"",
     };
     assert_eq!(rt; told_by(&answer(&mut book, &head, at(4600)?)), shown);
     Ok(())

@@ -1,6 +1,6 @@
 -- The value of Upload-Concat (tus 1.0.0, concatenation): `partial`, or `final;`, any number of spaces,
 -- and 1 to 32 targets with one or more spaces between them, each the target of an upload.
-use Rattle.std.specs.Prelude.{ℕ, List, [], ◌∷◌, length, take, drop, nat_lt, nat_le, Option, Some, None, option_map, option_and_then, if◌then◌else◌, codes, bytes_eq}
+use Rattle.std.specs.Prelude.{ℕ, ◌<◌, ⊤, List, [], ◌∷◌, length, take, drop, nat_lt, nat_le, Option, Some, None, option_map, option_and_then, if◌then◌else◌, codes, bytes_eq}
 use Rattle.std.specs.List.{slice_split}
 use Rattle.tus_text.specs.declared.concat.Concat.{Concat}
 use Rattle.tus_text.specs.declared.concat.Concat.TheVariants.{Partial, Final}
@@ -45,6 +45,11 @@ within_limit parts = if nat_le (length parts) 32 then Some parts else None
 -- the parts of the list that follows `final;`
 unfoldable pub final_of : List ℕ → Option (List PartPath)
 final_of list = option_and_then within_limit (parts_of (words_of list))
+
+-- what is read of a final upload names a part
+abbrev pub NamesSome : Concat → Type 0
+NamesSome Partial = ⊤
+NamesSome (Final parts) = 0 < length parts
 
 -- what follows `final;` at the front
 abbrev pub after_final : List ℕ → Option (List ℕ)

@@ -1,5 +1,5 @@
-ghost use Rattle.std.specs.Prelude.{◌≡◌, ◌≤◌, length, IfSome};
-ghost use Rattle.tus_text.specs.Concat.{concat_of, final_of, part_of};
+ghost use Rattle.std.specs.Prelude.{◌≡◌, ◌<◌, ◌≤◌, length, IfSome};
+ghost use Rattle.tus_text.specs.Concat.{concat_of, final_of, part_of, NamesSome};
 
 use crate::cut::{split_at_first, trim_start};
 use crate::path::{Path, read_path};
@@ -65,6 +65,7 @@ pub enum Concat {
 pub fn read_concat(text: &[u8]) -> Option<Concat>
     ensures value { result ≡ concat_of text.now }
     ensures bound { IfSome result (λ _. length text.now ≤ 2048) }
+    ensures some { IfSome result NamesSome }
 {
     if text.len() > CONCAT_MAX {
         return None;
@@ -78,7 +79,8 @@ pub fn read_concat(text: &[u8]) -> Option<Concat>
 
 // The parts of the list that follows `final;`.
 fn read_parts(list: &[u8]) -> Option<Parts>
-    ensures { result ≡ final_of list.now }
+    ensures value { result ≡ final_of list.now }
+    ensures some { IfSome result (λ parts. 0 < length parts) }
 {
     let mut parts = ArrayVec::new();
     let mut rest = list;

@@ -15,7 +15,8 @@ use Rattle.upload_book.specs.declared.head_row.Kind.TheVariants.{Plain, Partial,
 use Rattle.upload_book.specs.declared.settings.Numbers.{Numbers}
 use Rattle.upload_book.specs.Lawful.{IsTenantOf, IsUploadOf, IsOfKind, IsSegmentOf}
 use Rattle.upload_book.specs.Store.{Store, IsAlone as IsAloneIn, no_upload, shelf_at, part_at, entry_at}
-use Rattle.upload_book.specs.Stored.{Piece, Shelf, StoredUpload, upload_of, entry_of, part_of, parts_of, placed_in, own_chain, HasOwnPiece}
+use Rattle.upload_book.specs.declared.piece.Piece.{Piece}
+use Rattle.upload_book.specs.Stored.{Shelf, StoredUpload, upload_of, entry_of, part_of, parts_of, placed_in, own_chain, HasOwnPiece}
 use Rattle.upload_book.specs.TenantBook.{Entry, TenantBook, kept_in}
 use Rattle.upload_book.specs.Upload.{Upload, IsComplete, content_of as upload_content_of}
 use Rattle.upload_book.proofs.InUse.{Contains-cases, Contains-none}
@@ -150,7 +151,7 @@ alone-store s t i e own is alone =
     All-contains (λ o. o ≢ (entry_at s t i).id) origins z.origin differ (Contains-map (λ (x : Piece). x.origin) f.kept.pieces z c) (same ∙ named no_upload))
 
 -- an upload of each kind has at most 32 segments
-segments-few : (part : TenantBook) (u : Upload) (kind : Kind) → IsOfKind part u kind → length u.segments ≤ 32
+pub segments-few : (part : TenantBook) (u : Upload) (kind : Kind) → IsOfKind part u kind → length u.segments ≤ 32
 segments-few part u Plain is = omega (arith, is.0.segment)
 segments-few part u Partial is = omega (arith, is.0.segment)
 segments-few part u Final is = omega (arith, is.0.few, is.0.each)

@@ -9,12 +9,14 @@ use Rattle.upload_book.specs.Account.{account_in}
 use Rattle.upload_book.specs.Append.{append_refusal, part_after_append, upload_with}
 use Rattle.upload_book.specs.Charge.{charge_in}
 use Rattle.upload_book.specs.Chunk.{Chunk}
+use Rattle.upload_book.specs.Concat.{concat_refusal, final_upload, part_after_concat, parts_found}
 use Rattle.upload_book.specs.Create.{creation_refusal, created_upload, part_after_create}
 use Rattle.upload_book.specs.declared.operation.Operation.{Operation}
-use Rattle.upload_book.specs.declared.operation.Operation.TheVariants.{Create, Look, Content, Append, Terminate}
+use Rattle.upload_book.specs.declared.operation.Operation.TheVariants.{Create, Concat, Look, Content, Append, Terminate}
 use Rattle.upload_book.specs.declared.refusal.Refusal.{Refusal}
 use Rattle.upload_book.specs.declared.settings.Numbers.{Numbers}
 use Rattle.upload_book.specs.Lawful.{IsLawful, IsTenantOf}
+use Rattle.upload_book.specs.NewFinal.{NewFinal}
 use Rattle.upload_book.specs.NewUpload.{NewUpload}
 use Rattle.upload_book.specs.Operation.{book_after_operation}
 use Rattle.upload_book.specs.PlainBook.{PlainBook, book_after, tenant_book, with_tenant_book}
@@ -26,9 +28,10 @@ use Rattle.upload_book.proofs.AppendLemmas.{part_after_append-none}
 use Rattle.upload_book.proofs.ChargeLemmas.{charge-append, charge-create}
 use Rattle.upload_book.proofs.Entries.{visible_in-Ok}
 use Rattle.upload_book.proofs.LawfulAppend.{IsAppendable, IsAppendable-from_none, IsTenantOf-append}
+use Rattle.upload_book.proofs.LawfulConcat.{HasLawfulParts, IsTenantOf-concat, charge-concat}
 use Rattle.upload_book.proofs.LawfulFewer.{IsLawful-without, charge-sweep}
 use Rattle.upload_book.proofs.LawfulSteps.{HasLawfulTexts, IsTenantOf-create, IsLawful-with_tenant_book, IsLawful-with_tenant_book-same}
-use Rattle.upload_book.proofs.Outcomes.{part_after_create-none, part_after_create-refused, part_after_terminate-refused, part_after_terminate-visible}
+use Rattle.upload_book.proofs.Outcomes.{part_after_concat-none, part_after_concat-refused, part_after_create-none, part_after_create-refused, part_after_terminate-refused, part_after_terminate-visible}
 
 -- the book with these parts and totals
 abbrev pub book_with : PlainBook → List TenantBook → ℕ → ℕ → PlainBook
@@ -87,6 +90,16 @@ IsLawful-create b t new now lawful within none texts =
     (IsTenantOf-create b.settings.numbers part new now none texts sound)
     (charge-create b.settings.numbers part new now sound)
 
+-- so does a concatenation that is not refused
+pub IsLawful-concat : (b : PlainBook) (t : ℕ) (new : NewFinal) (now : ℕ) → IsLawful b → t < length b.tenants → concat_refusal b.settings.numbers (tenant_book b t) new now ≡ None → HasLawfulParts new
+    → IsLawful (with_tenant_book b t (with_new (tenant_book b t) (final_upload (parts_found (tenant_book b t) now new.parts) new)))
+IsLawful-concat b t new now lawful within none asked =
+    let part : TenantBook = tenant_book b t in
+    let sound = IsTenantOf-book b t lawful within in
+    IsLawful-with_tenant_book-same b t (with_new part (final_upload (parts_found part now new.parts) new)) lawful within refl
+    (IsTenantOf-concat b.settings.numbers part new now none asked sound)
+    (charge-concat b.settings.numbers part new now sound)
+
 -- a PATCH that is not refused leaves a lawful book lawful
 pub IsLawful-append : (b : PlainBook) (t id : ℕ) (u : Upload) (chunk : Chunk) (now : ℕ) → IsLawful b → t < length b.tenants → kept_in (tenant_book b t).uploads id ≡ Some u
     → append_refusal b.settings.numbers (account_in b.settings.numbers (tenant_book b t) b.charged) (head_row_of u) chunk ≡ None
@@ -114,6 +127,13 @@ created b t new now None lawful within texts is =
 created b t new now (Some why) lawful within texts is =
     subst IsLawful (sym (book_after-stays b t (part_after_create new now) (part_after_create-refused b.settings.numbers (tenant_book b t) new now why is))) lawful
 
+concatenated : (b : PlainBook) (t : ℕ) (new : NewFinal) (now : ℕ) (why : Option Refusal) → IsLawful b → t < length b.tenants → HasLawfulParts new → concat_refusal b.settings.numbers (tenant_book b t) new now ≡ why
+    → IsLawful (book_after b t (part_after_concat new now))
+concatenated b t new now None lawful within asked is =
+    subst (λ part. IsLawful (with_tenant_book b t part)) (sym (part_after_concat-none b.settings.numbers (tenant_book b t) new now is)) (IsLawful-concat b t new now lawful within is asked)
+concatenated b t new now (Some why) lawful within asked is =
+    subst IsLawful (sym (book_after-stays b t (part_after_concat new now) (part_after_concat-refused b.settings.numbers (tenant_book b t) new now why is))) lawful
+
 accepted : (b : PlainBook) (t id : ℕ) (u : Upload) (chunk : Chunk) (now : ℕ) (why : Option Refusal) → IsLawful b → t < length b.tenants → visible_upload (tenant_book b t) id now ≡ Ok u
     → append_refusal b.settings.numbers (account_in b.settings.numbers (tenant_book b t) b.charged) (head_row_of u) chunk ≡ why → IsLawful (book_after b t (part_after_append id chunk now b.charged))
 accepted b t id u chunk now None lawful within seen is =
@@ -133,9 +153,11 @@ terminated b t id now (Ok u) lawful within is =
 terminated b t id now (Err why) lawful within is =
     subst IsLawful (sym (book_after-stays b t (part_after_terminate id now) (part_after_terminate-refused b.settings.numbers (tenant_book b t) id now why is))) lawful
 
--- what is asked of an operation: that its tenant is there, and that the texts of a new upload are of their forms
+-- what is asked of an operation: that its tenant is there, and that the texts of a new upload, and the parts of a
+-- final one, are of their forms
 abbrev pub IsAskedOf : PlainBook → Operation → Type 0
 IsAskedOf b (Create tenant new) = (tenant < length b.tenants) × HasLawfulTexts new
+IsAskedOf b (Concat tenant new) = (tenant < length b.tenants) × HasLawfulParts new
 IsAskedOf b (Look name) = Unit {0}
 IsAskedOf b (Content name) = Unit {0}
 IsAskedOf b (Append name chunk) = name.tenant < length b.tenants
@@ -144,6 +166,7 @@ IsAskedOf b (Terminate name) = name.tenant < length b.tenants
 -- every operation leaves a lawful book lawful
 pub IsLawful-operation : (b : PlainBook) (o : Operation) (now : ℕ) → IsLawful b → IsAskedOf b o → IsLawful (book_after_operation b o now)
 IsLawful-operation b (Create tenant new) now lawful asked = created b tenant new now _ lawful asked.0 asked.1 refl
+IsLawful-operation b (Concat tenant new) now lawful asked = concatenated b tenant new now _ lawful asked.0 asked.1 refl
 IsLawful-operation b (Look name) now lawful asked = lawful
 IsLawful-operation b (Content name) now lawful asked = lawful
 IsLawful-operation b (Append name chunk) now lawful asked = appended_to b name.tenant name.id chunk now _ lawful asked refl

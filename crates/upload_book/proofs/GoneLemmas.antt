@@ -4,7 +4,8 @@ use Rattle.std.specs.List.{Contains}
 use Rattle.block_pool.specs.Blocks.{Blocks}
 use Rattle.block_bodies.specs.Bodies.{IsHeld, IsBodyOf}
 use Rattle.block_bodies.specs.Changes.{GivesBack}
-use Rattle.upload_book.specs.Stored.{Piece, Shelf, StoredUpload, pieces_of, placed_in, charge_on, ArePieces, IsStored}
+use Rattle.upload_book.specs.declared.piece.Piece.{Piece}
+use Rattle.upload_book.specs.Stored.{Shelf, StoredUpload, pieces_of, placed_in, charge_on, ArePieces, IsStored}
 use Rattle.upload_book.specs.TenantBook.{Entry}
 use Rattle.upload_book.proofs.InUse.{places-within}
 use Rattle.upload_book.proofs.Pieces.{IsEntry, without, places-without, Contains-without, ArePieces-copies}

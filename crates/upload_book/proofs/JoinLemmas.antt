@@ -10,10 +10,11 @@ use Rattle.block_pool.specs.Blocks.{Blocks, count_at, places_of}
 use Rattle.block_bodies.specs.Bodies.{Chain, blocks_for}
 use Rattle.block_bodies.specs.Changes.{Holds, MayHold}
 use Rattle.block_bodies.proofs.BodiesLaws.{blocks_for-none}
-use Rattle.upload_book.specs.Stored.{Piece, Shelf, StoredUpload, pieces_of, placed_in, places_on, charge_on, Agree, IsPiece, ArePieces, IsStored}
+use Rattle.upload_book.specs.declared.piece.Piece.{Piece}
+use Rattle.upload_book.specs.Stored.{Shelf, StoredUpload, pieces_of, placed_in, places_on, charge_on, Agree, IsPiece, ArePieces, IsStored, Segment, segment_of}
 use Rattle.upload_book.specs.TenantBook.{Entry, with_new}
 use Rattle.upload_book.proofs.InUse.{places-within, places-found, Contains-cases, Contains-none}
-use Rattle.upload_book.proofs.Pieces.{Segment, segment_of, IsCopyIn, ArePieces-copies, kept_pieces, places-joined, places-few}
+use Rattle.upload_book.proofs.Pieces.{IsCopyIn, ArePieces-copies, kept_pieces, places-joined, places-few}
 use Rattle.upload_book.proofs.Shelves.{IsShelf, IsStoredOn, IsStoredOn-shelf, places_on-held, Changes, IsStored-changed, charge-changed}
 use Rattle.upload_book.proofs.PutLemmas.{own_piece}
 

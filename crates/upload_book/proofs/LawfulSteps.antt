@@ -187,19 +187,24 @@ IsUploadOf-new n part new now small asked = record {
   concat = asked.concat;
 }
 
--- a creation that is not refused leaves the tenant's part as it should be
-pub IsTenantOf-create : (n : Numbers) (part : TenantBook) (new : NewUpload) (now : ℕ) → creation_refusal n part new ≡ None → HasLawfulTexts new → IsTenantOf n part → IsTenantOf n (with_new part (created_upload n new now))
-IsTenantOf-create n part new now none asked sound =
-    let can = IsCreatable-from_none n part new none in
-    let added : Entry Upload = record { id = part.next; kept = created_upload n new now } in
-    let later : TenantBook = with_new part added.kept in
+-- one more upload that is as it should be leaves the tenant's part so, where there is room for it
+pub IsTenantOf-with_new : (n : Numbers) (part : TenantBook) (u : Upload) → length part.uploads < n.uploads → part.next ≤ n.last_id → IsUploadOf n (with_new part u) u → IsTenantOf n part → IsTenantOf n (with_new part u)
+IsTenantOf-with_new n part u room unspent own sound =
+    let added : Entry Upload = record { id = part.next; kept = u } in
+    let later : TenantBook = with_new part u in
     let given : (id : ℕ) → IsGivenIn part id → IsGivenIn later id = λ id given. (given.0, omega (arith, given.1)) in
     let same : (id : ℕ) (segment : List ℕ) → IsGivenIn part id → IsSegmentOf part id segment → IsSegmentOf later id segment = λ id segment given is. (rw (kept_in-push part.uploads added id (omega (arith, given.1))) is) in
     record {
       first = omega arith;
-      last = omega (arith, can.unspent);
-      few = omega (arith, can.room, length-append part.uploads (added ∷ []));
+      last = omega (arith, unspent);
+      few = omega (arith, room, length-append part.uploads (added ∷ []));
       ascending = rw (map-append (λ (e : Entry Upload). e.id) part.uploads (added ∷ [])) (ids-push _ _ sound.ascending (All-map (λ id. id < part.next) (λ (e : Entry Upload). e.id) part.uploads (All-weaker (λ (e : Entry Upload). IsGivenIn part e.id) (λ (e : Entry Upload). e.id < part.next) (λ e g. g.1) part.uploads sound.given)));
       given = All-push (λ (e : Entry Upload). IsGivenIn later e.id) part.uploads added (All-weaker (λ (e : Entry Upload). IsGivenIn part e.id) (λ (e : Entry Upload). IsGivenIn later e.id) (λ e. given e.id) part.uploads sound.given) (sound.first, omega arith);
-      uploads = All-push (λ (e : Entry Upload). IsUploadOf n later e.kept) part.uploads added (All-weaker (λ (e : Entry Upload). IsUploadOf n part e.kept) (λ (e : Entry Upload). IsUploadOf n later e.kept) (λ e. IsUploadOf-beside n part later e.kept given same) part.uploads sound.uploads) (IsUploadOf-new n later new now can.small asked);
+      uploads = All-push (λ (e : Entry Upload). IsUploadOf n later e.kept) part.uploads added (All-weaker (λ (e : Entry Upload). IsUploadOf n part e.kept) (λ (e : Entry Upload). IsUploadOf n later e.kept) (λ e. IsUploadOf-beside n part later e.kept given same) part.uploads sound.uploads) own;
     }
+
+-- so does a creation that is not refused
+pub IsTenantOf-create : (n : Numbers) (part : TenantBook) (new : NewUpload) (now : ℕ) → creation_refusal n part new ≡ None → HasLawfulTexts new → IsTenantOf n part → IsTenantOf n (with_new part (created_upload n new now))
+IsTenantOf-create n part new now none asked sound =
+    let can = IsCreatable-from_none n part new none in
+    IsTenantOf-with_new n part (created_upload n new now) can.room can.unspent (IsUploadOf-new n _ new now can.small asked) sound

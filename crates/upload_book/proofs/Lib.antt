@@ -15,6 +15,7 @@ pub mod Pieces
 pub mod GoneLemmas
 pub mod PutLemmas
 pub mod JoinLemmas
+pub mod JoinedLemmas
 pub mod PlainCharge
 pub mod PlainShelves
 pub mod StoreLemmas
@@ -30,13 +31,17 @@ pub mod PlainSteps
 pub mod StoreAppend
 pub mod ChargeLemmas
 pub mod LawfulFewer
+pub mod LawfulConcat
 pub mod Outcomes
 pub mod BookLemmas
 pub mod RoomLemmas
-pub mod OneBody
 pub mod SeenLemmas
 pub mod StoreOpen
 pub mod StoreRenew
 pub mod BookSteps
+pub mod PartLemmas
 pub mod PatchSteps
+pub mod ConcatSteps
+pub mod HoldersLemmas
+pub mod StoreJoin
 pub mod SweepSteps

@@ -1,8 +1,10 @@
--- What a creation and a DELETE give, by whether they are refused.
+-- What a creation, a concatenation and a DELETE give, by whether they are refused.
 use Rattle.std.proofs.Common.{◌≡◌, ℕ, Some, None, Ok, Err, refl}
+use Rattle.upload_book.specs.Concat.{concat_answer, concat_refusal, final_upload, part_after_concat, parts_found}
 use Rattle.upload_book.specs.Create.{creation_refusal, created_upload, create_answer, part_after_create}
 use Rattle.upload_book.specs.declared.refusal.Refusal.{Refusal}
 use Rattle.upload_book.specs.declared.settings.Numbers.{Numbers}
+use Rattle.upload_book.specs.NewFinal.{NewFinal}
 use Rattle.upload_book.specs.NewUpload.{NewUpload}
 use Rattle.upload_book.specs.TenantBook.{TenantBook, visible_upload, with_new}
 use Rattle.upload_book.specs.Terminate.{without, given_back, terminate_answer, part_after_terminate}
@@ -23,6 +25,22 @@ create_answer-none t n part new now none = rw none refl
 -- adds the upload
 pub part_after_create-none : (n : Numbers) (part : TenantBook) (new : NewUpload) (now : ℕ) → creation_refusal n part new ≡ None → part_after_create new now n part ≡ with_new part (created_upload n new now)
 part_after_create-none n part new now none = rw none refl
+
+-- a concatenation that is refused
+pub concat_answer-refused : (t : ℕ) (n : Numbers) (part : TenantBook) (new : NewFinal) (now : ℕ) (why : Refusal) → concat_refusal n part new now ≡ Some why → concat_answer t new now n part ≡ Err why
+concat_answer-refused t n part new now why is = rw is refl
+
+-- leaves the part
+pub part_after_concat-refused : (n : Numbers) (part : TenantBook) (new : NewFinal) (now : ℕ) (why : Refusal) → concat_refusal n part new now ≡ Some why → part_after_concat new now n part ≡ part
+part_after_concat-refused n part new now why is = rw is refl
+
+-- one that is not refused
+pub concat_answer-none : (t : ℕ) (n : Numbers) (part : TenantBook) (new : NewFinal) (now : ℕ) → concat_refusal n part new now ≡ None → concat_answer t new now n part ≡ Ok (record { name = record { tenant = t; id = part.next }; expires = None })
+concat_answer-none t n part new now none = rw none refl
+
+-- adds the final upload
+pub part_after_concat-none : (n : Numbers) (part : TenantBook) (new : NewFinal) (now : ℕ) → concat_refusal n part new now ≡ None → part_after_concat new now n part ≡ with_new part (final_upload (parts_found part now new.parts) new)
+part_after_concat-none n part new now none = rw none refl
 
 -- a DELETE of what is not visible is refused
 pub terminate_answer-refused : (n : Numbers) (part : TenantBook) (id now : ℕ) (why : Refusal) → visible_upload part id now ≡ Err why → terminate_answer id now n part ≡ Err why

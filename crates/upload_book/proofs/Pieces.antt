@@ -10,7 +10,8 @@ use Rattle.std.proofs.lemmas.List.Sums.{sum_by-set, sum_by-remove, sum_by-cons}
 use Rattle.block_pool.specs.Blocks.{places_of}
 use Rattle.block_pool.proofs.BlocksLaws.{places_of-append}
 use Rattle.block_bodies.specs.Bodies.{blocks_for}
-use Rattle.upload_book.specs.Stored.{Piece, Shelf, StoredUpload, pieces_of, placed_in, places_on, Agree, IsPiece, ArePieces}
+use Rattle.upload_book.specs.declared.piece.Piece.{Piece}
+use Rattle.upload_book.specs.Stored.{Shelf, StoredUpload, pieces_of, placed_in, places_on, Agree, IsPiece, ArePieces, Segment, segment_of}
 use Rattle.upload_book.specs.TenantBook.{Entry}
 use Rattle.upload_book.proofs.InUse.{Contains-first, Contains-later, Contains-cases, Contains-none}
 
@@ -159,16 +160,6 @@ Contains-with_entry old i new x l c =
       | inl same ↦ inl (subst (λ (e : Entry StoredUpload). Contains e.kept.pieces x) (sym same) found.2)
       | inr rest ↦ inr (flat_map-contains kept_pieces (remove old.uploads i) found.0 x rest found.2)
     ]
-
--- what the segments of pieces share: the origin, the blocks and the number of bytes, and not the room
-pub record Segment : Type 0 where
-  pub origin : ℕ
-  pub blocks : List ℕ
-  pub len : ℕ
-
--- the segment of a piece
-abbrev pub segment_of : Piece → Segment
-segment_of x = record { origin = x.origin; blocks = x.chain.blocks; len = x.chain.len }
 
 -- a piece has the segment of one of some pieces
 abbrev pub IsCopyIn : List Piece → Piece → Type 0

@@ -9,7 +9,8 @@ use Rattle.block_bodies.proofs.BodiesLaws.{length-content_of}
 use Rattle.upload_book.specs.Charge.{Source, origins, sources_of, charge_of, charge_with}
 use Rattle.upload_book.specs.declared.head_row.Kind.{Kind}
 use Rattle.upload_book.specs.declared.head_row.Kind.TheVariants.{Plain, Partial, Final}
-use Rattle.upload_book.specs.Stored.{Piece, Shelf, StoredUpload, parts_of, entry_of, part_of, charge_on, own_chain, pieces_of, HasOwnPiece, ReadsWhole}
+use Rattle.upload_book.specs.declared.piece.Piece.{Piece}
+use Rattle.upload_book.specs.Stored.{Shelf, StoredUpload, parts_of, entry_of, part_of, charge_on, own_chain, pieces_of, HasOwnPiece, ReadsWhole}
 use Rattle.upload_book.specs.TenantBook.{Entry}
 use Rattle.upload_book.specs.Upload.{Upload}
 use Rattle.upload_book.proofs.GoneLemmas.{piece-body}

@@ -9,11 +9,12 @@ use Rattle.block_pool.specs.Blocks.{Blocks, bytes_at, bytes_of, places_of}
 use Rattle.block_pool.proofs.BlocksLaws.{bytes_of-same}
 use Rattle.block_bodies.specs.Bodies.{Chain, content_of}
 use Rattle.block_bodies.specs.Changes.{Puts, Holds, GivesBack}
-use Rattle.upload_book.specs.Stored.{Piece, Shelf, StoredUpload, upload_of, entry_of, part_of, placed_in, places_on, parts_of, IsStored}
+use Rattle.upload_book.specs.declared.piece.Piece.{Piece}
+use Rattle.upload_book.specs.Stored.{Shelf, StoredUpload, upload_of, entry_of, part_of, placed_in, places_on, parts_of, IsStored, Segment, segment_of}
 use Rattle.upload_book.specs.TenantBook.{Entry, TenantBook, with_new}
 use Rattle.upload_book.specs.Upload.{Upload, content_of as upload_content_of}
 use Rattle.upload_book.proofs.InUse.{places-within, Contains-first, Contains-later}
-use Rattle.upload_book.proofs.Pieces.{IsEntry, Segment, segment_of, with_entry, without, kept_pieces, places_at, places-without, places-entries, Contains-remove_at}
+use Rattle.upload_book.proofs.Pieces.{IsEntry, with_entry, without, kept_pieces, places_at, places-without, places-entries, Contains-remove_at}
 use Rattle.upload_book.proofs.PutLemmas.{own_piece, own-places}
 use Rattle.upload_book.proofs.Shelves.{IsShelf, IsStoredOn, IsStoredOn-shelf, places_on-held, shelves-apart}
 

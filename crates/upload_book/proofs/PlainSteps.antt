@@ -10,7 +10,8 @@ use Rattle.block_bodies.specs.Bodies.{Chain, content_of}
 use Rattle.block_bodies.specs.Changes.{Puts}
 use Rattle.upload_book.specs.declared.head_row.Kind.{Kind}
 use Rattle.upload_book.specs.declared.head_row.Kind.TheVariants.{Plain, Partial, Final}
-use Rattle.upload_book.specs.Stored.{Piece, Shelf, StoredUpload, upload_of, entry_of, part_of, parts_of}
+use Rattle.upload_book.specs.declared.piece.Piece.{Piece}
+use Rattle.upload_book.specs.Stored.{Shelf, StoredUpload, upload_of, entry_of, part_of, parts_of}
 use Rattle.upload_book.specs.TenantBook.{Entry, with_changed}
 use Rattle.upload_book.specs.Upload.{Upload, content_of as upload_content_of}
 use Rattle.upload_book.proofs.AloneLemmas.{ids-differ}

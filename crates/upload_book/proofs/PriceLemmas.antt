@@ -76,7 +76,7 @@ price-none size (x ∷ xs) origin none =
     ]
 
 -- the price of a tenant's segments is that of one upload's and of the others'
-price-entry : (size : ℕ) (entries : List (Entry Upload)) (i : ℕ) (d : Entry Upload) (origin : ℕ) → i < length entries
+pub price-entry : (size : ℕ) (entries : List (Entry Upload)) (i : ℕ) (d : Entry Upload) (origin : ℕ) → i < length entries
     → price size (flat_map sources_of entries) origin ≡ max (price size (sources_of (get_or entries i d)) origin) (price size (flat_map sources_of (remove entries i)) origin)
 price-entry size [] i d origin within = absurd (omega arith)
 price-entry size (e ∷ entries) zero d origin within = price-append size (sources_of e) (flat_map sources_of entries) origin
@@ -185,31 +185,40 @@ charge-more size next entries i e later added within there given own own_later m
         ∙ ap (λ (s : Entry Upload). max (price size (sources_of s) origin) (others origin) + cond (eqb e.id origin) added 0) (sym there)
         ∙ ap (λ k. k + cond (eqb e.id origin) added 0) (sym (price-entry size entries i e origin within))
 
--- an upload without bytes, at the end, costs nothing
-pub price-push : (size : ℕ) (entries : List (Entry Upload)) (e : Entry Upload) (origin : ℕ) → sources_of e ≡ record { origin = e.id; len = 0 } ∷ []
+-- an upload at the end whose segments cost no more than those before it leaves the price of each origin
+price-push : (size : ℕ) (entries : List (Entry Upload)) (e : Entry Upload) (origin : ℕ) → price size (sources_of e) origin ≤ price size (flat_map sources_of entries) origin
     → price size (flat_map sources_of (entries ++ e ∷ [])) origin ≡ price size (flat_map sources_of entries) origin
-price-push size entries e origin own =
-    ap (λ l. price size l origin) (flat_map-append sources_of entries (e ∷ []))
-    ∙ price-append size (flat_map sources_of entries) (sources_of e ++ []) origin
-    ∙ ap (λ l. max (price size (flat_map sources_of entries) origin) (price size (l ++ []) origin)) own
-    ∙ costs_none (eqb e.id origin) _ _ (blocks_for-zero size)
+price-push size entries e origin less =
+    ap (λ l. price size l origin) (flat_map-append sources_of entries (e ∷ []) ∙ ap (λ l. flat_map sources_of entries ++ l) (append-nil (sources_of e)))
+    ∙ price-append size (flat_map sources_of entries) (sources_of e) origin
+    ∙ dearer _ _ less
   where
-    costs_none : (t : Bool) (r b : ℕ) → b ≡ 0 → max r (cond t (max b 0) 0) ≡ r
-    costs_none true r b none = omega arith
-    costs_none false r b none = omega arith
+    dearer : (a b : ℕ) → b ≤ a → max a b ≡ a
+    dearer a b less = omega arith
 
--- so it does not under an id that nobody has
-pub charge-push : (size next : ℕ) (entries : List (Entry Upload)) (e : Entry Upload) → sources_of e ≡ record { origin = e.id; len = 0 } ∷ [] → All (λ s. s.origin < next) (flat_map sources_of entries)
+-- so it leaves what all cost, under an id that nobody has
+pub charge-stays : (size next : ℕ) (entries : List (Entry Upload)) (e : Entry Upload) → All (λ s. s.origin < next) (flat_map sources_of entries)
+    → ((origin : ℕ) → price size (sources_of e) origin ≤ price size (flat_map sources_of entries) origin)
     → charge_of size (next + 1) (flat_map sources_of (entries ++ e ∷ [])) ≡ charge_of size next (flat_map sources_of entries)
-charge-push size next entries e own below =
+charge-stays size next entries e below less =
     let one_more : next + 1 ≡ suc next = omega arith in
     let last : price size (flat_map sources_of entries) next ≡ 0 = price-none size (flat_map sources_of entries) next (λ k d within same. omega (arith, below k d within)) in
     ap (λ end. charge_of size end (flat_map sources_of (entries ++ e ∷ []))) one_more
-    ∙ sum_below-same (suc next) (price size (flat_map sources_of (entries ++ e ∷ []))) (price size (flat_map sources_of entries)) (λ origin l. price-push size entries e origin own)
+    ∙ sum_below-same (suc next) (price size (flat_map sources_of (entries ++ e ∷ []))) (price size (flat_map sources_of entries)) (λ origin l. price-push size entries e origin (less origin))
     ∙ drop_none _ _ last
   where
     drop_none : (a b : ℕ) → b ≡ 0 → a + b ≡ a
     drop_none a b none = omega arith
+
+-- an upload without bytes does
+pub charge-push : (size next : ℕ) (entries : List (Entry Upload)) (e : Entry Upload) → sources_of e ≡ record { origin = e.id; len = 0 } ∷ [] → All (λ s. s.origin < next) (flat_map sources_of entries)
+    → charge_of size (next + 1) (flat_map sources_of (entries ++ e ∷ [])) ≡ charge_of size next (flat_map sources_of entries)
+charge-push size next entries e own below =
+    charge-stays size next entries e below (λ origin. rw own (costs_none (eqb e.id origin) (price size (flat_map sources_of entries) origin) (blocks_for size 0) (blocks_for-zero size)))
+  where
+    costs_none : (t : Bool) (r b : ℕ) → b ≡ 0 → cond t (max b 0) 0 ≤ r
+    costs_none true r b none = omega arith
+    costs_none false r b none = omega arith
 
 fewer_step : (t : Bool) (size origin : ℕ) (e : Entry Upload) (kept rest : List (Entry Upload)) → price size (flat_map sources_of kept) origin ≤ price size (flat_map sources_of rest) origin
     → price size (flat_map sources_of (cond t (e ∷ kept) kept)) origin ≤ max (price size (sources_of e) origin) (price size (flat_map sources_of rest) origin)

@@ -6,7 +6,8 @@ use Rattle.block_pool.specs.Blocks.{Blocks, count_at, places_of}
 use Rattle.block_pool.proofs.BlocksLaws.{places_of-append, places_of-at}
 use Rattle.block_bodies.specs.Bodies.{Chain, IsBodyOf, IsLastOwn}
 use Rattle.block_bodies.specs.Changes.{Puts}
-use Rattle.upload_book.specs.Stored.{Piece, Shelf, StoredUpload, pieces_of, placed_in, places_on, charge_on, Agree, IsPiece, IsStored}
+use Rattle.upload_book.specs.declared.piece.Piece.{Piece}
+use Rattle.upload_book.specs.Stored.{Shelf, StoredUpload, pieces_of, placed_in, places_on, charge_on, Agree, IsPiece, IsStored}
 use Rattle.upload_book.specs.TenantBook.{Entry}
 use Rattle.upload_book.proofs.InUse.{places-within, places-found, Contains-first, Contains-cases, Contains-none}
 use Rattle.upload_book.proofs.Pieces.{IsEntry, with_entry, without, places_at, places-without, places-with_entry, Contains-entry, Contains-without, Contains-with_entry}

@@ -1,10 +1,8 @@
 -- The store where an upload is told its length and its end, and where bytes are put at the end of one.
-use Rattle.std.proofs.Common.{◌≡◌, ◌≢◌, ℕ, ◌+◌, ◌<◌, ◌≤◌, ◌^◌, List, [], ◌∷◌, map, length, get_or, set, vec_capacity, Option, refl, sym, ap, ◌∙◌, subst, inl, inr, arith}
+use Rattle.std.proofs.Common.{◌≡◌, ◌≢◌, ℕ, ◌+◌, ◌<◌, ◌≤◌, ◌^◌, List, [], ◌∷◌, length, get_or, set, vec_capacity, Option, refl, sym, ap, ◌∙◌, subst, inl, inr, arith}
 use Rattle.std.specs.List.{All, sum_by}
-use Rattle.std.specs.List.Sorted.{IsStrictlyIncreasing}
 use Rattle.std.proofs.lemmas.List.Sums.{sum_by-remove}
 use Rattle.std.proofs.Math.ListN.{length-append}
-use Rattle.std.proofs.lemmas.List.{get_or_default}
 use Rattle.std.proofs.lemmas.List.Elements.{All-set}
 use Rattle.block_pool.specs.Blocks.{Blocks, free_in, size_of}
 use Rattle.block_bodies.specs.Bodies.{blocks_with, Chain, IsBodyOf, IsLastOwn, StandsOnce, content_of}
@@ -14,14 +12,15 @@ use Rattle.upload_book.specs.Charge.{charge_with}
 use Rattle.upload_book.specs.declared.head_row.Kind.TheVariants.{Final}
 use Rattle.upload_book.specs.declared.shelf.Shelf.{Shelf as KeptShelf}
 use Rattle.upload_book.specs.declared.store.Store.TheInside.{Inside}
-use Rattle.upload_book.specs.Kept.{shelf_of, store_of, IsKept, IsSingle}
+use Rattle.upload_book.specs.Kept.{shelf_of, store_of, IsKept}
 use Rattle.upload_book.specs.Store as store
-use Rattle.upload_book.specs.Store.{Store, plain_in, part_at, with_chain, with_head, with_upload, with_bytes}
-use Rattle.upload_book.specs.Stored.{Shelf, StoredUpload, Piece, part_of, upload_of, pieces_of, own_chain, charge_on, IsStored, ReadsWhole}
-use Rattle.upload_book.specs.TenantBook.{TenantBook, Entry}
-use Rattle.upload_book.specs.Upload.{Upload, content_of as upload_content_of, offset_of}
+use Rattle.upload_book.specs.Store.{Store, plain_in, part_at, shelf_at, with_chain, with_head, with_upload, with_bytes}
+use Rattle.upload_book.specs.declared.piece.Piece.{Piece}
+use Rattle.upload_book.specs.Stored.{Shelf, StoredUpload, part_of, upload_of, pieces_of, own_chain, charge_on, IsStored, ReadsWhole, HasOwnPiece}
+use Rattle.upload_book.specs.TenantBook.{Entry}
+use Rattle.upload_book.specs.Upload.{content_of as upload_content_of, offset_of}
 use Rattle.upload_book.proofs.InUse.{blocks_in_use, Contains-cases, Contains-none, places-within}
-use Rattle.upload_book.proofs.AloneLemmas.{alone-from, ids-differ, ids-kept, ids_on}
+use Rattle.upload_book.proofs.AloneLemmas.{alone-store}
 use Rattle.upload_book.proofs.OwnLemmas.{HasOwnPiece-from, own-kept}
 use Rattle.upload_book.proofs.Pieces.{IsEntry, with_entry, without, Contains-with_entry, Contains-without}
 use Rattle.upload_book.proofs.PlainShelves.{content-own, content-same, put-keeps, put-keeps_elsewhere, part-with_entry}
@@ -29,7 +28,7 @@ use Rattle.upload_book.proofs.PlainSteps.{upload-put}
 use Rattle.upload_book.proofs.PriceLemmas.{blocks_between-adds}
 use Rattle.upload_book.proofs.PutLemmas.{own_piece, own-contained, IsAlone, own-body, own-last, IsStored-put, put-charge}
 use Rattle.upload_book.proofs.Shelves.{IsStoredOn-shelf}
-use Rattle.upload_book.proofs.StoreLemmas.{charges-kept, with_shelf, with_shelf-part, IsPart, IsShelf-part, shelf_at-part, single-part, own-part, reads-part, charge-part, charge_with-part, IsKept-with_shelf, plain_in-with_shelf}
+use Rattle.upload_book.proofs.StoreLemmas.{charges-kept, with_shelf, with_shelf-part, IsPart, IsShelf-part, shelf_at-part, own-part, reads-part, charge-part, charge_with-part, IsKept-with_shelf, plain_in-with_shelf}
 
 -- an upload that is not final is read in a part, and bytes are put at its end
 pub record PutsIn (v : Inside) (t i : ℕ) (old : KeptShelf) (e : Entry StoredUpload) (bytes : List ℕ) (q : Blocks) (y : Chain) : Type 0 where
@@ -119,7 +118,7 @@ module _ (v : Inside) (t i : ℕ) (old changed : KeptShelf) (e : Entry StoredUpl
       IsKept-with_shelf v q t old changed kept puts.part puts.puts.sizes
       (subst (λ (s : Shelf). IsStored q (set (store_of v).shelves t s)) (sym shelf) (IsStored-put v.pool (store_of v).shelves t (shelf_of old) i e after x bytes q y kept.stored part puts.entry own puts.alone puts.puts refl))
       (put-keeps_elsewhere v.pool (store_of v).shelves t (shelf_of old) i e x bytes q y kept.stored part puts.entry own puts.puts)
-      (subst (λ (s : Shelf). All IsSingle s.uploads) (sym shelf) (All-set IsSingle (shelf_of old).uploads i after (puts.own, HasOwnPiece-from after y refl) (single-part v t old kept puts.part)))
+      (subst (λ (s : Shelf). All HasOwnPiece s.uploads) (sym shelf) (All-set HasOwnPiece (shelf_of old).uploads i after (HasOwnPiece-from after y refl) (own-part v t old kept puts.part)))
       (subst (λ (s : Shelf). ReadsWhole q (pieces_of s)) (sym shelf) put-reads)
       (omega (
         arith,
@@ -157,13 +156,9 @@ module _ (v : Inside) (t i : ℕ) (old changed : KeptShelf) (e : Entry StoredUpl
 -- the upload at a place is alone with its origin
 pub alone-read : (v : Inside) (s : Store) (t i : ℕ) (old : KeptShelf) (e : Entry StoredUpload) → IsKept v → store_of v ≡ s → IsPart v t old → IsEntry (shelf_of old) i e → store.IsAlone s t i → IsAlone (shelf_of old) i e.id
 alone-read v s t i old e kept is part entry alone =
-    let shelf = shelf_of old in
-    let ids : IsStrictlyIncreasing (ids_on shelf.uploads) =
-    subst IsStrictlyIncreasing (ids-kept v.pool shelf.uploads)
-    (subst (λ (part : TenantBook). IsStrictlyIncreasing (map {A = Entry Upload} {B = ℕ} (λ e. e.id) part.uploads)) (ap (λ (s : Store). part_at s t) (sym is) ∙ ap (part_of v.pool) (shelf_at-part v t old part)) alone.ids) in
-    alone-from shelf i e entry.within (own-part v t old kept part)
-    (λ k d within other same. ids-differ shelf.uploads i k d ids entry.within within other (same ∙ ap (λ (e : Entry StoredUpload). e.id) (entry.read ∙ get_or_default shelf.uploads i e d entry.within)))
-    (λ f z c final here. absurd (subst (λ (f : Entry StoredUpload). f.kept.kind ≢ Final) c.2 (single-part v t old kept part c.0 f c.1).0 final))
+    let shelf : shelf_at s t ≡ shelf_of old = ap (λ (s : Store). shelf_at s t) (sym is) ∙ shelf_at-part v t old part in
+    subst (λ (shelf : Shelf). IsAlone shelf i e.id) shelf
+    (alone-store s t i e (subst (λ (shelf : Shelf). All HasOwnPiece shelf.uploads) (sym shelf) (own-part v t old kept part)) (subst (λ (shelf : Shelf). IsEntry shelf i e) (sym shelf) entry) alone)
 
 -- so many blocks are free
 pub free-read : (v : Inside) (more : ℕ) → IsKept v → sum_by (charge_with v.pool.block_size) (plain_in (store_of v)) + more ≤ size_of v.pool → more ≤ free_in v.pool

@@ -7,16 +7,16 @@ use Rattle.block_bodies.specs.Changes.{GivesBack}
 use Rattle.upload_book.specs.Charge.{charge_with}
 use Rattle.upload_book.specs.declared.shelf.Shelf.{Shelf as KeptShelf}
 use Rattle.upload_book.specs.declared.store.Store.TheInside.{Inside}
-use Rattle.upload_book.specs.Kept.{shelf_of, store_of, IsKept, IsSingle}
+use Rattle.upload_book.specs.Kept.{shelf_of, store_of, IsKept}
 use Rattle.upload_book.specs.Store.{plain_in, part_at, without_upload}
-use Rattle.upload_book.specs.Stored.{Shelf, StoredUpload, part_of, pieces_of, placed_in, charge_on, IsStored, ReadsWhole}
+use Rattle.upload_book.specs.Stored.{Shelf, StoredUpload, part_of, pieces_of, placed_in, charge_on, IsStored, ReadsWhole, HasOwnPiece}
 use Rattle.upload_book.specs.TenantBook.{Entry}
 use Rattle.upload_book.proofs.GoneLemmas.{gone-held, IsStored-gone, gone-charge}
 use Rattle.upload_book.proofs.InUse.{places-within}
 use Rattle.upload_book.proofs.Pieces.{IsEntry, without, All-remove, Contains-without}
 use Rattle.upload_book.proofs.PlainShelves.{content-same, gone-keeps, gone-keeps_elsewhere, part-without}
 use Rattle.upload_book.proofs.Shelves.{IsStoredOn-shelf}
-use Rattle.upload_book.proofs.StoreLemmas.{with_shelf, with_shelf-part, IsPart, IsShelf-part, shelf_at-part, single-part, reads-part, charge-part, charge_with-part, IsKept-with_shelf, plain_in-with_shelf}
+use Rattle.upload_book.proofs.StoreLemmas.{with_shelf, with_shelf-part, IsPart, IsShelf-part, shelf_at-part, own-part, reads-part, charge-part, charge_with-part, IsKept-with_shelf, plain_in-with_shelf}
 
 -- an upload is read in a part, and its blocks are given back
 pub record GivesUp (v : Inside) (t i : ℕ) (old : KeptShelf) (e : Entry StoredUpload) (freed : ℕ) (q : Blocks) : Type 0 where
@@ -60,7 +60,7 @@ IsKept-given v t i old changed e freed q kept gives is =
     IsKept-with_shelf v q t old changed kept gives.part gives.gives.sizes
     (subst (λ (s : Shelf). IsStored q (set (store_of v).shelves t s)) (sym shelf) (IsStored-gone v.pool (store_of v).shelves t (shelf_of old) i e freed q kept.stored part gives.entry gives.gives))
     (gone-keeps_elsewhere v.pool (store_of v).shelves t (shelf_of old) i e freed q kept.stored part gives.entry gives.gives)
-    (subst (All IsSingle) (sym is.uploads) (All-remove IsSingle old.uploads.items i (single-part v t old kept gives.part)))
+    (subst (All HasOwnPiece) (sym is.uploads) (All-remove HasOwnPiece old.uploads.items i (own-part v t old kept gives.part)))
     (subst (λ (s : Shelf). ReadsWhole q (pieces_of s)) (sym shelf) reads)
     (omega (arith, is.charge, given-charge v t i old e freed q kept gives, ap (charge_on v.pool.block_size) shelf))
     is.room

@@ -5,7 +5,7 @@ use Rattle.std.specs.Vec.{with_item}
 use Rattle.std.proofs.Math.ListN.{length-map, length-set}
 use Rattle.std.proofs.lemmas.Bool.Decides.{eqb_tells}
 use Rattle.std.proofs.lemmas.List.{map-set, set-get_or, get_or-map, get_or-set_same, get_or-set_other, get_or_default}
-use Rattle.std.proofs.lemmas.List.Elements.{All-set, All-weaker, All-head, All-tail}
+use Rattle.std.proofs.lemmas.List.Elements.{All-set, All-head, All-tail}
 use Rattle.std.proofs.lemmas.List.Sums.{sum_by-cons}
 use Rattle.block_pool.specs.Blocks.{Blocks}
 use Rattle.block_bodies.specs.Changes.{SameSizes}
@@ -13,16 +13,17 @@ use Rattle.upload_book.specs.Charge.{charge_with}
 use Rattle.upload_book.specs.declared.head_row.Kind.TheVariants.{Final}
 use Rattle.upload_book.specs.declared.shelf.Shelf.{Shelf as KeptShelf}
 use Rattle.upload_book.specs.declared.store.Store.TheInside.{Inside}
-use Rattle.upload_book.specs.Kept.{shelf_of, store_of, IsKept, IsSingle}
+use Rattle.upload_book.specs.Kept.{shelf_of, store_of, IsKept}
 use Rattle.upload_book.specs.Store.{Store, plain_in, part_at, shelf_at, entry_at, upload_at, no_upload}
-use Rattle.upload_book.specs.Stored.{Shelf, StoredUpload, part_of, upload_of, pieces_of, places_on, charge_on, IsStored, HasOwnPiece, ReadsWhole}
+use Rattle.upload_book.specs.Stored.{Shelf, StoredUpload, part_of, upload_of, pieces_of, places_on, charge_on, AreBodies, IsStored, HasOwnPiece, ReadsWhole}
 use Rattle.upload_book.specs.TenantBook.{TenantBook, Entry, opening_part}
 use Rattle.upload_book.specs.Upload.{Upload}
 use Rattle.upload_book.proofs.PlainCharge.{charge-plain}
 use Rattle.upload_book.proofs.PlainShelves.{KeepBytes, content-same, parts-changed}
 use Rattle.upload_book.proofs.InUse.{places-within}
 use Rattle.upload_book.proofs.Pieces.{IsEntry, Contains-entry}
-use Rattle.upload_book.proofs.Shelves.{IsShelf}
+use Rattle.upload_book.proofs.GoneLemmas.{piece-body}
+use Rattle.upload_book.proofs.Shelves.{IsShelf, IsStoredOn-shelf}
 
 -- the fields with another pool and one part changed
 abbrev pub with_shelf : Inside → Blocks → ℕ → KeptShelf → Inside
@@ -52,14 +53,10 @@ shelf_at-part v t old is =
     get_or-map shelf_of v.shelves.items t old (opening_part 0) is.within ∙ ap shelf_of (sym is.read)
 
 -- its uploads that are not final have their own pieces,
-pub single-part : (v : Inside) (t : ℕ) (old : KeptShelf) → IsKept v → IsPart v t old → All IsSingle (shelf_of old).uploads
-single-part v t old kept is =
-    let shelf = IsShelf-part v t old is in
-    subst (λ (s : Shelf). All IsSingle s.uploads) (sym shelf.read) (kept.own t (shelf_of old) shelf.within)
-
 pub own-part : (v : Inside) (t : ℕ) (old : KeptShelf) → IsKept v → IsPart v t old → All HasOwnPiece (shelf_of old).uploads
 own-part v t old kept is =
-    All-weaker IsSingle HasOwnPiece (λ e single. single.1) (shelf_of old).uploads (single-part v t old kept is)
+    let shelf = IsShelf-part v t old is in
+    subst (λ (s : Shelf). All HasOwnPiece s.uploads) (sym shelf.read) (kept.own t (shelf_of old) shelf.within)
 
 -- its pieces read whole,
 pub reads-part : (v : Inside) (t : ℕ) (old : KeptShelf) → IsKept v → IsPart v t old → ReadsWhole v.pool (pieces_of (shelf_of old))
@@ -103,13 +100,13 @@ All-shelves P shelves t s here others k d within =
 pub IsKept-with_shelf : (v : Inside) (q : Blocks) (t : ℕ) (old changed : KeptShelf) → IsKept v → IsPart v t old → SameSizes v.pool q
     → IsStored q (set (store_of v).shelves t (shelf_of changed))
     → ((k : ℕ) (other : Shelf) → IsShelf (store_of v).shelves k other → k ≢ t → KeepBytes v.pool q (λ b. places_on b other))
-    → All IsSingle (shelf_of changed).uploads → ReadsWhole q (pieces_of (shelf_of changed)) → changed.charge ≡ charge_on v.pool.block_size (shelf_of changed)
+    → All HasOwnPiece (shelf_of changed).uploads → ReadsWhole q (pieces_of (shelf_of changed)) → changed.charge ≡ charge_on v.pool.block_size (shelf_of changed)
     → v.room ≤ vec_capacity changed.uploads → IsKept (with_shelf v q t changed)
 IsKept-with_shelf v q t old changed kept is sizes stored stay own reads charge room =
     let shelves = shelves-with_shelf v q t changed in
     record {
       stored = rw shelves stored;
-      own = rw shelves (All-set (λ (s : Shelf). All IsSingle s.uploads) (store_of v).shelves t (shelf_of changed) own kept.own);
+      own = rw shelves (All-set (λ (s : Shelf). All HasOwnPiece s.uploads) (store_of v).shelves t (shelf_of changed) own kept.own);
       reads = rw shelves (All-shelves (λ s. ReadsWhole q (pieces_of s)) (store_of v).shelves t (shelf_of changed) reads others);
       size = rw sizes.bytes kept.size;
       blocks = rw sizes.blocks kept.blocks;
@@ -167,24 +164,29 @@ upload_at-read v s t i old e is part entry =
     let pool : s.pool ≡ v.pool = ap (λ (s : Store). s.pool) (sym is) in
     ap₂ (λ (p : Blocks) (e : Entry StoredUpload). upload_of p e.kept) pool (entry_at-read v s t i old e is part entry)
 
--- its pieces read whole
+-- it is not a final one where what stands there is not
+pub own-kind : (v : Inside) (s : Store) (t i : ℕ) (old : KeptShelf) (e : Entry StoredUpload) → store_of v ≡ s → IsPart v t old → IsEntry (shelf_of old) i e → (entry_at s t i).kept.kind ≢ Final → e.kept.kind ≢ Final
+own-kind v s t i old e is part entry own = subst (λ (e : Entry StoredUpload). e.kept.kind ≢ Final) (entry_at-read v s t i old e is part entry) own
+
+-- its pieces are bodies of the pool,
+pub bodies-entry : (v : Inside) (t i : ℕ) (old : KeptShelf) (e : Entry StoredUpload) → IsKept v → IsPart v t old → IsEntry (shelf_of old) i e → AreBodies v.pool e.kept.pieces
+bodies-entry v t i old e kept part entry x c =
+    piece-body v.pool (shelf_of old) x (IsStoredOn-shelf v.pool (store_of v).shelves t (shelf_of old) kept.stored (IsShelf-part v t old part)) (Contains-entry (shelf_of old) i e x entry c)
+
+-- and read whole
 pub reads-entry : (v : Inside) (t i : ℕ) (old : KeptShelf) (e : Entry StoredUpload) → IsKept v → IsPart v t old → IsEntry (shelf_of old) i e → ReadsWhole v.pool e.kept.pieces
 reads-entry v t i old e kept part entry x c = reads-part v t old kept part x (Contains-entry (shelf_of old) i e x entry c)
-
--- it is not a final one
-pub not_final : (v : Inside) (t i : ℕ) (old : KeptShelf) (e : Entry StoredUpload) → IsKept v → IsPart v t old → IsEntry (shelf_of old) i e → e.kept.kind ≢ Final
-not_final v t i old e kept part entry = subst (λ (e : Entry StoredUpload). e.kept.kind ≢ Final) (sym entry.read) (single-part v t old kept part i e entry.within).0
 
 -- what all tenants pay by the plain book is what they pay by their pieces
 pub charges-kept : (v : Inside) → IsKept v → sum_by (charge_with v.pool.block_size) (plain_in (store_of v)) ≡ sum_by (charge_on v.pool.block_size) (store_of v).shelves
 charges-kept v kept = sums (store_of v).shelves kept.own kept.reads
   where
-    sums : (shelves : List Shelf) → All (λ (s : Shelf). All IsSingle s.uploads) shelves → All (λ (s : Shelf). ReadsWhole v.pool (pieces_of s)) shelves
+    sums : (shelves : List Shelf) → All (λ (s : Shelf). All HasOwnPiece s.uploads) shelves → All (λ (s : Shelf). ReadsWhole v.pool (pieces_of s)) shelves
         → sum_by (charge_with v.pool.block_size) (map {A = Shelf} {B = TenantBook} (part_of v.pool) shelves) ≡ sum_by (charge_on v.pool.block_size) shelves
     sums [] own reads = refl
     sums (s ∷ shelves) own reads =
-        let here = charge-plain v.pool.block_size v.pool s (All-weaker IsSingle HasOwnPiece (λ e single. single.1) s.uploads (All-head (λ (s : Shelf). All IsSingle s.uploads) s shelves own)) (All-head (λ (s : Shelf). ReadsWhole v.pool (pieces_of s)) s shelves reads) in
-        let rest = sums shelves (All-tail (λ (s : Shelf). All IsSingle s.uploads) s shelves own) (All-tail (λ (s : Shelf). ReadsWhole v.pool (pieces_of s)) s shelves reads) in
+        let here = charge-plain v.pool.block_size v.pool s (All-head (λ (s : Shelf). All HasOwnPiece s.uploads) s shelves own) (All-head (λ (s : Shelf). ReadsWhole v.pool (pieces_of s)) s shelves reads) in
+        let rest = sums shelves (All-tail (λ (s : Shelf). All HasOwnPiece s.uploads) s shelves own) (All-tail (λ (s : Shelf). ReadsWhole v.pool (pieces_of s)) s shelves reads) in
         sum_by-cons (charge_with v.pool.block_size) (part_of v.pool s) (map {A = Shelf} {B = TenantBook} (part_of v.pool) shelves) ∙ ap₂ (λ (a b : ℕ). a + b) here rest ∙ sym (sum_by-cons (charge_on v.pool.block_size) s shelves)
 
 -- what is said of the upload that was read is said of what stands at its place

@@ -9,9 +9,9 @@ use Rattle.upload_book.specs.Charge.{sum_below}
 use Rattle.upload_book.specs.declared.settings.TenantQuota.{TenantQuota}
 use Rattle.upload_book.specs.declared.shelf.Shelf.{Shelf as KeptShelf}
 use Rattle.upload_book.specs.declared.store.Store.TheInside.{Inside}
-use Rattle.upload_book.specs.Kept.{shelf_of, store_of, IsKept, IsSingle}
+use Rattle.upload_book.specs.Kept.{shelf_of, store_of, IsKept}
 use Rattle.upload_book.specs.Store.{opening_shelves}
-use Rattle.upload_book.specs.Stored.{Shelf, pieces_of, charge_on, ReadsWhole}
+use Rattle.upload_book.specs.Stored.{Shelf, pieces_of, charge_on, ReadsWhole, HasOwnPiece}
 use Rattle.upload_book.specs.TenantBook.{opening_part}
 use Rattle.upload_book.proofs.InUse.{Contains-none}
 use Rattle.upload_book.proofs.StayLemmas.{IsStored-opening}
@@ -55,7 +55,7 @@ IsKept-opening v tenants opens free size few charges room =
     let none : All (λ (s : Shelf). s.uploads ≡ []) (store_of v).shelves = subst (All (λ (s : Shelf). s.uploads ≡ [])) (sym opens) (no_uploads tenants) in
     record {
       stored = IsStored-opening v.pool (store_of v).shelves free none;
-      own = All-weaker (λ (s : Shelf). s.uploads ≡ []) (λ (s : Shelf). All IsSingle s.uploads) (λ s empty. rw empty (search rules)) (store_of v).shelves none;
+      own = All-weaker (λ (s : Shelf). s.uploads ≡ []) (λ (s : Shelf). All HasOwnPiece s.uploads) (λ s empty. rw empty (search rules)) (store_of v).shelves none;
       reads = All-weaker (λ (s : Shelf). s.uploads ≡ []) (λ (s : Shelf). ReadsWhole v.pool (pieces_of s)) (λ s empty x c. absurd (Contains-none x (rw empty at c))) (store_of v).shelves none;
       size = size;
       blocks = few;

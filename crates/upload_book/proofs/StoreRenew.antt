@@ -6,16 +6,16 @@ use Rattle.upload_book.specs.Charge.{charge_with}
 use Rattle.upload_book.specs.declared.head_row.Kind.TheVariants.{Final}
 use Rattle.upload_book.specs.declared.shelf.Shelf.{Shelf as KeptShelf}
 use Rattle.upload_book.specs.declared.store.Store.TheInside.{Inside}
-use Rattle.upload_book.specs.Kept.{shelf_of, store_of, IsKept, IsSingle}
+use Rattle.upload_book.specs.Kept.{shelf_of, store_of, IsKept}
 use Rattle.upload_book.specs.Store.{plain_in, part_at, with_head, with_upload, with_bytes}
-use Rattle.upload_book.specs.Stored.{Shelf, StoredUpload, part_of, upload_of, pieces_of, own_chain, charge_on, IsStored, ReadsWhole}
+use Rattle.upload_book.specs.Stored.{Shelf, StoredUpload, part_of, upload_of, pieces_of, own_chain, charge_on, IsStored, ReadsWhole, HasOwnPiece}
 use Rattle.upload_book.specs.TenantBook.{Entry}
 use Rattle.upload_book.specs.Upload.{content_of}
 use Rattle.upload_book.proofs.Pieces.{IsEntry, with_entry}
 use Rattle.upload_book.proofs.PlainShelves.{content-own, part-with_entry, segments-own}
 use Rattle.upload_book.proofs.StayLemmas.{pieces-same, IsStored-same, same-charge}
 use Rattle.upload_book.proofs.StoreAppend.{own-read}
-use Rattle.upload_book.proofs.StoreLemmas.{with_shelf, with_shelf-part, IsPart, IsShelf-part, shelf_at-part, single-part, reads-part, charge-part, charge_with-part, IsKept-with_shelf, plain_in-with_shelf}
+use Rattle.upload_book.proofs.StoreLemmas.{with_shelf, with_shelf-part, IsPart, IsShelf-part, shelf_at-part, own-part, reads-part, charge-part, charge_with-part, IsKept-with_shelf, plain_in-with_shelf}
 
 -- an upload that is not final is read in a part, which then has it with this length and this end
 pub record IsRenewed (v : Inside) (t i : ℕ) (old changed : KeptShelf) (e : Entry StoredUpload) (declared expires : Option ℕ) : Type 0 where
@@ -33,8 +33,8 @@ module _ (v : Inside) (t i : ℕ) (old changed : KeptShelf) (e : Entry StoredUpl
   shelf = rw (is.quota, is.next, is.uploads) refl
 
   -- its own piece stays
-  single : IsSingle (with_head e declared expires)
-  single = subst (λ (e : Entry StoredUpload). IsSingle (with_head e declared expires)) (sym is.entry.read) (single-part v t old kept is.part i e is.entry.within)
+  single : HasOwnPiece (with_head e declared expires)
+  single = subst (λ (e : Entry StoredUpload). HasOwnPiece (with_head e declared expires)) (sym is.entry.read) (own-part v t old kept is.part i e is.entry.within)
 
   -- the store is kept
   pub IsKept-renewed : IsKept (with_shelf v v.pool t changed)
@@ -44,7 +44,7 @@ module _ (v : Inside) (t i : ℕ) (old changed : KeptShelf) (e : Entry StoredUpl
       IsKept-with_shelf v v.pool t old changed kept is.part (record { blocks = refl; bytes = refl })
       (subst (λ (s : Shelf). IsStored v.pool (set (store_of v).shelves t s)) (sym shelf) (IsStored-same v.pool (store_of v).shelves t (shelf_of old) i e new kept.stored part is.entry refl))
       (λ k other there differs b some. refl)
-      (subst (λ (s : Shelf). All IsSingle s.uploads) (sym shelf) (All-set IsSingle (shelf_of old).uploads i new single (single-part v t old kept is.part)))
+      (subst (λ (s : Shelf). All HasOwnPiece s.uploads) (sym shelf) (All-set HasOwnPiece (shelf_of old).uploads i new single (own-part v t old kept is.part)))
       (subst (λ (s : Shelf). ReadsWhole v.pool (pieces_of s)) (sym shelf) (subst (ReadsWhole v.pool) (sym (pieces-same (shelf_of old) i e new is.entry refl)) (reads-part v t old kept is.part)))
       (is.charge ∙ charge-part v t old kept is.part ∙ sym (same-charge v.pool.block_size (shelf_of old) i e new is.entry refl) ∙ ap (charge_on v.pool.block_size) (sym shelf))
       is.room

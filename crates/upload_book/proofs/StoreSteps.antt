@@ -6,15 +6,16 @@ use Rattle.block_bodies.specs.Bodies.{content_of}
 use Rattle.upload_book.specs.Charge.{charge_with}
 use Rattle.upload_book.specs.declared.shelf.Shelf.{Shelf as KeptShelf}
 use Rattle.upload_book.specs.declared.store.Store.TheInside.{Inside}
-use Rattle.upload_book.specs.Kept.{shelf_of, store_of, IsKept, IsSingle}
+use Rattle.upload_book.specs.Kept.{shelf_of, store_of, IsKept}
 use Rattle.upload_book.specs.Store.{plain_in, part_at, IsNew}
-use Rattle.upload_book.specs.Stored.{Shelf, StoredUpload, Piece, part_of, pieces_of, own_chain, upload_of, charge_on, IsStored, ReadsWhole}
+use Rattle.upload_book.specs.declared.piece.Piece.{Piece}
+use Rattle.upload_book.specs.Stored.{Shelf, StoredUpload, part_of, pieces_of, own_chain, upload_of, charge_on, IsStored, ReadsWhole, HasOwnPiece}
 use Rattle.upload_book.specs.TenantBook.{Entry, with_new}
 use Rattle.upload_book.proofs.InUse.{Contains-cases, Contains-none}
 use Rattle.upload_book.proofs.JoinLemmas.{Contains-with_new, IsStored-new, new-charge}
 use Rattle.upload_book.proofs.PlainShelves.{part-with_new}
 use Rattle.upload_book.proofs.PutLemmas.{own_piece}
-use Rattle.upload_book.proofs.StoreLemmas.{with_shelf, IsPart, IsShelf-part, shelf_at-part, single-part, reads-part, charge-part, charge_with-part, IsKept-with_shelf, plain_in-with_shelf, with_shelf-part}
+use Rattle.upload_book.proofs.StoreLemmas.{with_shelf, IsPart, IsShelf-part, shelf_at-part, own-part, reads-part, charge-part, charge_with-part, IsKept-with_shelf, plain_in-with_shelf, with_shelf-part}
 
 -- a part with one more upload
 pub record IsPushed (v : Inside) (t : ℕ) (old changed : KeptShelf) (e : Entry StoredUpload) : Type 0 where
@@ -66,7 +67,7 @@ IsKept-pushed v t old changed e kept is =
     IsKept-with_shelf v v.pool t old changed kept is.part (record { blocks = refl; bytes = refl })
     (subst (λ (s : Shelf). IsStored v.pool (set (store_of v).shelves t s)) (sym shelf) (IsStored-new v.pool (store_of v).shelves t (shelf_of old) e.kept chain kept.size kept.stored part own is.new.empty is.new.none))
     (λ k other there differs b some. refl)
-    (subst (All IsSingle) (sym is.uploads) (All-push IsSingle old.uploads.items e (single-part v t old kept is.part) (is.new.own, is.new.piece)))
+    (subst (All HasOwnPiece) (sym is.uploads) (All-push HasOwnPiece old.uploads.items e (own-part v t old kept is.part) is.new.piece))
     (subst (λ (s : Shelf). ReadsWhole v.pool (pieces_of s)) (sym shelf) (pushed-reads v t old changed e kept is))
     (is.charge ∙ charge-part v t old kept is.part
     ∙ sym (new-charge v.pool (store_of v).shelves t (shelf_of old) e.kept chain kept.size kept.stored part own is.new.empty is.new.none)

@@ -1,8 +1,11 @@
 -- Texts that are kept fit their tables.
-use Rattle.std.proofs.Common.{ℕ, ◌≤◌, Bool, true, false, List, [], ◌∷◌, length, IsTrue, arith}
+use Rattle.std.proofs.Common.{ℕ, ◌≤◌, Bool, true, false, List, [], ◌∷◌, length, IsTrue, inl, inr, arith}
+use Rattle.std.proofs.lemmas.Bool.{cases_lt}
 use Rattle.std.proofs.lemmas.Bool.Decides.{nat_tests}
+use Rattle.tus_text.specs.Concat.{concat_of}
 use Rattle.tus_text.specs.Metadata.{is_metadata}
 use Rattle.upload_book.specs.Create.{new_kind}
+use Rattle.upload_book.specs.declared.head_row.Kind.TheVariants.{Final}
 use Rattle.upload_book.specs.Lawful.{IsConcatText, is_kept_metadata}
 
 -- metadata has at most 1,024 bytes
@@ -15,3 +18,13 @@ kept_metadata-fits (b ∷ text) kept = grind (arith, nat_tests)
 pub new_concat-fits : (partial : Bool) (text : List ℕ) → IsConcatText (new_kind partial) text → length text ≤ 2048
 new_concat-fits true text is = rw is (omega arith)
 new_concat-fits false text is = rw is (omega arith)
+
+-- and so is that of a final one
+pub final_concat-fits : (text : List ℕ) → IsConcatText Final text → length text ≤ 2048
+unfolding concat_of
+final_concat-fits text is =
+    let reads = is.1 in
+    elim (cases_lt 2048 (length text)) [
+      | inl long ↦ absurd (grind (arith, nat_tests))
+      | inr short ↦ short
+    ]

@@ -1,11 +1,10 @@
 -- How a store keeps the uploads of all tenants.
-use Rattle.std.specs.Prelude.{◌≡◌, ◌≢◌, ◌≤◌, ◌<◌, ◌^◌, ℕ, length, map, vec_capacity, All, Ok, slice_index_or}
+use Rattle.std.specs.Prelude.{◌≡◌, ◌≤◌, ◌<◌, ◌^◌, ℕ, length, map, vec_capacity, All, Option, Some, Ok, slice_index_or}
 use Rattle.block_pool.specs.Blocks.{size_of}
-use Rattle.upload_book.specs.declared.head_row.Kind.TheVariants.{Final}
 use Rattle.upload_book.specs.declared.shelf.Shelf.{Shelf as KeptShelf}
 use Rattle.upload_book.specs.declared.store.Store.TheInside.{Inside}
 use Rattle.upload_book.specs.Store.{Store}
-use Rattle.upload_book.specs.Stored.{Shelf, StoredUpload, IsStored, HasOwnPiece, ReadsWhole, pieces_of, charge_on}
+use Rattle.upload_book.specs.Stored.{Shelf, StoredUpload, IsStored, HasOwnPiece, ReadsWhole, pieces_of, part_kept, charge_on}
 use Rattle.upload_book.specs.TenantBook.{Entry, visible_in}
 
 -- the tenant's part that is kept so
@@ -20,20 +19,21 @@ store_of s = record {
   room = s.room;
 }
 
--- an upload is not a final one, and has its own piece
-abbrev pub IsSingle : Entry StoredUpload → Type 0
-IsSingle e = (e.kept.kind ≢ Final) × HasOwnPiece e
-
--- The blocks are kept as they should be, each upload has its own piece, each part knows what its
+-- The blocks are kept as they should be, each upload that is not final has its own piece, each part knows what its
 -- tenant pays and has room for as many uploads as it may have.
 pub record IsKept (s : Inside) : Type 0 where
   pub stored : IsStored s.pool (store_of s).shelves
-  pub own : All (λ (shelf : Shelf). All IsSingle shelf.uploads) (store_of s).shelves
+  pub own : All (λ (shelf : Shelf). All HasOwnPiece shelf.uploads) (store_of s).shelves
   pub reads : All (λ (shelf : Shelf). ReadsWhole s.pool (pieces_of shelf)) (store_of s).shelves
   pub size : 0 < s.pool.block_size
   pub blocks : size_of s.pool < 2 ^ 64
   pub charges : All (λ (t : KeptShelf). t.charge ≡ charge_on s.pool.block_size (shelf_of t)) s.shelves.items
   pub room : All (λ (t : KeptShelf). s.room ≤ vec_capacity t.uploads) s.shelves.items
+
+-- a part of a concatenation that is named so is, at this moment, the partial upload at this place
+pub record IsPartAt (shelf : Shelf) (named : Option ℕ) (now place : ℕ) : Type 0 where
+  pub there : place < length shelf.uploads
+  pub seen : (d : Entry StoredUpload) → part_kept shelf now named ≡ Some (slice_index_or shelf.uploads place d)
 
 -- a request for the id sees, at this moment, the upload at this place
 pub record IsVisibleAt (shelf : Shelf) (id now place : ℕ) : Type 0 where

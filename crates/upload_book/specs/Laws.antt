@@ -1,5 +1,5 @@
 -- Laws above the steps.
-use Rattle.std.specs.Prelude.{◌≡◌, ℕ, ◌+◌, ◌-◌, true, List, [], ◌∷◌, ◌++◌, length, codes, IsOk, Some, None, Result, Ok, Err}
+use Rattle.std.specs.Prelude.{◌≡◌, ℕ, ◌+◌, ◌-◌, Bool, true, List, [], ◌∷◌, ◌++◌, length, codes, IsOk, Some, None, Result, Ok, Err}
 use Rattle.upload_book.specs.Chunk.{Chunk}
 use Rattle.upload_book.specs.NewUpload.{NewUpload}
 use Rattle.upload_book.specs.declared.head_row.HeadRow.{HeadRow}
@@ -8,6 +8,7 @@ use Rattle.upload_book.specs.declared.account.Account.{Account}
 use Rattle.upload_book.specs.Account.{account_in, account_with, blocks_added}
 use Rattle.upload_book.specs.Append.{append_tests, append_answer, append_refusal, appended_row, appended_upload, part_after_append, upload_with}
 use Rattle.upload_book.specs.Charge.{charge_in}
+use Rattle.upload_book.specs.Concat.{concat_tests}
 use Rattle.upload_book.specs.Content.{content_tests}
 use Rattle.upload_book.specs.Create.{creation_tests}
 use Rattle.upload_book.specs.Lawful.{IsTenantOf}
@@ -26,9 +27,10 @@ visible_words = codes "unknown" ∷ codes "gone" ∷ []
 abbrev pub memory_word : List (List ℕ)
 memory_word = codes "memory" ∷ []
 
--- the tests of a creation, of a PATCH and of a GET follow the order of refusals
+-- the tests of a creation, of a concatenation, of a PATCH and of a GET follow the order of refusals
 pub record FollowOrder : Type 0 where
   pub creation : (n : Numbers) (part : TenantBook) (new : NewUpload) → stand_in (words_of (creation_tests n part new)) order ≡ true
+  pub concat : (n : Numbers) (part : TenantBook) (there complete : Bool) (len : ℕ) → stand_in (words_of (concat_tests n part there complete len) ++ memory_word) order ≡ true
   pub append : (n : Numbers) (account : Account) (row : HeadRow) (chunk : Chunk) → stand_in (visible_words ++ words_of (append_tests n account row chunk) ++ memory_word) order ≡ true
   pub content : (u : Upload) → stand_in (visible_words ++ words_of (content_tests u) ++ memory_word) order ≡ true
 

@@ -6,11 +6,14 @@ pub mod Upload
 pub mod Standing
 pub mod Store
 pub mod Stored
+pub mod Held
 pub mod TenantBook
 pub mod PlainBook
 pub mod NewUpload
+pub mod NewFinal
 pub mod Chunk
 pub mod Create
+pub mod Concat
 pub mod Append
 pub mod Look
 pub mod Content

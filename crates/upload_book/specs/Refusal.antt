@@ -1,7 +1,7 @@
 -- The refusals of the steps: their words and statuses, and the first of several tests that applies.
 use Rattle.std.specs.Prelude.{◌≡◌, ◌⊎◌, ℕ, Bool, List, [], ◌∷◌, Option, Some, None, Result, Ok, Err, codes, if◌then◌else◌}
 use Rattle.upload_book.specs.declared.refusal.Refusal.{Refusal}
-use Rattle.upload_book.specs.declared.refusal.Refusal.TheVariants.{Version, Path, Tenant, Method, Field, Unknown, Gone, IsFinal, Media, Offset, LengthFixed, TooLong, Unfinished, Uploads, Spent, Quota, Pool, Memory}
+use Rattle.upload_book.specs.declared.refusal.Refusal.TheVariants.{Version, Path, Tenant, Method, Field, Unknown, Gone, IsFinal, Media, Offset, LengthFixed, TooLong, Part, PartOpen, Unfinished, Uploads, Spent, Quota, Pool, Memory}
 
 -- the word that names it, which is the body of its reply
 abbrev pub word_of : Refusal → List ℕ
@@ -17,6 +17,8 @@ word_of Media = codes "media"
 word_of Offset = codes "offset"
 word_of LengthFixed = codes "length-fixed"
 word_of TooLong = codes "too-long"
+word_of Part = codes "part"
+word_of PartOpen = codes "part-open"
 word_of Unfinished = codes "unfinished"
 word_of Uploads = codes "uploads"
 word_of Spent = codes "spent"
@@ -40,6 +42,8 @@ status_of Media = 415
 status_of Offset = 409
 status_of LengthFixed = 400
 status_of TooLong = 413
+status_of Part = 400
+status_of PartOpen = 409
 status_of Unfinished = 409
 status_of Uploads = 507
 status_of Spent = 507

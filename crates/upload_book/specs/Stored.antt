@@ -1,18 +1,17 @@
 -- How a book keeps its uploads in blocks, and what it keeps of them.
-use Rattle.std.specs.Prelude.{◌≡◌, ◌≢◌, ℕ, ◌<◌, ◌≤◌, ◌==◌, List, [], ◌∷◌, All, Contains, flat_map, length, map, Option, if◌then◌else◌}
+use Rattle.std.specs.Prelude.{◌≡◌, ◌≢◌, ℕ, ◌<◌, ◌≤◌, ◌==◌, List, [], ◌∷◌, All, Contains, flat_map, length, map, Option, Some, None, option_and_then, slice_get, if◌then◌else◌}
 use Rattle.std.specs.List.{sum_by}
 use Rattle.block_pool.specs.Blocks.{Blocks, count_at, places_of}
-use Rattle.block_bodies.specs.Bodies.{Chain, StandsOnce, blocks_for, content_of}
+use Rattle.block_bodies.specs.Bodies.{Chain, IsBodyOf, StandsOnce, blocks_for, content_of}
 use Rattle.upload_book.specs.Charge.{Source, charge_of}
+use Rattle.upload_book.specs.Concat.{part_named, parts_named}
 use Rattle.upload_book.specs.declared.head_row.Kind.{Kind}
 use Rattle.upload_book.specs.declared.head_row.Kind.TheVariants.{Plain, Partial, Final}
+use Rattle.upload_book.specs.declared.piece.Piece.{Piece}
+use Rattle.upload_book.specs.declared.piece.UnheldPiece.{UnheldPiece}
+use Rattle.upload_book.specs.NewFinal.{NewFinal}
 use Rattle.upload_book.specs.TenantBook.{TenantBook, TenantPart, Entry}
 use Rattle.upload_book.specs.Upload.{Upload}
-
--- bytes that were sent to an upload, their origin, as they lie in blocks
-pub record Piece : Type 0 where
-  pub origin : ℕ
-  pub chain : Chain
 
 -- an upload as it is kept: for each segment that the plain book has, a piece
 pub record StoredUpload : Type 0 where
@@ -22,6 +21,10 @@ pub record StoredUpload : Type 0 where
   pub metadata : List ℕ
   pub concat : List ℕ
   pub expires : Option ℕ
+
+-- the block at a place of one of an upload's pieces, both from 0, where there is one
+abbrev pub block_at : StoredUpload → ℕ → ℕ → Option ℕ
+block_at u piece place = option_and_then (λ (x : Piece). slice_get x.chain.blocks place) (slice_get u.pieces piece)
 
 -- a tenant's part as it is kept
 abbrev pub Shelf : Type 0
@@ -57,9 +60,43 @@ part_of p shelf = record {
   uploads = map {A = Entry StoredUpload} {B = Entry Upload} (entry_of p) shelf.uploads;
 }
 
+-- the partial upload that a part of a concatenation names, as it is kept
+abbrev pub part_kept : Shelf → ℕ → Option ℕ → Option (Entry StoredUpload)
+part_kept shelf now named = part_named (λ u. u.kind) (λ u. u.expires) shelf now named
+
+-- those that are named, in their order
+abbrev pub parts_kept : Shelf → ℕ → List (Option ℕ) → List (Entry StoredUpload)
+parts_kept shelf now named = parts_named (λ u. u.kind) (λ u. u.expires) shelf now named
+
 -- all pieces of a tenant
 abbrev pub pieces_of : Shelf → List Piece
 pieces_of shelf = flat_map (λ (e : Entry StoredUpload). e.kept.pieces) shelf.uploads
+
+-- how many bytes some pieces have together
+abbrev pub pieces_len : List Piece → ℕ
+pieces_len pieces = sum_by (λ (x : Piece). x.chain.len) pieces
+
+-- the bytes of some pieces, one after another
+abbrev pub bytes_of : Blocks → List Piece → List ℕ
+bytes_of p pieces = flat_map (λ (x : Piece). content_of p x.chain) pieces
+
+-- each piece is a body of the pool
+abbrev pub AreBodies : Blocks → List Piece → Type 0
+AreBodies p pieces = (x : Piece) → Contains pieces x → IsBodyOf p x.chain
+
+-- what a piece will be once its blocks are held
+abbrev pub as_piece : UnheldPiece → Piece
+as_piece x = record { origin = x.origin; chain = x.chain }
+
+-- what pieces of the same blocks share: the origin, the blocks and the number of bytes, and not the room of the list
+pub record Segment : Type 0 where
+  pub origin : ℕ
+  pub blocks : List ℕ
+  pub len : ℕ
+
+-- the segment of a piece
+abbrev pub segment_of : Piece → Segment
+segment_of x = record { origin = x.origin; blocks = x.chain.blocks; len = x.chain.len }
 
 -- the blocks of some pieces, as often as they stand there
 abbrev pub placed_in : List Piece → List ℕ
@@ -115,3 +152,14 @@ HasOwnPiece e = e.kept.kind ≢ Final → e.kept.pieces ≡ record { origin = e.
 -- each piece reads as as many bytes as it has
 abbrev pub ReadsWhole : Blocks → List Piece → Type 0
 ReadsWhole p pieces = (x : Piece) → Contains pieces x → length (content_of p x.chain) ≡ x.chain.len
+
+-- a final upload of these pieces, as it is kept
+abbrev pub final_of : NewFinal → List Piece → StoredUpload
+final_of new pieces = record {
+  kind = Final;
+  declared = Some (pieces_len pieces);
+  pieces = pieces;
+  metadata = new.metadata;
+  concat = new.concat;
+  expires = None;
+}

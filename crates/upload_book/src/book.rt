@@ -5,8 +5,11 @@ ghost use Rattle.upload_book.specs.Book.{plain_of};
 ghost use Rattle.upload_book.specs.Charge.{charge_in};
 ghost use Rattle.upload_book.specs.Lawful.{IsLawful};
 ghost use Rattle.upload_book.specs.PlainBook.{opening_book, tenant_book};
+ghost use Rattle.upload_book.specs.Store.{holders_at};
+ghost use Rattle.upload_book.specs.Stored.{IsStored};
 
 use crate::account::Account;
+use crate::head_row::Name;
 use crate::settings::Settings;
 use crate::store::Store;
 use std::alloc::{AllocError, Global};
@@ -95,6 +98,17 @@ impl Book {
             ≡ (plain_of self.now).settings.numbers.blocks }
     {
         u64::from(self.store.free())
+    }
+
+    /// How many hold the block at a place of one of an upload's segments, both from 0, whether the upload has
+    /// expired or not; `None` where there is none. A final upload has a segment for each of its parts, any other
+    /// upload one. It is held once for each time that the block stands in a segment of any upload, and free where it
+    /// stands in none.
+    pub fn holders(&self, name: &Name, segment: usize, place: u64) -> Option<u64>
+        ensures value { result ≡ holders_at self.now.store name.now.tenant name.now.id segment place }
+        ensures stored { IsStored self.now.store.pool self.now.store.shelves }
+    {
+        self.store.holders(name, segment, place)
     }
 
     // The account of the tenant at this place.

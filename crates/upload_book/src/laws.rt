@@ -1,7 +1,8 @@
 //! Laws of the definitions that the contracts cite: each is the contract of a function that does nothing.
 ghost use Rattle.upload_book.specs.Laws.{AccountsFollow, FollowOrder, ResumedPatch, RowsFollow};
 
-/// The tests that decide on a creation, on a PATCH and on a GET follow the one order of refusals.
+/// The tests that decide on a creation, on a concatenation, on a PATCH and on a GET follow the one order of
+/// refusals.
 pub fn refusals_follow_the_order()
     ensures { FollowOrder }
 {}

@@ -5,14 +5,21 @@
 mod account;
 mod append;
 mod book;
+mod concat;
 mod content;
 mod create;
 mod expiry;
 mod head_row;
+mod held;
+mod joined;
 pub mod laws;
 mod look;
 mod moment;
 mod operation;
+mod parts_seen;
+mod piece;
+#[cfg(test)]
+mod plain;
 mod refusal;
 mod settings;
 mod settings_fault;
@@ -27,6 +34,7 @@ mod tests;
 
 pub use append::{Appended, Chunk, Refused};
 pub use book::Book;
+pub use concat::NewFinal;
 pub use content::Content;
 pub use create::{Created, NewUpload};
 pub use head_row::{HeadRow, Kind, Name};

@@ -1,4 +1,5 @@
 use crate::append::Chunk;
+use crate::concat::NewFinal;
 use crate::create::NewUpload;
 use crate::head_row::Name;
 
@@ -7,6 +8,8 @@ use crate::head_row::Name;
 pub enum Operation<'a> {
     /// A creation, for the tenant at this place in the settings.
     Create { tenant: u8, new: NewUpload<'a> },
+    /// A concatenation, for the tenant at this place in the settings.
+    Concat { tenant: u8, new: NewFinal<'a> },
     /// A HEAD.
     Look(Name),
     /// A GET.

@@ -33,6 +33,10 @@ pub enum Refusal {
     LengthFixed,
     /// A length is above the greatest allowed, or the bytes go past the upload's length.
     TooLong,
+    /// A part of a final upload is no visible partial upload of its tenant.
+    Part,
+    /// A part of a final upload does not have all of its bytes yet.
+    PartOpen,
     /// The upload does not have all of its bytes yet, and a GET asks for them.
     Unfinished,
     /// The tenant has as many uploads as the book keeps for one.
@@ -81,6 +85,8 @@ impl Refusal {
             Refusal::Offset => ("offset", 409),
             Refusal::LengthFixed => ("length-fixed", 400),
             Refusal::TooLong => ("too-long", 413),
+            Refusal::Part => ("part", 400),
+            Refusal::PartOpen => ("part-open", 409),
             Refusal::Unfinished => ("unfinished", 409),
             Refusal::Uploads => ("uploads", 507),
             Refusal::Spent => ("spent", 507),

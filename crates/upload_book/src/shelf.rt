@@ -1,6 +1,8 @@
-ghost use Rattle.std.specs.Prelude.{◌≡◌, ◌==◌, IfOk, IfErr, position};
+ghost use Rattle.std.specs.Prelude.{◌≡◌, ◌==◌, None, IfOk, IfErr, IfSome, IfNone, position};
+ghost use Rattle.upload_book.specs.Stored.{part_kept};
 ghost use Rattle.upload_book.specs.TenantBook.{visible_in};
 
+use crate::head_row::Kind;
 use crate::moment::Moment;
 use crate::refusal::Refusal;
 use crate::stored_upload::StoredUpload;
@@ -16,7 +18,7 @@ pub(crate) struct Shelf {
 }
 
 impl Shelf {
-    ghost use Rattle.upload_book.specs.Kept.{shelf_of, IsVisibleAt};
+    ghost use Rattle.upload_book.specs.Kept.{shelf_of, IsPartAt, IsVisibleAt};
 
     /// The place of the upload that a request for `id` sees at `now`. It is Unknown where the id was
     /// never given, and Gone where its upload has ended or expired. It goes over the uploads once.
@@ -34,8 +36,22 @@ impl Shelf {
         }
     }
 
-    // The place of the upload with this id, if it is still there.
-    fn place(&self, id: u64) -> Option<usize>
+    /// The place of the upload that a part of a concatenation names, where it is a partial one that a request
+    /// sees at `now`.
+    pub(crate) fn part(&self, named: Option<u64>, now: Moment) -> Option<usize>
+        ensures place { IfSome result (λ i. IsPartAt (shelf_of self.now) named now i) }
+        ensures none { IfNone result (part_kept (shelf_of self.now) now named ≡ None) }
+    {
+        let place = self.visible(named?, now).ok()?;
+        if self.uploads[place].kind() == Kind::Partial {
+            Some(place)
+        } else {
+            None
+        }
+    }
+
+    /// The place of the upload with this id, if it is still there.
+    pub(crate) fn place(&self, id: u64) -> Option<usize>
         ensures { result ≡ position (λ e. e.id == id) self.now.uploads.items }
     {
         self.uploads.iter().position(|upload| upload.id() == id)

@@ -1,22 +1,28 @@
-ghost use Rattle.std.specs.Prelude.{◌≡◌, ◌≢◌, ◌+◌, ◌-◌, ◌<◌, ◌≤◌, ◌^◌, [], length, map, set, vec_capacity, All, None, IfOk, IfErr, IsOk, OnOk, OnErr};
+ghost use Rattle.std.specs.Prelude.{◌≡◌, ◌≢◌, ◌+◌, ◌-◌, ◌<◌, ◌≤◌, ◌^◌, [], length, map, min, set, vec_capacity, All, None, IfOk, IfErr, IfSome, IfNone, IsOk, IsTrue, OnOk, OnErr};
 ghost use Rattle.std.specs.List.{sum_by};
 ghost use Rattle.block_pool.specs.Blocks.{IsWithinLimits, all_free, free_in, size_of};
 ghost use Rattle.upload_book.specs.Account.{blocks_between};
 ghost use Rattle.upload_book.specs.Charge.{charge_with};
+ghost use Rattle.upload_book.specs.Concat.{are_complete, are_there, final_upload, joined_len, parts_found};
+ghost use Rattle.upload_book.specs.Lawful.{IsConcatText, is_kept_metadata};
 ghost use Rattle.upload_book.specs.Expiry.{is_over};
 ghost use Rattle.upload_book.specs.Sweep.{part_after_sweep};
 ghost use Rattle.upload_book.specs.declared.head_row.Kind.TheVariants.{Final};
 ghost use Rattle.upload_book.specs.Kept.{shelf_of};
 ghost use Rattle.upload_book.specs.Settings.{settings_fault};
 ghost use Rattle.upload_book.specs.Standing.{standing_in};
-ghost use Rattle.upload_book.specs.Store.{opening_shelves, plain_in, shelf_at, part_at, entry_at, upload_at, with_bytes, with_upload, without_upload, IsAlone, IsNew, IsVisibleIn};
-ghost use Rattle.upload_book.specs.Stored.{upload_of};
+ghost use Rattle.upload_book.specs.Store.{opening_shelves, plain_in, shelf_at, part_at, pieces_named, entry_at, holders_at, rows_at, upload_at, with_bytes, with_upload, without_upload, AreFew, IsAlone, IsNew, IsPartIn, IsVisibleIn, Joins};
+ghost use Rattle.upload_book.specs.Stored.{as_piece, part_kept, segment_of, upload_of, IsStored};
 ghost use Rattle.block_bodies.specs.Changes.{SameSizes};
 ghost use Rattle.upload_book.specs.TenantBook.{visible_upload, with_new};
 ghost use Rattle.upload_book.specs.Upload.{content_of, head_row_of, offset_of};
 
+use crate::concat::NewFinal;
 use crate::head_row::{HeadRow, Name};
+use crate::joined::hold_each;
 use crate::moment::Moment;
+use crate::parts_seen::PartsSeen;
+use crate::piece::UnheldPiece;
 use crate::refusal::Refusal;
 use crate::settings::Settings;
 use crate::shelf::Shelf;
@@ -101,6 +107,18 @@ impl Store {
         self.shelves[tenant].uploads.len()
     }
 
+    /// How many hold the block at a place of one of an upload's segments, both from 0, whether the upload has
+    /// expired or not; `None` where there is none. With it a caller learns what every store keeps of its blocks.
+    pub(crate) fn holders(&self, name: &Name, segment: usize, place: u64) -> Option<u64>
+        ensures value { result ≡ holders_at self.now name.now.tenant name.now.id segment place }
+        ensures stored { IsStored self.now.pool self.now.shelves }
+    {
+        let shelf = self.shelves.get(usize::from(name.tenant))?;
+        let upload = &shelf.uploads[shelf.place(name.id)?];
+        let block = upload.block(segment, place)?;
+        Some(self.pool.count(block))
+    }
+
     /// The place, in its tenant's part, of the upload that a request for `name` sees at `now`.
     pub(crate) fn place(&self, name: &Name, now: Moment) -> Result<usize, Refusal>
         ensures there { IfOk result (λ i. name.now.tenant < length self.now.shelves) }
@@ -164,6 +182,99 @@ impl Store {
         let shelf = &mut self.shelves[tenant];
         shelf.uploads.push_reserved(upload);
         shelf.next += 1;
+    }
+
+    /// The place of the upload that a part of a concatenation names, where it is a partial one that a request
+    /// sees at `now`.
+    fn part(&self, tenant: usize, named: Option<u64>, now: Moment) -> Option<usize>
+        requires { tenant < length self.now.shelves }
+        ensures place { IfSome result (λ i. IsPartIn self.now tenant named now i) }
+        ensures none { IfNone result (part_kept (shelf_at self.now tenant) now named ≡ None) }
+    {
+        self.shelves[tenant].part(named, now)
+    }
+
+    /// What the parts of a concatenation are together at `now`.
+    pub(crate) fn parts_seen(&self, tenant: usize, named: &[Option<u64>], now: Moment) -> PartsSeen
+        requires { tenant < length self.now.shelves }
+        ensures there { result.there ≡ are_there named.now (rows_at self.now tenant named.now now) }
+        ensures complete { result.complete ≡ are_complete (rows_at self.now tenant named.now now) }
+        ensures len { result.len ≡ min (joined_len (rows_at self.now tenant named.now now)) (2 ^ 64 - 1) }
+    {
+        let mut seen = PartsSeen {
+            there: true,
+            complete: true,
+            len: 0,
+        };
+        for part in named {
+            seen = match self.part(tenant, *part, now) {
+                Some(place) => seen.with(&self.standing(tenant, place)),
+                None => seen.with_missing(),
+            };
+        }
+        seen
+    }
+
+    /// The pieces of the parts of a concatenation, before their blocks are held for it. The error is that there
+    /// was no memory for the lists of them.
+    fn list_parts(
+        &self,
+        alloc: Global,
+        tenant: usize,
+        named: &[Option<u64>],
+        now: Moment,
+    ) -> Result<Vec<UnheldPiece>, AllocError>
+        requires { tenant < length self.now.shelves }
+        ensures pieces { IfOk result (λ v. map segment_of (map as_piece v.items)
+            ≡ map segment_of (pieces_named self.now tenant named.now now)) }
+        ensures few { IfOk result (λ v. length v.items ≤ length named.now) }
+    {
+        let mut listed = Vec::with_capacity(alloc, named.len())?;
+        for part in named {
+            if let Some(place) = self.part(tenant, *part, now) {
+                let piece = self.shelves[tenant].uploads[place].list()?;
+                listed.push_reserved(piece);
+            }
+        }
+        Ok(listed)
+    }
+
+    /// Keeps a final upload, which is joined of the parts that are named, as the tenant's next one. All memory
+    /// is taken before a block is held for it; the error is that there was too little, and then nothing changes.
+    pub(crate) fn join(
+        &mut self,
+        alloc: Global,
+        tenant: usize,
+        new: &NewFinal,
+        len: u64,
+        now: Moment,
+    ) -> Result<(), AllocError>
+        requires tenant { tenant < length self.old.shelves }
+        requires room { length (shelf_at self.old tenant).uploads < self.old.room }
+        requires id { (shelf_at self.old tenant).next + 1 < 2 ^ 64 }
+        requires few { AreFew self.old tenant }
+        requires parts { length new.now.parts ≤ 32 }
+        requires len { len ≡ joined_len (rows_at self.old tenant new.now.parts now) }
+        requires metadata { IsTrue (is_kept_metadata new.now.metadata) }
+        requires concat { IsConcatText Final new.now.concat }
+        ensures plain { OnOk result (plain_in self.new ≡ set (plain_in self.old) tenant
+            (with_new (part_at self.old tenant)
+            (final_upload (parts_found (part_at self.old tenant) now new.now.parts) new.now))) }
+        ensures joins { OnOk result (Joins self.old self.new tenant new.now now) }
+        ensures sizes { SameSizes self.old.pool self.new.pool }
+        ensures room_stays { self.new.room ≡ self.old.room }
+        ensures charge { charge_with self.old.pool.block_size (part_at self.new tenant)
+            ≡ charge_with self.old.pool.block_size (part_at self.old tenant) }
+        ensures unchanged { OnErr result (self.new ≡ self.old) }
+    {
+        let unheld = self.list_parts(alloc, tenant, new.parts, now)?;
+        let mut pieces = Vec::with_capacity(alloc, unheld.len())?;
+        hold_each(unheld, &mut self.pool, &mut pieces);
+        let shelf = &mut self.shelves[tenant];
+        let upload = StoredUpload::joined(shelf.next, new, pieces, len);
+        shelf.uploads.push_reserved(upload);
+        shelf.next += 1;
+        Ok(())
     }
 
     /// Tells the length and the end of the upload at a place, which is not a final one.

@@ -1,23 +1,28 @@
-ghost use Rattle.std.specs.Prelude.{◌≡◌, ◌+◌, ◌<◌, ◌≤◌, [], length, IfOk, IsOk, OnOk, OnErr, IsTrue};
+ghost use Rattle.std.specs.Prelude.{◌≡◌, ◌≢◌, ◌+◌, ◌<◌, ◌≤◌, [], ◌∷◌, ◌++◌, length, map, vec_len, vec_capacity, IfOk, IsOk, OnOk, OnErr, IsTrue};
 ghost use Rattle.block_pool.specs.Blocks.{Blocks, free_in};
 ghost use Rattle.block_bodies.specs.Bodies.{IsBodyOf, IsHeld, IsLastOwn, StandsOnce, blocks_with};
 ghost use Rattle.block_bodies.specs.Changes.{Puts, GivesBack};
 ghost use Rattle.upload_book.specs.Create.{created_upload, new_kind};
+ghost use Rattle.upload_book.specs.declared.head_row.Kind.TheVariants.{Final};
 ghost use Rattle.upload_book.specs.Expiry.{is_over};
 ghost use Rattle.upload_book.specs.Lawful.{is_kept_metadata, IsConcatText};
 ghost use Rattle.upload_book.specs.Standing.{standing_in};
 ghost use Rattle.upload_book.specs.Store.{with_chain, with_head};
-ghost use Rattle.upload_book.specs.Stored.{own_chain, placed_in, upload_of, HasOwnPiece, ReadsWhole};
+ghost use Rattle.upload_book.specs.Stored.{as_piece, block_at, bytes_of, final_of, own_chain, pieces_len, placed_in, segment_of, upload_of, AreBodies, HasOwnPiece, ReadsWhole};
 ghost use Rattle.upload_book.specs.Upload.{head_row_of, content_of as upload_content_of};
 
+use crate::concat::NewFinal;
 use crate::create::NewUpload;
 use crate::expiry::{is_over, lifetime_end, renewed};
 use crate::head_row::{HeadRow, Kind};
+use crate::held::Held;
+use crate::joined::{give_back_each, read_each};
 use crate::moment::Moment;
+use crate::piece::{Piece, UnheldPiece};
 use crate::settings::Numbers;
 use crate::standing::Standing;
 use block_bodies::{Body, BodyFault};
-use block_pool::Pool;
+use block_pool::{BlockId, Pool};
 use std::alloc::{AllocError, Global};
 use std::marker::Model;
 use tus_text::Text;
@@ -26,16 +31,15 @@ use tus_text::Text;
 #[derive(Drop)]
 pub(crate) struct StoredUpload {
     id: u64,
-    kind: Kind,
+    held: Held,
     declared: Option<u64>,
-    body: Body,
     metadata: Text<1024>,
     concat: Text<2048>,
     expires: Option<Moment>,
 }
 
 impl Model for StoredUpload {
-    ghost use Rattle.std.specs.Prelude.{[], ◌∷◌};
+    ghost use Rattle.upload_book.specs.Held.{kind_of, pieces_in, IsCounted};
     ghost use Rattle.upload_book.specs.TenantBook.{Entry};
     ghost use Rattle.upload_book.specs.Stored as stored;
 
@@ -44,14 +48,16 @@ impl Model for StoredUpload {
     ghost view = { λ u. record {
       id = u.id;
       kept = record {
-        kind = u.kind;
+        kind = kind_of u.held;
         declared = u.declared;
-        pieces = record { origin = u.id; chain = u.body } ∷ [];
+        pieces = pieces_in u.id u.held;
         metadata = u.metadata;
         concat = u.concat;
         expires = u.expires;
       };
     } };
+
+    ghost invariant = { λ u. IsCounted u.held };
 }
 
 impl StoredUpload {
@@ -79,12 +85,31 @@ impl StoredUpload {
         let is_complete = new.length == Some(0);
         StoredUpload {
             id,
-            kind,
+            held: Held::Own {
+                partial: new.partial,
+                body: Body::empty(alloc),
+            },
             declared: new.length,
-            body: Body::empty(alloc),
             metadata: Text::of(new.metadata),
             concat: Text::of(new.concat),
             expires: renewed(kind, is_complete, None, lifetime_end(numbers, now)),
+        }
+    }
+
+    /// A final upload of these pieces, which are so many bytes together.
+    pub(crate) fn joined(id: u64, new: &NewFinal, pieces: Vec<Piece>, len: u64) -> StoredUpload
+        requires metadata { IsTrue (is_kept_metadata new.now.metadata) }
+        requires concat { IsConcatText Final new.now.concat }
+        requires len { len ≡ pieces_len pieces.items }
+        ensures { result ≡ record { id = id; kept = final_of new.now pieces.items } }
+    {
+        StoredUpload {
+            id,
+            held: Held::Joined { len, pieces },
+            declared: Some(len),
+            metadata: Text::of(new.metadata),
+            concat: Text::of(new.concat),
+            expires: None,
         }
     }
 
@@ -109,14 +134,35 @@ impl StoredUpload {
         is_over(now, self.expires)
     }
 
+    /// What the upload is for.
+    pub(crate) fn kind(&self) -> Kind
+        ensures { result ≡ self.now.kept.kind }
+    {
+        match &self.held {
+            Held::Own { partial: true, .. } => Kind::Partial,
+            Held::Own { partial: false, .. } => Kind::Plain,
+            Held::Joined { .. } => Kind::Final,
+        }
+    }
+
+    /// How many bytes the upload has.
+    fn offset(&self) -> u64
+        ensures { result ≡ pieces_len self.now.kept.pieces }
+    {
+        match &self.held {
+            Held::Own { body, .. } => body.len(),
+            Held::Joined { len, .. } => *len,
+        }
+    }
+
     /// What a HEAD tells of the upload.
     pub(crate) fn head_row(&self) -> HeadRow
         ensures { (p : Blocks) → ReadsWhole p self.now.kept.pieces
             → result ≡ head_row_of (upload_of p self.now.kept) }
     {
         HeadRow {
-            kind: self.kind,
-            offset: self.body.len(),
+            kind: self.kind(),
+            offset: self.offset(),
             declared: self.declared,
             metadata: self.metadata.copied(),
             concat: self.concat.copied(),
@@ -130,8 +176,8 @@ impl StoredUpload {
             → result ≡ standing_in (head_row_of (upload_of p self.now.kept)) }
     {
         Standing {
-            kind: self.kind,
-            offset: self.body.len(),
+            kind: self.kind(),
+            offset: self.offset(),
             declared: self.declared,
             expires: self.expires,
         }
@@ -140,16 +186,57 @@ impl StoredUpload {
     /// The bytes of the upload, copied once out of the pool. The error is that there was no memory for them,
     /// which never comes where there are none.
     pub(crate) fn read(&self, alloc: Global, pool: &Pool) -> Result<Vec<u8>, AllocError>
-        requires { IsBodyOf pool.now (own_chain self.now.kept.pieces) }
+        requires { AreBodies pool.now self.now.kept.pieces }
         ensures bytes { IfOk result (λ v. v.items ≡ upload_content_of (upload_of pool.now self.now.kept)) }
-        ensures none { (own_chain self.now.kept.pieces).len ≡ 0 → IsOk result }
+        ensures none { pieces_len self.now.kept.pieces ≡ 0 → IsOk result }
     {
-        self.body.read(alloc, pool)
+        let mut bytes = Vec::with_capacity(alloc, self.offset() as usize)?;
+        self.read_onto(pool, &mut bytes);
+        Ok(bytes)
+    }
+
+    // Reads the bytes of the upload onto the end of a vector that has room for them.
+    fn read_onto(&self, pool: &Pool, bytes: &mut Vec<u8>)
+        requires bodies { AreBodies pool.now self.now.kept.pieces }
+        requires room { vec_len bytes.old + pieces_len self.now.kept.pieces ≤ vec_capacity bytes.old }
+        ensures { bytes.new.items ≡ bytes.old.items ++ bytes_of pool.now self.now.kept.pieces }
+    {
+        match &self.held {
+            Held::Own { body, .. } => body.read_onto(pool, bytes),
+            Held::Joined { pieces, .. } => read_each(pieces, pool, bytes),
+        }
+    }
+
+    /// The block at a place of one of the upload's pieces, both from 0; `None` where there is none.
+    pub(crate) fn block(&self, piece: usize, place: u64) -> Option<BlockId>
+        ensures { result ≡ block_at self.now.kept piece place }
+    {
+        match &self.held {
+            Held::Own { body, .. } if piece == 0 => body.block(place),
+            Held::Own { .. } => None,
+            Held::Joined { pieces, .. } => pieces.get(piece)?.chain.block(place),
+        }
+    }
+
+    /// The upload's piece, for an upload that is joined of it and others, before its blocks are held for that.
+    /// The error is that there was no memory for the list of them.
+    pub(crate) fn list(&self) -> Result<UnheldPiece, AllocError>
+        requires { self.now.kept.kind ≢ Final }
+        ensures { IfOk result (λ x. segment_of (as_piece x) ∷ [] ≡ map segment_of self.now.kept.pieces) }
+    {
+        match &self.held {
+            Held::Own { body, .. } => Ok(UnheldPiece {
+                origin: self.id,
+                chain: body.list()?,
+            }),
+            Held::Joined { .. } => unreachable!(),
+        }
     }
 
     /// Adds bytes at the end of the upload, and gives how many blocks were taken for them. The error is that
     /// there was no memory for the list of its blocks, and then nothing changes.
     pub(crate) fn put(&mut self, pool: &mut Pool, bytes: &[u8]) -> Result<u64, AllocError>
+        requires own { self.old.kept.kind ≢ Final }
         requires body { IsBodyOf pool.old (own_chain self.old.kept.pieces) }
         requires last { 0 < length bytes.now → IsLastOwn pool.old (own_chain self.old.kept.pieces) }
         requires free { blocks_with pool.old (own_chain self.old.kept.pieces) (length bytes.now)
@@ -165,10 +252,9 @@ impl StoredUpload {
         ensures unchanged { OnErr result (self.new ≡ self.old) }
         ensures pool_unchanged { OnErr result (pool.new ≡ pool.old) }
     {
-        match self.body.append(pool, bytes) {
-            Ok(taken) => Ok(taken),
-            Err(BodyFault::Memory) => Err(AllocError),
-            Err(BodyFault::Full) => unreachable!(),
+        match &mut self.held {
+            Held::Own { body, .. } => put_within(body, pool, bytes),
+            Held::Joined { .. } => unreachable!(),
         }
     }
 
@@ -185,6 +271,28 @@ impl StoredUpload {
         requires { IsHeld pool.old (placed_in self.kept.pieces) }
         ensures { GivesBack pool.old (placed_in self.kept.pieces) result pool.new }
     {
-        self.body.give_back(pool)
+        match self.held {
+            Held::Own { body, .. } => body.give_back(pool),
+            Held::Joined { pieces, .. } => give_back_each(pieces, pool),
+        }
+    }
+}
+
+// Adds bytes to a body where enough blocks are free.
+fn put_within(body: &mut Body, pool: &mut Pool, bytes: &[u8]) -> Result<u64, AllocError>
+    requires body { IsBodyOf pool.old body.old }
+    requires last { 0 < length bytes.now → IsLastOwn pool.old body.old }
+    requires free { blocks_with pool.old body.old (length bytes.now) ≤ length body.old.blocks + free_in pool.old }
+    ensures taken { IfOk result (λ n. length body.new.blocks ≡ length body.old.blocks + n) }
+    ensures puts { OnOk result (Puts pool.old body.old bytes.now pool.new body.new) }
+    ensures once { StandsOnce body.new.blocks }
+    ensures memory { OnErr result (length body.old.blocks < blocks_with pool.old body.old (length bytes.now)) }
+    ensures unchanged { OnErr result (body.new ≡ body.old) }
+    ensures pool_unchanged { OnErr result (pool.new ≡ pool.old) }
+{
+    match body.append(pool, bytes) {
+        Ok(taken) => Ok(taken),
+        Err(BodyFault::Memory) => Err(AllocError),
+        Err(BodyFault::Full) => unreachable!(),
     }
 }

@@ -3,6 +3,12 @@ use std::process::Abort;
 use std::test::Fail;
 use tus_text::check_metadata;
 
+mod joins;
+mod memory;
+mod steps;
+mod sweeps;
+mod uploads;
+
 const NUMBERS: Numbers = Numbers {
     blocks: 12,
     block_size: 4,

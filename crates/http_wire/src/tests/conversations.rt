@@ -96,7 +96,7 @@ Tus-Resumable: 1.0.0\r\nUpload-Offset: 10\r\n\r\n";
 const POST_TOO_LONG: &[u8] = b"POST /files/acme HTTP/1.1\r\nHost: x\r\nTus-Resumable: 1.0.0\r\n\
 Upload-Length: 65\r\n\r\n";
 
-const CREATION_TOO_LONG: &[u8] = b"HTTP/1.1 413 Content Too Large\r\n\
+pub const CREATION_TOO_LONG: &[u8] = b"HTTP/1.1 413 Content Too Large\r\n\
 Date: Thu, 01 Jan 1970 00:16:40 GMT\r\nTus-Resumable: 1.0.0\r\n\
 Content-Type: text/plain\r\nContent-Length: 9\r\n\r\ntoo-long\n";
 
@@ -108,12 +108,13 @@ const METHOD: &[u8] = b"HTTP/1.1 405 Method Not Allowed\r\n\
 Date: Thu, 01 Jan 1970 00:16:40 GMT\r\nTus-Resumable: 1.0.0\r\nAllow: HEAD, GET, PATCH, DELETE, OPTIONS\r\n\
 Content-Type: text/plain\r\nContent-Length: 7\r\n\r\nmethod\n";
 
-const DELETE: &[u8] = b"DELETE /files/acme/1 HTTP/1.1\r\nHost: x\r\nTus-Resumable: 1.0.0\r\n\r\n";
+pub const DELETE: &[u8] =
+    b"DELETE /files/acme/1 HTTP/1.1\r\nHost: x\r\nTus-Resumable: 1.0.0\r\n\r\n";
 
-const DELETED: &[u8] = b"HTTP/1.1 204 No Content\r\nDate: Thu, 01 Jan 1970 00:16:40 GMT\r\n\
+pub const DELETED: &[u8] = b"HTTP/1.1 204 No Content\r\nDate: Thu, 01 Jan 1970 00:16:40 GMT\r\n\
 Tus-Resumable: 1.0.0\r\n\r\n";
 
-const GONE: &[u8] = b"HTTP/1.1 410 Gone\r\nDate: Thu, 01 Jan 1970 00:16:40 GMT\r\n\
+pub const GONE: &[u8] = b"HTTP/1.1 410 Gone\r\nDate: Thu, 01 Jan 1970 00:16:40 GMT\r\n\
 Tus-Resumable: 1.0.0\r\nCache-Control: no-store\r\n\r\n";
 
 const UNKNOWN: &[u8] = b"HTTP/1.1 404 Not Found\r\nDate: Thu, 01 Jan 1970 00:16:40 GMT\r\n\

@@ -31,7 +31,7 @@ Date: Thu, 01 Jan 1970 00:16:40 GMT\r\nTus-Resumable: 1.0.0\r\nUpload-Offset: 5\
 const LENGTH_FIXED: &[u8] = b"HTTP/1.1 400 Bad Request\r\nDate: Thu, 01 Jan 1970 00:16:40 GMT\r\n\
 Tus-Resumable: 1.0.0\r\nContent-Type: text/plain\r\nContent-Length: 13\r\n\r\nlength-fixed\n";
 
-const FIELD: &[u8] = b"HTTP/1.1 400 Bad Request\r\nDate: Thu, 01 Jan 1970 00:16:40 GMT\r\n\
+pub const FIELD: &[u8] = b"HTTP/1.1 400 Bad Request\r\nDate: Thu, 01 Jan 1970 00:16:40 GMT\r\n\
 Tus-Resumable: 1.0.0\r\nContent-Type: text/plain\r\nContent-Length: 6\r\n\r\nfield\n";
 
 const TOO_LONG: &[u8] = b"HTTP/1.1 413 Content Too Large\r\n\
@@ -109,9 +109,6 @@ Tus-Resumable: 1.0.0\r\nUpload-Length: 10\r\nUpload-Metadata:\r\n\r\n";
 const LOOKED_NEW: &[u8] = b"HTTP/1.1 200 OK\r\nDate: Thu, 01 Jan 1970 00:16:40 GMT\r\n\
 Tus-Resumable: 1.0.0\r\nUpload-Offset: 0\r\nUpload-Length: 10\r\nCache-Control: no-store\r\n\r\n";
 
-const POST_PARTIAL: &[u8] = b"POST /files/acme HTTP/1.1\r\nHost: x\r\nTus-Resumable: 1.0.0\r\n\
-Upload-Length: 10\r\nUpload-Concat: partial\r\n\r\n";
-
 static CREATIONS: [Row; 9] = [
     Row {
         name: "a length that is told later, and a refused PATCH that tells one",
@@ -185,9 +182,9 @@ static CREATIONS: [Row; 9] = [
         offset: None,
     },
     Row {
-        name: "empty metadata is none, and a part is not served",
-        sent: [POST_PARTIAL, POST_EMPTY_METADATA, HEAD, NONE],
-        written: [FIELD, CREATED, LOOKED_NEW, NONE],
+        name: "empty metadata is none",
+        sent: [POST_EMPTY_METADATA, HEAD, NONE, NONE],
+        written: [CREATED, LOOKED_NEW, NONE, NONE],
         ended: Ended::Input,
         offset: Some(0),
     },

@@ -51,17 +51,24 @@ pub fn joined(alloc: Global, parts: &[&[u8]]) -> Result<Vec<u8>, AllocError> {
     Ok(all)
 }
 
+/// The numbers of a book, unless a test says others.
+pub const NUMBERS: Numbers = Numbers {
+    blocks: 12,
+    block_size: 4,
+    lifetime: 3600,
+    max_size: 64,
+    uploads: 64,
+    last_id: u64::MAX - 1,
+    last_total: u64::MAX,
+};
+
 /// A book with no upload.
 pub fn new_book(alloc: Global) -> Result<Book, Fail> {
-    let numbers = Numbers {
-        blocks: 12,
-        block_size: 4,
-        lifetime: 3600,
-        max_size: 64,
-        uploads: 64,
-        last_id: u64::MAX - 1,
-        last_total: u64::MAX,
-    };
+    book_with(alloc, NUMBERS)
+}
+
+/// A book of these numbers with no upload.
+fn book_with(alloc: Global, numbers: Numbers) -> Result<Book, Fail> {
     let settings = Settings::new(numbers, &[(b"acme", 8), (b"beta", 4)])?;
     Ok(Book::new(alloc, settings)?)
 }
@@ -105,9 +112,14 @@ pub fn talk_of<'a>(
     Ok(talk(alloc, &mut book, input, output, moments))
 }
 
-/// The conversation of some bytes with a new book by the plain program.
-fn plain_talk(alloc: Global, input: &[u8], moments: &[Moment]) -> Result<Spoken<'static>, Fail> {
-    let mut book = new_book(alloc)?;
+/// The conversation of some bytes with a new book of these numbers by the plain program.
+fn plain_talk(
+    alloc: Global,
+    numbers: Numbers,
+    input: &[u8],
+    moments: &[Moment],
+) -> Result<Spoken<'static>, Fail> {
+    let mut book = book_with(alloc, numbers)?;
     let (text, ended) = plain_conversation(alloc, input, &mut book, moments)?;
     Ok(Spoken {
         text,
@@ -146,11 +158,26 @@ pub fn assert_both(
     moments: &[Moment],
     expected: &Expected<'_>,
 ) -> Result<(), Fail> {
-    let plain = plain_talk(alloc, input, moments)?;
+    assert_both_with(rt, alloc, NUMBERS, what, input, moments, expected)
+}
+
+/// The same with a new book of these numbers.
+pub fn assert_both_with(
+    rt: &impl Abort,
+    alloc: Global,
+    numbers: Numbers,
+    what: &str,
+    input: &[u8],
+    moments: &[Moment],
+    expected: &Expected<'_>,
+) -> Result<(), Fail> {
+    let plain = plain_talk(alloc, numbers, input, moments)?;
     let plain_what = format!(in alloc; "{what}, plain program")?;
     assert_spoken(rt, &plain_what, &plain, expected);
     for piece in [1, 7, usize::MAX] {
-        let spoken = talk_of(alloc, Input::new(input, piece), Output::new(alloc), moments)?;
+        let mut book = book_with(alloc, numbers)?;
+        let output = Output::new(alloc);
+        let spoken = talk(alloc, &mut book, Input::new(input, piece), output, moments);
         assert_spoken(rt, what, &spoken, expected);
     }
     Ok(())

@@ -7,7 +7,7 @@ use Rattle.tus_steps.specs.Operation.{operation_of}
 use Rattle.tus_steps.specs.Method.{is_options}
 use Rattle.tus_steps.specs.Request.{Request}
 use Rattle.tus_steps.specs.Step.{IsStep}
-use Rattle.tus_steps.proofs.StepLemmas.{append-step, step-by}
+use Rattle.tus_steps.proofs.StepLemmas.{append-step, concat-step, step-by}
 use Rattle.tus_steps.proofs.step.answer.Goals as goal
 
 pub returns-in-Ok-Append-clause-step : goal.returns-in-Ok-Append-clause-step
@@ -23,3 +23,17 @@ returns-in-Ok-Append-clause-step c =
     let step = append-step b r c.args.now name chunk c.append-outcome.result after told.answer told.accepted (on_err_weaker c.append-outcome.result (ap plain_of) told.refused) in
     subst (λ (reply : Reply). IsStep b r c.args.now reply after) (sym c.to_append.ensures)
     (step-by b r c.args.now (operation.Append name chunk) _ after other asked step)
+
+pub returns-in-Ok-Concat-clause-step : goal.returns-in-Ok-Concat-clause-step
+returns-in-Ok-Concat-clause-step c =
+    let b = plain_of c.args.book.now in
+    let r = c.args.request.now in
+    let tenant = c.in-Ok-Concat.tenant in
+    let new = c.in-Ok-Concat.new in
+    let after = plain_of c.concat-outcome.new.self in
+    let told = c.concat-outcome.ensures in
+    let other = ap (λ (r : Request). is_options r.method) (sym c.request.view_is) ∙ sym c.is_options.ensures ∙ c.if-is_options.false in
+    let asked = ap (λ s. operation_of s r) (sym c.settings-2.ensures.value) ∙ sym c.operation.ensures.value ∙ c.in-Ok-Concat.is ∙ ap Ok c.in-Ok-Concat.field-0-is in
+    let step = concat-step b r c.args.now tenant new c.concat-outcome.result after told.answer told.accepted (on_err_weaker c.concat-outcome.result (ap plain_of) told.refused) in
+    subst (λ (reply : Reply). IsStep b r c.args.now reply after) (sym c.to_creation-in-Ok-Concat.ensures)
+    (step-by b r c.args.now (operation.Concat tenant new) _ after other asked step)

@@ -13,26 +13,26 @@ loop-part-init c =
     let parts = parts_of (words_of c.args.list.now) in
     ap (λ items. joined items parts) c.new-parts.ensures ∙ joined-none parts
 
-pub returns-in_err-part : goal.returns-in_err-part
+pub returns-in_err-part-clause-value : goal.returns-in_err-part-clause-value
 unfolding final_of
-returns-in_err-part c =
+returns-in_err-part-clause-value c =
     let target = c.split_at_first.result.0.now in
     let is = c.split_at_first.ensures.before ∙ ap (before_first is_space) c.trim_start-words.ensures in
     let none = parts-none c.loop-part.parts.items c.loop-part.rest.now target is (sym c.read_part.ensures ∙ c.in_err-part.was) in
     c.from_residual.ensures ∙ sym (ap (option_and_then within_limit) (sym c.loop-part.invariant ∙ none))
 
-pub returns-then-is_full : goal.returns-then-is_full
+pub returns-then-is_full-clause-value : goal.returns-then-is_full-clause-value
 unfolding final_of
-returns-then-is_full c =
+returns-then-is_full-clause-value c =
     let target = c.split_at_first.result.0.now in
     let is = c.split_at_first.ensures.before ∙ ap (before_first is_space) c.trim_start-words.ensures in
     let full = eqb-true _ _ (sym c.is_full.ensures.value ∙ c.if-is_full.true) in
     let none = parts-full c.loop-part.parts.items c.loop-part.rest.now target c.in_ok-part.part is (sym c.read_part.ensures ∙ c.in_ok-part.was) (omega arith) in
     sym (ap (option_and_then within_limit) (sym c.loop-part.invariant) ∙ none)
 
-pub returns-then-target-words : goal.returns-then-target-words
+pub returns-then-target-words-clause-value : goal.returns-then-target-words-clause-value
 unfolding final_of
-returns-then-target-words c =
+returns-then-target-words-clause-value c =
     let target = c.split_at_first.result.0.now in
     let front = c.loop-part.parts.items in
     let part = c.in_ok-part.part in

@@ -15,7 +15,7 @@ use Rattle.upload_book.specs.Stored.{StoredUpload, own_chain}
 use Rattle.upload_book.specs.TenantBook.{TenantBook, Entry}
 use Rattle.upload_book.specs.Upload.{Upload, offset_of}
 use Rattle.upload_book.proofs.StoreAppend.{PutsIn, IsPutIn, alone-read, body-read, last-read, needs-read, free-read, charge-few, IsKept-put, plain-put, charge-put}
-use Rattle.upload_book.proofs.StoreLemmas.{OnErr-of, IsPart, IsPart-read, IsEntry-read, not_final, at-place, room-part, store_of-same}
+use Rattle.upload_book.proofs.StoreLemmas.{OnErr-of, IsPart, IsPart-read, IsEntry-read, own-kind, at-place, room-part, store_of-same}
 use Rattle.upload_book.proofs.StoreRenew.{IsRenewed, IsKept-renewed}
 use Rattle.upload_book.proofs.store.Store.append.Goals as goal
 
@@ -23,26 +23,32 @@ pub put-requires-clause-body : goal.put-requires-clause-body
 put-requires-clause-body c =
     let part = IsPart-read c.self.inside c.args.self.now c.args.tenant c.index_mut-shelf.result.now c.self.view_is c.requires.tenant c.index_mut-shelf.ensures.value in
     let entry = IsEntry-read c.self.inside c.args.self.now c.args.tenant c.args.place c.index_mut-shelf.result.now c.index_mut-upload.result.now c.self.view_is part c.requires.place c.index_mut-upload.ensures.value in
-    let own = not_final c.self.inside c.args.tenant c.args.place c.index_mut-shelf.result.now c.index_mut-upload.result.now c.self.invariant part entry in
+    let own = own-kind c.self.inside c.args.self.now c.args.tenant c.args.place c.index_mut-shelf.result.now c.index_mut-upload.result.now c.self.view_is part entry c.requires.alone.own in
     body-read c.self.inside c.args.tenant c.args.place c.index_mut-shelf.result.now c.index_mut-upload.result.now c.self.invariant part entry own
 
 pub put-requires-clause-last : goal.put-requires-clause-last
 put-requires-clause-last c some =
     let part = IsPart-read c.self.inside c.args.self.now c.args.tenant c.index_mut-shelf.result.now c.self.view_is c.requires.tenant c.index_mut-shelf.ensures.value in
     let entry = IsEntry-read c.self.inside c.args.self.now c.args.tenant c.args.place c.index_mut-shelf.result.now c.index_mut-upload.result.now c.self.view_is part c.requires.place c.index_mut-upload.ensures.value in
-    let own = not_final c.self.inside c.args.tenant c.args.place c.index_mut-shelf.result.now c.index_mut-upload.result.now c.self.invariant part entry in
+    let own = own-kind c.self.inside c.args.self.now c.args.tenant c.args.place c.index_mut-shelf.result.now c.index_mut-upload.result.now c.self.view_is part entry c.requires.alone.own in
     last-read c.self.inside c.args.tenant c.args.place c.index_mut-shelf.result.now c.index_mut-upload.result.now c.self.invariant part entry own (alone-read c.self.inside c.args.self.now c.args.tenant c.args.place c.index_mut-shelf.result.now c.index_mut-upload.result.now c.self.invariant c.self.view_is part entry c.requires.alone)
 
 pub put-requires-clause-free : goal.put-requires-clause-free
 put-requires-clause-free c =
     let part = IsPart-read c.self.inside c.args.self.now c.args.tenant c.index_mut-shelf.result.now c.self.view_is c.requires.tenant c.index_mut-shelf.ensures.value in
     let entry = IsEntry-read c.self.inside c.args.self.now c.args.tenant c.args.place c.index_mut-shelf.result.now c.index_mut-upload.result.now c.self.view_is part c.requires.place c.index_mut-upload.ensures.value in
-    let own = not_final c.self.inside c.args.tenant c.args.place c.index_mut-shelf.result.now c.index_mut-upload.result.now c.self.invariant part entry in
+    let own = own-kind c.self.inside c.args.self.now c.args.tenant c.args.place c.index_mut-shelf.result.now c.index_mut-upload.result.now c.self.view_is part entry c.requires.alone.own in
     let v = c.self.inside in
     let room = rw (← c.self.view_is) at c.requires.room in
     let free = free-read v (blocks_between v.pool.block_size (offset_of (upload_at (store_of v) c.args.tenant c.args.place)) (length c.args.bytes.now)) c.self.invariant room in
     let same = at-place v c.args.tenant c.args.place c.index_mut-shelf.result.now c.index_mut-upload.result.now part entry (λ e u. blocks_between v.pool.block_size (offset_of u) (length c.args.bytes.now)) in
     omega (arith, free, same, needs-read v c.args.tenant c.args.place c.index_mut-shelf.result.now c.index_mut-upload.result.now (length c.args.bytes.now) c.self.invariant part entry own)
+
+pub put-requires-clause-own : goal.put-requires-clause-own
+put-requires-clause-own c =
+    let part = IsPart-read c.self.inside c.args.self.now c.args.tenant c.index_mut-shelf.result.now c.self.view_is c.requires.tenant c.index_mut-shelf.ensures.value in
+    let entry = IsEntry-read c.self.inside c.args.self.now c.args.tenant c.args.place c.index_mut-shelf.result.now c.index_mut-upload.result.now c.self.view_is part c.requires.place c.index_mut-upload.ensures.value in
+    own-kind c.self.inside c.args.self.now c.args.tenant c.args.place c.index_mut-shelf.result.now c.index_mut-upload.result.now c.self.view_is part entry c.requires.alone.own
 
 -- as many blocks are taken as lie between the upload's length and the new one
 taken : (v : Inside) (t i : ℕ) (old : KeptShelf) (e : Entry StoredUpload) (bytes : List ℕ) (q : Blocks) (y : Chain) (n : ℕ) → IsKept v → IsPart v t old → IsEntry (shelf_of old) i e → e.kept.kind ≢ Final
@@ -57,7 +63,7 @@ pub overflow_add-shelf : goal.overflow_add-shelf
 overflow_add-shelf c =
     let part = IsPart-read c.self.inside c.args.self.now c.args.tenant c.index_mut-shelf.result.now c.self.view_is c.requires.tenant c.index_mut-shelf.ensures.value in
     let entry = IsEntry-read c.self.inside c.args.self.now c.args.tenant c.args.place c.index_mut-shelf.result.now c.index_mut-upload.result.now c.self.view_is part c.requires.place c.index_mut-upload.ensures.value in
-    let own = not_final c.self.inside c.args.tenant c.args.place c.index_mut-shelf.result.now c.index_mut-upload.result.now c.self.invariant part entry in
+    let own = own-kind c.self.inside c.args.self.now c.args.tenant c.args.place c.index_mut-shelf.result.now c.index_mut-upload.result.now c.self.view_is part entry c.requires.alone.own in
     let v = c.self.inside in
     let n = taken v c.args.tenant c.args.place c.index_mut-shelf.result.now c.index_mut-upload.result.now c.args.bytes.now c.put.new.pool (own_chain c.put.new.self.kept.pieces) c.in_ok-taken.taken c.self.invariant part entry own c.in_ok-taken.ensures.puts c.in_ok-taken.ensures.taken in
     let room = rw (← c.self.view_is) at c.requires.room in
@@ -67,7 +73,7 @@ pub returns-clause-taken : goal.returns-clause-taken
 returns-clause-taken c =
     let part = IsPart-read c.self.inside c.args.self.now c.args.tenant c.index_mut-shelf.result.now c.self.view_is c.requires.tenant c.index_mut-shelf.ensures.value in
     let entry = IsEntry-read c.self.inside c.args.self.now c.args.tenant c.args.place c.index_mut-shelf.result.now c.index_mut-upload.result.now c.self.view_is part c.requires.place c.index_mut-upload.ensures.value in
-    let own = not_final c.self.inside c.args.tenant c.args.place c.index_mut-shelf.result.now c.index_mut-upload.result.now c.self.invariant part entry in
+    let own = own-kind c.self.inside c.args.self.now c.args.tenant c.args.place c.index_mut-shelf.result.now c.index_mut-upload.result.now c.self.view_is part entry c.requires.alone.own in
     rw (← c.self.view_is) (taken c.self.inside c.args.tenant c.args.place c.index_mut-shelf.result.now c.index_mut-upload.result.now c.args.bytes.now c.put.new.pool (own_chain c.put.new.self.kept.pieces) c.in_ok-taken.taken c.self.invariant part entry own c.in_ok-taken.ensures.puts c.in_ok-taken.ensures.taken)
 
 -- the part where the bytes found no memory
@@ -79,7 +85,7 @@ unfolding same_part
 stays c =
     let part = IsPart-read c.self.inside c.args.self.now c.args.tenant c.index_mut-shelf.result.now c.self.view_is c.requires.tenant c.index_mut-shelf.ensures.value in
     let entry = IsEntry-read c.self.inside c.args.self.now c.args.tenant c.args.place c.index_mut-shelf.result.now c.index_mut-upload.result.now c.self.view_is part c.requires.place c.index_mut-upload.ensures.value in
-    let own = not_final c.self.inside c.args.tenant c.args.place c.index_mut-shelf.result.now c.index_mut-upload.result.now c.self.invariant part entry in
+    let own = own-kind c.self.inside c.args.self.now c.args.tenant c.args.place c.index_mut-shelf.result.now c.index_mut-upload.result.now c.self.view_is part entry c.requires.alone.own in
     record {
       part = part;
       entry = entry;
@@ -100,7 +106,7 @@ pub returns-in_err-taken-clause-memory : goal.returns-in_err-taken-clause-memory
 returns-in_err-taken-clause-memory c =
     let part = IsPart-read c.self.inside c.args.self.now c.args.tenant c.index_mut-shelf.result.now c.self.view_is c.requires.tenant c.index_mut-shelf.ensures.value in
     let entry = IsEntry-read c.self.inside c.args.self.now c.args.tenant c.args.place c.index_mut-shelf.result.now c.index_mut-upload.result.now c.self.view_is part c.requires.place c.index_mut-upload.ensures.value in
-    let own = not_final c.self.inside c.args.tenant c.args.place c.index_mut-shelf.result.now c.index_mut-upload.result.now c.self.invariant part entry in
+    let own = own-kind c.self.inside c.args.self.now c.args.tenant c.args.place c.index_mut-shelf.result.now c.index_mut-upload.result.now c.self.view_is part entry c.requires.alone.own in
     let v = c.self.inside in
     let same = at-place v c.args.tenant c.args.place c.index_mut-shelf.result.now c.index_mut-upload.result.now part entry (λ e u. blocks_between v.pool.block_size (offset_of u) (length c.args.bytes.now)) in
     OnErr-of c.from_residual.result (rw (← c.self.view_is) (omega (arith, same, c.in_err-taken.ensures.memory, needs-read v c.args.tenant c.args.place c.index_mut-shelf.result.now c.index_mut-upload.result.now (length c.args.bytes.now) c.self.invariant part entry own)))
@@ -110,7 +116,7 @@ unfolding same_part
 returns-in_err-taken-clause-unchanged c =
     let part = IsPart-read c.self.inside c.args.self.now c.args.tenant c.index_mut-shelf.result.now c.self.view_is c.requires.tenant c.index_mut-shelf.ensures.value in
     let entry = IsEntry-read c.self.inside c.args.self.now c.args.tenant c.args.place c.index_mut-shelf.result.now c.index_mut-upload.result.now c.self.view_is part c.requires.place c.index_mut-upload.ensures.value in
-    let own = not_final c.self.inside c.args.tenant c.args.place c.index_mut-shelf.result.now c.index_mut-upload.result.now c.self.invariant part entry in
+    let own = own-kind c.self.inside c.args.self.now c.args.tenant c.args.place c.index_mut-shelf.result.now c.index_mut-upload.result.now c.self.view_is part entry c.requires.alone.own in
     let kept : set c.index_mut-shelf.result.now.uploads.items c.args.place c.put.new.self ≡ c.index_mut-shelf.result.now.uploads.items = ap (set c.index_mut-shelf.result.now.uploads.items c.args.place) (c.in_err-taken.ensures.unchanged ∙ c.index_mut-upload.ensures.value) ∙ set-get_or c.index_mut-shelf.result.now.uploads.items c.args.place c.index_mut-upload.result.now in
     OnErr-of c.from_residual.result (rw c.in_err-taken.ensures.pool_unchanged (store_of-same c.self.inside c.args.tenant c.index_mut-shelf.result.now (same_part c) part (rw kept refl) ∙ c.self.view_is))
 
@@ -122,7 +128,7 @@ puts : (c : goal.After-self-2-1) → PutsIn c.self.inside c.args.tenant c.args.p
 puts c =
     let part = IsPart-read c.self.inside c.args.self.now c.args.tenant c.index_mut-shelf.result.now c.self.view_is c.requires.tenant c.index_mut-shelf.ensures.value in
     let entry = IsEntry-read c.self.inside c.args.self.now c.args.tenant c.args.place c.index_mut-shelf.result.now c.index_mut-upload.result.now c.self.view_is part c.requires.place c.index_mut-upload.ensures.value in
-    let own = not_final c.self.inside c.args.tenant c.args.place c.index_mut-shelf.result.now c.index_mut-upload.result.now c.self.invariant part entry in
+    let own = own-kind c.self.inside c.args.self.now c.args.tenant c.args.place c.index_mut-shelf.result.now c.index_mut-upload.result.now c.self.view_is part entry c.requires.alone.own in
     record {
       part = part;
       entry = entry;

@@ -5,7 +5,7 @@ use Rattle.upload_book.specs.Kept.{store_of}
 use Rattle.upload_book.specs.Stored.{StoredUpload}
 use Rattle.upload_book.specs.TenantBook.{TenantBook, Entry}
 use Rattle.upload_book.specs.Upload.{Upload}
-use Rattle.upload_book.proofs.StoreLemmas.{IsPart-read, IsEntry-read, not_final, at-place, room-part}
+use Rattle.upload_book.proofs.StoreLemmas.{IsPart-read, IsEntry-read, own-kind, at-place, room-part}
 use Rattle.upload_book.proofs.StoreRenew.{IsRenewed, IsKept-renewed, plain-renewed, charge-renewed}
 use Rattle.std.specs.Vec.{with_item}
 use Rattle.upload_book.proofs.store.Store.renew.Goals as goal
@@ -22,7 +22,7 @@ renewed c =
     record {
       part = part;
       entry = entry;
-      own = not_final c.self.inside c.args.tenant c.args.place c.index_mut-shelf.result.now c.index_mut.result.now c.self.invariant part entry;
+      own = own-kind c.self.inside c.args.self.now c.args.tenant c.args.place c.index_mut-shelf.result.now c.index_mut.result.now c.self.view_is part entry c.requires.own;
       quota = refl;
       next = refl;
       charge = refl;

@@ -1,0 +1,113 @@
+ghost use Rattle.std.specs.Prelude.{◌≡◌, ◌<◌, ◌≤◌, Err, OnOk, OnErr, length, IsTrue};
+ghost use Rattle.upload_book.specs.Book.{plain_of};
+ghost use Rattle.upload_book.specs.Concat.{concat_answer, concat_tests, part_after_concat};
+ghost use Rattle.upload_book.specs.declared.head_row.Kind.TheVariants.{Final};
+ghost use Rattle.upload_book.specs.Lawful.{IsConcatText, is_kept_metadata};
+ghost use Rattle.upload_book.specs.Operation.{MayLackMemory};
+ghost use Rattle.upload_book.specs.declared.operation.Operation.TheVariants as operation;
+ghost use Rattle.upload_book.specs.PlainBook.{answer_of, book_after};
+ghost use Rattle.upload_book.specs.Refusal.{IsAnswer, first_that_holds};
+ghost use Rattle.upload_book.specs.Store.{part_at, Joins};
+
+use crate::book::Book;
+use crate::create::Created;
+use crate::head_row::Name;
+use crate::moment::Moment;
+use crate::parts_seen::PartsSeen;
+use crate::refusal::Refusal;
+use crate::settings::Numbers;
+use crate::store::Store;
+use std::marker::Model;
+
+/// The final upload that a concatenation asks for (tus 1.0.0, Concatenation). A contract sees its parts
+/// as a list of ids, and its texts as lists of bytes.
+#[derive(Drop)]
+pub struct NewFinal<'a> {
+    /// Its parts in their order, each by its id; `None` stands for one whose path names another tenant.
+    pub parts: &'a [Option<u64>],
+    /// `Upload-Metadata`; empty where there is none.
+    pub metadata: &'a [u8],
+    /// `Upload-Concat`: `final;` and the paths of the parts.
+    pub concat: &'a [u8],
+}
+
+impl<'a> Model for NewFinal<'a> {
+    ghost use Rattle.upload_book.specs.NewFinal as spec;
+
+    ghost Value = { spec.NewFinal };
+
+    ghost view = { λ new. record {
+      parts = new.parts.now;
+      metadata = new.metadata.now;
+      concat = new.concat.now;
+    } };
+}
+
+impl Book {
+    /// Joins partial uploads of the tenant at this place to a final one, under the next id. No byte is
+    /// copied, and no block taken: the final upload holds the blocks of its parts, once more for each time
+    /// that a part is named, and keeps them where the parts end. The tenant pays nothing for it.
+    ///
+    /// It is refused, in this order, as TooLong where each part is a visible partial upload that has all
+    /// of its bytes and they are more than the greatest size together, as Part where a part is no visible
+    /// partial upload of the tenant, as PartOpen where a part does not have all of its bytes, as Uploads
+    /// where the tenant has its greatest number of uploads, expired ones included, and as Spent where the
+    /// tenant's ids are used up. Where none of them applies, it may be refused as Memory: there was none
+    /// for the lists of its blocks. A refusal leaves the book as it was, and uses no id.
+    pub fn concat(&mut self, tenant: u8, new: NewFinal, now: Moment) -> Result<Created, Refusal>
+        requires tenant_there { tenant < length (plain_of self.old).settings.tenants }
+        requires some { 0 < length new.parts }
+        requires few { length new.parts ≤ 32 }
+        requires metadata { IsTrue (is_kept_metadata new.metadata) }
+        requires concat { IsConcatText Final new.concat }
+        ensures answer { IsAnswer
+            (answer_of (plain_of self.old) tenant (concat_answer tenant new.entry now))
+            (MayLackMemory (plain_of self.old) (operation.Concat tenant new.entry) now)
+            (Err Refusal.Memory) result }
+        ensures accepted { OnOk result (plain_of self.new
+            ≡ book_after (plain_of self.old) tenant (part_after_concat new.entry now)) }
+        ensures shared { OnOk result (Joins self.old.store self.new.store tenant new.entry now) }
+        ensures refused { OnErr result (self.new ≡ self.old) }
+    {
+        let numbers = self.settings.numbers();
+        let place = usize::from(tenant);
+        let seen = self.store.parts_seen(place, new.parts, now);
+        if let Some(refusal) = concat_refusal(numbers, &self.store, place, &seen) {
+            return Err(refusal);
+        }
+        let id = self.store.next(place);
+        match self.store.join(self.alloc, place, &new, seen.len, now) {
+            Ok(()) => Ok(Created {
+                name: Name { tenant, id },
+                expires: None,
+            }),
+            Err(_) => Err(Refusal::Memory),
+        }
+    }
+}
+
+// Why the next concatenation of the tenant at this place is refused, if it is, where its parts are seen so.
+fn concat_refusal(
+    numbers: &Numbers,
+    store: &Store,
+    tenant: usize,
+    seen: &PartsSeen,
+) -> Option<Refusal>
+    requires { tenant < length store.now.shelves }
+    ensures { result ≡ first_that_holds
+        (concat_tests numbers.now (part_at store.now tenant) seen.now.there seen.now.complete seen.now.len) }
+{
+    if seen.there && seen.complete && seen.len > numbers.max_size {
+        Some(Refusal::TooLong)
+    } else if !seen.there {
+        Some(Refusal::Part)
+    } else if !seen.complete {
+        Some(Refusal::PartOpen)
+    } else if store.count(tenant) as u64 >= numbers.uploads {
+        Some(Refusal::Uploads)
+    } else if store.next(tenant) > numbers.last_id {
+        Some(Refusal::Spent)
+    } else {
+        None
+    }
+}
