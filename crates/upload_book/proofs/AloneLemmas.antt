@@ -1,30 +1,25 @@
 -- No other piece of a tenant was sent to an upload that takes bytes: the others were sent to other uploads, and
 -- a final upload has only complete partial ones as its parts.
-use Rattle.std.proofs.Common.{◌≡◌, ◌≢◌, ◌⊎◌, ℕ, zero, suc, ◌<◌, ◌≤◌, List, [], ◌∷◌, map, length, get_or, zip, Some, IfSome, refl, inl, inr, ap, sym, subst, ◌∙◌, arith}
+use Rattle.std.proofs.Common.{◌≡◌, ◌≢◌, ◌⊎◌, ℕ, ◌<◌, ◌≤◌, List, [], ◌∷◌, map, length, get_or, refl, inl, inr, ap, subst, ◌∙◌, arith}
 use Rattle.std.specs.List.{All, Contains, remove}
 use Rattle.std.specs.List.Sorted.{IsStrictlyIncreasing}
 use Rattle.std.proofs.Math.ListN.{length-map}
-use Rattle.std.proofs.lemmas.Bool.{cases_lt, eq-eqb, ne_eqb}
+use Rattle.std.proofs.lemmas.Bool.{cases_lt}
 use Rattle.std.proofs.lemmas.List.{get_or-map, get_or_read}
 use Rattle.std.proofs.lemmas.List.Elements.{All-contains}
 use Rattle.std.proofs.lemmas.List.Kept.{AllPairs-from_increasing}
 use Rattle.block_pool.specs.Blocks.{Blocks}
-use Rattle.block_bodies.specs.Bodies.{content_of}
 use Rattle.upload_book.specs.declared.head_row.Kind.{Kind}
 use Rattle.upload_book.specs.declared.head_row.Kind.TheVariants.{Plain, Partial, Final}
-use Rattle.upload_book.specs.declared.settings.Numbers.{Numbers}
-use Rattle.upload_book.specs.Lawful.{IsTenantOf, IsUploadOf, IsOfKind, IsSegmentOf}
+use Rattle.upload_book.specs.Lawful.{IsOfKind}
 use Rattle.upload_book.specs.Store.{Store, IsAlone as IsAloneIn, no_upload, shelf_at, part_at, entry_at}
 use Rattle.upload_book.specs.declared.piece.Piece.{Piece}
-use Rattle.upload_book.specs.Stored.{Shelf, StoredUpload, upload_of, entry_of, part_of, parts_of, placed_in, own_chain, HasOwnPiece}
-use Rattle.upload_book.specs.TenantBook.{Entry, TenantBook, kept_in}
-use Rattle.upload_book.specs.Upload.{Upload, IsComplete, content_of as upload_content_of}
+use Rattle.upload_book.specs.Stored.{Shelf, StoredUpload, entry_of, parts_of, own_chain, HasOwnPiece}
+use Rattle.upload_book.specs.TenantBook.{Entry, TenantBook}
+use Rattle.upload_book.specs.Upload.{Upload}
 use Rattle.upload_book.proofs.InUse.{Contains-cases, Contains-none}
 use Rattle.upload_book.proofs.Pieces.{IsEntry, kept_pieces, Contains-flat_map, Contains-remove_at}
 use Rattle.upload_book.proofs.PutLemmas.{own_piece, IsAlone}
-use Rattle.upload_book.proofs.JoinLemmas.{AreCopies, MayHold-join}
-use Rattle.upload_book.proofs.Shelves.{IsStoredOn}
-use Rattle.block_bodies.specs.Changes.{MayHold}
 
 -- an upload is final, or it is not
 pub final-or_not : (kind : Kind) → (kind ≡ Final) ⊎ (kind ≢ Final)
@@ -74,66 +69,9 @@ ids-differ {K} entries i k d ascending i_in k_in other =
       | inr after ↦ omega (arith, pairs k i d.id (omega arith) (omega arith), at_i, at_k)
     ]
 
--- what stands at the first place of an id is what is kept under it
-pub kept_in-first : {K : Type 0} (entries : List (Entry K)) (i : ℕ) (d : Entry K) (id : ℕ) → i < length entries → (get_or entries i d).id ≡ id → ((k : ℕ) → k < i → (get_or entries k d).id ≢ id) → kept_in entries id ≡ Some (get_or entries i d).kept
-kept_in-first [] i d id l named earlier = absurd (omega arith)
-kept_in-first (e ∷ entries) zero d id l named earlier = rw (eq-eqb e.id id named) refl
-kept_in-first (e ∷ entries) (suc i) d id l named earlier =
-    rw (ne_eqb e.id id (earlier 0 (omega arith))) (kept_in-first entries i d id (omega arith) named (λ k before. earlier (suc k) (omega arith)))
-
--- what stands at a place is kept under its id in the plain book
-pub kept_in-entry : (p : Blocks) (old : Shelf) (i : ℕ) (e : Entry StoredUpload) → IsStrictlyIncreasing (map {A = Entry StoredUpload} {B = ℕ} (λ e. e.id) old.uploads) → IsEntry old i e → kept_in (part_of p old).uploads e.id ≡ Some (upload_of p e.kept)
-kept_in-entry p old i e ascending is =
-    let entries : List (Entry Upload) = map {A = Entry StoredUpload} {B = Entry Upload} (entry_of p) old.uploads in
-    let at : (k : ℕ) → k < length old.uploads → get_or entries k (entry_of p e) ≡ entry_of p (get_or old.uploads k e) =
-    λ k l. get_or-map (entry_of p) old.uploads k e (entry_of p e) l in
-    let here : get_or entries i (entry_of p e) ≡ entry_of p e = at i is.within ∙ ap (entry_of p) (sym is.read) in
-    kept_in-first entries i (entry_of p e) e.id (omega (arith, is.within, length-map old.uploads (entry_of p))) (ap (λ (e : Entry Upload). e.id) here)
-    (λ k before same.
-    ids-differ old.uploads i k e ascending is.within (omega (arith, is.within)) (omega arith)
-    (sym (ap (λ (e : Entry Upload). e.id) (at k (omega (arith, is.within)))) ∙ same ∙ ap (λ (e : Entry StoredUpload). e.id) is.read))
-    ∙ ap (λ (e : Entry Upload). Some e.kept) here
-
--- the origins of pieces beside their bytes
-zip-pieces : (p : Blocks) (pieces : List Piece) → zip (map {A = Piece} {B = ℕ} (λ x. x.origin) pieces) (map {A = Piece} {B = List ℕ} (λ x. content_of p x.chain) pieces) ≡ map {A = Piece} {B = ℕ × List ℕ} (λ x. (x.origin, content_of p x.chain)) pieces
-zip-pieces p [] = refl
-zip-pieces p (x ∷ pieces) = ap (λ rest. (x.origin, content_of p x.chain) ∷ rest) (zip-pieces p pieces)
-
 -- what a list has, its image has mapped
 Contains-map : {X Y : Type 0} (f : X → Y) (xs : List X) (x : X) → Contains xs x → Contains (map f xs) (f x)
 Contains-map f xs x c = (c.0, omega (arith, c.1, length-map xs f), get_or-map f xs c.0 x (f x) c.1 ∙ ap f c.2)
-
--- a part of a final upload is a complete partial one, where it still stands
-part-complete : (p : Blocks) (n : Numbers) (old : Shelf) (e f : Entry StoredUpload) (z : Piece) → IsTenantOf n (part_of p old) → Contains old.uploads f → f.kept.kind ≡ Final → Contains f.kept.pieces z → kept_in (part_of p old).uploads z.origin ≡ Some (upload_of p e.kept)
-    → (e.kept.kind ≡ Partial) × IsComplete (upload_of p e.kept)
-part-complete p n old e f z sound there final c stands =
-    let part : TenantBook = part_of p old in
-    let u : Upload = upload_of p f.kept in
-    let at : get_or part.uploads there.0 (entry_of p f) ≡ entry_of p f = get_or-map (entry_of p) old.uploads there.0 f (entry_of p f) there.1 ∙ ap (entry_of p) there.2 in
-    let lawful : IsUploadOf n part u =
-    subst (λ (e : Entry Upload). IsUploadOf n part e.kept) at (sound.uploads there.0 (entry_of p f) (omega (arith, there.1, length-map old.uploads (entry_of p)))) in
-    let of_kind = subst (IsOfKind part u) final lawful.kind in
-    let origins : List ℕ = map {A = Piece} {B = ℕ} (λ x. x.origin) f.kept.pieces in
-    let same : All (λ s. IsSegmentOf part s.0 s.1) (zip origins u.segments) =
-    subst (λ parts. All {X = ℕ × List ℕ} (λ s. IsSegmentOf part s.0 s.1) (zip parts u.segments)) (ap (λ kind. parts_of kind origins) final) of_kind.0.same in
-    let zipped : All (λ s. IsSegmentOf part s.0 s.1) (map {A = Piece} {B = ℕ × List ℕ} (λ x. (x.origin, content_of p x.chain)) f.kept.pieces) =
-    subst (All {X = ℕ × List ℕ} (λ s. IsSegmentOf part s.0 s.1)) (zip-pieces p f.kept.pieces) same in
-    let segment : IsSegmentOf part z.origin (content_of p z.chain) =
-    All-contains {X = ℕ × List ℕ} (λ s. IsSegmentOf part s.0 s.1) _ (z.origin, content_of p z.chain) zipped (Contains-map (λ (x : Piece). (x.origin, content_of p x.chain)) f.kept.pieces z c) in
-    let told = subst (λ o. IfSome o (λ v. (v.kind ≡ Partial) × IsComplete v × (upload_content_of v ≡ content_of p z.chain))) stands segment in
-    (told.0, told.1)
-
--- no other piece of a lawful tenant was sent to an upload that is not a complete partial one
-pub alone-lawful : (p : Blocks) (n : Numbers) (old : Shelf) (i : ℕ) (e : Entry StoredUpload) → IsTenantOf n (part_of p old) → All HasOwnPiece old.uploads → IsEntry old i e → (e.kept.kind ≡ Partial → IsComplete (upload_of p e.kept) → ⊥) → IsAlone old i e.id
-alone-lawful p n old i e sound own is unfinished =
-    let ascending : IsStrictlyIncreasing (ids_on old.uploads) = subst IsStrictlyIncreasing (ids-kept p old.uploads) sound.ascending in
-    alone-from old i e is.within own
-    (λ k d l other same.
-    ids-differ old.uploads i k d ascending is.within l other (same ∙ ap (λ (e : Entry StoredUpload). e.id) (get_or_read old.uploads i e is.within is.read d)))
-    (λ f z there final c same.
-    let stands : kept_in (part_of p old).uploads z.origin ≡ Some (upload_of p e.kept) = ap (kept_in (part_of p old).uploads) same ∙ kept_in-entry p old i e ascending is in
-    let complete = part-complete p n old e f z sound there final c stands in
-    unfinished complete.0 complete.1)
 
 -- nobody else has the bytes of an upload where no other of the store's uploads has its id, as its own or as a part
 pub alone-store : (s : Store) (t i : ℕ) (e : Entry StoredUpload) → All HasOwnPiece (shelf_at s t).uploads → IsEntry (shelf_at s t) i e → IsAloneIn s t i → IsAlone (shelf_at s t) i e.id
@@ -155,17 +93,3 @@ pub segments-few : (part : TenantBook) (u : Upload) (kind : Kind) → IsOfKind p
 segments-few part u Plain is = omega (arith, is.0.segment)
 segments-few part u Partial is = omega (arith, is.0.segment)
 segments-few part u Final is = omega (arith, is.0.few, is.0.each)
-
--- an upload of a lawful tenant has at most 32 pieces
-pub pieces-lawful : (p : Blocks) (n : Numbers) (old : Shelf) → IsTenantOf n (part_of p old) → All (λ e. length e.kept.pieces ≤ 32) old.uploads
-pieces-lawful p n old sound k d l =
-    let e : Entry StoredUpload = get_or old.uploads k d in
-    let at : get_or (part_of p old).uploads k (entry_of p d) ≡ entry_of p e = get_or-map (entry_of p) old.uploads k d (entry_of p d) l in
-    let lawful : IsUploadOf n (part_of p old) (upload_of p e.kept) =
-    subst (λ (e : Entry Upload). IsUploadOf n (part_of p old) e.kept) at (sound.uploads k (entry_of p d) (omega (arith, length-map old.uploads (entry_of p)))) in
-    omega (arith, segments-few (part_of p old) (upload_of p e.kept) e.kept.kind lawful.kind, length-map e.kept.pieces (λ (x : Piece). content_of p x.chain))
-
--- so a lawful tenant's pieces may be held once more for each of at most 32 copies
-pub MayHold-lawful : (p : Blocks) (n : Numbers) (old : Shelf) (copies : List Piece) → IsStoredOn p old → IsTenantOf n (part_of p old) → n.uploads ≤ 64 → AreCopies old copies → length copies ≤ 32 → MayHold p (placed_in copies)
-MayHold-lawful p n old copies on sound uploads are few =
-    MayHold-join p old copies on are (omega (arith, sound.few, length-map old.uploads (entry_of p))) (pieces-lawful p n old sound) few

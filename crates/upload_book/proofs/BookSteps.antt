@@ -42,10 +42,6 @@ part-plain b t = get_or-map (part_of b.store.pool) b.store.shelves t (opening_pa
 pub answer-plain : {A : Type 0} (b : StoredBook) (t : ℕ) (answer : Numbers → TenantBook → A) → answer_of (plain_of b) t answer ≡ answer b.settings.numbers (part_at b.store t)
 answer-plain b t answer = ap (answer b.settings.numbers) (part-plain b t)
 
--- the book after it,
-pub after-plain : (b : StoredBook) (t : ℕ) (after : Numbers → TenantBook → TenantBook) → book_after (plain_of b) t after ≡ with_tenant_book (plain_of b) t (after b.settings.numbers (part_at b.store t))
-after-plain b t after = ap (with_tenant_book (plain_of b) t) (answer-plain b t after)
-
 -- and what the tenant pays
 pub charge-plain_book : (b : StoredBook) (t : ℕ) → IsBook b → charge_with b.store.pool.block_size (part_at b.store t) ≡ charge_in b.settings.numbers (tenant_book (plain_of b) t)
 charge-plain_book b t kept =

@@ -1,12 +1,12 @@
 -- What is kept under ids, and at places.
-use Rattle.std.proofs.Common.{◌≡◌, ◌≢◌, ◌⊎◌, ℕ, zero, suc, ◌+◌, ◌<◌, ◌≤◌, Bool, true, false, cond, eqb, ltb, not, List, [], ◌∷◌, ◌++◌, map, length, get_or, set, take, drop, Option, Some, None, Result, Ok, Err, refl, inl, inr, one-add, sym, ap, ◌∙◌, subst, arith}
+use Rattle.std.proofs.Common.{◌≡◌, ◌≢◌, ◌⊎◌, ℕ, zero, suc, ◌+◌, ◌<◌, ◌≤◌, Bool, true, false, cond, eqb, ltb, not, List, [], ◌∷◌, ◌++◌, map, length, get_or, set, Option, Some, None, Result, Ok, Err, refl, inl, inr, one-add, sym, ap, ◌∙◌, subst, arith}
 use Rattle.std.specs.List.{All, AllPairs, Contains, filter, remove, position, position_or_len}
 use Rattle.std.specs.List.Sorted.{IsStrictlyIncreasing}
 use Rattle.std.specs.Option.{option_map}
 use Rattle.std.proofs.lemmas.Bool.Decides.{eqb_tells, nat_tests}
 use Rattle.std.proofs.Math.ListN.{length-map, length-set, length-append, get_or-map}
 use Rattle.std.proofs.lemmas.Bool.{cases_Bool, cases_lt, eq-eqb}
-use Rattle.std.proofs.lemmas.List.{get_or_append_left, get_or_default, get_or_push, get_or-map as get_or-map_at, get_or-set_same, get_or-set_other, map-append, take-map, drop-map, same_lists}
+use Rattle.std.proofs.lemmas.List.{get_or_append_left, get_or_default, get_or_push, get_or-map as get_or-map_at, get_or-set_same, get_or-set_other, same_lists}
 use Rattle.std.proofs.lemmas.List.Elements.{All-head, All-tail, All-contains, All-contains_itself, All-filter, All-from_get_or}
 use Rattle.std.proofs.lemmas.List.Kept.{AllPairs-filter, AllPairs-from_increasing}
 use Rattle.upload_book.specs.declared.refusal.Refusal.{Refusal}
@@ -292,10 +292,6 @@ module _ {K : Type 0} where
       let at_j = get_or-map (λ (e : Entry K). e.id) entries j d in
       rw (← at_i, ← at_j) (AllPairs-from_increasing (ids_of entries) ascending i j d.id before (omega (arith, long))) in
       ascending_pairs (filter p entries) (AllPairs-filter (λ (a b : Entry K). a.id < b.id) p entries pairs)
-
--- the rest of a list without a place is what is left of what it gives
-pub remove-map : {A B : Type 0} (f : A → B) (xs : List A) (i : ℕ) → map f (remove xs i) ≡ remove (map f xs) i
-remove-map f xs i = map-append f (take i xs) (drop (suc i) xs) ∙ rw (take-map f i xs, drop-map f (suc i) xs) refl
 
 -- the ids still ascend where a greater one is added
 pub ids-push : (ids : List ℕ) (id : ℕ) → IsStrictlyIncreasing ids → All (λ a. a < id) ids → IsStrictlyIncreasing (ids ++ id ∷ [])

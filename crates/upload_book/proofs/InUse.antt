@@ -4,8 +4,8 @@ use Rattle.std.specs.List.{sum_by, All, Contains}
 use Rattle.std.proofs.lemmas.Bool.{cases_lt}
 use Rattle.std.proofs.lemmas.Bool.Decides.{nat_tests, eqb_tells}
 use Rattle.std.proofs.lemmas.List.Sums.{get_or-le-sum_by}
-use Rattle.block_pool.specs.Blocks.{Blocks, size_of, count_at, free_in, used_in, places_of}
-use Rattle.block_pool.proofs.BlocksLaws.{below_size, free_in-numbers, free_in-used_in, places_of-append, places_of-cons, places_of-one_same, places_of-one_other}
+use Rattle.block_pool.specs.Blocks.{Blocks, size_of, count_at, free_in, places_of}
+use Rattle.block_pool.proofs.BlocksLaws.{below_size, free_in-numbers, places_of-append, places_of-cons, places_of-one_same, places_of-one_other}
 use Rattle.block_bodies.specs.Bodies.{blocks_for}
 use Rattle.upload_book.specs.Charge.{Source, sum_below, price, charge_of}
 use Rattle.upload_book.specs.declared.piece.Piece.{Piece}
@@ -242,9 +242,3 @@ blocks_in_use p shelves kept =
   where
     sum_up : (f n g u v w c : ℕ) → f ≡ g → n ≡ g + u → u ≡ v → v ≡ w → w ≡ c → f + c ≡ n
     sum_up f n g u v w c free all by_shelf swapped paid_for = omega arith
-
--- each block that is in use is paid
-pub used-paid : (p : Blocks) (shelves : List Shelf) → IsStored p shelves → used_in p ≡ sum_by (charge_on p.block_size) shelves
-used-paid p shelves kept = both _ _ _ _ (free_in-used_in p) (blocks_in_use p shelves kept) where
-  both : (f u c n : ℕ) → f + u ≡ n → f + c ≡ n → u ≡ c
-  both f u c n used paid = omega arith

@@ -1,15 +1,13 @@
 -- Lists of pieces, one after another: their blocks are held, given back and read.
-use Rattle.std.proofs.Common.{◌≡◌, ℕ, ◌+◌, ◌-◌, ◌<◌, ◌≤◌, List, [], ◌∷◌, ◌++◌, length, take, get_or, sym, ap, ◌∙◌, subst, arith, append-nil}
-use Rattle.std.proofs.lemmas.List.{take_more}
+use Rattle.std.proofs.Common.{◌≡◌, ℕ, ◌+◌, ◌-◌, List, [], ◌∷◌, ◌++◌, sym, ap, ◌∙◌, subst, arith, append-nil}
 use Rattle.std.proofs.lemmas.List.Concat.{flat_map-append}
-use Rattle.std.proofs.lemmas.List.Sums.{sum_by_more, sum_by_more_le}
 use Rattle.block_pool.specs.Blocks.{Blocks, free_in, places_of}
 use Rattle.block_pool.proofs.BlocksLaws.{places_of-append}
-use Rattle.block_bodies.specs.Bodies.{IsHeld, content_of}
+use Rattle.block_bodies.specs.Bodies.{IsHeld}
 use Rattle.block_bodies.specs.Changes.{GivesBack, Holds, MayHold}
 use Rattle.block_bodies.proofs.BodiesLaws.{Holds-parts, GivesBack-parts}
 use Rattle.upload_book.specs.declared.piece.Piece.{Piece}
-use Rattle.upload_book.specs.Stored.{bytes_of, pieces_len, placed_in}
+use Rattle.upload_book.specs.Stored.{placed_in}
 use Rattle.upload_book.proofs.Pieces.{places-joined}
 
 -- a block stands in pieces as often as in those before one, in that one, and in those after it
@@ -46,19 +44,3 @@ GivesBack-next p q r xs x m n g more =
     let freed : m + n ≡ free_in r - free_in p = omega (arith, g.free, more.free) in
     subst (λ k. GivesBack p (placed_in (xs ++ x ∷ [])) k r) freed
     (subst (λ (list : List ℕ). GivesBack p list (m + n) r) (placed-next xs x) (GivesBack-parts p q r (placed_in xs) x.chain.blocks m n g more))
-
--- the bytes of one more piece stand after the others
-pub bytes_of-more : (p : Blocks) (pieces : List Piece) (i : ℕ) (x : Piece) → i < length pieces → x ≡ get_or pieces i x → bytes_of p (take (i + 1) pieces) ≡ bytes_of p (take i pieces) ++ content_of p x.chain
-bytes_of-more p pieces i x l read =
-    ap (bytes_of p) (take_more pieces i x l ∙ ap (λ (x : Piece). take i pieces ++ x ∷ []) (sym read)) ∙ flat_map-append (λ (x : Piece). content_of p x.chain) (take i pieces) (x ∷ [])
-    ∙ ap (λ (list : List ℕ). bytes_of p (take i pieces) ++ list) (append-nil (content_of p x.chain))
-
--- and are counted so
-pub pieces_len-more : (pieces : List Piece) (i : ℕ) (x : Piece) → i < length pieces → x ≡ get_or pieces i x → pieces_len (take (i + 1) pieces) ≡ pieces_len (take i pieces) + x.chain.len
-pieces_len-more pieces i x l read =
-    sum_by_more (λ (x : Piece). x.chain.len) pieces i x l ∙ ap (λ (x : Piece). pieces_len (take i pieces) + x.chain.len) (sym read)
-
--- those up to one are no more than all
-pub pieces_len-within : (pieces : List Piece) (i : ℕ) (x : Piece) → i < length pieces → x ≡ get_or pieces i x → pieces_len (take i pieces) + x.chain.len ≤ pieces_len pieces
-pieces_len-within pieces i x l read =
-    subst (λ (x : Piece). pieces_len (take i pieces) + x.chain.len ≤ pieces_len pieces) (sym read) (sum_by_more_le (λ (x : Piece). x.chain.len) pieces i x l)

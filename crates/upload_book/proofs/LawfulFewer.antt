@@ -64,13 +64,6 @@ IsLawful-without b t id lawful within =
     let sound : IsTenantOf b.settings.numbers (tenant_book b t) = lawful.tenants t _ within in
     IsLawful-with_tenant_book-less b t (without part id) lawful within refl (IsTenantOf-terminate b.settings.numbers part id sound) (charge-terminate b.settings.numbers part id)
 
--- so does the sweep of one tenant
-pub IsLawful-swept : (b : PlainBook) (t now : ℕ) → IsLawful b → t < length b.tenants → IsLawful (with_tenant_book b t (part_after_sweep now (tenant_book b t)))
-IsLawful-swept b t now lawful within =
-    let part : TenantBook = tenant_book b t in
-    let sound : IsTenantOf b.settings.numbers (tenant_book b t) = lawful.tenants t _ within in
-    IsLawful-with_tenant_book-less b t (part_after_sweep now part) lawful within refl (IsTenantOf-sweep b.settings.numbers part now sound) (charge-sweep b.settings.numbers part now)
-
 -- what all parts pay after a sweep, and what it gives back, is what they paid
 pub swept-total : (n : Numbers) (now : ℕ) (parts : List TenantBook)
     → sum_by (charge_in n) (map {A = TenantBook} {B = TenantBook} (part_after_sweep now) parts) + sum_by (λ part. given_back n part (part_after_sweep now part)) parts ≡ sum_by (charge_in n) parts

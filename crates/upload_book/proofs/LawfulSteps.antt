@@ -1,5 +1,5 @@
 -- The book at the start is lawful, and a creation leaves a lawful book lawful.
-use Rattle.std.proofs.Common.{◌≡◌, ℕ, zero, suc, ◌+◌, ◌-◌, ◌<◌, ◌≤◌, Bool, true, false, ltb, leb, List, [], ◌∷◌, ◌++◌, map, length, get_or, set, slice_get, take, Option, Some, None, IfSome, IsTrue, refl, sym, ap, ◌∙◌, subst, arith, rules}
+use Rattle.std.proofs.Common.{◌≡◌, ℕ, zero, suc, ◌+◌, ◌-◌, ◌<◌, ◌≤◌, Bool, true, false, ltb, leb, List, [], ◌∷◌, map, length, get_or, set, Option, Some, None, IfSome, IsTrue, refl, sym, ap, ◌∙◌, subst, arith, rules}
 use Rattle.std.proofs.Math.ListN.{length-append}
 use Rattle.std.proofs.lemmas.Bool.Decides.{nat_tests}
 use Rattle.std.proofs.lemmas.List.{map-append}
@@ -40,13 +40,6 @@ charge-opening n quota = refl
 -- the parts at the start
 abbrev pub opening_parts : List TenantQuota → List TenantBook
 opening_parts tenants = map {A = TenantQuota} {B = TenantBook} (λ t. opening_part t.quota) tenants
-
--- one more tenant has one more part
-pub opening_parts-more : (tenants : List TenantQuota) (k quota : ℕ) → slice_get (map {A = TenantQuota} {B = ℕ} (λ t. t.quota) tenants) k ≡ Some quota → opening_parts (take (suc k) tenants) ≡ opening_parts (take k tenants) ++ opening_part quota ∷ []
-opening_parts-more [] k quota is = absurd cc
-opening_parts-more (t ∷ tenants) zero quota is = let same : t.quota ≡ quota = cc in rw same refl
-opening_parts-more (t ∷ tenants) (suc k) quota is =
-    ap (λ rest. opening_part t.quota ∷ rest) (opening_parts-more tenants k quota is)
 
 -- each has the quota of the settings
 quotas-opening : (tenants : List TenantQuota) → map {A = TenantBook} {B = ℕ} (λ part. part.quota) (opening_parts tenants) ≡ map {A = TenantQuota} {B = ℕ} (λ t. t.quota) tenants

@@ -30,10 +30,6 @@ part_after_create-none n part new now none = rw none refl
 pub concat_answer-refused : (t : ℕ) (n : Numbers) (part : TenantBook) (new : NewFinal) (now : ℕ) (why : Refusal) → concat_refusal n part new now ≡ Some why → concat_answer t new now n part ≡ Err why
 concat_answer-refused t n part new now why is = rw is refl
 
--- leaves the part
-pub part_after_concat-refused : (n : Numbers) (part : TenantBook) (new : NewFinal) (now : ℕ) (why : Refusal) → concat_refusal n part new now ≡ Some why → part_after_concat new now n part ≡ part
-part_after_concat-refused n part new now why is = rw is refl
-
 -- one that is not refused
 pub concat_answer-none : (t : ℕ) (n : Numbers) (part : TenantBook) (new : NewFinal) (now : ℕ) → concat_refusal n part new now ≡ None → concat_answer t new now n part ≡ Ok (record { name = record { tenant = t; id = part.next }; expires = None })
 concat_answer-none t n part new now none = rw none refl

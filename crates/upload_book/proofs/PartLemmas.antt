@@ -1,5 +1,5 @@
 -- The parts of a concatenation: what is kept of those that are named, and what the plain book has of them.
-use Rattle.std.proofs.Common.{◌≡◌, ◌≢◌, ℕ, suc, ◌+◌, ◌<◌, ◌≤◌, Bool, true, false, ◌&&◌, cond, eqb, List, [], ◌∷◌, ◌++◌, map, length, get_or, take, min, Option, None, Some, Result, Ok, Err, refl, sym, ap, ◌∙◌, subst, inl, inr, ap₂, append-nil, length-append, arith}
+use Rattle.std.proofs.Common.{◌≡◌, ℕ, suc, ◌+◌, ◌<◌, ◌≤◌, Bool, true, false, ◌&&◌, cond, eqb, List, [], ◌∷◌, ◌++◌, map, length, get_or, take, min, Option, None, Some, Result, Ok, Err, refl, sym, ap, ◌∙◌, subst, inl, inr, ap₂, append-nil, length-append, arith}
 use Rattle.std.specs.List.{Contains, cons_option, flat_map}
 use Rattle.std.specs.Option.{option_map}
 use Rattle.std.proofs.lemmas.List.{append_assoc, map-append, take_more}
@@ -243,7 +243,3 @@ AreListed-next s t named now k i listed piece l are is one = rw (take_more named
 
 pub AreListed-next_missing : (s : Store) (t : ℕ) (named : List (Option ℕ)) (now k : ℕ) (listed : List UnheldPiece) → k < length named → AreListed s t (take k named) now listed → part_kept (shelf_at s t) now (get_or named k None) ≡ None → AreListed s t (take (k + 1) named) now listed
 AreListed-next_missing s t named now k listed l are is = rw (take_more named k None l) (AreListed-missing s t (take k named) (get_or named k None) now listed are is)
-
--- a partial upload is no final one
-pub part-own : (s : Store) (t : ℕ) (named : Option ℕ) (now i : ℕ) → IsPartIn s t named now i → (entry_at s t i).kept.kind ≢ Final
-part-own s t named now i is final = let partial = (IsPartOf-named (shelf_at s t) now named (entry_at s t i) is.seen).partial in absurd cc

@@ -1,8 +1,8 @@
 -- The pieces of a tenant, entry by entry.
-use Rattle.std.proofs.Common.{◌≢◌, ◌≡◌, ◌⊎◌, ℕ, suc, ◌+◌, ◌<◌, ◌≤◌, List, [], ◌∷◌, ◌++◌, map, length, get_or, set, take, drop, refl, inl, inr, ap, sym, subst, ◌∙◌, arith, take-append-drop}
+use Rattle.std.proofs.Common.{◌≢◌, ◌≡◌, ◌⊎◌, ℕ, suc, ◌+◌, ◌<◌, ◌≤◌, List, [], ◌∷◌, ◌++◌, length, get_or, set, take, drop, refl, inl, inr, ap, sym, subst, ◌∙◌, arith, take-append-drop}
 use Rattle.std.specs.List.{sum_by, All, Contains, flat_map, remove}
 use Rattle.std.proofs.lemmas.Bool.{cases_lt}
-use Rattle.std.proofs.lemmas.List.{set_split, set-get_or}
+use Rattle.std.proofs.lemmas.List.{set_split}
 use Rattle.std.proofs.lemmas.List.Edits.{get_or-remove_below, get_or-remove_above, length-remove}
 use Rattle.std.proofs.lemmas.List.Concat.{flat_map-append}
 use Rattle.std.proofs.lemmas.List.Elements.{All-contains_itself, All-weaker, Contains-append_cases, Contains-append_left, Contains-append_right}
@@ -62,30 +62,6 @@ Contains-set xs i y x l c = elim (Contains-append_cases (take i xs) (y ∷ drop 
     | inl same ↦ inl same
     | inr back ↦ inr (Contains-append_right (take i xs) (drop (suc i) xs) x back)
   ]
-]
-
--- what is left without a place stands there too where the place is set
-pub Contains-remove_set : {X : Type 0} (xs : List X) (i : ℕ) (y x : X) → i < length xs → Contains (remove xs i) x → Contains (set xs i y) x
-Contains-remove_set xs i y x l c =
-    subst (λ ys. Contains ys x) (sym (set_split xs i y l))
-    (elim (Contains-append_cases (take i xs) (drop (suc i) xs) x c) [
-      | inl front ↦ Contains-append_left (take i xs) (y ∷ drop (suc i) xs) x front
-      | inr back ↦ Contains-append_right (take i xs) (y ∷ drop (suc i) xs) x (Contains-later y x (drop (suc i) xs) back)
-    ])
-
--- what stands in a list stands at a place, or is left without it
-pub Contains-at_or_left : {X : Type 0} (xs : List X) (i : ℕ) (y x : X) → i < length xs → y ≡ get_or xs i y → Contains xs x → (y ≡ x) ⊎ Contains (remove xs i) x
-Contains-at_or_left xs i y x l read c =
-    Contains-set xs i y x l (subst (λ ys. Contains ys x) (sym (ap (set xs i) read ∙ set-get_or xs i y)) c)
-
--- what stands in a mapped list comes from what it maps
-pub Contains-map_from : {X Y : Type 0} (f : X → Y) (xs : List X) (y : Y) → Contains (map f xs) y → (x : X) × Contains xs x × (f x ≡ y)
-Contains-map_from f [] y c = absurd (Contains-none y c)
-Contains-map_from f (x ∷ xs) y c = elim (Contains-cases (f x) y (map f xs) c) [
-  | inl first ↦ (x, Contains-first x xs, first)
-  | inr later ↦
-      let found = Contains-map_from f xs y later in
-      (found.0, Contains-later x found.0 xs found.1, found.2)
 ]
 
 -- the pieces of an entry

@@ -3,9 +3,8 @@ use Rattle.std.proofs.Common.{◌≡◌, ◌≢◌, ℕ, List, [], ◌∷◌, �
 use Rattle.std.specs.List.{All, Contains, flat_map}
 use Rattle.std.proofs.lemmas.List.{map-append}
 use Rattle.std.proofs.lemmas.List.Elements.{All-head, All-tail, Contains-append_left, Contains-append_right}
-use Rattle.block_pool.specs.Blocks.{Blocks, IsPool}
+use Rattle.block_pool.specs.Blocks.{Blocks}
 use Rattle.block_bodies.specs.Bodies.{Chain, content_of}
-use Rattle.block_bodies.proofs.BodiesLaws.{length-content_of}
 use Rattle.upload_book.specs.Charge.{Source, origins, sources_of, charge_of, charge_with}
 use Rattle.upload_book.specs.declared.head_row.Kind.{Kind}
 use Rattle.upload_book.specs.declared.head_row.Kind.TheVariants.{Plain, Partial, Final}
@@ -13,11 +12,9 @@ use Rattle.upload_book.specs.declared.piece.Piece.{Piece}
 use Rattle.upload_book.specs.Stored.{Shelf, StoredUpload, parts_of, entry_of, part_of, charge_on, own_chain, pieces_of, HasOwnPiece, ReadsWhole}
 use Rattle.upload_book.specs.TenantBook.{Entry}
 use Rattle.upload_book.specs.Upload.{Upload}
-use Rattle.upload_book.proofs.GoneLemmas.{piece-body}
 use Rattle.upload_book.proofs.InUse.{paid, Contains-first, Contains-later}
 use Rattle.upload_book.proofs.Pieces.{kept_pieces}
 use Rattle.upload_book.proofs.PutLemmas.{own_piece}
-use Rattle.upload_book.proofs.Shelves.{IsStoredOn}
 
 -- the bytes of each piece
 abbrev contents : Blocks → List Piece → List (List ℕ)
@@ -65,7 +62,3 @@ paid-entries p (e ∷ entries) own long =
 -- what a tenant pays by the plain book is what it pays by its pieces
 pub charge-plain : (size : ℕ) (p : Blocks) (shelf : Shelf) → All HasOwnPiece shelf.uploads → ReadsWhole p (pieces_of shelf) → charge_with size (part_of p shelf) ≡ charge_on size shelf
 charge-plain size p shelf own long = ap (charge_of size shelf.next) (paid-entries p shelf.uploads own long)
-
--- each piece of a pool reads as as many bytes as it has
-pub ReadsWhole-pool : (p : Blocks) (shelf : Shelf) → IsPool p → IsStoredOn p shelf → ReadsWhole p (pieces_of shelf)
-ReadsWhole-pool p shelf pool on x c = length-content_of p x.chain pool (piece-body p shelf x on c)

@@ -93,10 +93,6 @@ part-with_entry p q old i new l same =
     ap (with_uploads (part_of p old)) (map-set_same {X = Entry StoredUpload} {Y = Entry Upload} (entry_of q) (entry_of p) old.uploads i new l (λ e c.
     entry-same p q e (λ b some. same b (entry-places b (remove old.uploads i) e c some))))
 
--- each other entry of it stays,
-pub entry-beside : (p q : Blocks) (old : Shelf) (i : ℕ) (f : Entry StoredUpload) → KeepBytes p q (λ b. places_on b (without old i)) → Contains (remove old.uploads i) f → entry_of q f ≡ entry_of p f
-entry-beside p q old i f same c = entry-same p q f (λ b some. same b (entry-places b (remove old.uploads i) f c some))
-
 -- or it loses one,
 pub part-without : (p q : Blocks) (old : Shelf) (i : ℕ) → KeepBytes p q (λ b. places_on b (without old i)) → part_of q (without old i) ≡ record (part_of p old) { uploads = remove (part_of p old).uploads i }
 part-without p q old i same =
@@ -142,34 +138,6 @@ gone-keeps_elsewhere p shelves t old i e freed q kept shelf is g k other there d
     let none : places_on b old ≡ 0 = shelves-apart p shelves t k old other kept shelf there differs b some in
     g.bytes b (omega (arith, places-without b old i e is, g.counts b, places_on-held p other (IsStoredOn-shelf p shelves k other kept there) b))
 
--- the plain book's parts where bytes are put: one part changes at one entry
-pub parts-put : (p : Blocks) (shelves : List Shelf) (t : ℕ) (old : Shelf) (i : ℕ) (e new : Entry StoredUpload) (x : Chain) (bytes : List ℕ) (q : Blocks) (y : Chain) → IsStored p shelves → IsShelf shelves t old → IsEntry old i e → e.kept.pieces ≡ own_piece e.id x ∷ [] → Puts p x bytes q y
-    → map (part_of q) (set shelves t (with_entry old i new)) ≡ set (map (part_of p) shelves) t (record (part_of p old) { uploads = set (part_of p old).uploads i (entry_of q new) })
-parts-put p shelves t old i e new x bytes q y kept shelf is own f =
-    let here = part-with_entry p q old i new is.within (put-keeps p old i e x bytes q y (IsStoredOn-shelf p shelves t old kept shelf) is own f) in
-    parts-changed p q shelves t (with_entry old i new) shelf.within (put-keeps_elsewhere p shelves t old i e x bytes q y kept shelf is own f) ∙ ap (set (map (part_of p) shelves) t) here
-
--- where an upload ends: one part loses one entry
-pub parts-gone : (p : Blocks) (shelves : List Shelf) (t : ℕ) (old : Shelf) (i : ℕ) (e : Entry StoredUpload) (freed : ℕ) (q : Blocks) → IsStored p shelves → IsShelf shelves t old → IsEntry old i e → GivesBack p (placed_in e.kept.pieces) freed q
-    → map (part_of q) (set shelves t (without old i)) ≡ set (map (part_of p) shelves) t (record (part_of p old) { uploads = remove (part_of p old).uploads i })
-parts-gone p shelves t old i e freed q kept shelf is g =
-    let here = part-without p q old i (gone-keeps p old i e freed q (IsStoredOn-shelf p shelves t old kept shelf) is g) in
-    parts-changed p q shelves t (without old i) shelf.within (gone-keeps_elsewhere p shelves t old i e freed q kept shelf is g) ∙ ap (set (map (part_of p) shelves) t) here
-
--- where one more upload holds blocks: one part gets it
-pub parts-held : (p : Blocks) (shelves : List Shelf) (t : ℕ) (old : Shelf) (kept : StoredUpload) (list : List ℕ) (q : Blocks) → t < length shelves → Holds p list q
-    → map (part_of q) (set shelves t (with_new old kept)) ≡ set (map (part_of p) shelves) t (with_new (part_of p old) (upload_of q kept))
-parts-held p shelves t old kept list q l h =
-    parts-changed p q shelves t (with_new old kept) l (λ k other there differs b some. h.bytes b)
-    ∙ ap (set (map (part_of p) shelves) t) (part-with_new p q old kept (λ b some. h.bytes b))
-
--- where a new upload has no block: one part gets it
-pub parts-new : (p : Blocks) (shelves : List Shelf) (t : ℕ) (old : Shelf) (kept : StoredUpload) → t < length shelves
-    → map (part_of p) (set shelves t (with_new old kept)) ≡ set (map (part_of p) shelves) t (with_new (part_of p old) (upload_of p kept))
-parts-new p shelves t old kept l =
-    parts-changed p p shelves t (with_new old kept) l (λ k other there differs b some. refl)
-    ∙ ap (set (map (part_of p) shelves) t) (part-with_new p p old kept (λ b some. refl))
-
 -- the segments of an upload with one piece
 pub segments-own : (p : Blocks) (u : StoredUpload) (id : ℕ) (x : Chain) → u.pieces ≡ own_piece id x ∷ [] → (upload_of p u).segments ≡ content_of p x ∷ []
 segments-own p u id x own = ap (map {A = Piece} {B = List ℕ} (λ x. content_of p x.chain)) own
@@ -177,15 +145,6 @@ segments-own p u id x own = ap (map {A = Piece} {B = List ℕ} (λ x. content_of
 -- its bytes
 pub content-own : (p : Blocks) (u : StoredUpload) (id : ℕ) (x : Chain) → u.pieces ≡ own_piece id x ∷ [] → upload_content_of (upload_of p u) ≡ content_of p x
 content-own p u id x own = ap (flat_map {X = List ℕ} {A = ℕ} (λ segment. segment)) (segments-own p u id x own) ∙ append-nil (content_of p x)
-
--- after bytes were put it has the bytes before and these
-pub segments-put : (p : Blocks) (u : StoredUpload) (id : ℕ) (x : Chain) (bytes : List ℕ) (q : Blocks) (y : Chain) → Puts p x bytes q y → u.pieces ≡ own_piece id y ∷ [] → (upload_of q u).segments ≡ (content_of p x ++ bytes) ∷ []
-segments-put p u id x bytes q y f put = segments-own q u id y put ∙ ap (λ (segment : List ℕ). segment ∷ []) f.content
-
--- a new upload has one segment, of no bytes
-pub segments-new : (p : Blocks) (u : StoredUpload) (id : ℕ) (x : Chain) → u.pieces ≡ own_piece id x ∷ [] → x.len ≡ 0 → (upload_of p u).segments ≡ [] ∷ []
-segments-new p u id x own no_bytes =
-    segments-own p u id x own ∙ ap (λ n. take n (bytes_of p x.blocks) ∷ []) no_bytes
 
 -- the bytes of a segment
 abbrev content_at : Blocks → Segment → List ℕ

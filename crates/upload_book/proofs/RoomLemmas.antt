@@ -32,11 +32,6 @@ quotas-of_book b lawful =
     sym (sum-map (λ (part : TenantBook). part.quota) b.tenants) ∙ ap sum lawful.quotas ∙ sum-map (λ (t : TenantQuota). t.quota) b.settings.tenants in
     omega (arith, here, quotas-within b.settings lawful.settings)
 
--- what all tenants pay is within the blocks
-pub charges-within : (b : PlainBook) → IsLawful b → sum_by (charge_in b.settings.numbers) b.tenants ≤ b.settings.numbers.blocks
-charges-within b lawful =
-    omega (arith, quotas-of_book b lawful, sum_by-each_le (charge_in b.settings.numbers) (λ part. part.quota) b.tenants lawful.charges)
-
 -- what is within a tenant's quota is within the blocks, beside what all pay
 pub room-within : (b : PlainBook) (t added : ℕ) → IsLawful b → t < length b.tenants → charge_in b.settings.numbers (tenant_book b t) + added ≤ (tenant_book b t).quota → sum_by (charge_in b.settings.numbers) b.tenants + added ≤ b.settings.numbers.blocks
 room-within b t added lawful within room =

@@ -4,12 +4,11 @@ use Rattle.std.specs.List.{sum_by, All, flat_map}
 use Rattle.std.proofs.lemmas.List.Elements.{All-head, All-tail}
 use Rattle.std.proofs.lemmas.List.Sums.{sum_by-cons}
 use Rattle.block_pool.specs.Blocks.{Blocks, count_at, all_free, places_of}
-use Rattle.upload_book.specs.Stored.{Shelf, StoredUpload, entry_of, part_of, pieces_of, placed_in, places_on, charge_on, some_of, ArePieces, IsStored}
+use Rattle.upload_book.specs.Stored.{Shelf, StoredUpload, pieces_of, placed_in, places_on, charge_on, some_of, ArePieces, IsStored}
 use Rattle.upload_book.specs.TenantBook.{Entry}
 use Rattle.upload_book.specs.Charge.{charge_of}
 use Rattle.upload_book.proofs.InUse.{Contains-none, paid}
 use Rattle.upload_book.proofs.Pieces.{IsEntry, with_entry, kept_pieces}
-use Rattle.upload_book.proofs.PlainShelves.{part-with_entry, parts-changed}
 use Rattle.upload_book.proofs.Shelves.{IsShelf, IsStoredOn, IsStoredOn-shelf, Changes, IsStored-changed}
 
 -- at the start each block is free
@@ -70,9 +69,3 @@ IsStored-same p shelves t old i e new kept shelf is same =
 -- the tenant pays as before
 pub same-charge : (size : ℕ) (old : Shelf) (i : ℕ) (e new : Entry StoredUpload) → IsEntry old i e → new.kept.pieces ≡ e.kept.pieces → charge_on size (with_entry old i new) ≡ charge_on size old
 same-charge size old i e new is same = ap (λ pieces. charge_of size old.next (map paid pieces)) (pieces-same old i e new is same)
-
--- the plain book changes at the entry
-pub parts-same : (p : Blocks) (shelves : List Shelf) (t : ℕ) (old : Shelf) (i : ℕ) (new : Entry StoredUpload) → t < length shelves → i < length old.uploads
-    → map (part_of p) (set shelves t (with_entry old i new)) ≡ set (map (part_of p) shelves) t (record (part_of p old) { uploads = set (part_of p old).uploads i (entry_of p new) })
-parts-same p shelves t old i new l there =
-    parts-changed p p shelves t (with_entry old i new) l (λ k other is differs b some. refl) ∙ ap (set (map (part_of p) shelves) t) (part-with_entry p p old i new there (λ b some. refl))

@@ -18,7 +18,7 @@ use Rattle.upload_book.specs.Store.{Store, plain_in, part_at, shelf_at, with_cha
 use Rattle.upload_book.specs.declared.piece.Piece.{Piece}
 use Rattle.upload_book.specs.Stored.{Shelf, StoredUpload, part_of, upload_of, pieces_of, own_chain, charge_on, IsStored, ReadsWhole, HasOwnPiece}
 use Rattle.upload_book.specs.TenantBook.{Entry}
-use Rattle.upload_book.specs.Upload.{content_of as upload_content_of, offset_of}
+use Rattle.upload_book.specs.Upload.{offset_of}
 use Rattle.upload_book.proofs.InUse.{blocks_in_use, Contains-cases, Contains-none, places-within}
 use Rattle.upload_book.proofs.AloneLemmas.{alone-store}
 use Rattle.upload_book.proofs.OwnLemmas.{HasOwnPiece-from, own-kept}
@@ -49,14 +49,6 @@ pub own-whole : (v : Inside) (t i : ℕ) (old : KeptShelf) (e : Entry StoredUplo
     → length (content_of v.pool (own_chain e.kept.pieces)) ≡ (own_chain e.kept.pieces).len
 own-whole v t i old e kept part entry own =
     reads-part v t old kept part (own_piece e.id (own_chain e.kept.pieces)) (own-contained (shelf_of old) i e (own_chain e.kept.pieces) entry own)
-
--- has no length where it reads as no bytes,
-pub empty-read : (v : Inside) (t i : ℕ) (old : KeptShelf) (e : Entry StoredUpload) → IsKept v → IsPart v t old → IsEntry (shelf_of old) i e → e.kept.kind ≢ Final → upload_content_of (upload_of v.pool e.kept) ≡ []
-    → (own_chain e.kept.pieces).len ≡ 0
-empty-read v t i old e kept part entry own none =
-    let piece = own-read v t i old e kept part entry own in
-    let bytes : content_of v.pool (own_chain e.kept.pieces) ≡ [] = sym (content-own v.pool e.kept e.id (own_chain e.kept.pieces) piece) ∙ none in
-    sym (own-whole v t i old e kept part entry piece) ∙ ap (length {A = ℕ}) bytes
 
 -- is a body,
 pub body-read : (v : Inside) (t i : ℕ) (old : KeptShelf) (e : Entry StoredUpload) → IsKept v → IsPart v t old → IsEntry (shelf_of old) i e → e.kept.kind ≢ Final → IsBodyOf v.pool (own_chain e.kept.pieces)

@@ -128,12 +128,6 @@ plain_in-with_shelf v q t old changed is stay =
     ap (map {A = Shelf} {B = TenantBook} (part_of q)) (shelves-with_shelf v q t changed)
     ∙ parts-changed v.pool q (store_of v).shelves t (shelf_of changed) (IsShelf-part v t old is).within stay
 
--- the changed part
-pub part_at-with_shelf : (v : Inside) (q : Blocks) (t : ℕ) (old changed : KeptShelf) → IsPart v t old → part_at (store_of (with_shelf v q t changed)) t ≡ part_of q (shelf_of changed)
-part_at-with_shelf v q t old changed is =
-    ap (λ (shelves : List Shelf). part_of q (get_or shelves t (opening_part 0))) (shelves-with_shelf v q t changed)
-    ∙ ap (part_of q) (get_or-set_same (store_of v).shelves t (shelf_of changed) (opening_part 0) (IsShelf-part v t old is).within)
-
 -- the changed part is read there
 pub with_shelf-part : (v : Inside) (q : Blocks) (t : ℕ) (old changed : KeptShelf) → IsPart v t old → IsPart (with_shelf v q t changed) t changed
 with_shelf-part v q t old changed is = record {
