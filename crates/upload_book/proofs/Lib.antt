@@ -22,7 +22,6 @@ pub mod StoreLemmas
 pub mod StoreSteps
 pub mod StoreGone
 pub mod AloneLemmas
-pub mod QuotaLemmas
 pub mod StayLemmas
 pub mod PriceLemmas
 pub mod OwnLemmas

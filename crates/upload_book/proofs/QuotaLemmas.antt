@@ -1,2 +1,0 @@
--- Where each tenant pays no more than its quota, and the quotas are no more than the pool has, a tenant finds
--- free blocks for all that its quota leaves it.
