@@ -42,13 +42,6 @@ Appends-rest (Ok done) x y z first rest h k = tt
 Appends-rest (Err e) x y z first rest h k =
     (length first + k.0, omega (arith, length-append first rest, k.1), rw (take-append-add first rest k.0) (Appends-more x y z first (take k.0 rest) h k.2))
 
--- bytes that stay are bytes after which none were written
-pub Appends-from_keeps : (x y z : Option (List ℕ)) (a : List ℕ) → Appends x y a → Keeps y z → Appends x z a
-Appends-from_keeps None y z a h k = tt
-Appends-from_keeps (Some xs) None z a h k = absurd h
-Appends-from_keeps (Some xs) (Some ys) None a h k = absurd k
-Appends-from_keeps (Some xs) (Some ys) (Some zs) a h k = k ∙ h
-
 -- a write of a front of what was left of some bytes
 pub Appends-step : (x y z : Option (List ℕ)) (bytes : List ℕ) (done n : ℕ) → Appends x y (take done bytes) → Appends y z (take n (drop done bytes))
     → Appends x z (take (done + n) bytes)

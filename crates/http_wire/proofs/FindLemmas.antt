@@ -1,5 +1,5 @@
 -- The search for a head, one read after another.
-use Rattle.std.proofs.Common.{◌≡◌, ◌⊎◌, ◌≢◌, Bool, ◌==◌, ℕ, suc, ◌+◌, ◌-◌, ◌<◌, ◌≤◌, min, nat_le, if◌then◌else◌, true, false, List, [], ◌∷◌, ◌++◌, Result, Ok, Err, OnErr, length, take, drop, Option, None, Some, option_map, refl, sym, ap, ap₂, ◌∙◌, arith, inl, inr, true≢false, ne_eqb, le-leb, length-append, append-nil, append_assoc, take-append-drop, length-drop, length-take-le, add-zero, zero-add, take_all}
+use Rattle.std.proofs.Common.{◌≡◌, ◌⊎◌, ◌≢◌, Bool, ◌==◌, ℕ, suc, ◌+◌, ◌-◌, ◌<◌, ◌≤◌, min, nat_le, if◌then◌else◌, true, false, List, [], ◌∷◌, ◌++◌, Result, Ok, Err, OnErr, length, take, drop, Option, None, Some, option_map, refl, sym, ap, ◌∙◌, arith, inl, inr, true≢false, ne_eqb, le-leb, length-append, append-nil, append_assoc, take-append-drop, length-drop, length-take-le, add-zero, zero-add, take_all}
 use Rattle.std.proofs.lemmas.Bool.{cases_lt, lt-leb}
 use Rattle.std.proofs.lemmas.List.{take-append-le, drop-append-le}
 use Rattle.http_wire.specs.Ahead.{Ahead}
@@ -149,12 +149,6 @@ pub record Searched (s : Scan) (seen : ℕ) (held : List ℕ) : Type 0 where
   pub within : seen ≤ length held
   pub none : head_len (take seen held) ≡ None
   pub scan : s ≡ scanned (record { before = 0; last = 0 }) (take seen held)
-
-pub Searched-start : (s : Scan) (held : List ℕ) → s.before ≡ 0 → s.last ≡ 0 → Searched s 0 held
-Searched-start s held b l = record { within = omega arith; none = refl; scan = ap₂ at b l }
-  where
-    at : ℕ → ℕ → Scan
-    at before last = record { before = before; last = last }
 
 -- the search of the rest
 whole_len : (s : Scan) (seen : ℕ) (held : List ℕ) → Searched s seen held

@@ -11,5 +11,4 @@ pub mod RangeLemmas
 pub mod ReplyLemmas
 pub mod Served
 pub mod Talk
-pub mod PlainLemmas
 pub mod Carried

@@ -1,5 +1,5 @@
 -- A reply is its page and then the bytes of an upload.
-use Rattle.std.proofs.Common.{◌≡◌, ℕ, List, ◌++◌, Bool, true, false, refl, sym, ap, ◌∙◌, append-nil, append_assoc}
+use Rattle.std.proofs.Common.{◌≡◌, ℕ, ◌++◌, Bool, true, false, refl, sym, ap, ◌∙◌, append-nil, append_assoc}
 use Rattle.std.specs.Prelude.{◌||◌, ◌==◌}
 use Rattle.tus_steps.specs.declared.reply.Reply.{Reply}
 use Rattle.tus_steps.specs.declared.reply.Reply.TheVariants.{Options, Created, Head, Content, Patched, Deleted, Refused}
@@ -22,10 +22,3 @@ unfolding reply_text
 reply_text-parts r now framing =
     ap (λ l. reply_head r now framing ++ l) (body_parts framing.bare r)
     ∙ sym (append_assoc (reply_head r now framing) (body_sent (is_bare framing (reply_status r)) (word_in r)) (content_sent r framing))
-
--- a text, the page and the bytes of an upload, put together one after the other
-pub reply_text-joined : (r : Reply) (now : ℕ) (framing : Framing) (before page content first all : List ℕ) → page ≡ page_text r now framing → content ≡ content_sent r framing
-    → first ≡ before ++ page → all ≡ first ++ content → all ≡ before ++ reply_text r now framing
-reply_text-joined r now framing before page content first all p c h k =
-    let whole : page ++ content ≡ reply_text r now framing = rw (p, c) (sym (reply_text-parts r now framing)) in
-    k ∙ ap (λ l. l ++ content) h ∙ append_assoc before page content ∙ ap (λ l. before ++ l) whole

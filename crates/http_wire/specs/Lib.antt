@@ -26,6 +26,5 @@ pub mod Streams
 pub mod Shown
 pub mod TurnOnWire
 pub mod Turns
-pub mod Plain
 pub mod WireState
 pub mod Writes

@@ -19,16 +19,12 @@ mod message;
 mod own_fields;
 mod page;
 mod parts;
-#[cfg(test)]
-mod plain;
 mod read;
 mod refusal;
 mod reply;
 mod send;
 mod serving;
 mod source;
-#[cfg(test)]
-mod tests;
 mod wire;
 mod write;
 

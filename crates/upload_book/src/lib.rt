@@ -18,8 +18,6 @@ mod moment;
 mod operation;
 mod parts_seen;
 mod piece;
-#[cfg(test)]
-mod plain;
 mod refusal;
 mod settings;
 mod settings_fault;
@@ -29,8 +27,6 @@ mod store;
 mod stored_upload;
 mod sweep;
 mod terminate;
-#[cfg(test)]
-mod tests;
 
 pub use append::{Appended, Chunk, Refused};
 pub use book::Book;

@@ -1,0 +1,28 @@
+//! The tests of the book by its public calls, beside a plain, slow program of a book. They stand in a crate of
+//! their own so that the book is not proved once more with them; nothing else is in it.
+#![tactic(auto)]
+
+#[cfg(test)]
+mod books;
+#[cfg(test)]
+mod ends;
+#[cfg(test)]
+mod holders;
+#[cfg(test)]
+mod joins;
+#[cfg(test)]
+mod memory;
+#[cfg(test)]
+mod plain;
+#[cfg(test)]
+mod quotas;
+#[cfg(test)]
+mod settings;
+#[cfg(test)]
+mod steps;
+#[cfg(test)]
+mod sweeps;
+#[cfg(test)]
+mod texts;
+#[cfg(test)]
+mod uploads;

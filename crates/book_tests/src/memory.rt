@@ -1,0 +1,115 @@
+//! Refused memory. `rt try --test --fail-alloc N -- lacking_memory`, for N from 1 on, runs this with the Nth allocation
+//! refused: the call that needed it says so and leaves the book as it was, and the same call is then accepted.
+
+use crate::books::{ACME, BETA, NUMBERS, acme, moment, new_final, patch};
+use std::process::Abort;
+use upload_book::{Appended, Book, Created, HeadRow, NewUpload, Refusal, Refused, Settings};
+
+// How far acme's first two uploads are, what acme and beta pay, how many blocks are free, and the two totals.
+type Seen = ([Result<u64, Refusal>; 2], [u64; 5]);
+
+fn seen(rt: &impl Abort, book: &Book) -> Seen {
+    let offset = |row: HeadRow| row.offset;
+    let rows = [1, 2].map(|id| book.look(&acme(id), moment(rt, 1000)).map(offset));
+    (rows, paid(rt, book))
+}
+
+fn paid(rt: &impl Abort, book: &Book) -> [u64; 5] {
+    let acme = book.settings().tenant(ACME).expect(rt, "acme");
+    let beta = book.settings().tenant(BETA).expect(rt, "beta");
+    [
+        book.charge(acme),
+        book.charge(beta),
+        book.free_blocks(),
+        book.charged_total(),
+        book.released_total(),
+    ]
+}
+
+// A PATCH, and once more where it was refused since there was no memory; gives its answer, which is no such refusal.
+fn patched(
+    rt: &impl Abort,
+    book: &mut Book,
+    offset: u64,
+    bytes: &[u8],
+) -> Result<Appended, Refused> {
+    let before = seen(rt, book);
+    let lacking = Err(Refused {
+        refusal: Refusal::Memory,
+        expires: Some(moment(rt, 4600)),
+    });
+    let answer = patch(rt, book, 1, offset, bytes);
+    if answer != lacking {
+        return answer;
+    }
+    assert_eq!(rt; seen(rt, book), before);
+    patch(rt, book, 1, offset, bytes)
+}
+
+// A final upload of the first one twice.
+fn join(rt: &impl Abort, book: &mut Book) -> Result<Created, Refusal> {
+    let tenant = book.settings().tenant(ACME).expect(rt, "acme");
+    let parts = [Some(1), Some(1)];
+    book.concat(tenant, new_final(rt, &parts), moment(rt, 1000))
+}
+
+// The same, and once more where it was refused since there was no memory.
+fn joined(rt: &impl Abort, book: &mut Book) -> Result<Created, Refusal> {
+    let before = seen(rt, book);
+    let answer = join(rt, book);
+    if answer != Err(Refusal::Memory) {
+        return answer;
+    }
+    assert_eq!(rt; seen(rt, book), before);
+    join(rt, book)
+}
+
+// Asserts that a GET gives these bytes, if not at once then where memory was lacking for the first.
+fn assert_content(rt: &impl Abort, book: &Book, id: u64, bytes: &[u8]) {
+    let before = seen(rt, book);
+    let mut answer = book.content(&acme(id), moment(rt, 1000));
+    if let Err(Refusal::Memory) = answer {
+        assert_eq!(rt; seen(rt, book), before);
+        answer = book.content(&acme(id), moment(rt, 1000));
+    }
+    let content = answer.expect(rt, "a content");
+    assert_eq!(rt; content.as_slice(), bytes);
+}
+
+#[test]
+fn lacking_memory_changes_nothing(rt: HostRuntime) {
+    let settings = Settings::new(NUMBERS, &[(ACME, 8), (BETA, 4)]);
+    let settings = settings.expect(&rt, "settings");
+    let Ok(mut book) = Book::new(rt.alloc(), settings) else {
+        return;
+    };
+    let place = book.settings().tenant(ACME).expect(&rt, "acme");
+    let new = NewUpload {
+        partial: true,
+        length: Some(20),
+        metadata: b"",
+        concat: b"partial",
+    };
+    let made = book.create(place, new, moment(&rt, 1000));
+    assert_eq!(rt; made.map(|created| created.name.id), Ok(1));
+    for (offset, bytes, end) in [
+        (0, b"hello".as_slice(), 5),
+        (5, b"wor".as_slice(), 8),
+        (8, b"ld and more.".as_slice(), 20),
+    ] {
+        let answer = patched(&rt, &mut book, offset, bytes);
+        assert_eq!(rt; answer.map(|appended| appended.offset), Ok(end));
+    }
+    assert_eq!(rt; paid(&rt, &book), [5, 0, 7, 5, 0]);
+    assert_content(&rt, &book, 1, b"helloworld and more.");
+    let made = joined(&rt, &mut book);
+    assert_eq!(rt; made.map(|created| created.name.id), Ok(2));
+    let twice = b"helloworld and more.helloworld and more.";
+    assert_content(&rt, &book, 2, twice);
+    for (id, blocks) in [(1, 0), (2, 5)] {
+        let removed = book.terminate(&acme(id), moment(&rt, 1000));
+        let released = removed.map(|removed| removed.released);
+        assert_eq!(rt; released, Ok(blocks));
+    }
+    assert_eq!(rt; paid(&rt, &book), [0, 0, 12, 5, 5]);
+}

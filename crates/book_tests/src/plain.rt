@@ -1,0 +1,323 @@
+//! The book by a plain, slow program, for the tests. It keeps every upload that there ever was, as segments of
+//! bytes, and counts ids, uploads and charges anew from them. It has no blocks, and keeps no texts.
+
+use std::alloc::Global;
+use std::process::Abort;
+use upload_book::{
+    Appended, Chunk, Created, Kind, Moment, Name, Numbers, Refusal, Refused, Removed, Swept,
+};
+
+/// Bytes, and the id of the upload to which they were sent.
+#[derive(Drop)]
+struct Segment {
+    origin: u64,
+    bytes: Vec<u8>,
+}
+
+#[derive(Drop)]
+struct Upload {
+    name: Name,
+    has_ended: bool,
+    kind: Kind,
+    declared: Option<u64>,
+    segments: Vec<Segment>,
+    /// The second at which it expires, if it does.
+    expires: Option<u64>,
+}
+
+impl Upload {
+    fn offset(&self) -> u64 {
+        let mut offset = 0u64;
+        for segment in &self.segments {
+            offset = offset.saturating_add(segment.bytes.len() as u64);
+        }
+        offset
+    }
+
+    fn is_complete(&self) -> bool {
+        self.declared == Some(self.offset())
+    }
+
+    fn is_visible(&self, now: Moment) -> bool {
+        !self.has_ended && !self.expires.is_some_and(|end| end <= now.secs())
+    }
+
+    fn content(&self, rt: &impl Abort, alloc: Global) -> Vec<u8> {
+        let mut bytes = Vec::new(alloc);
+        for segment in &self.segments {
+            let copied = bytes.extend_from_slice(&segment.bytes);
+            copied.expect(rt, "memory");
+        }
+        bytes
+    }
+}
+
+/// The kind, the offset, the length and the end of an upload.
+pub type PlainRow = (Kind, u64, Option<u64>, Option<u64>);
+
+// The first of the refusals whose test holds.
+fn refused_by(tests: &[(bool, Refusal)]) -> Result<(), Refusal> {
+    match tests.iter().find(|test| test.0) {
+        Some(test) => Err(test.1),
+        None => Ok(()),
+    }
+}
+
+fn refused(refusal: Refusal, expires: Option<u64>) -> Refused {
+    Refused {
+        refusal,
+        expires: expires.and_then(Moment::new),
+    }
+}
+
+/// The settings' numbers, the quotas of two tenants, all uploads, and the totals of blocks charged and released.
+#[derive(Drop)]
+pub struct PlainBook {
+    pub alloc: Global,
+    pub numbers: Numbers,
+    pub quotas: [u64; 2],
+    pub charged: u64,
+    pub released: u64,
+    uploads: Vec<Upload>,
+}
+
+impl PlainBook {
+    pub fn new(alloc: Global, numbers: Numbers, quotas: [u64; 2]) -> PlainBook {
+        PlainBook {
+            alloc,
+            numbers,
+            quotas,
+            charged: 0,
+            released: 0,
+            uploads: Vec::new(alloc),
+        }
+    }
+
+    /// What a tenant pays: for each id that was given, the most blocks that a segment of this origin takes.
+    pub fn charge(&self, tenant: u8) -> u64 {
+        let size = self.numbers.block_size.max(1);
+        let mut sum = 0u64;
+        for origin in 1..self.next(tenant) {
+            let mut most = 0;
+            for upload in &self.uploads {
+                for segment in &upload.segments {
+                    let is_paid = upload.name.tenant == tenant && !upload.has_ended;
+                    if is_paid && segment.origin == origin {
+                        most = most.max((segment.bytes.len() as u64).div_ceil(size));
+                    }
+                }
+            }
+            sum = sum.saturating_add(most);
+        }
+        sum
+    }
+
+    // Counts what a tenant pays more than before as charged, and what it pays less as released, which it gives.
+    fn settle(&mut self, tenant: u8, before: u64) -> u64 {
+        let after = self.charge(tenant);
+        let less = before.saturating_sub(after);
+        self.charged = self.charged.saturating_add(after.saturating_sub(before));
+        self.released = self.released.saturating_add(less);
+        less
+    }
+
+    // The id that the tenant's next upload gets.
+    fn next(&self, tenant: u8) -> u64 {
+        let uploads = self.uploads.iter();
+        let given = uploads.filter(|u| u.name.tenant == tenant).count() as u64;
+        given.saturating_add(1)
+    }
+
+    // The upload that a request for a name sees.
+    fn visible(&self, name: &Name, now: Moment) -> Result<&Upload, Refusal> {
+        match self.uploads.iter().find(|u| u.name == *name) {
+            Some(upload) if upload.is_visible(now) => Ok(upload),
+            Some(_) => Err(Refusal::Gone),
+            None => Err(Refusal::Unknown),
+        }
+    }
+
+    // When an upload expires that is touched now.
+    fn touched(&self, kind: Kind, done: bool, end: Option<u64>, now: Moment) -> Option<u64> {
+        if kind == Kind::Plain && done {
+            return None;
+        }
+        let later = now.secs().saturating_add(self.numbers.lifetime);
+        end.max(Some(later.min(253_402_300_799)))
+    }
+
+    // Keeps an upload under the tenant's next id, where it may have one more.
+    fn add(
+        &mut self,
+        rt: &impl Abort,
+        tenant: u8,
+        kind: Kind,
+        declared: Option<u64>,
+        segments: Vec<Segment>,
+        expires: Option<u64>,
+    ) -> Result<Created, Refusal> {
+        let id = self.next(tenant);
+        let name = Name { tenant, id };
+        let uploads = self.uploads.iter();
+        let count = uploads.filter(|u| u.name.tenant == tenant && !u.has_ended);
+        let is_full = count.count() as u64 >= self.numbers.uploads;
+        let is_spent = id > self.numbers.last_id;
+        refused_by(&[(is_full, Refusal::Uploads), (is_spent, Refusal::Spent)])?;
+        let upload = Upload {
+            name,
+            has_ended: false,
+            kind,
+            declared,
+            segments,
+            expires,
+        };
+        self.uploads.push(upload).expect(rt, "memory");
+        Ok(Created {
+            name,
+            expires: expires.and_then(Moment::new),
+        })
+    }
+
+    pub fn create(
+        &mut self,
+        rt: &impl Abort,
+        tenant: u8,
+        kind: Kind,
+        length: Option<u64>,
+        now: Moment,
+    ) -> Result<Created, Refusal> {
+        let is_too_long = length.is_some_and(|n| n > self.numbers.max_size);
+        refused_by(&[(is_too_long, Refusal::TooLong)])?;
+        let origin = self.next(tenant);
+        let bytes = Vec::new(self.alloc);
+        let segments = vec![in self.alloc; Segment { origin, bytes }].expect(rt, "memory");
+        let expires = self.touched(kind, length == Some(0), None, now);
+        self.add(rt, tenant, kind, length, segments, expires)
+    }
+
+    pub fn concat(
+        &mut self,
+        rt: &impl Abort,
+        tenant: u8,
+        parts: &[Option<u64>],
+        now: Moment,
+    ) -> Result<Created, Refusal> {
+        let mut segments = Vec::new(self.alloc);
+        let mut done = true;
+        let mut len = 0u64;
+        for part in parts {
+            let origin = part.unwrap_or(0);
+            match self.visible(&Name { tenant, id: origin }, now) {
+                Ok(upload) if upload.kind == Kind::Partial => {
+                    done = done && upload.is_complete();
+                    len = len.saturating_add(upload.offset());
+                    let bytes = upload.content(rt, self.alloc);
+                    let kept = segments.push(Segment { origin, bytes });
+                    kept.expect(rt, "memory");
+                }
+                _ => {}
+            }
+        }
+        let there = segments.len() == parts.len();
+        let is_too_long = there && done && len > self.numbers.max_size;
+        refused_by(&[
+            (is_too_long, Refusal::TooLong),
+            (!there, Refusal::Part),
+            (!done, Refusal::PartOpen),
+        ])?;
+        self.add(rt, tenant, Kind::Final, Some(len), segments, None)
+    }
+
+    pub fn look(&self, name: &Name, now: Moment) -> Result<PlainRow, Refusal> {
+        let u = self.visible(name, now)?;
+        Ok((u.kind, u.offset(), u.declared, u.expires))
+    }
+
+    pub fn content(&self, rt: &impl Abort, name: &Name, now: Moment) -> Result<Vec<u8>, Refusal> {
+        let upload = self.visible(name, now)?;
+        refused_by(&[(!upload.is_complete(), Refusal::Unfinished)])?;
+        Ok(upload.content(rt, self.alloc))
+    }
+
+    pub fn append(
+        &mut self,
+        rt: &impl Abort,
+        name: &Name,
+        chunk: &Chunk,
+        now: Moment,
+    ) -> Result<Appended, Refused> {
+        let (kind, at, declared, expires) = match self.look(name, now) {
+            Ok(row) => row,
+            Err(refusal) => return Err(refused(refusal, None)),
+        };
+        let before = self.charge(name.tenant);
+        let quota = self.quotas[usize::from(name.tenant.min(1))];
+        let size = self.numbers.block_size.max(1);
+        let offset = at.saturating_add(chunk.bytes.len() as u64);
+        let added = offset.div_ceil(size).saturating_sub(at.div_ceil(size));
+        let charge = before.saturating_add(added);
+        let charged = self.charged.saturating_add(added);
+        let length = declared.or(chunk.length);
+        let most = length.unwrap_or(self.numbers.max_size);
+        let is_too_long = most > self.numbers.max_size || offset > most;
+        let other = chunk.length.is_some() && chunk.length != length;
+        let tests = refused_by(&[
+            (kind == Kind::Final, Refusal::IsFinal),
+            (!chunk.typed, Refusal::Media),
+            (chunk.offset != at, Refusal::Offset),
+            (other, Refusal::LengthFixed),
+            (is_too_long, Refusal::TooLong),
+            (charged > self.numbers.last_total, Refusal::Spent),
+            (charge > quota, Refusal::Quota),
+        ]);
+        if let Err(refusal) = tests {
+            return Err(refused(refusal, expires));
+        }
+        let expires = self.touched(kind, length == Some(offset), expires, now);
+        for upload in self.uploads.iter_mut() {
+            if upload.name == *name {
+                upload.declared = length;
+                upload.expires = expires;
+                for segment in upload.segments.iter_mut() {
+                    let copied = segment.bytes.extend_from_slice(chunk.bytes);
+                    copied.expect(rt, "memory");
+                }
+            }
+        }
+        self.settle(name.tenant, before);
+        Ok(Appended {
+            offset,
+            expires: expires.and_then(Moment::new),
+        })
+    }
+
+    pub fn terminate(&mut self, name: &Name, now: Moment) -> Result<Removed, Refusal> {
+        self.visible(name, now)?;
+        let before = self.charge(name.tenant);
+        for upload in self.uploads.iter_mut() {
+            upload.has_ended = upload.has_ended || upload.name == *name;
+        }
+        let blocks = self.settle(name.tenant, before);
+        Ok(Removed {
+            blocks,
+            released: blocks,
+        })
+    }
+
+    pub fn sweep(&mut self, now: Moment) -> Swept {
+        let (acme, beta) = (self.charge(0), self.charge(1));
+        let mut uploads = 0u64;
+        for upload in self.uploads.iter_mut() {
+            if !upload.has_ended && !upload.is_visible(now) {
+                upload.has_ended = true;
+                uploads = uploads.saturating_add(1);
+            }
+        }
+        let blocks = self.settle(0, acme).saturating_add(self.settle(1, beta));
+        Swept {
+            uploads,
+            blocks,
+            released: blocks,
+        }
+    }
+}

@@ -1,0 +1,325 @@
+//! Tables of calls, each with what it answers and what holds after it. A book is taken through a table, and beside
+//! it the plain program of a book.
+
+use crate::books::{ACME, BETA, moment, new_book, new_final};
+use crate::plain::{PlainBook, PlainRow};
+use std::alloc::Global;
+use std::process::Abort;
+use std::test::Fail;
+use upload_book::{
+    Appended, Book, Chunk, Content, Created, HeadRow, Kind, Moment, Name, NewUpload, Numbers,
+    Refusal, Refused, Removed, Swept,
+};
+
+/// A call of a book.
+#[derive(Clone, Copy, Debug)]
+pub enum Call {
+    /// A creation of an upload of its own, of this length.
+    Post(Option<u64>),
+    /// A creation of a partial upload.
+    Partial(Option<u64>),
+    /// A concatenation of parts.
+    Join(&'static [Option<u64>]),
+    /// A PATCH of an upload, at an offset.
+    Patch(u64, u64, &'static [u8]),
+    /// A PATCH of an upload, at an offset, which tells a length.
+    PatchOf(u64, u64, u64, &'static [u8]),
+    /// A PATCH of an upload, at offset 0, without its content type.
+    Untyped(u64, &'static [u8]),
+    Head(u64),
+    Get(u64),
+    Delete(u64),
+    Sweep,
+}
+
+/// What a call answers.
+#[derive(Clone, Copy, Debug, PartialEq, Eq)]
+pub enum Told<'a> {
+    /// An id, and when the upload expires.
+    Created(u64, Option<u64>),
+    /// An offset, and when the upload expires.
+    Appended(u64, Option<u64>),
+    /// A kind, an offset, a length, and when the upload expires.
+    Row(Kind, u64, Option<u64>, Option<u64>),
+    Bytes(&'a [u8]),
+    /// How many blocks became free, and how many are no longer paid.
+    Removed(u64, u64),
+    /// How many uploads ended, how many blocks became free, and how many are no longer paid.
+    Swept(u64, u64, u64),
+    Refused(Refusal),
+    /// Why a PATCH was refused, and when the upload expires.
+    RefusedPatch(Refusal, Option<u64>),
+}
+
+/// A call at a moment for a tenant, what it answers, and what holds after it.
+#[derive(Clone, Copy, Debug)]
+pub struct Step {
+    pub secs: u64,
+    pub tenant: &'static [u8],
+    pub call: Call,
+    pub told: Told<'static>,
+    /// What acme pays, what beta pays, how many blocks are free, and how many were charged and released so far.
+    pub after: [u64; 5],
+}
+
+/// A table of steps, each `secs tenant call => told, after;`.
+macro_rules! steps {
+    ($($secs:literal $tenant:ident $call:expr => $told:expr, $after:expr;)*) => {
+        [$(Step {
+            secs: $secs,
+            tenant: $tenant,
+            call: $call,
+            told: $told,
+            after: $after,
+        }),*]
+    };
+}
+
+pub(crate) use steps;
+
+fn secs(expires: Option<Moment>) -> Option<u64> {
+    expires.map(|end| end.secs())
+}
+
+fn created<'a>(answer: Result<Created, Refusal>) -> Told<'a> {
+    match answer {
+        Ok(created) => Told::Created(created.name.id, secs(created.expires)),
+        Err(refusal) => Told::Refused(refusal),
+    }
+}
+
+fn appended<'a>(answer: Result<Appended, Refused>) -> Told<'a> {
+    match answer {
+        Ok(appended) => Told::Appended(appended.offset, secs(appended.expires)),
+        Err(refused) => Told::RefusedPatch(refused.refusal, secs(refused.expires)),
+    }
+}
+
+fn row<'a>(answer: &Result<HeadRow, Refusal>) -> Told<'a> {
+    match answer {
+        Ok(row) => Told::Row(row.kind, row.offset, row.declared, secs(row.expires)),
+        Err(refusal) => Told::Refused(*refusal),
+    }
+}
+
+fn plain_row<'a>(answer: Result<PlainRow, Refusal>) -> Told<'a> {
+    match answer {
+        Ok((kind, offset, declared, expires)) => { Told::Row(kind, offset, declared, expires) }
+        Err(refusal) => Told::Refused(refusal),
+    }
+}
+
+fn bytes<'a>(answer: &'a Result<Content, Refusal>) -> Told<'a> {
+    match answer {
+        Ok(content) => Told::Bytes(content.as_slice()),
+        Err(refusal) => Told::Refused(*refusal),
+    }
+}
+
+fn plain_bytes<'a>(answer: &'a Result<Vec<u8>, Refusal>) -> Told<'a> {
+    match answer {
+        Ok(bytes) => Told::Bytes(bytes.as_slice()),
+        Err(refusal) => Told::Refused(*refusal),
+    }
+}
+
+fn removed<'a>(answer: Result<Removed, Refusal>) -> Told<'a> {
+    match answer {
+        Ok(removed) => Told::Removed(removed.blocks, removed.released),
+        Err(refusal) => Told::Refused(refusal),
+    }
+}
+
+fn swept<'a>(answer: Swept) -> Told<'a> {
+    Told::Swept(answer.uploads, answer.blocks, answer.released)
+}
+
+/// A book, and the plain one beside it.
+#[derive(Drop)]
+struct Pair {
+    book: Book,
+    plain: PlainBook,
+}
+
+impl Pair {
+    fn create(
+        &mut self,
+        rt: &impl Abort,
+        tenant: &[u8],
+        kind: Kind,
+        length: Option<u64>,
+        now: Moment,
+    ) -> [Told<'static>; 2] {
+        let place = self.book.settings().tenant(tenant).expect(rt, "a tenant");
+        let answer = if kind == Kind::Partial {
+            let new = NewUpload {
+                partial: true,
+                length,
+                metadata: b"",
+                concat: b"partial",
+            };
+            self.book.create(place, new, now)
+        } else {
+            let new = NewUpload {
+                partial: false,
+                length,
+                metadata: b"",
+                concat: b"",
+            };
+            self.book.create(place, new, now)
+        };
+        let plainly = self.plain.create(rt, place, kind, length, now);
+        [created(answer), created(plainly)]
+    }
+
+    fn concat(
+        &mut self,
+        rt: &impl Abort,
+        tenant: &[u8],
+        parts: &[Option<u64>],
+        now: Moment,
+    ) -> [Told<'static>; 2] {
+        let place = self.book.settings().tenant(tenant).expect(rt, "a tenant");
+        let answer = self.book.concat(place, new_final(rt, parts), now);
+        let plainly = self.plain.concat(rt, place, parts, now);
+        [created(answer), created(plainly)]
+    }
+
+    fn append(
+        &mut self,
+        rt: &impl Abort,
+        name: Name,
+        chunk: Chunk,
+        now: Moment,
+    ) -> [Told<'static>; 2] {
+        let plainly = self.plain.append(rt, &name, &chunk, now);
+        let answer = self.book.append(&name, chunk, now);
+        [appended(answer), appended(plainly)]
+    }
+
+    fn look(&self, name: Name, now: Moment) -> [Told<'static>; 2] {
+        let answer = self.book.look(&name, now);
+        let plainly = self.plain.look(&name, now);
+        [row(&answer), plain_row(plainly)]
+    }
+
+    fn terminate(&mut self, name: Name, now: Moment) -> [Told<'static>; 2] {
+        let answer = self.book.terminate(&name, now);
+        let plainly = self.plain.terminate(&name, now);
+        [removed(answer), removed(plainly)]
+    }
+
+    fn sweep(&mut self, now: Moment) -> [Told<'static>; 2] {
+        let answer = self.book.sweep(now);
+        let plainly = self.plain.sweep(now);
+        [swept(answer), swept(plainly)]
+    }
+
+    // Asserts what a GET gives.
+    fn assert_content(&self, rt: &impl Abort, place: usize, name: Name, now: Moment, told: Told) {
+        let answer = self.book.content(&name, now);
+        let plainly = self.plain.content(rt, &name, now);
+        assert_told(rt, place, [bytes(&answer), plain_bytes(&plainly)], told);
+    }
+
+    // Asserts what the tenants pay, how many blocks are free, and the two totals.
+    fn assert_paid(&self, rt: &impl Abort, place: usize, after: [u64; 5]) {
+        let book = &self.book;
+        let acme = book.settings().tenant(ACME).expect(rt, "acme");
+        let beta = book.settings().tenant(BETA).expect(rt, "beta");
+        let paid = [
+            book.charge(acme),
+            book.charge(beta),
+            book.free_blocks(),
+            book.charged_total(),
+            book.released_total(),
+        ];
+        let plain = &self.plain;
+        let (acme, beta) = (plain.charge(0), plain.charge(1));
+        let free = plain
+            .numbers
+            .blocks
+            .saturating_sub(acme)
+            .saturating_sub(beta);
+        let plainly = [acme, beta, free, plain.charged, plain.released];
+        assert_eq!(rt; paid, after, "after call {place}");
+        assert_eq!(rt; plainly, after, "after call {place}, by the plain book");
+    }
+}
+
+// A PATCH of its content type.
+fn typed<'a>(offset: u64, length: Option<u64>, bytes: &'a [u8]) -> Chunk<'a> {
+    Chunk {
+        offset,
+        length,
+        typed: true,
+        bytes,
+    }
+}
+
+// The same without it, at offset 0.
+fn untyped<'a>(bytes: &'a [u8]) -> Chunk<'a> {
+    Chunk {
+        offset: 0,
+        length: None,
+        typed: false,
+        bytes,
+    }
+}
+
+// Asserts what a call answers, of a book and of the plain one.
+fn assert_told(rt: &impl Abort, place: usize, answers: [Told; 2], told: Told) {
+    let [answer, plainly] = answers;
+    assert_eq!(rt; answer, told, "call {place}");
+    assert_eq!(rt; plainly, told, "call {place}, by the plain book");
+}
+
+// Takes the pair through one step.
+fn take(rt: &impl Abort, pair: &mut Pair, place: usize, step: &Step) {
+    let Step {
+        secs,
+        tenant,
+        call,
+        told,
+        after,
+    } = *step;
+    let now = moment(rt, secs);
+    let number = pair.book.settings().tenant(tenant).expect(rt, "a tenant");
+    let named = |id: u64| Name { tenant: number, id };
+    let answers = match call {
+        Call::Post(length) => pair.create(rt, tenant, Kind::Plain, length, now),
+        Call::Partial(length) => pair.create(rt, tenant, Kind::Partial, length, now),
+        Call::Join(parts) => pair.concat(rt, tenant, parts, now),
+        Call::Patch(id, offset, bytes) => pair.append(
+            rt,
+            named(id),
+            typed(offset, None, bytes),
+            now,
+        ),
+        Call::PatchOf(id, offset, length, bytes) => {
+            pair.append(rt, named(id), typed(offset, Some(length), bytes), now)
+        }
+        Call::Untyped(id, bytes) => pair.append(rt, named(id), untyped(bytes), now),
+        Call::Head(id) => pair.look(named(id), now),
+        Call::Get(id) => {
+            pair.assert_content(rt, place, named(id), now, told);
+            [told, told]
+        }
+        Call::Delete(id) => pair.terminate(named(id), now),
+        Call::Sweep => pair.sweep(now),
+    };
+    assert_told(rt, place, answers, told);
+    pair.assert_paid(rt, place, after);
+}
+
+/// Takes a new book, and a new plain one, through the steps of a table.
+pub fn run(rt: &impl Abort, alloc: Global, numbers: Numbers, steps: &[Step]) -> Result<(), Fail> {
+    let mut pair = Pair {
+        book: new_book(alloc, numbers)?,
+        plain: PlainBook::new(alloc, numbers, [8, 4]),
+    };
+    for (place, step) in steps.iter().enumerate() {
+        take(rt, &mut pair, place, step);
+    }
+    Ok(())
+}

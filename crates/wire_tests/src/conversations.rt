@@ -1,0 +1,607 @@
+use crate::memory::{Input, Output};
+use crate::spoken::{Expected, assert_both, assert_spoken, at, at_1000, joined, talk_of};
+use http_wire::Ended;
+use std::alloc::{AllocError, Global};
+use std::process::Abort;
+use std::test::Fail;
+use upload_book::Moment;
+
+pub const POST: &[u8] = b"POST /files/acme HTTP/1.1\r\nHost: x\r\nTus-Resumable: 1.0.0\r\n\
+Upload-Length: 10\r\n\r\n";
+
+pub const PATCH: &[u8] = b"PATCH /files/acme/1 HTTP/1.1\r\nHost: x\r\nTus-Resumable: 1.0.0\r\n\
+Content-Type: application/offset+octet-stream\r\nUpload-Offset: 0\r\nContent-Length: 5\r\n\r\n\
+hello";
+
+pub const HEAD: &[u8] = b"HEAD /files/acme/1 HTTP/1.1\r\nHost: x\r\nTus-Resumable: 1.0.0\r\n\r\n";
+
+pub const CREATED: &[u8] = b"HTTP/1.1 201 Created\r\nDate: Thu, 01 Jan 1970 00:16:40 GMT\r\n\
+Tus-Resumable: 1.0.0\r\nLocation: /files/acme/1\r\n\
+Upload-Expires: Thu, 01 Jan 1970 01:16:40 GMT\r\nContent-Length: 0\r\n\r\n";
+
+pub const PATCHED: &[u8] = b"HTTP/1.1 204 No Content\r\nDate: Thu, 01 Jan 1970 00:16:40 GMT\r\n\
+Tus-Resumable: 1.0.0\r\nUpload-Offset: 5\r\n\
+Upload-Expires: Thu, 01 Jan 1970 01:16:40 GMT\r\n\r\n";
+
+pub const LOOKED: &[u8] = b"HTTP/1.1 200 OK\r\nDate: Thu, 01 Jan 1970 00:16:40 GMT\r\n\
+Tus-Resumable: 1.0.0\r\nUpload-Offset: 5\r\nUpload-Length: 10\r\nCache-Control: no-store\r\n\r\n";
+
+pub const NONE: &[u8] = b"";
+
+pub const CONTINUE: &[u8] = b"HTTP/1.1 100 Continue\r\n\r\n";
+
+pub const PATCH_WAITING: &[u8] =
+    b"PATCH /files/acme/1 HTTP/1.1\r\nHost: x\r\nTus-Resumable: 1.0.0\r\n\
+Content-Type: application/offset+octet-stream\r\nUpload-Offset: 0\r\nExpect: 100-Continue\r\n\
+Content-Length: 5\r\n\r\nhello";
+
+const PATCH_OLD: &[u8] = b"PATCH /files/acme/1 HTTP/1.0\r\nTus-Resumable: 1.0.0\r\n\
+Content-Type: application/offset+octet-stream\r\nUpload-Offset: 0\r\nExpect: 100-continue\r\n\
+Content-Length: 5\r\n\r\nhello";
+
+const PATCHED_CLOSE: &[u8] = b"HTTP/1.1 204 No Content\r\nDate: Thu, 01 Jan 1970 00:16:40 GMT\r\n\
+Tus-Resumable: 1.0.0\r\nUpload-Offset: 5\r\n\
+Upload-Expires: Thu, 01 Jan 1970 01:16:40 GMT\r\nConnection: close\r\n\r\n";
+
+const WRONG_OFFSET: &[u8] = b"PATCH /files/acme/1 HTTP/1.1\r\nHost: x\r\nTus-Resumable: 1.0.0\r\n\
+Content-Type: application/offset+octet-stream\r\nUpload-Offset: 3\r\nContent-Length: 1\r\n\r\nx";
+
+pub const OFFSET: &[u8] = b"HTTP/1.1 409 Conflict\r\nDate: Thu, 01 Jan 1970 00:16:40 GMT\r\n\
+Tus-Resumable: 1.0.0\r\nUpload-Expires: Thu, 01 Jan 1970 01:16:40 GMT\r\n\
+Content-Type: text/plain\r\nContent-Length: 7\r\n\r\noffset\n";
+
+pub const CHUNKED: &[u8] = b"POST /files/acme HTTP/1.1\r\nHost: x\r\nTus-Resumable: 1.0.0\r\n\
+Transfer-Encoding: chunked\r\nUpload-Length: 10\r\n\r\n";
+
+const CODING: &[u8] = b"HTTP/1.1 411 Length Required\r\nDate: Thu, 01 Jan 1970 00:16:40 GMT\r\n\
+Tus-Resumable: 1.0.0\r\nContent-Type: text/plain\r\nContent-Length: 7\r\nConnection: close\r\n\r\n\
+coding\n";
+
+const HEAD_SIZE: &[u8] = b"HTTP/1.1 431 Request Header Fields Too Large\r\n\
+Date: Thu, 01 Jan 1970 00:16:40 GMT\r\nTus-Resumable: 1.0.0\r\nContent-Type: text/plain\r\n\
+Content-Length: 10\r\nConnection: close\r\n\r\nhead-size\n";
+
+const BODY_SIZE: &[u8] = b"HTTP/1.1 413 Content Too Large\r\n\
+Date: Thu, 01 Jan 1970 00:16:40 GMT\r\nTus-Resumable: 1.0.0\r\nContent-Type: text/plain\r\n\
+Content-Length: 10\r\nConnection: close\r\n\r\nbody-size\n";
+
+const LENGTH: &[u8] = b"HTTP/1.1 400 Bad Request\r\n\
+Date: Thu, 01 Jan 1970 00:16:40 GMT\r\nTus-Resumable: 1.0.0\r\nContent-Type: text/plain\r\n\
+Content-Length: 15\r\nConnection: close\r\n\r\ncontent-length\n";
+
+const HOST: &[u8] = b"HTTP/1.1 400 Bad Request\r\n\
+Date: Thu, 01 Jan 1970 00:16:40 GMT\r\nTus-Resumable: 1.0.0\r\nContent-Type: text/plain\r\n\
+Content-Length: 5\r\nConnection: close\r\n\r\nhost\n";
+
+const BARE_HOST: &[u8] = b"HTTP/1.1 400 Bad Request\r\n\
+Date: Thu, 01 Jan 1970 00:16:40 GMT\r\nTus-Resumable: 1.0.0\r\nConnection: close\r\n\r\n";
+
+const MALFORMED: &[u8] = b"HTTP/1.1 400 Bad Request\r\n\
+Date: Thu, 01 Jan 1970 00:16:40 GMT\r\nTus-Resumable: 1.0.0\r\nContent-Type: text/plain\r\n\
+Content-Length: 5\r\nConnection: close\r\n\r\nhead\n";
+
+const PATCH_PAST: &[u8] = b"PATCH /files/acme/1 HTTP/1.1\r\nHost: x\r\nTus-Resumable: 1.0.0\r\n\
+Content-Type: application/offset+octet-stream\r\nUpload-Offset: 5\r\nContent-Length: 6\r\n\r\nworlds";
+
+const PATCH_REST: &[u8] = b"PATCH /files/acme/1 HTTP/1.1\r\nHost: x\r\nTus-Resumable: 1.0.0\r\n\
+Content-Type: application/offset+octet-stream\r\nUpload-Offset: 5\r\nContent-Length: 5\r\n\r\nworld";
+
+const TOO_LONG: &[u8] = b"HTTP/1.1 413 Content Too Large\r\nDate: Thu, 01 Jan 1970 00:16:40 GMT\r\n\
+Tus-Resumable: 1.0.0\r\nUpload-Expires: Thu, 01 Jan 1970 01:16:40 GMT\r\n\
+Content-Type: text/plain\r\nContent-Length: 9\r\n\r\ntoo-long\n";
+
+const COMPLETED: &[u8] = b"HTTP/1.1 204 No Content\r\nDate: Thu, 01 Jan 1970 00:16:40 GMT\r\n\
+Tus-Resumable: 1.0.0\r\nUpload-Offset: 10\r\n\r\n";
+
+const POST_TOO_LONG: &[u8] = b"POST /files/acme HTTP/1.1\r\nHost: x\r\nTus-Resumable: 1.0.0\r\n\
+Upload-Length: 65\r\n\r\n";
+
+pub const CREATION_TOO_LONG: &[u8] = b"HTTP/1.1 413 Content Too Large\r\n\
+Date: Thu, 01 Jan 1970 00:16:40 GMT\r\nTus-Resumable: 1.0.0\r\n\
+Content-Type: text/plain\r\nContent-Length: 9\r\n\r\ntoo-long\n";
+
+const VERSION: &[u8] = b"HTTP/1.1 412 Precondition Failed\r\n\
+Date: Thu, 01 Jan 1970 00:16:40 GMT\r\nTus-Resumable: 1.0.0\r\nTus-Version: 1.0.0\r\n\
+Content-Type: text/plain\r\nContent-Length: 8\r\n\r\nversion\n";
+
+const METHOD: &[u8] = b"HTTP/1.1 405 Method Not Allowed\r\n\
+Date: Thu, 01 Jan 1970 00:16:40 GMT\r\nTus-Resumable: 1.0.0\r\nAllow: HEAD, GET, PATCH, DELETE, OPTIONS\r\n\
+Content-Type: text/plain\r\nContent-Length: 7\r\n\r\nmethod\n";
+
+pub const DELETE: &[u8] =
+    b"DELETE /files/acme/1 HTTP/1.1\r\nHost: x\r\nTus-Resumable: 1.0.0\r\n\r\n";
+
+pub const DELETED: &[u8] = b"HTTP/1.1 204 No Content\r\nDate: Thu, 01 Jan 1970 00:16:40 GMT\r\n\
+Tus-Resumable: 1.0.0\r\n\r\n";
+
+pub const GONE: &[u8] = b"HTTP/1.1 410 Gone\r\nDate: Thu, 01 Jan 1970 00:16:40 GMT\r\n\
+Tus-Resumable: 1.0.0\r\nCache-Control: no-store\r\n\r\n";
+
+const UNKNOWN: &[u8] = b"HTTP/1.1 404 Not Found\r\nDate: Thu, 01 Jan 1970 00:16:40 GMT\r\n\
+Tus-Resumable: 1.0.0\r\nCache-Control: no-store\r\nConnection: close\r\n\r\n";
+
+/// The messages of a conversation with a new book, its replies, how it ends, and how many bytes the first
+/// upload of acme has then.
+#[derive(Clone, Copy)]
+pub struct Row {
+    pub name: &'static str,
+    pub sent: [&'static [u8]; 4],
+    pub written: [&'static [u8]; 4],
+    pub ended: Ended,
+    pub offset: Option<u64>,
+}
+
+/// Asserts that a conversation is as its row says.
+pub fn check_row(rt: &impl Abort, alloc: Global, row: &Row) -> Result<(), Fail> {
+    let sent = joined(alloc, &row.sent)?;
+    let written = joined(alloc, &row.written)?;
+    let expected = Expected {
+        text: &written,
+        ended: Ok(row.ended),
+        offset: row.offset,
+    };
+    assert_both(rt, alloc, row.name, &sent, &at_1000(), &expected)
+}
+
+static WHOLE: [Row; 12] = [
+    Row {
+        name: "the first upload",
+        sent: [POST, PATCH, HEAD, NONE],
+        written: [CREATED, PATCHED, LOOKED, NONE],
+        ended: Ended::Input,
+        offset: Some(5),
+    },
+    Row {
+        name: "a wrong offset",
+        sent: [POST, PATCH, WRONG_OFFSET, HEAD],
+        written: [CREATED, PATCHED, OFFSET, LOOKED],
+        ended: Ended::Input,
+        offset: Some(5),
+    },
+    Row {
+        name: "bytes past the length are refused, all of them",
+        sent: [POST, PATCH, PATCH_PAST, HEAD],
+        written: [CREATED, PATCHED, TOO_LONG, LOOKED],
+        ended: Ended::Input,
+        offset: Some(5),
+    },
+    Row {
+        name: "the rest of the bytes complete the upload, and a greater one is refused",
+        sent: [POST, PATCH, PATCH_REST, POST_TOO_LONG],
+        written: [CREATED, PATCHED, COMPLETED, CREATION_TOO_LONG],
+        ended: Ended::Input,
+        offset: Some(10),
+    },
+    Row {
+        name: "another version, and then a method that is not served",
+        sent: [
+            b"POST /files/acme HTTP/1.1\r\nHost: x\r\nTus-Resumable: 0.2.2\r\n\r\n",
+            POST,
+            b"PUT /files/acme/1 HTTP/1.1\r\nHost: x\r\nTus-Resumable: 1.0.0\r\n\r\n",
+            NONE,
+        ],
+        written: [VERSION, CREATED, METHOD, NONE],
+        ended: Ended::Input,
+        offset: Some(0),
+    },
+    Row {
+        name: "an upload that is ended is gone",
+        sent: [POST, PATCH, DELETE, HEAD],
+        written: [CREATED, PATCHED, DELETED, GONE],
+        ended: Ended::Input,
+        offset: None,
+    },
+    Row {
+        name: "an unknown upload, and the wish to close",
+        sent: [
+            b"HEAD /files/acme/9 HTTP/1.1\r\nHost: x\r\nTus-Resumable: 1.0.0\r\n\
+Connection: x, Close\r\n\r\n",
+            POST,
+            NONE,
+            NONE,
+        ],
+        written: [UNKNOWN, NONE, NONE, NONE],
+        ended: Ended::Closed,
+        offset: None,
+    },
+    Row {
+        name: "no input",
+        sent: [NONE, NONE, NONE, NONE],
+        written: [NONE, NONE, NONE, NONE],
+        ended: Ended::Input,
+        offset: None,
+    },
+    Row {
+        name: "line ends before messages",
+        sent: [b"\r\n\n", POST, b"\n\r\n", PATCH],
+        written: [CREATED, PATCHED, NONE, NONE],
+        ended: Ended::Input,
+        offset: Some(5),
+    },
+    Row {
+        name: "a body that waits",
+        sent: [POST, PATCH_WAITING, NONE, NONE],
+        written: [CREATED, CONTINUE, PATCHED, NONE],
+        ended: Ended::Input,
+        offset: Some(5),
+    },
+    Row {
+        name: "a POST cut before its body",
+        sent: [
+            b"POST /files/acme HTTP/1.1\r\nHost: x\r\nContent-Length: 3\r\n\r\n",
+            NONE,
+            NONE,
+            NONE,
+        ],
+        written: [NONE, NONE, NONE, NONE],
+        ended: Ended::Cut,
+        offset: None,
+    },
+    Row {
+        name: "HTTP/1.0 closes, and is not told to continue",
+        sent: [POST, PATCH_OLD, HEAD, NONE],
+        written: [CREATED, PATCHED_CLOSE, NONE, NONE],
+        ended: Ended::Closed,
+        offset: Some(5),
+    },
+];
+
+#[test]
+fn whole_messages(rt: HostRuntime) -> Result<(), Fail> {
+    for row in &WHOLE {
+        check_row(&rt, rt.alloc(), row)?;
+    }
+    Ok(())
+}
+
+static REFUSED: [Row; 11] = [
+    Row {
+        name: "a transfer coding",
+        sent: [CHUNKED, HEAD, NONE, NONE],
+        written: [CODING, NONE, NONE, NONE],
+        ended: Ended::Closed,
+        offset: None,
+    },
+    Row {
+        name: "a body above the greatest size",
+        sent: [
+            b"POST /files/acme HTTP/1.1\r\nHost: x\r\nContent-Length: 65\r\n\r\n",
+            NONE,
+            NONE,
+            NONE,
+        ],
+        written: [BODY_SIZE, NONE, NONE, NONE],
+        ended: Ended::Closed,
+        offset: None,
+    },
+    Row {
+        name: "the greatest length, which is above it",
+        sent: [
+            b"POST / HTTP/1.1\r\nHost: x\r\nContent-Length: 18446744073709551615\r\n\r\n",
+            NONE,
+            NONE,
+            NONE,
+        ],
+        written: [BODY_SIZE, NONE, NONE, NONE],
+        ended: Ended::Closed,
+        offset: None,
+    },
+    Row {
+        name: "a length past 64 bits",
+        sent: [
+            b"POST / HTTP/1.1\r\nHost: x\r\nContent-Length: 18446744073709551616\r\n\r\n",
+            NONE,
+            NONE,
+            NONE,
+        ],
+        written: [LENGTH, NONE, NONE, NONE],
+        ended: Ended::Closed,
+        offset: None,
+    },
+    Row {
+        name: "a length of 30 digits",
+        sent: [
+            b"POST / HTTP/1.1\r\nHost: x\r\nContent-Length: 111111111122222222223333333333\r\n\r\n",
+            NONE,
+            NONE,
+            NONE,
+        ],
+        written: [LENGTH, NONE, NONE, NONE],
+        ended: Ended::Closed,
+        offset: None,
+    },
+    Row {
+        name: "two equal lengths",
+        sent: [
+            b"POST / HTTP/1.1\r\nHost: x\r\nContent-Length: 5\r\ncontent-length: 5\r\n\r\n",
+            NONE,
+            NONE,
+            NONE,
+        ],
+        written: [LENGTH, NONE, NONE, NONE],
+        ended: Ended::Closed,
+        offset: None,
+    },
+    Row {
+        name: "two hosts",
+        sent: [
+            b"POST / HTTP/1.1\r\nHost: x\r\nHost: x\r\nTransfer-Encoding: chunked\r\n\r\n",
+            NONE,
+            NONE,
+            NONE,
+        ],
+        written: [HOST, NONE, NONE, NONE],
+        ended: Ended::Closed,
+        offset: None,
+    },
+    Row {
+        name: "a HEAD without a host, which is answered bare",
+        sent: [b"HEAD / HTTP/1.1\r\n\r\n", NONE, NONE, NONE],
+        written: [BARE_HOST, NONE, NONE, NONE],
+        ended: Ended::Closed,
+        offset: None,
+    },
+    Row {
+        name: "a byte 0 in a value",
+        sent: [b"POST / HTTP/1.1\r\nHost: \x00\r\n\r\n", NONE, NONE, NONE],
+        written: [MALFORMED, NONE, NONE, NONE],
+        ended: Ended::Closed,
+        offset: None,
+    },
+    Row {
+        name: "bytes that are no text",
+        sent: [b"\xff\xff\r\n\r\n", NONE, NONE, NONE],
+        written: [MALFORMED, NONE, NONE, NONE],
+        ended: Ended::Closed,
+        offset: None,
+    },
+    Row {
+        name: "another version of HTTP",
+        sent: [
+            b"POST /files/acme HTTP/1.2\r\nHost: x\r\n\r\n",
+            NONE,
+            NONE,
+            NONE,
+        ],
+        written: [MALFORMED, NONE, NONE, NONE],
+        ended: Ended::Closed,
+        offset: None,
+    },
+];
+
+#[test]
+fn refused_messages(rt: HostRuntime) -> Result<(), Fail> {
+    for row in &REFUSED {
+        check_row(&rt, rt.alloc(), row)?;
+    }
+    Ok(())
+}
+
+/// The messages of the first upload, and their replies.
+pub static FIRST_UPLOAD: [&[u8]; 3] = [POST, PATCH, HEAD];
+
+pub static REPLIES: [&[u8]; 3] = [CREATED, PATCHED, LOOKED];
+
+/// Asserts that a HEAD of the first upload is answered after a POST and a PATCH of it.
+pub fn assert_looked(rt: &impl Abort, alloc: Global, what: &str, head: &[u8]) -> Result<(), Fail> {
+    let sent = joined(alloc, &[POST, PATCH, head])?;
+    let written = joined(alloc, &REPLIES)?;
+    let expected = Expected {
+        text: &written,
+        ended: Ok(Ended::Input),
+        offset: Some(5),
+    };
+    assert_both(rt, alloc, what, &sent, &at_1000(), &expected)
+}
+
+/// The HEAD of the first upload with `count` fields beside Host, Tus-Resumable and a last one, which fills
+/// it up to `len` bytes.
+fn with_fields(alloc: Global, count: usize, len: usize) -> Result<Vec<u8>, AllocError> {
+    let mut text = Vec::from_slice(alloc, b"HEAD /files/acme/1 HTTP/1.1\r\nHost: x\r\n")?;
+    for _ in 0..count {
+        text.extend_from_slice(b"X: y\r\n")?;
+    }
+    text.extend_from_slice(b"Tus-Resumable: 1.0.0\r\nFill: ")?;
+    let filled = text.len().max(len.saturating_sub(4));
+    text.resize(filled, b'z')?;
+    text.extend_from_slice(b"\r\n\r\n")?;
+    Ok(text)
+}
+
+/// The HEAD of the first upload with so many fields as `with_fields` gives it, which is refused where it is
+/// too large.
+#[derive(Clone, Copy)]
+struct HeadRow {
+    name: &'static str,
+    count: usize,
+    len: usize,
+    is_too_large: bool,
+}
+
+/// Asserts that a head is answered or refused, as its row says.
+fn check_head(rt: &impl Abort, alloc: Global, row: &HeadRow) -> Result<(), Fail> {
+    let head = with_fields(alloc, row.count, row.len)?;
+    if row.is_too_large {
+        let expected = Expected {
+            text: HEAD_SIZE,
+            ended: Ok(Ended::Closed),
+            offset: None,
+        };
+        assert_both(rt, alloc, row.name, &head, &at_1000(), &expected)
+    } else {
+        assert_looked(rt, alloc, row.name, &head)
+    }
+}
+
+static HEADS: [HeadRow; 4] = [
+    HeadRow {
+        name: "16,384 bytes",
+        count: 0,
+        len: 16_384,
+        is_too_large: false,
+    },
+    HeadRow {
+        name: "16,385 bytes",
+        count: 0,
+        len: 16_385,
+        is_too_large: true,
+    },
+    HeadRow {
+        name: "64 fields",
+        count: 61,
+        len: 0,
+        is_too_large: false,
+    },
+    HeadRow {
+        name: "65 fields",
+        count: 62,
+        len: 0,
+        is_too_large: true,
+    },
+];
+
+/// One byte, `count` times, what is written for it, and how the conversation ends.
+#[derive(Clone, Copy)]
+struct RunRow {
+    name: &'static str,
+    byte: u8,
+    count: usize,
+    written: &'static [u8],
+    ended: Ended,
+}
+
+/// Asserts that a conversation is as its row says.
+fn check_run(rt: &impl Abort, alloc: Global, row: &RunRow) -> Result<(), Fail> {
+    let mut input = Vec::new(alloc);
+    input.resize(row.count, row.byte)?;
+    let expected = Expected {
+        text: row.written,
+        ended: Ok(row.ended),
+        offset: None,
+    };
+    assert_both(rt, alloc, row.name, &input, &at_1000(), &expected)
+}
+
+static RUNS: [RunRow; 3] = [
+    RunRow {
+        name: "no end",
+        byte: b'a',
+        count: 16_384,
+        written: HEAD_SIZE,
+        ended: Ended::Closed,
+    },
+    RunRow {
+        name: "16,384 line ends",
+        byte: b'\n',
+        count: 16_384,
+        written: HEAD_SIZE,
+        ended: Ended::Closed,
+    },
+    RunRow {
+        name: "16,383 line ends",
+        byte: b'\n',
+        count: 16_383,
+        written: NONE,
+        ended: Ended::Input,
+    },
+];
+
+#[test]
+fn large_heads(rt: HostRuntime) -> Result<(), Fail> {
+    let greatest = with_fields(rt.alloc(), 0, 16_384)?;
+    assert_eq!(rt; greatest.len(), 16_384);
+    for row in &HEADS {
+        check_head(&rt, rt.alloc(), row)?;
+    }
+    for row in &RUNS {
+        check_run(&rt, rt.alloc(), row)?;
+    }
+    Ok(())
+}
+
+#[test]
+fn few_moments(rt: HostRuntime) -> Result<(), Fail> {
+    let alloc = rt.alloc();
+    let sent = joined(alloc, &FIRST_UPLOAD)?;
+    let written = joined(alloc, &REPLIES[..2])?;
+    let moments = [at(1000); 2];
+    let expected = Expected {
+        text: &written,
+        ended: Ok(Ended::Moments),
+        offset: Some(5),
+    };
+    assert_both(&rt, alloc, "two moments", &sent, &moments, &expected)?;
+    let input = Input {
+        rest: &sent,
+        first: POST.len(),
+        more: PATCH.len(),
+        reads: usize::MAX,
+    };
+    let spoken = talk_of(alloc, input, Output::new(alloc), &moments)?;
+    assert_spoken(&rt, "a message a read", &spoken, &expected);
+    assert_eq!(rt; spoken.rest, HEAD);
+    Ok(())
+}
+
+/// Whether one of the lines of a text, which end with CR and LF, is this one.
+fn has_line(text: &[u8], line: &[u8]) -> bool {
+    let mut lines = text.split(|byte| *byte == b'\n');
+    lines.any(|each| each.strip_suffix(b"\r") == Some(line))
+}
+
+/// Asserts that the reply to a PATCH, which comes at moment `then` after a POST at 1000, has a line.
+fn assert_second_has(
+    rt: &impl Abort,
+    alloc: Global,
+    name: &str,
+    then: Moment,
+    line: &[u8],
+) -> Result<(), Fail> {
+    let sent = joined(alloc, &FIRST_UPLOAD[..2])?;
+    let moments = [at(1000), then];
+    let input = Input::new(&sent, usize::MAX);
+    let spoken = talk_of(alloc, input, Output::new(alloc), &moments)?;
+    let text = spoken.text.as_slice();
+    let second = text.strip_prefix(CREATED).ok_or("the first reply")?;
+    assert!(rt; has_line(second, line), "{name}");
+    let expected = Expected {
+        text,
+        ended: Ok(Ended::Moments),
+        offset: Some(5),
+    };
+    assert_both(rt, alloc, name, &sent, &moments, &expected)
+}
+
+#[test]
+fn later_and_earlier_moments(rt: HostRuntime) -> Result<(), Fail> {
+    let alloc = rt.alloc();
+    let kept = b"Upload-Expires: Thu, 01 Jan 1970 01:16:40 GMT";
+    let later = b"Upload-Expires: Thu, 01 Jan 1970 01:33:20 GMT";
+    assert_second_has(&rt, alloc, "500", at(500), kept)?;
+    assert_second_has(&rt, alloc, "2000", at(2000), later)
+}
+
+const LAST: &[u8] = b"HTTP/1.1 201 Created\r\nDate: Fri, 31 Dec 9999 23:59:59 GMT\r\n\
+Tus-Resumable: 1.0.0\r\nLocation: /files/acme/1\r\n\
+Upload-Expires: Fri, 31 Dec 9999 23:59:59 GMT\r\nContent-Length: 0\r\n\r\n\
+HTTP/1.1 410 Gone\r\nDate: Fri, 31 Dec 9999 23:59:59 GMT\r\nTus-Resumable: 1.0.0\r\n\
+Cache-Control: no-store\r\n\r\n";
+
+#[test]
+fn the_last_moment(rt: HostRuntime) -> Result<(), Fail> {
+    let sent = joined(rt.alloc(), &[POST, HEAD])?;
+    let expected = Expected {
+        text: LAST,
+        ended: Ok(Ended::Input),
+        offset: Some(0),
+    };
+    let moments = [at(253_402_300_799); 3];
+    assert_both(
+        &rt,
+        rt.alloc(),
+        "the last moment",
+        &sent,
+        &moments,
+        &expected,
+    )
+}

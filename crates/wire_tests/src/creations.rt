@@ -1,0 +1,199 @@
+use crate::conversations::{CREATED, HEAD, NONE, OFFSET, POST, Row, check_row};
+use http_wire::Ended;
+use std::test::Fail;
+
+const POST_DEFERRED: &[u8] = b"POST /files/acme HTTP/1.1\r\nHost: x\r\nTus-Resumable: 1.0.0\r\n\
+Upload-Defer-Length: 1\r\n\r\n";
+
+const LOOKED_DEFERRED: &[u8] = b"HTTP/1.1 200 OK\r\nDate: Thu, 01 Jan 1970 00:16:40 GMT\r\n\
+Tus-Resumable: 1.0.0\r\nUpload-Offset: 0\r\nUpload-Defer-Length: 1\r\nCache-Control: no-store\r\n\
+\r\n";
+
+const PATCH_AT_ONE: &[u8] = b"PATCH /files/acme/1 HTTP/1.1\r\nHost: x\r\nTus-Resumable: 1.0.0\r\n\
+Content-Type: application/offset+octet-stream\r\nUpload-Offset: 1\r\nUpload-Length: 9\r\n\
+Content-Length: 1\r\n\r\nx";
+
+const PATCH_WITH_LENGTH: &[u8] = b"PATCH /files/acme/1 HTTP/1.1\r\nHost: x\r\n\
+Tus-Resumable: 1.0.0\r\nContent-Type: application/offset+octet-stream\r\nUpload-Offset: 0\r\n\
+Upload-Length: 5\r\nContent-Length: 5\r\n\r\nabcde";
+
+const PATCH_LONGER: &[u8] = b"PATCH /files/acme/1 HTTP/1.1\r\nHost: x\r\nTus-Resumable: 1.0.0\r\n\
+Content-Type: application/offset+octet-stream\r\nUpload-Offset: 5\r\nUpload-Length: 6\r\n\
+Content-Length: 0\r\n\r\n";
+
+const PATCH_SAME: &[u8] = b"PATCH /files/acme/1 HTTP/1.1\r\nHost: x\r\nTus-Resumable: 1.0.0\r\n\
+Content-Type: application/offset+octet-stream\r\nUpload-Offset: 5\r\nUpload-Length: 5\r\n\
+Content-Length: 0\r\n\r\n";
+
+const COMPLETED_FIVE: &[u8] = b"HTTP/1.1 204 No Content\r\n\
+Date: Thu, 01 Jan 1970 00:16:40 GMT\r\nTus-Resumable: 1.0.0\r\nUpload-Offset: 5\r\n\r\n";
+
+const LENGTH_FIXED: &[u8] = b"HTTP/1.1 400 Bad Request\r\nDate: Thu, 01 Jan 1970 00:16:40 GMT\r\n\
+Tus-Resumable: 1.0.0\r\nContent-Type: text/plain\r\nContent-Length: 13\r\n\r\nlength-fixed\n";
+
+pub const FIELD: &[u8] = b"HTTP/1.1 400 Bad Request\r\nDate: Thu, 01 Jan 1970 00:16:40 GMT\r\n\
+Tus-Resumable: 1.0.0\r\nContent-Type: text/plain\r\nContent-Length: 6\r\n\r\nfield\n";
+
+const TOO_LONG: &[u8] = b"HTTP/1.1 413 Content Too Large\r\n\
+Date: Thu, 01 Jan 1970 00:16:40 GMT\r\nTus-Resumable: 1.0.0\r\nContent-Type: text/plain\r\n\
+Content-Length: 9\r\n\r\ntoo-long\n";
+
+const CREATED_COMPLETE: &[u8] = b"HTTP/1.1 201 Created\r\nDate: Thu, 01 Jan 1970 00:16:40 GMT\r\n\
+Tus-Resumable: 1.0.0\r\nLocation: /files/acme/1\r\nContent-Length: 0\r\n\r\n";
+
+const PATCH_EMPTY: &[u8] = b"PATCH /files/acme/1 HTTP/1.1\r\nHost: x\r\nTus-Resumable: 1.0.0\r\n\
+Content-Type: application/offset+octet-stream\r\nUpload-Offset: 0\r\nContent-Length: 0\r\n\r\n";
+
+const PATCHED_NONE: &[u8] = b"HTTP/1.1 204 No Content\r\nDate: Thu, 01 Jan 1970 00:16:40 GMT\r\n\
+Tus-Resumable: 1.0.0\r\nUpload-Offset: 0\r\n\r\n";
+
+const GET: &[u8] = b"GET /files/acme/1 HTTP/1.1\r\nHost: x\r\n\r\n";
+
+const NO_CONTENT: &[u8] = b"HTTP/1.1 200 OK\r\nDate: Thu, 01 Jan 1970 00:16:40 GMT\r\n\
+Tus-Resumable: 1.0.0\r\nContent-Type: application/octet-stream\r\nContent-Length: 0\r\n\r\n";
+
+const POST_DEFERRED_BY_TWO: &[u8] = b"POST /files/acme HTTP/1.1\r\nHost: x\r\n\
+Tus-Resumable: 1.0.0\r\nUpload-Defer-Length: 2\r\n\r\n";
+
+const POST_BOTH_LENGTHS: &[u8] = b"POST /files/acme HTTP/1.1\r\nHost: x\r\n\
+Tus-Resumable: 1.0.0\r\nUpload-Length: 5\r\nUpload-Defer-Length: 1\r\n\r\n";
+
+const POST_NO_LENGTH: &[u8] = b"POST /files/acme HTTP/1.1\r\nHost: x\r\nTus-Resumable: 1.0.0\r\n\
+\r\n";
+
+const POST_TWO_LENGTHS: &[u8] = b"POST /files/acme HTTP/1.1\r\nHost: x\r\n\
+Tus-Resumable: 1.0.0\r\nUpload-Length: 5\r\nUpload-Length: 5\r\n\r\n";
+
+const POST_GREATEST_NUMBER: &[u8] = b"POST /files/acme HTTP/1.1\r\nHost: x\r\n\
+Tus-Resumable: 1.0.0\r\nUpload-Length: 18446744073709551615\r\n\r\n";
+
+const POST_NO_NUMBER: &[u8] = b"POST /files/acme HTTP/1.1\r\nHost: x\r\nTus-Resumable: 1.0.0\r\n\
+Upload-Length: 18446744073709551616\r\n\r\n";
+
+const PATCH_TWO_OFFSETS: &[u8] = b"PATCH /files/acme/1 HTTP/1.1\r\nHost: x\r\n\
+Tus-Resumable: 1.0.0\r\nContent-Type: application/offset+octet-stream\r\nUpload-Offset: 0\r\n\
+Upload-Offset: 0\r\nContent-Length: 1\r\n\r\na";
+
+const POST_ZERO: &[u8] = b"POST /files/acme HTTP/1.1\r\nHost: x\r\nTus-Resumable: 1.0.0\r\n\
+Upload-Length: 0\r\n\r\n";
+
+const POST_TWO_KEYS: &[u8] = b"POST /files/acme HTTP/1.1\r\nHost: x\r\nTus-Resumable: 1.0.0\r\n\
+Upload-Length: 10\r\nUpload-Metadata: a ,b\r\n\r\n";
+
+const LOOKED_TWO_KEYS: &[u8] = b"HTTP/1.1 200 OK\r\nDate: Thu, 01 Jan 1970 00:16:40 GMT\r\n\
+Tus-Resumable: 1.0.0\r\nUpload-Offset: 0\r\nUpload-Length: 10\r\nUpload-Metadata: a ,b\r\n\
+Cache-Control: no-store\r\n\r\n";
+
+const POST_KEY_AND_VALUE: &[u8] = b"POST /files/acme HTTP/1.1\r\nHost: x\r\n\
+Tus-Resumable: 1.0.0\r\nUpload-Length: 10\r\nUpload-Metadata: a YQ==,b\r\n\r\n";
+
+const LOOKED_KEY_AND_VALUE: &[u8] = b"HTTP/1.1 200 OK\r\nDate: Thu, 01 Jan 1970 00:16:40 GMT\r\n\
+Tus-Resumable: 1.0.0\r\nUpload-Offset: 0\r\nUpload-Length: 10\r\nUpload-Metadata: a YQ==,b\r\n\
+Cache-Control: no-store\r\n\r\n";
+
+const POST_REPEATED_KEY: &[u8] = b"POST /files/acme HTTP/1.1\r\nHost: x\r\n\
+Tus-Resumable: 1.0.0\r\nUpload-Length: 10\r\nUpload-Metadata: a YQ==,a\r\n\r\n";
+
+const POST_BAD_PADDING: &[u8] = b"POST /files/acme HTTP/1.1\r\nHost: x\r\n\
+Tus-Resumable: 1.0.0\r\nUpload-Length: 10\r\nUpload-Metadata: a YQ\r\n\r\n";
+
+const POST_EMPTY_PAIR: &[u8] = b"POST /files/acme HTTP/1.1\r\nHost: x\r\nTus-Resumable: 1.0.0\r\n\
+Upload-Length: 10\r\nUpload-Metadata: a,,b\r\n\r\n";
+
+const POST_TWO_METADATA: &[u8] = b"POST /files/acme HTTP/1.1\r\nHost: x\r\n\
+Tus-Resumable: 1.0.0\r\nUpload-Length: 10\r\nUpload-Metadata:\r\nUpload-Metadata:\r\n\r\n";
+
+const POST_EMPTY_METADATA: &[u8] = b"POST /files/acme HTTP/1.1\r\nHost: x\r\n\
+Tus-Resumable: 1.0.0\r\nUpload-Length: 10\r\nUpload-Metadata:\r\n\r\n";
+
+const LOOKED_NEW: &[u8] = b"HTTP/1.1 200 OK\r\nDate: Thu, 01 Jan 1970 00:16:40 GMT\r\n\
+Tus-Resumable: 1.0.0\r\nUpload-Offset: 0\r\nUpload-Length: 10\r\nCache-Control: no-store\r\n\r\n";
+
+static CREATIONS: [Row; 9] = [
+    Row {
+        name: "a length that is told later, and a refused PATCH that tells one",
+        sent: [POST_DEFERRED, HEAD, PATCH_AT_ONE, HEAD],
+        written: [CREATED, LOOKED_DEFERRED, OFFSET, LOOKED_DEFERRED],
+        ended: Ended::Input,
+        offset: Some(0),
+    },
+    Row {
+        name: "a told length is fixed",
+        sent: [POST_DEFERRED, PATCH_WITH_LENGTH, PATCH_LONGER, PATCH_SAME],
+        written: [CREATED, COMPLETED_FIVE, LENGTH_FIXED, COMPLETED_FIVE],
+        ended: Ended::Input,
+        offset: Some(5),
+    },
+    Row {
+        name: "lengths that are not told",
+        sent: [
+            POST_DEFERRED_BY_TWO,
+            POST_BOTH_LENGTHS,
+            POST_NO_LENGTH,
+            POST_TWO_LENGTHS,
+        ],
+        written: [FIELD, FIELD, FIELD, FIELD],
+        ended: Ended::Input,
+        offset: None,
+    },
+    Row {
+        name: "numbers that are too great, and two offsets",
+        sent: [
+            POST_GREATEST_NUMBER,
+            POST_NO_NUMBER,
+            POST,
+            PATCH_TWO_OFFSETS,
+        ],
+        written: [TOO_LONG, FIELD, CREATED, FIELD],
+        ended: Ended::Input,
+        offset: Some(0),
+    },
+    Row {
+        name: "an upload of no bytes",
+        sent: [POST_ZERO, PATCH_EMPTY, GET, NONE],
+        written: [CREATED_COMPLETE, PATCHED_NONE, NO_CONTENT, NONE],
+        ended: Ended::Input,
+        offset: Some(0),
+    },
+    Row {
+        name: "metadata is given back as it was sent",
+        sent: [POST_TWO_KEYS, HEAD, NONE, NONE],
+        written: [CREATED, LOOKED_TWO_KEYS, NONE, NONE],
+        ended: Ended::Input,
+        offset: Some(0),
+    },
+    Row {
+        name: "metadata with a value is given back as it was sent",
+        sent: [POST_KEY_AND_VALUE, HEAD, NONE, NONE],
+        written: [CREATED, LOOKED_KEY_AND_VALUE, NONE, NONE],
+        ended: Ended::Input,
+        offset: Some(0),
+    },
+    Row {
+        name: "metadata that is none",
+        sent: [
+            POST_REPEATED_KEY,
+            POST_BAD_PADDING,
+            POST_EMPTY_PAIR,
+            POST_TWO_METADATA,
+        ],
+        written: [FIELD, FIELD, FIELD, FIELD],
+        ended: Ended::Input,
+        offset: None,
+    },
+    Row {
+        name: "empty metadata is none",
+        sent: [POST_EMPTY_METADATA, HEAD, NONE, NONE],
+        written: [CREATED, LOOKED_NEW, NONE, NONE],
+        ended: Ended::Input,
+        offset: Some(0),
+    },
+];
+
+#[test]
+fn creations(rt: HostRuntime) -> Result<(), Fail> {
+    for row in &CREATIONS {
+        check_row(&rt, rt.alloc(), row)?;
+    }
+    Ok(())
+}

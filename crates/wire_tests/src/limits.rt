@@ -1,0 +1,91 @@
+use crate::conversations::{
+    CREATED, HEAD, LOOKED, PATCH, PATCHED, POST, Row, assert_looked, check_row,
+};
+use crate::memory::{Input, Output};
+use crate::spoken::joined;
+use http_wire::{Ended, Incoming, Tapped, Wire};
+use std::alloc::{AllocError, Global};
+use std::test::Fail;
+
+/// The HEAD of the first upload with a field beside Host and Tus-Resumable for each pair of letters, whose
+/// name no other has.
+fn with_names(alloc: Global, firsts: &[u8], seconds: &[u8]) -> Result<Vec<u8>, AllocError> {
+    let mut text = Vec::from_slice(alloc, b"HEAD /files/acme/1 HTTP/1.1\r\nHost: x\r\n")?;
+    for first in firsts {
+        for second in seconds {
+            text.extend_from_slice(b"Name-")?;
+            text.push(*first)?;
+            text.push(*second)?;
+            text.extend_from_slice(b": y\r\n")?;
+        }
+    }
+    text.extend_from_slice(b"Tus-Resumable: 1.0.0\r\n\r\n")?;
+    Ok(text)
+}
+
+static NAMES: [(&[u8], &[u8], &str); 3] = [
+    (b"a", b"a", "3 fields"),
+    (b"abcdefghijklmnopqrstuvwxyzABCDE", b"a", "33 fields"),
+    (b"ab", b"abcdefghijklmnopqrstuvwxyzABCDE", "64 fields"),
+];
+
+#[test]
+fn fields_of_many_names(rt: HostRuntime) -> Result<(), Fail> {
+    for (firsts, seconds, what) in &NAMES {
+        let head = with_names(rt.alloc(), firsts, seconds)?;
+        assert_looked(&rt, rt.alloc(), what, &head)?;
+    }
+    Ok(())
+}
+
+/// A PATCH of an upload that is not there, with the greatest body of the tests' settings.
+const PATCH_GREATEST: &[u8] = b"PATCH /files/acme/1 HTTP/1.1\r\nHost: x\r\nTus-Resumable: 1.0.0\r\n\
+Content-Type: application/offset+octet-stream\r\nUpload-Offset: 0\r\nContent-Length: 64\r\n\r\n\
+0123456789abcdef0123456789abcdef0123456789abcdef0123456789abcdef";
+
+const UNKNOWN: &[u8] = b"HTTP/1.1 404 Not Found\r\nDate: Thu, 01 Jan 1970 00:16:40 GMT\r\n\
+Tus-Resumable: 1.0.0\r\nContent-Type: text/plain\r\nContent-Length: 8\r\n\r\nunknown\n";
+
+static GREATEST: Row = Row {
+    name: "the greatest body",
+    sent: [PATCH_GREATEST, POST, PATCH, HEAD],
+    written: [UNKNOWN, CREATED, PATCHED, LOOKED],
+    ended: Ended::Input,
+    offset: Some(5),
+};
+
+#[test]
+fn the_greatest_body(rt: HostRuntime) -> Result<(), Fail> {
+    check_row(&rt, rt.alloc(), &GREATEST)
+}
+
+const LARGE: &[u8] = b"PATCH / HTTP/1.1\r\nHost: x\r\nContent-Length: ";
+
+/// How long a body is that a wire reads, where its head has these digits as its length, and head and body
+/// have `all` bytes.
+fn read_body_len(alloc: Global, digits: &[u8], all: usize) -> Result<usize, Fail> {
+    let mut sent = joined(alloc, &[LARGE, digits, b"\r\n\r\n"])?;
+    sent.resize(all, b'a')?;
+    let reader = Tapped::new(Input::new(&sent, usize::MAX));
+    let mut wire = Wire::new(alloc, reader, Tapped::new(Output::new(alloc)), 300_000)?;
+    match wire.read_request()? {
+        Incoming::Message(message) => Ok(message.request().body.len()),
+        _ => Err(Fail::from("a whole message was sent")),
+    }
+}
+
+/// Head and body have 49,152 bytes together, 49,153, and more than there is room for at the start.
+static BODIES: [(&[u8], usize, usize); 3] = [
+    (b"49100", 49_100, 49_152),
+    (b"49101", 49_101, 49_153),
+    (b"300000", 300_000, 300_053),
+];
+
+#[test]
+fn bodies_that_fit_and_outgrow_the_room(rt: HostRuntime) -> Result<(), Fail> {
+    for (digits, len, all) in &BODIES {
+        let read = read_body_len(rt.alloc(), digits, *all)?;
+        assert!(rt; read == *len, "a body of {len} bytes");
+    }
+    Ok(())
+}

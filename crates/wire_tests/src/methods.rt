@@ -1,0 +1,136 @@
+use crate::conversations::{CREATED, NONE, PATCHED, POST, Row, check_row};
+use http_wire::Ended;
+use std::test::Fail;
+
+const OPTIONS_NO_VERSION: &[u8] = b"OPTIONS /files/acme HTTP/1.1\r\nHost: x\r\n\r\n";
+
+const OPTIONS_OTHER_VERSION: &[u8] = b"OPTIONS * HTTP/1.1\r\nHost: x\r\nTus-Resumable: 0.2.2\r\n\
+\r\n";
+
+const ABLE: &[u8] = b"HTTP/1.1 204 No Content\r\nDate: Thu, 01 Jan 1970 00:16:40 GMT\r\n\
+Tus-Resumable: 1.0.0\r\nTus-Version: 1.0.0\r\n\
+Tus-Extension: creation,creation-defer-length,expiration,termination,concatenation\r\n\
+Tus-Max-Size: 64\r\n\r\n";
+
+const GET: &[u8] = b"GET /files/acme/1 HTTP/1.1\r\nHost: x\r\n\r\n";
+
+const PATCH_ALL: &[u8] = b"PATCH /files/acme/1 HTTP/1.1\r\nHost: x\r\nTus-Resumable: 1.0.0\r\n\
+Content-Type: application/offset+octet-stream\r\nUpload-Offset: 0\r\nContent-Length: 10\r\n\r\n\
+abcdefghij";
+
+const COMPLETED: &[u8] = b"HTTP/1.1 204 No Content\r\nDate: Thu, 01 Jan 1970 00:16:40 GMT\r\n\
+Tus-Resumable: 1.0.0\r\nUpload-Offset: 10\r\n\r\n";
+
+const CONTENT: &[u8] = b"HTTP/1.1 200 OK\r\nDate: Thu, 01 Jan 1970 00:16:40 GMT\r\n\
+Tus-Resumable: 1.0.0\r\nContent-Type: application/octet-stream\r\nContent-Length: 10\r\n\r\n\
+abcdefghij";
+
+const UNFINISHED: &[u8] = b"HTTP/1.1 409 Conflict\r\nDate: Thu, 01 Jan 1970 00:16:40 GMT\r\n\
+Tus-Resumable: 1.0.0\r\nContent-Type: text/plain\r\nContent-Length: 11\r\n\r\nunfinished\n";
+
+const POST_AS_PATCH: &[u8] = b"POST /files/acme/1 HTTP/1.1\r\nHost: x\r\nTus-Resumable: 1.0.0\r\n\
+X-HTTP-Method-Override: PATCH\r\nContent-Type: application/offset+octet-stream\r\n\
+Upload-Offset: 0\r\nContent-Length: 5\r\n\r\nhello";
+
+const POST_AS_PATCH_UNTYPED: &[u8] = b"POST /files/acme/1 HTTP/1.1\r\nHost: x\r\n\
+Tus-Resumable: 1.0.0\r\nX-HTTP-Method-Override: PATCH\r\nUpload-Offset: 5\r\n\
+Content-Length: 5\r\n\r\nhello";
+
+const MEDIA: &[u8] = b"HTTP/1.1 415 Unsupported Media Type\r\n\
+Date: Thu, 01 Jan 1970 00:16:40 GMT\r\nTus-Resumable: 1.0.0\r\n\
+Upload-Expires: Thu, 01 Jan 1970 01:16:40 GMT\r\nContent-Type: text/plain\r\n\
+Content-Length: 6\r\n\r\nmedia\n";
+
+const POST_AS_HEAD: &[u8] = b"POST /files/acme/1 HTTP/1.1\r\nHost: x\r\nTus-Resumable: 1.0.0\r\n\
+X-HTTP-Method-Override: HEAD\r\n\r\n";
+
+const LOOKED_WITH_LENGTH: &[u8] = b"HTTP/1.1 200 OK\r\nDate: Thu, 01 Jan 1970 00:16:40 GMT\r\n\
+Tus-Resumable: 1.0.0\r\nUpload-Offset: 5\r\nUpload-Length: 10\r\nCache-Control: no-store\r\n\
+Content-Length: 0\r\n\r\n";
+
+const HEAD_AS_GET: &[u8] = b"HEAD /files/acme/1 HTTP/1.1\r\nHost: x\r\nTus-Resumable: 1.0.0\r\n\
+X-HTTP-Method-Override: GET\r\n\r\n";
+
+const BARE_CONTENT: &[u8] = b"HTTP/1.1 200 OK\r\nDate: Thu, 01 Jan 1970 00:16:40 GMT\r\n\
+Tus-Resumable: 1.0.0\r\n\r\n";
+
+const POST_TWO_OVERRIDES: &[u8] = b"POST /files/acme HTTP/1.1\r\nHost: x\r\n\
+Tus-Resumable: 1.0.0\r\nX-HTTP-Method-Override: POST\r\nX-HTTP-Method-Override: POST\r\n\
+Upload-Length: 10\r\n\r\n";
+
+const METHOD: &[u8] = b"HTTP/1.1 405 Method Not Allowed\r\n\
+Date: Thu, 01 Jan 1970 00:16:40 GMT\r\nTus-Resumable: 1.0.0\r\nAllow: POST, OPTIONS\r\n\
+Content-Type: text/plain\r\nContent-Length: 7\r\n\r\nmethod\n";
+
+const POST_TWO_VERSIONS: &[u8] = b"POST /files/acme HTTP/1.1\r\nHost: x\r\n\
+Tus-Resumable: 1.0.0\r\nTus-Resumable: 1.0.0\r\nUpload-Length: 10\r\n\r\n";
+
+const VERSION: &[u8] = b"HTTP/1.1 412 Precondition Failed\r\n\
+Date: Thu, 01 Jan 1970 00:16:40 GMT\r\nTus-Resumable: 1.0.0\r\nTus-Version: 1.0.0\r\n\
+Content-Type: text/plain\r\nContent-Length: 8\r\n\r\nversion\n";
+
+const PATCH_TWO_TYPES: &[u8] = b"PATCH /files/acme/1 HTTP/1.1\r\nHost: x\r\n\
+Tus-Resumable: 1.0.0\r\nContent-Type: application/offset+octet-stream\r\n\
+Content-Type: application/offset+octet-stream\r\nUpload-Offset: 0\r\nContent-Length: 1\r\n\r\na";
+
+const HEAD_GREATEST_ID: &[u8] = b"HEAD /files/acme/18446744073709551615 HTTP/1.1\r\nHost: x\r\n\
+Tus-Resumable: 1.0.0\r\n\r\n";
+
+const HEAD_NO_ID: &[u8] = b"HEAD /files/acme/18446744073709551616 HTTP/1.1\r\nHost: x\r\n\
+Tus-Resumable: 1.0.0\r\n\r\n";
+
+const UNKNOWN: &[u8] = b"HTTP/1.1 404 Not Found\r\nDate: Thu, 01 Jan 1970 00:16:40 GMT\r\n\
+Tus-Resumable: 1.0.0\r\nCache-Control: no-store\r\n\r\n";
+
+static METHODS: [Row; 6] = [
+    Row {
+        name: "OPTIONS of any version and target",
+        sent: [OPTIONS_NO_VERSION, OPTIONS_OTHER_VERSION, NONE, NONE],
+        written: [ABLE, ABLE, NONE, NONE],
+        ended: Ended::Input,
+        offset: None,
+    },
+    Row {
+        name: "GET of an upload before it is finished, and after",
+        sent: [POST, GET, PATCH_ALL, GET],
+        written: [CREATED, UNFINISHED, COMPLETED, CONTENT],
+        ended: Ended::Input,
+        offset: Some(10),
+    },
+    Row {
+        name: "a POST that stands for a PATCH or a HEAD",
+        sent: [POST, POST_AS_PATCH, POST_AS_PATCH_UNTYPED, POST_AS_HEAD],
+        written: [CREATED, PATCHED, MEDIA, LOOKED_WITH_LENGTH],
+        ended: Ended::Input,
+        offset: Some(5),
+    },
+    Row {
+        name: "a HEAD that stands for a GET has a bare reply",
+        sent: [POST, PATCH_ALL, HEAD_AS_GET, NONE],
+        written: [CREATED, COMPLETED, BARE_CONTENT, NONE],
+        ended: Ended::Input,
+        offset: Some(10),
+    },
+    Row {
+        name: "two fields of one name",
+        sent: [POST_TWO_OVERRIDES, POST_TWO_VERSIONS, POST, PATCH_TWO_TYPES],
+        written: [METHOD, VERSION, CREATED, MEDIA],
+        ended: Ended::Input,
+        offset: Some(0),
+    },
+    Row {
+        name: "an id that was never given, and a path with none",
+        sent: [HEAD_GREATEST_ID, HEAD_NO_ID, NONE, NONE],
+        written: [UNKNOWN, UNKNOWN, NONE, NONE],
+        ended: Ended::Input,
+        offset: None,
+    },
+];
+
+#[test]
+fn methods(rt: HostRuntime) -> Result<(), Fail> {
+    for row in &METHODS {
+        check_row(&rt, rt.alloc(), row)?;
+    }
+    Ok(())
+}

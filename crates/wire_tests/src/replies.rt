@@ -1,0 +1,237 @@
+//! Replies as the plain program writes them: line by line, each text anew.
+
+use http_wire::{Framing, WireRefusal};
+use std::alloc::Global;
+use std::process::Abort;
+use tus_steps::{Place, Reply};
+use tus_text::write_expires;
+use upload_book::{HeadRow, Moment, Refusal};
+
+/// A field's name, and what it tells.
+type Line = (&'static str, Vec<u8>);
+
+/// A reply: its status, its own fields in their order, the type of its body, and that.
+#[derive(Drop)]
+pub struct Replied {
+    status: u16,
+    lines: Vec<Line>,
+    media: &'static str,
+    body: Vec<u8>,
+}
+
+impl Replied {
+    fn new(alloc: Global, status: u16) -> Replied {
+        Replied {
+            status,
+            lines: Vec::new(alloc),
+            media: "",
+            body: Vec::new(alloc),
+        }
+    }
+
+    fn line(&mut self, rt: &impl Abort, alloc: Global, name: &'static str, value: &[u8]) {
+        let value = Vec::from_slice(alloc, value).expect(rt, "memory");
+        self.lines.push((name, value)).expect(rt, "memory");
+    }
+
+    fn number(&mut self, rt: &impl Abort, alloc: Global, name: &'static str, number: u64) {
+        let text = format!(in alloc; "{number}").expect(rt, "memory");
+        self.line(rt, alloc, name, text.as_bytes());
+    }
+
+    fn expires(&mut self, rt: &impl Abort, alloc: Global, expires: Option<Moment>) {
+        if let Some(end) = expires {
+            self.line(rt, alloc, "Upload-Expires", &write_expires(end.secs()));
+        }
+    }
+
+    /// What a reply of the steps tells.
+    pub fn of(rt: &impl Abort, alloc: Global, reply: &Reply) -> Replied {
+        match reply {
+            Reply::Options { max_size } => {
+                let mut told = Replied::new(alloc, 204);
+                told.line(rt, alloc, "Tus-Version", b"1.0.0");
+                let extensions =
+                    b"creation,creation-defer-length,expiration,termination,concatenation";
+                told.line(rt, alloc, "Tus-Extension", extensions);
+                told.number(rt, alloc, "Tus-Max-Size", *max_size);
+                told
+            }
+            Reply::Created {
+                tenant,
+                id,
+                expires,
+            } => {
+                let mut told = Replied::new(alloc, 201);
+                let mut path = Vec::from_slice(alloc, b"/files/").expect(rt, "memory");
+                path.extend_from_slice(tenant.as_slice())
+                    .expect(rt, "memory");
+                let id = format!(in alloc; "/{id}").expect(rt, "memory");
+                path.extend_from_slice(id.as_bytes()).expect(rt, "memory");
+                told.line(rt, alloc, "Location", &path);
+                told.expires(rt, alloc, *expires);
+                told
+            }
+            Reply::Head(row) => Replied::of_head(rt, alloc, row),
+            Reply::Content(content) => {
+                let mut told = Replied::new(alloc, 200);
+                told.media = "application/octet-stream";
+                told.body = Vec::from_slice(alloc, content.as_slice()).expect(rt, "memory");
+                told
+            }
+            Reply::Patched { offset, expires } => {
+                let mut told = Replied::new(alloc, 204);
+                told.number(rt, alloc, "Upload-Offset", *offset);
+                told.expires(rt, alloc, *expires);
+                told
+            }
+            Reply::Deleted => Replied::new(alloc, 204),
+            Reply::Refused {
+                refusal,
+                head,
+                place,
+                expires,
+            } => {
+                let mut told = Replied::refusing(rt, alloc, *refusal, *place);
+                told.expires(rt, alloc, *expires);
+                if *head {
+                    told.line(rt, alloc, "Cache-Control", b"no-store");
+                }
+                told
+            }
+        }
+    }
+
+    fn of_head(rt: &impl Abort, alloc: Global, row: &HeadRow) -> Replied {
+        let mut told = Replied::new(alloc, 200);
+        told.number(rt, alloc, "Upload-Offset", row.offset);
+        match row.declared {
+            Some(length) => told.number(rt, alloc, "Upload-Length", length),
+            None => told.line(rt, alloc, "Upload-Defer-Length", b"1"),
+        }
+        if !row.metadata.as_slice().is_empty() {
+            told.line(rt, alloc, "Upload-Metadata", row.metadata.as_slice());
+        }
+        if !row.concat.as_slice().is_empty() {
+            told.line(rt, alloc, "Upload-Concat", row.concat.as_slice());
+        }
+        told.line(rt, alloc, "Cache-Control", b"no-store");
+        told
+    }
+
+    fn refusing(rt: &impl Abort, alloc: Global, refusal: Refusal, place: Place) -> Replied {
+        let mut told = Replied::new(alloc, refusal.status());
+        if refusal == Refusal::Version {
+            told.line(rt, alloc, "Tus-Version", b"1.0.0");
+        }
+        if refusal == Refusal::Method {
+            match place {
+                Place::Create => told.line(rt, alloc, "Allow", b"POST, OPTIONS"),
+                Place::Upload => {
+                    told.line(rt, alloc, "Allow", b"HEAD, GET, PATCH, DELETE, OPTIONS");
+                }
+                Place::Other => {}
+            }
+        }
+        told.tell_word(rt, refusal.word());
+        told
+    }
+
+    fn tell_word(&mut self, rt: &impl Abort, word: &str) {
+        self.media = "text/plain";
+        let body = &mut self.body;
+        body.extend_from_slice(word.as_bytes()).expect(rt, "memory");
+        body.push(b'\n').expect(rt, "memory");
+    }
+}
+
+// The phrase of a status.
+fn reason(status: u16) -> &'static str {
+    match status {
+        200 => "OK",
+        201 => "Created",
+        204 => "No Content",
+        400 => "Bad Request",
+        403 => "Forbidden",
+        404 => "Not Found",
+        405 => "Method Not Allowed",
+        409 => "Conflict",
+        410 => "Gone",
+        411 => "Length Required",
+        412 => "Precondition Failed",
+        413 => "Content Too Large",
+        415 => "Unsupported Media Type",
+        431 => "Request Header Fields Too Large",
+        503 => "Service Unavailable",
+        507 => "Insufficient Storage",
+        _ => "",
+    }
+}
+
+/// What was written so far.
+#[derive(Drop)]
+pub struct Page {
+    alloc: Global,
+    pub text: Vec<u8>,
+}
+
+impl Page {
+    pub fn new(alloc: Global) -> Page {
+        Page {
+            alloc,
+            text: Vec::new(alloc),
+        }
+    }
+
+    pub fn put(&mut self, rt: &impl Abort, bytes: &[u8]) {
+        self.text.extend_from_slice(bytes).expect(rt, "memory");
+    }
+
+    fn put_line(&mut self, rt: &impl Abort, name: &str, value: &[u8]) {
+        self.put(rt, name.as_bytes());
+        self.put(rt, b": ");
+        self.put(rt, value);
+        self.put(rt, b"\r\n");
+    }
+
+    pub fn put_reply(&mut self, rt: &impl Abort, told: &Replied, now: Moment, framing: Framing) {
+        let alloc = self.alloc;
+        let status = told.status;
+        let first = format!(in alloc; "HTTP/1.1 {status} {}\r\n", reason(status)).expect(
+            rt, "memory",
+        );
+        self.put(rt, first.as_bytes());
+        self.put_line(rt, "Date", &write_expires(now.secs()));
+        self.put_line(rt, "Tus-Resumable", b"1.0.0");
+        for line in &told.lines {
+            self.put_line(rt, line.0, &line.1);
+        }
+        let is_bare = framing.bare || status == 204;
+        if !is_bare {
+            if !told.media.is_empty() {
+                self.put_line(rt, "Content-Type", told.media.as_bytes());
+            }
+            let len = format!(in alloc; "{}", told.body.len()).expect(rt, "memory");
+            self.put_line(rt, "Content-Length", len.as_bytes());
+        }
+        if framing.close {
+            self.put_line(rt, "Connection", b"close");
+        }
+        self.put(rt, b"\r\n");
+        if !is_bare {
+            self.put(rt, &told.body);
+        }
+    }
+
+    pub fn put_refusal(
+        &mut self,
+        rt: &impl Abort,
+        refusal: WireRefusal,
+        now: Moment,
+        framing: Framing,
+    ) {
+        let mut told = Replied::new(self.alloc, refusal.status());
+        told.tell_word(rt, refusal.word());
+        self.put_reply(rt, &told, now, framing);
+    }
+}

@@ -1,0 +1,180 @@
+ghost use Rattle.std.specs.Prelude.{◌≡◌, true, IfOk};
+
+use crate::conversations::{CHUNKED, CREATED, FIRST_UPLOAD, POST, REPLIES};
+use crate::memory::{Input, Output};
+use crate::spoken::{Expected, assert_spoken, at, joined, known_talk, new_book};
+use http_wire::{Ended, Framing, Incoming, Tapped, Wire, WireFault, WireRefusal, serve};
+use std::alloc::Global;
+use std::process::Abort;
+use std::test::Fail;
+use tus_steps::answer;
+use upload_book::Book;
+
+/// A wire over a reader and a writer in memory.
+type MemoryWire<'a> = Wire<Tapped<Input<'a>>, Tapped<Output>>;
+
+fn new_wire(alloc: Global, input: Input<'_>, output: Output) -> Result<MemoryWire<'_>, WireFault>
+    ensures { IfOk result (λ wire. wire.reads ≡ true) }
+{
+    Wire::new(alloc, Tapped::new(input), Tapped::new(output), 64)
+}
+
+fn is_at_end(wire: &mut MemoryWire<'_>) -> Result<bool, WireFault> {
+    Ok(matches!(wire.read_request()?, Incoming::End))
+}
+
+/// Asserts whether the end of the input stands next on a wire, or which fault a read of it gives.
+fn assert_end(
+    rt: &impl Abort,
+    what: &str,
+    wire: &mut MemoryWire<'_>,
+    expected: Result<bool, WireFault>,
+) {
+    assert_eq!(rt; is_at_end(wire), expected, "{what}");
+}
+
+/// Asserts what a turn on a wire at moment 1000 gives.
+fn assert_turn(
+    rt: &impl Abort,
+    what: &str,
+    wire: &mut MemoryWire<'_>,
+    book: &mut Book,
+    expected: Result<Option<Ended>, WireFault>,
+) {
+    assert_eq!(rt; wire.take_turn(book, at(1000)), expected, "{what}");
+}
+
+/// Asserts what was written on a wire.
+fn assert_written(rt: &impl Abort, wire: MemoryWire<'_>, expected: &[u8]) {
+    let (_, writer) = wire.into_streams();
+    assert_eq!(rt; writer.inner.written.as_slice(), expected, "written");
+}
+
+/// Reads a message and writes its reply.
+fn answer_one(wire: &mut MemoryWire<'_>, book: &mut Book) -> Result<(), Fail> {
+    let (reply, framing) = match wire.read_request()? {
+        Incoming::Message(message) => {
+            let reply = answer(book, &message.request(), at(1000));
+            (reply, message.framing())
+        }
+        _ => return Err(Fail::from("a message was sent")),
+    };
+    wire.write_reply(&reply, at(1000), framing)?;
+    Ok(())
+}
+
+#[test]
+fn a_message_and_its_reply(rt: HostRuntime) -> Result<(), Fail> {
+    let alloc = rt.alloc();
+    let mut book = new_book(alloc)?;
+    let mut wire = new_wire(alloc, Input::new(POST, usize::MAX), Output::new(alloc))?;
+    answer_one(&mut wire, &mut book)?;
+    assert_end(&rt, "the end", &mut wire, Ok(true));
+    assert_end(&rt, "the end again", &mut wire, Ok(true));
+    assert_written(&rt, wire, CREATED);
+    Ok(())
+}
+
+#[test]
+fn turns_on_a_wire(rt: HostRuntime) -> Result<(), Fail> {
+    let alloc = rt.alloc();
+    let all = joined(alloc, &FIRST_UPLOAD)?;
+    let written = joined(alloc, &REPLIES)?;
+    let mut book = new_book(alloc)?;
+    let mut wire = new_wire(alloc, Input::new(&all, 7), Output::new(alloc))?;
+    let served = serve(&mut wire, &mut book, &[at(1000); 2]);
+    assert_eq!(rt; served, Ok(Ended::Moments));
+    assert_turn(&rt, "the last message", &mut wire, &mut book, Ok(None));
+    assert_turn(&rt, "the end", &mut wire, &mut book, Ok(Some(Ended::Input)));
+    assert_turn(
+        &rt,
+        "the end again",
+        &mut wire,
+        &mut book,
+        Ok(Some(Ended::Input)),
+    );
+    assert_written(&rt, wire, &written);
+    Ok(())
+}
+
+#[test]
+fn known_bytes(rt: HostRuntime) -> Result<(), Fail> {
+    let all = joined(rt.alloc(), &FIRST_UPLOAD)?;
+    let written = joined(rt.alloc(), &REPLIES)?;
+    let spoken = known_talk(rt.alloc(), &all)?;
+    let expected = Expected {
+        text: &written,
+        ended: Ok(Ended::Input),
+        offset: Some(5),
+    };
+    assert_spoken(&rt, "known bytes", &spoken, &expected);
+    Ok(())
+}
+
+/// Reads what a wire refuses and writes the answer to it. Gives why it is refused, and whether the
+/// connection closes.
+fn refuse_one(wire: &mut MemoryWire<'_>) -> Result<(WireRefusal, bool), Fail> {
+    let (refusal, framing) = match wire.read_request()? {
+        Incoming::Refused(refusal, framing) => (refusal, framing),
+        _ => return Err(Fail::from("a transfer coding was sent")),
+    };
+    wire.write_refusal(refusal, at(1000), framing)?;
+    Ok((refusal, framing.close))
+}
+
+#[test]
+fn a_refusal_and_the_end(rt: HostRuntime) -> Result<(), Fail> {
+    let alloc = rt.alloc();
+    let mut wire = new_wire(alloc, Input::new(CHUNKED, usize::MAX), Output::new(alloc))?;
+    let (refusal, closes) = refuse_one(&mut wire)?;
+    assert!(rt; refusal == WireRefusal::Coding && closes);
+    assert_end(&rt, "the end", &mut wire, Ok(true));
+    Ok(())
+}
+
+#[test]
+fn a_fault_stays(rt: HostRuntime) -> Result<(), Fail> {
+    let mut input = Input::new(POST, 1);
+    input.reads = 3;
+    let mut wire = new_wire(rt.alloc(), input, Output::new(rt.alloc()))?;
+    let framing = Framing {
+        bare: false,
+        close: true,
+    };
+    assert_end(&rt, "a failed read", &mut wire, Err(WireFault::Read));
+    assert_end(&rt, "a read after it", &mut wire, Err(WireFault::Failed));
+    let written = wire.write_refusal(WireRefusal::Head, at(1000), framing);
+    assert!(rt; written == Err(WireFault::Failed));
+    Ok(())
+}
+
+#[test]
+fn nothing_is_written_after_a_failed_write(rt: HostRuntime) -> Result<(), Fail> {
+    let alloc = rt.alloc();
+    let mut book = new_book(alloc)?;
+    let all = joined(alloc, &FIRST_UPLOAD[..2])?;
+    let output = Output {
+        written: Vec::new(alloc),
+        piece: 10,
+        writes: 1,
+        fails: true,
+    };
+    let mut wire = new_wire(alloc, Input::new(&all, usize::MAX), output)?;
+    assert_turn(
+        &rt,
+        "a failed write",
+        &mut wire,
+        &mut book,
+        Err(WireFault::Write),
+    );
+    assert_turn(
+        &rt,
+        "a turn after it",
+        &mut wire,
+        &mut book,
+        Err(WireFault::Failed),
+    );
+    assert_end(&rt, "a read after it", &mut wire, Err(WireFault::Failed));
+    assert_written(&rt, wire, b"HTTP/1.1 2");
+    Ok(())
+}
