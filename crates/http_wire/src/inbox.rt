@@ -170,7 +170,8 @@ impl Inbox {
 }
 
 // Where the `count` bytes from `at` on stand after they were moved to the front, which is done only
-// where fewer than `room` bytes follow `at`.
+// where fewer than `room` bytes follow `at`. Where there are none, the front is theirs: so a large body is
+// read there, and its first bytes are not moved.
 fn place_with_room(buffer: &mut Vec<u8>, at: usize, count: usize, room: usize) -> usize
     requires inside { at + count ≤ vec_len buffer.old }
     requires fits { room ≤ vec_len buffer.old }
@@ -180,6 +181,9 @@ fn place_with_room(buffer: &mut Vec<u8>, at: usize, count: usize, room: usize) -
     ensures bytes { slice_range buffer.new.items result (result + count)
         ≡ slice_range buffer.old.items at (at + count) }
 {
+    if count == 0 {
+        return 0;
+    }
     if buffer.len() - at >= room {
         return at;
     }

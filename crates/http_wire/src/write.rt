@@ -1,10 +1,10 @@
-ghost use Rattle.std.specs.Prelude.{◌≡◌, false};
+ghost use Rattle.std.specs.Prelude.{◌≡◌, ◌++◌, false};
 ghost use Rattle.http_wire.specs.ReplyText.{reply_text, refusal_text};
 ghost use Rattle.http_wire.specs.Writes.{Writes};
 
 use crate::fault::WireFault;
 use crate::framing::Framing;
-use crate::page::Page;
+use crate::page::{PAGE_SIZE, Page};
 use crate::refusal::WireRefusal;
 use crate::reply::{content_of, put_refusal, put_reply};
 use crate::send::{put_all, put_both};
@@ -12,8 +12,9 @@ use crate::source::Sink;
 use tus_steps::Reply;
 use upload_book::Moment;
 
-/// Writes the reply to a message at the message's moment: one page, and after it the bytes of an upload
-/// from where they are. The error is `WireFault::Write`, and then a front of it was written.
+/// Writes the reply to a message at the message's moment: one page, and after it the bytes of an upload, from
+/// where they are unless the page has room for them. The error is `WireFault::Write`, and then a front of it was
+/// written.
 pub fn write_reply<W: Sink>(
     writer: &mut W,
     page: &mut Page,
@@ -26,7 +27,22 @@ pub fn write_reply<W: Sink>(
         (reply_text reply.now now framing) result }
 {
     put_reply(page, reply, now, framing);
-    put_both(writer, page.as_slice(), content_of(reply, framing))
+    write_with(writer, page, content_of(reply, framing))
+}
+
+// Writes a page and what follows it, in one write where that fits on the page: a second one would cost more than
+// the copy.
+fn write_with<W: Sink>(writer: &mut W, page: &mut Page, content: &[u8]) -> Result<(), WireFault>
+    requires { W.has_failed writer.old ≡ false }
+    ensures { Writes (W.contents writer.old) (W.contents writer.new) (W.has_failed writer.new)
+        (page.old ++ content.now) result }
+{
+    if page.as_slice().len().saturating_add(content.len()) <= PAGE_SIZE {
+        page.put(content);
+        put_all(writer, page.as_slice())
+    } else {
+        put_both(writer, page.as_slice(), content)
+    }
 }
 
 /// The same for a refusal of the wire.

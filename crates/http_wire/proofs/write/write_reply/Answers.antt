@@ -3,4 +3,4 @@ use Rattle.http_wire.proofs.write.write_reply.Goals as goal
 
 pub returns : goal.returns
 returns g c =
-    rw (reply_text-parts c.args.reply.now c.args.now c.args.framing, ← c.put_reply.ensures, ← c.as_slice.ensures, ← c.content_of.ensures) c.put_both.ensures
+    rw (reply_text-parts c.args.reply.now c.args.now c.args.framing, ← c.put_reply.ensures, ← c.content_of.ensures) c.write_with.ensures
