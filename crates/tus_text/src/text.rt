@@ -44,6 +44,16 @@ impl<const N: usize> Text<N> {
         Text { bytes: text }
     }
 
+    /// Becomes the text of `bytes`, which are at most `N` and are copied to where the text lies.
+    pub fn set(&mut self, bytes: &[u8])
+        requires { length bytes.now ≤ N }
+        ensures { self.new ≡ bytes.now }
+    {
+        self.bytes.clear();
+        let copied = self.bytes.try_extend_from_slice(bytes);
+        prove!(copied.is_ok());
+    }
+
     /// The bytes of the text.
     pub fn as_slice(&self) -> &[u8]
         ensures value { result.now ≡ self.now }

@@ -1,5 +1,5 @@
 -- The store where an upload is told its length and its end, and where bytes are put at the end of one.
-use Rattle.std.proofs.Common.{◌≡◌, ◌≢◌, ℕ, ◌+◌, ◌<◌, ◌≤◌, ◌^◌, List, [], ◌∷◌, length, get_or, set, vec_capacity, Option, refl, sym, ap, ◌∙◌, subst, inl, inr, arith}
+use Rattle.std.proofs.Common.{◌≡◌, ◌≢◌, ℕ, ◌+◌, ◌<◌, ◌≤◌, ◌^◌, List, [], ◌∷◌, length, get_or, set, Option, refl, sym, ap, ◌∙◌, subst, inl, inr, arith}
 use Rattle.std.specs.List.{All, sum_by}
 use Rattle.std.proofs.lemmas.List.Sums.{sum_by-remove}
 use Rattle.std.proofs.Math.ListN.{length-append}
@@ -12,7 +12,7 @@ use Rattle.upload_book.specs.Charge.{charge_with}
 use Rattle.upload_book.specs.declared.head_row.Kind.TheVariants.{Final}
 use Rattle.upload_book.specs.declared.shelf.Shelf.{Shelf as KeptShelf}
 use Rattle.upload_book.specs.declared.store.Store.TheInside.{Inside}
-use Rattle.upload_book.specs.Kept.{shelf_of, store_of, IsKept}
+use Rattle.upload_book.specs.Kept.{shelf_of, store_of, HasRoom, IsKept}
 use Rattle.upload_book.specs.Store as store
 use Rattle.upload_book.specs.Store.{Store, plain_in, part_at, shelf_at, with_chain, with_head, with_upload, with_bytes}
 use Rattle.upload_book.specs.declared.piece.Piece.{Piece}
@@ -67,7 +67,7 @@ pub record IsPutIn (v : Inside) (i : ℕ) (old changed : KeptShelf) (e : Entry S
   pub next : changed.next ≡ old.next
   pub charge : changed.charge ≡ old.charge + taken
   pub uploads : changed.uploads.items ≡ set old.uploads.items i (with_head (with_chain e y) declared expires)
-  pub room : v.room ≤ vec_capacity changed.uploads
+  pub room : HasRoom v.room changed
   pub more : length y.blocks ≡ length (own_chain e.kept.pieces).blocks + taken
 
 put-shelf : (v : Inside) (i : ℕ) (old changed : KeptShelf) (e : Entry StoredUpload) (y : Chain) (declared expires : Option ℕ) (taken : ℕ) → IsPutIn v i old changed e y declared expires taken

@@ -1,5 +1,5 @@
 -- The store where an upload ends.
-use Rattle.std.proofs.Common.{◌≡◌, ℕ, ◌+◌, ◌≤◌, length, set, vec_capacity, refl, sym, ap, ◌∙◌, subst, arith}
+use Rattle.std.proofs.Common.{◌≡◌, ℕ, ◌+◌, ◌≤◌, length, set, refl, sym, ap, ◌∙◌, subst, arith}
 use Rattle.std.specs.List.{All, remove}
 use Rattle.block_pool.specs.Blocks.{Blocks}
 use Rattle.block_bodies.specs.Bodies.{IsHeld}
@@ -7,7 +7,7 @@ use Rattle.block_bodies.specs.Changes.{GivesBack}
 use Rattle.upload_book.specs.Charge.{charge_with}
 use Rattle.upload_book.specs.declared.shelf.Shelf.{Shelf as KeptShelf}
 use Rattle.upload_book.specs.declared.store.Store.TheInside.{Inside}
-use Rattle.upload_book.specs.Kept.{shelf_of, store_of, IsKept}
+use Rattle.upload_book.specs.Kept.{shelf_of, store_of, HasRoom, IsKept}
 use Rattle.upload_book.specs.Store.{plain_in, part_at, without_upload}
 use Rattle.upload_book.specs.Stored.{Shelf, StoredUpload, part_of, pieces_of, placed_in, charge_on, IsStored, ReadsWhole, HasOwnPiece}
 use Rattle.upload_book.specs.TenantBook.{Entry}
@@ -43,7 +43,7 @@ pub record IsGivenUp (v : Inside) (i : ℕ) (old changed : KeptShelf) (freed : �
   pub next : changed.next ≡ old.next
   pub charge : changed.charge + freed ≡ old.charge
   pub uploads : changed.uploads.items ≡ remove old.uploads.items i
-  pub room : v.room ≤ vec_capacity changed.uploads
+  pub room : HasRoom v.room changed
 
 given-shelf : (v : Inside) (i : ℕ) (old changed : KeptShelf) (freed : ℕ) → IsGivenUp v i old changed freed → shelf_of changed ≡ without (shelf_of old) i
 given-shelf v i old changed freed is = rw (is.quota, is.next, is.uploads) refl

@@ -1,5 +1,5 @@
 -- The store where a final upload is joined of a tenant's partial ones.
-use Rattle.std.proofs.Common.{◌≡◌, ℕ, zero, suc, ◌+◌, ◌<◌, ◌≤◌, List, [], ◌∷◌, ◌++◌, map, length, get_or, set, take, vec_capacity, Option, None, Some, refl, sym, ap, ap₂, ◌∙◌, subst, inl, inr, arith}
+use Rattle.std.proofs.Common.{◌≡◌, ℕ, zero, suc, ◌+◌, ◌<◌, ◌≤◌, List, [], ◌∷◌, ◌++◌, map, length, get_or, set, take, Option, None, Some, refl, sym, ap, ap₂, ◌∙◌, subst, inl, inr, arith}
 use Rattle.std.specs.List.{All, Contains, flat_map, sum_by}
 use Rattle.std.proofs.Math.ListN.{length-map}
 use Rattle.std.proofs.lemmas.List.{get_or-map, get_or_push}
@@ -15,7 +15,7 @@ use Rattle.upload_book.specs.declared.piece.Piece.{Piece}
 use Rattle.upload_book.specs.declared.piece.UnheldPiece.{UnheldPiece}
 use Rattle.upload_book.specs.declared.shelf.Shelf.{Shelf as KeptShelf}
 use Rattle.upload_book.specs.declared.store.Store.TheInside.{Inside}
-use Rattle.upload_book.specs.Kept.{shelf_of, store_of, IsKept}
+use Rattle.upload_book.specs.Kept.{shelf_of, store_of, HasRoom, IsKept}
 use Rattle.upload_book.specs.NewFinal.{NewFinal}
 use Rattle.upload_book.specs.Store.{Store, AreFew, Joins, plain_in, part_at, shelf_at, entry_at, pieces_named as pieces_at, rows_at, no_upload}
 use Rattle.upload_book.specs.Stored.{Segment, Shelf, StoredUpload, as_piece, entry_of, final_of, part_of, parts_kept, pieces_len, pieces_of, placed_in, segment_of, upload_of, own_chain, charge_on, HasOwnPiece, IsStored, ReadsWhole}
@@ -136,7 +136,7 @@ pub record IsJoined (v : Inside) (old changed : KeptShelf) (new : NewFinal) (pie
   pub next : changed.next ≡ old.next + 1
   pub charge : changed.charge ≡ old.charge
   pub uploads : changed.uploads.items ≡ old.uploads.items ++ record { id = old.next; kept = final_of new pieces } ∷ []
-  pub room : v.room ≤ vec_capacity changed.uploads
+  pub room : HasRoom v.room changed
 
 -- the pieces are copies of the tenant's
 pub joined-copies : (old : Shelf) (named : List (Option ℕ)) (now : ℕ) (pieces : List Piece) → map segment_of pieces ≡ map segment_of (flat_map kept_pieces (parts_kept old now named)) → AreCopies old pieces

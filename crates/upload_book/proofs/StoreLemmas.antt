@@ -1,5 +1,5 @@
 -- A store in which one tenant's part changed, as it is kept.
-use Rattle.std.proofs.Common.{◌≡◌, ◌≢◌, ℕ, ◌+◌, ◌<◌, ◌≤◌, List, [], ◌∷◌, map, length, get_or, set, vec_capacity, Result, Ok, Err, OnErr, refl, sym, ap, ◌∙◌, ap₂, subst, inl, inr, arith}
+use Rattle.std.proofs.Common.{◌≡◌, ◌≢◌, ℕ, ◌+◌, ◌<◌, List, [], ◌∷◌, map, length, get_or, set, vec_len, Result, Ok, Err, OnErr, refl, sym, ap, ◌∙◌, ap₂, subst, inl, inr, arith}
 use Rattle.std.specs.List.{All, sum_by}
 use Rattle.std.specs.Vec.{with_item}
 use Rattle.std.proofs.Math.ListN.{length-map, length-set}
@@ -13,7 +13,7 @@ use Rattle.upload_book.specs.Charge.{charge_with}
 use Rattle.upload_book.specs.declared.head_row.Kind.TheVariants.{Final}
 use Rattle.upload_book.specs.declared.shelf.Shelf.{Shelf as KeptShelf}
 use Rattle.upload_book.specs.declared.store.Store.TheInside.{Inside}
-use Rattle.upload_book.specs.Kept.{shelf_of, store_of, IsKept}
+use Rattle.upload_book.specs.Kept.{shelf_of, store_of, HasRoom, IsKept}
 use Rattle.upload_book.specs.Store.{Store, plain_in, part_at, shelf_at, entry_at, upload_at, no_upload}
 use Rattle.upload_book.specs.Stored.{Shelf, StoredUpload, part_of, upload_of, pieces_of, places_on, charge_on, AreBodies, IsStored, HasOwnPiece, ReadsWhole}
 use Rattle.upload_book.specs.TenantBook.{TenantBook, Entry, opening_part}
@@ -76,9 +76,19 @@ charge_with-part v t old kept is =
     ∙ charge-plain v.pool.block_size v.pool (shelf_of old) (own-part v t old kept is) (reads-part v t old kept is)
 
 -- and has room
-pub room-part : (v : Inside) (t : ℕ) (old : KeptShelf) → IsKept v → IsPart v t old → v.room ≤ vec_capacity old.uploads
-room-part v t old kept is =
-    subst (λ (s : KeptShelf). v.room ≤ vec_capacity s.uploads) (sym is.read) (kept.room t old is.within)
+pub room-part : (v : Inside) (t : ℕ) (old : KeptShelf) → IsKept v → IsPart v t old → HasRoom v.room old
+room-part v t old kept is = subst (HasRoom v.room) (sym is.read) (kept.room t old is.within)
+
+-- It has as much where an upload changes, or what the tenant pays.
+pub room-changed : (room : ℕ) (old : KeptShelf) (i charge : ℕ) (e : Entry StoredUpload) → HasRoom room old → HasRoom room (record old { charge = charge; uploads = with_item old.uploads i e })
+room-changed room old i charge e has = record { uploads = has.uploads; spare = has.spare; boxes = has.boxes }
+
+-- Where it may have one more upload, a box is spare.
+pub spare-some : (v : Inside) (s : Store) (t : ℕ) (old : KeptShelf) → IsKept v → store_of v ≡ s → IsPart v t old → length (shelf_at s t).uploads < s.room → 0 < vec_len old.spare
+spare-some v s t old kept is part less =
+    let room = room-part v t old kept part in
+    let same : length (shelf_at s t).uploads ≡ length old.uploads.items = ap (λ (s : Store). length (shelf_at s t).uploads) (sym is) ∙ ap (λ (shelf : Shelf). length shelf.uploads) (shelf_at-part v t old part) in
+    omega (arith, less, same, room.boxes, old.uploads.ok.0, ap (λ (s : Store). s.room) is)
 
 -- the shelves with one changed
 pub shelves-with_shelf : (v : Inside) (q : Blocks) (t : ℕ) (changed : KeptShelf) → (store_of (with_shelf v q t changed)).shelves ≡ set (store_of v).shelves t (shelf_of changed)
@@ -101,7 +111,7 @@ pub IsKept-with_shelf : (v : Inside) (q : Blocks) (t : ℕ) (old changed : KeptS
     → IsStored q (set (store_of v).shelves t (shelf_of changed))
     → ((k : ℕ) (other : Shelf) → IsShelf (store_of v).shelves k other → k ≢ t → KeepBytes v.pool q (λ b. places_on b other))
     → All HasOwnPiece (shelf_of changed).uploads → ReadsWhole q (pieces_of (shelf_of changed)) → changed.charge ≡ charge_on v.pool.block_size (shelf_of changed)
-    → v.room ≤ vec_capacity changed.uploads → IsKept (with_shelf v q t changed)
+    → HasRoom v.room changed → IsKept (with_shelf v q t changed)
 IsKept-with_shelf v q t old changed kept is sizes stored stay own reads charge room =
     let shelves = shelves-with_shelf v q t changed in
     record {
@@ -111,7 +121,7 @@ IsKept-with_shelf v q t old changed kept is sizes stored stay own reads charge r
       size = rw sizes.bytes kept.size;
       blocks = rw sizes.blocks kept.blocks;
       charges = rw sizes.bytes (All-set (λ (s : KeptShelf). s.charge ≡ charge_on v.pool.block_size (shelf_of s)) v.shelves.items t changed charge kept.charges);
-      room = All-set (λ (s : KeptShelf). v.room ≤ vec_capacity s.uploads) v.shelves.items t changed room kept.room;
+      room = All-set (HasRoom v.room) v.shelves.items t changed room kept.room;
     }
   where
     others : (k : ℕ) (other : Shelf) → IsShelf (store_of v).shelves k other → k ≢ t → ReadsWhole q (pieces_of other)

@@ -1,5 +1,5 @@
 -- The store at the start.
-use Rattle.std.proofs.Common.{◌≡◌, ℕ, zero, suc, ◌+◌, ◌<◌, ◌≤◌, ◌^◌, List, [], ◌∷◌, ◌++◌, map, length, get_or, slice_get, take, vec_capacity, Some, add-one, refl, ap, sym, ◌∙◌, subst, arith, rules}
+use Rattle.std.proofs.Common.{◌≡◌, ℕ, zero, suc, ◌+◌, ◌<◌, ◌^◌, List, [], ◌∷◌, ◌++◌, map, length, get_or, slice_get, take, Some, add-one, refl, ap, sym, ◌∙◌, subst, arith, rules}
 use Rattle.std.specs.List.{All}
 use Rattle.std.proofs.Math.ListN.{length-map}
 use Rattle.std.proofs.lemmas.List.{map-append, get_or-map}
@@ -9,7 +9,7 @@ use Rattle.upload_book.specs.Charge.{sum_below}
 use Rattle.upload_book.specs.declared.settings.TenantQuota.{TenantQuota}
 use Rattle.upload_book.specs.declared.shelf.Shelf.{Shelf as KeptShelf}
 use Rattle.upload_book.specs.declared.store.Store.TheInside.{Inside}
-use Rattle.upload_book.specs.Kept.{shelf_of, store_of, IsKept}
+use Rattle.upload_book.specs.Kept.{shelf_of, store_of, HasRoom, IsKept}
 use Rattle.upload_book.specs.Store.{opening_shelves}
 use Rattle.upload_book.specs.Stored.{Shelf, pieces_of, charge_on, ReadsWhole, HasOwnPiece}
 use Rattle.upload_book.specs.TenantBook.{opening_part}
@@ -50,7 +50,7 @@ empty_charge size shelf empty =
 
 -- the store is kept
 pub IsKept-opening : (v : Inside) (tenants : List TenantQuota) → (store_of v).shelves ≡ opening_shelves tenants → ((b : ℕ) → count_at v.pool b ≡ 0) → 0 < v.pool.block_size → size_of v.pool < 2 ^ 64
-    → All (λ (t : KeptShelf). t.charge ≡ 0) v.shelves.items → All (λ (t : KeptShelf). v.room ≤ vec_capacity t.uploads) v.shelves.items → IsKept v
+    → All (λ (t : KeptShelf). t.charge ≡ 0) v.shelves.items → All (HasRoom v.room) v.shelves.items → IsKept v
 IsKept-opening v tenants opens free size few charges room =
     let none : All (λ (s : Shelf). s.uploads ≡ []) (store_of v).shelves = subst (All (λ (s : Shelf). s.uploads ≡ [])) (sym opens) (no_uploads tenants) in
     record {

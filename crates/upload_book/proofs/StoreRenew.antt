@@ -1,12 +1,12 @@
 -- The store where an upload is told its length and its end.
-use Rattle.std.proofs.Common.{◌≡◌, ◌≢◌, ℕ, ◌≤◌, List, [], ◌∷◌, ◌++◌, set, vec_capacity, Option, refl, sym, ap, ◌∙◌, subst, append-nil}
+use Rattle.std.proofs.Common.{◌≡◌, ◌≢◌, ℕ, List, [], ◌∷◌, ◌++◌, set, Option, refl, sym, ap, ◌∙◌, subst, append-nil}
 use Rattle.std.specs.List.{All}
 use Rattle.std.proofs.lemmas.List.Elements.{All-set}
 use Rattle.upload_book.specs.Charge.{charge_with}
 use Rattle.upload_book.specs.declared.head_row.Kind.TheVariants.{Final}
 use Rattle.upload_book.specs.declared.shelf.Shelf.{Shelf as KeptShelf}
 use Rattle.upload_book.specs.declared.store.Store.TheInside.{Inside}
-use Rattle.upload_book.specs.Kept.{shelf_of, store_of, IsKept}
+use Rattle.upload_book.specs.Kept.{shelf_of, store_of, HasRoom, IsKept}
 use Rattle.upload_book.specs.Store.{plain_in, part_at, with_head, with_upload, with_bytes}
 use Rattle.upload_book.specs.Stored.{Shelf, StoredUpload, part_of, upload_of, pieces_of, own_chain, charge_on, IsStored, ReadsWhole, HasOwnPiece}
 use Rattle.upload_book.specs.TenantBook.{Entry}
@@ -26,7 +26,7 @@ pub record IsRenewed (v : Inside) (t i : ℕ) (old changed : KeptShelf) (e : Ent
   pub next : changed.next ≡ old.next
   pub charge : changed.charge ≡ old.charge
   pub uploads : changed.uploads.items ≡ set old.uploads.items i (with_head e declared expires)
-  pub room : v.room ≤ vec_capacity changed.uploads
+  pub room : HasRoom v.room changed
 
 module _ (v : Inside) (t i : ℕ) (old changed : KeptShelf) (e : Entry StoredUpload) (declared expires : Option ℕ) (kept : IsKept v) (is : IsRenewed v t i old changed e declared expires) where
   shelf : shelf_of changed ≡ with_entry (shelf_of old) i (with_head e declared expires)

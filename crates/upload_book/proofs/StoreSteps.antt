@@ -1,13 +1,14 @@
 -- What each call of the store keeps, does to what the plain book sees, and to what the tenant pays.
-use Rattle.std.proofs.Common.{◌≡◌, ℕ, ◌+◌, ◌≤◌, [], ◌∷◌, ◌++◌, length, set, vec_capacity, refl, sym, ap, ◌∙◌, subst, inl, inr}
+use Rattle.std.proofs.Common.{◌≡◌, ◌≢◌, ℕ, ◌+◌, [], ◌∷◌, ◌++◌, length, set, refl, sym, ap, ◌∙◌, subst, inl, inr}
 use Rattle.std.specs.List.{All, Contains}
 use Rattle.std.proofs.lemmas.List.Elements.{All-push}
 use Rattle.block_bodies.specs.Bodies.{content_of}
 use Rattle.upload_book.specs.Charge.{charge_with}
+use Rattle.upload_book.specs.declared.head_row.Kind.TheVariants.{Final}
 use Rattle.upload_book.specs.declared.shelf.Shelf.{Shelf as KeptShelf}
 use Rattle.upload_book.specs.declared.store.Store.TheInside.{Inside}
-use Rattle.upload_book.specs.Kept.{shelf_of, store_of, IsKept}
-use Rattle.upload_book.specs.Store.{plain_in, part_at, IsNew}
+use Rattle.upload_book.specs.Kept.{shelf_of, store_of, HasRoom, IsKept}
+use Rattle.upload_book.specs.Store.{plain_in, part_at}
 use Rattle.upload_book.specs.declared.piece.Piece.{Piece}
 use Rattle.upload_book.specs.Stored.{Shelf, StoredUpload, part_of, pieces_of, own_chain, upload_of, charge_on, IsStored, ReadsWhole, HasOwnPiece}
 use Rattle.upload_book.specs.TenantBook.{Entry, with_new}
@@ -17,25 +18,28 @@ use Rattle.upload_book.proofs.PlainShelves.{part-with_new}
 use Rattle.upload_book.proofs.PutLemmas.{own_piece}
 use Rattle.upload_book.proofs.StoreLemmas.{with_shelf, IsPart, IsShelf-part, shelf_at-part, own-part, reads-part, charge-part, charge_with-part, IsKept-with_shelf, plain_in-with_shelf, with_shelf-part}
 
--- a part with one more upload
+-- an upload that has no bytes
+pub record IsEmpty (e : Entry StoredUpload) : Type 0 where
+  pub own : e.kept.kind ≢ Final
+  pub empty : (own_chain e.kept.pieces).blocks ≡ []
+  pub none : (own_chain e.kept.pieces).len ≡ 0
+  pub piece : HasOwnPiece e
+
+-- a part with one more, which has the next id
 pub record IsPushed (v : Inside) (t : ℕ) (old changed : KeptShelf) (e : Entry StoredUpload) : Type 0 where
   pub part : IsPart v t old
-  pub new : IsNew (store_of v) t e
+  pub id : e.id ≡ old.next
+  pub new : IsEmpty e
   pub quota : changed.quota ≡ old.quota
   pub next : changed.next ≡ old.next + 1
   pub charge : changed.charge ≡ old.charge
   pub uploads : changed.uploads.items ≡ old.uploads.items ++ e ∷ []
-  pub room : v.room ≤ vec_capacity changed.uploads
-
--- its id is the next one
-pushed-id : (v : Inside) (t : ℕ) (old changed : KeptShelf) (e : Entry StoredUpload) → IsPushed v t old changed e → e.id ≡ old.next
-pushed-id v t old changed e is =
-    is.new.id ∙ ap (λ (s : Shelf). s.next) (shelf_at-part v t old is.part)
+  pub room : HasRoom v.room changed
 
 -- it is the shelf with a new upload
 pushed-shelf : (v : Inside) (t : ℕ) (old changed : KeptShelf) (e : Entry StoredUpload) → IsPushed v t old changed e → shelf_of changed ≡ with_new (shelf_of old) e.kept
 pushed-shelf v t old changed e is =
-    let entry : e ≡ record { id = old.next; kept = e.kept } = ap (λ (id : ℕ). record e { id = id }) (pushed-id v t old changed e is) in
+    let entry : e ≡ record { id = old.next; kept = e.kept } = ap (λ (id : ℕ). record e { id = id }) is.id in
     let uploads : changed.uploads.items ≡ old.uploads.items ++ record { id = old.next; kept = e.kept } ∷ [] =
     is.uploads ∙ ap (λ (e : Entry StoredUpload). old.uploads.items ++ e ∷ []) entry in
     rw (is.quota, is.next, uploads) refl
@@ -43,7 +47,7 @@ pushed-shelf v t old changed e is =
 -- its piece is its own
 pushed-piece : (v : Inside) (t : ℕ) (old changed : KeptShelf) (e : Entry StoredUpload) → IsPushed v t old changed e → e.kept.pieces ≡ own_piece (shelf_of old).next (own_chain e.kept.pieces) ∷ []
 pushed-piece v t old changed e is =
-    is.new.piece is.new.own ∙ ap (λ (id : ℕ). own_piece id (own_chain e.kept.pieces) ∷ []) (pushed-id v t old changed e is)
+    is.new.piece is.new.own ∙ ap (λ (id : ℕ). own_piece id (own_chain e.kept.pieces) ∷ []) is.id
 
 -- its pieces read whole
 pushed-reads : (v : Inside) (t : ℕ) (old changed : KeptShelf) (e : Entry StoredUpload) → IsKept v → IsPushed v t old changed e → ReadsWhole v.pool (pieces_of (with_new (shelf_of old) e.kept))

@@ -1,5 +1,5 @@
 -- How a store keeps the uploads of all tenants.
-use Rattle.std.specs.Prelude.{◌≡◌, ◌≤◌, ◌<◌, ◌^◌, ℕ, length, map, vec_capacity, All, Option, Some, Ok, slice_index_or}
+use Rattle.std.specs.Prelude.{◌≡◌, ◌+◌, ◌≤◌, ◌<◌, ◌^◌, ℕ, length, map, vec_len, vec_capacity, All, Option, Some, Ok, slice_index_or}
 use Rattle.block_pool.specs.Blocks.{size_of}
 use Rattle.upload_book.specs.declared.shelf.Shelf.{Shelf as KeptShelf}
 use Rattle.upload_book.specs.declared.store.Store.TheInside.{Inside}
@@ -19,6 +19,13 @@ store_of s = record {
   room = s.room;
 }
 
+-- There is room for so many uploads of a tenant, and there are as many boxes for texts: each upload has one, and the
+-- others are spare. So no box is lost, and one is spare where an upload may be added.
+pub record HasRoom (room : ℕ) (t : KeptShelf) : Type 0 where
+  pub uploads : room ≤ vec_capacity t.uploads
+  pub spare : room ≤ vec_capacity t.spare
+  pub boxes : vec_len t.uploads + vec_len t.spare ≡ room
+
 -- The blocks are kept as they should be, each upload that is not final has its own piece, each part knows what its
 -- tenant pays and has room for as many uploads as it may have.
 pub record IsKept (s : Inside) : Type 0 where
@@ -28,7 +35,7 @@ pub record IsKept (s : Inside) : Type 0 where
   pub size : 0 < s.pool.block_size
   pub blocks : size_of s.pool < 2 ^ 64
   pub charges : All (λ (t : KeptShelf). t.charge ≡ charge_on s.pool.block_size (shelf_of t)) s.shelves.items
-  pub room : All (λ (t : KeptShelf). s.room ≤ vec_capacity t.uploads) s.shelves.items
+  pub room : All (HasRoom s.room) s.shelves.items
 
 -- a part of a concatenation that is named so is, at this moment, the partial upload at this place
 pub record IsPartAt (shelf : Shelf) (named : Option ℕ) (now place : ℕ) : Type 0 where

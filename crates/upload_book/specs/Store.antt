@@ -10,7 +10,7 @@ use Rattle.upload_book.specs.declared.head_row.Kind.TheVariants.{Plain, Final}
 use Rattle.upload_book.specs.declared.piece.Piece.{Piece}
 use Rattle.upload_book.specs.declared.settings.TenantQuota.{TenantQuota}
 use Rattle.upload_book.specs.NewFinal.{NewFinal}
-use Rattle.upload_book.specs.Stored.{Shelf, StoredUpload, HasOwnPiece, block_at, own_chain, part_kept, part_of, parts_kept, segment_of, upload_of}
+use Rattle.upload_book.specs.Stored.{Shelf, StoredUpload, block_at, part_kept, part_of, parts_kept, segment_of, upload_of}
 use Rattle.upload_book.specs.TenantBook.{TenantBook, TenantPart, Entry, kept_in, opening_part, visible_upload}
 use Rattle.upload_book.specs.Upload.{Upload, content_of}
 
@@ -102,14 +102,6 @@ pub record IsAlone (s : Store) (tenant place : ℕ) : Type 0 where
   pub own : (entry_at s tenant place).kept.kind ≢ Final
   pub ids : IsStrictlyIncreasing (map {A = Entry Upload} {B = ℕ} (λ e. e.id) (part_at s tenant).uploads)
   pub parts : All (λ e. e.kept.kind ≡ Final → All (λ o. o ≢ (entry_at s tenant place).id) e.kept.parts) (part_at s tenant).uploads
-
--- a new upload that has no bytes, under the next id of the tenant
-pub record IsNew (s : Store) (tenant : ℕ) (e : Entry StoredUpload) : Type 0 where
-  pub id : e.id ≡ (shelf_at s tenant).next
-  pub own : e.kept.kind ≢ Final
-  pub empty : (own_chain e.kept.pieces).blocks ≡ []
-  pub none : (own_chain e.kept.pieces).len ≡ 0
-  pub piece : HasOwnPiece e
 
 -- the upload with another list of its blocks
 abbrev pub with_chain : Entry StoredUpload → Chain → Entry StoredUpload

@@ -11,7 +11,6 @@ use crate::moment::Moment;
 use crate::refusal::Refusal;
 use crate::settings::Numbers;
 use crate::store::Store;
-use crate::stored_upload::StoredUpload;
 use std::marker::Model;
 
 /// The upload that a creation asks for (tus 1.0.0, Creation and Concatenation). A contract sees its texts
@@ -69,9 +68,7 @@ impl Book {
             return Err(refusal);
         }
         let id = self.store.next(place);
-        let upload = StoredUpload::new(self.alloc, numbers, id, &new, now);
-        let expires = upload.expires();
-        self.store.push(place, upload);
+        let expires = self.store.create(self.alloc, place, numbers, &new, now);
         Ok(Created {
             name: Name { tenant, id },
             expires,

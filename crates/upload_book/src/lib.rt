@@ -27,6 +27,7 @@ mod store;
 mod stored_upload;
 mod sweep;
 mod terminate;
+mod texts;
 
 pub use append::{Appended, Chunk, Refused};
 pub use book::Book;

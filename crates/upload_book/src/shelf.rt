@@ -1,24 +1,43 @@
 ghost use Rattle.std.specs.Prelude.{◌≡◌, ◌==◌, None, IfOk, IfErr, IfSome, IfNone, position};
 ghost use Rattle.upload_book.specs.Stored.{part_kept};
-ghost use Rattle.upload_book.specs.TenantBook.{visible_in};
+ghost use Rattle.upload_book.specs.TenantBook.{opening_part, visible_in};
 
 use crate::head_row::Kind;
 use crate::moment::Moment;
 use crate::refusal::Refusal;
 use crate::stored_upload::StoredUpload;
+use crate::texts::Texts;
+use std::alloc::{AllocError, Global};
 
 /// A tenant's part of the book: its quota in blocks, the id that its next upload gets, the blocks that it
-/// pays, and its uploads by ascending id.
+/// pays, its uploads by ascending id, and the boxes for the texts of as many more as it may have.
 #[derive(Drop)]
 pub(crate) struct Shelf {
     pub(crate) quota: u64,
     pub(crate) next: u64,
     pub(crate) charge: u64,
     pub(crate) uploads: Vec<StoredUpload>,
+    pub(crate) spare: Vec<Box<Texts>>,
 }
 
 impl Shelf {
-    ghost use Rattle.upload_book.specs.Kept.{shelf_of, IsPartAt, IsVisibleAt};
+    ghost use Rattle.upload_book.specs.Kept.{shelf_of, HasRoom, IsPartAt, IsVisibleAt};
+
+    /// The part of a tenant that has no upload yet, with room for so many. All memory for them is taken here, but
+    /// for the lists of their blocks; the error is that there was too little.
+    pub(crate) fn new(alloc: Global, quota: u64, room: usize) -> Result<Shelf, AllocError>
+        ensures shelf { IfOk result (λ t. shelf_of t ≡ opening_part quota) }
+        ensures charge { IfOk result (λ t. t.charge ≡ 0) }
+        ensures room { IfOk result (HasRoom room) }
+    {
+        Ok(Shelf {
+            quota,
+            next: 1,
+            charge: 0,
+            uploads: Vec::with_capacity(alloc, room)?,
+            spare: Texts::boxes(alloc, room)?,
+        })
+    }
 
     /// The place of the upload that a request for `id` sees at `now`. It is Unknown where the id was
     /// never given, and Gone where its upload has ended or expired. It goes over the uploads once.

@@ -1,30 +1,32 @@
-ghost use Rattle.std.specs.Prelude.{◌≡◌, ◌≢◌, ◌+◌, ◌-◌, ◌<◌, ◌≤◌, ◌^◌, [], length, map, min, set, vec_capacity, All, None, IfOk, IfErr, IfSome, IfNone, IsOk, IsTrue, OnOk, OnErr};
+ghost use Rattle.std.specs.Prelude.{◌≡◌, ◌≢◌, ◌+◌, ◌-◌, ◌<◌, ◌≤◌, ◌^◌, [], length, map, min, set, All, None, IfOk, IfErr, IfSome, IfNone, IsOk, IsTrue, OnOk, OnErr};
 ghost use Rattle.std.specs.List.{sum_by};
 ghost use Rattle.block_pool.specs.Blocks.{IsWithinLimits, all_free, free_in, size_of};
 ghost use Rattle.upload_book.specs.Account.{blocks_between};
 ghost use Rattle.upload_book.specs.Charge.{charge_with};
 ghost use Rattle.upload_book.specs.Concat.{are_complete, are_there, final_upload, joined_len, parts_found};
+ghost use Rattle.upload_book.specs.Create.{created_upload, new_kind};
 ghost use Rattle.upload_book.specs.Lawful.{IsConcatText, is_kept_metadata};
 ghost use Rattle.upload_book.specs.Expiry.{is_over};
 ghost use Rattle.upload_book.specs.Sweep.{part_after_sweep};
 ghost use Rattle.upload_book.specs.declared.head_row.Kind.TheVariants.{Final};
-ghost use Rattle.upload_book.specs.Kept.{shelf_of};
+ghost use Rattle.upload_book.specs.Kept.{shelf_of, HasRoom};
 ghost use Rattle.upload_book.specs.Settings.{settings_fault};
 ghost use Rattle.upload_book.specs.Standing.{standing_in};
-ghost use Rattle.upload_book.specs.Store.{opening_shelves, plain_in, shelf_at, part_at, pieces_named, entry_at, holders_at, rows_at, upload_at, with_bytes, with_upload, without_upload, AreFew, IsAlone, IsNew, IsPartIn, IsVisibleIn, Joins};
-ghost use Rattle.upload_book.specs.Stored.{as_piece, part_kept, segment_of, upload_of, IsStored};
+ghost use Rattle.upload_book.specs.Store.{opening_shelves, plain_in, shelf_at, part_at, pieces_named, entry_at, holders_at, rows_at, upload_at, with_bytes, with_upload, without_upload, AreFew, IsAlone, IsPartIn, IsVisibleIn, Joins};
+ghost use Rattle.upload_book.specs.Stored.{as_piece, part_kept, segment_of, IsStored};
 ghost use Rattle.block_bodies.specs.Changes.{SameSizes};
 ghost use Rattle.upload_book.specs.TenantBook.{visible_upload, with_new};
 ghost use Rattle.upload_book.specs.Upload.{content_of, head_row_of, offset_of};
 
 use crate::concat::NewFinal;
+use crate::create::NewUpload;
 use crate::head_row::{HeadRow, Name};
 use crate::joined::hold_each;
 use crate::moment::Moment;
 use crate::parts_seen::PartsSeen;
 use crate::piece::UnheldPiece;
 use crate::refusal::Refusal;
-use crate::settings::Settings;
+use crate::settings::{Numbers, Settings};
 use crate::shelf::Shelf;
 use crate::standing::Standing;
 use crate::stored_upload::StoredUpload;
@@ -166,22 +168,36 @@ impl Store {
         self.shelves[tenant].uploads[place].read(alloc, &self.pool)
     }
 
-    /// Keeps a new upload, which has no bytes, as the tenant's next one. It takes no memory.
-    pub(crate) fn push(&mut self, tenant: usize, upload: StoredUpload)
+    /// Creates an upload, which has no bytes, as the tenant's next one. Gives when it expires, if it does. It takes
+    /// no memory: its texts get a box that is spare.
+    pub(crate) fn create(
+        &mut self,
+        alloc: Global,
+        tenant: usize,
+        numbers: &Numbers,
+        new: &NewUpload,
+        now: Moment,
+    ) -> Option<Moment>
         requires tenant { tenant < length self.old.shelves }
         requires room { length (shelf_at self.old tenant).uploads < self.old.room }
         requires id { (shelf_at self.old tenant).next + 1 < 2 ^ 64 }
-        requires new { IsNew self.old tenant upload }
+        requires metadata { IsTrue (is_kept_metadata new.now.metadata) }
+        requires concat { IsConcatText (new_kind new.now.partial) new.now.concat }
+        ensures expires { result ≡ (created_upload numbers.now new.now now).expires }
         ensures plain { plain_in self.new ≡ set (plain_in self.old) tenant
-            (with_new (part_at self.old tenant) (upload_of self.old.pool upload.kept)) }
+            (with_new (part_at self.old tenant) (created_upload numbers.now new.now now)) }
         ensures pool { self.new.pool ≡ self.old.pool }
         ensures room_stays { self.new.room ≡ self.old.room }
         ensures charge { charge_with self.old.pool.block_size (part_at self.new tenant)
             ≡ charge_with self.old.pool.block_size (part_at self.old tenant) }
     {
         let shelf = &mut self.shelves[tenant];
+        let texts = shelf.spare.pop().unwrap();
+        let upload = StoredUpload::new(alloc, numbers, shelf.next, new, now, texts);
+        let expires = upload.expires();
         shelf.uploads.push_reserved(upload);
         shelf.next += 1;
+        expires
     }
 
     /// The place of the upload that a part of a concatenation names, where it is a partial one that a request
@@ -271,7 +287,8 @@ impl Store {
         let mut pieces = Vec::with_capacity(alloc, unheld.len())?;
         hold_each(unheld, &mut self.pool, &mut pieces);
         let shelf = &mut self.shelves[tenant];
-        let upload = StoredUpload::joined(shelf.next, new, pieces, len);
+        let texts = shelf.spare.pop().unwrap();
+        let upload = StoredUpload::joined(shelf.next, new, pieces, len, texts);
         shelf.uploads.push_reserved(upload);
         shelf.next += 1;
         Ok(())
@@ -355,7 +372,9 @@ impl Store {
         ensures room_stays { self.new.room ≡ self.old.room }
     {
         let shelf = &mut self.shelves[tenant];
-        let freed = shelf.uploads.remove(place).give_back(&mut self.pool);
+        let upload = shelf.uploads.remove(place);
+        let (freed, texts) = upload.give_back(&mut self.pool);
+        shelf.spare.push_reserved(texts);
         shelf.charge -= freed;
         freed
     }
@@ -441,17 +460,12 @@ impl Store {
 fn empty_shelves(alloc: Global, settings: &Settings) -> Result<Vec<Shelf>, AllocError>
     ensures shelves { IfOk result (λ v. map shelf_of v.items ≡ opening_shelves settings.now.tenants) }
     ensures charges { IfOk result (λ v. All (λ t. t.charge ≡ 0) v.items) }
-    ensures room { IfOk result (λ v. All (λ t. settings.now.numbers.uploads ≤ vec_capacity t.uploads) v.items) }
+    ensures room { IfOk result (λ v. All (HasRoom settings.now.numbers.uploads) v.items) }
 {
     let room = settings.numbers().uploads as usize;
     let mut shelves = Vec::with_capacity(alloc, settings.tenant_count())?;
     for place in 0..settings.tenant_count() {
-        shelves.push_reserved(Shelf {
-            quota: settings.quota(place),
-            next: 1,
-            charge: 0,
-            uploads: Vec::with_capacity(alloc, room)?,
-        });
+        shelves.push_reserved(Shelf::new(alloc, settings.quota(place), room)?);
     }
     Ok(shelves)
 }

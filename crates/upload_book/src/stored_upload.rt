@@ -21,21 +21,20 @@ use crate::moment::Moment;
 use crate::piece::{Piece, UnheldPiece};
 use crate::settings::Numbers;
 use crate::standing::Standing;
+use crate::texts::Texts;
 use block_bodies::{Body, BodyFault};
 use block_pool::{BlockId, Pool};
 use std::alloc::{AllocError, Global};
 use std::marker::Model;
-use tus_text::Text;
 
-/// An upload under its id, with its bytes in blocks.
+/// An upload under its id, with its bytes in blocks. Its row is short: its texts lie in a box.
 #[derive(Drop)]
 pub(crate) struct StoredUpload {
     id: u64,
     held: Held,
     declared: Option<u64>,
-    metadata: Text<1024>,
-    concat: Text<2048>,
     expires: Option<Moment>,
+    texts: Box<Texts>,
 }
 
 impl Model for StoredUpload {
@@ -51,8 +50,8 @@ impl Model for StoredUpload {
         kind = kind_of u.held;
         declared = u.declared;
         pieces = pieces_in u.id u.held;
-        metadata = u.metadata;
-        concat = u.concat;
+        metadata = u.texts.value.metadata;
+        concat = u.texts.value.concat;
         expires = u.expires;
       };
     } };
@@ -61,13 +60,15 @@ impl Model for StoredUpload {
 }
 
 impl StoredUpload {
-    /// A new upload, which has no bytes and takes no memory.
+    /// A new upload, which has no bytes. It takes no memory: its texts are written into this box, whatever the box
+    /// had before.
     pub(crate) fn new(
         alloc: Global,
         numbers: &Numbers,
         id: u64,
         new: &NewUpload,
         now: Moment,
+        mut texts: Box<Texts>,
     ) -> StoredUpload
         requires metadata { IsTrue (is_kept_metadata new.now.metadata) }
         requires concat { IsConcatText (new_kind new.now.partial) new.now.concat }
@@ -83,6 +84,7 @@ impl StoredUpload {
             Kind::Plain
         };
         let is_complete = new.length == Some(0);
+        texts.set(new.metadata, new.concat);
         StoredUpload {
             id,
             held: Held::Own {
@@ -90,26 +92,32 @@ impl StoredUpload {
                 body: Body::empty(alloc),
             },
             declared: new.length,
-            metadata: Text::of(new.metadata),
-            concat: Text::of(new.concat),
             expires: renewed(kind, is_complete, None, lifetime_end(numbers, now)),
+            texts,
         }
     }
 
-    /// A final upload of these pieces, which are so many bytes together.
-    pub(crate) fn joined(id: u64, new: &NewFinal, pieces: Vec<Piece>, len: u64) -> StoredUpload
+    /// A final upload of these pieces, which are so many bytes together. Its texts are written into this box,
+    /// whatever the box had before.
+    pub(crate) fn joined(
+        id: u64,
+        new: &NewFinal,
+        pieces: Vec<Piece>,
+        len: u64,
+        mut texts: Box<Texts>,
+    ) -> StoredUpload
         requires metadata { IsTrue (is_kept_metadata new.now.metadata) }
         requires concat { IsConcatText Final new.now.concat }
         requires len { len ≡ pieces_len pieces.items }
         ensures { result ≡ record { id = id; kept = final_of new.now pieces.items } }
     {
+        texts.set(new.metadata, new.concat);
         StoredUpload {
             id,
             held: Held::Joined { len, pieces },
             declared: Some(len),
-            metadata: Text::of(new.metadata),
-            concat: Text::of(new.concat),
             expires: None,
+            texts,
         }
     }
 
@@ -164,8 +172,8 @@ impl StoredUpload {
             kind: self.kind(),
             offset: self.offset(),
             declared: self.declared,
-            metadata: self.metadata.copied(),
-            concat: self.concat.copied(),
+            metadata: self.texts.metadata.copied(),
+            concat: self.texts.concat.copied(),
             expires: self.expires,
         }
     }
@@ -266,15 +274,18 @@ impl StoredUpload {
         self.expires = expires;
     }
 
-    /// Ends the upload: each of its blocks is held once less. Gives how many became free.
-    pub(crate) fn give_back(self, pool: &mut Pool) -> u64
+    /// Ends the upload: each of its blocks is held once less. Gives how many became free, and the box of its texts,
+    /// for another upload.
+    pub(crate) fn give_back(self, pool: &mut Pool) -> (u64, Box<Texts>)
         requires { IsHeld pool.old (placed_in self.kept.pieces) }
-        ensures { GivesBack pool.old (placed_in self.kept.pieces) result pool.new }
+        ensures { GivesBack pool.old (placed_in self.kept.pieces) result.0 pool.new }
     {
-        match self.held {
+        let StoredUpload { held, texts, .. } = self;
+        let freed = match held {
             Held::Own { body, .. } => body.give_back(pool),
             Held::Joined { pieces, .. } => give_back_each(pieces, pool),
-        }
+        };
+        (freed, texts)
     }
 }
 

@@ -1,6 +1,7 @@
-use Rattle.std.proofs.Common.{◌≡◌, ◌≤◌, length, take, vec_capacity, refl, ap, ◌∙◌, arith}
+use Rattle.std.proofs.Common.{◌≡◌, length, take, ap, ◌∙◌, arith}
 use Rattle.std.proofs.lemmas.List.{take_all}
 use Rattle.upload_book.specs.declared.shelf.Shelf.{Shelf as KeptShelf}
+use Rattle.upload_book.specs.Kept.{HasRoom}
 use Rattle.upload_book.specs.Store.{opening_shelves}
 use Rattle.upload_book.proofs.StoreOpen.{shelves-more, each-more}
 use Rattle.upload_book.proofs.store.empty_shelves.Goals as goal
@@ -9,9 +10,9 @@ pub loop-place-preserved : goal.loop-place-preserved
 loop-place-preserved c = record {
   room = omega (arith, c.loop-place.invariant.room, c.push_reserved.ensures.capacity);
   some = omega (arith, c.loop-place.invariant.some, c.push_reserved.ensures.len);
-  opening = shelves-more c.args.settings.now.tenants c.loop-place.shelves.items _ _ c.loop-place.place c.quota.result c.push_reserved.ensures.items (rw c.in_ok-with_capacity.ensures.items refl) c.quota.ensures c.loop-place.invariant.opening;
-  charges = each-more (λ (t : KeptShelf). t.charge ≡ 0) c.loop-place.shelves.items _ _ c.push_reserved.ensures.items refl c.loop-place.invariant.charges;
-  roomy = each-more (λ (t : KeptShelf). c.args.settings.now.numbers.uploads ≤ vec_capacity t.uploads) c.loop-place.shelves.items _ _ c.push_reserved.ensures.items (rw (← c.numbers.ensures.value) c.in_ok-with_capacity.ensures.capacity) c.loop-place.invariant.roomy;
+  opening = shelves-more c.args.settings.now.tenants c.loop-place.shelves.items _ _ c.loop-place.place c.quota.result c.push_reserved.ensures.items c.in_ok-new.ensures.shelf c.quota.ensures c.loop-place.invariant.opening;
+  charges = each-more (λ (t : KeptShelf). t.charge ≡ 0) c.loop-place.shelves.items _ _ c.push_reserved.ensures.items c.in_ok-new.ensures.charge c.loop-place.invariant.charges;
+  roomy = each-more (HasRoom c.args.settings.now.numbers.uploads) c.loop-place.shelves.items _ _ c.push_reserved.ensures.items (rw (← c.numbers.ensures.value) c.in_ok-new.ensures.room) c.loop-place.invariant.roomy;
 }
 
 pub returns-clause-shelves : goal.returns-clause-shelves

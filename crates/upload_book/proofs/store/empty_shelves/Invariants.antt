@@ -1,7 +1,7 @@
-use Rattle.std.proofs.Common.{◌≡◌, ◌≤◌, length, map, take, vec_len, vec_capacity}
+use Rattle.std.proofs.Common.{◌≡◌, length, map, take, vec_len, vec_capacity}
 use Rattle.std.specs.List.{All}
 use Rattle.upload_book.specs.declared.shelf.Shelf.{Shelf as KeptShelf}
-use Rattle.upload_book.specs.Kept.{shelf_of}
+use Rattle.upload_book.specs.Kept.{shelf_of, HasRoom}
 use Rattle.upload_book.specs.Store.{opening_shelves}
 use Rattle.upload_book.specs.Stored.{Shelf}
 use Rattle.upload_book.proofs.store.empty_shelves.Given as goal
@@ -13,5 +13,5 @@ invariant-loop-place l = record {
   some : vec_len l.shelves ≡ l.place;
   opening : map {A = KeptShelf} {B = Shelf} shelf_of l.shelves.items ≡ opening_shelves (take l.place l.settings.tenants);
   charges : All (λ (t : KeptShelf). t.charge ≡ 0) l.shelves.items;
-  roomy : All (λ (t : KeptShelf). l.settings.numbers.uploads ≤ vec_capacity t.uploads) l.shelves.items;
+  roomy : All (HasRoom l.settings.numbers.uploads) l.shelves.items;
 }

@@ -1,15 +1,13 @@
-use Rattle.std.proofs.Common.{◌≡◌, ◌≢◌, ◌<◌, ℕ, ◌+◌, Bool, true, false, length, Option, Some, None, refl, ap, sym, ◌∙◌, arith}
+use Rattle.std.proofs.Common.{◌≡◌, ◌<◌, ℕ, ◌+◌, length, Option, Some, None, refl, ap, sym, ◌∙◌, arith}
 use Rattle.upload_book.specs.contracts.book.Book.{the_view}
 use Rattle.upload_book.specs.Book.{plain_of, IsBook, StoredBook}
-use Rattle.upload_book.specs.Create.{new_kind, creation_refusal, created_upload, part_after_create}
-use Rattle.upload_book.specs.declared.head_row.Kind.TheVariants.{Final}
+use Rattle.upload_book.specs.Create.{creation_refusal, created_upload, part_after_create}
 use Rattle.upload_book.specs.declared.refusal.Refusal.{Refusal}
 use Rattle.upload_book.specs.declared.settings.Numbers.{Numbers}
 use Rattle.upload_book.specs.NewUpload.{NewUpload}
 use Rattle.upload_book.specs.PlainBook.{tenant_book}
 use Rattle.upload_book.specs.Store.{part_at}
 use Rattle.upload_book.specs.TenantBook.{TenantBook}
-use Rattle.upload_book.specs.Upload.{Upload}
 use Rattle.upload_book.proofs.BookLemmas.{book_after-stays}
 use Rattle.upload_book.proofs.BookSteps.{Creates, IsBook-creates, created-follows, part-plain, plain-creates, shelves-settings}
 use Rattle.upload_book.proofs.LawfulSteps.{IsCreatable-from_none}
@@ -45,8 +43,8 @@ there b w t place kept is within at = omega (arith, within, at, shelves-settings
 pub next-id-requires : goal.next-id-requires
 next-id-requires c = there (the_view c.self.inside) c.args.self.now c.args.tenant c.from-place.result c.self.invariant c.self.view_is c.requires.tenant_there c.from-place.ensures
 
-pub push-requires-clause-tenant : goal.push-requires-clause-tenant
-push-requires-clause-tenant c = there (the_view c.self.inside) c.args.self.now c.args.tenant c.from-place.result c.self.invariant c.self.view_is c.requires.tenant_there c.from-place.ensures
+pub create-expires-requires-clause-tenant : goal.create-expires-requires-clause-tenant
+create-expires-requires-clause-tenant c = there (the_view c.self.inside) c.args.self.now c.args.tenant c.from-place.result c.self.invariant c.self.view_is c.requires.tenant_there c.from-place.ensures
 
 -- there is a next id
 next_fits : (b : StoredBook) (t place : ℕ) (new : NewUpload) → IsBook b → place ≡ t → creation_refusal b.settings.numbers (tenant_book (plain_of b) t) new ≡ None → (part_at b.store place).next + 1 < 18446744073709551616
@@ -56,44 +54,30 @@ next_fits b t place new kept at none =
     let same : (part_at b.store place).next ≡ part.next = ap (λ t. (part_at b.store t).next) at ∙ ap (λ (part : TenantBook). part.next) (sym (part-plain b t)) in
     omega (arith, same, can.unspent, last_id-within b.settings kept.lawful.settings)
 
-pub push-requires-clause-id : goal.push-requires-clause-id
-push-requires-clause-id c =
+pub create-expires-requires-clause-id : goal.create-expires-requires-clause-id
+create-expires-requires-clause-id c =
     next_fits (the_view c.self.inside) c.args.tenant c.from-place.result c.args.new c.self.invariant c.from-place.ensures
     (told (the_view c.self.inside) c.numbers-numbers.result.now c.args.tenant c.from-place.result c.args.new c.creation_refusal.result _ c.numbers-numbers.ensures.value c.from-place.ensures c.creation_refusal.ensures c.in_default.is)
 
--- a new upload is not final
-not_final : (partial : Bool) → new_kind partial ≢ Final
-not_final true = λ e. absurd cc
-not_final false = λ e. absurd cc
-
-pub push-requires-clause-new : goal.push-requires-clause-new
-push-requires-clause-new c = record {
-  id = c.new-upload.ensures.id ∙ c.next-id.ensures;
-  own = λ final. not_final c.args.new.partial (sym (ap (λ (u : Upload). u.kind) (c.new-upload.ensures.upload c.self.inside.store.pool)) ∙ final);
-  empty = c.new-upload.ensures.empty;
-  none = c.new-upload.ensures.len;
-  piece = c.new-upload.ensures.piece;
-}
-
 -- the store with the new upload
-creates : (c : goal.After-push) → Creates (the_view c.self.inside) c.push.new.self c.args.tenant c.args.new c.args.now
+creates : (c : goal.After-create-expires) → Creates (the_view c.self.inside) c.create-expires.new.self c.args.tenant c.args.new c.args.now
 creates c =
     let b = the_view c.self.inside in
     let numbers = c.numbers-numbers.ensures.value in
-    let uploads = rw (c.from-place.ensures, c.new-upload.ensures.upload b.store.pool, numbers) at c.push.ensures.plain in
+    let uploads = rw (c.from-place.ensures, numbers) at c.create-expires.ensures.plain in
     record {
       kept = c.self.invariant;
       within = there b c.args.self.now c.args.tenant c.args.tenant c.self.invariant c.self.view_is c.requires.tenant_there refl;
       texts = record { metadata = c.requires.metadata; concat = c.requires.concat };
       none = told b c.numbers-numbers.result.now c.args.tenant c.from-place.result c.args.new c.creation_refusal.result _ numbers c.from-place.ensures c.creation_refusal.ensures c.in_default.is;
-      follows = created-follows b c.push.new.self c.args.tenant c.args.new c.args.now uploads c.push.ensures.pool c.push.ensures.room_stays;
+      follows = created-follows b c.create-expires.new.self c.args.tenant c.args.new c.args.now uploads c.create-expires.ensures.pool c.create-expires.ensures.room_stays;
     }
 
 pub invariant_of-self : goal.invariant_of-self
-invariant_of-self c = IsBook-creates (the_view c.self.inside) c.push.new.self c.args.tenant c.args.new c.args.now (creates c)
+invariant_of-self c = IsBook-creates (the_view c.self.inside) c.create-expires.new.self c.args.tenant c.args.new c.args.now (creates c)
 
 pub returns-clause-after : goal.returns-clause-after
-returns-clause-after c = rw (← c.self.view_is) (plain-creates (the_view c.self.inside) c.push.new.self c.args.tenant c.args.new c.args.now (creates c))
+returns-clause-after c = rw (← c.self.view_is) (plain-creates (the_view c.self.inside) c.create-expires.new.self c.args.tenant c.args.new c.args.now (creates c))
 
 -- the id and the end of the new upload
 name_told : (b : StoredBook) (t place id : ℕ) → place ≡ t → id ≡ (part_at b.store place).next → id ≡ (tenant_book (plain_of b) t).next
@@ -104,5 +88,5 @@ returns-clause-answer c =
     let b = the_view c.self.inside in
     let f = creates c in
     let id = name_told b c.args.tenant c.from-place.result c.next-id.result c.from-place.ensures c.next-id.ensures in
-    let expires = c.expires-expires.ensures ∙ ap (λ (u : Upload). u.expires) (c.new-upload.ensures.upload b.store.pool) ∙ ap (λ n. (created_upload n c.args.new c.args.now).expires) c.numbers-numbers.ensures.value in
+    let expires = c.create-expires.ensures.expires ∙ ap (λ n. (created_upload n c.args.new c.args.now).expires) c.numbers-numbers.ensures.value in
     rw (← c.self.view_is, id, expires) (sym (create_answer-none c.args.tenant b.settings.numbers (tenant_book (plain_of b) c.args.tenant) c.args.new c.args.now f.none))

@@ -15,7 +15,7 @@ use Rattle.upload_book.specs.Stored.{StoredUpload, own_chain}
 use Rattle.upload_book.specs.TenantBook.{TenantBook, Entry}
 use Rattle.upload_book.specs.Upload.{Upload, offset_of}
 use Rattle.upload_book.proofs.StoreAppend.{PutsIn, IsPutIn, alone-read, body-read, last-read, needs-read, free-read, charge-few, IsKept-put, plain-put, charge-put}
-use Rattle.upload_book.proofs.StoreLemmas.{OnErr-of, IsPart, IsPart-read, IsEntry-read, own-kind, at-place, room-part, store_of-same}
+use Rattle.upload_book.proofs.StoreLemmas.{OnErr-of, IsPart, IsPart-read, IsEntry-read, own-kind, at-place, room-part, room-changed, store_of-same}
 use Rattle.upload_book.proofs.StoreRenew.{IsRenewed, IsKept-renewed}
 use Rattle.upload_book.proofs.store.Store.append.Goals as goal
 
@@ -94,7 +94,7 @@ stays c =
       next = refl;
       charge = refl;
       uploads = ap (set c.index_mut-shelf.result.now.uploads.items c.args.place) c.in_err-taken.ensures.unchanged;
-      room = room-part c.self.inside c.args.tenant c.index_mut-shelf.result.now c.self.invariant part;
+      room = room-changed c.self.inside.room c.index_mut-shelf.result.now c.args.place _ c.put.new.self (room-part c.self.inside c.args.tenant c.index_mut-shelf.result.now c.self.invariant part);
     }
 
 pub invariant_of-self : goal.invariant_of-self
@@ -145,7 +145,7 @@ is_put c = record {
   next = refl;
   charge = refl;
   uploads = ap (set c.index_mut-shelf.result.now.uploads.items c.args.place) (c.renew.ensures ∙ ap (λ e. with_head e c.args.declared c.args.expires) c.in_ok-taken.ensures.upload);
-  room = room-part c.self.inside c.args.tenant c.index_mut-shelf.result.now c.self.invariant (puts c).part;
+  room = room-changed c.self.inside.room c.index_mut-shelf.result.now c.args.place _ c.renew.new.self (room-part c.self.inside c.args.tenant c.index_mut-shelf.result.now c.self.invariant (puts c).part);
   more = c.in_ok-taken.ensures.taken;
 }
 

@@ -8,7 +8,7 @@ use Rattle.upload_book.specs.Store.{Store, AreFew, rows_at}
 use Rattle.upload_book.specs.Stored.{StoredUpload, as_piece}
 use Rattle.upload_book.specs.TenantBook.{Entry}
 use Rattle.upload_book.proofs.StoreJoin.{JoinsIn, JoinsIn-held, IsJoined, joined-held, joined-len, listed-read, part-there, IsKept-joined, plain-joined, charge-joined, Joins-joined}
-use Rattle.upload_book.proofs.StoreLemmas.{IsPart-read, room-part}
+use Rattle.upload_book.proofs.StoreLemmas.{IsPart-read, room-part, spare-some}
 use Rattle.upload_book.proofs.store.Store.join.Goals as goal
 
 -- the parts that are named, as the call sees them
@@ -23,6 +23,12 @@ hold_each-requires-clause-held c =
     let segments = listed-read v c.args.self.now c.args.tenant found.0 c.new.inside.parts.now c.args.new.now.parts c.args.now pieces c.self.view_is found.1 (parts_named c) c.in_ok-unheld.ensures.pieces in
     joined-held v c.args.tenant found.0 c.args.new.now.parts c.args.now pieces c.self.invariant found.1 (subst (λ (s : Store). AreFew s c.args.tenant) (sym c.self.view_is) c.requires.few) segments
     (omega (arith, c.in_ok-unheld.ensures.few, c.requires.parts, ap (λ (named : List (Option ℕ)). length named) (parts_named c), length-map c.in_ok-unheld.unheld.items as_piece))
+
+-- there is a box for the texts
+pub unwrap-texts-requires : goal.unwrap-texts-requires
+unwrap-texts-requires c =
+    let part = IsPart-read c.self.inside c.args.self.now c.args.tenant c.index_mut-shelf.result.now c.self.view_is c.requires.tenant c.index_mut-shelf.ensures.value in
+    c.pop.ensures.variant.1 (spare-some c.self.inside c.args.self.now c.args.tenant c.index_mut-shelf.result.now c.self.invariant c.self.view_is part c.requires.room)
 
 pub joined-upload-requires-clause-len : goal.joined-upload-requires-clause-len
 joined-upload-requires-clause-len c =
@@ -41,7 +47,11 @@ joins c =
 
 -- the part with the upload
 after : goal.After-self-1 → KeptShelf
-after c = record (c.index_mut-shelf.result.now) { next = c.index_mut-shelf.result.now.next + 1; uploads = c.push_reserved.new.self }
+after c = record (c.index_mut-shelf.result.now) {
+  next = c.index_mut-shelf.result.now.next + 1;
+  uploads = c.push_reserved.new.self;
+  spare = c.pop.new.self;
+}
 
 joined : (c : goal.After-self-1) → IsJoined c.self.inside c.index_mut-shelf.result.now (after c) c.args.new.now c.hold_each.new.pieces.items
 unfolding after
@@ -50,7 +60,13 @@ joined c = record {
   next = refl;
   charge = refl;
   uploads = c.push_reserved.ensures.items ∙ ap (λ (e : Entry StoredUpload). c.index_mut-shelf.result.now.uploads.items ++ e ∷ []) c.joined-upload.ensures;
-  room = omega (arith, room-part c.self.inside c.args.tenant c.index_mut-shelf.result.now c.self.invariant (joins c).part, c.push_reserved.ensures.capacity);
+  room =
+      let room = room-part c.self.inside c.args.tenant c.index_mut-shelf.result.now c.self.invariant (joins c).part in
+      record {
+        uploads = omega (arith, room.uploads, c.push_reserved.ensures.capacity);
+        spare = omega (arith, room.spare, c.pop.ensures.capacity);
+        boxes = omega (arith, room.boxes, c.push_reserved.ensures.len, rw c.unwrap-texts.ensures at c.pop.ensures.len);
+      };
 }
 
 pub invariant_of-self : goal.invariant_of-self

@@ -7,48 +7,58 @@ use Rattle.upload_book.proofs.store.Store.remove.Goals as goal
 pub give_back-freed-requires : goal.give_back-freed-requires
 give_back-freed-requires c =
     let part = IsPart-read c.self.inside c.args.self.now c.args.tenant c.index_mut-shelf.result.now c.self.view_is c.requires.tenant c.index_mut-shelf.ensures.value in
-    let entry = IsEntry-read c.self.inside c.args.self.now c.args.tenant c.args.place c.index_mut-shelf.result.now c.remove.result c.self.view_is part c.requires.place c.remove.ensures.value in
-    given-held c.self.inside c.args.tenant c.args.place c.index_mut-shelf.result.now c.remove.result c.self.invariant part entry
+    let entry = IsEntry-read c.self.inside c.args.self.now c.args.tenant c.args.place c.index_mut-shelf.result.now c.remove-upload.result c.self.view_is part c.requires.place c.remove-upload.ensures.value in
+    given-held c.self.inside c.args.tenant c.args.place c.index_mut-shelf.result.now c.remove-upload.result c.self.invariant part entry
 
 pub overflow_sub-shelf : goal.overflow_sub-shelf
 overflow_sub-shelf c =
     let part = IsPart-read c.self.inside c.args.self.now c.args.tenant c.index_mut-shelf.result.now c.self.view_is c.requires.tenant c.index_mut-shelf.ensures.value in
-    let entry = IsEntry-read c.self.inside c.args.self.now c.args.tenant c.args.place c.index_mut-shelf.result.now c.remove.result c.self.view_is part c.requires.place c.remove.ensures.value in
-    given-within c.self.inside c.args.tenant c.args.place c.index_mut-shelf.result.now c.remove.result c.give_back-freed.result c.give_back-freed.new.pool c.self.invariant (record { part = part; entry = entry; gives = c.give_back-freed.ensures })
+    let entry = IsEntry-read c.self.inside c.args.self.now c.args.tenant c.args.place c.index_mut-shelf.result.now c.remove-upload.result c.self.view_is part c.requires.place c.remove-upload.ensures.value in
+    given-within c.self.inside c.args.tenant c.args.place c.index_mut-shelf.result.now c.remove-upload.result c.give_back-freed.result.0 c.give_back-freed.new.pool c.self.invariant (record { part = part; entry = entry; gives = c.give_back-freed.ensures })
 
 -- the part without the upload
 after : goal.After-self-1 → KeptShelf
-after c = record (c.index_mut-shelf.result.now) { charge = c.index_mut-shelf.result.now.charge - c.give_back-freed.result; uploads = c.remove.new.self }
+after c = record (c.index_mut-shelf.result.now) {
+  charge = c.index_mut-shelf.result.now.charge - c.give_back-freed.result.0;
+  uploads = c.remove-upload.new.self;
+  spare = c.push_reserved.new.self;
+}
 
 -- the upload's blocks are given back
-gave : (c : goal.After-self-1) → GivesUp c.self.inside c.args.tenant c.args.place c.index_mut-shelf.result.now c.remove.result c.give_back-freed.result c.give_back-freed.new.pool
+gave : (c : goal.After-self-1) → GivesUp c.self.inside c.args.tenant c.args.place c.index_mut-shelf.result.now c.remove-upload.result c.give_back-freed.result.0 c.give_back-freed.new.pool
 gave c =
     let part = IsPart-read c.self.inside c.args.self.now c.args.tenant c.index_mut-shelf.result.now c.self.view_is c.requires.tenant c.index_mut-shelf.ensures.value in
-    let entry = IsEntry-read c.self.inside c.args.self.now c.args.tenant c.args.place c.index_mut-shelf.result.now c.remove.result c.self.view_is part c.requires.place c.remove.ensures.value in
+    let entry = IsEntry-read c.self.inside c.args.self.now c.args.tenant c.args.place c.index_mut-shelf.result.now c.remove-upload.result c.self.view_is part c.requires.place c.remove-upload.ensures.value in
     record { part = part; entry = entry; gives = c.give_back-freed.ensures }
 
 -- the part lost it
-given : (c : goal.After-self-1) → IsGivenUp c.self.inside c.args.place c.index_mut-shelf.result.now (after c) c.give_back-freed.result
+given : (c : goal.After-self-1) → IsGivenUp c.self.inside c.args.place c.index_mut-shelf.result.now (after c) c.give_back-freed.result.0
 unfolding after
 given c = record {
   quota = refl;
   next = refl;
-  charge = omega (arith, given-within c.self.inside c.args.tenant c.args.place c.index_mut-shelf.result.now c.remove.result c.give_back-freed.result c.give_back-freed.new.pool c.self.invariant (gave c));
-  uploads = c.remove.ensures.items;
-  room = omega (arith, room-part c.self.inside c.args.tenant c.index_mut-shelf.result.now c.self.invariant (gave c).part, c.remove.ensures.capacity);
+  charge = omega (arith, given-within c.self.inside c.args.tenant c.args.place c.index_mut-shelf.result.now c.remove-upload.result c.give_back-freed.result.0 c.give_back-freed.new.pool c.self.invariant (gave c));
+  uploads = c.remove-upload.ensures.items;
+  room =
+      let room = room-part c.self.inside c.args.tenant c.index_mut-shelf.result.now c.self.invariant (gave c).part in
+      record {
+        uploads = omega (arith, room.uploads, c.remove-upload.ensures.capacity);
+        spare = omega (arith, room.spare, c.push_reserved.ensures.capacity);
+        boxes = omega (arith, room.boxes, c.remove-upload.ensures.len, c.push_reserved.ensures.len);
+      };
 }
 
 pub invariant_of-self : goal.invariant_of-self
 unfolding after
 invariant_of-self c =
-    IsKept-given c.self.inside c.args.tenant c.args.place c.index_mut-shelf.result.now (after c) c.remove.result c.give_back-freed.result c.give_back-freed.new.pool c.self.invariant (gave c) (given c)
+    IsKept-given c.self.inside c.args.tenant c.args.place c.index_mut-shelf.result.now (after c) c.remove-upload.result c.give_back-freed.result.0 c.give_back-freed.new.pool c.self.invariant (gave c) (given c)
 
 pub returns-clause-plain : goal.returns-clause-plain
 unfolding after
 returns-clause-plain c =
-    rw (← c.self.view_is) (plain-given c.self.inside c.args.tenant c.args.place c.index_mut-shelf.result.now (after c) c.remove.result c.give_back-freed.result c.give_back-freed.new.pool c.self.invariant (gave c) (given c))
+    rw (← c.self.view_is) (plain-given c.self.inside c.args.tenant c.args.place c.index_mut-shelf.result.now (after c) c.remove-upload.result c.give_back-freed.result.0 c.give_back-freed.new.pool c.self.invariant (gave c) (given c))
 
 pub returns-clause-charge : goal.returns-clause-charge
 unfolding after
 returns-clause-charge c =
-    rw (← c.self.view_is) (charge-given c.self.inside c.args.tenant c.args.place c.index_mut-shelf.result.now (after c) c.remove.result c.give_back-freed.result c.give_back-freed.new.pool c.self.invariant (gave c) (given c))
+    rw (← c.self.view_is) (charge-given c.self.inside c.args.tenant c.args.place c.index_mut-shelf.result.now (after c) c.remove-upload.result c.give_back-freed.result.0 c.give_back-freed.new.pool c.self.invariant (gave c) (given c))

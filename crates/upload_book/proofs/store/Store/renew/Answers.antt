@@ -5,7 +5,7 @@ use Rattle.upload_book.specs.Kept.{store_of}
 use Rattle.upload_book.specs.Stored.{StoredUpload}
 use Rattle.upload_book.specs.TenantBook.{TenantBook, Entry}
 use Rattle.upload_book.specs.Upload.{Upload}
-use Rattle.upload_book.proofs.StoreLemmas.{IsPart-read, IsEntry-read, own-kind, at-place, room-part}
+use Rattle.upload_book.proofs.StoreLemmas.{IsPart-read, IsEntry-read, own-kind, at-place, room-part, room-changed}
 use Rattle.upload_book.proofs.StoreRenew.{IsRenewed, IsKept-renewed, plain-renewed, charge-renewed}
 use Rattle.std.specs.Vec.{with_item}
 use Rattle.upload_book.proofs.store.Store.renew.Goals as goal
@@ -27,7 +27,7 @@ renewed c =
       next = refl;
       charge = refl;
       uploads = ap (set c.index_mut-shelf.result.now.uploads.items c.args.place) c.renew.ensures;
-      room = room-part c.self.inside c.args.tenant c.index_mut-shelf.result.now c.self.invariant part;
+      room = room-changed c.self.inside.room c.index_mut-shelf.result.now c.args.place _ c.renew.new.self (room-part c.self.inside c.args.tenant c.index_mut-shelf.result.now c.self.invariant part);
     }
 
 pub invariant_of-self : goal.invariant_of-self
