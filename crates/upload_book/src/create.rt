@@ -1,4 +1,4 @@
-ghost use Rattle.std.specs.Prelude.{◌≡◌, ◌<◌, length, IsTrue};
+ghost use Rattle.std.specs.Prelude.{◌≡◌, ◌<◌, length, IsTrue, OnErr};
 ghost use Rattle.upload_book.specs.Book.{plain_of};
 ghost use Rattle.upload_book.specs.Create.{new_kind, creation_refusal, create_answer, part_after_create};
 ghost use Rattle.upload_book.specs.Lawful.{IsConcatText, is_kept_metadata};
@@ -61,6 +61,7 @@ impl Book {
         ensures answer { result ≡ answer_of (plain_of self.old) tenant (create_answer tenant new.entry now) }
         ensures after { plain_of self.new
             ≡ book_after (plain_of self.old) tenant (part_after_create new.entry now) }
+        ensures refused { OnErr result (self.new ≡ self.old) }
     {
         let numbers = self.settings.numbers();
         let place = usize::from(tenant);

@@ -1,4 +1,4 @@
-ghost use Rattle.std.specs.Prelude.{◌≡◌};
+ghost use Rattle.std.specs.Prelude.{◌≡◌, OnErr};
 ghost use Rattle.upload_book.specs.Book.{plain_of};
 ghost use Rattle.upload_book.specs.PlainBook.{answer_of, book_after};
 ghost use Rattle.upload_book.specs.Terminate.{terminate_answer, part_after_terminate};
@@ -27,6 +27,7 @@ impl Book {
         ensures answer { result ≡ answer_of (plain_of self.old) name.now.tenant (terminate_answer name.now.id now) }
         ensures after { plain_of self.new
             ≡ book_after (plain_of self.old) name.now.tenant (part_after_terminate name.now.id now) }
+        ensures refused { OnErr result (self.new ≡ self.old) }
     {
         let place = self.store.place(name, now)?;
         let blocks = self.store.remove(usize::from(name.tenant), place);
