@@ -20,7 +20,8 @@ use Rattle.upload_book.specs.Refusal.{IsAnswer, unless}
 use Rattle.upload_book.specs.TenantBook.{TenantBook}
 use Rattle.upload_book.proofs.AppendLemmas.{part_after_append-refused}
 use Rattle.upload_book.proofs.BookLemmas.{book_after-stays}
-use Rattle.tus_steps.specs.Reply.{append_reply, creation_reply}
+use Rattle.upload_book.specs.declared.terminate.Removed.{Removed}
+use Rattle.tus_steps.specs.Reply.{append_reply, creation_reply, deletion_reply, IsRefusing}
 use Rattle.tus_steps.specs.Request.{Request}
 use Rattle.tus_steps.specs.declared.reply.Reply.{Reply}
 use Rattle.tus_steps.specs.Operation.{operation_of}
@@ -87,3 +88,18 @@ concat-step b r now tenant new result after (inr lacks) accepted refused =
 -- the step of an operation is that of the request that asks for it
 pub step-by : (b : PlainBook) (r : Request) (now : ℕ) (op : Operation) (told : Reply) (after : PlainBook) → is_options r.method ≡ false → operation_of b.settings r ≡ Ok op → IsOperationStep b r now op told after → IsStep b r now told after
 step-by b r now op told after other asked step = rw (other, asked) step
+
+-- a reply that refuses comes of an outcome that does: of a creation,
+pub creation-stays : (r : Request) (outcome : Result Created Refusal) (told : Reply) (Stays : Type 0) → told ≡ creation_reply r outcome → OnErr outcome Stays → IsRefusing told → Stays
+creation-stays r (Ok created) told Stays is stays refuses = absurd (subst IsRefusing is refuses)
+creation-stays r (Err why) told Stays is stays refuses = stays
+
+-- of a PATCH,
+pub append-stays : (r : Request) (outcome : Result Appended Refused) (told : Reply) (Stays : Type 0) → told ≡ append_reply r outcome → OnErr outcome Stays → IsRefusing told → Stays
+append-stays r (Ok appended) told Stays is stays refuses = absurd (subst IsRefusing is refuses)
+append-stays r (Err why) told Stays is stays refuses = stays
+
+-- and of a DELETE
+pub deletion-stays : (r : Request) (outcome : Result Removed Refusal) (told : Reply) (Stays : Type 0) → told ≡ deletion_reply r outcome → OnErr outcome Stays → IsRefusing told → Stays
+deletion-stays r (Ok removed) told Stays is stays refuses = absurd (subst IsRefusing is refuses)
+deletion-stays r (Err why) told Stays is stays refuses = stays

@@ -1,5 +1,5 @@
 -- The reply to what the book answers.
-use Rattle.std.specs.Prelude.{ℕ, List, Option, None, unwrap_or, [], Result, Ok, Err}
+use Rattle.std.specs.Prelude.{ℕ, List, Option, None, unwrap_or, [], Result, Ok, Err, ⊤}
 use Rattle.tus_text.specs.declared.path.Path.{Path}
 use Rattle.tus_text.specs.declared.path.Path.TheVariants as path
 use Rattle.upload_book.specs.declared.append.Appended.{Appended}
@@ -50,3 +50,8 @@ append_reply r (Err why) = refusing r why.refusal why.expires
 abbrev pub deletion_reply : Request → Result Removed Refusal → Reply
 deletion_reply r (Ok removed) = reply.Deleted
 deletion_reply r (Err why) = refusing r why None
+
+-- the reply refuses the request
+abbrev pub IsRefusing : Reply → Type 0
+IsRefusing (reply.Refused why head at expires) = ⊤
+IsRefusing _ = ⊥

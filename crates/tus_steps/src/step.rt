@@ -1,5 +1,6 @@
 ghost use Rattle.std.specs.Prelude.{◌≡◌};
 ghost use Rattle.upload_book.specs.Book.{plain_of};
+ghost use Rattle.tus_steps.specs.Reply.{IsRefusing};
 ghost use Rattle.tus_steps.specs.Step.{IsStep};
 
 use crate::creation::PartIds;
@@ -13,6 +14,7 @@ use upload_book::{Book, Moment, Operation};
 /// final upload, find no memory, it is refused as Memory, and the book is as it was.
 pub fn answer(book: &mut Book, request: &Request, now: Moment) -> Reply
     ensures step { IsStep (plain_of book.old) request.now now result (plain_of book.new) }
+    ensures refused { IsRefusing result → book.new ≡ book.old }
     ensures settings { (plain_of book.new).settings ≡ (plain_of book.old).settings }
 {
     if request.method.is_options() {

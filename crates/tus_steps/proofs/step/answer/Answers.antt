@@ -7,7 +7,7 @@ use Rattle.tus_steps.specs.Operation.{operation_of}
 use Rattle.tus_steps.specs.Method.{is_options}
 use Rattle.tus_steps.specs.Request.{Request}
 use Rattle.tus_steps.specs.Step.{IsStep}
-use Rattle.tus_steps.proofs.StepLemmas.{append-step, concat-step, step-by}
+use Rattle.tus_steps.proofs.StepLemmas.{append-stays, append-step, concat-step, creation-stays, deletion-stays, step-by}
 use Rattle.tus_steps.proofs.step.answer.Goals as goal
 
 pub returns-in-Ok-Append-clause-step : goal.returns-in-Ok-Append-clause-step
@@ -37,3 +37,15 @@ returns-in-Ok-Concat-clause-step c =
     let step = concat-step b r c.args.now tenant new c.concat-outcome.result after told.answer told.accepted (on_err_weaker c.concat-outcome.result (ap plain_of) told.refused) in
     subst (λ (reply : Reply). IsStep b r c.args.now reply after) (sym c.to_creation-in-Ok-Concat.ensures)
     (step-by b r c.args.now (operation.Concat tenant new) _ after other asked step)
+
+pub returns-in-Ok-Create-clause-refused : goal.returns-in-Ok-Create-clause-refused
+returns-in-Ok-Create-clause-refused c = creation-stays c.args.request.now _ _ _ c.to_creation.ensures c.create-outcome.ensures.refused
+
+pub returns-in-Ok-Concat-clause-refused : goal.returns-in-Ok-Concat-clause-refused
+returns-in-Ok-Concat-clause-refused c = creation-stays c.args.request.now _ _ _ c.to_creation-in-Ok-Concat.ensures c.concat-outcome.ensures.refused
+
+pub returns-in-Ok-Append-clause-refused : goal.returns-in-Ok-Append-clause-refused
+returns-in-Ok-Append-clause-refused c = append-stays c.args.request.now _ _ _ c.to_append.ensures c.append-outcome.ensures.refused
+
+pub returns-in-Ok-Terminate-clause-refused : goal.returns-in-Ok-Terminate-clause-refused
+returns-in-Ok-Terminate-clause-refused c = deletion-stays c.args.request.now _ _ _ c.to_deletion.ensures c.terminate.ensures.refused
