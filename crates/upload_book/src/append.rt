@@ -1,4 +1,4 @@
-ghost use Rattle.std.specs.Prelude.{◌≡◌, ◌<◌, OnOk, OnErr, length};
+ghost use Rattle.std.specs.Prelude.{◌≡◌, ◌<◌, [], OnOk, OnErr, length};
 ghost use Rattle.upload_book.specs.Append.{append_answer, append_lacking, part_after_append};
 ghost use Rattle.upload_book.specs.Book.{plain_of};
 ghost use Rattle.upload_book.specs.Operation.{MayLackMemory};
@@ -62,7 +62,8 @@ impl Book {
     /// length that the PATCH tells where it had none; one of its own that is now complete does not
     /// expire, and any other expires a lifetime after `now`, or as before where that is later.
     ///
-    /// Its tenant pays the blocks that its bytes take beyond the room in the upload's last block.
+    /// Its tenant pays the blocks that its bytes take beyond the room in the upload's last block. A PATCH without
+    /// bytes touches no block, also where other uploads hold the last one.
     ///
     /// It is refused by the first of these that applies: Unknown, Gone, IsFinal, Media, Offset,
     /// LengthFixed, TooLong, Spent, Quota. Where none of them does and the bytes take a block or more,
@@ -77,6 +78,7 @@ impl Book {
         ensures accepted { OnOk result (plain_of self.new ≡ book_after (plain_of self.old)
             name.now.tenant
             (part_after_append name.now.id chunk.entry now (plain_of self.old).charged)) }
+        ensures empty { chunk.entry.bytes ≡ [] → self.new.store.pool ≡ self.old.store.pool }
         ensures refused { OnErr result (self.new ≡ self.old) }
     {
         match self.store.place(name, now) {
@@ -106,6 +108,7 @@ impl Book {
         ensures accepted { OnOk result (plain_of self.new ≡ book_after (plain_of self.old)
             name.now.tenant
             (part_after_append name.now.id chunk.now now (plain_of self.old).charged)) }
+        ensures empty { chunk.now.bytes ≡ [] → self.new.store.pool ≡ self.old.store.pool }
         ensures refused { OnErr result (self.new ≡ self.old) }
     {
         let bytes = chunk.bytes;

@@ -2,6 +2,7 @@ use Rattle.std.proofs.Common.{◌≡◌, ℕ, ◌+◌, ◌<◌, ◌≤◌, Bool,
 use Rattle.std.proofs.lemmas.Bool.Decides.{nat_tests}
 use Rattle.std.proofs.lemmas.List.{nil_from_length}
 use Rattle.block_pool.specs.Blocks.{Blocks, size_of}
+use Rattle.upload_book.specs.Book.{StoredBook}
 use Rattle.upload_book.specs.Chunk.{Chunk}
 use Rattle.upload_book.specs.contracts.book.Book.{the_view}
 use Rattle.upload_book.specs.declared.append.Refused.{Refused}
@@ -165,3 +166,13 @@ returns-in-Err-clause-answer c =
     let some = subst (λ n. 0 < n) (patch-taken b name.tenant name.id c.args.place c.args.now c.args.chunk.now c.self.invariant (read-within r) (read-seen r) none c.from-tenant.result _ c.chunk.inside.bytes.now c.from-tenant.ensures bytes refl) c.in-Err.ensures.memory in
     let refused : Standing → Refused = λ s. record { refusal = Memory; expires = s.expires } in
     inr (rw (← c.self.view_is) (patch-lacks b name.tenant name.id c.args.place c.args.now c.args.chunk.now c.self.invariant (read-within r) (read-seen r) none c.with-after.result after some, ap (λ s. Err (refused s)) (read-standing r) ∙ sym (patch-lacking b name.tenant name.id c.args.place c.args.now c.args.chunk.now c.self.invariant (read-within r) (read-seen r))))
+
+-- a chunk with no bytes touches no block
+pub returns-then-is_empty-clause-empty : goal.returns-then-is_empty-clause-empty
+returns-then-is_empty-clause-empty c = λ none. c.renew.ensures.pool ∙ ap (λ (b : StoredBook). b.store.pool) c.self.view_is
+
+pub returns-in-Ok-clause-empty : goal.returns-in-Ok-clause-empty
+returns-in-Ok-clause-empty c = λ none.
+    let bytes : c.chunk.inside.bytes.now ≡ c.args.chunk.now.bytes = ap (λ (chunk : Chunk). chunk.bytes) c.chunk.view_is in
+    let some = some_bytes c.chunk.inside.bytes.now c.is_empty.result c.is_empty.ensures c.if-is_empty.false in
+    absurd (omega (arith, some, ap (length {A = ℕ}) (bytes ∙ none)))
