@@ -3,7 +3,9 @@
 
 use crate::books::{ACME, BETA, NUMBERS, acme, moment, new_final, patch};
 use std::process::Abort;
-use upload_book::{Appended, Book, Created, HeadRow, NewUpload, Refusal, Refused, Settings};
+use upload_book::{
+    Appended, Book, Created, HeadRow, NewUpload, Numbers, Refusal, Refused, Settings,
+};
 
 // How far acme's first two uploads are, what acme and beta pay, how many blocks are free, and the two totals.
 type Seen = ([Result<u64, Refusal>; 2], [u64; 5]);
@@ -78,7 +80,11 @@ fn assert_content(rt: &impl Abort, book: &Book, id: u64, bytes: &[u8]) {
 
 #[test]
 fn lacking_memory_changes_nothing(rt: HostRuntime) {
-    let settings = Settings::new(NUMBERS, &[(ACME, 8), (BETA, 4)]);
+    let two_uploads = Numbers {
+        uploads: 2,
+        ..NUMBERS
+    };
+    let settings = Settings::new(two_uploads, &[(ACME, 8), (BETA, 4)]);
     let settings = settings.expect(&rt, "settings");
     let Ok(mut book) = Book::new(rt.alloc(), settings) else {
         return;
