@@ -80,7 +80,8 @@ impl Book {
 
     /// How many blocks all tenants together were charged so far.
     pub fn charged_total(&self) -> u64
-        ensures { result ≡ (plain_of self.now).charged }
+        ensures value { result ≡ (plain_of self.now).charged }
+        ensures lawful { IsLawful (plain_of self.now) }
     {
         self.charged
     }

@@ -85,6 +85,23 @@ impl Settings {
         })
     }
 
+    /// The same settings once more. It takes no memory.
+    pub fn copied(&self) -> Settings
+        ensures { result ≡ self.now }
+    {
+        let mut tenants = ArrayVec::new();
+        for tenant in self.tenants.as_slice() {
+            tenants.push(TenantQuota {
+                name: tenant.name.copied(),
+                quota: tenant.quota,
+            });
+        }
+        Settings {
+            numbers: self.numbers,
+            tenants,
+        }
+    }
+
     /// The numbers, each in its range.
     pub fn numbers(&self) -> &Numbers
         ensures value { result.now ≡ self.now.numbers }
