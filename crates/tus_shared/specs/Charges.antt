@@ -1,0 +1,18 @@
+-- What one opening fixes.
+use Rattle.std.specs.Prelude.{[]}
+use Rattle.upload_book.specs.Settings.{Settings}
+
+-- settings of nothing, which no opening has
+abbrev pub no_settings : Settings
+no_settings = record {
+  numbers = record {
+    blocks = 0;
+    block_size = 0;
+    lifetime = 0;
+    max_size = 0;
+    uploads = 0;
+    last_id = 0;
+    last_total = 0;
+  };
+  tenants = [];
+}

@@ -1,0 +1,4 @@
+pub mod Charges
+pub mod Desk
+pub mod Store
+pub mod Served

@@ -1,0 +1,31 @@
+-- What a desk answers. Nobody knows a book behind a lock before it is taken: a reply is that of the plain book's step on
+-- some lawful book of the settings.
+use Rattle.std.specs.Prelude.{◌≡◌, ℕ, Result, Ok}
+use Rattle.upload_book.specs.Lawful.{IsLawful}
+use Rattle.upload_book.specs.PlainBook.{PlainBook}
+use Rattle.upload_book.specs.Settings.{Settings}
+use Rattle.upload_book.specs.Sweep.{book_after_sweep, sweep_answer}
+use Rattle.upload_book.specs.declared.refusal.Refusal.{Refusal}
+use Rattle.upload_book.specs.declared.sweep.Swept.{Swept}
+use Rattle.tus_steps.specs.declared.reply.Reply.{Reply}
+use Rattle.tus_steps.specs.Request.{Request}
+use Rattle.tus_steps.specs.Step.{IsStep}
+use Rattle.tus_shared.specs.Desk.{Desk, Moves}
+
+-- the desk answers the request at a moment with this reply, by the step from one lawful book to another, and its shares
+-- rise by what that charges and releases
+pub record Answers (s : Settings) (request : Request) (now : ℕ) (reply : Reply) (old new : Desk) : Type 0 where
+  pub before : PlainBook
+  pub after : PlainBook
+  pub settings : before.settings ≡ s
+  pub lawful : IsLawful before
+  pub step : IsStep before request now reply after
+  pub moves : Moves before after old new
+
+-- the same of a sweep at a moment
+pub record Sweeps (s : Settings) (now : ℕ) (swept : Result Swept Refusal) (old new : Desk) : Type 0 where
+  pub before : PlainBook
+  pub settings : before.settings ≡ s
+  pub lawful : IsLawful before
+  pub answer : swept ≡ Ok (sweep_answer before now)
+  pub moves : Moves before (book_after_sweep before now) old new

@@ -1,0 +1,22 @@
+ghost use Rattle.std.specs.Prelude.{ℕ};
+ghost use Rattle.tus_shared.specs.Charges.{no_settings};
+ghost use Rattle.upload_book.specs.Settings as spec;
+
+use std::marker::Brand;
+use std::sync::ledger::Ledger;
+
+/// The ledger of the blocks that are charged. Its type also stands for what one opening fixes, so that
+/// a desk can only be used with the store that it was opened with.
+pub trait Charges: Ledger {
+    // The settings of the book.
+    ghost settings: { spec.Settings };
+
+    // How many desks there are.
+    ghost desks: { ℕ };
+}
+
+impl Charges for Brand {
+    ghost settings = { no_settings };
+
+    ghost desks = { 0 };
+}
