@@ -1,1 +1,2 @@
 pub mod TotalsLemmas
+pub mod SharesLemmas

@@ -2,3 +2,4 @@ pub mod Charges
 pub mod Desk
 pub mod Store
 pub mod Served
+pub mod Fault

@@ -1,9 +1,13 @@
 ghost use Rattle.std.specs.Prelude.{◌≡◌};
+ghost use Rattle.tus_shared.specs.Served.{Answers, Sweeps};
 
 use crate::charges::Charges;
+use crate::shared::Shared;
 use std::marker::Model;
+use std::sync::Wait;
 use std::sync::ledger::{Ledger, Share};
-use upload_book::Settings;
+use tus_steps::{Reply, Request};
+use upload_book::{Moment, Refusal, Settings, Swept};
 
 /// One of the desks that an opening gives, at which one thread answers its requests. It counts in two
 /// shares how many blocks its own steps charged, and how many they released. A contract sees the desk's
@@ -37,5 +41,33 @@ impl<C: Charges, R: Ledger> Desk<C, R> {
         ensures { result.now ≡ C.settings }
     {
         &self.settings
+    }
+
+    /// Takes the lock for the step of this request at this moment ([`crate::Store::step`]), and gives its
+    /// reply: the plain book's on some lawful book of the settings. The bytes of a GET are a copy. It may
+    /// wait for other desks.
+    pub fn call<W: Wait>(
+        &mut self,
+        rt: &W,
+        shared: &Shared<C, R>,
+        request: &Request,
+        now: Moment,
+    ) -> Reply
+        ensures { Answers C.settings request.now now result self.old self.new }
+    {
+        shared.store.lock(rt).step(self, request, now)
+    }
+
+    /// Takes the lock for a sweep at this moment ([`crate::Store::sweep`]), and tells what it ended. It may
+    /// wait for other desks.
+    pub fn sweep<W: Wait>(
+        &mut self,
+        rt: &W,
+        shared: &Shared<C, R>,
+        now: Moment,
+    ) -> Result<Swept, Refusal>
+        ensures { Sweeps C.settings now result self.old self.new }
+    {
+        shared.store.lock(rt).sweep(self, now)
     }
 }

@@ -2,11 +2,17 @@
 //! own steps charged and released; together the shares are the book's totals.
 #![tactic(auto)]
 
+mod balance;
 mod charges;
 mod column;
 mod desk;
+mod open_fault;
+mod shared;
 mod store;
 
+pub use balance::{Balance, settle};
 pub use charges::Charges;
 pub use desk::Desk;
+pub use open_fault::OpenFault;
+pub use shared::{DESKS_MAX, Shared};
 pub use store::Store;

@@ -1,0 +1,21 @@
+use Rattle.std.proofs.Common.{◌∙◌, arith}
+use Rattle.tus_shared.proofs.SharesLemmas.{new_desks-next}
+use Rattle.tus_shared.proofs.shared.Shared.open.Goals as goal
+
+pub loop-number-preserved : goal.loop-number-preserved
+loop-number-preserved g c =
+    let i = c.loop-number.invariant in (
+      record {
+        parts = omega (arith, c.part.ensures.left, i.0.parts);
+        amount = c.part.ensures.none_left;
+        total = c.part.ensures.total ∙ i.0.total;
+      },
+      record {
+        parts = omega (arith, c.part-in-loop-number.ensures.left, i.1.parts);
+        amount = c.part-in-loop-number.ensures.none_left;
+        total = c.part-in-loop-number.ensures.total ∙ i.1.total;
+      },
+      new_desks-next _ _ _ _ _ c.push_reserved.ensures.items i.2 c.part.ensures.amount c.part-in-loop-number.ensures.amount,
+      omega (arith, c.push_reserved.ensures.len, i.3),
+      omega (arith, c.push_reserved.ensures.capacity, i.4),
+    )

@@ -1,0 +1,9 @@
+-- The words of faults.
+use Rattle.std.specs.Prelude.{ℕ, List, codes}
+use Rattle.tus_shared.specs.declared.open_fault.OpenFault.{OpenFault}
+use Rattle.tus_shared.specs.declared.open_fault.OpenFault.TheVariants.{Desks, Memory}
+
+-- the word that names a fault of an opening
+abbrev pub open_fault_word : OpenFault → List ℕ
+open_fault_word Desks = codes "desks"
+open_fault_word Memory = codes "memory"
