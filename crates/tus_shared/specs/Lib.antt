@@ -1,5 +1,6 @@
 pub mod Charges
 pub mod Desk
 pub mod Store
+pub mod Match
 pub mod Served
 pub mod Fault

@@ -1,7 +1,8 @@
-ghost use Rattle.std.specs.Prelude.{◌≡◌};
-ghost use Rattle.tus_shared.specs.Served.{Answers, Sweeps};
+ghost use Rattle.std.specs.Prelude.{◌≡◌, ◌≤◌, [], length, vec_capacity};
+ghost use Rattle.tus_shared.specs.Served.{Answers, AreReplies, Sweeps};
 
 use crate::charges::Charges;
+use crate::gate::{Gate, Stop};
 use crate::shared::Shared;
 use std::marker::Model;
 use std::sync::Wait;
@@ -69,5 +70,60 @@ impl<C: Charges, R: Ledger> Desk<C, R> {
         ensures { Sweeps C.settings now result self.old self.new }
     {
         shared.store.lock(rt).sweep(self, now)
+    }
+
+    /// Does the step of [`Desk::call`], and passes the gate on the way: at `Before`, then with the lock at
+    /// `Locked`, then without it at `Answered`. The turn is for the gate alone.
+    pub fn answer<W: Wait, G: Gate>(
+        &mut self,
+        rt: &W,
+        shared: &Shared<C, R>,
+        request: &Request,
+        now: Moment,
+        turn: usize,
+        gate: &G,
+    ) -> Reply
+        ensures { Answers C.settings request.now now result self.old self.new }
+    {
+        gate.pass(self.number, turn, Stop::Before);
+        let reply = self.answer_locked(rt, shared, request, now, turn, gate);
+        gate.pass(self.number, turn, Stop::Answered);
+        reply
+    }
+
+    // The part of it under the lock.
+    fn answer_locked<W: Wait, G: Gate>(
+        &mut self,
+        rt: &W,
+        shared: &Shared<C, R>,
+        request: &Request,
+        now: Moment,
+        turn: usize,
+        gate: &G,
+    ) -> Reply
+        ensures { Answers C.settings request.now now result self.old self.new }
+    {
+        let mut store = shared.store.lock(rt);
+        gate.pass(self.number, turn, Stop::Locked);
+        store.step(self, request, now)
+    }
+
+    // Answers the requests of a batch, one after another, into a list that has room for the replies.
+    pub(crate) fn answer_all<W: Wait, G: Gate>(
+        &mut self,
+        rt: &W,
+        shared: &Shared<C, R>,
+        batch: &[(Request, Moment)],
+        replies: &mut Vec<Reply>,
+        gate: &G,
+    )
+        requires empty { replies.old.items ≡ [] }
+        requires room { length batch.now ≤ vec_capacity replies.old }
+        ensures { AreReplies C.settings batch.now replies.new.items }
+    {
+        for (turn, (request, now)) in batch.iter().enumerate() {
+            let reply = self.answer(rt, shared, request, *now, turn, gate);
+            replies.push_reserved(reply);
+        }
     }
 }
