@@ -1,3 +1,2 @@
 pub mod TotalsLemmas
 pub mod SharesLemmas
-pub mod MatchLemmas

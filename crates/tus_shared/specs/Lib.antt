@@ -1,6 +1,5 @@
 pub mod Charges
 pub mod Desk
 pub mod Store
-pub mod Match
 pub mod Served
 pub mod Fault

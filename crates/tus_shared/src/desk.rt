@@ -1,5 +1,5 @@
-ghost use Rattle.std.specs.Prelude.{◌≡◌, ◌≤◌, [], length, vec_capacity};
-ghost use Rattle.tus_shared.specs.Served.{Answers, AreReplies, Sweeps};
+ghost use Rattle.std.specs.Prelude.{◌≡◌};
+ghost use Rattle.tus_shared.specs.Served.{Answers, Sweeps};
 
 use crate::charges::Charges;
 use crate::gate::{Gate, Stop};
@@ -106,24 +106,5 @@ impl<C: Charges, R: Ledger> Desk<C, R> {
         let mut store = shared.store.lock(rt);
         gate.pass(self.number, turn, Stop::Locked);
         store.step(self, request, now)
-    }
-
-    // Answers the requests of a batch, one after another, into a list that has room for the replies.
-    pub(crate) fn answer_all<W: Wait, G: Gate>(
-        &mut self,
-        rt: &W,
-        shared: &Shared<C, R>,
-        batch: &[(Request, Moment)],
-        replies: &mut Vec<Reply>,
-        gate: &G,
-    )
-        requires empty { replies.old.items ≡ [] }
-        requires room { length batch.now ≤ vec_capacity replies.old }
-        ensures { AreReplies C.settings batch.now replies.new.items }
-    {
-        for (turn, (request, now)) in batch.iter().enumerate() {
-            let reply = self.answer(rt, shared, request, *now, turn, gate);
-            replies.push_reserved(reply);
-        }
     }
 }

@@ -10,6 +10,8 @@ mod gate;
 mod open_fault;
 mod shared;
 mod store;
+#[cfg(test)]
+mod tests;
 
 pub use balance::{Balance, settle};
 pub use charges::Charges;

@@ -46,13 +46,13 @@ impl<C: Charges, R: Ledger> Store<C, R> {
         ensures step { IsStep self.old request.now now result self.new }
         ensures moves { Moves self.old self.new desk.old desk.new }
     {
-        let charged = self.book.charged_total();
-        let released = self.book.released_total();
+        let charged_before = self.book.charged_total();
+        let released_before = self.book.released_total();
         let reply = answer(&mut self.book, request, now);
-        let more_charged = self.book.charged_total() - charged;
-        let more_released = self.book.released_total() - released;
-        self.charged.book.add(&mut desk.charged, more_charged);
-        self.released.book.add(&mut desk.released, more_released);
+        let cost = self.book.charged_total() - charged_before;
+        let given_back = self.book.released_total() - released_before;
+        self.charged.book.add(&mut desk.charged, cost);
+        self.released.book.add(&mut desk.released, given_back);
         reply
     }
 

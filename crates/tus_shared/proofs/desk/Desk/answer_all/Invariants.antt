@@ -1,7 +1,0 @@
-use Rattle.std.proofs.Common.{◌≡◌, ◌≤◌, length, take, vec_len, vec_capacity}
-use Rattle.tus_shared.specs.Served.{AreReplies}
-use Rattle.tus_shared.proofs.desk.Desk.answer_all.Given as goal
-
-abbrev pub invariant-loop-turn : goal.invariant-loop-turn
-invariant-loop-turn g l =
-    (vec_len l.replies ≡ l.turn) × (length l.batch ≤ vec_capacity l.replies) × AreReplies g.C.Charges.settings (take l.turn l.batch) l.replies.items
