@@ -1,2 +1,3 @@
 pub mod TotalsLemmas
 pub mod SharesLemmas
+pub mod MatchLemmas

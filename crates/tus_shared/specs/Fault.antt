@@ -2,8 +2,14 @@
 use Rattle.std.specs.Prelude.{ℕ, List, codes}
 use Rattle.tus_shared.specs.declared.open_fault.OpenFault.{OpenFault}
 use Rattle.tus_shared.specs.declared.open_fault.OpenFault.TheVariants.{Desks, Memory}
+use Rattle.tus_shared.specs.declared.work_fault.WorkFault.{WorkFault}
+use Rattle.tus_shared.specs.declared.work_fault.WorkFault.TheVariants as work
 
 -- the word that names a fault of an opening
 abbrev pub open_fault_word : OpenFault → List ℕ
 open_fault_word Desks = codes "desks"
 open_fault_word Memory = codes "memory"
+
+-- the word that names a fault of a batch
+abbrev pub work_fault_word : WorkFault → List ℕ
+work_fault_word work.Memory = codes "memory"

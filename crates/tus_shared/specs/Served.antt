@@ -1,6 +1,6 @@
 -- What a desk answers. Nobody knows a book behind a lock before it is taken: a reply is that of the plain book's step on
 -- some lawful book of the settings.
-use Rattle.std.specs.Prelude.{◌≡◌, ℕ, Result, Ok}
+use Rattle.std.specs.Prelude.{◌≡◌, ℕ, List, Result, Ok}
 use Rattle.upload_book.specs.Lawful.{IsLawful}
 use Rattle.upload_book.specs.PlainBook.{PlainBook}
 use Rattle.upload_book.specs.Settings.{Settings}
@@ -10,6 +10,8 @@ use Rattle.upload_book.specs.declared.sweep.Swept.{Swept}
 use Rattle.tus_steps.specs.declared.reply.Reply.{Reply}
 use Rattle.tus_steps.specs.Request.{Request}
 use Rattle.tus_steps.specs.Step.{IsStep}
+use Rattle.tus_shared.specs.Turn.{Turn}
+use Rattle.tus_shared.specs.Match.{Match}
 use Rattle.tus_shared.specs.Desk.{Desk, Moves}
 
 -- the desk answers the request at a moment with this reply, by the step from one lawful book to another, and its shares
@@ -29,3 +31,15 @@ pub record Sweeps (s : Settings) (now : ℕ) (swept : Result Swept Refusal) (old
   pub lawful : IsLawful before
   pub answer : swept ≡ Ok (sweep_answer before now)
   pub moves : Moves before (book_after_sweep before now) old new
+
+-- the reply is the plain book's to the request at a moment, on some lawful book of the settings
+pub record IsReply (s : Settings) (request : Request) (now : ℕ) (reply : Reply) : Type 0 where
+  pub before : PlainBook
+  pub after : PlainBook
+  pub settings : before.settings ≡ s
+  pub lawful : IsLawful before
+  pub step : IsStep before request now reply after
+
+-- the replies to a batch: one for each of its turns, in their order
+abbrev pub AreReplies : Settings → List Turn → List Reply → Type 0
+AreReplies s batch replies = Match batch replies (λ turn reply. IsReply s turn.request turn.now reply)

@@ -1,9 +1,10 @@
-ghost use Rattle.std.specs.Prelude.{◌≡◌};
-ghost use Rattle.tus_shared.specs.Served.{Answers, Sweeps};
+ghost use Rattle.std.specs.Prelude.{◌≡◌, ◌≤◌, [], length, vec_capacity};
+ghost use Rattle.tus_shared.specs.Served.{Answers, AreReplies, Sweeps};
 
 use crate::charges::Charges;
 use crate::gate::{Gate, Stop};
 use crate::shared::Shared;
+use crate::turn::Turn;
 use std::marker::Model;
 use std::sync::Wait;
 use std::sync::ledger::{Ledger, Share};
@@ -106,5 +107,26 @@ impl<C: Charges, R: Ledger> Desk<C, R> {
         let mut store = shared.store.lock(rt);
         gate.pass(self.number, turn, Stop::Locked);
         store.step(self, request, now)
+    }
+
+    // Answers the turns of a batch, one after another, and gives their replies in a list that has room for
+    // them.
+    pub(crate) fn answer_all<W: Wait, G: Gate>(
+        &mut self,
+        rt: &W,
+        shared: &Shared<C, R>,
+        batch: &[Turn],
+        mut replies: Vec<Reply>,
+        gate: &G,
+    ) -> Vec<Reply>
+        requires empty { replies.items ≡ [] }
+        requires room { length batch.now ≤ vec_capacity replies }
+        ensures { AreReplies C.settings batch.now result.items }
+    {
+        for (number, turn) in batch.iter().enumerate() {
+            let reply = self.answer(rt, shared, &turn.request, turn.now, number, gate);
+            replies.push_reserved(reply);
+        }
+        replies
     }
 }

@@ -12,6 +12,9 @@ mod shared;
 mod store;
 #[cfg(test)]
 mod tests;
+mod turn;
+mod work;
+mod work_fault;
 
 pub use balance::{Balance, settle};
 pub use charges::Charges;
@@ -20,3 +23,6 @@ pub use gate::{Gate, NoGate, Stop};
 pub use open_fault::OpenFault;
 pub use shared::{DESKS_MAX, Shared};
 pub use store::Store;
+pub use turn::Turn;
+pub use work::work_all;
+pub use work_fault::WorkFault;
