@@ -1,3 +1,3 @@
 pub mod TotalsLemmas
 pub mod SharesLemmas
-pub mod MatchLemmas
+pub mod ZipLemmas

@@ -2,6 +2,5 @@ pub mod Charges
 pub mod Desk
 pub mod Store
 pub mod Turn
-pub mod Match
 pub mod Served
 pub mod Fault

@@ -11,7 +11,7 @@ use Rattle.tus_steps.specs.declared.reply.Reply.{Reply}
 use Rattle.tus_steps.specs.Request.{Request}
 use Rattle.tus_steps.specs.Step.{IsStep}
 use Rattle.tus_shared.specs.Turn.{Turn}
-use Rattle.tus_shared.specs.Match.{Match}
+use Rattle.std.specs.List.{AllZip}
 use Rattle.tus_shared.specs.Desk.{Desk, Moves}
 
 -- the desk answers the request at a moment with this reply, by the step from one lawful book to another, and its shares
@@ -42,4 +42,4 @@ pub record IsReply (s : Settings) (request : Request) (now : ℕ) (reply : Reply
 
 -- the replies to a batch: one for each of its turns, in their order
 abbrev pub AreReplies : Settings → List Turn → List Reply → Type 0
-AreReplies s batch replies = Match batch replies (λ turn reply. IsReply s turn.request turn.now reply)
+AreReplies s batch replies = AllZip (λ turn reply. IsReply s turn.request turn.now reply) batch replies

@@ -1,6 +1,6 @@
 ghost use Rattle.std.specs.Prelude.{◌≡◌, ◌<◌, ◌≤◌, [], IfOk, OnErr, length, vec_capacity};
 ghost use Rattle.std.specs.Thread.{IsSend, IsSync};
-ghost use Rattle.tus_shared.specs.Match.{Match};
+ghost use Rattle.std.specs.List.{AllZip};
 ghost use Rattle.tus_shared.specs.Served.{AreReplies};
 
 use crate::charges::Charges;
@@ -35,7 +35,9 @@ pub fn work_all<
     gate: &G,
 ) -> Result<Vec<Vec<Reply>>, WorkFault>
     requires { length batches.now ≡ length desks.old }
-    ensures replies { IfOk result (λ replies. Match batches.now replies.items (λ batch told. AreReplies C.settings batch.now told.items)) }
+    ensures replies { IfOk result (λ replies. AllZip
+        (λ batch told. AreReplies C.settings batch.now told.items)
+        batches.now replies.items) }
     ensures lacking { OnErr result (desks.new ≡ desks.old) }
 {
     let Ok(rooms) = room_for(alloc, batches) else {
@@ -49,8 +51,9 @@ pub fn work_all<
 
 // A list for each batch, with room for its replies.
 fn room_for(alloc: Global, batches: &[&[Turn]]) -> Result<Vec<Vec<Reply>>, AllocError>
-    ensures { IfOk result (λ replies. Match batches.now replies.items
-        (λ batch told. (told.items ≡ []) × (length batch.now ≤ vec_capacity told))) }
+    ensures { IfOk result (λ replies. AllZip
+        (λ batch told. (told.items ≡ []) × (length batch.now ≤ vec_capacity told))
+        batches.now replies.items) }
 {
     let mut replies = Vec::with_capacity(alloc, batches.len())?;
     for batch in batches {
@@ -76,12 +79,14 @@ fn work<
     gate: &G,
 ) -> Vec<Vec<Reply>>
     requires desks { length batches.now ≡ length desks.old }
-    requires rooms { Match batches.now rooms.items
-        (λ batch room. (room.items ≡ []) × (length batch.now ≤ vec_capacity room)) }
+    requires rooms { AllZip
+        (λ batch room. (room.items ≡ []) × (length batch.now ≤ vec_capacity room))
+        batches.now rooms.items }
     requires empty { replies.items ≡ [] }
     requires capacity { length batches.now ≤ vec_capacity replies }
-    ensures replies { Match batches.now result.items
-        (λ batch told. AreReplies C.settings batch.now told.items) }
+    ensures replies { AllZip
+        (λ batch told. AreReplies C.settings batch.now told.items)
+        batches.now result.items }
     ensures capacity { vec_capacity result ≡ vec_capacity replies }
 {
     let Some(room) = rooms.pop() else {
@@ -96,12 +101,14 @@ fn work<
         || -> Vec<Vec<Reply>>
             requires bounds { IsSync W.row × IsSync G.row × IsSend C.row × IsSync C.row × IsSend R.row × IsSync R.row }
             requires desks { length others.now ≡ length desks_there.now }
-            requires rooms { Match others.now rooms.items
-                (λ batch room. (room.items ≡ []) × (length batch.now ≤ vec_capacity room)) }
+            requires rooms { AllZip
+                (λ batch room. (room.items ≡ []) × (length batch.now ≤ vec_capacity room))
+                others.now rooms.items }
             requires empty { replies.items ≡ [] }
             requires capacity { length others.now ≤ vec_capacity replies }
-            ensures replies { Match others.entry.now result.items
-                (λ batch told. AreReplies C.settings batch.now told.items) }
+            ensures replies { AllZip
+                (λ batch told. AreReplies C.settings batch.now told.items)
+                others.entry.now result.items }
             ensures capacity { vec_capacity result ≡ vec_capacity replies }
         { work(rt, shared, desks_there, others, rooms, replies, gate) },
         || -> Vec<Reply>

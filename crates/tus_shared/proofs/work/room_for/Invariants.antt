@@ -1,9 +1,9 @@
 use Rattle.std.proofs.Common.{◌≡◌, ◌≤◌, [], length, take, vec_len, vec_capacity}
-use Rattle.tus_shared.specs.Match.{Match}
+use Rattle.std.specs.List.{AllZip}
 use Rattle.tus_shared.proofs.work.room_for.Given as goal
 
 abbrev pub invariant-loop-batch : goal.invariant-loop-batch
 invariant-loop-batch l =
     (vec_len l.replies ≡ l.batch-index)
     × (length l.batches ≤ vec_capacity l.replies)
-    × Match (take l.batch-index l.batches) l.replies.items (λ batch told. (told.items ≡ []) × (length batch.now ≤ vec_capacity told))
+    × AllZip (λ batch told. (told.items ≡ []) × (length batch.now ≤ vec_capacity told)) (take l.batch-index l.batches) l.replies.items
