@@ -65,6 +65,10 @@ module _ {A : Type 0} (steps : A → Request → ℕ → Reply → A → Type 0)
   pub Served-cut_other : (now : ℕ) (x : Exchange A) (a : Ahead) → ComesIn max (record { input = x.input; text = x.text }) a.held next.cut_other → x.after ≡ x.before → LastTurn steps max now x ended.Cut
   Served-cut_other now x a f same moments = (cut_other f.0, f.2, record { ended = refl; text = f.1; same = same })
 
+  -- the input ended between two messages
+  pub Served-end : (now : ℕ) (x : Exchange A) → (x.text ≡ []) × IsFront max x.input clean_end → x.after ≡ x.before → LastTurn steps max now x ended.Input
+  Served-end now x f same moments = (clean_end, f.1, record { ended = refl; text = f.0; same = same })
+
   -- nothing follows
   pub LastTurn-alone : (now : ℕ) (x : Exchange A) (rest : List ℕ) (e : Ended) → LastTurn steps max now x e → rest ≡ [] → LastTurn steps max now (followed x rest) e
   LastTurn-alone now x rest e h none =

@@ -1,9 +1,12 @@
 -- Turns one after another, and what follows them.
 use Rattle.std.proofs.Common.{◌≡◌, ℕ, ◌+◌, ◌<◌, IfErr, Option, Some, None, Result, Err, length, take, drop, get_or, take-append-drop, Bool, true, false, true≢false, List, [], ◌∷◌, ◌++◌, refl, sym, ap, ◌∙◌, subst, subst₂, inl, inr, append-nil, append_assoc}
 use Rattle.std.proofs.lemmas.List.{drop_more}
+use Rattle.std.proofs.lemmas.List.Elements.{All-append, All-cons, All-nil}
+use Rattle.std.specs.List.{All}
 use Rattle.std.specs.Io.KnownBytes.{Appends, Consumes}
 use Rattle.tus_steps.specs.Request.{Request}
 use Rattle.tus_steps.specs.declared.reply.Reply.{Reply}
+use Rattle.http_wire.specs.Clock.{IsTimed, asked, unasked}
 use Rattle.http_wire.specs.Conversation.{Conversation, Course, Goes, continue_text}
 use Rattle.http_wire.specs.Exchange.{Exchange, first_part, last_part, followed}
 use Rattle.http_wire.specs.Front.{Front, message, IsFront}
@@ -16,10 +19,29 @@ use Rattle.http_wire.specs.declared.framing.Framing.{Framing}
 use Rattle.http_wire.specs.declared.fault.WireFault.TheVariants.{Read, Write, Memory, Failed}
 use Rattle.http_wire.proofs.FrontLemmas.{IsFront-followed}
 
+-- one moment more that a clock may tell
+pub All-more : (tells : ℕ → Type 0) (moments : List ℕ) (now : ℕ) → All tells moments → tells now → All tells (moments ++ now ∷ [])
+All-more tells moments now before told = All-append tells moments (now ∷ []) before (All-cons tells now [] told (All-nil tells))
+
 -- the moments before one, that one, and those after it
 pub moments_split : (moments : List ℕ) (i d : ℕ) → i < length moments → take i moments ++ get_or moments i d ∷ drop (i + 1) moments ≡ moments
 moments_split moments i d h =
     ap (λ l. take i moments ++ l) (sym (drop_more moments i d h)) ∙ take-append-drop i moments
+
+-- what holds at the moment that a clock which stands still told
+pub timed_at : (m : ℕ) {failed : Type 0} {holds : ℕ → Type 0} → IsTimed (λ now. now ≡ m) failed holds → holds m
+timed_at m {failed} {holds} (asked now told h) = subst holds told h
+timed_at m (unasked fails h) = h m
+
+-- what holds at a moment that a clock told, where nothing failed before it was asked
+pub timed_asked : {tells : ℕ → Type 0} {failed : Type 0} {holds : ℕ → Type 0} → (failed → ⊥) → IsTimed tells failed holds → (now : ℕ) × tells now × holds now
+timed_asked well (asked now told h) = (now, told, h)
+timed_asked well (unasked fails h) = absurd (well fails)
+
+-- what holds at some moment
+pub timed_once : {tells : ℕ → Type 0} {failed : Type 0} {holds : ℕ → Type 0} → IsTimed tells failed holds → (now : ℕ) × holds now
+timed_once (asked now told h) = (now, h)
+timed_once (unasked fails h) = (0, h 0)
 
 -- what holds of an error that was passed up
 pub IfErr-from : {T : Type 0} (P : WireFault → Type 0) (r : Result T WireFault) (e e2 : WireFault) → r ≡ Err e → e ≡ e2 → P e2 → IfErr r P

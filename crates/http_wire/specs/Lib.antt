@@ -1,4 +1,5 @@
 pub mod Ahead
+pub mod Clock
 pub mod Connection
 pub mod BookStep
 pub mod Conversation

@@ -1,12 +1,13 @@
 -- What a turn did to a wire and to what answers.
-use Rattle.std.specs.Prelude.{◌≡◌, ℕ, Bool, true, false, List, ◌++◌, Option, Some, None, Result, Ok, Err, is_ok, OnOk, IfOk, IfErr, ⊤}
+use Rattle.std.specs.Prelude.{◌≡◌, ℕ, Bool, true, false, List, ◌++◌, Option, Some, None, Result, Ok, Err, is_ok, IsErr, OnOk, IfOk, IfErr, ⊤}
 use Rattle.std.specs.Io.KnownBytes.{Appends, Consumes}
 use Rattle.tus_steps.specs.Request.{Request}
 use Rattle.tus_steps.specs.declared.reply.Reply.{Reply}
+use Rattle.http_wire.specs.Clock.{IsTimed}
 use Rattle.http_wire.specs.Lent.{Names}
 use Rattle.http_wire.specs.OnWire.{OnWire}
 use Rattle.http_wire.specs.Streams.{Streams}
-use Rattle.http_wire.specs.Turns.{IsReadWhen, TakesTurn}
+use Rattle.http_wire.specs.Turns.{EndsByTurn, IsReadWhen, TakesTurn}
 use Rattle.http_wire.specs.declared.conversation.Ended.{Ended}
 use Rattle.http_wire.specs.declared.conversation.Ended.TheVariants.{Input}
 use Rattle.http_wire.specs.declared.fault.WireFault.{WireFault}
@@ -29,14 +30,15 @@ pub record Served (R W A : Type 0) : Type 0 where
   pub state : A
 
 module _ {R W A : Type 0} (s : Streams R W) (steps : A → Request → ℕ → Reply → A → Type 0) where
-  -- A turn on a wire that reads: some bytes were read and this text was written, and it is the turn of what they begin with.
-  -- Nothing had failed before; where something did now, the fault names which. Nothing is read after the reader's end. Then
-  -- the wire reads on where the conversation goes on, and writes on unless something failed.
-  pub record TakesTurnOn (now : ℕ) (old new : Served R W A) (r : Result (Option Ended) WireFault) : Type 0 where
-    pub turn : (got text : List ℕ) × Consumes (s.remaining old.wire.reader) (s.remaining new.wire.reader) got
+  -- A turn on a wire that reads: some bytes were read and this text was written, and it is the turn of what they begin with,
+  -- at a moment that the clock told. Nothing had failed before; where something did now, the fault names which. Nothing is
+  -- read after the reader's end. Then the wire reads on where the conversation goes on, and writes on unless something failed.
+  pub record TakesTurnOn (tells : ℕ → Type 0) (old new : Served R W A) (r : Result (Option Ended) WireFault) : Type 0 where
+    pub turn : IsTimed tells (IsErr r) (λ now. (got text : List ℕ) × Consumes (s.remaining old.wire.reader) (s.remaining new.wire.reader) got
         × Appends (s.contents old.wire.writer) (s.contents new.wire.writer) text
-        × TakesTurn steps old.wire.max_size now (record { input = old.wire.held ++ got; text = text; before = old.state; after = new.state }) new.wire.held r
+        × TakesTurn steps old.wire.max_size now (record { input = old.wire.held ++ got; text = text; before = old.state; after = new.state }) new.wire.held r)
     pub end : IfOk r (EndsAtEnd (s.remaining new.wire.reader))
+    pub ends : IfOk r EndsByTurn
     pub stops : old.wire.ended ≡ true → (new.wire.reader ≡ old.wire.reader) × (new.wire.ended ≡ true)
     pub reader : OnOk r (s.read_failed new.wire.reader ≡ false)
     pub writer : OnOk r (s.write_failed new.wire.writer ≡ false)
@@ -48,7 +50,7 @@ module _ {R W A : Type 0} (s : Streams R W) (steps : A → Request → ℕ → R
 
   -- What a call of `take_turn` did: where the wire reads no more, it gives the end of the input, or that the wire failed
   -- before, and nothing changes.
-  pub record TurnOn (now : ℕ) (old new : Served R W A) (r : Result (Option Ended) WireFault) : Type 0 where
-    pub reading : old.wire.reads ≡ true → TakesTurnOn now old new r
+  pub record TurnOn (tells : ℕ → Type 0) (old new : Served R W A) (r : Result (Option Ended) WireFault) : Type 0 where
+    pub reading : old.wire.reads ≡ true → TakesTurnOn tells old new r
     pub ended : old.wire.reads ≡ false → old.wire.writes ≡ true → (r ≡ Ok (Some Input)) × (new ≡ old)
     pub failed : old.wire.reads ≡ false → old.wire.writes ≡ false → (r ≡ Err Failed) × (new ≡ old)

@@ -40,6 +40,14 @@ abbrev pub EndsTurnAtEnd : Option (List ℕ) → Ahead → Option Ended → Type
 EndsTurnAtEnd remaining a None = SeesEnd remaining a
 EndsTurnAtEnd remaining a (Some e) = IsReadWhen e remaining
 
+-- how a turn may end the conversation: not for want of a moment, since it had one
+abbrev pub EndsByTurn : Option Ended → Type 0
+EndsByTurn None = ⊤
+EndsByTurn (Some ended.Input) = ⊤
+EndsByTurn (Some ended.Closed) = ⊤
+EndsByTurn (Some ended.Cut) = ⊤
+EndsByTurn (Some ended.Moments) = ⊥
+
 -- what makes these steps, over a connection whose bodies have at most max bytes
 module _ {A : Type 0} (steps : A → Request → ℕ → Reply → A → Type 0) (max : ℕ) where
   -- The message that the input begins with is answered, which leaves this rest of the input, and the

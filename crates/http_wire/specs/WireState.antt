@@ -1,5 +1,5 @@
 -- What a wire still does, and how a contract sees it.
-use Rattle.std.specs.Prelude.{◌≡◌, ◌<◌, ◌^◌, ℕ, Bool, true, false, Result, Ok, Err}
+use Rattle.std.specs.Prelude.{◌≡◌, ◌<◌, ◌^◌, ℕ, Bool, true, false, [], Result, Ok, Err}
 use Rattle.http_wire.specs.Ahead.{Ahead}
 use Rattle.http_wire.specs.Next.{Next, message, cut_patch, cut_other, refused, ending}
 use Rattle.http_wire.specs.OnWire.{OnWire}
@@ -43,6 +43,18 @@ module _ {R W : Type 0} where
     max_size = max_size;
     reads = is_open state;
     writes = is_alive state;
+  }
+
+  -- a wire on which nothing was read or written
+  abbrev pub fresh_wire : R → W → ℕ → OnWire R W
+  fresh_wire reader writer max_size = record {
+    reader = reader;
+    writer = writer;
+    held = [];
+    ended = false;
+    max_size = max_size;
+    reads = true;
+    writes = true;
   }
 
   -- What holds of every wire: while it reads, no read has failed and the reader's end was seen only there; while it writes,

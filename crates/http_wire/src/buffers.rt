@@ -7,13 +7,14 @@ use httparse::spans::Span;
 use std::alloc::{AllocError, Global};
 
 /// The memory that the messages of a connection share: what was read ahead, the fields of the message
-/// that was read last, and the page of the reply that is written; and where more of it is taken.
+/// that was read last, and the page of the reply that is written; and where more of it is taken. After a
+/// connection they serve another ([`Wire::over`](crate::Wire::over)).
 #[derive(Drop)]
 pub struct Buffers {
-    pub alloc: Global,
-    pub inbox: Inbox,
-    pub found: HeaderMap<Span>,
-    pub page: Page,
+    pub(crate) alloc: Global,
+    pub(crate) inbox: Inbox,
+    pub(crate) found: HeaderMap<Span>,
+    pub(crate) page: Page,
 }
 
 impl Buffers {
@@ -31,5 +32,12 @@ impl Buffers {
             found: HeaderMap::empty(alloc),
             page,
         })
+    }
+
+    /// For how many bytes of messages they have memory: 65,536 at first, and more after a large body.
+    pub fn room(&self) -> usize
+        ensures { result ≡ self.now.inbox.room }
+    {
+        self.inbox.room()
     }
 }

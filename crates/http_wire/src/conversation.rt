@@ -1,8 +1,9 @@
-ghost use Rattle.std.specs.Prelude.{◌≡◌, ◌<◌, ◌^◌, ◌++◌, ℕ, List, Some, false, IfOk, IfErr, OnOk};
+ghost use Rattle.std.specs.Prelude.{◌≡◌, ◌<◌, ◌^◌, ◌++◌, ℕ, List, Some, false, IfOk, IfErr, IsErr, OnOk};
 ghost use Rattle.std.specs.Io.KnownBytes.{Appends, Consumes};
 ghost use Rattle.http_wire.specs.Ahead.{SeesEnd, StopsAtEnd};
+ghost use Rattle.http_wire.specs.Clock.{IsTimed};
 ghost use Rattle.http_wire.specs.Conversation.{Conversation};
-ghost use Rattle.http_wire.specs.Turns.{Breaks, Converses, EndsTurnAtEnd, IsReadWhen, TakesTurn};
+ghost use Rattle.http_wire.specs.Turns.{Breaks, Converses, EndsByTurn, EndsTurnAtEnd, IsReadWhen, TakesTurn};
 ghost use Rattle.http_wire.specs.ReplyText.{reply_text};
 ghost use Rattle.tus_steps.specs.declared.reply.Reply.{Reply};
 ghost use Rattle.http_wire.specs.Lent.{Names, NamesOrMemory};
@@ -10,6 +11,7 @@ ghost use Rattle.http_wire.specs.Writes.{Writes};
 
 use crate::answer::Answer;
 use crate::buffers::Buffers;
+use crate::clock::Clock;
 use crate::fault::WireFault;
 use crate::framing::Framing;
 use crate::message::request_in;
@@ -68,13 +70,11 @@ pub fn converse<R: Source, W: Sink, A: Answer>(
     ensures writer { OnOk result (W.has_failed writer.new ≡ false) }
     ensures fault { IfErr result (NamesOrMemory (R.has_failed reader.new) (W.has_failed writer.new)) }
 {
-    let mut buffers = match Buffers::new(alloc) {
-        Ok(buffers) => buffers,
-        Err(_) => return Err(WireFault::Memory),
-    };
+    let mut buffers = Buffers::new(alloc)?;
     let max_size = answerer.max_size();
     for moment in moments {
-        let turn = take_turn(reader, writer, &mut buffers, max_size, answerer, *moment)?;
+        let mut now = *moment;
+        let turn = take_turn(reader, writer, &mut buffers, max_size, answerer, &mut now)?;
         if let Some(ended) = turn {
             return Ok(ended);
         }
@@ -82,27 +82,30 @@ pub fn converse<R: Source, W: Sink, A: Answer>(
     Ok(Ended::Moments)
 }
 
-/// Reads one message, lets `answerer` answer it and writes the reply, and says whether the conversation
-/// ends with it. A body has at most `max_size` bytes. Where the reader gave its end before, nothing is
-/// read. The error is `WireFault::Read` or `WireFault::Write`.
-pub fn take_turn<R: Source, W: Sink, A: Answer>(
+/// Reads one message, asks the clock for its moment, lets `answerer` answer it and writes the reply, and says
+/// whether the conversation ends with it. A body has at most `max_size` bytes. Where the reader gave its end
+/// before, nothing is read. The error is `WireFault::Read` or `WireFault::Write`.
+pub fn take_turn<R: Source, W: Sink, A: Answer, C: Clock>(
     reader: &mut R,
     writer: &mut W,
     buffers: &mut Buffers,
     max_size: u64,
     answerer: &mut A,
-    now: Moment,
+    clock: &mut C,
 ) -> Result<Option<Ended>, WireFault>
     requires reader { R.has_failed reader.old ≡ false }
     requires writer { W.has_failed writer.old ≡ false }
     requires max_size { max_size < 2 ^ 31 }
-    ensures turn { (got text : List ℕ) × Consumes (R.remaining reader.old) (R.remaining reader.new) got
+    ensures turn { IsTimed (C.tells clock.old) (IsErr result) (λ now.
+        (got text : List ℕ) × Consumes (R.remaining reader.old) (R.remaining reader.new) got
         × Appends (W.contents writer.old) (W.contents writer.new) text
         × TakesTurn A.steps max_size now
         (record { input = buffers.old.inbox.held ++ got; text = text; before = answerer.old; after = answerer.new })
-        buffers.new.inbox.held result }
+        buffers.new.inbox.held result) }
+    ensures later { (now : ℕ) → C.tells clock.new now → C.tells clock.old now }
     ensures end { IfOk result (λ r. SeesEnd (R.remaining reader.old) buffers.old.inbox
         → EndsTurnAtEnd (R.remaining reader.new) buffers.new.inbox r) }
+    ensures ends { IfOk result EndsByTurn }
     ensures stops { StopsAtEnd reader.old reader.new buffers.old.inbox buffers.new.inbox }
     ensures reader { OnOk result (R.has_failed reader.new ≡ false) }
     ensures writer { OnOk result (W.has_failed writer.new ≡ false) }
@@ -116,6 +119,7 @@ pub fn take_turn<R: Source, W: Sink, A: Answer>(
         &mut buffers.found,
         max_size,
     )?;
+    let now = clock.moment();
     match front {
         Front::Message(parts) => {
             let request = request_in(&parts, buffers.inbox.lent());

@@ -1,3 +1,7 @@
+ghost use Rattle.std.specs.Prelude.{◌≡◌};
+ghost use Rattle.http_wire.specs.declared.fault.WireFault.TheVariants.{Memory};
+
+use std::alloc::AllocError;
 use std::error::Error;
 use std::fmt;
 
@@ -32,6 +36,14 @@ impl fmt::Display for WireFault {
             WireFault::Failed => "the wire failed before",
         };
         write!(f, "{words}")
+    }
+}
+
+impl From<AllocError> for WireFault {
+    ghost from_gives = { λ _ fault. fault ≡ Memory };
+
+    fn from(_: AllocError) -> WireFault {
+        WireFault::Memory
     }
 }
 

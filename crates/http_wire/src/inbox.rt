@@ -1,4 +1,4 @@
-ghost use Rattle.std.specs.Prelude.{◌≡◌, ◌+◌, ◌^◌, ◌<◌, ◌≤◌, ◌++◌, [], true, false, length, take, drop, IfOk, OnOk, OnErr, IfErr, is_err, slice_range, vec_len};
+ghost use Rattle.std.specs.Prelude.{◌≡◌, ◌+◌, ◌^◌, ◌<◌, ◌≤◌, ◌++◌, [], true, false, length, take, drop, IfOk, OnOk, OnErr, IfErr, is_err, slice_range, vec_len, vec_capacity};
 ghost use Rattle.std.specs.Io.KnownBytes.{Consumes, Keeps, IsAtEnd};
 ghost use Rattle.http_wire.specs.Ahead.{Ahead, Grew};
 
@@ -16,6 +16,9 @@ pub const FIRST_ROOM: usize = 65_536;
 
 /// The one buffer between a reader and the messages that are read from it. It is read into in large
 /// pieces; a message is lent from it without a copy, and what was read past it stays for the next.
+///
+/// Its memory is taken for a whole message, and written only as bytes come: no client makes the server
+/// write more than twice what it sent, and one read's bytes.
 #[derive(Drop)]
 pub struct Inbox {
     // `buffer[start..at]` is lent, `buffer[at..end]` is held.
@@ -24,10 +27,12 @@ pub struct Inbox {
     at: usize,
     end: usize,
     ended: bool,
+    // For how many bytes there is memory.
+    room: usize,
 }
 
 impl Model for Inbox {
-    ghost use Rattle.std.specs.Prelude.{◌≤◌, slice_range, vec_len};
+    ghost use Rattle.std.specs.Prelude.{◌≤◌, slice_range, vec_len, vec_capacity};
     ghost use Rattle.http_wire.specs.Ahead.{Ahead};
     ghost use Rattle.http_wire.specs.declared.inbox.TheConstants.{FIRST_ROOM};
 
@@ -37,10 +42,11 @@ impl Model for Inbox {
       lent = slice_range b.buffer.items b.start b.at;
       held = slice_range b.buffer.items b.at b.end;
       ended = b.ended;
-      room = vec_len b.buffer;
+      room = b.room;
     } };
 
-    ghost invariant = { λ b. (b.start ≤ b.at) × (b.at ≤ b.end) × (b.end ≤ vec_len b.buffer) × (FIRST_ROOM ≤ vec_len b.buffer) };
+    ghost invariant = { λ b. (b.start ≤ b.at) × (b.at ≤ b.end) × (b.end ≤ vec_len b.buffer)
+        × (vec_len b.buffer ≤ b.room) × (b.room ≤ vec_capacity b.buffer) × (FIRST_ROOM ≤ b.room) };
 }
 
 impl Inbox {
@@ -51,15 +57,31 @@ impl Inbox {
         ensures ended { IfOk result (λ b. b.ended ≡ false) }
         ensures room { IfOk result (λ b. b.room ≡ FIRST_ROOM) }
     {
-        let mut buffer = Vec::with_capacity(alloc, FIRST_ROOM)?;
-        buffer.resize(FIRST_ROOM, 0)?;
         Ok(Inbox {
-            buffer,
+            buffer: Vec::with_capacity(alloc, FIRST_ROOM)?,
             start: 0,
             at: 0,
             end: 0,
             ended: false,
+            room: FIRST_ROOM,
         })
+    }
+
+    /// Begins anew, for another reader: nothing is held or lent, and no end was seen. The room stays.
+    pub fn renew(&mut self)
+        ensures { self.new ≡ record self.old { lent = []; held = []; ended = false } }
+    {
+        self.start = 0;
+        self.at = 0;
+        self.end = 0;
+        self.ended = false;
+    }
+
+    /// For how many bytes there is memory.
+    pub fn room(&self) -> usize
+        ensures { result ≡ self.now.room }
+    {
+        self.room
     }
 
     /// The bytes that were read and belong to no message yet.
@@ -124,11 +146,18 @@ impl Inbox {
         ensures sure { OnErr result (49152 < total) }
     {
         let needed = total + READ_SIZE;
-        if self.buffer.len() < needed {
-            self.buffer.resize(needed, 0)?;
-        }
         let count = self.end - self.at;
-        self.at = place_with_room(&mut self.buffer, self.at, count, needed);
+        if self.room < needed {
+            self.buffer = moved(
+                &self.buffer.as_slice()[self.at..self.end],
+                needed,
+                *self.buffer.allocator(),
+            )?;
+            self.room = needed;
+            self.at = 0;
+        } else {
+            self.at = place_with_room(&mut self.buffer, self.at, count, needed, self.room);
+        }
         self.start = self.at;
         self.end = self.at + count;
         Ok(())
@@ -155,9 +184,11 @@ impl Inbox {
             × Keeps (R.remaining reader.old) (R.remaining reader.new)) }
     {
         let count = self.end - self.at;
-        self.at = place_with_room(&mut self.buffer, self.at, count, count + READ_SIZE);
+        let needed = count + READ_SIZE;
+        self.at = place_with_room(&mut self.buffer, self.at, count, needed, self.room);
         self.start = self.at;
         self.end = self.at + count;
+        widen(&mut self.buffer, self.end, needed, self.room);
         match read_after(reader, &mut self.buffer, self.end) {
             Ok(more) => {
                 self.ended = more == 0;
@@ -169,26 +200,65 @@ impl Inbox {
     }
 }
 
-// Where the `count` bytes from `at` on stand after they were moved to the front, which is done only
-// where fewer than `room` bytes follow `at`. Where there are none, the front is theirs: so a large body is
-// read there, and its first bytes are not moved.
-fn place_with_room(buffer: &mut Vec<u8>, at: usize, count: usize, room: usize) -> usize
+// These bytes in a buffer of their own, with memory for `room` bytes.
+fn moved(bytes: &[u8], room: usize, alloc: Global) -> Result<Vec<u8>, AllocError>
+    requires { length bytes.now ≤ room }
+    ensures items { IfOk result (λ b. b.items ≡ bytes.now) }
+    ensures room { IfOk result (λ b. room ≤ vec_capacity b) }
+{
+    let mut buffer = Vec::with_capacity(alloc, room)?;
+    let copied = buffer.extend_from_slice(bytes);
+    prove!(copied.is_ok());
+    Ok(buffer)
+}
+
+// Where the `count` bytes from `at` on stand after they were moved to the front, which is done only where fewer
+// than `needed` bytes of the room follow `at`. Where there are none, the front is theirs: so a large body is read
+// there, and its first bytes are not moved.
+fn place_with_room(
+    buffer: &mut Vec<u8>,
+    at: usize,
+    count: usize,
+    needed: usize,
+    room: usize,
+) -> usize
     requires inside { at + count ≤ vec_len buffer.old }
-    requires fits { room ≤ vec_len buffer.old }
+    requires room { vec_len buffer.old ≤ room }
+    requires fits { needed ≤ room }
     ensures len { vec_len buffer.new ≡ vec_len buffer.old }
+    ensures capacity { vec_capacity buffer.new ≡ vec_capacity buffer.old }
     ensures inside { result + count ≤ vec_len buffer.new }
-    ensures room { result + room ≤ vec_len buffer.new }
+    ensures room { result + needed ≤ room }
     ensures bytes { slice_range buffer.new.items result (result + count)
         ≡ slice_range buffer.old.items at (at + count) }
 {
     if count == 0 {
         return 0;
     }
-    if buffer.len() - at >= room {
+    if room - at >= needed {
         return at;
     }
     buffer.copy_within(at..at + count, 0);
     0
+}
+
+// Makes the buffer as long as a read after `end` asks for, where it is not: at least by a read's bytes, and by
+// `needed` more where there is room.
+fn widen(buffer: &mut Vec<u8>, end: usize, needed: usize, room: usize)
+    requires end { end ≤ vec_len buffer.old }
+    requires fits { end + READ_SIZE ≤ room }
+    requires needed { READ_SIZE ≤ needed }
+    requires len { vec_len buffer.old ≤ room }
+    requires room { room ≤ vec_capacity buffer.old }
+    ensures bytes { take end buffer.new.items ≡ take end buffer.old.items }
+    ensures read { end + READ_SIZE ≤ vec_len buffer.new }
+    ensures len { vec_len buffer.new ≤ room }
+    ensures room { room ≤ vec_capacity buffer.new }
+{
+    if buffer.len() < end + READ_SIZE {
+        let wider = buffer.resize(end + needed.min(room - end), 0);
+        prove!(wider.is_ok());
+    }
 }
 
 // One read into `buffer` from the place `at` on.
@@ -196,6 +266,7 @@ fn read_after<R: Source>(reader: &mut R, buffer: &mut Vec<u8>, at: usize) -> io:
     requires alive { R.has_failed reader.old ≡ false }
     requires inside { at < vec_len buffer.old }
     ensures len { vec_len buffer.new ≡ vec_len buffer.old }
+    ensures capacity { vec_capacity buffer.new ≡ vec_capacity buffer.old }
     ensures bound { IfOk result (λ n. at + n ≤ vec_len buffer.new) }
     ensures before { take at buffer.new.items ≡ take at buffer.old.items }
     ensures bytes { IfOk result (λ n. Consumes (R.remaining reader.old) (R.remaining reader.new)

@@ -3,6 +3,7 @@
 
 mod answer;
 mod buffers;
+mod clock;
 mod connection;
 mod conversation;
 mod fault;
@@ -29,6 +30,8 @@ mod wire;
 mod write;
 
 pub use answer::Answer;
+pub use buffers::Buffers;
+pub use clock::Clock;
 pub use conversation::{Ended, converse};
 pub use fault::WireFault;
 pub use framing::Framing;

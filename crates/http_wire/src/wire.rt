@@ -1,4 +1,4 @@
-ghost use Rattle.std.specs.Prelude.{◌≡◌, ◌<◌, ◌^◌, [], true, false, IfOk, IfErr};
+ghost use Rattle.std.specs.Prelude.{◌≡◌, ◌<◌, ◌^◌, ℕ, [], true, false, IfOk, IfErr};
 ghost use Rattle.std.specs.Borrow.{sem};
 ghost use Rattle.std.specs.Io.BufRead.{Rests};
 ghost use Rattle.http_wire.specs.Ahead.{Ahead};
@@ -9,10 +9,11 @@ ghost use Rattle.http_wire.specs.NextRead.{ReadsOn, WritesOn};
 ghost use Rattle.http_wire.specs.ReplyText.{reply_text, refusal_text};
 ghost use Rattle.http_wire.specs.Streams.{streams};
 ghost use Rattle.http_wire.specs.TurnOnWire.{TurnOn};
-ghost use Rattle.http_wire.specs.WireState.{state_after, wire_of, IsSound};
+ghost use Rattle.http_wire.specs.WireState.{fresh_wire, state_after, wire_of, IsSound};
 
 use crate::answer::Answer;
 use crate::buffers::Buffers;
+use crate::clock::Clock;
 use crate::conversation::{Ended, take_turn};
 use crate::fault::WireFault;
 use crate::framing::Framing;
@@ -76,35 +77,38 @@ impl<R: Source + Drop, W: Sink + Drop> Wire<R, W> {
         requires reader { R.has_failed reader ≡ false }
         requires writer { W.has_failed writer ≡ false }
         requires size { max_size < 2 ^ 31 }
-        ensures fresh { IfOk result (λ w. w ≡ record {
-          reader = reader;
-          writer = writer;
-          held = [];
-          ended = false;
-          max_size = max_size;
-          reads = true;
-          writes = true;
-        }) }
+        ensures fresh { IfOk result (λ w. w ≡ fresh_wire reader writer max_size) }
         ensures memory { IfErr result (λ e. e ≡ WireFault.Memory) }
     {
-        match Buffers::new(alloc) {
-            Ok(buffers) => Ok(Wire {
-                reader,
-                writer,
-                buffers,
-                max_size,
-                state: State::Open,
-            }),
-            Err(_) => Err(WireFault::Memory),
+        let buffers = Buffers::new(alloc)?;
+        Ok(Wire::over(buffers, reader, writer, max_size))
+    }
+
+    /// The same over buffers that another connection has left, so that it takes no memory. What they hold
+    /// is not read.
+    pub fn over(buffers: Buffers, reader: R, writer: W, max_size: u64) -> Self
+        requires reader { R.has_failed reader ≡ false }
+        requires writer { W.has_failed writer ≡ false }
+        requires size { max_size < 2 ^ 31 }
+        ensures { result ≡ fresh_wire reader writer max_size }
+    {
+        let mut buffers = buffers;
+        buffers.inbox.renew();
+        Wire {
+            reader,
+            writer,
+            buffers,
+            max_size,
+            state: State::Open,
         }
     }
 
-    /// The reader and the writer. What was read ahead is lost.
-    pub fn into_streams(self) -> (R, W)
+    /// The reader, the writer and the buffers. What was read ahead is lost.
+    pub fn into_parts(self) -> (R, W, Buffers)
         ensures reader { result.0 ≡ self.reader }
         ensures writer { result.1 ≡ self.writer }
     {
-        (self.reader, self.writer)
+        (self.reader, self.writer, self.buffers)
     }
 
     /// Reads the next message, and writes `100 Continue` where it is due. The error is
@@ -126,18 +130,20 @@ impl<R: Source + Drop, W: Sink + Drop> Wire<R, W> {
         Ok(lend_front(front, &self.buffers.inbox))
     }
 
-    /// Takes a turn: reads the next message, lets `answerer` answer it and writes the reply. A message
-    /// has the moment `now`. Where the conversation ends with it, it says how; then, and on a wire that
-    /// reads no more, every later call gives `Ended::Input`. The error is `WireFault::Read` or
-    /// `WireFault::Write`, and then every later call gives `WireFault::Failed`.
-    pub fn take_turn<A: Answer>(
+    /// Takes a turn: reads the next message, asks the clock for its moment, lets `answerer` answer it and
+    /// writes the reply. Where the conversation ends with it, it says how; then, and on a wire that reads no
+    /// more, every later call gives `Ended::Input`. The error is `WireFault::Read` or `WireFault::Write`, and
+    /// then every later call gives `WireFault::Failed`.
+    pub fn take_turn<A: Answer, C: Clock>(
         &mut self,
         answerer: &mut A,
-        now: Moment,
+        clock: &mut C,
     ) -> Result<Option<Ended>, WireFault>
-        ensures { TurnOn (streams R.remaining R.has_failed W.contents W.has_failed) A.steps now
+        ensures turn { TurnOn (streams R.remaining R.has_failed W.contents W.has_failed) A.steps
+            (C.tells clock.old)
             (record { wire = self.old; state = answerer.old })
             (record { wire = self.new; state = answerer.new }) result }
+        ensures later { (now : ℕ) → C.tells clock.new now → C.tells clock.old now }
     {
         turn_on(
             &mut self.reader,
@@ -146,7 +152,7 @@ impl<R: Source + Drop, W: Sink + Drop> Wire<R, W> {
             self.max_size,
             &mut self.state,
             answerer,
-            now,
+            clock,
         )
     }
 
@@ -206,20 +212,21 @@ impl<R: Source + Drop, W: Sink + Drop> Wire<R, W> {
 }
 
 // Takes a turn on a wire of these parts, where it still reads.
-fn turn_on<R: Source, W: Sink, A: Answer>(
+fn turn_on<R: Source, W: Sink, A: Answer, C: Clock>(
     reader: &mut R,
     writer: &mut W,
     buffers: &mut Buffers,
     max_size: u64,
     state: &mut State,
     answerer: &mut A,
-    now: Moment,
+    clock: &mut C,
 ) -> Result<Option<Ended>, WireFault>
     requires { IsSound (streams R.remaining R.has_failed W.contents W.has_failed)
         (wire_of reader.old writer.old buffers.old.inbox max_size state.old) }
     ensures sound { IsSound (streams R.remaining R.has_failed W.contents W.has_failed)
         (wire_of reader.new writer.new buffers.new.inbox max_size state.new) }
-    ensures turn { TurnOn (streams R.remaining R.has_failed W.contents W.has_failed) A.steps now
+    ensures turn { TurnOn (streams R.remaining R.has_failed W.contents W.has_failed) A.steps
+        (C.tells clock.old)
         (record {
           wire = wire_of reader.old writer.old buffers.old.inbox max_size state.old;
           state = answerer.old;
@@ -228,10 +235,11 @@ fn turn_on<R: Source, W: Sink, A: Answer>(
           wire = wire_of reader.new writer.new buffers.new.inbox max_size state.new;
           state = answerer.new;
         }) result }
+    ensures later { (now : ℕ) → C.tells clock.new now → C.tells clock.old now }
 {
     match *state {
         State::Open => {
-            let turn = take_turn(reader, writer, buffers, max_size, answerer, now);
+            let turn = take_turn(reader, writer, buffers, max_size, answerer, clock);
             *state = match &turn {
                 Ok(None) => State::Open,
                 Ok(Some(_)) => State::Ended,

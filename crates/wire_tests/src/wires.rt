@@ -41,12 +41,12 @@ fn assert_turn(
     book: &mut Book,
     expected: Result<Option<Ended>, WireFault>,
 ) {
-    assert_eq!(rt; wire.take_turn(book, at(1000)), expected, "{what}");
+    assert_eq!(rt; wire.take_turn(book, &mut at(1000)), expected, "{what}");
 }
 
 /// Asserts what was written on a wire.
 fn assert_written(rt: &impl Abort, wire: MemoryWire<'_>, expected: &[u8]) {
-    let (_, writer) = wire.into_streams();
+    let (_, writer, _) = wire.into_parts();
     assert_eq!(rt; writer.inner.written.as_slice(), expected, "written");
 }
 
@@ -82,7 +82,7 @@ fn turns_on_a_wire(rt: HostRuntime) -> Result<(), Fail> {
     let written = joined(alloc, &REPLIES)?;
     let mut book = new_book(alloc)?;
     let mut wire = new_wire(alloc, Input::new(&all, 7), Output::new(alloc))?;
-    let served = serve(&mut wire, &mut book, &[at(1000); 2]);
+    let served = serve(&mut wire, &mut book, &mut at(1000), 2);
     assert_eq!(rt; served, Ok(Ended::Moments));
     assert_turn(&rt, "the last message", &mut wire, &mut book, Ok(None));
     assert_turn(&rt, "the end", &mut wire, &mut book, Ok(Some(Ended::Input)));

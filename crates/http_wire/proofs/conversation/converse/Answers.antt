@@ -1,28 +1,40 @@
-use Rattle.std.proofs.Common.{◌≡◌, ◌+◌, ◌∷◌, ◌++◌, [], take, drop, ap, ◌∙◌, subst, subst₂, sym, take_all}
+use Rattle.std.proofs.Common.{◌≡◌, ◌+◌, ◌∷◌, ◌++◌, [], take, drop, refl, ap, ◌∙◌, subst, subst₂, sym, take_all}
 use Rattle.std.proofs.lemmas.List.{take_more}
 use Rattle.std.proofs.lemmas.Result.{err_from_is_err_and}
 use Rattle.http_wire.specs.Exchange.{Exchange}
 use Rattle.http_wire.specs.Turns.{Breaks, Converses}
 use Rattle.http_wire.specs.declared.conversation.Ended.TheVariants as ended
-use Rattle.http_wire.proofs.AheadLemmas.{Appends-more, Consumes-more}
-use Rattle.http_wire.proofs.Talk.{Reached, longer_by, Reached-more, Converses-last, Converses-all, Breaks-after, Converses-known, moments_split, IfErr-from}
+use Rattle.http_wire.specs.declared.fault.WireFault.TheVariants.{Memory}
+use Rattle.http_wire.proofs.AheadLemmas.{Appends-more, Appends-none, Consumes-more, Consumes-none}
+use Rattle.http_wire.proofs.Talk.{Reached, longer_by, Reached-more, Converses-last, Converses-all, Breaks-after, Converses-known, moments_split, IfErr-from, timed_at}
 use Rattle.http_wire.proofs.conversation.converse.Goals as goal
+
+pub returns-in_err-buffers-clause-breaks : goal.returns-in_err-buffers-clause-breaks
+returns-in_err-buffers-clause-breaks g c =
+    let p = err_from_is_err_and c.from_residual.result c.from_residual.ensures.1 in
+    IfErr-from _ c.from_residual.result p.0 Memory p.1 p.2 (
+      [],
+      [],
+      Consumes-none (g.R.Source.remaining c.args.reader.now),
+      Appends-none (g.W.Sink.contents c.args.writer.now),
+      (refl, refl, refl),
+    )
 
 pub returns-in_err-turn-clause-breaks : goal.returns-in_err-turn-clause-breaks
 returns-in_err-turn-clause-breaks g c =
     let max = c.max_size-max_size.result in
-    let p = err_from_is_err_and c.from_residual.result c.from_residual.ensures.1 in
+    let p = err_from_is_err_and c.from_residual-in_err-turn.result c.from_residual-in_err-turn.ensures.1 in
     let ms = c.args.moments.now in
     let i = c.loop-moment.moment-index in
     let m = c.moment-item.result in
     let split : take i ms ++ m ∷ drop (i + 1) ms ≡ ms = ap (λ d. take i ms ++ d ∷ drop (i + 1) ms) c.moment-item.is ∙ moments_split ms i m c.loop-moment-test.true in
     let reached = c.loop-moment.invariant.reached in
-    let turn = c.in_err-turn.ensures.turn in
+    let turn = timed_at m c.in_err-turn.ensures.turn in
     let fault = c.in_err-turn.field-0.0 in
     let x : Exchange _ = record { input = reached.0; text = reached.1; before = c.args.answerer.now; after = c.loop-moment.answerer } in
     let b = c.take_turn.new.answerer in
     let breaks = Breaks-after g.A.Answer.steps max (take i ms) (drop (i + 1) ms) m x c.loop-moment.buffers.inbox.held turn.0 turn.1 b fault reached.4 turn.4 in
-    IfErr-from _ c.from_residual.result p.0 fault p.1 p.2 (
+    IfErr-from _ c.from_residual-in_err-turn.result p.0 fault p.1 p.2 (
       reached.0 ++ turn.0,
       reached.1 ++ turn.1,
       Consumes-more _ _ _ reached.0 turn.0 reached.2 turn.2,
@@ -38,7 +50,7 @@ returns-in-Some-clause-converses g c =
     let m = c.moment-item.result in
     let split : take i ms ++ m ∷ drop (i + 1) ms ≡ ms = ap (λ d. take i ms ++ d ∷ drop (i + 1) ms) c.moment-item.is ∙ moments_split ms i m c.loop-moment-test.true in
     let reached = c.loop-moment.invariant.reached in
-    let turn = rw c.in-Some.is at c.in_ok-turn.ensures.turn in
+    let turn = timed_at m (rw c.in-Some.is at c.in_ok-turn.ensures.turn) in
     let x : Exchange _ = record { input = reached.0; text = reached.1; before = c.args.answerer.now; after = c.loop-moment.answerer } in
     let b = c.take_turn.new.answerer in
     let converses = Converses-last g.A.Answer.steps max (take i ms) (drop (i + 1) ms) m x c.loop-moment.buffers.inbox.held turn.0 turn.1 b c.in-Some.ended reached.4 turn.4 in (
@@ -57,7 +69,7 @@ loop-moment-preserved g c =
     let m = c.moment-item.result in
     let more : take i ms ++ m ∷ [] ≡ take (i + 1) ms = ap (λ d. take i ms ++ d ∷ []) c.moment-item.is ∙ sym (take_more ms i m c.loop-moment-test.true) in
     let reached = c.loop-moment.invariant.reached in
-    let turn = rw c.in_default.is at c.in_ok-turn.ensures.turn in
+    let turn = timed_at m (rw c.in_default.is at c.in_ok-turn.ensures.turn) in
     let x : Exchange _ = record { input = reached.0; text = reached.1; before = c.args.answerer.now; after = c.loop-moment.answerer } in
     let b = c.take_turn.new.answerer in
     let held = c.take_turn.new.buffers.inbox.held in

@@ -1,21 +1,27 @@
-use Rattle.std.proofs.Common.{◌≡◌, ℕ, ◌+◌, ◌∷◌, ◌++◌, [], Ok, Err, take, drop, refl, ap, ◌∙◌, subst, subst₂, sym, append-nil, append_assoc, take_all}
-use Rattle.std.proofs.lemmas.List.{take_more}
+use Rattle.std.proofs.Common.{arith, ◌≡◌, ℕ, ◌+◌, ◌∷◌, ◌++◌, [], true, false, true≢false, Some, Ok, Err, length, refl, ◌∙◌, ap, subst, subst₂, sym, append-nil, append_assoc}
+use Rattle.std.proofs.lemmas.List.{length-append}
+use Rattle.std.proofs.lemmas.List.Elements.{All-nil}
 use Rattle.std.proofs.lemmas.Result.{err_from_is_err_and}
 use Rattle.http_wire.specs.Exchange.{Exchange}
-use Rattle.http_wire.specs.Turns.{Breaks, Converses, TakesTurn}
+use Rattle.http_wire.specs.Turns.{Breaks, Converses, EndsByTurn, TakesTurn}
+use Rattle.http_wire.specs.declared.conversation.Ended.TheVariants.{Moments}
 use Rattle.http_wire.proofs.AheadLemmas.{Appends-none, Appends-more, Consumes-none, Consumes-more}
-use Rattle.http_wire.proofs.Talk.{Reached, next_from, Reached-more, Converses-last, Converses-all, Breaks-after, moments_split, IfErr-from}
+use Rattle.http_wire.proofs.Talk.{Reached, next_from, Reached-more, Converses-last, Converses-all, Breaks-after, IfErr-from, All-more, timed_asked, timed_once}
 use Rattle.http_wire.proofs.serving.serve.Goals as goal
 
-pub loop-moment-init : goal.loop-moment-init
-loop-moment-init g c =
+pub loop-taken-init : goal.loop-taken-init
+loop-taken-init g c =
     let held = c.args.wire.now.held in
     let b = c.args.answerer.now in
     let max = c.args.wire.now.max_size in
     record {
       reads = c.requires;
       size = refl;
+      later = λ now h. h;
       reached = (
+        [],
+        refl,
+        All-nil (g.C.Clock.tells c.args.clock.now),
         [],
         [],
         Consumes-none (g.R.Source.remaining c.args.wire.now.reader),
@@ -28,97 +34,136 @@ pub returns-in_err-turn-clause-breaks : goal.returns-in_err-turn-clause-breaks
 returns-in_err-turn-clause-breaks g c =
     let p = err_from_is_err_and c.from_residual.result c.from_residual.ensures.1 in
     let max = c.args.wire.now.max_size in
-    let ms = c.args.moments.now in
-    let i = c.loop-moment.moment-index in
-    let m = c.moment-item.result in
-    let split : take i ms ++ m ∷ drop (i + 1) ms ≡ ms = ap (λ d. take i ms ++ d ∷ drop (i + 1) ms) c.moment-item.is ∙ moments_split ms i m c.loop-moment-test.true in
-    let reached = c.loop-moment.invariant.reached in
-    let turn = (c.in_err-turn.ensures.reading c.loop-moment.invariant.reads).turn in
+    let reached = c.loop-taken.invariant.reached in
+    let timed = timed_once (c.in_err-turn.ensures.turn.reading c.loop-taken.invariant.reads).turn in
+    let m = timed.0 in
+    let turn = timed.1 in
+    let ms = reached.0 in
     let fault = c.in_err-turn.field-0.0 in
-    let b1 = c.loop-moment.answerer in
+    let b1 = c.loop-taken.answerer in
     let b2 = c.take_turn.new.answerer in
     let start = c.args.wire.now.held in
-    let held = c.loop-moment.wire.held in
-    let x : Exchange _ = record { input = start ++ reached.0; text = reached.1; before = c.args.answerer.now; after = b1 } in
-    let last = subst (λ (k : ℕ). TakesTurn g.A.Answer.steps k m (next_from g.A.Answer.steps k x held turn.0 turn.1 b2) c.take_turn.new.self.held (Err fault)) c.loop-moment.invariant.size turn.4 in
-    let breaks = Breaks-after g.A.Answer.steps max (take i ms) (drop (i + 1) ms) m x held turn.0 turn.1 b2 fault reached.4 last in
+    let held = c.loop-taken.wire.held in
+    let x : Exchange _ = record { input = start ++ reached.3; text = reached.4; before = c.args.answerer.now; after = b1 } in
+    let last = subst (λ (k : ℕ). TakesTurn g.A.Answer.steps k m (next_from g.A.Answer.steps k x held turn.0 turn.1 b2) c.take_turn.new.self.held (Err fault)) c.loop-taken.invariant.size turn.4 in
+    let breaks = Breaks-after g.A.Answer.steps max ms [] m x held turn.0 turn.1 b2 fault reached.7 last in
+    let few = length-append ms (m ∷ []) in
     IfErr-from _ c.from_residual.result p.0 fault p.1 p.2 (
-      reached.0 ++ turn.0,
-      reached.1 ++ turn.1,
-      Consumes-more _ _ _ reached.0 turn.0 reached.2 turn.2,
-      Appends-more _ _ _ reached.1 turn.1 reached.3 turn.3,
-      subst₂ (λ l i. Breaks g.A.Answer.steps max l (record x { input = i; text = reached.1 ++ turn.1; after = b2 }) fault) split (append_assoc start reached.0 turn.0) breaks,
+      ms ++ m ∷ [],
+      omega (arith, few, reached.1, c.loop-taken-test.true),
+      reached.3 ++ turn.0,
+      reached.4 ++ turn.1,
+      Consumes-more _ _ _ reached.3 turn.0 reached.5 turn.2,
+      Appends-more _ _ _ reached.4 turn.1 reached.6 turn.3,
+      subst (λ i. Breaks g.A.Answer.steps max (ms ++ m ∷ []) (record x { input = i; text = reached.4 ++ turn.1; after = b2 }) fault) (append_assoc start reached.3 turn.0) breaks,
     )
+
+pub returns-in_err-turn-clause-later : goal.returns-in_err-turn-clause-later
+returns-in_err-turn-clause-later g c now h = c.loop-taken.invariant.later now (c.take_turn.ensures.later now h)
 
 pub returns-in_err-turn-clause-fault : goal.returns-in_err-turn-clause-fault
 returns-in_err-turn-clause-fault g c =
     let p = err_from_is_err_and c.from_residual.result c.from_residual.ensures.1 in
-    IfErr-from _ c.from_residual.result p.0 c.in_err-turn.field-0.0 p.1 p.2 (c.in_err-turn.ensures.reading c.loop-moment.invariant.reads).fault
+    IfErr-from _ c.from_residual.result p.0 c.in_err-turn.field-0.0 p.1 p.2 (c.in_err-turn.ensures.turn.reading c.loop-taken.invariant.reads).fault
 
 pub returns-in-Some-clause-converses : goal.returns-in-Some-clause-converses
 returns-in-Some-clause-converses g c =
     let max = c.args.wire.now.max_size in
-    let ms = c.args.moments.now in
-    let i = c.loop-moment.moment-index in
-    let m = c.moment-item.result in
-    let split : take i ms ++ m ∷ drop (i + 1) ms ≡ ms = ap (λ d. take i ms ++ d ∷ drop (i + 1) ms) c.moment-item.is ∙ moments_split ms i m c.loop-moment-test.true in
-    let reached = c.loop-moment.invariant.reached in
-    let turn = (c.in_ok-turn.ensures.reading c.loop-moment.invariant.reads).turn in
-    let b1 = c.loop-moment.answerer in
+    let reached = c.loop-taken.invariant.reached in
+    let on = c.in_ok-turn.ensures.turn.reading c.loop-taken.invariant.reads in
+    let timed = timed_asked (λ failed. absurd (true≢false (sym failed))) on.turn in
+    let m = timed.0 in
+    let turn = timed.2 in
+    let ms = reached.0 in
+    let b1 = c.loop-taken.answerer in
     let b2 = c.take_turn.new.answerer in
     let start = c.args.wire.now.held in
-    let held = c.loop-moment.wire.held in
-    let x : Exchange _ = record { input = start ++ reached.0; text = reached.1; before = c.args.answerer.now; after = b1 } in
-    let last = subst₂ (λ k t. TakesTurn g.A.Answer.steps k m (next_from g.A.Answer.steps k x held turn.0 turn.1 b2) c.take_turn.new.self.held (Ok t)) c.loop-moment.invariant.size c.in-Some.is turn.4 in
-    let converses = Converses-last g.A.Answer.steps max (take i ms) (drop (i + 1) ms) m x held turn.0 turn.1 b2 c.in-Some.ended reached.4 last in (
-      reached.0 ++ turn.0,
-      reached.1 ++ turn.1,
-      Consumes-more _ _ _ reached.0 turn.0 reached.2 turn.2,
-      Appends-more _ _ _ reached.1 turn.1 reached.3 turn.3,
-      subst₂ (λ l i. Converses g.A.Answer.steps max l (record x { input = i; text = reached.1 ++ turn.1; after = b2 }) c.in-Some.ended) split (append_assoc start reached.0 turn.0) converses,
+    let held = c.loop-taken.wire.held in
+    let x : Exchange _ = record { input = start ++ reached.3; text = reached.4; before = c.args.answerer.now; after = b1 } in
+    let last = subst₂ (λ k t. TakesTurn g.A.Answer.steps k m (next_from g.A.Answer.steps k x held turn.0 turn.1 b2) c.take_turn.new.self.held (Ok t)) c.loop-taken.invariant.size c.in-Some.is turn.4 in
+    let converses = Converses-last g.A.Answer.steps max ms [] m x held turn.0 turn.1 b2 c.in-Some.ended reached.7 last in
+    let few = length-append ms (m ∷ []) in
+    let ends = rw c.in-Some.is at on.ends in (
+      ms ++ m ∷ [],
+      record {
+        told = All-more (g.C.Clock.tells c.args.clock.now) ms m reached.2 (c.loop-taken.invariant.later m timed.1);
+        few = omega (arith, few, reached.1, c.loop-taken-test.true);
+        all = λ is. absurd (subst (λ e. EndsByTurn (Some e)) is ends);
+      },
+      reached.3 ++ turn.0,
+      reached.4 ++ turn.1,
+      Consumes-more _ _ _ reached.3 turn.0 reached.5 turn.2,
+      Appends-more _ _ _ reached.4 turn.1 reached.6 turn.3,
+      subst (λ i. Converses g.A.Answer.steps max (ms ++ m ∷ []) (record x { input = i; text = reached.4 ++ turn.1; after = b2 }) c.in-Some.ended) (append_assoc start reached.3 turn.0) converses,
     )
 
 pub returns-in-Some-clause-read : goal.returns-in-Some-clause-read
 returns-in-Some-clause-read g c =
-    rw c.in-Some.is at (c.in_ok-turn.ensures.reading c.loop-moment.invariant.reads).end
+    rw c.in-Some.is at (c.in_ok-turn.ensures.turn.reading c.loop-taken.invariant.reads).end
 
-pub loop-moment-preserved : goal.loop-moment-preserved
-loop-moment-preserved g c =
+pub returns-in-Some-clause-later : goal.returns-in-Some-clause-later
+returns-in-Some-clause-later g c now h = c.loop-taken.invariant.later now (c.take_turn.ensures.later now h)
+
+pub returns-in-Some-clause-reads : goal.returns-in-Some-clause-reads
+returns-in-Some-clause-reads g c is =
+    let ends = rw c.in-Some.is at (c.in_ok-turn.ensures.turn.reading c.loop-taken.invariant.reads).ends in
+    absurd (subst (λ e. EndsByTurn (Some e)) is ends)
+
+pub loop-taken-preserved : goal.loop-taken-preserved
+loop-taken-preserved g c =
     let max = c.args.wire.now.max_size in
-    let ms = c.args.moments.now in
-    let i = c.loop-moment.moment-index in
-    let m = c.moment-item.result in
-    let more : take i ms ++ m ∷ [] ≡ take (i + 1) ms = ap (λ d. take i ms ++ d ∷ []) c.moment-item.is ∙ sym (take_more ms i m c.loop-moment-test.true) in
-    let reached = c.loop-moment.invariant.reached in
-    let on = c.in_ok-turn.ensures.reading c.loop-moment.invariant.reads in
-    let turn = on.turn in
-    let b1 = c.loop-moment.answerer in
+    let reached = c.loop-taken.invariant.reached in
+    let on = c.in_ok-turn.ensures.turn.reading c.loop-taken.invariant.reads in
+    let timed = timed_asked (λ failed. absurd (true≢false (sym failed))) on.turn in
+    let m = timed.0 in
+    let turn = timed.2 in
+    let ms = reached.0 in
+    let b1 = c.loop-taken.answerer in
     let b2 = c.take_turn.new.answerer in
     let start = c.args.wire.now.held in
-    let held = c.loop-moment.wire.held in
-    let x : Exchange _ = record { input = start ++ reached.0; text = reached.1; before = c.args.answerer.now; after = b1 } in
+    let held = c.loop-taken.wire.held in
+    let x : Exchange _ = record { input = start ++ reached.3; text = reached.4; before = c.args.answerer.now; after = b1 } in
     let left = c.take_turn.new.self.held in
-    let last = subst₂ (λ k t. TakesTurn g.A.Answer.steps k m (next_from g.A.Answer.steps k x held turn.0 turn.1 b2) left (Ok t)) c.loop-moment.invariant.size c.in_default.is turn.4 in
-    let next = Reached-more g.A.Answer.steps max (take i ms) m x held turn.0 turn.1 b2 left reached.4 last in
+    let last = subst₂ (λ k t. TakesTurn g.A.Answer.steps k m (next_from g.A.Answer.steps k x held turn.0 turn.1 b2) left (Ok t)) c.loop-taken.invariant.size c.in_default.is turn.4 in
+    let next = Reached-more g.A.Answer.steps max ms m x held turn.0 turn.1 b2 left reached.7 last in
     record {
       reads = rw c.in_default.is at on.reads;
-      size = on.size ∙ c.loop-moment.invariant.size;
+      size = on.size ∙ c.loop-taken.invariant.size;
+      later = λ now h. c.loop-taken.invariant.later now (c.take_turn.ensures.later now h);
       reached = (
-        reached.0 ++ turn.0,
-        reached.1 ++ turn.1,
-        Consumes-more _ _ _ reached.0 turn.0 reached.2 turn.2,
-        Appends-more _ _ _ reached.1 turn.1 reached.3 turn.3,
-        subst₂ (λ l i. Reached g.A.Answer.steps max l (record x { input = i; text = reached.1 ++ turn.1; after = b2 }) left) more (append_assoc start reached.0 turn.0) next,
+        ms ++ m ∷ [],
+        length-append ms (m ∷ []) ∙ ap (λ n. n + 1) reached.1,
+        All-more (g.C.Clock.tells c.args.clock.now) ms m reached.2 (c.loop-taken.invariant.later m timed.1),
+        reached.3 ++ turn.0,
+        reached.4 ++ turn.1,
+        Consumes-more _ _ _ reached.3 turn.0 reached.5 turn.2,
+        Appends-more _ _ _ reached.4 turn.1 reached.6 turn.3,
+        subst (λ i. Reached g.A.Answer.steps max (ms ++ m ∷ []) (record x { input = i; text = reached.4 ++ turn.1; after = b2 }) left) (append_assoc start reached.3 turn.0) next,
       );
     }
 
 pub returns-clause-converses : goal.returns-clause-converses
 returns-clause-converses g c =
     let max = c.args.wire.now.max_size in
-    let ms = c.args.moments.now in
-    let reached = c.loop-moment.invariant.reached in
-    let held = c.loop-moment.wire.held in
-    let b1 = c.loop-moment.answerer in
-    let x : Exchange _ = record { input = c.args.wire.now.held ++ reached.0; text = reached.1; before = c.args.answerer.now; after = b1 } in
-    let all = subst (λ l. Reached g.A.Answer.steps max l x held) (take_all c.loop-moment.moment-index ms c.loop-moment-test.false) reached.4 in
-    (reached.0, reached.1, reached.2, reached.3, Converses-all g.A.Answer.steps max ms x held all)
+    let reached = c.loop-taken.invariant.reached in
+    let held = c.loop-taken.wire.held in
+    let b1 = c.loop-taken.answerer in
+    let x : Exchange _ = record { input = c.args.wire.now.held ++ reached.3; text = reached.4; before = c.args.answerer.now; after = b1 } in (
+      reached.0,
+      record {
+        told = reached.2;
+        few = omega (arith, reached.1, c.loop-taken.auto.taken-end);
+        all = λ _. omega (arith, reached.1, c.loop-taken.auto.taken-end, c.loop-taken-test.false);
+      },
+      reached.3,
+      reached.4,
+      reached.5,
+      reached.6,
+      Converses-all g.A.Answer.steps max reached.0 x held reached.7,
+    )
+
+pub returns-clause-later : goal.returns-clause-later
+returns-clause-later g c = c.loop-taken.invariant.later
+
+pub returns-clause-reads : goal.returns-clause-reads
+returns-clause-reads g c _ = c.loop-taken.invariant.reads
