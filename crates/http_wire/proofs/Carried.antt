@@ -3,9 +3,9 @@ use Rattle.std.proofs.Common.{ℕ, Bool, true, false, List, [], ◌∷◌, inl, 
 use Rattle.tus_steps.specs.Request.{Request}
 use Rattle.tus_steps.specs.declared.reply.Reply.{Reply}
 use Rattle.http_wire.specs.Conversation.{Course, Conversation, EndsWith, Goes, Turn}
-use Rattle.http_wire.specs.Exchange.{Exchange, first_part, last_part}
+use Rattle.http_wire.specs.Exchange.{Exchange, first_part, followed, last_part}
 use Rattle.http_wire.specs.Front.{Front, message, refused, cut_patch, cut_other, clean_end}
-use Rattle.http_wire.specs.Turns.{Answered, Breaks, BreaksOff, FailsIn, FailsToContinue}
+use Rattle.http_wire.specs.Turns.{Answered, Breaks, BreaksOff, Converses, FailsIn, FailsToContinue}
 use Rattle.http_wire.specs.declared.conversation.Ended.{Ended}
 use Rattle.http_wire.specs.declared.fault.WireFault.{WireFault}
 use Rattle.http_wire.specs.declared.fault.WireFault.TheVariants.{Read, Write, Memory, Failed}
@@ -36,6 +36,10 @@ module _ {A B : Type 0} (f : A → B) (steps : A → Request → ℕ → Reply �
   Conversation-carried [] x e h = EndsWith-carried _ _ x e h
   Conversation-carried (now ∷ moments) x e h =
       (h.0, h.1, Turn-carried now (Conversation steps max moments) (Conversation others max moments) h.0 x e (λ y. Conversation-carried moments y e) h.2)
+
+  -- the same, whatever follows the bytes that were read
+  pub Converses-carried : (moments : List ℕ) (x : Exchange A) (e : Ended) → Converses steps max moments x e → Converses others max moments (carried f x) e
+  Converses-carried moments x e h rest may = Conversation-carried moments (followed x rest) e (h rest may)
 
   Answered-carried : (now : ℕ) (x : Exchange A) (rest : List ℕ) → Answered steps max now x rest → Answered others max now (carried f x) rest
   Answered-carried now x rest a = record {

@@ -2,3 +2,4 @@ pub mod CommandLineLemmas
 pub mod FaultLemmas
 pub mod TalkLemmas
 pub mod WordLemmas
+pub mod DeskLemmas

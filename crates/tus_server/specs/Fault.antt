@@ -3,6 +3,8 @@ use Rattle.std.specs.Prelude.{◌≡◌, ℕ, ◌≤◌, Bool, true, false, List
 use Rattle.std.specs.Io.KnownBytes.{Appends}
 use Rattle.http_wire.specs.declared.fault.WireFault.{WireFault}
 use Rattle.http_wire.specs.declared.fault.WireFault.TheVariants as wire
+use Rattle.tus_shared.specs.declared.open_fault.OpenFault.{OpenFault}
+use Rattle.tus_shared.specs.declared.open_fault.OpenFault.TheVariants as opening
 use Rattle.upload_book.specs.declared.settings_fault.SettingsFault.{SettingsFault}
 use Rattle.upload_book.specs.Settings.{fault_word}
 use Rattle.tus_server.specs.declared.fault.TalkFault.{TalkFault}
@@ -37,6 +39,11 @@ fault_of_wire wire.Read = Wire
 fault_of_wire wire.Write = Wire
 fault_of_wire wire.Failed = Wire
 fault_of_wire wire.Memory = Memory
+
+-- what a fault of an opening is to the program: a number of workers that no command line tells, or memory
+abbrev pub fault_of_opening : OpenFault → TalkFault
+fault_of_opening opening.Desks = Words
+fault_of_opening opening.Memory = Memory
 
 -- what was told has this fault, or memory was lacking
 abbrev pub IsFaultOf : {T : Type 0} → Result T SettingsFault → TalkFault → Type 0

@@ -2,3 +2,5 @@ pub mod CommandLine
 pub mod Fault
 pub mod Talk
 pub mod Words
+pub mod DeskStep
+pub mod Lines

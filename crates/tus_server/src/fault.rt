@@ -1,10 +1,11 @@
 ghost use Rattle.std.specs.Prelude.{◌≡◌, false};
-ghost use Rattle.tus_server.specs.Fault.{WritesOrFails, fault_of_wire, line_of, status_of};
+ghost use Rattle.tus_server.specs.Fault.{WritesOrFails, fault_of_opening, fault_of_wire, line_of, status_of};
 ghost use Rattle.tus_server.specs.declared.fault.TalkFault.TheVariants.{Settings, Memory};
 
 use arrayvec::ArrayString;
 use http_wire::{Sink, WireFault, put_all};
 use std::alloc::AllocError;
+use tus_shared::OpenFault;
 use upload_book::SettingsFault;
 
 /// The most bytes of a line that names a fault.
@@ -93,6 +94,17 @@ impl From<AllocError> for TalkFault {
 
     fn from(_: AllocError) -> TalkFault {
         TalkFault::Memory
+    }
+}
+
+impl From<OpenFault> for TalkFault {
+    ghost from_gives = { λ fault talk. talk ≡ fault_of_opening fault };
+
+    fn from(fault: OpenFault) -> TalkFault {
+        match fault {
+            OpenFault::Desks => TalkFault::Words,
+            OpenFault::Memory => TalkFault::Memory,
+        }
     }
 }
 

@@ -4,10 +4,17 @@
 ghost use Rattle.std.specs.Prelude.{◌≡◌, ◌≢◌};
 ghost use Rattle.std.specs.IoError.{error_kind};
 
+mod at_desk;
 mod command_line;
 mod fault;
+mod lines;
+mod machine_clock;
 mod program;
+mod serve;
+mod serve_options;
+mod stream;
 mod talk;
+mod worker;
 #[cfg(test)]
 mod tests;
 

@@ -196,9 +196,17 @@ fn opening(alloc: Global, numbers: Numbers, tenants: &[&str]) -> Result<Book, Ta
     ensures new { IfOk result (λ book. plain_of book ≡ opening_book (plain_of book).settings) }
     ensures fault { IfErr result (IsFaultOf (settings_told numbers (texts tenants.now))) }
 {
-    let tenants = tenants_of(alloc, tenants)?;
-    let settings = Settings::new(numbers, tenants.as_slice())?;
+    let settings = settings_with(alloc, numbers, tenants)?;
     Ok(Book::new(alloc, settings)?)
+}
+
+/// The settings that the numbers and the words tell, or their first fault, or `TalkFault::Memory`.
+pub fn settings_with(alloc: Global, numbers: Numbers, tenants: &[&str]) -> Result<Settings, TalkFault>
+    ensures settings { IfOk result (λ settings. settings_told numbers (texts tenants.now) ≡ Ok settings) }
+    ensures fault { IfErr result (IsFaultOf (settings_told numbers (texts tenants.now))) }
+{
+    let tenants = tenants_of(alloc, tenants)?;
+    Ok(Settings::new(numbers, tenants.as_slice())?)
 }
 
 /// The tenants that the words name. A word that is no tenant's name, `:` and a number is refused before

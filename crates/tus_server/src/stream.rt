@@ -1,0 +1,73 @@
+//! A connection's conversation at a desk.
+ghost use Rattle.std.specs.Prelude.{◌≡◌, ℕ, List, false, IfErr, IfOk, OnOk};
+ghost use Rattle.std.specs.Io.KnownBytes.{Appends, Consumes};
+ghost use Rattle.http_wire.specs.Clock.{AreTold};
+ghost use Rattle.http_wire.specs.Lent.{Names};
+ghost use Rattle.http_wire.specs.Turns.{Breaks, Converses, IsReadWhen};
+ghost use Rattle.tus_server.specs.DeskStep.{DeskStep};
+
+use crate::at_desk::AtDesk;
+use crate::talk::MESSAGES_MAX;
+use http_wire::{Answer, Buffers, Clock, Ended, Sink, Source, Wire, WireFault, serve};
+use std::sync::Wait;
+use std::sync::ledger::Ledger;
+use tus_shared::{Charges, Desk, Gate, Shared};
+
+/// A connection that was served: how its conversation ended, and what served it.
+#[derive(Drop)]
+pub struct Served<C: Charges, R: Ledger, I, O> {
+    pub ended: Result<Ended, WireFault>,
+    pub desk: Desk<C, R>,
+    pub reader: I,
+    pub writer: O,
+    pub buffers: Buffers,
+}
+
+/// Reads messages, lets the desk answer them and writes the replies, until the input ends, the connection
+/// closes or 4,096 messages were read. Each has the moment that the clock tells when it has come. What ended it
+/// may be `WireFault::Read` or `WireFault::Write`; the steps that were made before it stay.
+///
+/// Each reply is the plain book's on some lawful book of the desk's settings, and the desk counts what the step
+/// charged and released: nobody can say what the other desks did meanwhile. Desk and buffers are given back, for
+/// the next connection.
+pub fn serve_stream<
+    C: Charges,
+    R: Ledger,
+    W: Wait,
+    I: Source + Drop,
+    O: Sink + Drop,
+    K: Clock,
+    G: Gate,
+>(
+    rt: &W,
+    buffers: Buffers,
+    reader: I,
+    writer: O,
+    desk: Desk<C, R>,
+    shared: &Shared<C, R>,
+    clock: &mut K,
+    gate: &G,
+) -> Served<C, R, I, O>
+    requires reader { I.has_failed reader ≡ false }
+    requires writer { O.has_failed writer ≡ false }
+    ensures converses { IfOk result.ended (λ e. (moments : List ℕ)
+        × AreTold (K.tells clock.old) 4096 e moments × (got text : List ℕ)
+        × Consumes (I.remaining reader) (I.remaining result.reader) got
+        × Appends (O.contents writer) (O.contents result.writer) text
+        × Converses (DeskStep C.settings) C.settings.numbers.max_size moments
+        (record { input = got; text = text; before = desk; after = result.desk }) e) }
+    ensures read { IfOk result.ended (λ e. IsReadWhen e (I.remaining result.reader)) }
+    ensures fault { IfErr result.ended (Names (I.has_failed result.reader) (O.has_failed result.writer)) }
+{
+    let mut answerer = AtDesk::new(rt, desk, shared, gate);
+    let mut wire = Wire::over(buffers, reader, writer, answerer.max_size());
+    let ended = serve(&mut wire, &mut answerer, clock, MESSAGES_MAX);
+    let (reader, writer, buffers) = wire.into_parts();
+    Served {
+        ended,
+        desk: answerer.into_desk(),
+        reader,
+        writer,
+        buffers,
+    }
+}
