@@ -8,4 +8,5 @@ pub mod Creation
 pub mod Operation
 pub mod Reply
 pub mod Step
+pub mod Head
 pub mod Laws

@@ -1,5 +1,5 @@
 -- The reply to what the book answers.
-use Rattle.std.specs.Prelude.{ℕ, List, Option, None, unwrap_or, [], Result, Ok, Err, ⊤}
+use Rattle.std.specs.Prelude.{ℕ, true, List, Option, None, unwrap_or, [], Result, Ok, Err, ⊤}
 use Rattle.tus_text.specs.declared.path.Path.{Path}
 use Rattle.tus_text.specs.declared.path.Path.TheVariants as path
 use Rattle.upload_book.specs.declared.append.Appended.{Appended}
@@ -31,10 +31,10 @@ abbrev pub creation_reply : Request → Result Created Refusal → Reply
 creation_reply r (Ok created) = reply.Created (unwrap_or (tenant_name r.path) []) created.name.id created.expires
 creation_reply r (Err why) = refusing r why None
 
--- the reply to a HEAD
-abbrev pub look_reply : Request → Result HeadRow Refusal → Reply
-look_reply r (Ok row) = reply.Head row
-look_reply r (Err why) = refusing r why None
+-- the reply to a HEAD of an upload
+abbrev pub head_reply : Result HeadRow Refusal → Reply
+head_reply (Ok row) = reply.Head row
+head_reply (Err why) = reply.Refused why true place.Upload None
 
 -- the reply to a GET
 abbrev pub content_reply : Request → Result (List ℕ) Refusal → Reply

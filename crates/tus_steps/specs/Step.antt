@@ -16,14 +16,14 @@ use Rattle.tus_steps.specs.declared.reply.Reply.{Reply}
 use Rattle.tus_steps.specs.declared.reply.Reply.TheVariants as reply
 use Rattle.tus_steps.specs.Operation.{operation_of}
 use Rattle.tus_steps.specs.Method.{is_options}
-use Rattle.tus_steps.specs.Reply.{refusing, creation_reply, look_reply, content_reply, append_reply, deletion_reply}
+use Rattle.tus_steps.specs.Reply.{refusing, creation_reply, head_reply, content_reply, append_reply, deletion_reply}
 use Rattle.tus_steps.specs.Request.{Request}
 
 -- the reply to a request for an operation, which the answer of the plain book determines
 abbrev pub operation_reply : PlainBook → Request → ℕ → Operation → Reply
 operation_reply b r now (Create tenant new) = creation_reply r (answer_of b tenant (create_answer tenant new now))
 operation_reply b r now (Concat tenant new) = creation_reply r (answer_of b tenant (concat_answer tenant new now))
-operation_reply b r now (Look name) = look_reply r (answer_of b name.tenant (look_answer name.id now))
+operation_reply b r now (Look name) = head_reply (answer_of b name.tenant (look_answer name.id now))
 operation_reply b r now (Content name) = content_reply r (answer_of b name.tenant (content_answer name.id now))
 operation_reply b r now (Append name chunk) = append_reply r (answer_of b name.tenant (append_answer name.id chunk now b.charged))
 operation_reply b r now (Terminate name) = deletion_reply r (answer_of b name.tenant (terminate_answer name.id now))

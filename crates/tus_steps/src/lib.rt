@@ -4,6 +4,7 @@
 
 mod creation;
 mod field;
+mod head;
 pub mod laws;
 mod media;
 mod method;
@@ -17,6 +18,7 @@ mod tus_fields;
 
 pub use creation::PartIds;
 pub use field::Field;
+pub use head::{HeadOf, head_of, head_reply};
 pub use media::trim_blanks;
 pub use method::Method;
 pub use reply::{Place, Reply};

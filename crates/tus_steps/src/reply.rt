@@ -55,7 +55,7 @@ pub enum Reply {
 
 impl Reply {
     ghost use Rattle.std.specs.Prelude.{◌≡◌};
-    ghost use Rattle.tus_steps.specs.Reply.{refusing, creation_reply, look_reply, content_reply, append_reply, deletion_reply};
+    ghost use Rattle.tus_steps.specs.Reply.{refusing, creation_reply, content_reply, append_reply, deletion_reply};
 
     /// The reply that refuses the request, and tells when its upload expires.
     pub fn refusing(request: &Request, refusal: Refusal, expires: Option<Moment>) -> Reply
@@ -79,16 +79,6 @@ impl Reply {
                 id: created.name.id,
                 expires: created.expires,
             },
-            Err(refusal) => Reply::refusing(request, refusal, None),
-        }
-    }
-
-    /// The reply to a HEAD.
-    pub fn to_look(request: &Request, outcome: Result<HeadRow, Refusal>) -> Reply
-        ensures { result ≡ look_reply request.now outcome }
-    {
-        match outcome {
-            Ok(row) => Reply::Head(row),
             Err(refusal) => Reply::refusing(request, refusal, None),
         }
     }

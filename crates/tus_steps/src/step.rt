@@ -4,6 +4,7 @@ ghost use Rattle.tus_steps.specs.Reply.{IsRefusing};
 ghost use Rattle.tus_steps.specs.Step.{IsStep};
 
 use crate::creation::PartIds;
+use crate::head::head_reply;
 use crate::reply::Reply;
 use crate::request::Request;
 use upload_book::{Book, Moment, Operation};
@@ -33,7 +34,7 @@ pub fn answer(book: &mut Book, request: &Request, now: Moment) -> Reply
             let outcome = book.concat(tenant, new, now);
             Reply::to_creation(request, outcome)
         }
-        Ok(Operation::Look(name)) => Reply::to_look(request, book.look(&name, now)),
+        Ok(Operation::Look(name)) => head_reply(book.look(&name, now)),
         Ok(Operation::Content(name)) => Reply::to_content(request, book.content(&name, now)),
         Ok(Operation::Append { name, chunk }) => {
             let outcome = book.append(&name, chunk, now);
