@@ -1,1 +1,7 @@
 pub mod StepLemmas
+pub mod AskLemmas
+pub mod PlaceLemmas
+pub mod ApartLemmas
+pub mod OwnLemmas
+pub mod HistoryLemmas
+pub mod LawsLemmas

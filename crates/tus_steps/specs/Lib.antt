@@ -10,3 +10,6 @@ pub mod Reply
 pub mod Step
 pub mod Head
 pub mod Laws
+pub mod History
+pub mod Isolation
+pub mod Fault

@@ -1,8 +1,31 @@
 //! Laws of the definitions that the contracts cite: each is the contract of a function that does nothing.
+ghost use Rattle.tus_steps.specs.Isolation.{OtherNeighbours, OwnEvents, StepsSeeOneTenant};
 ghost use Rattle.tus_steps.specs.Laws.{RequestsFollowOrder};
 
 /// A request is refused before the book is asked by the first of its tests that holds, and these follow
 /// the one order of refusals.
 pub fn requests_follow_the_order()
     ensures { RequestsFollowOrder }
+{}
+
+/// A tenant's request is answered by the request, its moment, the numbers of the settings and the tenant's part of
+/// the book, which every other request leaves; and what a sweep leaves of a part, that part and the moment say. The
+/// exceptions are refusals for what all tenants share: memory, and the total of blocks that they may be charged.
+pub fn steps_see_one_tenant()
+    ensures { StepsSeeOneTenant }
+{}
+
+/// Each of a tenant's requests is told what it would be told if no other tenant ever sent one: for every list of
+/// requests and sweeps from an opening book, the replies to a tenant's requests are those that they get in the list
+/// of its own events, which are its requests and all sweeps. None of these replies, in either list, is a refusal for
+/// what all tenants share: memory, or the total of blocks that they may be charged.
+pub fn own_events()
+    ensures { OwnEvents }
+{}
+
+/// A tenant keeps its replies among other neighbours: on two servers with the same numbers and the same quota for it,
+/// whoever else has a quota there and whatever the others send, the same own events get the same replies. None of
+/// these is a refusal for what all tenants share.
+pub fn other_neighbours()
+    ensures { OtherNeighbours }
 {}

@@ -11,6 +11,8 @@ mod method;
 mod reply;
 mod request;
 mod route;
+mod run_fault;
+mod runs;
 mod step;
 #[cfg(test)]
 mod tests;
@@ -23,5 +25,7 @@ pub use media::trim_blanks;
 pub use method::Method;
 pub use reply::{Place, Reply};
 pub use request::Request;
+pub use run_fault::RunFault;
+pub use runs::run;
 pub use step::answer;
 pub use tus_fields::TusFields;

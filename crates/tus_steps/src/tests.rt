@@ -1,5 +1,7 @@
 //! The worked rows of the steps: 4-byte blocks, 12 of them, two tenants, a lifetime of an hour and
 //! uploads of at most 64 bytes.
+mod runs;
+
 use super::*;
 use std::alloc::Global;
 use std::test::Fail;
