@@ -38,6 +38,7 @@ fn a_run_answers_in_order(rt: HostRuntime) -> Result<(), Fail> {
         },
     ];
     assert!(rt; tell(replies.as_slice(), &expected));
+    assert_eq!(rt; RunFault::Memory.word(), "memory");
     Ok(())
 }
 
