@@ -1,28 +1,46 @@
 -- The command line of the program as clap reads it, and what it tells.
-use Rattle.std.specs.Prelude.{ℕ, ◌⊎◌, ◌^◌, ◌-◌, Bool, true, ◌&&◌, List, [], ◌∷◌, length, nat_lt, Option, Some, None, bytes_eq, codes, if◌then◌else◌}
+use Rattle.std.specs.Prelude.{◌≡◌, ℕ, ◌⊎◌, ◌^◌, ◌-◌, Bool, true, ◌&&◌, List, [], ◌∷◌, length, nat_lt, Option, Some, None, IfSome, bytes_eq, codes, if◌then◌else◌}
 use Rattle.std.specs.List.{list_all}
 use Rattle.std.specs.Option.{option_map_or}
 use Rattle.std.specs.Char.{digit_value}
 use Rattle.std.specs.Str.Parse.{digits_value, without_leading_plus}
 use Rattle.clap.specs.Walk.{texts}
 use Rattle.clap.specs.Words.{App, IsAmong, Kinds, Row, Rule, Text, all_of, fault_of, new_app, new_rule, one_of, subcommand_of, with_rule, with_subcommand}
-use Rattle.clap.specs.declared.builder.ArgAction.TheVariants.{Append}
+use Rattle.clap.specs.declared.builder.ArgAction.TheVariants.{Append, SetTrue}
 use Rattle.clap.specs.declared.error.kind.ErrorKind.TheVariants.{DisplayHelp, DisplayVersion}
 use Rattle.clap.specs.declared.builder.value_parser.ValueParser.TheVariants as parser
 use Rattle.upload_book.specs.declared.settings.Numbers.{Numbers}
 use Rattle.tus_server.specs.declared.command_line.TalkOptions.{TalkOptions}
+use Rattle.tus_server.specs.declared.serve_options.ServeOptions.{ServeOptions}
+use Rattle.tus_server.specs.declared.serve_options.WorkOptions.{WorkOptions}
 
 -- the most values of an argument that may be repeated without end
 abbrev no_end : ℕ
 no_end = 2 ^ 64 - 1
 
--- an option --NAME that takes one number from 0 to `most`, with this number where it is not given
-abbrev pub option_rule : Text → Text → ℕ → Rule
-option_rule name default most = record (new_rule name) {
+-- an option --NAME that takes one number from `least` to `most`, with this number where it is not given
+abbrev pub option_between : Text → Text → ℕ → ℕ → Rule
+option_between name default least most = record (new_rule name) {
   long = Some name;
   value_names = 1;
-  parser = Some (parser.Unsigned 0 most);
+  parser = Some (parser.Unsigned least most);
   defaults = default ∷ [];
+}
+
+-- the same with a number from 0
+abbrev pub option_rule : Text → Text → ℕ → Rule
+option_rule name default most = option_between name default 0 most
+
+-- an option --NAME that takes nothing
+abbrev pub flag_rule : Text → Rule
+flag_rule name = record (new_rule name) { long = Some name; action = Some SetTrue }
+
+-- the option --moment of a server, which has no number where it is not given
+abbrev pub moment_rule : Rule
+moment_rule = record (new_rule (codes "moment")) {
+  long = Some (codes "moment");
+  value_names = 1;
+  parser = Some (parser.Unsigned 0 253402300799);
 }
 
 -- the words that stand for themselves: one or more, each a tenant
@@ -55,12 +73,31 @@ talk_command =
     (with_sizes (with_rule (new_app (codes "talk")) (option_rule (codes "moment") (codes "0") 253402300799)))
     tenant_rule
 
--- the program: it has the command `talk`, and does nothing without a command
+-- the command `serve`: its options with their defaults, and the tenants
+abbrev pub serve_command : App
+serve_command =
+    with_rule
+    (with_sizes
+    (with_rule
+    (with_rule
+    (with_rule
+    (with_rule
+    (with_rule
+    (with_rule (new_app (codes "serve"))
+    (option_between (codes "port") (codes "0") 0 65535))
+    (option_between (codes "workers") (codes "2") 1 16))
+    (option_between (codes "connections") (codes "1") 1 4096))
+    (flag_rule (codes "forever")))
+    (option_between (codes "idle") (codes "60") 0 86400))
+    moment_rule))
+    tenant_rule
+
+-- the program: it has the commands `talk` and `serve`, and does nothing without a command
 abbrev pub program : App
 program =
     let bare = new_app (codes "tus-server") in
     let asks = record bare { top = record bare.top { subcommand_required = true; arg_required_else_help = true } } in
-    with_subcommand asks talk_command.top
+    with_subcommand (with_subcommand asks talk_command.top) serve_command.top
 
 -- the text is a decimal number below 2^64, perhaps after a plus
 abbrev pub is_number : Text → Bool
@@ -76,7 +113,7 @@ number_in text = if is_number text then digits_value 10 (without_leading_plus te
 abbrev pub number_under : Text → List Row → ℕ
 number_under name rows = option_map_or number_in (one_of name rows) 0
 
--- The numbers that the options of `talk` tell, each under its name. Ids and totals have no option: they
+-- The numbers that the options of `talk` and `serve` tell, each under its name. Ids and totals have no option: they
 -- are bounded by their type alone.
 abbrev pub numbers_told : List Row → Numbers
 numbers_told rows = record {
@@ -133,3 +170,23 @@ faults_in words = fault_of program words
 -- the words may ask for help, or for a version
 abbrev pub AsksForHelp : List Text → Type 0
 AsksForHelp words = IsAmong DisplayHelp (faults_in words) ⊎ IsAmong DisplayVersion (faults_in words)
+
+-- the rows of the command that was entered, where that is `serve`
+abbrev pub serve_rows : Option (Text × List Row) → Option (List Row)
+serve_rows None = None
+serve_rows (Some entered) = if bytes_eq entered.0 (codes "serve") then Some entered.1 else None
+
+-- What each worker does is what these rows tell, each under its name. The flag `forever` takes the bound of the connections
+-- away.
+pub record IsToldWork (options : WorkOptions) (rows : List Row) : Type 0 where
+  pub moment : IfSome options.moment (λ m. m ≡ number_under (codes "moment") rows)
+  pub connections : (options.connections ≡ 2 ^ 64 - 1) ⊎ (options.connections ≡ number_under (codes "connections") rows)
+  pub idle : options.idle ≡ number_under (codes "idle") rows
+
+-- the options of `serve` are what these rows tell, each under its name
+pub record IsToldServe (options : ServeOptions) (rows : List Row) : Type 0 where
+  pub numbers : options.numbers ≡ numbers_told rows
+  pub tenants : Some (texts options.tenants.now) ≡ all_of (codes "tenant") rows
+  pub port : options.port ≡ number_under (codes "port") rows
+  pub workers : options.workers ≡ number_under (codes "workers") rows
+  pub work : IsToldWork options.work rows

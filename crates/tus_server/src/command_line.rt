@@ -1,8 +1,9 @@
-ghost use Rattle.std.specs.Prelude.{◌≡◌, IfOk, codes, false, map, option_map};
+ghost use Rattle.std.specs.Prelude.{◌≡◌, ◌⊎◌, IfOk, IfSome, codes, false, map, option_map};
 ghost use Rattle.clap.specs.Walk.{rows_of, texts};
 ghost use Rattle.clap.specs.Words.{FailsBy, app_of, found_of, rule_of, subcommand_of, subcommand_rows_of};
-ghost use Rattle.tus_server.specs.CommandLine.{faults_in, number_under, numbers_told, option_rule, program, talk_command, talk_told, tenant_rule, told_by, told_of, with_sizes};
+ghost use Rattle.tus_server.specs.CommandLine.{IsToldServe, IsToldWork, faults_in, flag_rule, moment_rule, number_under, numbers_told, option_between, option_rule, program, serve_command, serve_rows, talk_command, talk_told, tenant_rule, told_by, told_of, with_sizes};
 
+use crate::serve_options::{ServeOptions, WorkOptions};
 use clap::{Arg, ArgAction, ArgMatches, Command, value_parser};
 use std::alloc::{AllocError, Global};
 use std::convert::AsStr;
@@ -13,9 +14,9 @@ Example, which asks what the server can do:
   printf 'OPTIONS * HTTP/1.1\\r\\nHost: x\\r\\n\\r\\n' | tus-server talk acme:8
 
 Exit status:
-  0  The conversation ended, in whatever way, or help was asked for
+  0  The conversation ended, in whatever way, or all connections were served, or help was asked for
   2  The command line or the settings are refused, and nothing was read
-  3  A read or a write failed
+  3  A read or a write failed; of serve: the port could not be had, or no connection accepted
   4  There was no memory to begin with, and nothing was read
 At 2, 3 and 4 standard error says why.";
 
@@ -26,6 +27,17 @@ A PATCH that would take more blocks than the tenant's quota is refused with 507.
 Example, which creates an upload of 5 bytes for the tenant acme and tells where it is:
   printf 'POST /files/acme HTTP/1.1\\r\\nHost: x\\r\\nTus-Resumable: 1.0.0\\r\\n\
 Upload-Length: 5\\r\\n\\r\\n' | tus-server talk acme:8";
+
+const SERVE_HELP: &str = "\
+All uploads are kept in memory, in blocks that are taken at the start: --blocks times --block-size bytes.
+Everything ends with the process: its end, or the end of the machine, loses all uploads.
+
+It prints 'listening 127.0.0.1:PORT' before it accepts a connection, and at its end how many blocks were
+charged, released and are held. A worker serves one connection after another; a connection has at most 4096
+messages. Expired uploads are removed whenever a connection is accepted.
+
+Example, which serves the tenant acme until it is stopped:
+  tus-server serve --port 8080 --forever acme:4096";
 
 /// What the words of the command line tell; the first of them is the program's name. The error is why
 /// they are not taken, or that they ask for help, or that memory was lacking.
@@ -47,7 +59,7 @@ fn command<'a>(alloc: Global) -> Result<Command<'a>, AllocError>
         .after_help(PROGRAM_HELP)
         .subcommand_required(true)
         .arg_required_else_help(true);
-    command.subcommand(talk(alloc)?)
+    command.subcommand(talk(alloc)?)?.subcommand(serve(alloc)?)
 }
 
 /// The command `talk`.
@@ -59,6 +71,89 @@ fn talk<'a>(alloc: Global) -> Result<Command<'a>, AllocError>
         .after_help(TALK_HELP)
         .arg(moment(alloc))?;
     sizes(alloc, command)?.arg(tenants(alloc))
+}
+
+/// The command `serve`.
+fn serve<'a>(alloc: Global) -> Result<Command<'a>, AllocError>
+    ensures { IfOk result (λ c. app_of c ≡ serve_command) }
+{
+    let command = Command::new(alloc, "serve")
+        .about("Answers HTTP/1.1 requests on connections to 127.0.0.1")
+        .after_help(SERVE_HELP)
+        .arg(port(alloc))?
+        .arg(workers(alloc))?
+        .arg(connections(alloc))?
+        .arg(forever(alloc))?
+        .arg(idle(alloc))?
+        .arg(set_moment(alloc))?;
+    sizes(alloc, command)?.arg(tenants(alloc))
+}
+
+/// The option that names the port.
+fn port<'a>(alloc: Global) -> Arg<'a>
+    ensures rule { rule_of result ≡ option_between (codes "port") (codes "0") 0 65535 }
+    ensures local { result.global ≡ false }
+{
+    number(alloc, "port", "PORT", "0")
+        .value_parser(value_parser!(u64).range(..=65_535))
+        .help("The port to listen at, 0 to 65535; 0 is any that is free")
+}
+
+/// The option that tells how many workers there are.
+fn workers<'a>(alloc: Global) -> Arg<'a>
+    ensures rule { rule_of result ≡ option_between (codes "workers") (codes "2") 1 16 }
+    ensures local { result.global ≡ false }
+{
+    number(alloc, "workers", "N", "2")
+        .value_parser(value_parser!(u64).range(1..17))
+        .help("How many connections are served at once, 1 to 16")
+}
+
+/// The option that tells how many connections a worker accepts.
+fn connections<'a>(alloc: Global) -> Arg<'a>
+    ensures rule { rule_of result ≡ option_between (codes "connections") (codes "1") 1 4096 }
+    ensures local { result.global ≡ false }
+{
+    number(alloc, "connections", "N", "1")
+        .value_parser(value_parser!(u64).range(1..4097))
+        .help("How many connections each worker accepts before it ends, 1 to 4096")
+}
+
+/// The flag that takes the bound of the connections away.
+fn forever<'a>(alloc: Global) -> Arg<'a>
+    ensures rule { rule_of result ≡ flag_rule (codes "forever") }
+    ensures local { result.global ≡ false }
+{
+    Arg::new(alloc, "forever")
+        .long("forever")
+        .action(ArgAction::SetTrue)
+        .help("Accept connections until the process is stopped, whatever --connections says")
+}
+
+/// The option that tells for how long a silent connection is kept.
+fn idle<'a>(alloc: Global) -> Arg<'a>
+    ensures rule { rule_of result ≡ option_between (codes "idle") (codes "60") 0 86400 }
+    ensures local { result.global ≡ false }
+{
+    number(alloc, "idle", "SECONDS", "60")
+        .value_parser(value_parser!(u64).range(..=86_400))
+        .help(
+            "End a connection that neither sends nor takes a byte for so long, 0 to 86400; 0 is never",
+        )
+}
+
+/// The option that sets the clock of a server, which otherwise is the machine's.
+fn set_moment<'a>(alloc: Global) -> Arg<'a>
+    ensures rule { rule_of result ≡ moment_rule }
+    ensures local { result.global ≡ false }
+{
+    Arg::new(alloc, "moment")
+        .long("moment")
+        .value_name("SECONDS")
+        .value_parser(value_parser!(u64).range(..=253_402_300_799))
+        .help(
+            "The time of every request, in seconds since 1970-01-01 00:00:00 UTC, in place of the clock's",
+        )
 }
 
 /// The option that sets the clock.
@@ -169,4 +264,78 @@ fn number_of(talk: &ArgMatches, name: &str) -> u64
     ensures { result ≡ number_under name.now (rows_of (found_of talk.now)) }
 {
     talk.get_one::<u64>(name).unwrap_or(0)
+}
+
+/// What the command `serve` was asked for, where that is the command and its moment is not past the year 9999.
+pub fn serve_options<'m, 'a>(matches: &'m ArgMatches<'a>) -> Option<ServeOptions<'m, 'a>>
+    ensures { IfSome result (λ o. IfSome (serve_rows (subcommand_rows_of matches.now)) (IsToldServe o)) }
+{
+    options_of_serve(matches.subcommand_matches("serve")?)
+}
+
+/// What the arguments of the command `serve` tell.
+fn options_of_serve<'m, 'a>(serve: &'m ArgMatches<'a>) -> Option<ServeOptions<'m, 'a>>
+    ensures { IfSome result (λ o. IsToldServe o (rows_of (found_of serve.now))) }
+{
+    let numbers = numbers_of(serve);
+    let work = work_of(serve)?;
+    let port = port_of(serve)?;
+    let workers = number_of(serve, "workers") as usize;
+    let tenants = serve.get_strs("tenant")?;
+    Some(ServeOptions {
+        numbers,
+        tenants,
+        port,
+        workers,
+        work,
+    })
+}
+
+/// The port that the option tells; None where it is none.
+fn port_of(serve: &ArgMatches) -> Option<u16>
+    ensures { IfSome result (λ port. port ≡ number_under (codes "port") (rows_of (found_of serve.now))) }
+{
+    let port = number_of(serve, "port");
+    if port <= 65_535 {
+        Some(port as u16)
+    } else {
+        None
+    }
+}
+
+/// What the arguments tell each worker; None where the moment is past the year 9999.
+fn work_of(serve: &ArgMatches) -> Option<WorkOptions>
+    ensures { IfSome result (λ work. IsToldWork work (rows_of (found_of serve.now))) }
+{
+    let moment = moment_of(serve)?;
+    let connections = connections_of(serve);
+    let idle = number_of(serve, "idle");
+    Some(WorkOptions {
+        moment,
+        connections,
+        idle,
+    })
+}
+
+/// How many connections a worker accepts: without a bound it is the greatest number.
+fn connections_of(serve: &ArgMatches) -> u64
+    ensures { (result ≡ 18446744073709551615)
+        ⊎ (result ≡ number_under (codes "connections") (rows_of (found_of serve.now))) }
+{
+    if serve.get_flag("forever") {
+        u64::MAX
+    } else {
+        number_of(serve, "connections")
+    }
+}
+
+/// The moment that is set, if any; None where it is past the year 9999.
+fn moment_of(serve: &ArgMatches) -> Option<Option<Moment>>
+    ensures { IfSome result (λ set. IfSome set (λ m. m ≡ number_under (codes "moment") (rows_of (found_of serve.now)))) }
+{
+    if serve.contains_id("moment") {
+        Some(Some(Moment::new(number_of(serve, "moment"))?))
+    } else {
+        Some(None)
+    }
 }
