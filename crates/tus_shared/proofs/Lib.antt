@@ -1,3 +1,4 @@
 pub mod TotalsLemmas
 pub mod SharesLemmas
+pub mod TenantLemmas
 pub mod ZipLemmas

@@ -1,5 +1,6 @@
-ghost use Rattle.std.specs.Prelude.{◌≡◌, ◌≤◌, [], length, vec_capacity};
-ghost use Rattle.tus_shared.specs.Served.{Answers, AreReplies, Sweeps};
+ghost use Rattle.std.specs.Prelude.{◌≡◌, ◌≤◌, [], Err, length, vec_capacity};
+ghost use Rattle.tus_shared.specs.Served.{Answers, AreReplies, IsRow, Sweeps};
+ghost use Rattle.upload_book.specs.declared.refusal.Refusal.TheVariants.{Unknown};
 
 use crate::charges::Charges;
 use crate::gate::{Gate, Stop};
@@ -9,7 +10,7 @@ use std::marker::Model;
 use std::sync::Wait;
 use std::sync::ledger::{Ledger, Share};
 use tus_steps::{Reply, Request};
-use upload_book::{Moment, Refusal, Settings, Swept};
+use upload_book::{HeadRow, Moment, Name, Refusal, Settings, Swept};
 
 /// One of the desks that an opening gives, at which one thread answers its requests. It counts in two
 /// shares how many blocks its own steps charged, and how many they released. A contract sees the desk's
@@ -71,6 +72,24 @@ impl<C: Charges, R: Ledger> Desk<C, R> {
         ensures { Sweeps C.settings now result self.old self.new }
     {
         shared.store.lock(rt).sweep(self, now)
+    }
+
+    /// Takes the lock to look what a HEAD of this upload tells at this moment: the row or the refusal of the
+    /// plain book on some lawful book of the settings. It is refused as Unknown where the name's tenant is not
+    /// there or never had the id, and as Gone where the upload has ended or expired. The desk's counts stay.
+    /// It takes no memory, and may wait for other desks.
+    pub fn head<W: Wait>(
+        &mut self,
+        rt: &W,
+        shared: &Shared<C, R>,
+        name: &Name,
+        now: Moment,
+    ) -> Result<HeadRow, Refusal>
+        ensures row { IsRow C.settings name.now now result }
+        ensures no_tenant { length C.settings.tenants ≤ name.now.tenant → result ≡ Err Unknown }
+        ensures desk { self.new ≡ self.old }
+    {
+        shared.store.lock(rt).look(name, now)
     }
 
     /// Does the step of [`Desk::call`], and passes the gate on the way: at `Before`, then with the lock at

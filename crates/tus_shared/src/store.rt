@@ -2,6 +2,8 @@ ghost use Rattle.std.specs.Prelude.{◌≡◌, Ok};
 ghost use Rattle.tus_shared.specs.Desk.{Moves};
 ghost use Rattle.tus_steps.specs.Step.{IsStep};
 ghost use Rattle.upload_book.specs.Lawful.{IsLawful};
+ghost use Rattle.upload_book.specs.Look.{look_answer};
+ghost use Rattle.upload_book.specs.PlainBook.{answer_of};
 ghost use Rattle.upload_book.specs.Sweep.{book_after_sweep, sweep_answer};
 
 use crate::charges::Charges;
@@ -10,7 +12,7 @@ use crate::desk::Desk;
 use std::marker::Model;
 use std::sync::ledger::Ledger;
 use tus_steps::{Reply, Request, answer};
-use upload_book::{Book, Moment, Refusal, Swept};
+use upload_book::{Book, HeadRow, Moment, Name, Refusal, Swept};
 
 /// What stands behind the lock: the book, and the books of two ledgers, whose totals are those of the
 /// book. A contract sees the plain book that the book stands for.
@@ -75,5 +77,16 @@ impl<C: Charges, R: Ledger> Store<C, R> {
         self.charged.book.add(&mut desk.charged, more_charged);
         self.released.book.add(&mut desk.released, more_released);
         Ok(swept)
+    }
+
+    // What a HEAD of an upload tells at this moment, as the plain book does.
+    pub(crate) fn look(&self, name: &Name, now: Moment) -> Result<HeadRow, Refusal>
+        ensures settings { self.now.settings ≡ C.settings }
+        ensures lawful { IsLawful self.now }
+        ensures answer { result ≡ answer_of self.now name.now.tenant (look_answer name.now.id now) }
+    {
+        // the settings tell that the book is lawful
+        let _ = self.book.settings();
+        self.book.look(name, now)
     }
 }
