@@ -10,8 +10,6 @@ mod gate;
 mod open_fault;
 mod shared;
 mod store;
-#[cfg(test)]
-mod tests;
 mod turn;
 mod work;
 mod work_fault;

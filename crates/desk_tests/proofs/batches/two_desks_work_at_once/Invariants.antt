@@ -1,4 +1,4 @@
-use Rattle.tus_shared.proofs.tests.two_desks_work_at_once.Given as goal
+use Rattle.desk_tests.proofs.batches.two_desks_work_at_once.Given as goal
 
 abbrev pub ghosts-work_at_once-C-Charges : goal.ghosts-work_at_once-C-Charges
 ghosts-work_at_once-C-Charges g a = record { settings = a.settings; desks = 2 }

@@ -1,0 +1,265 @@
+//! Desks that answer batches at once.
+
+ghost use Rattle.std.specs.Prelude.{◌≡◌};
+
+use crate::requests::Asked::{Delete, Get, Head, Patch, Post};
+use crate::requests::{Asked, Told, moment, settings, told_by};
+use std::alloc::Global;
+use std::marker::Brand;
+use std::process::Abort;
+use std::sync::Wait;
+use std::sync::atomic::{AtomicU64, Ordering};
+use std::sync::ledger::{Blank, Ledger};
+use std::test::Fail;
+use std::thread;
+use std::thread::Threads;
+use tus_shared::{Balance, Charges, Gate, Shared, Stop, Turn, settle, work_all};
+use tus_steps::Reply;
+use upload_book::{Refusal, Settings};
+
+const FIRST: &[u8] = b"/files/acme/1";
+
+// Comes back when a word has at least this value, or else sets `missed` after a long time.
+fn wait_for(word: &AtomicU64, value: u64, missed: &AtomicU64) {
+    for _ in 0..100_000_000u64 {
+        if word.load(Ordering::SeqCst) >= value || missed.load(Ordering::SeqCst) == 1 {
+            return;
+        }
+        thread::yield_now();
+    }
+    missed.store(1, Ordering::SeqCst);
+}
+
+// Holds the first turn of desk 1 until that of desk 0 has begun, and this one until the other was answered.
+#[derive(Drop)]
+struct Meeting {
+    begun: AtomicU64,
+    answered: AtomicU64,
+    missed: AtomicU64,
+}
+
+impl Gate for Meeting {
+    fn pass(&self, desk: usize, turn: usize, stop: Stop) {
+        match (desk, turn, stop) {
+            (0, 0, Stop::Before) => {
+                self.begun.store(1, Ordering::SeqCst);
+                wait_for(&self.answered, 1, &self.missed);
+            }
+            (1, 0, Stop::Before) => wait_for(&self.begun, 1, &self.missed),
+            (1, 0, Stop::Answered) => self.answered.store(1, Ordering::SeqCst),
+            _ => {}
+        }
+    }
+}
+
+fn turn(rt: &impl Abort, asked: Asked) -> Turn<'static> {
+    Turn {
+        request: asked.request(),
+        now: moment(rt, 1000),
+    }
+}
+
+// Asserts what the replies at a desk tell.
+fn assert_told(rt: &impl Abort, replies: Option<&Vec<Reply>>, told: &[Told]) {
+    let replies = replies.expect(rt, "a list");
+    assert_eq!(rt; replies.len(), told.len());
+    for (reply, expected) in replies.iter().zip(told) {
+        assert_eq!(rt; &told_by(reply), expected);
+    }
+}
+
+// Both desks answer a batch at once: one is held in its first turn until the other has answered.
+fn work_at_once<
+    C: Charges + Send + Sync,
+    R: Ledger + Send + Sync,
+    W: Threads + Wait + Abort + Sync,
+>(rt: &W, alloc: Global, settings: Settings, charged: Blank, released: Blank) -> Result<(), Fail>
+    requires settings { settings ≡ C.settings }
+    requires desks { C.desks ≡ 2 }
+    requires charged { (charged.name ≡ C.name) × (charged.parts ≡ C.parts) × (C.parts ≡ 16) }
+    requires released { (released.name ≡ R.name) × (released.parts ≡ R.parts) × (R.parts ≡ 16) }
+{
+    let (shared, mut desks) = Shared::<C, R>::open(alloc, settings, 2, charged, released)?;
+    let created = turn(rt, Post(b"10"));
+    let _ = desks[0].call(rt, &shared, &created.request, created.now);
+    let meeting = Meeting {
+        begun: AtomicU64::new(0),
+        answered: AtomicU64::new(0),
+        missed: AtomicU64::new(0),
+    };
+    let first = [
+        turn(rt, Patch(FIRST, b"0", b"hello")),
+        turn(rt, Head(FIRST)),
+    ];
+    let second = [turn(rt, Head(FIRST))];
+    let batches = [&first[..], &second[..]];
+    let replies = work_all(rt, alloc, &shared, desks.as_mut_slice(), &batches, &meeting)?;
+    assert_eq!(rt; meeting.missed.load(Ordering::SeqCst), 0);
+    let begun = Told::Row(0, Some(10), b"", Some(4600));
+    let grown = Told::Row(5, Some(10), b"", Some(4600));
+    assert_told(rt, replies.get(0), &[Told::Patched(5, Some(4600)), grown]);
+    assert_told(rt, replies.get(1), &[begun]);
+    let (_, balance) = settle(shared, desks);
+    assert_eq!(rt;
+        balance,
+        Balance {
+            charged: 2,
+            released: 0,
+            held: 2
+        }
+    );
+    Ok(())
+}
+
+#[test]
+fn two_desks_work_at_once(rt: HostRuntime) -> Result<(), Fail> {
+    work_at_once::<Brand, Brand, HostRuntime>(
+        &rt,
+        rt.alloc(),
+        settings()?,
+        Blank::new(16),
+        Blank::new(16),
+    )
+}
+
+// Holds each turn until all sixteen desks have come to it.
+#[derive(Drop)]
+struct Together {
+    begun: AtomicU64,
+    missed: AtomicU64,
+}
+
+impl Gate for Together {
+    fn pass(&self, _desk: usize, turn: usize, stop: Stop) {
+        if stop == Stop::Before {
+            self.begun.fetch_add(1, Ordering::SeqCst);
+            let all = (turn as u64).saturating_add(1).saturating_mul(16);
+            wait_for(&self.begun, all, &self.missed);
+        }
+    }
+}
+
+// A turn that sixteen desks have at once, what one of them is told, and what each other is told.
+type Race = (Asked, Told<'static>, Told<'static>);
+
+const ALL_BYTES: Told<'static> = Told::Bytes(b"abcdefghijklmnopqrstuvwxyz012345");
+
+// An upload of 32 bytes grows by a block at a time, is sent, and ends.
+static RACES: [Race; 10] = [
+    (
+        Patch(FIRST, b"0", b"abcd"),
+        Told::Patched(4, Some(4600)),
+        LATE,
+    ),
+    (
+        Patch(FIRST, b"4", b"efgh"),
+        Told::Patched(8, Some(4600)),
+        LATE,
+    ),
+    (
+        Patch(FIRST, b"8", b"ijkl"),
+        Told::Patched(12, Some(4600)),
+        LATE,
+    ),
+    (
+        Patch(FIRST, b"12", b"mnop"),
+        Told::Patched(16, Some(4600)),
+        LATE,
+    ),
+    (
+        Patch(FIRST, b"16", b"qrst"),
+        Told::Patched(20, Some(4600)),
+        LATE,
+    ),
+    (
+        Patch(FIRST, b"20", b"uvwx"),
+        Told::Patched(24, Some(4600)),
+        LATE,
+    ),
+    (
+        Patch(FIRST, b"24", b"yz01"),
+        Told::Patched(28, Some(4600)),
+        LATE,
+    ),
+    (
+        Patch(FIRST, b"28", b"2345"),
+        Told::Patched(32, None),
+        Told::Refused(Refusal::Offset, None),
+    ),
+    (Get(FIRST), ALL_BYTES, ALL_BYTES),
+    (
+        Delete(FIRST),
+        Told::Deleted,
+        Told::Refused(Refusal::Gone, None),
+    ),
+];
+
+// What a PATCH is told where another was first.
+const LATE: Told<'static> = Told::Refused(Refusal::Offset, Some(4600));
+
+// Asserts that of the desks' replies to one turn one tells `first`, and each other `late`.
+fn assert_race(rt: &impl Abort, replies: &[Vec<Reply>], turn: usize, first: Told, late: Told) {
+    let mut is_open = true;
+    for told in replies {
+        let told = told_by(told.get(turn).expect(rt, "a reply"));
+        if is_open && told == first {
+            is_open = false;
+        } else {
+            assert_eq!(rt; told, late, "turn {turn}");
+        }
+    }
+    assert!(rt; !is_open, "turn {turn}");
+}
+
+// Sixteen desks have the same batch, and come to each of its turns together.
+fn race<C: Charges + Send + Sync, R: Ledger + Send + Sync, W: Threads + Wait + Abort + Sync>(
+    rt: &W,
+    alloc: Global,
+    settings: Settings,
+    charged: Blank,
+    released: Blank,
+) -> Result<(), Fail>
+    requires settings { settings ≡ C.settings }
+    requires desks { C.desks ≡ 16 }
+    requires charged { (charged.name ≡ C.name) × (charged.parts ≡ C.parts) × (C.parts ≡ 16) }
+    requires released { (released.name ≡ R.name) × (released.parts ≡ R.parts) × (R.parts ≡ 16) }
+{
+    let (shared, mut desks) = Shared::<C, R>::open(alloc, settings, 16, charged, released)?;
+    let created = turn(rt, Post(b"32"));
+    let _ = desks[0].call(rt, &shared, &created.request, created.now);
+    let together = Together {
+        begun: AtomicU64::new(0),
+        missed: AtomicU64::new(0),
+    };
+    let batch = RACES.map(|(asked, _, _)| turn(rt, asked));
+    let batches = [&batch[..]; 16];
+    let replies = work_all(
+        rt,
+        alloc,
+        &shared,
+        desks.as_mut_slice(),
+        &batches,
+        &together,
+    )?;
+    assert_eq!(rt; together.missed.load(Ordering::SeqCst), 0);
+    assert_eq!(rt; replies.len(), 16);
+    for (turn, (_, first, late)) in RACES.iter().enumerate() {
+        assert_race(rt, &replies, turn, *first, *late);
+    }
+    let (book, balance) = settle(shared, desks);
+    assert_eq!(rt;
+        balance,
+        Balance {
+            charged: 8,
+            released: 8,
+            held: 0
+        }
+    );
+    assert_eq!(rt; book.free_blocks(), 12);
+    Ok(())
+}
+
+#[test]
+fn sixteen_desks_at_one_upload(rt: HostRuntime) -> Result<(), Fail> {
+    race::<Brand, Brand, HostRuntime>(&rt, rt.alloc(), settings()?, Blank::new(16), Blank::new(16))
+}

@@ -1,0 +1,171 @@
+//! What desks are asked, and what they tell: 4-byte blocks, 12 of them, two tenants, a lifetime of an hour and
+//! uploads of at most 64 bytes.
+
+use std::process::Abort;
+use std::test::Fail;
+use tus_steps::{Field, Method, Reply, Request, TusFields};
+use tus_text::read_path;
+use upload_book::{HeadRow, Moment, Numbers, Refusal, Settings};
+
+/// acme with 8 blocks and beta with 4.
+pub fn settings() -> Result<Settings, Fail> {
+    let numbers = Numbers {
+        blocks: 12,
+        block_size: 4,
+        lifetime: 3600,
+        max_size: 64,
+        uploads: 64,
+        last_id: u64::MAX - 1,
+        last_total: u64::MAX,
+    };
+    Ok(Settings::new(numbers, &[(b"acme", 8), (b"beta", 4)])?)
+}
+
+pub fn moment(rt: &impl Abort, secs: u64) -> Moment {
+    Moment::new(secs).expect(rt, "a moment")
+}
+
+/// What a client asks for.
+#[derive(Clone, Copy, Debug)]
+pub enum Asked {
+    /// A creation of an upload of its own for acme, of this length.
+    Post(&'static [u8]),
+    /// A creation of a partial upload for acme, of this length.
+    Partial(&'static [u8]),
+    /// A concatenation for acme, by this `Upload-Concat`.
+    Join(&'static [u8]),
+    /// A PATCH of the upload at a path, at an offset, with these bytes.
+    Patch(&'static [u8], &'static [u8], &'static [u8]),
+    /// A HEAD of the upload at a path.
+    Head(&'static [u8]),
+    /// A GET of the upload at a path.
+    Get(&'static [u8]),
+    /// A DELETE of the upload at a path.
+    Delete(&'static [u8]),
+}
+
+impl Asked {
+    /// The request that asks this.
+    pub fn request(self) -> Request<'static> {
+        match self {
+            Asked::Post(length) => creation(TusFields {
+                length: Field::One(length),
+                ..fields()
+            }),
+            Asked::Partial(length) => creation(TusFields {
+                length: Field::One(length),
+                concat: Field::One(b"partial"),
+                ..fields()
+            }),
+            Asked::Join(concat) => creation(TusFields {
+                concat: Field::One(concat),
+                ..fields()
+            }),
+            Asked::Patch(target, offset, body) => patch(target, offset, body),
+            Asked::Head(target) => bare(Method::Head, target),
+            Asked::Get(target) => bare(Method::Get, target),
+            Asked::Delete(target) => bare(Method::Delete, target),
+        }
+    }
+}
+
+// The fields of a request that names the version alone.
+fn fields() -> TusFields<Field<'static>> {
+    TusFields {
+        version: Field::One(b"1.0.0"),
+        length: Field::Absent,
+        defer: Field::Absent,
+        offset: Field::Absent,
+        metadata: Field::Absent,
+        concat: Field::Absent,
+        media: Field::Absent,
+    }
+}
+
+fn creation(fields: TusFields<Field<'static>>) -> Request<'static> {
+    Request {
+        method: Method::Post,
+        path: read_path(b"/files/acme"),
+        fields,
+        body: b"",
+    }
+}
+
+fn patch(target: &[u8], offset: &'static [u8], body: &'static [u8]) -> Request<'static> {
+    Request {
+        method: Method::Patch,
+        path: read_path(target),
+        fields: TusFields {
+            offset: Field::One(offset),
+            media: Field::One(b"application/offset+octet-stream"),
+            ..fields()
+        },
+        body,
+    }
+}
+
+fn bare(method: Method, target: &[u8]) -> Request<'static> {
+    Request {
+        method,
+        path: read_path(target),
+        fields: fields(),
+        body: b"",
+    }
+}
+
+/// What a desk tells.
+#[derive(Clone, Copy, Debug, PartialEq, Eq)]
+pub enum Told<'a> {
+    /// An id, and when the upload expires.
+    Created(u64, Option<u64>),
+    /// An offset, and when the upload expires.
+    Patched(u64, Option<u64>),
+    /// An offset, a length, `Upload-Concat`, and when the upload expires.
+    Row(u64, Option<u64>, &'a [u8], Option<u64>),
+    Bytes(&'a [u8]),
+    Deleted,
+    /// How many uploads ended, how many blocks became free, and how many are no longer paid.
+    Swept(u64, u64, u64),
+    /// Why it was refused, and when the upload expires.
+    Refused(Refusal, Option<u64>),
+    /// What OPTIONS tells, which no test asks for.
+    Options,
+}
+
+fn secs(expires: Option<Moment>) -> Option<u64> {
+    expires.map(|end| end.secs())
+}
+
+fn row(row: &HeadRow) -> Told<'_> {
+    Told::Row(
+        row.offset,
+        row.declared,
+        row.concat.as_slice(),
+        secs(row.expires),
+    )
+}
+
+/// What a reply tells.
+pub fn told_by(reply: &Reply) -> Told<'_> {
+    match reply {
+        Reply::Options { .. } => Told::Options,
+        Reply::Created { id, expires, .. } => Told::Created(*id, secs(*expires)),
+        Reply::Head(found) => row(found),
+        Reply::Content(content) => Told::Bytes(content.as_slice()),
+        Reply::Patched { offset, expires } => Told::Patched(*offset, secs(*expires)),
+        Reply::Deleted => Told::Deleted,
+        Reply::Refused {
+            refusal,
+            expires,
+            ..
+        } => Told::Refused(*refusal, secs(*expires)),
+    }
+}
+
+/// What a desk tells of a HEAD of its own.
+pub fn told_of(answer: &Result<HeadRow, Refusal>) -> Told<'_> {
+    match answer {
+        Ok(found) => row(found),
+        Err(refusal) => Told::Refused(*refusal, None),
+    }
+}

@@ -1,0 +1,84 @@
+//! The worked uploads at two desks.
+
+use crate::requests::Asked::{Delete, Get, Head, Join, Partial, Patch, Post};
+use crate::requests::Told::{Bytes, Created, Deleted, Patched, Refused, Row, Swept};
+use crate::steps::Call::{Ask, Look, Sweep};
+use crate::steps::{Step, run, steps};
+use std::test::Fail;
+use upload_book::Refusal;
+
+const FIRST: &[u8] = b"/files/acme/1";
+
+const SECOND: &[u8] = b"/files/acme/2";
+
+const THIRD: &[u8] = b"/files/acme/3";
+
+// One desk begins what the other ends, and each sees what the other did.
+static AN_UPLOAD_AT_TWO_DESKS: [Step; 8] = steps! {
+    0 1000 Ask(Post(b"10")) => Created(1, Some(4600)), [0, 0, 0, 12];
+    0 1000 Ask(Patch(FIRST, b"0", b"hello")) => Patched(5, Some(4600)), [2, 0, 2, 10];
+    1 1000 Ask(Head(FIRST)) => Row(5, Some(10), b"", Some(4600)), [2, 0, 2, 10];
+    1 1000 Ask(Patch(FIRST, b"3", b"x")) => Refused(Refusal::Offset, Some(4600)), [2, 0, 2, 10];
+    1 1000 Ask(Patch(FIRST, b"5", b"world")) => Patched(10, None), [3, 0, 3, 9];
+    0 1000 Look(0, 1) => Row(10, Some(10), b"", None), [3, 0, 3, 9];
+    0 1000 Ask(Get(FIRST)) => Bytes(b"helloworld"), [3, 0, 3, 9];
+    1 1000 Ask(Delete(FIRST)) => Deleted, [3, 3, 0, 12];
+};
+
+#[test]
+fn an_upload_at_two_desks(rt: HostRuntime) -> Result<(), Fail> {
+    run(&rt, rt.alloc(), &AN_UPLOAD_AT_TWO_DESKS)
+}
+
+// A final upload costs nothing beside its parts, and keeps their blocks when they end.
+static PARTIALS_AND_FINAL: [Step; 11] = steps! {
+    0 1000 Ask(Partial(b"5")) => Created(1, Some(4600)), [0, 0, 0, 12];
+    0 1000 Ask(Patch(FIRST, b"0", b"abcde")) => Patched(5, Some(4600)), [2, 0, 2, 10];
+    1 1000 Ask(Partial(b"2")) => Created(2, Some(4600)), [2, 0, 2, 10];
+    1 1000 Ask(Patch(SECOND, b"0", b"fg")) => Patched(2, Some(4600)), [3, 0, 3, 9];
+    0 1000 Ask(Join(b"final;/files/acme/1 http://h:1/files/acme/2")) => Created(3, None), [3, 0, 3, 9];
+    1 1000 Look(0, 3) => Row(7, Some(7), b"final;/files/acme/1 http://h:1/files/acme/2", None), [3, 0, 3, 9];
+    1 1000 Ask(Patch(THIRD, b"7", b"")) => Refused(Refusal::IsFinal, None), [3, 0, 3, 9];
+    0 1000 Ask(Delete(FIRST)) => Deleted, [3, 0, 3, 9];
+    1 1000 Ask(Delete(SECOND)) => Deleted, [3, 0, 3, 9];
+    0 1000 Ask(Get(THIRD)) => Bytes(b"abcdefg"), [3, 0, 3, 9];
+    1 1000 Ask(Delete(THIRD)) => Deleted, [3, 3, 0, 12];
+};
+
+#[test]
+fn partials_and_final(rt: HostRuntime) -> Result<(), Fail> {
+    run(&rt, rt.alloc(), &PARTIALS_AND_FINAL)
+}
+
+// A sweep ends the part and not its final upload, so no block becomes free. Another ends an upload of its own.
+static A_SWEEP_AT_A_DESK: [Step; 10] = steps! {
+    0 1000 Ask(Partial(b"5")) => Created(1, Some(4600)), [0, 0, 0, 12];
+    0 1000 Ask(Patch(FIRST, b"0", b"abcde")) => Patched(5, Some(4600)), [2, 0, 2, 10];
+    1 1000 Ask(Join(b"final;/files/acme/1")) => Created(2, None), [2, 0, 2, 10];
+    1 4599 Sweep => Swept(0, 0, 0), [2, 0, 2, 10];
+    0 4600 Look(0, 1) => Refused(Refusal::Gone, None), [2, 0, 2, 10];
+    1 4600 Sweep => Swept(1, 0, 0), [2, 0, 2, 10];
+    0 4600 Ask(Get(SECOND)) => Bytes(b"abcde"), [2, 0, 2, 10];
+    0 5000 Ask(Post(b"9")) => Created(3, Some(8600)), [2, 0, 2, 10];
+    0 5000 Ask(Patch(THIRD, b"0", b"abcd")) => Patched(4, Some(8600)), [3, 0, 3, 9];
+    1 8600 Sweep => Swept(1, 1, 1), [3, 1, 2, 10];
+};
+
+#[test]
+fn a_sweep_at_a_desk(rt: HostRuntime) -> Result<(), Fail> {
+    run(&rt, rt.alloc(), &A_SWEEP_AT_A_DESK)
+}
+
+// An upload that ended, an id that was never given, and a tenant that is not there.
+static HEADS_OF_NO_UPLOAD: [Step; 5] = steps! {
+    0 1000 Ask(Post(b"10")) => Created(1, Some(4600)), [0, 0, 0, 12];
+    1 1000 Ask(Delete(FIRST)) => Deleted, [0, 0, 0, 12];
+    0 1000 Look(0, 1) => Refused(Refusal::Gone, None), [0, 0, 0, 12];
+    0 1000 Look(0, 9) => Refused(Refusal::Unknown, None), [0, 0, 0, 12];
+    0 1000 Look(2, 1) => Refused(Refusal::Unknown, None), [0, 0, 0, 12];
+};
+
+#[test]
+fn heads_of_no_upload(rt: HostRuntime) -> Result<(), Fail> {
+    run(&rt, rt.alloc(), &HEADS_OF_NO_UPLOAD)
+}
