@@ -3,7 +3,7 @@
 ghost use Rattle.std.specs.Prelude.{◌≡◌};
 
 use crate::requests::Asked::{Delete, Get, Head, Patch, Post};
-use crate::requests::{Asked, Told, moment, settings, told_by};
+use crate::requests::{Asked, Told, settings, told_by, turn};
 use std::alloc::Global;
 use std::marker::Brand;
 use std::process::Abort;
@@ -19,8 +19,8 @@ use upload_book::{Refusal, Settings};
 
 const FIRST: &[u8] = b"/files/acme/1";
 
-// Comes back when a word has at least this value, or else sets `missed` after a long time.
-fn wait_for(word: &AtomicU64, value: u64, missed: &AtomicU64) {
+/// Comes back when a word has at least this value, or else sets `missed` after a long time.
+pub fn wait_for(word: &AtomicU64, value: u64, missed: &AtomicU64) {
     for _ in 0..100_000_000u64 {
         if word.load(Ordering::SeqCst) >= value || missed.load(Ordering::SeqCst) == 1 {
             return;
@@ -52,15 +52,8 @@ impl Gate for Meeting {
     }
 }
 
-fn turn(rt: &impl Abort, asked: Asked) -> Turn<'static> {
-    Turn {
-        request: asked.request(),
-        now: moment(rt, 1000),
-    }
-}
-
-// Asserts what the replies at a desk tell.
-fn assert_told(rt: &impl Abort, replies: Option<&Vec<Reply>>, told: &[Told]) {
+/// Asserts what the replies at a desk tell.
+pub fn assert_told(rt: &impl Abort, replies: Option<&Vec<Reply>>, told: &[Told]) {
     let replies = replies.expect(rt, "a list");
     assert_eq!(rt; replies.len(), told.len());
     for (reply, expected) in replies.iter().zip(told) {

@@ -11,4 +11,6 @@ mod requests;
 #[cfg(test)]
 mod steps;
 #[cfg(test)]
+mod stops;
+#[cfg(test)]
 mod uploads;

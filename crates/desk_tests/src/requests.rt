@@ -3,6 +3,7 @@
 
 use std::process::Abort;
 use std::test::Fail;
+use tus_shared::Turn;
 use tus_steps::{Field, Method, Reply, Request, TusFields};
 use tus_text::read_path;
 use upload_book::{HeadRow, Moment, Numbers, Refusal, Settings};
@@ -110,6 +111,14 @@ fn bare(method: Method, target: &[u8]) -> Request<'static> {
         path: read_path(target),
         fields: fields(),
         body: b"",
+    }
+}
+
+/// A turn that asks this at second 1000.
+pub fn turn(rt: &impl Abort, asked: Asked) -> Turn<'static> {
+    Turn {
+        request: asked.request(),
+        now: moment(rt, 1000),
     }
 }
 

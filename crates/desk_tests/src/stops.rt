@@ -1,0 +1,115 @@
+//! What a gate is passed: each stop of each turn, in order; at `Locked` the lock is held, and at `Answered` it is not.
+
+ghost use Rattle.std.specs.Prelude.{◌≡◌};
+
+use crate::batches::{assert_told, wait_for};
+use crate::requests::Asked::{Head, Patch, Post};
+use crate::requests::{Told, settings, turn};
+use std::alloc::Global;
+use std::marker::Brand;
+use std::process::Abort;
+use std::sync::Wait;
+use std::sync::atomic::{AtomicU64, Ordering};
+use std::sync::ledger::{Blank, Ledger};
+use std::test::Fail;
+use std::thread;
+use std::thread::Threads;
+use tus_shared::{Charges, Gate, Shared, Stop, work_all};
+use upload_book::Settings;
+
+const FIRST: &[u8] = b"/files/acme/1";
+
+// Notes the stops of two desks, a digit each: 1, 2 and 3 in a desk's first turn, 4, 5 and 6 in its second. Desk 1
+// waits until the other has the lock. That one then gives it time to come to the lock too, notes if it got it, and
+// waits at its end until the other was answered.
+#[derive(Drop)]
+struct Notes {
+    first: AtomicU64,
+    second: AtomicU64,
+    intruded: AtomicU64,
+    missed: AtomicU64,
+}
+
+impl Notes {
+    fn note(&self, desk: usize, digit: u64) {
+        let word = if desk == 0 { &self.first } else { &self.second };
+        let noted = word.load(Ordering::SeqCst);
+        word.store(
+            noted.saturating_mul(10).saturating_add(digit),
+            Ordering::SeqCst,
+        );
+    }
+
+    fn look_for_intruder(&self) {
+        wait_for(&self.second, 1, &self.missed);
+        for _ in 0..10_000u64 {
+            thread::yield_now();
+        }
+        if self.second.load(Ordering::SeqCst) > 1 {
+            self.intruded.store(1, Ordering::SeqCst);
+        }
+    }
+}
+
+impl Gate for Notes {
+    fn pass(&self, desk: usize, turn: usize, stop: Stop) {
+        let digit = match stop {
+            Stop::Before => 1,
+            Stop::Locked => 2,
+            Stop::Answered => 3,
+        };
+        self.note(desk, (turn as u64).saturating_mul(3).saturating_add(digit));
+        match (desk, stop) {
+            (0, Stop::Locked) => self.look_for_intruder(),
+            (0, Stop::Answered) => wait_for(&self.second, 123, &self.missed),
+            (1, Stop::Before) => wait_for(&self.first, 12, &self.missed),
+            _ => {}
+        }
+    }
+}
+
+// Two desks answer batches at once, of one turn and of two.
+fn note_stops<C: Charges + Send + Sync, R: Ledger + Send + Sync, W: Threads + Wait + Abort + Sync>(
+    rt: &W,
+    alloc: Global,
+    settings: Settings,
+    charged: Blank,
+    released: Blank,
+) -> Result<(), Fail>
+    requires settings { settings ≡ C.settings }
+    requires desks { C.desks ≡ 2 }
+    requires charged { (charged.name ≡ C.name) × (charged.parts ≡ C.parts) × (C.parts ≡ 16) }
+    requires released { (released.name ≡ R.name) × (released.parts ≡ R.parts) × (R.parts ≡ 16) }
+{
+    let (shared, mut desks) = Shared::<C, R>::open(alloc, settings, 2, charged, released)?;
+    let created = turn(rt, Post(b"10"));
+    let _ = desks[1].call(rt, &shared, &created.request, created.now);
+    let notes = Notes {
+        first: AtomicU64::new(0),
+        second: AtomicU64::new(0),
+        intruded: AtomicU64::new(0),
+        missed: AtomicU64::new(0),
+    };
+    let first = [turn(rt, Patch(FIRST, b"0", b"hello"))];
+    let second = [turn(rt, Head(FIRST)), turn(rt, Head(FIRST))];
+    let batches = [&first[..], &second[..]];
+    let replies = work_all(rt, alloc, &shared, desks.as_mut_slice(), &batches, &notes)?;
+    let grown = Told::Row(5, Some(10), b"", Some(4600));
+    assert_told(rt, replies.get(1), &[grown, grown]);
+    assert_eq!(rt; notes.first.load(Ordering::SeqCst), 123);
+    assert_eq!(rt; notes.second.load(Ordering::SeqCst), 123456);
+    assert_eq!(rt; notes.intruded.load(Ordering::SeqCst), 0);
+    assert_eq!(rt; notes.missed.load(Ordering::SeqCst), 0);
+    Ok(())
+}
+
+#[test]
+fn a_turn_passes_its_stops(rt: HostRuntime) -> Result<(), Fail> {
+    note_stops::<Brand, Brand, HostRuntime>(
+        &rt,
+        rt.alloc(),
+        settings()?,
+        Blank::new(16),
+        Blank::new(16),
+    )
+}
