@@ -3,7 +3,7 @@
 ghost use Rattle.std.specs.Prelude.{◌≡◌};
 
 use crate::requests::Asked::{Delete, Get, Head, Patch, Post};
-use crate::requests::{Asked, Told, settings, told_by, turn};
+use crate::requests::{Asked, Told, moment, settings, told_by, told_of, turn};
 use std::alloc::Global;
 use std::marker::Brand;
 use std::process::Abort;
@@ -15,7 +15,7 @@ use std::thread;
 use std::thread::Threads;
 use tus_shared::{Balance, Charges, Gate, Shared, Stop, Turn, settle, work_all};
 use tus_steps::Reply;
-use upload_book::{Refusal, Settings};
+use upload_book::{Name, Refusal, Settings};
 
 const FIRST: &[u8] = b"/files/acme/1";
 
@@ -92,7 +92,7 @@ fn work_at_once<
     let grown = Told::Row(5, Some(10), b"", Some(4600));
     assert_told(rt, replies.get(0), &[Told::Patched(5, Some(4600)), grown]);
     assert_told(rt, replies.get(1), &[begun]);
-    let (_, balance) = settle(shared, desks);
+    let (book, balance) = settle(shared, desks);
     assert_eq!(rt;
         balance,
         Balance {
@@ -101,6 +101,9 @@ fn work_at_once<
             held: 2
         }
     );
+    let first = Name { tenant: 0, id: 1 };
+    let row = book.look(&first, moment(rt, 1000));
+    assert_eq!(rt; told_of(&row), grown);
     Ok(())
 }
 

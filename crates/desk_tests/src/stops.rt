@@ -3,7 +3,7 @@
 ghost use Rattle.std.specs.Prelude.{◌≡◌};
 
 use crate::batches::{assert_told, wait_for};
-use crate::requests::Asked::{Head, Patch, Post};
+use crate::requests::Asked::{Patch, Post};
 use crate::requests::{Told, settings, turn};
 use std::alloc::Global;
 use std::marker::Brand;
@@ -91,11 +91,14 @@ fn note_stops<C: Charges + Send + Sync, R: Ledger + Send + Sync, W: Threads + Wa
         missed: AtomicU64::new(0),
     };
     let first = [turn(rt, Patch(FIRST, b"0", b"hello"))];
-    let second = [turn(rt, Head(FIRST)), turn(rt, Head(FIRST))];
+    let second = [
+        turn(rt, Patch(FIRST, b"5", b"wor")),
+        turn(rt, Patch(FIRST, b"8", b"ld")),
+    ];
     let batches = [&first[..], &second[..]];
     let replies = work_all(rt, alloc, &shared, desks.as_mut_slice(), &batches, &notes)?;
-    let grown = Told::Row(5, Some(10), b"", Some(4600));
-    assert_told(rt, replies.get(1), &[grown, grown]);
+    let grown = Told::Patched(8, Some(4600));
+    assert_told(rt, replies.get(1), &[grown, Told::Patched(10, None)]);
     assert_eq!(rt; notes.first.load(Ordering::SeqCst), 123);
     assert_eq!(rt; notes.second.load(Ordering::SeqCst), 123456);
     assert_eq!(rt; notes.intruded.load(Ordering::SeqCst), 0);
