@@ -1,4 +1,4 @@
-use Rattle.std.proofs.Common.{◌∙◌, ap}
+use Rattle.std.proofs.Common.{◌∙◌}
 use Rattle.tus_shared.proofs.TenantLemmas.{look-past}
 use Rattle.tus_shared.proofs.desk.Desk.head.Goals as goal
 
