@@ -190,3 +190,7 @@ pub record IsToldServe (options : ServeOptions) (rows : List Row) : Type 0 where
   pub port : options.port ≡ number_under (codes "port") rows
   pub workers : options.workers ≡ number_under (codes "workers") rows
   pub work : IsToldWork options.work rows
+
+-- the rows of what the words tell `serve`, the program's name first
+abbrev pub serve_told_in : List Text → Option (List Row)
+serve_told_in words = serve_rows (subcommand_of program words)

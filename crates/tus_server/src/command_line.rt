@@ -1,4 +1,4 @@
-ghost use Rattle.std.specs.Prelude.{◌≡◌, ◌⊎◌, IfOk, IfSome, codes, false, map, option_map};
+ghost use Rattle.std.specs.Prelude.{◌≡◌, ◌⊎◌, None, IfOk, IfSome, codes, false, map, option_map};
 ghost use Rattle.clap.specs.Walk.{rows_of, texts};
 ghost use Rattle.clap.specs.Words.{FailsBy, app_of, found_of, rule_of, subcommand_of, subcommand_rows_of};
 ghost use Rattle.tus_server.specs.CommandLine.{IsToldServe, IsToldWork, faults_in, flag_rule, moment_rule, number_under, numbers_told, option_between, option_rule, program, serve_command, serve_rows, talk_command, talk_told, tenant_rule, told_by, told_of, with_sizes};
@@ -268,7 +268,8 @@ fn number_of(talk: &ArgMatches, name: &str) -> u64
 
 /// What the command `serve` was asked for, where that is the command and its moment is not past the year 9999.
 pub fn serve_options<'m, 'a>(matches: &'m ArgMatches<'a>) -> Option<ServeOptions<'m, 'a>>
-    ensures { IfSome result (λ o. IfSome (serve_rows (subcommand_rows_of matches.now)) (IsToldServe o)) }
+    ensures told { IfSome result (λ o. IfSome (serve_rows (subcommand_rows_of matches.now)) (IsToldServe o)) }
+    ensures other { serve_rows (subcommand_rows_of matches.now) ≡ None → result ≡ None }
 {
     options_of_serve(matches.subcommand_matches("serve")?)
 }

@@ -1,4 +1,5 @@
-//! The server's program: `tus-server talk` holds one conversation over its standard streams.
+//! The server's program: `tus-server talk` holds one conversation over its standard streams, and `tus-server
+//! serve` answers connections.
 #![tactic(auto)]
 
 ghost use Rattle.std.specs.Prelude.{◌≡◌, ◌≢◌};
@@ -14,12 +15,13 @@ mod serve;
 mod serve_options;
 mod stream;
 mod talk;
-mod worker;
 #[cfg(test)]
 mod tests;
+mod worker;
 
 use crate::fault::{TalkFault, tell};
 use crate::program::run;
+use crate::serve::serve_as_told;
 use http_wire::Tapped;
 use std::env;
 use std::io::{Error, ErrorKind};
@@ -30,6 +32,13 @@ fn main(rt: HostRuntime) -> ExitCode {
     let mut writer = Tapped::new(rt.stdout());
     let mut errors = Tapped::new(rt.stderr());
     let status = match words(&rt) {
+        Ok(words) if asks_to_serve(words.as_slice()) => serve_as_told(
+            &rt,
+            rt.alloc(),
+            words.as_slice(),
+            &mut writer,
+            &mut errors,
+        ),
         Ok(words) => run(
             rt.alloc(),
             words.as_slice(),
@@ -40,6 +49,11 @@ fn main(rt: HostRuntime) -> ExitCode {
         Err(fault) => tell(fault, &mut errors),
     };
     ExitCode::from(status)
+}
+
+/// Whether the command is `serve`. It stands first, since the program has no options of its own.
+fn asks_to_serve(words: &[String]) -> bool {
+    words.len() > 1 && words[1].as_str() == "serve"
 }
 
 /// The words of the command line, the program's name first. The error is `TalkFault::Words` where one is

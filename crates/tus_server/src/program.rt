@@ -95,7 +95,7 @@ pub fn run<S: AsStr, R: Source, W: Sink, E: Sink>(
 
 /// Answers words that are not taken, and gives the exit status: the text of a refusal goes to `errors`,
 /// and help to `writer`.
-fn explain<W: Sink, E: Sink>(
+pub fn explain<W: Sink, E: Sink>(
     alloc: Global,
     error: &clap::Error,
     writer: &mut W,

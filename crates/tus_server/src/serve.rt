@@ -4,13 +4,16 @@ ghost use Rattle.clap.specs.Walk.{texts};
 ghost use Rattle.tus_server.specs.Fault.{WritesOrFails, line_of};
 ghost use Rattle.tus_server.specs.Talk.{settings_told};
 
+use crate::command_line::{parsed, serve_options};
 use crate::fault::{TalkFault, tell};
 use crate::lines::{balance_line, listening_line};
+use crate::program::explain;
 use crate::serve_options::{ServeOptions, WorkOptions};
-use crate::talk::settings_with;
-use crate::worker::Server;
+use crate::talk::{REFUSED, settings_with};
+use crate::worker::Workers;
 use http_wire::{Sink, put_all};
 use std::alloc::Global;
+use std::convert::AsStr;
 use std::io::Eprint;
 use std::marker::Brand;
 use std::net::{Net, TcpListener, TcpStream};
@@ -21,6 +24,33 @@ use std::time;
 use tus_shared::{Charges, Desk, Shared, settle};
 use upload_book::Settings;
 
+/// Does the command `serve` as the words of the command line tell it, the program's name first, and gives the exit
+/// status: that of [`serve`], or that of words that are not taken, which are answered as by
+/// [`run`](crate::program::run).
+pub fn serve_as_told<
+    S: AsStr,
+    H: Threads
+        + Wait
+        + Net<Stream = TcpStream, Listener = TcpListener>
+        + time::Clock
+        + Eprint
+        + Sync,
+    W: Sink,
+    E: Sink,
+>(rt: &H, alloc: Global, words: &[S], output: &mut W, errors: &mut E) -> u8
+    requires output { W.has_failed output.old ≡ false }
+    requires errors { E.has_failed errors.old ≡ false }
+    ensures status { (result ≡ 0) ⊎ (result ≡ 2) ⊎ (result ≡ 3) ⊎ (result ≡ 4) }
+{
+    match parsed(alloc, words) {
+        Ok(matches) => match serve_options(&matches) {
+            Some(options) => serve(rt, alloc, &options, output, errors),
+            None => REFUSED,
+        },
+        Err(error) => explain(alloc, &error, output, errors),
+    }
+}
+
 /// Serves connections on sockets of this machine, over a new book with the settings of the options, and gives the
 /// program's exit status. It prints where it listens before it accepts anything, and at its end what was charged,
 /// released and is held.
@@ -30,16 +60,15 @@ use upload_book::Settings;
 /// memory for the book. At 2 and 4 nothing was printed. At 2, 3 and 4 a line that names the fault is written to
 /// `errors`, whose own faults are passed over.
 pub fn serve<
-    H: Threads + Wait + Net<Stream = TcpStream, Listener = TcpListener> + time::Clock + Eprint + Sync,
+    H: Threads
+        + Wait
+        + Net<Stream = TcpStream, Listener = TcpListener>
+        + time::Clock
+        + Eprint
+        + Sync,
     W: Sink,
     E: Sink,
->(
-    rt: &H,
-    alloc: Global,
-    options: &ServeOptions,
-    output: &mut W,
-    errors: &mut E,
-) -> u8
+>(rt: &H, alloc: Global, options: &ServeOptions, output: &mut W, errors: &mut E) -> u8
     requires output { W.has_failed output.old ≡ false }
     requires errors { E.has_failed errors.old ≡ false }
     ensures status { (result ≡ 0) ⊎ (result ≡ 2) ⊎ (result ≡ 3) ⊎ (result ≡ 4) }
@@ -53,14 +82,14 @@ pub fn serve<
 
 // The same, with the fault for the status.
 fn serve_told<
-    H: Threads + Wait + Net<Stream = TcpStream, Listener = TcpListener> + time::Clock + Eprint + Sync,
+    H: Threads
+        + Wait
+        + Net<Stream = TcpStream, Listener = TcpListener>
+        + time::Clock
+        + Eprint
+        + Sync,
     W: Sink,
->(
-    rt: &H,
-    alloc: Global,
-    options: &ServeOptions,
-    output: &mut W,
-) -> Result<(), TalkFault>
+>(rt: &H, alloc: Global, options: &ServeOptions, output: &mut W) -> Result<(), TalkFault>
     requires output { W.has_failed output.old ≡ false }
     ensures settings { IfErr (settings_told options.now.numbers (texts options.now.tenants.now))
         (λ fault. IsErrOf result (TalkFault.Settings fault) ⊎ IsErrOf result TalkFault.Memory) }
@@ -81,7 +110,12 @@ fn serve_told<
 fn serve_with<
     C: Charges + Send + Sync,
     R: Ledger + Send + Sync,
-    H: Threads + Wait + Net<Stream = TcpStream, Listener = TcpListener> + time::Clock + Eprint + Sync,
+    H: Threads
+        + Wait
+        + Net<Stream = TcpStream, Listener = TcpListener>
+        + time::Clock
+        + Eprint
+        + Sync,
     W: Sink,
 >(
     rt: &H,
@@ -98,8 +132,13 @@ fn serve_with<
     requires released { (released.name ≡ R.name) × (released.parts ≡ R.parts) × (R.parts ≡ 16) }
     requires output { W.has_failed output.old ≡ false }
 {
-    let (shared, mut desks) =
-        Shared::<C, R>::open(alloc, settings, options.workers, charged, released)?;
+    let (shared, mut desks) = Shared::<C, R>::open(
+        alloc,
+        settings,
+        options.workers,
+        charged,
+        released,
+    )?;
     let Ok(listener) = TcpListener::bind(rt, ("127.0.0.1", options.port)) else {
         return Err(TalkFault::Wire);
     };
@@ -117,7 +156,11 @@ fn serve_with<
     );
     let (_, balance) = settle(shared, desks);
     put_all(output, balance_line(balance).as_bytes())?;
-    if is_whole { Ok(()) } else { Err(TalkFault::Wire) }
+    if is_whole {
+        Ok(())
+    } else {
+        Err(TalkFault::Wire)
+    }
 }
 
 // Lets a worker work at each of the desks, in a thread of its own where one can be had, and says whether all of
@@ -134,10 +177,13 @@ fn work_at<
     desks: &mut [Desk<C, R>],
     options: WorkOptions,
 ) -> bool {
-    let workers = desks.len().max(1);
-    let server = Server::new(rt, alloc, listener, shared, options);
-    for_each_mut(rt, desks, workers, &|_, desk: &mut Desk<C, R>| {
-        server.work(desk)
-    });
-    server.is_whole()
+    let threads = desks.len().max(1);
+    let workers = Workers::new(rt, alloc, listener, shared, options);
+    for_each_mut(
+        rt,
+        desks,
+        threads,
+        &|_, desk: &mut Desk<C, R>| { workers.work(desk) },
+    );
+    workers.is_whole()
 }

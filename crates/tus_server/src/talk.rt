@@ -201,7 +201,11 @@ fn opening(alloc: Global, numbers: Numbers, tenants: &[&str]) -> Result<Book, Ta
 }
 
 /// The settings that the numbers and the words tell, or their first fault, or `TalkFault::Memory`.
-pub fn settings_with(alloc: Global, numbers: Numbers, tenants: &[&str]) -> Result<Settings, TalkFault>
+pub fn settings_with(
+    alloc: Global,
+    numbers: Numbers,
+    tenants: &[&str],
+) -> Result<Settings, TalkFault>
     ensures settings { IfOk result (λ settings. settings_told numbers (texts tenants.now) ≡ Ok settings) }
     ensures fault { IfErr result (IsFaultOf (settings_told numbers (texts tenants.now))) }
 {

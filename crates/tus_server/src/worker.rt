@@ -7,15 +7,14 @@ use crate::stream::{Served, serve_stream};
 use core::mem::replace_with;
 use http_wire::{Buffers, Clock, Ended, Tapped};
 use std::alloc::Global;
-use std::io;
 use std::io::{Eprint, Read};
 use std::net::{Shutdown, TcpListener, TcpStream};
 use std::sync::Wait;
 use std::sync::atomic::{AtomicU64, Ordering};
 use std::sync::ledger::Ledger;
 use std::thread::yield_now;
-use std::time;
 use std::time::{Duration, Instant};
+use std::{io, time};
 use tus_shared::{Charges, Desk, NoGate, Shared};
 
 /// The most bytes of buffers that are kept for the next connection.
@@ -29,11 +28,12 @@ const LINGER_SECONDS: u64 = 5;
 
 /// How many bytes of such a rest are read at once, and how often.
 const REST_SIZE: usize = 16_384;
+
 const REST_READS: usize = 4096;
 
 /// What the workers of a server share.
 #[derive(Drop)]
-pub struct Server<'a, C: Charges, R: Ledger, H> {
+pub struct Workers<'a, C: Charges, R: Ledger, H> {
     rt: &'a H,
     alloc: Global,
     listener: &'a TcpListener,
@@ -45,8 +45,8 @@ pub struct Server<'a, C: Charges, R: Ledger, H> {
     ended: AtomicU64,
 }
 
-impl<'a, C: Charges, R: Ledger, H: Wait + Eprint + time::Clock> Server<'a, C, R, H> {
-    /// A server that has accepted nothing.
+impl<'a, C: Charges, R: Ledger, H: Wait + Eprint + time::Clock> Workers<'a, C, R, H> {
+    /// Workers that have accepted nothing.
     pub fn new(
         rt: &'a H,
         alloc: Global,
@@ -54,7 +54,7 @@ impl<'a, C: Charges, R: Ledger, H: Wait + Eprint + time::Clock> Server<'a, C, R,
         shared: &'a Shared<C, R>,
         options: WorkOptions,
     ) -> Self {
-        Server {
+        Workers {
             rt,
             alloc,
             listener,
@@ -79,9 +79,9 @@ impl<'a, C: Charges, R: Ledger, H: Wait + Eprint + time::Clock> Server<'a, C, R,
         for _ in 0..self.options.connections {
             let Ok((stream, _)) = self.listener.accept() else {
                 self.ended.fetch_add(1, Ordering::SeqCst);
-                let _ = self
-                    .rt
-                    .eprintln("tus-server: a worker ended, since it could accept no connection");
+                let _ = self.rt.eprintln(
+                    "tus-server: a worker ended, since it could accept no connection",
+                );
                 return;
             };
             let _ = desk.sweep(self.rt, self.shared, clock.moment());
