@@ -8,15 +8,17 @@ use Rattle.std.specs.Char.{digit_value}
 use Rattle.std.specs.Str.Parse.{AllDigits, ParsesUnsigned, digits_value, without_leading_plus}
 use Rattle.clap.proofs.WalkLemmas.{both, one_text-rows}
 use Rattle.clap.specs.Walk.{Row, rows_of}
-use Rattle.clap.specs.Words.{AddsArg, IsAmong, Kinds, ReadsOne, Rule, Text, all_of, app_of, one_text, rule_of, with_rule}
+use Rattle.clap.specs.Words.{AddsArg, App, FailsBy, HasMatchesOf, fault_of, is_simple, is_simple_and_free, subcommand_of, subcommand_rows_of, IsAmong, Kinds, ReadsOne, Rule, Text, all_of, app_of, one_text, rule_of, with_rule}
 use Rattle.clap.specs.declared.builder.arg.Arg.{Arg}
 use Rattle.clap.specs.declared.builder.command.Command.{Command}
 use Rattle.clap.specs.declared.builder.value_parser.ValueParser.{ValueParser}
 use Rattle.clap.specs.declared.error.kind.ErrorKind.{ErrorKind}
 use Rattle.clap.specs.declared.error.kind.ErrorKind.TheVariants.{DisplayHelp, DisplayVersion, OutOfMemory}
+use Rattle.clap.specs.declared.error.Error.{Error}
+use Rattle.clap.specs.declared.parser.matches.ArgMatches.{ArgMatches}
 use Rattle.clap.specs.declared.parser.matches.Found.{Found}
 use Rattle.upload_book.specs.declared.settings.Numbers.{Numbers}
-use Rattle.tus_server.specs.CommandLine.{AsksForHelp, faults_in, is_number, number_in, number_under, numbers_told, option_rule, told_by, told_with}
+use Rattle.tus_server.specs.CommandLine.{program, AsksForHelp, faults_in, is_number, number_in, number_under, numbers_told, option_rule, told_by, told_with}
 
 digits_pass : (digits : List ℕ) → AllDigits 10 digits → list_all (λ d. nat_lt (digit_value d) 10) digits ≡ true
 digits_pass [] h = refl
@@ -67,6 +69,20 @@ told_some rows numbers secs moment words all at made given =
 
 pub told_none : (rows : List Row) → None ≡ all_of (codes "tenant") rows → None ≡ told_by rows
 told_none rows h = ap (told_with (number_under (codes "moment") rows) rows) h
+
+program_is_simple : is_simple program ≡ true
+program_is_simple = refl
+
+program_is_free : is_simple_and_free program ≡ true
+program_is_free = refl
+
+-- what was found is what the program finds in the words
+pub matches_told : (a : App) (words : List Text) (m : ArgMatches) → a ≡ program → HasMatchesOf a words m → subcommand_rows_of m ≡ subcommand_of program words
+matches_told a words m is h = (subst (λ x. HasMatchesOf x words m) is h program_is_simple).1
+
+-- and its faults are the program's
+pub fails_by : {T : Type 0} (a : App) (words : List Text) (r : Result T Error) → a ≡ program → (is_simple_and_free a ≡ true → FailsBy (fault_of a words) r) → FailsBy (faults_in words) r
+fails_by a words r is h = subst (λ x. is_simple_and_free x ≡ true → FailsBy (fault_of x words) r) is h program_is_free
 
 -- what help shows of an argument is no part of its rule
 pub helped : (base shown : Arg) (text : Option (Bor Text)) (rule : Rule) → rule_of base ≡ rule → base.global ≡ false → shown ≡ record base { help = text }
