@@ -1,5 +1,5 @@
 //! A connection's conversation at a desk.
-ghost use Rattle.std.specs.Prelude.{◌≡◌, ℕ, List, false, IfErr, IfOk, OnOk};
+ghost use Rattle.std.specs.Prelude.{◌≡◌, ◌≤◌, ℕ, List, length, false, IfErr, IfOk, OnOk};
 ghost use Rattle.std.specs.Io.KnownBytes.{Appends, Consumes};
 ghost use Rattle.http_wire.specs.Clock.{AreTold};
 ghost use Rattle.http_wire.specs.Lent.{Names};
@@ -56,6 +56,12 @@ pub fn serve_stream<
         × Appends (O.contents writer) (O.contents result.writer) text
         × Converses (DeskStep C.settings) C.settings.numbers.max_size moments
         (record { input = got; text = text; before = desk; after = result.desk }) e) }
+    ensures breaks { IfErr result.ended (λ f. (moments : List ℕ)
+        × (length moments ≤ 4096) × (got text : List ℕ)
+        × Consumes (I.remaining reader) (I.remaining result.reader) got
+        × Appends (O.contents writer) (O.contents result.writer) text
+        × Breaks (DeskStep C.settings) C.settings.numbers.max_size moments
+        (record { input = got; text = text; before = desk; after = result.desk }) f) }
     ensures read { IfOk result.ended (λ e. IsReadWhen e (I.remaining result.reader)) }
     ensures fault { IfErr result.ended (Names (I.has_failed result.reader) (O.has_failed result.writer)) }
 {

@@ -98,6 +98,27 @@ fn turns_on_a_wire(rt: HostRuntime) -> Result<(), Fail> {
 }
 
 #[test]
+fn buffers_pass_on(rt: HostRuntime) -> Result<(), Fail> {
+    let alloc = rt.alloc();
+    let all = joined(alloc, &FIRST_UPLOAD)?;
+    let mut book = new_book(alloc)?;
+    let mut wire = new_wire(alloc, Input::new(&all, usize::MAX), Output::new(alloc))?;
+    answer_one(&mut wire, &mut book)?;
+    let (_, _, buffers) = wire.into_parts();
+    let mut book = new_book(alloc)?;
+    let mut wire = Wire::over(
+        buffers,
+        Tapped::new(Input::new(POST, usize::MAX)),
+        Tapped::new(Output::new(alloc)),
+        64,
+    );
+    answer_one(&mut wire, &mut book)?;
+    assert_end(&rt, "the end", &mut wire, Ok(true));
+    assert_written(&rt, wire, CREATED);
+    Ok(())
+}
+
+#[test]
 fn known_bytes(rt: HostRuntime) -> Result<(), Fail> {
     let all = joined(rt.alloc(), &FIRST_UPLOAD)?;
     let written = joined(rt.alloc(), &REPLIES)?;

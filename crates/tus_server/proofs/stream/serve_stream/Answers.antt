@@ -1,9 +1,9 @@
 use Rattle.std.proofs.Common.{◌≡◌, ◌++◌, ℕ, sym, ap, subst, subst₂, ◌∙◌}
-use Rattle.std.proofs.lemmas.Result.{IfOk-weaker}
+use Rattle.std.proofs.lemmas.Result.{IfErr-weaker, IfOk-weaker}
 use Rattle.std.specs.Io.KnownBytes.{Appends, Consumes}
 use Rattle.http_wire.specs.Exchange.{Exchange}
-use Rattle.http_wire.specs.Turns.{Converses}
-use Rattle.http_wire.proofs.Carried.{Converses-carried}
+use Rattle.http_wire.specs.Turns.{Breaks, Converses}
+use Rattle.http_wire.proofs.Carried.{Breaks-carried, Converses-carried}
 use Rattle.tus_server.specs.DeskStep.{DeskStep}
 use Rattle.tus_server.proofs.stream.serve_stream.Goals as goal
 
@@ -22,3 +22,19 @@ returns-clause-converses g c =
       subst₂ (λ before after. Converses steps max h.0 (record { input = h.2; text = h.3; before = before; after = after }) e) c.new-answerer.ensures (sym c.into_desk.ensures)
           (Converses-carried (λ a. a.desk) _ steps (λ a r now reply b step. step) max h.0 _ e (rw (c.over-wire.ensures, c.max_size.ensures.value) at h.6)),
     )) c.serve-ended.ensures.converses
+
+pub returns-clause-breaks : goal.returns-clause-breaks
+returns-clause-breaks g c =
+    let parts = c.into_parts-reader.ensures in
+    let steps = DeskStep g.C.Charges.settings in
+    let max = g.C.Charges.settings.numbers.max_size in
+    IfErr-weaker c.serve-ended.result _ _ (λ f h. (
+      h.0,
+      h.1,
+      h.2,
+      h.3,
+      subst (λ r. Consumes (g.I.Source.remaining c.args.reader) (g.I.Source.remaining r) h.2) (sym parts.reader) (rw c.over-wire.ensures at h.4),
+      subst (λ w. Appends (g.O.Sink.contents c.args.writer) (g.O.Sink.contents w) h.3) (sym parts.writer) (rw c.over-wire.ensures at h.5),
+      subst₂ (λ before after. Breaks steps max h.0 (record { input = h.2; text = h.3; before = before; after = after }) f) c.new-answerer.ensures (sym c.into_desk.ensures)
+          (Breaks-carried (λ a. a.desk) _ steps (λ a r now reply b step. step) max h.0 _ f (rw (c.over-wire.ensures, c.max_size.ensures.value) at h.6)),
+    )) c.serve-ended.ensures.breaks
