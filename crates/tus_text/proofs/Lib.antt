@@ -1,3 +1,4 @@
+pub mod ChecksumLemmas
 pub mod ConcatLemmas
 pub mod DateLemmas
 pub mod DistinctLemmas

@@ -1,3 +1,4 @@
+pub mod Checksum
 pub mod Concat
 pub mod Cut
 pub mod Date

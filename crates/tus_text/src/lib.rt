@@ -2,6 +2,7 @@
 //! its value, and no call takes memory.
 #![tactic(auto)]
 
+mod checksum;
 mod concat;
 mod cut;
 mod date;
@@ -15,6 +16,7 @@ mod tenant;
 mod tests;
 mod text;
 
+pub use checksum::{Checksum, DIGEST_LEN, read_checksum};
 pub use concat::{CONCAT_MAX, Concat, PARTS_MAX, PartPath, Parts, read_concat};
 pub use date::{LAST_SECOND, read_expires, write_expires};
 pub use metadata::{METADATA_MAX, check_metadata};

@@ -1,3 +1,4 @@
+mod checksum;
 mod concat;
 mod date;
 mod limits;
