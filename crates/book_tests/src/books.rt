@@ -7,7 +7,7 @@ ghost use Rattle.upload_book.specs.Lawful.{IsConcatText};
 use std::alloc::Global;
 use std::process::Abort;
 use std::test::Fail;
-use tus_text::{Concat, read_concat};
+use tus_text::{Checksum, Concat, read_concat};
 use upload_book::{Appended, Book, Chunk, Moment, Name, NewFinal, Numbers, Refused, Settings};
 
 pub const ACME: &[u8] = b"acme";
@@ -23,6 +23,18 @@ pub const NUMBERS: Numbers = Numbers {
     last_id: u64::MAX - 1,
     last_total: u64::MAX,
 };
+
+/// The digest of `hello` by SHA-1, as sha1sum has it.
+pub const HELLO: Checksum = Checksum::Sha1([
+    0xaa, 0xf4, 0xc6, 0x1d, 0xdc, 0xc5, 0xe8, 0xa2, 0xda, 0xbe, 0xde, 0x0f, 0x3b, 0x48, 0x2c, 0xd9,
+    0xae, 0xa9, 0x43, 0x4d,
+]);
+
+/// That of no bytes.
+pub const NOTHING: Checksum = Checksum::Sha1([
+    0xda, 0x39, 0xa3, 0xee, 0x5e, 0x6b, 0x4b, 0x0d, 0x32, 0x55, 0xbf, 0xef, 0x95, 0x60, 0x18, 0x90,
+    0xaf, 0xd8, 0x07, 0x09,
+]);
 
 /// A book of acme with 8 blocks and beta with 4.
 pub fn new_book(alloc: Global, numbers: Numbers) -> Result<Book, Fail> {
@@ -51,6 +63,7 @@ pub fn patch(
         offset,
         length: None,
         typed: true,
+        check: None,
         bytes,
     };
     book.append(&acme(id), chunk, moment(rt, 1000))

@@ -1,8 +1,10 @@
 //! The book by a plain, slow program, for the tests. It keeps every upload that there ever was, as segments of
 //! bytes, and counts ids, uploads and charges anew from them. It has no blocks, and keeps no texts.
 
+use sha1::Sha1;
 use std::alloc::Global;
 use std::process::Abort;
+use tus_text::Checksum;
 use upload_book::{
     Appended, Chunk, Created, Kind, Moment, Name, Numbers, Refusal, Refused, Removed, Swept,
 };
@@ -60,6 +62,19 @@ fn refused_by(tests: &[(bool, Refusal)]) -> Result<(), Refusal> {
     match tests.iter().find(|test| test.0) {
         Some(test) => Err(test.1),
         None => Ok(()),
+    }
+}
+
+// Whether a digest is another than that of the bytes, which is made of them one by one.
+fn differs(check: Option<Checksum>, bytes: &[u8]) -> bool {
+    let mut hasher = Sha1::new();
+    for byte in bytes {
+        hasher.update(&[*byte]);
+    }
+    let made = hasher.finalize();
+    match check {
+        Some(Checksum::Sha1(digest)) => digest != made,
+        _ => false,
     }
 }
 
@@ -267,6 +282,8 @@ impl PlainBook {
             (chunk.offset != at, Refusal::Offset),
             (other, Refusal::LengthFixed),
             (is_too_long, Refusal::TooLong),
+            (chunk.check == Some(Checksum::Other), Refusal::Algorithm),
+            (differs(chunk.check, chunk.bytes), Refusal::Mismatch),
             (charged > self.numbers.last_total, Refusal::Spent),
             (charge > quota, Refusal::Quota),
         ]);

@@ -6,6 +6,7 @@ use crate::plain::{PlainBook, PlainRow};
 use std::alloc::Global;
 use std::process::Abort;
 use std::test::Fail;
+use tus_text::Checksum;
 use upload_book::{
     Appended, Book, Chunk, Content, Created, HeadRow, Kind, Moment, Name, NewUpload, Numbers,
     Refusal, Refused, Removed, Swept,
@@ -24,6 +25,8 @@ pub enum Call {
     Patch(u64, u64, &'static [u8]),
     /// A PATCH of an upload, at an offset, which tells a length.
     PatchOf(u64, u64, u64, &'static [u8]),
+    /// A PATCH of an upload, at an offset, with a checksum.
+    Checked(u64, u64, Checksum, &'static [u8]),
     /// A PATCH of an upload, at offset 0, without its content type.
     Untyped(u64, &'static [u8]),
     Head(u64),
@@ -253,16 +256,29 @@ fn typed<'a>(offset: u64, length: Option<u64>, bytes: &'a [u8]) -> Chunk<'a> {
         offset,
         length,
         typed: true,
+        check: None,
         bytes,
     }
 }
 
-// The same without it, at offset 0.
+// The same with a checksum, which tells no length.
+fn checked<'a>(offset: u64, check: Checksum, bytes: &'a [u8]) -> Chunk<'a> {
+    Chunk {
+        offset,
+        length: None,
+        typed: true,
+        check: Some(check),
+        bytes,
+    }
+}
+
+// A PATCH without its content type, at offset 0.
 fn untyped<'a>(bytes: &'a [u8]) -> Chunk<'a> {
     Chunk {
         offset: 0,
         length: None,
         typed: false,
+        check: None,
         bytes,
     }
 }
@@ -298,6 +314,9 @@ fn take(rt: &impl Abort, pair: &mut Pair, place: usize, step: &Step) {
         ),
         Call::PatchOf(id, offset, length, bytes) => {
             pair.append(rt, named(id), typed(offset, Some(length), bytes), now)
+        }
+        Call::Checked(id, offset, check, bytes) => {
+            pair.append(rt, named(id), checked(offset, check, bytes), now)
         }
         Call::Untyped(id, bytes) => pair.append(rt, named(id), untyped(bytes), now),
         Call::Head(id) => pair.look(named(id), now),

@@ -73,6 +73,7 @@ fn a_tenant_that_is_not_there(rt: HostRuntime) -> Result<(), Fail> {
         offset: 0,
         length: None,
         typed: true,
+        check: None,
         bytes: b"x",
     };
     let refused = Refused {

@@ -1,10 +1,11 @@
 //! Single uploads: how they take their bytes, when they expire, and what is refused.
 
-use crate::books::{ACME, BETA, NUMBERS};
-use crate::steps::Call::{Delete, Get, Head, Patch, PatchOf, Post, Sweep, Untyped};
+use crate::books::{ACME, BETA, HELLO, NOTHING, NUMBERS};
+use crate::steps::Call::{Checked, Delete, Get, Head, Patch, PatchOf, Post, Sweep, Untyped};
 use crate::steps::Told::{Appended, Bytes, Created, Refused, RefusedPatch, Removed, Row, Swept};
 use crate::steps::{Step, run, steps};
 use std::test::Fail;
+use tus_text::Checksum;
 use upload_book::{Kind, Numbers, Refusal};
 
 // Five bytes, a wrong offset, bytes past the length, and the other five.
@@ -113,6 +114,24 @@ static WITHOUT_TYPE: [Step; 6] = steps! {
 #[test]
 fn refused_patches(rt: HostRuntime) -> Result<(), Fail> {
     run(&rt, rt.alloc(), NUMBERS, &WITHOUT_TYPE)
+}
+
+// A checksum is asked after the length and before the quota: only bytes of that digest are kept.
+static CHECKSUMS: [Step; 9] = steps! {
+    1000 ACME Post(Some(64)) => Created(1, Some(4600)), [0, 0, 12, 0, 0];
+    1000 ACME Checked(1, 0, HELLO, b"hellp") => RefusedPatch(Refusal::Mismatch, Some(4600)), [0, 0, 12, 0, 0];
+    1000 ACME Checked(1, 0, Checksum::Other, b"hello") => RefusedPatch(Refusal::Algorithm, Some(4600)), [0, 0, 12, 0, 0];
+    2000 ACME Checked(1, 0, HELLO, b"hello") => Appended(5, Some(5600)), [2, 0, 10, 2, 0];
+    2000 ACME Checked(1, 5, NOTHING, b"") => Appended(5, Some(5600)), [2, 0, 10, 2, 0];
+    2000 ACME Checked(1, 5, HELLO, b"") => RefusedPatch(Refusal::Mismatch, Some(5600)), [2, 0, 10, 2, 0];
+    2000 ACME Checked(1, 5, Checksum::Other, b"012345678901234567890123456789012345678901234567890123456789") => RefusedPatch(Refusal::TooLong, Some(5600)), [2, 0, 10, 2, 0];
+    2000 ACME Checked(1, 5, HELLO, b"01234567890123456789012345678") => RefusedPatch(Refusal::Mismatch, Some(5600)), [2, 0, 10, 2, 0];
+    2000 ACME Patch(1, 5, b"01234567890123456789012345678") => RefusedPatch(Refusal::Quota, Some(5600)), [2, 0, 10, 2, 0];
+};
+
+#[test]
+fn checksums(rt: HostRuntime) -> Result<(), Fail> {
+    run(&rt, rt.alloc(), NUMBERS, &CHECKSUMS)
 }
 
 // A refused creation uses no id.

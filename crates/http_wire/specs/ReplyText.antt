@@ -37,7 +37,7 @@ unfoldable pub line_if : Bool → List ℕ → List ℕ → List ℕ
 line_if true name value = line name value
 line_if false name value = []
 
--- the reason phrases of the statuses (RFC 9110, section 15; RFC 6585; RFC 4918)
+-- the reason phrases of the statuses (RFC 9110, section 15; RFC 6585; tus 1.0.0, Checksum; RFC 4918)
 abbrev pub reasons : List (ℕ × List ℕ)
 reasons =
     (200, codes "OK")
@@ -54,6 +54,7 @@ reasons =
     ∷ (413, codes "Content Too Large")
     ∷ (415, codes "Unsupported Media Type")
     ∷ (431, codes "Request Header Fields Too Large")
+    ∷ (460, codes "Checksum Mismatch")
     ∷ (503, codes "Service Unavailable")
     ∷ (507, codes "Insufficient Storage")
     ∷ []

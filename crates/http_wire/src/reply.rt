@@ -107,6 +107,7 @@ fn reason(status: u16) -> &'static [u8]
         413 => b"Content Too Large",
         415 => b"Unsupported Media Type",
         431 => b"Request Header Fields Too Large",
+        460 => b"Checksum Mismatch",
         503 => b"Service Unavailable",
         507 => b"Insufficient Storage",
         _ => b"",

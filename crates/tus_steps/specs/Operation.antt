@@ -24,7 +24,7 @@ has_version r = is_get r.method || is_just (codes "1.0.0") r.fields.version
 
 -- the chunk at an offset that may tell the upload's length
 abbrev pub chunk_at : Request → ℕ → Option ℕ → Chunk
-chunk_at r offset told = record { offset = offset; length = told; typed = has_patch_type r.fields.media; bytes = r.body }
+chunk_at r offset told = record { offset = offset; length = told; typed = has_patch_type r.fields.media; check = None; bytes = r.body }
 
 -- the chunk of a PATCH, which tells its offset, and the upload's length as a number if at all
 abbrev pub chunk_in : Request → Option Chunk

@@ -132,6 +132,7 @@ impl<'a> Request<'a> {
             offset,
             length,
             typed: self.fields.media.has_patch_type(),
+            check: None,
             bytes: self.body,
         })
     }

@@ -7,6 +7,7 @@ use Rattle.std.proofs.lemmas.List.{append-nil, nil_from_length}
 use Rattle.std.proofs.lemmas.List.Elements.{All-map, All-weaker}
 use Rattle.upload_book.specs.Account.{blocks_added}
 use Rattle.upload_book.specs.Append.{is_final, or_else, differ, is_too_long, append_refusal, upload_with}
+use Rattle.upload_book.specs.Checksum.{is_mismatch, is_of_other_algorithm}
 use Rattle.upload_book.specs.Chunk.{Chunk}
 use Rattle.upload_book.specs.declared.account.Account.{Account}
 use Rattle.upload_book.specs.declared.head_row.Kind.{Kind}
@@ -27,6 +28,8 @@ pub record IsAppendable (n : Numbers) (account : Account) (u : Upload) (chunk : 
   pub offset : not (eqb chunk.offset (offset_of u)) ≡ false
   pub fixed : differ u.declared chunk.length ≡ false
   pub fits : is_too_long n (unwrap_or (or_else u.declared chunk.length) n.max_size) (offset_of u + length chunk.bytes) ≡ false
+  pub known : is_of_other_algorithm chunk.check ≡ false
+  pub same : is_mismatch chunk.check chunk.bytes ≡ false
   pub unspent : account.charged + blocks_added n (offset_of u) (length chunk.bytes) ≤ n.last_total
   pub paid : account.charge + blocks_added n (offset_of u) (length chunk.bytes) ≤ account.quota
 
@@ -39,7 +42,9 @@ IsAppendable-from_none n account u chunk none =
     let offset = test-passed (not (eqb chunk.offset (offset_of u))) _ _ typed.1 in
     let fixed = test-passed (differ u.declared chunk.length) _ _ offset.1 in
     let fits = test-passed (is_too_long n (unwrap_or (or_else u.declared chunk.length) n.max_size) (offset_of u + length chunk.bytes)) _ _ fixed.1 in
-    let unspent = test-passed (ltb n.last_total (account.charged + added)) _ _ fits.1 in
+    let known = test-passed (is_of_other_algorithm chunk.check) _ _ fits.1 in
+    let same = test-passed (is_mismatch chunk.check chunk.bytes) _ _ known.1 in
+    let unspent = test-passed (ltb n.last_total (account.charged + added)) _ _ same.1 in
     let paid = test-passed (ltb account.quota (account.charge + added)) _ _ unspent.1 in
     record {
       own = own.0;
@@ -47,6 +52,8 @@ IsAppendable-from_none n account u chunk none =
       offset = offset.0;
       fixed = fixed.0;
       fits = fits.0;
+      known = known.0;
+      same = same.0;
       unspent = at_most n.last_total (account.charged + added) unspent.0;
       paid = at_most account.quota (account.charge + added) paid.0;
     }
@@ -62,7 +69,7 @@ not_above most k less = grind (arith, nat_tests)
 pub append_refusal-none : (n : Numbers) (account : Account) (u : Upload) (chunk : Chunk) → IsAppendable n account u chunk → append_refusal n account (head_row_of u) chunk ≡ None
 append_refusal-none n account u chunk can =
     let added = blocks_added n (offset_of u) (length chunk.bytes) in
-    rw (can.own, can.typed, can.offset, can.fixed, can.fits, not_above n.last_total (account.charged + added) can.unspent, not_above account.quota (account.charge + added) can.paid) refl
+    rw (can.own, can.typed, can.offset, can.fixed, can.fits, can.known, can.same, not_above n.last_total (account.charged + added) can.unspent, not_above account.quota (account.charge + added) can.paid) refl
 
 -- the bytes stand at the end
 pub content_of-append : (n : Numbers) (u : Upload) (chunk : Chunk) (now : ℕ) → content_of (upload_with n u chunk now) ≡ content_of u ++ chunk.bytes

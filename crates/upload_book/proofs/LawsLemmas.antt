@@ -58,6 +58,8 @@ IsAppendable-first n account u chunk first later whole can =
       offset = can.offset;
       fixed = can.fixed;
       fits = fewer_fit n (unwrap_or (or_else u.declared chunk.length) n.max_size) (offset_of u + length first) (offset_of u + length chunk.bytes) (omega (arith, count)) can.fits;
+      known = refl;
+      same = refl;
       unspent = omega (arith, fewer_blocks n.block_size (offset_of u) (length first) (length later), added, can.unspent);
       paid = omega (arith, fewer_blocks n.block_size (offset_of u) (length first) (length later), added, can.paid);
     }
@@ -79,6 +81,8 @@ IsAppendable-later n account u chunk first later now whole can =
       offset = rw start (moved chunk.offset (offset_of u) (length first) can.offset);
       fixed = differ-told u.declared chunk.length can.fixed;
       fits = rw (or_else-twice u.declared chunk.length, end) can.fits;
+      known = refl;
+      same = refl;
       unspent = both _ _ _ _ _ _ added more can.unspent;
       paid = both _ _ _ _ _ _ added more can.paid;
     }

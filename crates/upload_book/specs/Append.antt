@@ -1,14 +1,15 @@
--- The step of a PATCH (tus 1.0.0, Core Protocol, Creation, Expiration and Concatenation).
+-- The step of a PATCH (tus 1.0.0, Core Protocol, Creation, Expiration, Checksum and Concatenation).
 use Rattle.std.specs.Prelude.{ℕ, ◌+◌, Bool, true, false, not, ◌||◌, List, [], ◌∷◌, ◌++◌, length, nat_lt, ◌==◌, Option, Some, None, unwrap_or, Result, Ok, Err}
 use Rattle.std.specs.Option.{option_map_or}
 use Rattle.upload_book.specs.declared.append.Appended.{Appended}
+use Rattle.upload_book.specs.Checksum.{is_mismatch, is_of_other_algorithm}
 use Rattle.upload_book.specs.Chunk.{Chunk}
 use Rattle.upload_book.specs.declared.append.Refused.{Refused}
 use Rattle.upload_book.specs.declared.head_row.HeadRow.{HeadRow}
 use Rattle.upload_book.specs.declared.head_row.Kind.{Kind}
 use Rattle.upload_book.specs.declared.head_row.Kind.TheVariants.{Plain, Partial, Final}
 use Rattle.upload_book.specs.declared.refusal.Refusal.{Refusal}
-use Rattle.upload_book.specs.declared.refusal.Refusal.TheVariants.{IsFinal, Media, Offset, LengthFixed, TooLong, Spent, Quota, Memory}
+use Rattle.upload_book.specs.declared.refusal.Refusal.TheVariants.{IsFinal, Media, Offset, LengthFixed, TooLong, Algorithm, Mismatch, Spent, Quota, Memory}
 use Rattle.upload_book.specs.declared.settings.Numbers.{Numbers}
 use Rattle.upload_book.specs.declared.account.Account.{Account}
 use Rattle.upload_book.specs.Account.{account_in, account_with, blocks_added}
@@ -45,6 +46,8 @@ append_tests n account row chunk =
     ∷ (not (chunk.offset == row.offset), Offset)
     ∷ (differ row.declared chunk.length, LengthFixed)
     ∷ (is_too_long n (unwrap_or (or_else row.declared chunk.length) n.max_size) (row.offset + length chunk.bytes), TooLong)
+    ∷ (is_of_other_algorithm chunk.check, Algorithm)
+    ∷ (is_mismatch chunk.check chunk.bytes, Mismatch)
     ∷ (nat_lt n.last_total after.charged, Spent)
     ∷ (nat_lt after.quota after.charge, Quota)
     ∷ []

@@ -60,16 +60,17 @@ AccountsFollow =
     account_in n after (charged_after n charged part after)
     ≡ account_with (account_in n part charged) (blocks_added n (offset_of u) (length chunk.bytes))
 
--- the PATCH of the first of its bytes
+-- the PATCH of the first of its bytes; it has no checksum, since that was of all of them
 abbrev pub first_part : Chunk → List ℕ → Chunk
-first_part chunk first = record chunk { bytes = first }
+first_part chunk first = record chunk { bytes = first; check = None }
 
--- the PATCH of the later ones, which go on where the first end
+-- the PATCH of the later ones, which go on where the first end; it has none either
 abbrev pub later_part : Chunk → List ℕ → List ℕ → Chunk
-later_part chunk first later = record chunk { offset = chunk.offset + length first; bytes = later }
+later_part chunk first later = record chunk { offset = chunk.offset + length first; bytes = later; check = None }
 
--- A PATCH that is accepted may be sent in two, of which the second goes on where the first ended: at one
--- moment both are accepted, the last answer is the one to the whole, and so is the tenant's part after it.
+-- A PATCH that is accepted, with a checksum or without, may be sent in two without one, of which the second goes
+-- on where the first ended: at one moment both are accepted, the last answer is the one to the whole, and so is
+-- the tenant's part after it.
 abbrev pub ResumedPatch : Type 0
 ResumedPatch =
     (n : Numbers) (part : TenantBook) (id charged : ℕ) (chunk : Chunk) (first later : List ℕ) (now : ℕ) → IsTenantOf n part → chunk.bytes ≡ first ++ later

@@ -11,6 +11,7 @@ pub mod TenantBook
 pub mod PlainBook
 pub mod NewUpload
 pub mod NewFinal
+pub mod Checksum
 pub mod Chunk
 pub mod Create
 pub mod Concat

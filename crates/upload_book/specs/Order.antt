@@ -27,6 +27,8 @@ order =
     ∷ codes "offset"  -- a PATCH at another offset than the upload's
     ∷ codes "length-fixed"  -- a PATCH that tells another length than the known one
     ∷ codes "too-long"  -- a length above the greatest size, or bytes past the upload's length
+    ∷ codes "algorithm"  -- a checksum by another algorithm than SHA-1
+    ∷ codes "mismatch"  -- a checksum that is not that of the bytes
     ∷ codes "part"  -- a part of a final upload is no visible partial upload of its tenant
     ∷ codes "part-open"  -- a part of a final upload does not have all of its bytes
     ∷ codes "unfinished"  -- a GET of an upload that does not have all of its bytes

@@ -1,7 +1,7 @@
 -- The refusals of the steps: their words and statuses, and the first of several tests that applies.
 use Rattle.std.specs.Prelude.{◌≡◌, ◌⊎◌, ℕ, Bool, List, [], ◌∷◌, Option, Some, None, Result, Ok, Err, codes, if◌then◌else◌}
 use Rattle.upload_book.specs.declared.refusal.Refusal.{Refusal}
-use Rattle.upload_book.specs.declared.refusal.Refusal.TheVariants.{Version, Path, Tenant, Method, Field, Unknown, Gone, IsFinal, Media, Offset, LengthFixed, TooLong, Part, PartOpen, Unfinished, Uploads, Spent, Quota, Pool, Memory}
+use Rattle.upload_book.specs.declared.refusal.Refusal.TheVariants.{Version, Path, Tenant, Method, Field, Unknown, Gone, IsFinal, Media, Offset, LengthFixed, TooLong, Algorithm, Mismatch, Part, PartOpen, Unfinished, Uploads, Spent, Quota, Pool, Memory}
 
 -- the word that names it, which is the body of its reply
 abbrev pub word_of : Refusal → List ℕ
@@ -17,6 +17,8 @@ word_of Media = codes "media"
 word_of Offset = codes "offset"
 word_of LengthFixed = codes "length-fixed"
 word_of TooLong = codes "too-long"
+word_of Algorithm = codes "algorithm"
+word_of Mismatch = codes "mismatch"
 word_of Part = codes "part"
 word_of PartOpen = codes "part-open"
 word_of Unfinished = codes "unfinished"
@@ -27,8 +29,9 @@ word_of Pool = codes "pool"
 word_of Memory = codes "memory"
 
 -- the status of its reply: those of RFC 9110, section 15, and 507 of RFC 4918, section 11.5; 412 for
--- another version, 409 for a wrong offset, 415 for another content type and 403 for a PATCH of a
--- final upload are those that tus 1.0.0 asks for
+-- another version, 409 for a wrong offset, 415 for another content type, 403 for a PATCH of a final
+-- upload, 400 for an algorithm that this server does not have and 460 for bytes with another checksum
+-- are those that tus 1.0.0 asks for
 abbrev pub status_of : Refusal → ℕ
 status_of Version = 412
 status_of Path = 404
@@ -42,6 +45,8 @@ status_of Media = 415
 status_of Offset = 409
 status_of LengthFixed = 400
 status_of TooLong = 413
+status_of Algorithm = 400
+status_of Mismatch = 460
 status_of Part = 400
 status_of PartOpen = 409
 status_of Unfinished = 409

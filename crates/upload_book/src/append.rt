@@ -13,9 +13,10 @@ use crate::moment::Moment;
 use crate::refusal::Refusal;
 use crate::standing::append_refusal;
 use std::marker::Model;
+use tus_text::Checksum;
 
-/// The bytes of a PATCH, and what it says of them (tus 1.0.0, Core Protocol and Creation). A contract sees
-/// the bytes as a list.
+/// The bytes of a PATCH, and what it says of them (tus 1.0.0, Core Protocol, Creation and Checksum). A
+/// contract sees the bytes as a list.
 #[derive(Drop)]
 pub struct Chunk<'a> {
     /// `Upload-Offset`: where the bytes go.
@@ -24,6 +25,8 @@ pub struct Chunk<'a> {
     pub length: Option<u64>,
     /// Whether the content type is `application/offset+octet-stream`.
     pub typed: bool,
+    /// `Upload-Checksum`, which came with the bytes.
+    pub check: Option<Checksum>,
     pub bytes: &'a [u8],
 }
 
@@ -36,6 +39,7 @@ impl<'a> Model for Chunk<'a> {
       offset = chunk.offset;
       length = chunk.length;
       typed = chunk.typed;
+      check = chunk.check;
       bytes = chunk.bytes.now;
     } };
 }
@@ -66,9 +70,9 @@ impl Book {
     /// bytes touches no block, also where other uploads hold the last one.
     ///
     /// It is refused by the first of these that applies: Unknown, Gone, IsFinal, Media, Offset,
-    /// LengthFixed, TooLong, Spent, Quota. Where none of them does and the bytes take a block or more,
-    /// it may be refused as Memory: there was none for the list of the upload's blocks. A refusal
-    /// leaves the book as it was.
+    /// LengthFixed, TooLong, Algorithm, Mismatch, Spent, Quota. Where none of them does and the bytes
+    /// take a block or more, it may be refused as Memory: there was none for the list of the upload's
+    /// blocks. A refusal leaves the book as it was.
     pub fn append(&mut self, name: &Name, chunk: Chunk, now: Moment) -> Result<Appended, Refused>
         ensures answer { IsAnswer
             (answer_of (plain_of self.old) name.now.tenant

@@ -7,9 +7,9 @@ pub fn refusals_follow_the_order()
     ensures { FollowOrder }
 {}
 
-/// An upload goes on where it stopped: a PATCH that is accepted may be sent in two, of which the second
-/// begins at the offset after the first. At one moment both are accepted, and the last answer and the
-/// tenant's part after it are those of the whole.
+/// An upload goes on where it stopped: a PATCH that is accepted, with a checksum or without, may be sent in
+/// two without one, of which the second begins at the offset after the first. At one moment both are
+/// accepted, and the last answer and the tenant's part after it are those of the whole.
 pub fn resumed_patch()
     ensures { ResumedPatch }
 {}

@@ -5,6 +5,7 @@
 mod account;
 mod append;
 mod book;
+mod checksum;
 mod concat;
 mod content;
 mod create;

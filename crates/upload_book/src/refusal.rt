@@ -33,6 +33,10 @@ pub enum Refusal {
     LengthFixed,
     /// A length is above the greatest allowed, or the bytes go past the upload's length.
     TooLong,
+    /// The checksum is by another algorithm than SHA-1.
+    Algorithm,
+    /// The checksum is not that of the bytes.
+    Mismatch,
     /// A part of a final upload is no visible partial upload of its tenant.
     Part,
     /// A part of a final upload does not have all of its bytes yet.
@@ -60,7 +64,8 @@ impl Refusal {
         self.word_and_status().0
     }
 
-    /// The status of its reply (RFC 9110, section 15; 507: RFC 4918, section 11.5).
+    /// The status of its reply (RFC 9110, section 15; 460: tus 1.0.0, Checksum; 507: RFC 4918, section
+    /// 11.5).
     pub fn status(self) -> u16
         ensures { result ≡ status_of self }
     {
@@ -85,6 +90,8 @@ impl Refusal {
             Refusal::Offset => ("offset", 409),
             Refusal::LengthFixed => ("length-fixed", 400),
             Refusal::TooLong => ("too-long", 413),
+            Refusal::Algorithm => ("algorithm", 400),
+            Refusal::Mismatch => ("mismatch", 460),
             Refusal::Part => ("part", 400),
             Refusal::PartOpen => ("part-open", 409),
             Refusal::Unfinished => ("unfinished", 409),

@@ -5,6 +5,7 @@ ghost use Rattle.upload_book.specs.Upload.{is_reached};
 
 use crate::account::Account;
 use crate::append::Chunk;
+use crate::checksum::{is_mismatch, is_of_other_algorithm};
 use crate::expiry::{lifetime_end, renewed};
 use crate::head_row::Kind;
 use crate::moment::Moment;
@@ -75,6 +76,10 @@ pub(crate) fn append_refusal(
         Some(Refusal::LengthFixed)
     } else if most > max_size || end > most {
         Some(Refusal::TooLong)
+    } else if is_of_other_algorithm(chunk.check) {
+        Some(Refusal::Algorithm)
+    } else if is_mismatch(chunk.check, chunk.bytes) {
+        Some(Refusal::Mismatch)
     } else if added > last_total - account.charged {
         Some(Refusal::Spent)
     } else if added > account.quota - account.charge {

@@ -162,6 +162,7 @@ fn reason(status: u16) -> &'static str {
         413 => "Content Too Large",
         415 => "Unsupported Media Type",
         431 => "Request Header Fields Too Large",
+        460 => "Checksum Mismatch",
         503 => "Service Unavailable",
         507 => "Insufficient Storage",
         _ => "",

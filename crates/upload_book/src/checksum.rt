@@ -1,0 +1,23 @@
+//! The checksum that came with some bytes (tus 1.0.0, Checksum).
+ghost use Rattle.std.specs.Prelude.{◌≡◌};
+ghost use Rattle.upload_book.specs.Checksum.{is_mismatch, is_of_other_algorithm};
+
+use sha1::Sha1;
+use tus_text::Checksum;
+
+/// Whether the checksum is by an algorithm that this server does not have.
+pub(crate) fn is_of_other_algorithm(check: Option<Checksum>) -> bool
+    ensures { result ≡ is_of_other_algorithm check }
+{
+    matches!(check, Some(Checksum::Other))
+}
+
+/// Whether the checksum is a digest by SHA-1, and not that of the bytes.
+pub(crate) fn is_mismatch(check: Option<Checksum>, bytes: &[u8]) -> bool
+    ensures { result ≡ is_mismatch check bytes.now }
+{
+    match check {
+        Some(Checksum::Sha1(digest)) => digest != Sha1::digest(bytes),
+        _ => false,
+    }
+}
