@@ -4,7 +4,7 @@
 use crate::books::{ACME, BETA, NUMBERS, acme, moment, new_final, patch};
 use std::process::Abort;
 use upload_book::{
-    Appended, Book, Created, HeadRow, NewUpload, Numbers, Refusal, Refused, Settings,
+    Appended, Book, Created, FirstChunk, HeadRow, NewUpload, Numbers, Refusal, Refused, Settings,
 };
 
 // How far acme's first two uploads are, what acme and beta pay, how many blocks are free, and the two totals.
@@ -46,6 +46,34 @@ fn patched(
     }
     assert_eq!(rt; seen(rt, book), before);
     patch(rt, book, 1, offset, bytes)
+}
+
+// A creation of an upload with its first bytes.
+fn create(rt: &impl Abort, book: &mut Book) -> Result<Created, Refusal> {
+    let tenant = book.settings().tenant(ACME).expect(rt, "acme");
+    let new = NewUpload {
+        partial: false,
+        length: Some(5),
+        metadata: b"",
+        concat: b"",
+    };
+    let first = FirstChunk {
+        typed: true,
+        check: None,
+        bytes: b"hello",
+    };
+    book.create_with(tenant, new, first, moment(rt, 1000))
+}
+
+// The same, and once more where it was refused since there was no memory.
+fn created(rt: &impl Abort, book: &mut Book) -> Result<Created, Refusal> {
+    let before = seen(rt, book);
+    let answer = create(rt, book);
+    if answer != Err(Refusal::Memory) {
+        return answer;
+    }
+    assert_eq!(rt; seen(rt, book), before);
+    create(rt, book)
 }
 
 // A final upload of the first one twice.
@@ -118,4 +146,8 @@ fn lacking_memory_changes_nothing(rt: HostRuntime) {
         assert_eq!(rt; released, Ok(blocks));
     }
     assert_eq!(rt; paid(&rt, &book), [0, 0, 12, 5, 5]);
+    let made = created(&rt, &mut book);
+    assert_eq!(rt; made.map(|created| created.name.id), Ok(3));
+    assert_content(&rt, &book, 3, b"hello");
+    assert_eq!(rt; paid(&rt, &book), [2, 0, 10, 7, 5]);
 }

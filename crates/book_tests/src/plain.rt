@@ -6,7 +6,8 @@ use std::alloc::Global;
 use std::process::Abort;
 use tus_text::Checksum;
 use upload_book::{
-    Appended, Chunk, Created, Kind, Moment, Name, Numbers, Refusal, Refused, Removed, Swept,
+    Appended, Chunk, Created, FirstChunk, Kind, Moment, Name, Numbers, Refusal, Refused, Removed,
+    Swept,
 };
 
 /// Bytes, and the id of the upload to which they were sent.
@@ -161,53 +162,65 @@ impl PlainBook {
         end.max(Some(later.min(253_402_300_799)))
     }
 
-    // Keeps an upload under the tenant's next id, where it may have one more.
-    fn add(
-        &mut self,
-        rt: &impl Abort,
-        tenant: u8,
-        kind: Kind,
-        declared: Option<u64>,
-        segments: Vec<Segment>,
-        expires: Option<u64>,
-    ) -> Result<Created, Refusal> {
-        let id = self.next(tenant);
-        let name = Name { tenant, id };
+    // Keeps an upload under its tenant's next id, where the tenant may have one more and pay so many blocks more.
+    fn add(&mut self, rt: &impl Abort, upload: Upload, added: u64) -> Result<Created, Refusal> {
+        let name = upload.name;
+        let tenant = name.tenant;
+        let expires = upload.expires;
+        let before = self.charge(tenant);
+        let charge = before.saturating_add(added);
+        let charged = self.charged.saturating_add(added);
         let uploads = self.uploads.iter();
         let count = uploads.filter(|u| u.name.tenant == tenant && !u.has_ended);
         let is_full = count.count() as u64 >= self.numbers.uploads;
-        let is_spent = id > self.numbers.last_id;
-        refused_by(&[(is_full, Refusal::Uploads), (is_spent, Refusal::Spent)])?;
-        let upload = Upload {
-            name,
-            has_ended: false,
-            kind,
-            declared,
-            segments,
-            expires,
-        };
+        let is_spent = name.id > self.numbers.last_id || charged > self.numbers.last_total;
+        refused_by(&[
+            (is_full, Refusal::Uploads),
+            (is_spent, Refusal::Spent),
+            (
+                charge > self.quotas[usize::from(tenant.min(1))],
+                Refusal::Quota,
+            ),
+        ])?;
         self.uploads.push(upload).expect(rt, "memory");
+        self.settle(tenant, before);
         Ok(Created {
             name,
             expires: expires.and_then(Moment::new),
         })
     }
 
+    /// A creation with first bytes, which may be none.
     pub fn create(
         &mut self,
         rt: &impl Abort,
         tenant: u8,
         kind: Kind,
         length: Option<u64>,
+        first: &FirstChunk,
         now: Moment,
     ) -> Result<Created, Refusal> {
-        let is_too_long = length.is_some_and(|n| n > self.numbers.max_size);
-        refused_by(&[(is_too_long, Refusal::TooLong)])?;
-        let origin = self.next(tenant);
-        let bytes = Vec::new(self.alloc);
-        let segments = vec![in self.alloc; Segment { origin, bytes }].expect(rt, "memory");
-        let expires = self.touched(kind, length == Some(0), None, now);
-        self.add(rt, tenant, kind, length, segments, expires)
+        let len = first.bytes.len() as u64;
+        let most = length.unwrap_or(self.numbers.max_size);
+        let is_too_long = most > self.numbers.max_size || len > most;
+        refused_by(&[
+            (!first.typed, Refusal::Media),
+            (is_too_long, Refusal::TooLong),
+            (first.check == Some(Checksum::Other), Refusal::Algorithm),
+            (differs(first.check, first.bytes), Refusal::Mismatch),
+        ])?;
+        let id = self.next(tenant);
+        let bytes = Vec::from_slice(self.alloc, first.bytes).expect(rt, "memory");
+        let segment = Segment { origin: id, bytes };
+        let upload = Upload {
+            name: Name { tenant, id },
+            has_ended: false,
+            kind,
+            declared: length,
+            segments: vec![in self.alloc; segment].expect(rt, "memory"),
+            expires: self.touched(kind, length == Some(len), None, now),
+        };
+        self.add(rt, upload, len.div_ceil(self.numbers.block_size.max(1)))
     }
 
     pub fn concat(
@@ -240,7 +253,16 @@ impl PlainBook {
             (!there, Refusal::Part),
             (!done, Refusal::PartOpen),
         ])?;
-        self.add(rt, tenant, Kind::Final, Some(len), segments, None)
+        let id = self.next(tenant);
+        let upload = Upload {
+            name: Name { tenant, id },
+            has_ended: false,
+            kind: Kind::Final,
+            declared: Some(len),
+            segments,
+            expires: None,
+        };
+        self.add(rt, upload, 0)
     }
 
     pub fn look(&self, name: &Name, now: Moment) -> Result<PlainRow, Refusal> {

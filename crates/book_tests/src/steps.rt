@@ -8,8 +8,8 @@ use std::process::Abort;
 use std::test::Fail;
 use tus_text::Checksum;
 use upload_book::{
-    Appended, Book, Chunk, Content, Created, HeadRow, Kind, Moment, Name, NewUpload, Numbers,
-    Refusal, Refused, Removed, Swept,
+    Appended, Book, Chunk, Content, Created, FirstChunk, HeadRow, Kind, Moment, Name, NewUpload,
+    Numbers, Refusal, Refused, Removed, Swept,
 };
 
 /// A call of a book.
@@ -17,6 +17,12 @@ use upload_book::{
 pub enum Call {
     /// A creation of an upload of its own, of this length.
     Post(Option<u64>),
+    /// A creation of an upload of its own, of this length, with its first bytes.
+    PostWith(Option<u64>, &'static [u8]),
+    /// The same with a checksum.
+    PostChecked(Option<u64>, Checksum, &'static [u8]),
+    /// The same as without, but without the content type of a PATCH.
+    PostUntyped(Option<u64>, &'static [u8]),
     /// A creation of a partial upload.
     Partial(Option<u64>),
     /// A concatenation of parts.
@@ -171,7 +177,31 @@ impl Pair {
             };
             self.book.create(place, new, now)
         };
-        let plainly = self.plain.create(rt, place, kind, length, now);
+        let plainly = self
+            .plain
+            .create(rt, place, kind, length, &first(true, None, b""), now);
+        [created(answer), created(plainly)]
+    }
+
+    fn create_with(
+        &mut self,
+        rt: &impl Abort,
+        tenant: &[u8],
+        length: Option<u64>,
+        first: FirstChunk,
+        now: Moment,
+    ) -> [Told<'static>; 2] {
+        let place = self.book.settings().tenant(tenant).expect(rt, "a tenant");
+        let plainly = self
+            .plain
+            .create(rt, place, Kind::Plain, length, &first, now);
+        let new = NewUpload {
+            partial: false,
+            length,
+            metadata: b"",
+            concat: b"",
+        };
+        let answer = self.book.create_with(place, new, first, now);
         [created(answer), created(plainly)]
     }
 
@@ -250,6 +280,15 @@ impl Pair {
     }
 }
 
+// The first bytes of an upload.
+fn first<'a>(typed: bool, check: Option<Checksum>, bytes: &'a [u8]) -> FirstChunk<'a> {
+    FirstChunk {
+        typed,
+        check,
+        bytes,
+    }
+}
+
 // A PATCH of its content type.
 fn typed<'a>(offset: u64, length: Option<u64>, bytes: &'a [u8]) -> Chunk<'a> {
     Chunk {
@@ -304,6 +343,15 @@ fn take(rt: &impl Abort, pair: &mut Pair, place: usize, step: &Step) {
     let named = |id: u64| Name { tenant: number, id };
     let answers = match call {
         Call::Post(length) => pair.create(rt, tenant, Kind::Plain, length, now),
+        Call::PostWith(length, bytes) => {
+            pair.create_with(rt, tenant, length, first(true, None, bytes), now)
+        }
+        Call::PostChecked(length, check, bytes) => {
+            pair.create_with(rt, tenant, length, first(true, Some(check), bytes), now)
+        }
+        Call::PostUntyped(length, bytes) => {
+            pair.create_with(rt, tenant, length, first(false, None, bytes), now)
+        }
         Call::Partial(length) => pair.create(rt, tenant, Kind::Partial, length, now),
         Call::Join(parts) => pair.concat(rt, tenant, parts, now),
         Call::Patch(id, offset, bytes) => pair.append(

@@ -1,7 +1,10 @@
 //! Single uploads: how they take their bytes, when they expire, and what is refused.
 
 use crate::books::{ACME, BETA, HELLO, NOTHING, NUMBERS};
-use crate::steps::Call::{Checked, Delete, Get, Head, Patch, PatchOf, Post, Sweep, Untyped};
+use crate::steps::Call::{
+    Checked, Delete, Get, Head, Patch, PatchOf, Post, PostChecked, PostUntyped, PostWith, Sweep,
+    Untyped,
+};
 use crate::steps::Told::{Appended, Bytes, Created, Refused, RefusedPatch, Removed, Row, Swept};
 use crate::steps::{Step, run, steps};
 use std::test::Fail;
@@ -132,6 +135,42 @@ static CHECKSUMS: [Step; 9] = steps! {
 #[test]
 fn checksums(rt: HostRuntime) -> Result<(), Fail> {
     run(&rt, rt.alloc(), NUMBERS, &CHECKSUMS)
+}
+
+// The first bytes of an upload come with its creation, and are paid; a refused creation uses no id.
+static WITH_UPLOAD: [Step; 15] = steps! {
+    1000 ACME PostUntyped(Some(4), b"hello") => Refused(Refusal::Media), [0, 0, 12, 0, 0];
+    1000 ACME PostWith(Some(4), b"hello") => Refused(Refusal::TooLong), [0, 0, 12, 0, 0];
+    1000 ACME PostWith(Some(65), b"hello") => Refused(Refusal::TooLong), [0, 0, 12, 0, 0];
+    1000 ACME PostChecked(Some(10), Checksum::Other, b"hello") => Refused(Refusal::Algorithm), [0, 0, 12, 0, 0];
+    1000 ACME PostChecked(Some(10), HELLO, b"hellp") => Refused(Refusal::Mismatch), [0, 0, 12, 0, 0];
+    1000 ACME PostChecked(Some(10), HELLO, b"hello") => Created(1, Some(4600)), [2, 0, 10, 2, 0];
+    1000 ACME Patch(1, 5, b"world") => Appended(10, None), [3, 0, 9, 3, 0];
+    9000 ACME Get(1) => Bytes(b"helloworld"), [3, 0, 9, 3, 0];
+    1000 ACME PostWith(Some(5), b"abcde") => Created(2, None), [5, 0, 7, 5, 0];
+    1000 ACME PostWith(None, b"") => Created(3, Some(4600)), [5, 0, 7, 5, 0];
+    1000 ACME PostWith(Some(20), b"0123456789012") => Refused(Refusal::Quota), [5, 0, 7, 5, 0];
+    1000 BETA PostWith(Some(20), b"01234567890123456") => Refused(Refusal::Quota), [5, 0, 7, 5, 0];
+    1000 BETA PostWith(Some(20), b"0123456789012345") => Created(1, Some(4600)), [5, 4, 3, 9, 0];
+    1000 ACME PostChecked(Some(20), HELLO, b"0123456789012") => Refused(Refusal::Mismatch), [5, 4, 3, 9, 0];
+    1000 ACME Delete(2) => Removed(2, 2), [3, 4, 5, 9, 2];
+};
+
+// Blocks that all tenants may be charged in all are used up by a creation too.
+static SPENT_BY_CREATIONS: [Step; 3] = steps! {
+    1000 ACME PostWith(Some(10), b"hello") => Created(1, Some(4600)), [2, 0, 10, 2, 0];
+    1000 BETA PostWith(Some(10), b"hello") => Refused(Refusal::Spent), [2, 0, 10, 2, 0];
+    1000 BETA PostWith(Some(10), b"hell") => Created(1, Some(4600)), [2, 1, 9, 3, 0];
+};
+
+#[test]
+fn creations_with_upload(rt: HostRuntime) -> Result<(), Fail> {
+    run(&rt, rt.alloc(), NUMBERS, &WITH_UPLOAD)?;
+    let three_blocks = Numbers {
+        last_total: 3,
+        ..NUMBERS
+    };
+    run(&rt, rt.alloc(), three_blocks, &SPENT_BY_CREATIONS)
 }
 
 // A refused creation uses no id.

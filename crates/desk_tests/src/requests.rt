@@ -31,6 +31,8 @@ pub fn moment(rt: &impl Abort, secs: u64) -> Moment {
 pub enum Asked {
     /// A creation of an upload of its own for acme, of this length.
     Post(&'static [u8]),
+    /// A creation of an upload of its own for acme, of this length, with these first bytes.
+    Upload(&'static [u8], &'static [u8]),
     /// A creation of a partial upload for acme, of this length.
     Partial(&'static [u8]),
     /// A concatenation for acme, by this `Upload-Concat`.
@@ -53,6 +55,7 @@ impl Asked {
                 length: Field::One(length),
                 ..fields()
             }),
+            Asked::Upload(length, body) => upload(length, body),
             Asked::Partial(length) => creation(TusFields {
                 length: Field::One(length),
                 concat: Field::One(b"partial"),
@@ -79,6 +82,7 @@ fn fields() -> TusFields<Field<'static>> {
         offset: Field::Absent,
         metadata: Field::Absent,
         concat: Field::Absent,
+        checksum: Field::Absent,
         media: Field::Absent,
     }
 }
@@ -89,6 +93,17 @@ fn creation(fields: TusFields<Field<'static>>) -> Request<'static> {
         path: read_path(b"/files/acme"),
         fields,
         body: b"",
+    }
+}
+
+fn upload(length: &'static [u8], body: &'static [u8]) -> Request<'static> {
+    Request {
+        body,
+        ..creation(TusFields {
+            length: Field::One(length),
+            media: Field::One(b"application/offset+octet-stream"),
+            ..fields()
+        })
     }
 }
 
@@ -125,8 +140,8 @@ pub fn turn(rt: &impl Abort, asked: Asked) -> Turn<'static> {
 /// What a desk tells.
 #[derive(Clone, Copy, Debug, PartialEq, Eq)]
 pub enum Told<'a> {
-    /// An id, and when the upload expires.
-    Created(u64, Option<u64>),
+    /// An id, the offset if it is told, and when the upload expires.
+    Created(u64, Option<u64>, Option<u64>),
     /// An offset, and when the upload expires.
     Patched(u64, Option<u64>),
     /// An offset, a length, `Upload-Concat`, and when the upload expires.
@@ -158,7 +173,12 @@ fn row(row: &HeadRow) -> Told<'_> {
 pub fn told_by(reply: &Reply) -> Told<'_> {
     match reply {
         Reply::Options { .. } => Told::Options,
-        Reply::Created { id, expires, .. } => Told::Created(*id, secs(*expires)),
+        Reply::Created {
+            id,
+            offset,
+            expires,
+            ..
+        } => Told::Created(*id, *offset, secs(*expires)),
         Reply::Head(found) => row(found),
         Reply::Content(content) => Told::Bytes(content.as_slice()),
         Reply::Patched { offset, expires } => Told::Patched(*offset, secs(*expires)),

@@ -1,6 +1,6 @@
 //! The worked uploads at two desks.
 
-use crate::requests::Asked::{Delete, Get, Head, Join, Partial, Patch, Post};
+use crate::requests::Asked::{Delete, Get, Head, Join, Partial, Patch, Post, Upload};
 use crate::requests::Told::{Bytes, Created, Deleted, Patched, Refused, Row, Swept};
 use crate::steps::Call::{Ask, Look, Sweep};
 use crate::steps::{Step, run, steps};
@@ -15,7 +15,7 @@ const THIRD: &[u8] = b"/files/acme/3";
 
 // One desk begins what the other ends, and each sees what the other did.
 static AN_UPLOAD_AT_TWO_DESKS: [Step; 8] = steps! {
-    0 1000 Ask(Post(b"10")) => Created(1, Some(4600)), [0, 0, 0, 12];
+    0 1000 Ask(Post(b"10")) => Created(1, None, Some(4600)), [0, 0, 0, 12];
     0 1000 Ask(Patch(FIRST, b"0", b"hello")) => Patched(5, Some(4600)), [2, 0, 2, 10];
     1 1000 Ask(Head(FIRST)) => Row(5, Some(10), b"", Some(4600)), [2, 0, 2, 10];
     1 1000 Ask(Patch(FIRST, b"3", b"x")) => Refused(Refusal::Offset, Some(4600)), [2, 0, 2, 10];
@@ -30,13 +30,25 @@ fn an_upload_at_two_desks(rt: HostRuntime) -> Result<(), Fail> {
     run(&rt, rt.alloc(), &AN_UPLOAD_AT_TWO_DESKS)
 }
 
+// The first bytes come with the creation, and the other desk sees them and adds the rest.
+static A_CREATION_WITH_UPLOAD: [Step; 3] = steps! {
+    0 1000 Ask(Upload(b"10", b"hello")) => Created(1, Some(5), Some(4600)), [2, 0, 2, 10];
+    1 1000 Look(0, 1) => Row(5, Some(10), b"", Some(4600)), [2, 0, 2, 10];
+    1 1000 Ask(Patch(FIRST, b"5", b"world")) => Patched(10, None), [3, 0, 3, 9];
+};
+
+#[test]
+fn a_creation_with_upload(rt: HostRuntime) -> Result<(), Fail> {
+    run(&rt, rt.alloc(), &A_CREATION_WITH_UPLOAD)
+}
+
 // A final upload costs nothing beside its parts, and keeps their blocks when they end.
 static PARTIALS_AND_FINAL: [Step; 11] = steps! {
-    0 1000 Ask(Partial(b"5")) => Created(1, Some(4600)), [0, 0, 0, 12];
+    0 1000 Ask(Partial(b"5")) => Created(1, None, Some(4600)), [0, 0, 0, 12];
     0 1000 Ask(Patch(FIRST, b"0", b"abcde")) => Patched(5, Some(4600)), [2, 0, 2, 10];
-    1 1000 Ask(Partial(b"2")) => Created(2, Some(4600)), [2, 0, 2, 10];
+    1 1000 Ask(Partial(b"2")) => Created(2, None, Some(4600)), [2, 0, 2, 10];
     1 1000 Ask(Patch(SECOND, b"0", b"fg")) => Patched(2, Some(4600)), [3, 0, 3, 9];
-    0 1000 Ask(Join(b"final;/files/acme/1 http://h:1/files/acme/2")) => Created(3, None), [3, 0, 3, 9];
+    0 1000 Ask(Join(b"final;/files/acme/1 http://h:1/files/acme/2")) => Created(3, None, None), [3, 0, 3, 9];
     1 1000 Look(0, 3) => Row(7, Some(7), b"final;/files/acme/1 http://h:1/files/acme/2", None), [3, 0, 3, 9];
     1 1000 Ask(Patch(THIRD, b"7", b"")) => Refused(Refusal::IsFinal, None), [3, 0, 3, 9];
     0 1000 Ask(Delete(FIRST)) => Deleted, [3, 0, 3, 9];
@@ -52,14 +64,14 @@ fn partials_and_final(rt: HostRuntime) -> Result<(), Fail> {
 
 // A sweep ends the part and not its final upload, so no block becomes free. Another ends an upload of its own.
 static A_SWEEP_AT_A_DESK: [Step; 10] = steps! {
-    0 1000 Ask(Partial(b"5")) => Created(1, Some(4600)), [0, 0, 0, 12];
+    0 1000 Ask(Partial(b"5")) => Created(1, None, Some(4600)), [0, 0, 0, 12];
     0 1000 Ask(Patch(FIRST, b"0", b"abcde")) => Patched(5, Some(4600)), [2, 0, 2, 10];
-    1 1000 Ask(Join(b"final;/files/acme/1")) => Created(2, None), [2, 0, 2, 10];
+    1 1000 Ask(Join(b"final;/files/acme/1")) => Created(2, None, None), [2, 0, 2, 10];
     1 4599 Sweep => Swept(0, 0, 0), [2, 0, 2, 10];
     0 4600 Look(0, 1) => Refused(Refusal::Gone, None), [2, 0, 2, 10];
     1 4600 Sweep => Swept(1, 0, 0), [2, 0, 2, 10];
     0 4600 Ask(Get(SECOND)) => Bytes(b"abcde"), [2, 0, 2, 10];
-    0 5000 Ask(Post(b"9")) => Created(3, Some(8600)), [2, 0, 2, 10];
+    0 5000 Ask(Post(b"9")) => Created(3, None, Some(8600)), [2, 0, 2, 10];
     0 5000 Ask(Patch(THIRD, b"0", b"abcd")) => Patched(4, Some(8600)), [3, 0, 3, 9];
     1 8600 Sweep => Swept(1, 1, 1), [3, 1, 2, 10];
 };
@@ -71,7 +83,7 @@ fn a_sweep_at_a_desk(rt: HostRuntime) -> Result<(), Fail> {
 
 // An upload that ended, an id that was never given, and a tenant that is not there.
 static HEADS_OF_NO_UPLOAD: [Step; 5] = steps! {
-    0 1000 Ask(Post(b"10")) => Created(1, Some(4600)), [0, 0, 0, 12];
+    0 1000 Ask(Post(b"10")) => Created(1, None, Some(4600)), [0, 0, 0, 12];
     1 1000 Ask(Delete(FIRST)) => Deleted, [0, 0, 0, 12];
     0 1000 Look(0, 1) => Refused(Refusal::Gone, None), [0, 0, 0, 12];
     0 1000 Look(0, 9) => Refused(Refusal::Unknown, None), [0, 0, 0, 12];

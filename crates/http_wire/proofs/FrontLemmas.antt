@@ -3,11 +3,14 @@ use Rattle.std.proofs.Common.{◌≡◌, ℕ, ◌+◌, ◌<◌, ◌≤◌, Bool,
 use Rattle.std.proofs.lemmas.Bool.{lt-leb, cases_Bool, cases_lt}
 use Rattle.std.proofs.lemmas.List.{take-append-le, drop-append-le, drop-take}
 use Rattle.httparse.specs.Grammar.{RequestHead}
+use Rattle.tus_steps.specs.declared.tus_fields.TusFields.{TusFields}
+use Rattle.tus_steps.specs.Field.{FieldText}
 use Rattle.tus_steps.specs.Method.{is_applied_when_cut}
 use Rattle.tus_steps.specs.Request.{Request}
 use Rattle.http_wire.specs.Ahead.{Ahead}
 use Rattle.http_wire.specs.Conversation.{continue_text}
-use Rattle.http_wire.specs.Front.{Front, Begins, BeginsWhole, IsFront, LacksMemory, message, refused, cut_patch, cut_other, clean_end, closing, framing_of, unknown_framing, sure_room, method_in, is_waiting, request_of, with_body, judged, judged_front, parsed_front}
+use Rattle.http_wire.specs.Front.{Front, Begins, BeginsWhole, IsFront, LacksMemory, message, refused, cut_patch, cut_other, clean_end, closing, framing_of, unknown_framing, sure_room, method_in, is_waiting, request_of, tus_fields, with_body, judged, judged_front, parsed_front}
+use Rattle.http_wire.specs.Fields.{told_at}
 use Rattle.http_wire.specs.FrontRead.{BeginsHead, ReadsFront}
 use Rattle.http_wire.specs.NextRead.{waits}
 use Rattle.http_wire.specs.HeadFound.{IsUnfinished}
@@ -91,22 +94,27 @@ alone max bytes p held b =
 
 -- not all of it is held
 short_body : (h : RequestHead) (n : ℕ) (rest : List ℕ) → length rest < n
-    → with_body h n rest ≡ (if is_applied_when_cut (method_in h) then cut_patch (request_of h rest) (framing_of h) (is_waiting h n) else cut_other (is_waiting h n))
+    → with_body h n rest ≡ (if is_applied_when_cut (method_in h) (tus_fields h).checksum then cut_patch (request_of h rest) (framing_of h) (is_waiting h n) else cut_other (is_waiting h n))
 short_body h n rest short = rw (lt-leb n (length rest) short) refl
 
+-- what a cut body does is told by the parts of the head
+cut-shows : (max : ℕ) (text : List ℕ) (h : RequestHead) (p : Parts) → ShowsHead max text h p → (applied : Bool) → is_applied_when_cut p.method (told_at text p.fields.checksum) ≡ applied → is_applied_when_cut (method_in h) (tus_fields h).checksum ≡ applied
+cut-shows max text h p shows applied is =
+    ap (λ m. is_applied_when_cut m (tus_fields h).checksum) (sym shows.method) ∙ ap (λ (f : TusFields FieldText). is_applied_when_cut p.method f.checksum) (sym shows.fields) ∙ is
+
 pub IsFront-cut_patch : (max : ℕ) (bytes : List ℕ) (p : Parts) (held : List ℕ) (b : BeginsHead max bytes p held) (a : Ahead) → length held < p.head_len + p.body_len
-    → p.head_len ≤ length held → is_applied_when_cut p.method ≡ true → a.lent ≡ held → IsFront max bytes (cut_patch (request_at p a.lent) p.framing p.is_waiting)
+    → p.head_len ≤ length held → ((head : List ℕ) → is_applied_when_cut p.method (told_at head p.fields.checksum) ≡ true) → a.lent ≡ held → IsFront max bytes (cut_patch (request_at p a.lent) p.framing p.is_waiting)
 IsFront-cut_patch max bytes p held b a short within patch lent =
     let few : length (drop p.head_len held) < p.body_len = omega (arith, length-drop p.head_len held) in
     let request = request_at-shows max a.lent (take p.head_len held) (drop p.head_len held) b.head p b.shows (ap (take p.head_len) lent) (ap (drop p.head_len) lent) in
-    let is = rw b.shows.method at patch in
+    let is = cut-shows max (take p.head_len held) b.head p b.shows _ (patch (take p.head_len held)) in
     subst (λ f. IsFront max bytes f) (short_body b.head p.body_len (drop p.head_len held) few ∙ rw (is, request, b.shows.framing, b.shows.is_waiting) refl) (alone max bytes p held b)
 
 pub IsFront-cut_other : (max : ℕ) (bytes : List ℕ) (p : Parts) (held : List ℕ) (b : BeginsHead max bytes p held) → length held < p.head_len + p.body_len
-    → p.head_len ≤ length held → is_applied_when_cut p.method ≡ false → IsFront max bytes (cut_other p.is_waiting)
+    → p.head_len ≤ length held → ((head : List ℕ) → is_applied_when_cut p.method (told_at head p.fields.checksum) ≡ false) → IsFront max bytes (cut_other p.is_waiting)
 IsFront-cut_other max bytes p held b short within patch =
     let few : length (drop p.head_len held) < p.body_len = omega (arith, length-drop p.head_len held) in
-    let is = rw b.shows.method at patch in
+    let is = cut-shows max (take p.head_len held) b.head p b.shows _ (patch (take p.head_len held)) in
     subst (λ f. IsFront max bytes f) (short_body b.head p.body_len (drop p.head_len held) few ∙ rw (is, b.shows.is_waiting) refl) (alone max bytes p held b)
 
 -- the request waits
@@ -114,7 +122,7 @@ pub waits-with_body : (h : RequestHead) (n : ℕ) (rest : List ℕ) → is_waiti
 waits-with_body h n rest w =
     elim (cases_Bool (nat_le n (length rest))) [
       | inl t ↦ rw t w
-      | inr f ↦ rw f (elim (cases_Bool (is_applied_when_cut (method_in h))) [
+      | inr f ↦ rw f (elim (cases_Bool (is_applied_when_cut (method_in h) (tus_fields h).checksum)) [
         | inl t ↦ rw t w
         | inr f2 ↦ rw f2 w
       ])

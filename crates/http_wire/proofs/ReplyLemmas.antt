@@ -10,7 +10,7 @@ use Rattle.http_wire.specs.declared.framing.Framing.{Framing}
 body_parts : (bare : Bool) (r : Reply) → body_sent (bare || reply_status r == 204) (body_in r) ≡ body_sent (bare || reply_status r == 204) (word_in r) ++ body_sent bare (content_in r)
 body_parts true r = refl
 body_parts false (Options max_size) = sym (append-nil _)
-body_parts false (Created tenant id expires) = sym (append-nil _)
+body_parts false (Created tenant id offset expires) = sym (append-nil _)
 body_parts false (Head row) = sym (append-nil _)
 body_parts false (Content bytes) = refl
 body_parts false (Patched offset expires) = sym (append-nil _)

@@ -20,7 +20,8 @@ use Rattle.http_wire.specs.declared.refusal.WireRefusal.TheVariants.{Memory, Hea
 
 -- What an input begins with. A message, with its framing, whether `100 Continue` is due before its body,
 -- and what follows it; a request that the wire refuses; the end of the input inside a body, that of a
--- PATCH with the bytes that came; the end anywhere else inside a message; or the end between two.
+-- PATCH that is applied when it is cut, with the bytes that came; the end anywhere else inside a message; or
+-- the end between two.
 pub data Front : Type 0 where
   message : Request → Framing → Bool → List ℕ → Front
   refused : WireRefusal → Framing → Front
@@ -92,7 +93,7 @@ is_waiting h n = h.minor == 1 && asks_to_continue (field_text (codes "expect") h
 abbrev pub with_body : RequestHead → ℕ → List ℕ → Front
 with_body h n rest =
     if nat_le n (length rest) then message (request_of h (take n rest)) (framing_of h) (is_waiting h n) (drop n rest)
-    else (if is_applied_when_cut (method_in h) then cut_patch (request_of h rest) (framing_of h) (is_waiting h n)
+    else (if is_applied_when_cut (method_in h) (tus_fields h).checksum then cut_patch (request_of h rest) (framing_of h) (is_waiting h n)
     else cut_other (is_waiting h n))
 
 -- a head whose fields were judged, with what follows it

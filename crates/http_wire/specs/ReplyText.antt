@@ -76,7 +76,7 @@ opening status now =
 -- the status of a reply
 abbrev pub reply_status : Reply → ℕ
 reply_status (Options max_size) = 204
-reply_status (Created tenant id expires) = 201
+reply_status (Created tenant id offset expires) = 201
 reply_status (Head row) = 200
 reply_status (Content bytes) = 200
 reply_status (Patched offset expires) = 204
@@ -101,13 +101,18 @@ tells_version _ = false
 
 -- an OPTIONS is told what is served beside the core protocol
 abbrev pub extensions_in : Reply → List ℕ
-extensions_in (Options max_size) = codes "creation,creation-defer-length,expiration,termination,concatenation"
+extensions_in (Options max_size) = codes "creation,creation-defer-length,expiration,termination,concatenation,checksum,creation-with-upload"
 extensions_in _ = []
 
 -- and how many bytes an upload may have
 abbrev pub max_size_in : Reply → Option ℕ
 max_size_in (Options max_size) = Some max_size
 max_size_in _ = None
+
+-- and by which algorithms a checksum may be
+abbrev pub algorithms_in : Reply → List ℕ
+algorithms_in (Options max_size) = codes "sha1"
+algorithms_in _ = []
 
 -- the methods that are served at a place
 abbrev pub allowed_at : Place → List ℕ
@@ -126,11 +131,12 @@ upload_path tenant id = codes "/files/" ++ tenant ++ codes "/" ++ decimal id
 
 -- the path of an upload that was created
 abbrev pub location_in : Reply → List ℕ
-location_in (Created tenant id expires) = upload_path tenant id
+location_in (Created tenant id offset expires) = upload_path tenant id
 location_in _ = []
 
 -- how many bytes the upload has
 abbrev pub offset_in : Reply → Option ℕ
+offset_in (Created tenant id offset expires) = offset
 offset_in (Head row) = Some row.offset
 offset_in (Patched offset expires) = Some offset
 offset_in _ = None
@@ -157,7 +163,7 @@ concat_in _ = []
 
 -- when it expires, except in the reply to a HEAD
 abbrev pub expires_in : Reply → Option ℕ
-expires_in (Created tenant id expires) = expires
+expires_in (Created tenant id offset expires) = expires
 expires_in (Patched offset expires) = expires
 expires_in (Refused why head at expires) = expires
 expires_in _ = None
@@ -179,6 +185,7 @@ own_fields r =
     line_if (tells_version r) (codes "Tus-Version") (codes "1.0.0")
     ++ text_line (codes "Tus-Extension") (extensions_in r)
     ++ number_line (codes "Tus-Max-Size") (max_size_in r)
+    ++ text_line (codes "Tus-Checksum-Algorithm") (algorithms_in r)
     ++ text_line (codes "Allow") (allowed_in r)
     ++ text_line (codes "Location") (location_in r)
     ++ number_line (codes "Upload-Offset") (offset_in r)

@@ -24,7 +24,14 @@ pub enum FieldSpan {
 }
 
 impl FieldSpan {
-    ghost use Rattle.tus_steps.specs.Field.{text_of};
+    ghost use Rattle.tus_steps.specs.Field.{text_of, is_absent as absent_in};
+
+    /// Whether no field has the name.
+    pub fn is_absent(self) -> bool
+        ensures { (head : List ℕ) → result ≡ absent_in (told_at head self) }
+    {
+        matches!(self, FieldSpan::Absent)
+    }
 
     /// What stands there in the head.
     pub fn of(self, head: &[u8]) -> Field<'_>

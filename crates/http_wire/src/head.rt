@@ -143,6 +143,7 @@ fn tus_fields(head: &[u8], found: &HeaderMap<Span>) -> TusFields<FieldSpan>
         offset: field_of(head, found, "upload-offset"),
         metadata: field_of(head, found, "upload-metadata"),
         concat: field_of(head, found, "upload-concat"),
+        checksum: field_of(head, found, "upload-checksum"),
         media: field_of(head, found, "content-type"),
     }
 }

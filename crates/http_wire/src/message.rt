@@ -23,6 +23,7 @@ pub fn request_in<'a>(parts: &Parts, text: &'a [u8]) -> Request<'a>
             offset: parts.fields.offset.of(head),
             metadata: parts.fields.metadata.of(head),
             concat: parts.fields.concat.of(head),
+            checksum: parts.fields.checksum.of(head),
             media: parts.fields.media.of(head),
         },
         body,

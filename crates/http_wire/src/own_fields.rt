@@ -1,6 +1,6 @@
 //! The fields of a reply of the steps, in their order.
 ghost use Rattle.std.specs.Prelude.{◌≡◌, ◌+◌, ◌≤◌, ◌++◌, length, codes};
-ghost use Rattle.http_wire.specs.ReplyText.{own_fields, length_line, declared_line, upload_path, tells_version, extensions_in, max_size_in, allowed_in, location_in, offset_in, metadata_in, concat_in, expires_in, is_uncached, line, text_line};
+ghost use Rattle.http_wire.specs.ReplyText.{own_fields, length_line, declared_line, upload_path, tells_version, extensions_in, max_size_in, algorithms_in, allowed_in, location_in, offset_in, metadata_in, concat_in, expires_in, is_uncached, line, text_line};
 
 use crate::page::{FIELDS_MAX, LINE_MAX, OPENING_MAX, Page, SHORT_MAX};
 use itoa::Buffer;
@@ -17,6 +17,7 @@ pub fn put_own_fields(page: &mut Page, reply: &Reply)
     page.put_line_if(tells_version(reply), b"Tus-Version", b"1.0.0");
     page.put_text_line(b"Tus-Extension", extensions_in(reply));
     page.put_number_line(b"Tus-Max-Size", max_size_in(reply));
+    page.put_text_line(b"Tus-Checksum-Algorithm", algorithms_in(reply));
     page.put_text_line(b"Allow", allowed_in(reply));
     put_location(page, reply);
     page.put_number_line(b"Upload-Offset", offset_in(reply));
@@ -43,11 +44,11 @@ fn tells_version(reply: &Reply) -> bool
 // What is served beside the core protocol.
 fn extensions_in(reply: &Reply) -> &'static [u8]
     ensures text { result.now ≡ extensions_in reply.now }
-    ensures len { length result.now ≤ 67 }
+    ensures len { length result.now ≤ 97 }
 {
     match reply {
         Reply::Options { .. } =>
-            b"creation,creation-defer-length,expiration,termination,concatenation",
+            b"creation,creation-defer-length,expiration,termination,concatenation,checksum,creation-with-upload",
         _ => b"",
     }
 }
@@ -58,6 +59,17 @@ fn max_size_in(reply: &Reply) -> Option<u64>
     match reply {
         Reply::Options { max_size } => Some(*max_size),
         _ => None,
+    }
+}
+
+// By which algorithms a checksum may be.
+fn algorithms_in(reply: &Reply) -> &'static [u8]
+    ensures text { result.now ≡ algorithms_in reply.now }
+    ensures len { length result.now ≤ 4 }
+{
+    match reply {
+        Reply::Options { .. } => b"sha1",
+        _ => b"",
     }
 }
 
@@ -113,6 +125,7 @@ fn offset_in(reply: &Reply) -> Option<u64>
     ensures { result ≡ offset_in reply.now }
 {
     match reply {
+        Reply::Created { offset, .. } => *offset,
         Reply::Head(row) => Some(row.offset),
         Reply::Patched { offset, .. } => Some(*offset),
         _ => None,

@@ -1,3 +1,5 @@
+ghost use Rattle.std.specs.Prelude.{◌≡◌, ℕ, List};
+
 use crate::fields::FieldSpan;
 use crate::framing::Framing;
 use httparse::spans::Span;
@@ -15,4 +17,17 @@ pub struct Parts {
     pub target: Span,
     /// Where the fields that count for the steps stand in the head.
     pub fields: TusFields<FieldSpan>,
+}
+
+impl Parts {
+    ghost use Rattle.http_wire.specs.Fields.{told_at};
+    ghost use Rattle.tus_steps.specs.Method.{is_applied_when_cut as applied};
+
+    /// Whether the request is applied with the bytes that came where its body is cut off: it is a PATCH
+    /// without a checksum. That is what makes an upload resumable.
+    pub fn is_applied_when_cut(&self) -> bool
+        ensures { (head : List ℕ) → result ≡ applied self.now.method (told_at head self.now.fields.checksum) }
+    {
+        self.method.is_patch() && self.fields.checksum.is_absent()
+    }
 }

@@ -22,7 +22,6 @@ use crate::source::{Sink, Source};
 use http_header::HeaderMap;
 use httparse::spans::Span;
 use std::alloc::Global;
-use tus_steps::Method;
 
 /// What a client that waits for it is told before it sends a body (RFC 9110, section 15.2.1).
 const CONTINUE: &[u8] = b"HTTP/1.1 100 Continue\r\n\r\n";
@@ -34,7 +33,7 @@ pub enum Front {
     Message(Parts),
     /// A request that the wire refuses.
     Refused(WireRefusal, Framing),
-    /// A PATCH whose body was cut.
+    /// A PATCH whose body was cut, and which is applied with the bytes that came.
     CutPatch(Parts, Cut),
     /// Any other message that was cut.
     CutOther,
@@ -253,7 +252,7 @@ fn read_rest<R: Source>(reader: &mut R, inbox: &mut Inbox, parts: Parts) -> Resu
             Ok(Front::Message(parts))
         }
         Ok(false) => {
-            if parts.method.is_applied_when_cut() {
+            if parts.is_applied_when_cut() {
                 lend_all(inbox);
                 Ok(Front::CutPatch(parts, Cut::Ended))
             } else {
@@ -261,7 +260,7 @@ fn read_rest<R: Source>(reader: &mut R, inbox: &mut Inbox, parts: Parts) -> Resu
             }
         }
         Err(fault) => {
-            if parts.method.is_applied_when_cut() {
+            if parts.is_applied_when_cut() {
                 lend_all(inbox);
                 Ok(Front::CutPatch(parts, Cut::Fault))
             } else {

@@ -2,7 +2,7 @@
 use Rattle.std.proofs.Common.{◌≡◌, ◌≤◌, ℕ, Bool, true, false, Result, Ok, Err, inl, inr, sym, subst, arith}
 use Rattle.std.specs.Prelude.{MatchBool}
 use Rattle.upload_book.specs.declared.operation.Operation.{Operation}
-use Rattle.upload_book.specs.declared.operation.Operation.TheVariants.{Create, Concat, Look, Content, Append, Terminate}
+use Rattle.upload_book.specs.declared.operation.Operation.TheVariants.{Create, CreateWith, Concat, Look, Content, Append, Terminate}
 use Rattle.upload_book.specs.declared.refusal.Refusal.{Refusal}
 use Rattle.upload_book.specs.Operation.{book_after_operation}
 use Rattle.upload_book.specs.PlainBook.{PlainBook, with_tenant_book}
@@ -30,6 +30,7 @@ part-no_less b tenant part = record { charged = omega arith; released = omega ar
 
 operation-no_less : (b : PlainBook) (op : Operation) (now : ℕ) → NoLess b (book_after_operation b op now)
 operation-no_less b (Create tenant new) now = part-no_less b tenant _
+operation-no_less b (CreateWith tenant new first) now = part-no_less b tenant _
 operation-no_less b (Concat tenant new) now = part-no_less b tenant _
 operation-no_less b (Look name) now = same-no_less b
 operation-no_less b (Content name) now = same-no_less b

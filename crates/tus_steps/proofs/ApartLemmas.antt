@@ -1,9 +1,10 @@
 -- What a request asks for, apart from where its tenant stands.
 use Rattle.std.proofs.Common.{◌≡◌, ℕ, Bool, true, false, cond, List, [], Option, Some, None, Result, Ok, Err, IfOk, IfSome, inl, inr, refl}
 use Rattle.std.specs.Option.{option_map, option_and_then}
-use Rattle.std.specs.Prelude.{ok_or, codes, length, ◌==◌}
+use Rattle.std.specs.Prelude.{◌||◌, ok_or, codes}
 use Rattle.std.proofs.lemmas.Bool.{cases_Bool}
 use Rattle.tus_text.specs.Concat.{concat_of}
+use Rattle.tus_text.specs.declared.checksum.Checksum.{Checksum}
 use Rattle.tus_text.specs.declared.concat.Concat.{Concat}
 use Rattle.tus_text.specs.declared.concat.Concat.TheVariants.{Partial, Final}
 use Rattle.tus_text.specs.declared.path.Path.{Path}
@@ -16,21 +17,22 @@ use Rattle.upload_book.specs.declared.refusal.Refusal.TheVariants as refusal
 use Rattle.upload_book.specs.NewFinal.{NewFinal}
 use Rattle.upload_book.specs.NewUpload.{NewUpload}
 use Rattle.upload_book.specs.Settings.{Settings, tenant_place}
-use Rattle.tus_steps.specs.Creation.{concat_creation, creation_by, new_final_in, new_upload_in}
+use Rattle.tus_steps.specs.Creation.{concat_creation, creation_by, creation_of, first_chunk, is_with_upload, new_final_in, new_upload_in}
 use Rattle.tus_steps.specs.declared.method.Method.{Method}
 use Rattle.tus_steps.specs.declared.method.Method.TheVariants.{Post, Head, Get, Patch, Delete, Options, Other}
-use Rattle.tus_steps.specs.declared.reply.Place.TheVariants as place
 use Rattle.tus_steps.specs.declared.route.Route.{Route}
 use Rattle.tus_steps.specs.declared.route.Route.TheVariants.{Create, Look, Content, Append, Terminate}
-use Rattle.tus_steps.specs.Field.{FieldText, absent, one, many}
+use Rattle.tus_steps.specs.Field.{FieldText, absent, one, many, optional_checksum_in}
+use Rattle.tus_steps.specs.History.{sends_bytes}
+use Rattle.tus_steps.specs.Method.{is_patch}
 use Rattle.tus_steps.specs.Operation.{chunk_in, found_or, has_version, operation_of, operation_on}
-use Rattle.tus_steps.specs.Reply.{place_of}
 use Rattle.tus_steps.specs.Request.{Request}
 use Rattle.tus_steps.specs.Route.{route, tenant_name}
 
 -- an operation, of the tenant at a place
 abbrev pub moved : ℕ → Operation → Operation
 moved t (operation.Create tenant new) = operation.Create t new
+moved t (operation.CreateWith tenant new first) = operation.CreateWith t new first
 moved t (operation.Concat tenant new) = operation.Concat t new
 moved t (operation.Look name) = operation.Look (record { tenant = t; id = name.id })
 moved t (operation.Content name) = operation.Content (record { tenant = t; id = name.id })
@@ -42,23 +44,40 @@ abbrev pub moved_to : ℕ → Result Operation Refusal → Result Operation Refu
 moved_to t (Ok op) = Ok (moved t op)
 moved_to t (Err why) = Err why
 
--- a PATCH is of the path of an upload
-abbrev pub AppendsAtUpload : Request → Operation → Type 0
-AppendsAtUpload r (operation.Append name chunk) = place_of r.path ≡ place.Upload
-AppendsAtUpload r _ = Unit {0}
+-- a request that asks for an operation with bytes sends them
+abbrev pub SendsItsBytes : Request → Operation → Type 0
+SendsItsBytes r (operation.Append name chunk) = sends_bytes r ≡ true
+SendsItsBytes r (operation.CreateWith tenant new first) = sends_bytes r ≡ true
+SendsItsBytes r _ = Unit {0}
 
 -- operations that differ in the place of the tenant alone
 pub record Apart (r : Request) (ops : ℕ → Option Operation) : Type 0 where
   pub of : Option Operation
   pub each : (t : ℕ) → ops t ≡ option_map (moved t) of
-  pub at : IfSome of (AppendsAtUpload r)
+  pub at : IfSome of (SendsItsBytes r)
 
 none-apart : (r : Request) → Apart r (λ t. None)
 none-apart r = record { of = None; each = λ t. refl; at = tt }
 
-create-apart : (r : Request) (new : Option NewUpload) → Apart r (λ t. option_map (λ (n : NewUpload). operation.Create t n) new)
+cond-apart : (r : Request) (test : Bool) (ops others : ℕ → Option Operation) → (test ≡ true → Apart r ops) → Apart r others → Apart r (λ t. cond test (ops t) (others t))
+cond-apart r true ops others holds fails = holds refl
+cond-apart r false ops others holds fails = fails
+
+or-true : (a b : Bool) → b ≡ true → (a || b) ≡ true
+or-true true b is = refl
+or-true false b is = is
+
+with-apart : (r : Request) (new : NewUpload) (check : Option (Option Checksum)) → is_with_upload r ≡ true → Apart r (λ t. option_map (λ (c : Option Checksum). operation.CreateWith t new (first_chunk r c)) check)
+with-apart r new None carries = none-apart r
+with-apart r new (Some check) carries =
+    record { of = Some (operation.CreateWith 0 new (first_chunk r check)); each = λ t. refl; at = or-true (is_patch r.method) _ carries }
+
+create-apart : (r : Request) (new : Option NewUpload) → Apart r (λ t. option_and_then (creation_of r t) new)
 create-apart r None = none-apart r
-create-apart r (Some new) = record { of = Some (operation.Create 0 new); each = λ t. refl; at = tt }
+create-apart r (Some new) =
+    cond-apart r (is_with_upload r) _ (λ t. Some (operation.Create t new))
+    (with-apart r new (optional_checksum_in r.fields.checksum))
+    (record { of = Some (operation.Create 0 new); each = λ t. refl; at = tt })
 
 final-apart : (r : Request) (new : Option NewFinal) → Apart r (λ t. option_map (λ (n : NewFinal). operation.Concat t n) new)
 final-apart r None = none-apart r
@@ -74,31 +93,32 @@ creation_by-apart r absent = create-apart r (new_upload_in r false [])
 creation_by-apart r (one text) = concat-apart r text (concat_of text)
 creation_by-apart r many = none-apart r
 
-cond-apart : (r : Request) (test : Bool) (ops : ℕ → Option Operation) → Apart r ops → Apart r (λ t. cond test (ops t) None)
-cond-apart r true ops apart = apart
-cond-apart r false ops apart = none-apart r
-
-append-apart : (r : Request) (id : ℕ) (chunk : Option Chunk) → place_of r.path ≡ place.Upload → Apart r (λ t. option_map (λ (c : Chunk). operation.Append (record { tenant = t; id = id }) c) chunk)
+append-apart : (r : Request) (id : ℕ) (chunk : Option Chunk) → sends_bytes r ≡ true → Apart r (λ t. option_map (λ (c : Chunk). operation.Append (record { tenant = t; id = id }) c) chunk)
 append-apart r id None at = none-apart r
 append-apart r id (Some chunk) at = record { of = Some (operation.Append (record { tenant = 0; id = id }) chunk); each = λ t. refl; at = at }
 
--- a path allows a PATCH where it names an upload
-append-path : (p : Path) (m : Method) (id : ℕ) → route p m ≡ Some (Append id) → place_of p ≡ place.Upload
-append-path (path.Upload tenant named) m id is = refl
-append-path (path.Create tenant) Post id is = absurd cc
-append-path (path.Create tenant) Head id is = absurd cc
-append-path (path.Create tenant) Get id is = absurd cc
-append-path (path.Create tenant) Patch id is = absurd cc
-append-path (path.Create tenant) Delete id is = absurd cc
-append-path (path.Create tenant) Options id is = absurd cc
-append-path (path.Create tenant) Other id is = absurd cc
-append-path path.Other m id is = absurd cc
+-- what appends is a PATCH
+append-patch : (p : Path) (m : Method) (id : ℕ) → route p m ≡ Some (Append id) → is_patch m ≡ true
+append-patch p Patch id is = refl
+append-patch (path.Upload tenant named) Post id is = absurd cc
+append-patch (path.Upload tenant named) Head id is = absurd cc
+append-patch (path.Upload tenant named) Get id is = absurd cc
+append-patch (path.Upload tenant named) Delete id is = absurd cc
+append-patch (path.Upload tenant named) Options id is = absurd cc
+append-patch (path.Upload tenant named) Other id is = absurd cc
+append-patch (path.Create tenant) Post id is = absurd cc
+append-patch (path.Create tenant) Head id is = absurd cc
+append-patch (path.Create tenant) Get id is = absurd cc
+append-patch (path.Create tenant) Delete id is = absurd cc
+append-patch (path.Create tenant) Options id is = absurd cc
+append-patch (path.Create tenant) Other id is = absurd cc
+append-patch path.Other m id is = absurd cc
 
 pub route-apart : (r : Request) (on : Route) → route r.path r.method ≡ Some on → Apart r (λ t. operation_on r t on)
-route-apart r Create is = cond-apart r (length r.body == 0) (λ t. creation_by r t r.fields.concat) (creation_by-apart r r.fields.concat)
+route-apart r Create is = creation_by-apart r r.fields.concat
 route-apart r (Look id) is = record { of = Some (operation.Look (record { tenant = 0; id = id })); each = λ t. refl; at = tt }
 route-apart r (Content id) is = record { of = Some (operation.Content (record { tenant = 0; id = id })); each = λ t. refl; at = tt }
-route-apart r (Append id) is = append-apart r id (chunk_in r) (append-path r.path r.method id is)
+route-apart r (Append id) is = append-apart r id (chunk_in r) (rw (append-patch r.path r.method id is) refl)
 route-apart r (Terminate id) is = record { of = Some (operation.Terminate (record { tenant = 0; id = id })); each = λ t. refl; at = tt }
 
 -- What a request of a tenant asks for, whichever the settings that have it: it is refused for the same reason, or asks
@@ -106,7 +126,7 @@ route-apart r (Terminate id) is = record { of = Some (operation.Terminate (recor
 pub record AsksFor (r : Request) (name : List ℕ) : Type 0 where
   pub of : Result Operation Refusal
   pub each : (s : Settings) (t : ℕ) → tenant_place s name ≡ Some t → operation_of s r ≡ moved_to t of
-  pub at : IfOk of (AppendsAtUpload r)
+  pub at : IfOk of (SendsItsBytes r)
 
 -- the last two tests
 abbrev pub asked_at : Request → ℕ → Result Operation Refusal
@@ -116,10 +136,10 @@ asked_at r t = found_or refusal.Method (route r.path r.method) (λ on. ok_or (op
 record AskedAt (r : Request) : Type 0 where
   of : Result Operation Refusal
   each : (t : ℕ) → asked_at r t ≡ moved_to t of
-  at : IfOk of (AppendsAtUpload r)
+  at : IfOk of (SendsItsBytes r)
 
-ok_or-apart : (r : Request) (ops : ℕ → Option Operation) (of : Option Operation) → ((t : ℕ) → ops t ≡ option_map (moved t) of) → IfSome of (AppendsAtUpload r)
-    → (x : Result Operation Refusal) × ((t : ℕ) → ok_or (ops t) refusal.Field ≡ moved_to t x) × IfOk x (AppendsAtUpload r)
+ok_or-apart : (r : Request) (ops : ℕ → Option Operation) (of : Option Operation) → ((t : ℕ) → ops t ≡ option_map (moved t) of) → IfSome of (SendsItsBytes r)
+    → (x : Result Operation Refusal) × ((t : ℕ) → ok_or (ops t) refusal.Field ≡ moved_to t x) × IfOk x (SendsItsBytes r)
 ok_or-apart r ops None each at = (Err refusal.Field, λ t. rw (each t) refl, tt)
 ok_or-apart r ops (Some op) each at = (Ok op, λ t. rw (each t) refl, at)
 

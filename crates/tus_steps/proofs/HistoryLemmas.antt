@@ -11,7 +11,7 @@ use Rattle.upload_book.specs.Settings.{Settings, tenant_place}
 use Rattle.upload_book.specs.Sweep.{book_after_sweep, part_after_sweep}
 use Rattle.upload_book.specs.TenantBook.{TenantBook, opening_part}
 use Rattle.tus_steps.specs.declared.reply.Reply.{Reply}
-use Rattle.tus_steps.specs.History.{Event, request, sweep, IsHistory, is_of, own_events, replies_to, requests_at}
+use Rattle.tus_steps.specs.History.{Event, request, sweep, IsHistory, exchanges_of, is_of, own_events, replies_to, requests_at}
 use Rattle.tus_steps.specs.Isolation.{AreAlike, IsUnhindered, quota_of}
 use Rattle.tus_steps.specs.Request.{Request}
 use Rattle.tus_steps.specs.Step.{IsStep}
@@ -91,7 +91,7 @@ record Reaches (tenant : List ℕ) (b : PlainBook) (all : List Event) (to_all : 
   alike : AreAlike tenant b book
   history : IsHistory book (own ∷ later) told after
   events : own_events tenant later ≡ rest
-  replies : replies_to tenant all to_all ≡ replies_to tenant (own ∷ later) told
+  exchanges : exchanges_of tenant all to_all ≡ exchanges_of tenant (own ∷ later) told
 
 reaches-here : (tenant : List ℕ) (b other : PlainBook) (event : Event) (events : List Event) (replies : List Reply) (after : PlainBook) (own : Event) (rest : List Event) → AreAlike tenant b other → IsHistory other (event ∷ events) replies after → event ∷ own_events tenant events ≡ own ∷ rest → Reaches tenant b (event ∷ events) replies after own rest
 reaches-here tenant b other event events replies after own rest alike is same =
@@ -103,7 +103,7 @@ reaches-here tenant b other event events replies after own rest alike is same =
       alike = alike;
       history = subst (λ (e : Event). IsHistory other (e ∷ events) replies after) this is;
       events = cc;
-      replies = ap (λ (e : Event). replies_to tenant (e ∷ events) replies) this;
+      exchanges = ap (λ (e : Event). exchanges_of tenant (e ∷ events) replies) this;
     }
 
 reaches-later : (tenant : List ℕ) (b : PlainBook) (r : Request) (now : ℕ) (told : Reply) (events : List Event) (replies : List Reply) (after : PlainBook) (own : Event) (rest : List Event) → is_of tenant r ≡ false → Reaches tenant b events replies after own rest → Reaches tenant b (request r now ∷ events) (told ∷ replies) after own rest
@@ -114,7 +114,7 @@ reaches-later tenant b r now told events replies after own rest other reaches = 
   alike = reaches.alike;
   history = reaches.history;
   events = reaches.events;
-  replies = rw other reaches.replies;
+  exchanges = rw other reaches.exchanges;
 }
 
 reaches : (tenant : List ℕ) (b other : PlainBook) (events : List Event) (replies : List Reply) (after : PlainBook) (own : Event) (rest : List Event) → AreAlike tenant b other → IsHistory other events replies after → own_events tenant events ≡ own ∷ rest → Reaches tenant b events replies after own rest
@@ -132,14 +132,18 @@ reaches tenant b other (sweep now ∷ events) replies after own rest alike is sa
 joined : (a b : Reply) (xs ys all : List Reply) → a ≡ b → xs ≡ ys → all ≡ b ∷ ys → a ∷ xs ≡ all
 joined a b xs ys all first rest are = cc
 
--- the reply to the tenant's first request, and those to the later ones
-first-reply : (tenant : List ℕ) (told : List Reply) (r : Request) (now : ℕ) (events : List Event) (replies : List Reply) (first : Reply) (rest : List Reply) → told ≡ replies_to tenant (request r now ∷ events) replies → replies ≡ first ∷ rest → is_of tenant r ≡ true
-    → told ≡ first ∷ replies_to tenant events rest
-first-reply tenant told r now events replies first rest is are own = rw (is, are, own) refl
+-- the replies of exchanges
+replies-alike : (xs ys : List (Request × Reply)) → xs ≡ ys → map {A = Request × Reply} {B = Reply} (λ exchange. exchange.1) xs ≡ map {A = Request × Reply} {B = Reply} (λ exchange. exchange.1) ys
+replies-alike xs ys same = ap (map {A = Request × Reply} {B = Reply} (λ exchange. exchange.1)) same
+
+-- the tenant's first request with its reply, and the later ones
+first-exchange : (tenant : List ℕ) (told : List (Request × Reply)) (r : Request) (now : ℕ) (events : List Event) (replies : List Reply) (first : Reply) (rest : List Reply) → told ≡ exchanges_of tenant (request r now ∷ events) replies → replies ≡ first ∷ rest → is_of tenant r ≡ true
+    → told ≡ (r, first) ∷ exchanges_of tenant events rest
+first-exchange tenant told r now events replies first rest is are own = rw (is, are, own) refl
 
 -- On two books that are alike to a tenant its own events give the same replies, whatever other events there are.
 pub same-replies : (tenant : List ℕ) (b other : PlainBook) (events others : List Event) (replies told : List Reply) (after left : PlainBook) → AreAlike tenant b other → IsHistory b events replies after → IsHistory other others told left → own_events tenant events ≡ own_events tenant others
-    → AllByRecursion IsUnhindered (replies_to tenant events replies) → AllByRecursion IsUnhindered (replies_to tenant others told) → replies_to tenant events replies ≡ replies_to tenant others told
+    → AllByRecursion IsUnhindered (exchanges_of tenant events replies) → AllByRecursion IsUnhindered (exchanges_of tenant others told) → replies_to tenant events replies ≡ replies_to tenant others told
 same-replies tenant b other [] others replies told after left alike is also same unhindered also_unhindered =
     sym (no-replies tenant other others told left also (sym same))
 same-replies tenant b other (request r now ∷ events) others [] told after left alike is also same unhindered also_unhindered = absurd is
@@ -147,12 +151,12 @@ same-replies tenant b other (request r now ∷ events) others (t ∷ replies) to
   | inl own ↦
       let next = reaches tenant b other others told left (request r now) (own_events tenant events) alike also (sym (rw own at same)) in
       let first = first-request next.book r now next.later next.told left next.history in
-      let are = first-reply tenant (replies_to tenant others told) r now next.later next.told first.told first.rest next.replies first.are own in
+      let are = first-exchange tenant (exchanges_of tenant others told) r now next.later next.told first.told first.rest next.exchanges first.are own in
       let here = rw own at unhindered in
       let there = rw are at also_unhindered in
       let step = own-step tenant b next.book r now t first.told is.0 first.middle next.alike own is.1 first.step here.0 there.0 in
       let rest = same-replies tenant is.0 first.middle events next.later replies first.rest after left step.alike is.2 first.later (sym next.events) here.1 there.1 in
-      rw own (joined t first.told (replies_to tenant events replies) (replies_to tenant next.later first.rest) (replies_to tenant others told) step.told rest are)
+      rw own (joined t first.told (replies_to tenant events replies) (replies_to tenant next.later first.rest) (replies_to tenant others told) step.told rest (replies-alike _ _ are))
   | inr not_own ↦
       let still = alike-turned tenant other is.0 (alike-others tenant other b is.0 (alike-turned tenant b other alike) (others-step tenant b r now t is.0 not_own is.1)) in
       rw not_own (same-replies tenant is.0 other events others replies told after left still is.2 also (rw not_own at same) (rw not_own at unhindered) also_unhindered)
@@ -160,8 +164,8 @@ same-replies tenant b other (request r now ∷ events) others (t ∷ replies) to
 same-replies tenant b other (sweep now ∷ events) others replies told after left alike is also same unhindered also_unhindered =
     let next = reaches tenant b other others told left (sweep now) (own_events tenant events) alike also (sym same) in
     let swept = alike-swept tenant b next.book now next.alike in
-    let rest = same-replies tenant (book_after_sweep b now) (book_after_sweep next.book now) events next.later replies next.told after left swept is next.history (sym next.events) unhindered (rw next.replies at also_unhindered) in
-    rest ∙ sym next.replies
+    let rest = same-replies tenant (book_after_sweep b now) (book_after_sweep next.book now) events next.later replies next.told after left swept is next.history (sym next.events) unhindered (rw next.exchanges at also_unhindered) in
+    rest ∙ sym (replies-alike _ _ next.exchanges)
 
 -- a tenant's part at the start is that of its quota
 opening-part : (s : Settings) (tenant : List ℕ) (place : Option ℕ) → tenant_place s tenant ≡ place → option_map (tenant_book (opening_book s)) place ≡ option_map opening_part (option_and_then (slice_get (map {A = TenantQuota} {B = ℕ} (λ t. t.quota) s.tenants)) place)

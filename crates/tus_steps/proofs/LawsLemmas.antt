@@ -2,7 +2,7 @@
 use Rattle.std.proofs.Common.{refl, sym, ◌∙◌}
 use Rattle.std.proofs.lemmas.List.Elements.{recursion_from_All}
 use Rattle.upload_book.specs.PlainBook.{opening_book}
-use Rattle.tus_steps.specs.History.{own_events, replies_to}
+use Rattle.tus_steps.specs.History.{exchanges_of, own_events}
 use Rattle.tus_steps.specs.Isolation.{IsUnhindered, OtherNeighbours, OwnEvents, StepsSeeOneTenant}
 use Rattle.tus_steps.proofs.HistoryLemmas.{opening-alike, own-replies, own-twice, same-replies}
 use Rattle.tus_steps.proofs.OwnLemmas.{others-step, own-step}
@@ -20,9 +20,9 @@ steps_see_one_tenant = record {
 pub other_neighbours : OtherNeighbours
 other_neighbours s other tenant events others replies told after left numbers quota is also same unhindered also_unhindered =
     same-replies tenant (opening_book s) (opening_book other) events others replies told after left (opening-alike s other tenant numbers quota) is also same
-    (recursion_from_All IsUnhindered (replies_to tenant events replies) unhindered) (recursion_from_All IsUnhindered (replies_to tenant others told) also_unhindered)
+    (recursion_from_All IsUnhindered (exchanges_of tenant events replies) unhindered) (recursion_from_All IsUnhindered (exchanges_of tenant others told) also_unhindered)
 
 pub own_events_stay : OwnEvents
 own_events_stay s tenant events replies alone after left is also unhindered also_unhindered =
-    let own = own-replies tenant (opening_book s) events alone left also in
-    other_neighbours s s tenant events (own_events tenant events) replies alone after left refl refl is also (sym (own-twice tenant events)) unhindered (rw own also_unhindered) ∙ own
+    other_neighbours s s tenant events (own_events tenant events) replies alone after left refl refl is also (sym (own-twice tenant events)) unhindered also_unhindered
+    ∙ own-replies tenant (opening_book s) events alone left also

@@ -1,3 +1,4 @@
+pub mod OrderLemmas
 pub mod StepLemmas
 pub mod AskLemmas
 pub mod PlaceLemmas

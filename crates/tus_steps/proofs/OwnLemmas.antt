@@ -1,7 +1,7 @@
 -- One step, as far as one tenant sees it.
 use Rattle.std.proofs.Common.{◌≡◌, ◌≢◌, ◌⊎◌, ℕ, ◌<◌, Bool, true, false, List, [], ◌∷◌, ◌++◌, drop, length, take, Option, Some, None, Result, Ok, Err, IfOk, inl, inr, refl, sym, ap, ◌∙◌, subst}
 use Rattle.std.specs.Option.{option_map, option_map_or}
-use Rattle.std.specs.Prelude.{nat_lt}
+use Rattle.std.specs.Prelude.{◌||◌, nat_lt}
 use Rattle.std.specs.Str.{bytes_eq}
 use Rattle.std.proofs.lemmas.Bool.{cases_Bool, false≢true}
 use Rattle.std.proofs.lemmas.List.{get_or-set_same, length-set}
@@ -11,39 +11,42 @@ use Rattle.upload_book.specs.Append.{append_answer, append_refusal, append_tests
 use Rattle.upload_book.specs.Chunk.{Chunk}
 use Rattle.upload_book.specs.Concat.{concat_answer, concat_refusal, part_after_concat}
 use Rattle.upload_book.specs.Content.{content_answer}
-use Rattle.upload_book.specs.Create.{create_answer, creation_refusal, part_after_create}
+use Rattle.upload_book.specs.Create.{create_answer, create_empty_answer, created_upload, creation_refusal, creation_tests, part_after_create, part_after_create_empty}
 use Rattle.upload_book.specs.declared.create.Created.{Created}
 use Rattle.upload_book.specs.declared.operation.Operation.{Operation}
 use Rattle.upload_book.specs.declared.operation.Operation.TheVariants as operation
 use Rattle.upload_book.specs.declared.refusal.Refusal.{Refusal}
 use Rattle.upload_book.specs.declared.refusal.Refusal.TheVariants as refusal
 use Rattle.upload_book.specs.declared.settings.Numbers.{Numbers}
+use Rattle.upload_book.specs.FirstChunk.{FirstChunk, no_chunk}
 use Rattle.upload_book.specs.Look.{look_answer}
+use Rattle.upload_book.specs.NewUpload.{NewUpload}
 use Rattle.upload_book.specs.PlainBook.{PlainBook, tenant_book, with_tenant_book}
 use Rattle.upload_book.specs.Refusal.{first_that_holds, unless}
 use Rattle.upload_book.specs.Settings.{Settings, tenant_place}
 use Rattle.upload_book.specs.TenantBook.{TenantBook, opening_part, visible_upload}
 use Rattle.upload_book.specs.Terminate.{part_after_terminate, terminate_answer}
 use Rattle.upload_book.specs.Upload.{Upload, head_row_of}
-use Rattle.tus_steps.specs.declared.reply.Place.TheVariants as place
 use Rattle.tus_steps.specs.declared.reply.Reply.{Reply}
 use Rattle.tus_steps.specs.declared.reply.Reply.TheVariants as reply
-use Rattle.tus_steps.specs.History.{lacks_shared, is_of, part_of}
+use Rattle.tus_steps.specs.History.{lacks_shared, is_of, part_of, sends_bytes}
 use Rattle.tus_steps.specs.Isolation.{AreAlike, HasEachPart, IsUnhindered}
 use Rattle.tus_steps.specs.Method.{is_options}
 use Rattle.tus_steps.specs.Operation.{has_version, operation_of}
-use Rattle.tus_steps.specs.Reply.{append_reply, content_reply, creation_reply, deletion_reply, head_reply, place_of, refusing}
+use Rattle.tus_steps.specs.Reply.{append_reply, content_reply, creation_reply, deletion_reply, head_reply, refusing}
 use Rattle.tus_steps.specs.Request.{Request}
 use Rattle.tus_steps.specs.Route.{tenant_name}
 use Rattle.tus_steps.specs.Step.{IsOperationStep, IsStep, IsStepBy}
-use Rattle.tus_steps.proofs.ApartLemmas.{AppendsAtUpload, asks-for, moved, moved_to, route-apart}
+use Rattle.tus_steps.proofs.ApartLemmas.{SendsItsBytes, asks-for, moved, moved_to, route-apart}
 use Rattle.tus_steps.proofs.AskLemmas.{asks}
 use Rattle.tus_steps.proofs.PlaceLemmas.{part_of-other, place-within}
 
 -- the reply to an operation of the tenant at a place with this part, where so many blocks were charged
 abbrev reply_on : ℕ → Numbers → TenantBook → ℕ → Request → ℕ → Operation → Reply
-reply_on t n part charged r now (operation.Create u new) = creation_reply r (create_answer t new now n part)
-reply_on t n part charged r now (operation.Concat u new) = creation_reply r (concat_answer t new now n part)
+reply_on t n part charged r now (operation.Create u new) = creation_reply r None (create_empty_answer t new now n part)
+reply_on t n part charged r now (operation.CreateWith u new first) =
+    creation_reply r (Some (length first.bytes)) (create_answer t new first now charged n part)
+reply_on t n part charged r now (operation.Concat u new) = creation_reply r None (concat_answer t new now n part)
 reply_on t n part charged r now (operation.Look name) = head_reply (look_answer name.id now n part)
 reply_on t n part charged r now (operation.Content name) = content_reply r (content_answer name.id now n part)
 reply_on t n part charged r now (operation.Append name chunk) = append_reply r (append_answer name.id chunk now charged n part)
@@ -51,7 +54,8 @@ reply_on t n part charged r now (operation.Terminate name) = deletion_reply r (t
 
 -- and the part after it
 abbrev part_on : Numbers → TenantBook → ℕ → ℕ → Operation → TenantBook
-part_on n part charged now (operation.Create u new) = part_after_create new now n part
+part_on n part charged now (operation.Create u new) = part_after_create_empty new now n part
+part_on n part charged now (operation.CreateWith u new first) = part_after_create new first now charged n part
 part_on n part charged now (operation.Concat u new) = part_after_concat new now n part
 part_on n part charged now (operation.Look name) = part
 part_on n part charged now (operation.Content name) = part
@@ -79,20 +83,22 @@ record Steps (b : PlainBook) (t : ℕ) (r : Request) (now : ℕ) (op : Operation
   told : reply ≡ reply_on t b.settings.numbers (tenant_book b t) b.charged r now op
   after : Changes b left t (part_on b.settings.numbers (tenant_book b t) b.charged now op)
 
-hindered : (told : Reply) (why : Reply) (A : Type 0) → told ≡ why → lacks_shared why ≡ true → IsUnhindered told → A
-hindered told why A is shared unhindered = absurd (false≢true (sym unhindered ∙ ap lacks_shared is ∙ shared))
+hindered : (r : Request) (told : Reply) (why : Reply) (A : Type 0) → told ≡ why → lacks_shared r why ≡ true → IsUnhindered (r, told) → A
+hindered r told why A is shared unhindered = absurd (false≢true (sym unhindered ∙ ap (lacks_shared r) is ∙ shared))
 
-steps : (b : PlainBook) (t : ℕ) (r : Request) (now : ℕ) (op : Operation) (told : Reply) (after : PlainBook) → t < length b.tenants → IsOperationStep b r now (moved t op) told after → IsUnhindered told → Steps b t r now op told after
+steps : (b : PlainBook) (t : ℕ) (r : Request) (now : ℕ) (op : Operation) (told : Reply) (after : PlainBook) → t < length b.tenants → IsOperationStep b r now (moved t op) told after → IsUnhindered (r, told) → Steps b t r now op told after
 steps b t r now (operation.Create u new) told after within (inl step) unhindered = record { told = step.0; after = changes-with b after t _ within step.1 }
 steps b t r now (operation.Create u new) told after within (inr step) unhindered = absurd step.0
+steps b t r now (operation.CreateWith u new first) told after within (inl step) unhindered = record { told = step.0; after = changes-with b after t _ within step.1 }
+steps b t r now (operation.CreateWith u new first) told after within (inr step) unhindered = hindered r told _ _ step.1 refl unhindered
 steps b t r now (operation.Concat u new) told after within (inl step) unhindered = record { told = step.0; after = changes-with b after t _ within step.1 }
-steps b t r now (operation.Concat u new) told after within (inr step) unhindered = hindered told _ _ step.1 refl unhindered
+steps b t r now (operation.Concat u new) told after within (inr step) unhindered = hindered r told _ _ step.1 refl unhindered
 steps b t r now (operation.Look name) told after within (inl step) unhindered = record { told = step.0; after = changes-none b after t step.1 }
 steps b t r now (operation.Look name) told after within (inr step) unhindered = absurd step.0
 steps b t r now (operation.Content name) told after within (inl step) unhindered = record { told = step.0; after = changes-none b after t step.1 }
-steps b t r now (operation.Content name) told after within (inr step) unhindered = hindered told _ _ step.1 refl unhindered
+steps b t r now (operation.Content name) told after within (inr step) unhindered = hindered r told _ _ step.1 refl unhindered
 steps b t r now (operation.Append name chunk) told after within (inl step) unhindered = record { told = step.0; after = changes-with b after t _ within step.1 }
-steps b t r now (operation.Append name chunk) told after within (inr step) unhindered = hindered told _ _ step.1 refl unhindered
+steps b t r now (operation.Append name chunk) told after within (inr step) unhindered = hindered r told _ _ step.1 refl unhindered
 steps b t r now (operation.Terminate name) told after within (inl step) unhindered = record { told = step.0; after = changes-with b after t _ within step.1 }
 steps b t r now (operation.Terminate name) told after within (inr step) unhindered = absurd step.0
 
@@ -115,42 +121,68 @@ same-refusal : (n : Numbers) (part : TenantBook) (c d : ℕ) (u : Upload) (chunk
     → append_refusal n (account_in n part c) (head_row_of u) chunk ≡ append_refusal n (account_in n part d) (head_row_of u) chunk
 same-refusal n part c d u chunk apart also =
     let tests = append_tests n (account_in n part c) (head_row_of u) chunk in
-    same-unspent (take 5 tests) (is_spent n part c u chunk) (is_spent n part d u chunk) (drop 6 tests) apart also
+    same-unspent (take 7 tests) (is_spent n part c u chunk) (is_spent n part d u chunk) (drop 8 tests) apart also
 
--- a PATCH at an upload that is not refused for what all share is not spent
-not-spent : (r : Request) (why : Option Refusal) (expires : Option ℕ) (told : Reply) → place_of r.path ≡ place.Upload → ((refused : Refusal) → why ≡ Some refused → told ≡ refusing r refused expires) → IsUnhindered told → why ≢ Some refusal.Spent
-not-spent r why expires told at is unhindered spent =
-    hindered told (refusing r refusal.Spent expires) _ (is refusal.Spent spent) (rw at refl) unhindered
+-- ids are spent, or the blocks that the bytes of a creation add
+abbrev is_spent_creating : Numbers → TenantBook → ℕ → FirstChunk → Bool
+is_spent_creating n part charged first =
+    nat_lt n.last_id part.next || nat_lt n.last_total (account_with (account_in n part charged) (blocks_added n 0 (length first.bytes))).charged
+
+-- so is a creation
+same-creation_refusal : (n : Numbers) (part : TenantBook) (c d : ℕ) (new : NewUpload) (first : FirstChunk) → creation_refusal n (account_in n part c) part new first ≢ Some refusal.Spent → creation_refusal n (account_in n part d) part new first ≢ Some refusal.Spent
+    → creation_refusal n (account_in n part c) part new first ≡ creation_refusal n (account_in n part d) part new first
+same-creation_refusal n part c d new first apart also =
+    let tests = creation_tests n (account_in n part c) part new first in
+    same-unspent (take 5 tests) (is_spent_creating n part c first) (is_spent_creating n part d first) (drop 6 tests) apart also
+
+-- a request that sends bytes, and is not refused for what all share, is not spent
+not-spent : (r : Request) (why : Option Refusal) (expires : Option ℕ) (told : Reply) → sends_bytes r ≡ true → ((refused : Refusal) → why ≡ Some refused → told ≡ refusing r refused expires) → IsUnhindered (r, told) → why ≢ Some refusal.Spent
+not-spent r why expires told sends is unhindered spent =
+    hindered r told (refusing r refusal.Spent expires) _ (is refusal.Spent spent) sends unhindered
 
 -- the answers to a PATCH and the parts after it, where so many and so many blocks were charged
 record SameAppends (r : Request) (id : ℕ) (chunk : Chunk) (now c d : ℕ) (n : Numbers) (part : TenantBook) : Type 0 where
   told : append_reply r (append_answer id chunk now c n part) ≡ append_reply r (append_answer id chunk now d n part)
   after : part_after_append id chunk now c n part ≡ part_after_append id chunk now d n part
 
-same-appends : (r : Request) (id : ℕ) (chunk : Chunk) (now c d : ℕ) (n : Numbers) (part : TenantBook) (seen : Result Upload Refusal) → visible_upload part id now ≡ seen → place_of r.path ≡ place.Upload
-    → IsUnhindered (append_reply r (append_answer id chunk now c n part)) → IsUnhindered (append_reply r (append_answer id chunk now d n part)) → SameAppends r id chunk now c d n part
-same-appends r id chunk now c d n part (Err why) is at one other = record { told = rw is refl; after = rw is refl }
-same-appends r id chunk now c d n part (Ok u) is at one other =
+same-appends : (r : Request) (id : ℕ) (chunk : Chunk) (now c d : ℕ) (n : Numbers) (part : TenantBook) (seen : Result Upload Refusal) → visible_upload part id now ≡ seen → sends_bytes r ≡ true
+    → IsUnhindered (r, append_reply r (append_answer id chunk now c n part)) → IsUnhindered (r, append_reply r (append_answer id chunk now d n part)) → SameAppends r id chunk now c d n part
+same-appends r id chunk now c d n part (Err why) is sends one other = record { told = rw is refl; after = rw is refl }
+same-appends r id chunk now c d n part (Ok u) is sends one other =
     let same = same-refusal n part c d u chunk
-    (not-spent r _ u.expires _ at (λ refused found. rw (is, found) refl) one)
-    (not-spent r _ u.expires _ at (λ refused found. rw (is, found) refl) other) in
+    (not-spent r _ u.expires _ sends (λ refused found. rw (is, found) refl) one)
+    (not-spent r _ u.expires _ sends (λ refused found. rw (is, found) refl) other) in
     record { told = rw (is, same) refl; after = rw (is, same) refl }
 
--- a creation's reply tells the id and the expiry alone
-created-told : (r : Request) (refused : Option Refusal) (a b : Created) → a.name.id ≡ b.name.id → a.expires ≡ b.expires → creation_reply r (unless refused a) ≡ creation_reply r (unless refused b)
-created-told r None a b id expires = rw (id, expires) refl
-created-told r (Some why) a b id expires = refl
+-- a creation's reply tells the id, the offset and the expiry alone
+created-told : (r : Request) (offset : Option ℕ) (refused : Option Refusal) (a b : Created) → a.name.id ≡ b.name.id → a.expires ≡ b.expires → creation_reply r offset (unless refused a) ≡ creation_reply r offset (unless refused b)
+created-told r offset None a b id expires = rw (id, expires) refl
+created-told r offset (Some why) a b id expires = refl
 
 -- what an operation gives, wherever its tenant stands and whatever was charged
 record Same (t u c d : ℕ) (n : Numbers) (part : TenantBook) (r : Request) (now : ℕ) (op : Operation) : Type 0 where
   told : reply_on t n part c r now op ≡ reply_on u n part d r now op
   after : part_on n part c now op ≡ part_on n part d now op
 
-same : (t u c d : ℕ) (n : Numbers) (part : TenantBook) (r : Request) (now : ℕ) (op : Operation) → AppendsAtUpload r op → IsUnhindered (reply_on t n part c r now op) → IsUnhindered (reply_on u n part d r now op) → Same t u c d n part r now op
+same-creations : (t u v c d : ℕ) (n : Numbers) (part : TenantBook) (r : Request) (now : ℕ) (new : NewUpload) (first : FirstChunk) → sends_bytes r ≡ true → IsUnhindered (r, reply_on t n part c r now (operation.CreateWith v new first)) → IsUnhindered (r, reply_on u n part d r now (operation.CreateWith v new first)) → Same t u c d n part r now (operation.CreateWith v new first)
+same-creations t u v c d n part r now new first sends one other =
+    let same = same-creation_refusal n part c d new first
+    (not-spent r _ None _ sends (λ refused found. rw found refl) one)
+    (not-spent r _ None _ sends (λ refused found. rw found refl) other) in
+    let offset = Some (length first.bytes) in
+    let created : Created = record { name = record { tenant = t; id = part.next }; expires = (created_upload n new first.bytes now).expires } in
+    record {
+      told = ap (λ why. creation_reply r offset (unless why created)) same ∙ created-told r offset (creation_refusal n (account_in n part d) part new first) created _ refl refl;
+      after = rw same refl;
+    }
+
+same : (t u c d : ℕ) (n : Numbers) (part : TenantBook) (r : Request) (now : ℕ) (op : Operation) → SendsItsBytes r op → IsUnhindered (r, reply_on t n part c r now op) → IsUnhindered (r, reply_on u n part d r now op) → Same t u c d n part r now op
 same t u c d n part r now (operation.Create v new) at one other =
-    record { told = created-told r (creation_refusal n part new) _ _ refl refl; after = refl }
+    record { told = created-told r None (creation_refusal n (account_in n part 0) part new no_chunk) _ _ refl refl; after = refl }
+same t u c d n part r now (operation.CreateWith v new first) at one other =
+    same-creations t u v c d n part r now new first at one other
 same t u c d n part r now (operation.Concat v new) at one other =
-    record { told = created-told r (concat_refusal n part new now) _ _ refl refl; after = refl }
+    record { told = created-told r None (concat_refusal n part new now) _ _ refl refl; after = refl }
 same t u c d n part r now (operation.Look name) at one other = record { told = refl; after = refl }
 same t u c d n part r now (operation.Content name) at one other = record { told = refl; after = refl }
 same t u c d n part r now (operation.Append name chunk) at one other =
@@ -208,22 +240,22 @@ changed-alike tenant b other after left t u part alike is also_is changes also_c
 }
 
 -- the steps of one operation at two places, whose parts are the same
-steps-alike : (tenant : List ℕ) (b other : PlainBook) (t u : ℕ) (r : Request) (now : ℕ) (op : Operation) (told also : Reply) (after left : PlainBook) → AreAlike tenant b other → tenant_place b.settings tenant ≡ Some t → tenant_place other.settings tenant ≡ Some u → tenant_book b t ≡ tenant_book other u → AppendsAtUpload r op
-    → Steps b t r now op told after → Steps other u r now op also left → IsUnhindered told → IsUnhindered also → GoAlike tenant told also after left
+steps-alike : (tenant : List ℕ) (b other : PlainBook) (t u : ℕ) (r : Request) (now : ℕ) (op : Operation) (told also : Reply) (after left : PlainBook) → AreAlike tenant b other → tenant_place b.settings tenant ≡ Some t → tenant_place other.settings tenant ≡ Some u → tenant_book b t ≡ tenant_book other u → SendsItsBytes r op
+    → Steps b t r now op told after → Steps other u r now op also left → IsUnhindered (r, told) → IsUnhindered (r, also) → GoAlike tenant told also after left
 steps-alike tenant b other t u r now op told also after left alike is also_is part at one two unhindered also_unhindered =
     let n = b.settings.numbers in
     let p = tenant_book b t in
     let also_told : also ≡ reply_on u n p other.charged r now op = rw (alike.numbers, part) two.told in
     let also_after : Changes other left u (part_on n p other.charged now op) = rw (alike.numbers, part) two.after in
-    let both = same t u b.charged other.charged n p r now op at (subst IsUnhindered one.told unhindered) (subst IsUnhindered also_told also_unhindered) in
+    let both = same t u b.charged other.charged n p r now op at (subst (λ (told : Reply). IsUnhindered (r, told)) one.told unhindered) (subst (λ (told : Reply). IsUnhindered (r, told)) also_told also_unhindered) in
     record {
       told = one.told ∙ both.told ∙ sym also_told;
       alike = changed-alike tenant b other after left t u (part_on n p other.charged now op) alike is also_is (rw (← both.after) one.after) also_after;
     }
 
-asked-alike : (tenant : List ℕ) (b other : PlainBook) (t u : ℕ) (r : Request) (now : ℕ) (asked : Result Operation Refusal) (told also : Reply) (after left : PlainBook) → AreAlike tenant b other → tenant_place b.settings tenant ≡ Some t → tenant_place other.settings tenant ≡ Some u → tenant_book b t ≡ tenant_book other u → IfOk asked (AppendsAtUpload r)
+asked-alike : (tenant : List ℕ) (b other : PlainBook) (t u : ℕ) (r : Request) (now : ℕ) (asked : Result Operation Refusal) (told also : Reply) (after left : PlainBook) → AreAlike tenant b other → tenant_place b.settings tenant ≡ Some t → tenant_place other.settings tenant ≡ Some u → tenant_book b t ≡ tenant_book other u → IfOk asked (SendsItsBytes r)
     → operation_of b.settings r ≡ moved_to t asked → operation_of other.settings r ≡ moved_to u asked
-    → IsStepBy b r now (operation_of b.settings r) told after → IsStepBy other r now (operation_of other.settings r) also left → IsUnhindered told → IsUnhindered also → GoAlike tenant told also after left
+    → IsStepBy b r now (operation_of b.settings r) told after → IsStepBy other r now (operation_of other.settings r) also left → IsUnhindered (r, told) → IsUnhindered (r, also) → GoAlike tenant told also after left
 asked-alike tenant b other t u r now (Err why) told also after left alike is also_is part at asks also_asks step also_step unhindered also_unhindered =
     refused-alike tenant b other r now told also after left why alike asks also_asks step also_step
 asked-alike tenant b other t u r now (Ok op) told also after left alike is also_is part at asks also_asks step also_step unhindered also_unhindered =
@@ -233,7 +265,7 @@ asked-alike tenant b other t u r now (Ok op) told also after left alike is also_
     unhindered also_unhindered
 
 by-alike : (tenant : List ℕ) (b other : PlainBook) (r : Request) (now : ℕ) (told also : Reply) (after left : PlainBook) → AreAlike tenant b other → is_of tenant r ≡ true
-    → IsStepBy b r now (operation_of b.settings r) told after → IsStepBy other r now (operation_of other.settings r) also left → IsUnhindered told → IsUnhindered also → GoAlike tenant told also after left
+    → IsStepBy b r now (operation_of b.settings r) told after → IsStepBy other r now (operation_of other.settings r) also left → IsUnhindered (r, told) → IsUnhindered (r, also) → GoAlike tenant told also after left
 by-alike tenant b other r now told also after left alike own step also_step unhindered also_unhindered =
     let named = is_of-named tenant (tenant_name r.path) own in
     elim (same-parts (tenant_book b) (tenant_book other) (tenant_place b.settings tenant) (tenant_place other.settings tenant) alike.part) [
@@ -247,7 +279,7 @@ by-alike tenant b other r now told also after left alike own step also_step unhi
 
 -- a request of the tenant gets the same reply on both, and leaves them alike
 pub own-step : (tenant : List ℕ) (b other : PlainBook) (r : Request) (now : ℕ) (told also : Reply) (after left : PlainBook) → AreAlike tenant b other → is_of tenant r ≡ true
-    → IsStep b r now told after → IsStep other r now also left → IsUnhindered told → IsUnhindered also → GoAlike tenant told also after left
+    → IsStep b r now told after → IsStep other r now also left → IsUnhindered (r, told) → IsUnhindered (r, also) → GoAlike tenant told also after left
 own-step tenant b other r now told also after left alike own step also_step unhindered also_unhindered = elim (cases_Bool (is_options r.method)) [
   | inl options ↦
       let one = rw options at step in
@@ -259,6 +291,7 @@ own-step tenant b other r now told also after left alike own step also_step unhi
 -- a step leaves the book, or changes the part at one place
 changes-one : (b : PlainBook) (t : ℕ) (r : Request) (now : ℕ) (op : Operation) (told : Reply) (after : PlainBook) → IsOperationStep b r now (moved t op) told after → (after ≡ b) ⊎ ((part : TenantBook) × (after ≡ with_tenant_book b t part))
 changes-one b t r now (operation.Create u new) told after (inl step) = inr (_, step.1)
+changes-one b t r now (operation.CreateWith u new first) told after (inl step) = inr (_, step.1)
 changes-one b t r now (operation.Concat u new) told after (inl step) = inr (_, step.1)
 changes-one b t r now (operation.Look name) told after (inl step) = inl step.1
 changes-one b t r now (operation.Content name) told after (inl step) = inl step.1

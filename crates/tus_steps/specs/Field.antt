@@ -1,5 +1,7 @@
 -- A field of a request by its name, as bytes.
 use Rattle.std.specs.Prelude.{ℕ, Bool, true, false, List, [], Option, Some, None, option_map, bytes_eq, if◌then◌else◌}
+use Rattle.tus_text.specs.Checksum.{checksum_of}
+use Rattle.tus_text.specs.declared.checksum.Checksum.{Checksum}
 use Rattle.tus_text.specs.Number.{number_of}
 use Rattle.upload_book.specs.Lawful.{is_kept_metadata}
 use Rattle.tus_steps.specs.declared.field.Field.{Field}
@@ -47,3 +49,10 @@ abbrev pub metadata_in : FieldText → Option (List ℕ)
 metadata_in absent = Some []
 metadata_in (one value) = if is_kept_metadata value then Some value else None
 metadata_in many = None
+
+-- the checksum that it may tell: none where it stands nowhere, and nothing where it stands once and is none, or more than
+-- once
+abbrev pub optional_checksum_in : FieldText → Option (Option Checksum)
+optional_checksum_in absent = Some None
+optional_checksum_in (one value) = option_map Some (checksum_of value)
+optional_checksum_in many = None

@@ -1,14 +1,15 @@
 -- What happens at a server, one event after another, and what of it is one tenant's own.
-use Rattle.std.specs.Prelude.{◌≡◌, ℕ, Bool, true, false, List, [], ◌∷◌, filter, map, Option, option_map, bytes_eq, if◌then◌else◌}
+use Rattle.std.specs.Prelude.{◌≡◌, ℕ, Bool, true, false, ◌||◌, List, [], ◌∷◌, filter, map, Option, option_map, bytes_eq, if◌then◌else◌}
 use Rattle.std.specs.Option.{option_map_or}
 use Rattle.upload_book.specs.declared.refusal.Refusal.TheVariants as refusal
 use Rattle.upload_book.specs.PlainBook.{PlainBook, tenant_book}
 use Rattle.upload_book.specs.Settings.{tenant_place}
 use Rattle.upload_book.specs.Sweep.{book_after_sweep}
 use Rattle.upload_book.specs.TenantBook.{TenantBook}
-use Rattle.tus_steps.specs.declared.reply.Place.TheVariants as place
 use Rattle.tus_steps.specs.declared.reply.Reply.{Reply}
 use Rattle.tus_steps.specs.declared.reply.Reply.TheVariants as reply
+use Rattle.tus_steps.specs.Creation.{is_with_upload}
+use Rattle.tus_steps.specs.Method.{is_patch}
 use Rattle.tus_steps.specs.Request.{Request}
 use Rattle.tus_steps.specs.Route.{tenant_name}
 use Rattle.tus_steps.specs.Step.{IsStep}
@@ -45,19 +46,27 @@ is_own tenant (sweep now) = true
 abbrev pub own_events : List ℕ → List Event → List Event
 own_events tenant events = filter (is_own tenant) events
 
--- the replies to a tenant's requests, of the replies to all
-abbrev pub replies_to : List ℕ → List Event → List Reply → List Reply
-replies_to tenant (request r now ∷ events) (told ∷ replies) =
-    if is_of tenant r then told ∷ replies_to tenant events replies else replies_to tenant events replies
-replies_to tenant (sweep now ∷ events) replies = replies_to tenant events replies
-replies_to tenant _ _ = []
+-- a tenant's requests, each with its reply, of the replies to all
+abbrev pub exchanges_of : List ℕ → List Event → List Reply → List (Request × Reply)
+exchanges_of tenant (request r now ∷ events) (told ∷ replies) =
+    if is_of tenant r then (r, told) ∷ exchanges_of tenant events replies else exchanges_of tenant events replies
+exchanges_of tenant (sweep now ∷ events) replies = exchanges_of tenant events replies
+exchanges_of tenant _ _ = []
 
--- The reply refuses for what all tenants share: memory, or the blocks that they may be charged in all. (Where uploads
--- are created, it is the tenant's own ids that are spent.)
-abbrev pub lacks_shared : Reply → Bool
-lacks_shared (reply.Refused refusal.Memory head at expires) = true
-lacks_shared (reply.Refused refusal.Spent head place.Upload expires) = true
-lacks_shared _ = false
+-- the replies to a tenant's requests
+abbrev pub replies_to : List ℕ → List Event → List Reply → List Reply
+replies_to tenant events replies = map {A = Request × Reply} {B = Reply} (λ exchange. exchange.1) (exchanges_of tenant events replies)
+
+-- the request sends an upload bytes: it is a PATCH, or a creation that carries some
+abbrev pub sends_bytes : Request → Bool
+sends_bytes r = is_patch r.method || is_with_upload r
+
+-- The request is refused for what all tenants share: memory, or the blocks that they may be charged in all. (Of one
+-- that sends no bytes, it is the tenant's own ids that are spent.)
+abbrev pub lacks_shared : Request → Reply → Bool
+lacks_shared r (reply.Refused refusal.Memory head at expires) = true
+lacks_shared r (reply.Refused refusal.Spent head at expires) = sends_bytes r
+lacks_shared r _ = false
 
 -- the part of the tenant of a name, if there is one
 abbrev pub part_of : PlainBook → List ℕ → Option TenantBook

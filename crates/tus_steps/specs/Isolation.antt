@@ -6,7 +6,7 @@ use Rattle.upload_book.specs.PlainBook.{PlainBook, opening_book}
 use Rattle.upload_book.specs.Settings.{Settings, tenant_place}
 use Rattle.upload_book.specs.Sweep.{book_after_sweep, part_after_sweep}
 use Rattle.tus_steps.specs.declared.reply.Reply.{Reply}
-use Rattle.tus_steps.specs.History.{Event, IsHistory, lacks_shared, is_of, own_events, part_of, replies_to}
+use Rattle.tus_steps.specs.History.{Event, IsHistory, exchanges_of, lacks_shared, is_of, own_events, part_of, replies_to}
 use Rattle.tus_steps.specs.Request.{Request}
 use Rattle.tus_steps.specs.Step.{IsStep}
 
@@ -21,9 +21,9 @@ pub record AreAlike (tenant : List ℕ) (b other : PlainBook) : Type 0 where
   pub each : HasEachPart b
   pub other_each : HasEachPart other
 
--- the reply does not refuse for what all tenants share
-abbrev pub IsUnhindered : Reply → Type 0
-IsUnhindered told = lacks_shared told ≡ false
+-- the request is not refused for what all tenants share
+abbrev pub IsUnhindered : Request × Reply → Type 0
+IsUnhindered exchange = lacks_shared exchange.0 exchange.1 ≡ false
 
 -- What one step sees of a tenant, and leaves of it. On two books that are alike to a tenant, a request of it gets the
 -- same reply at the same moment, and they are alike to it afterwards. A request that is not its own leaves its part. A
@@ -32,7 +32,7 @@ pub record StepsSeeOneTenant : Type 0 where
   pub own :
       (tenant : List ℕ) (b other : PlainBook) (r : Request) (now : ℕ) (told also : Reply) (after left : PlainBook)
       → AreAlike tenant b other → is_of tenant r ≡ true → IsStep b r now told after → IsStep other r now also left
-      → IsUnhindered told → IsUnhindered also
+      → IsUnhindered (r, told) → IsUnhindered (r, also)
       → (told ≡ also) × AreAlike tenant after left
   pub others :
       (tenant : List ℕ) (b : PlainBook) (r : Request) (now : ℕ) (told : Reply) (after : PlainBook)
@@ -44,7 +44,7 @@ pub record StepsSeeOneTenant : Type 0 where
 
 -- none of the tenant's requests is refused for what all tenants share
 abbrev pub AreUnhindered : List ℕ → List Event → List Reply → Type 0
-AreUnhindered tenant events replies = All IsUnhindered (replies_to tenant events replies)
+AreUnhindered tenant events replies = All IsUnhindered (exchanges_of tenant events replies)
 
 -- Take all requests of other tenants away from what happens: the replies to a tenant's requests stay the same, unless
 -- one of them is refused for what all tenants share.
@@ -53,7 +53,7 @@ OwnEvents =
     (s : Settings) (tenant : List ℕ) (events : List Event) (replies alone : List Reply) (after left : PlainBook)
     → IsHistory (opening_book s) events replies after
     → IsHistory (opening_book s) (own_events tenant events) alone left
-    → AreUnhindered tenant events replies → All IsUnhindered alone
+    → AreUnhindered tenant events replies → AreUnhindered tenant (own_events tenant events) alone
     → replies_to tenant events replies ≡ alone
 
 -- the quota of the tenant of a name, if there is one

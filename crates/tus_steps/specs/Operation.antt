@@ -1,5 +1,6 @@
 -- What a request asks of the book, or why it is refused before the book is asked (tus 1.0.0, Core Protocol).
 use Rattle.std.specs.Prelude.{ℕ, Bool, ◌||◌, length, Option, Some, None, option_map, option_and_then, Result, Err, ok_or, codes, IsTrue, ◌<◌, ◌≤◌, ⊤, if◌then◌else◌}
+use Rattle.tus_text.specs.declared.checksum.Checksum.{Checksum}
 use Rattle.upload_book.specs.Chunk.{Chunk}
 use Rattle.upload_book.specs.declared.operation.Operation.{Operation}
 use Rattle.upload_book.specs.declared.operation.Operation.TheVariants as operation
@@ -12,7 +13,7 @@ use Rattle.upload_book.specs.Settings.{Settings, tenant_place}
 use Rattle.tus_steps.specs.declared.route.Route.{Route}
 use Rattle.tus_steps.specs.declared.route.Route.TheVariants.{Create, Look, Content, Append, Terminate}
 use Rattle.tus_steps.specs.Creation.{creation_in}
-use Rattle.tus_steps.specs.Field.{is_just, number_in, optional_number_in}
+use Rattle.tus_steps.specs.Field.{is_just, number_in, optional_checksum_in, optional_number_in}
 use Rattle.tus_steps.specs.Media.{has_patch_type}
 use Rattle.tus_steps.specs.Method.{is_get}
 use Rattle.tus_steps.specs.Request.{Request}
@@ -22,13 +23,14 @@ use Rattle.tus_steps.specs.Route.{route, tenant_name}
 abbrev pub has_version : Request → Bool
 has_version r = is_get r.method || is_just (codes "1.0.0") r.fields.version
 
--- the chunk at an offset that may tell the upload's length
-abbrev pub chunk_at : Request → ℕ → Option ℕ → Chunk
-chunk_at r offset told = record { offset = offset; length = told; typed = has_patch_type r.fields.media; check = None; bytes = r.body }
+-- the chunk at an offset that may tell the upload's length, and with which a checksum may have come
+abbrev pub chunk_at : Request → ℕ → Option ℕ → Option Checksum → Chunk
+chunk_at r offset told check = record { offset = offset; length = told; typed = has_patch_type r.fields.media; check = check; bytes = r.body }
 
--- the chunk of a PATCH, which tells its offset, and the upload's length as a number if at all
+-- the chunk of a PATCH, which tells its offset, and the upload's length as a number and a checksum if at all
 abbrev pub chunk_in : Request → Option Chunk
-chunk_in r = option_and_then (λ offset. option_map (chunk_at r offset) (optional_number_in r.fields.length)) (number_in r.fields.offset)
+chunk_in r =
+    option_and_then (λ offset. option_and_then (λ told. option_map (chunk_at r offset told) (optional_checksum_in r.fields.checksum)) (optional_number_in r.fields.length)) (number_in r.fields.offset)
 
 -- the operation on a route, of the tenant at a place, where the fields tell what it needs
 abbrev pub operation_on : Request → ℕ → Route → Option Operation
@@ -58,6 +60,8 @@ operation_of s r =
 -- of 1 to 32 parts
 abbrev pub CanBeAsked : ℕ → Operation → Type 0
 CanBeAsked tenants (operation.Create tenant new) =
+    (tenant < tenants) × IsTrue (is_kept_metadata new.metadata) × IsConcatText (new_kind new.partial) new.concat
+CanBeAsked tenants (operation.CreateWith tenant new first) =
     (tenant < tenants) × IsTrue (is_kept_metadata new.metadata) × IsConcatText (new_kind new.partial) new.concat
 CanBeAsked tenants (operation.Concat tenant new) =
     (tenant < tenants) × (0 < length new.parts) × (length new.parts ≤ 32) × IsTrue (is_kept_metadata new.metadata) × IsConcatText Final new.concat

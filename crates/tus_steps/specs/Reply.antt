@@ -26,10 +26,10 @@ place_of path.Other = place.Other
 abbrev pub refusing : Request → Refusal → Option ℕ → Reply
 refusing r why expires = reply.Refused why (is_head r.method) (place_of r.path) expires
 
--- the reply to a creation
-abbrev pub creation_reply : Request → Result Created Refusal → Reply
-creation_reply r (Ok created) = reply.Created (unwrap_or (tenant_name r.path) []) created.name.id created.expires
-creation_reply r (Err why) = refusing r why None
+-- the reply to a creation, which tells how many bytes the upload has where the creation carried some
+abbrev pub creation_reply : Request → Option ℕ → Result Created Refusal → Reply
+creation_reply r offset (Ok created) = reply.Created (unwrap_or (tenant_name r.path) []) created.name.id offset created.expires
+creation_reply r offset (Err why) = refusing r why None
 
 -- the reply to a HEAD of an upload
 abbrev pub head_reply : Result HeadRow Refusal → Reply

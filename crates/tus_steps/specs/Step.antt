@@ -1,13 +1,13 @@
 -- The step of a request on the plain book: its reply, and the book after it.
-use Rattle.std.specs.Prelude.{◌≡◌, ◌⊎◌, ℕ, None, Result, Ok, Err, MatchBool}
+use Rattle.std.specs.Prelude.{◌≡◌, ◌⊎◌, ℕ, length, Some, None, Result, Ok, Err, MatchBool}
 use Rattle.upload_book.specs.declared.operation.Operation.{Operation}
-use Rattle.upload_book.specs.declared.operation.Operation.TheVariants.{Create, Concat, Look, Content, Append, Terminate}
+use Rattle.upload_book.specs.declared.operation.Operation.TheVariants.{Create, CreateWith, Concat, Look, Content, Append, Terminate}
 use Rattle.upload_book.specs.declared.refusal.Refusal.{Refusal}
 use Rattle.upload_book.specs.declared.refusal.Refusal.TheVariants as refusal
 use Rattle.upload_book.specs.Append.{append_answer, append_lacking}
 use Rattle.upload_book.specs.Concat.{concat_answer}
 use Rattle.upload_book.specs.Content.{content_answer}
-use Rattle.upload_book.specs.Create.{create_answer}
+use Rattle.upload_book.specs.Create.{create_answer, create_empty_answer}
 use Rattle.upload_book.specs.Look.{look_answer}
 use Rattle.upload_book.specs.Operation.{book_after_operation, MayLackMemory}
 use Rattle.upload_book.specs.PlainBook.{PlainBook, answer_of}
@@ -21,8 +21,10 @@ use Rattle.tus_steps.specs.Request.{Request}
 
 -- the reply to a request for an operation, which the answer of the plain book determines
 abbrev pub operation_reply : PlainBook → Request → ℕ → Operation → Reply
-operation_reply b r now (Create tenant new) = creation_reply r (answer_of b tenant (create_answer tenant new now))
-operation_reply b r now (Concat tenant new) = creation_reply r (answer_of b tenant (concat_answer tenant new now))
+operation_reply b r now (Create tenant new) = creation_reply r None (answer_of b tenant (create_empty_answer tenant new now))
+operation_reply b r now (CreateWith tenant new first) =
+    creation_reply r (Some (length first.bytes)) (answer_of b tenant (create_answer tenant new first now b.charged))
+operation_reply b r now (Concat tenant new) = creation_reply r None (answer_of b tenant (concat_answer tenant new now))
 operation_reply b r now (Look name) = head_reply (answer_of b name.tenant (look_answer name.id now))
 operation_reply b r now (Content name) = content_reply r (answer_of b name.tenant (content_answer name.id now))
 operation_reply b r now (Append name chunk) = append_reply r (answer_of b name.tenant (append_answer name.id chunk now b.charged))

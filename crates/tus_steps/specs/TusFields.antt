@@ -12,6 +12,7 @@ module _ {A : Type 0} where
     offset = named (codes "upload-offset");
     metadata = named (codes "upload-metadata");
     concat = named (codes "upload-concat");
+    checksum = named (codes "upload-checksum");
     media = named (codes "content-type");
   }
 
@@ -23,6 +24,7 @@ module _ {A : Type 0} where
     pub offset : P f.offset
     pub metadata : P f.metadata
     pub concat : P f.concat
+    pub checksum : P f.checksum
     pub media : P f.media
 
 -- what each is under a function
@@ -34,5 +36,6 @@ map_fields f fields = record {
   offset = f fields.offset;
   metadata = f fields.metadata;
   concat = f fields.concat;
+  checksum = f fields.checksum;
   media = f fields.media;
 }

@@ -1,14 +1,15 @@
 ghost use Rattle.std.specs.Prelude.{◌≡◌, ℕ, ◌<◌, ◌≤◌, length, map, option_and_then, IfSome, IsTrue};
 ghost use Rattle.tus_text.specs.Concat.{concat_of};
-ghost use Rattle.upload_book.specs.Lawful.{is_kept_metadata};
-ghost use Rattle.tus_steps.specs.Creation.{length_told, new_upload_in, part_id, new_final_in, concat_creation, creation_in};
+ghost use Rattle.upload_book.specs.Create.{new_kind};
+ghost use Rattle.upload_book.specs.Lawful.{is_kept_metadata, IsConcatText};
+ghost use Rattle.tus_steps.specs.Creation.{length_told, new_upload_in, part_id, new_final_in, concat_creation, creation_in, creation_of, is_with_upload};
 ghost use Rattle.tus_steps.specs.Operation.{CanBeAsked};
 
 use crate::field::Field;
 use crate::request::Request;
 use arrayvec::ArrayVec;
 use tus_text::{Concat, PARTS_MAX, PartPath, read_concat};
-use upload_book::{NewFinal, NewUpload, Operation};
+use upload_book::{FirstChunk, NewFinal, NewUpload, Operation};
 
 /// Room for the parts of a final upload, each by its id, or by none where it is of another tenant.
 pub type PartIds = ArrayVec<Option<u64>, PARTS_MAX>;
@@ -22,14 +23,8 @@ impl<'a> Request<'a> {
         ensures value { result ≡ creation_in self.now tenant }
         ensures ready { (tenants : ℕ) → tenant < tenants → IfSome result (CanBeAsked tenants) }
     {
-        if !self.body.is_empty() {
-            return None;
-        }
         match self.fields.concat {
-            Field::Absent => Some(Operation::Create {
-                tenant,
-                new: self.new_upload(false, b"")?,
-            }),
+            Field::Absent => self.creation_of(tenant, self.new_upload(false, b"")?),
             Field::One(text) => self.concat_creation(tenant, text, ids),
             Field::Many => None,
         }
@@ -48,15 +43,39 @@ impl<'a> Request<'a> {
         ensures ready { (tenants : ℕ) → tenant < tenants → IfSome result (CanBeAsked tenants) }
     {
         match read_concat(text)? {
-            Concat::Partial => Some(Operation::Create {
-                tenant,
-                new: self.new_upload(true, b"partial")?,
-            }),
+            Concat::Partial => self.creation_of(tenant, self.new_upload(true, b"partial")?),
             Concat::Final(parts) => Some(Operation::Concat {
                 tenant,
                 new: self.new_final(text, parts.as_slice(), ids)?,
             }),
         }
+    }
+
+    // The creation of an upload, with its first bytes where the POST carries them.
+    fn creation_of<'b>(&self, tenant: u8, new: NewUpload<'b>) -> Option<Operation<'b>>
+    where
+        'a: 'b,
+        requires metadata { IsTrue (is_kept_metadata new.metadata) }
+        requires concat { IsConcatText (new_kind new.partial) new.concat }
+        ensures value { result ≡ creation_of self.now tenant new.entry }
+        ensures ready { (tenants : ℕ) → tenant < tenants → IfSome result (CanBeAsked tenants) }
+    {
+        if !self.is_with_upload() {
+            return Some(Operation::Create { tenant, new });
+        }
+        let first = FirstChunk {
+            typed: self.fields.media.has_patch_type(),
+            check: self.fields.checksum.optional_checksum()?,
+            bytes: self.body,
+        };
+        Some(Operation::CreateWith { tenant, new, first })
+    }
+
+    // Whether a POST carries the first bytes of its upload: it has a body, or the content type of a PATCH.
+    fn is_with_upload(&self) -> bool
+        ensures { result ≡ is_with_upload self.now }
+    {
+        !self.body.is_empty() || self.fields.media.has_patch_type()
     }
 
     // The upload with this concat text, a part or one of its own, where the other fields tell one.
@@ -65,6 +84,7 @@ impl<'a> Request<'a> {
         'a: 'b,
         ensures value { result ≡ new_upload_in self.now partial concat.now }
         ensures metadata { IfSome result (λ new. IsTrue (is_kept_metadata new.metadata)) }
+        ensures texts { IfSome result (λ new. (new.partial ≡ partial) × (new.concat ≡ concat.now)) }
     {
         Some(NewUpload {
             partial,
@@ -100,7 +120,8 @@ impl<'a> Request<'a> {
         ensures value { result ≡ new_final_in self.now concat.now parts.now }
         ensures metadata { IfSome result (λ new. IsTrue (is_kept_metadata new.metadata)) }
     {
-        if !self.fields.length.is_absent() || !self.fields.defer.is_absent() {
+        let is_told = !self.fields.length.is_absent() || !self.fields.defer.is_absent();
+        if !self.body.is_empty() || is_told {
             return None;
         }
         let metadata = self.fields.metadata.metadata()?;

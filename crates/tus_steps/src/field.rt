@@ -2,7 +2,7 @@ ghost use Rattle.std.specs.Prelude.{◌≡◌, option_copied, IfSome, IsTrue};
 ghost use Rattle.upload_book.specs.Lawful.{is_kept_metadata};
 
 use crate::media::is_patch_type;
-use tus_text::{check_metadata, read_number};
+use tus_text::{Checksum, check_metadata, read_checksum, read_number};
 
 /// A field of a request by its name: how often it stands there, and its value where that is once.
 /// A value has no space or tab at its ends.
@@ -17,7 +17,7 @@ pub enum Field<'a> {
 }
 
 impl<'a> Field<'a> {
-    ghost use Rattle.tus_steps.specs.Field.{text_of, is_absent as absent_in, is_just as just_in, number_in, optional_number_in, metadata_in};
+    ghost use Rattle.tus_steps.specs.Field.{text_of, is_absent as absent_in, is_just as just_in, number_in, optional_number_in, optional_checksum_in, metadata_in};
     ghost use Rattle.tus_steps.specs.Media.{has_patch_type as patch_type_in};
 
     /// Whether there is no such field.
@@ -55,6 +55,18 @@ impl<'a> Field<'a> {
         match self {
             Field::Absent => Some(None),
             Field::One(value) => read_number(value).map(Some),
+            Field::Many => None,
+        }
+    }
+
+    /// The checksum that the field tells if it is there, or None in it where it is not. It is None where the
+    /// field is there and tells no checksum, and where there are two or more.
+    pub fn optional_checksum(&self) -> Option<Option<Checksum>>
+        ensures { result ≡ optional_checksum_in (text_of self.now) }
+    {
+        match self {
+            Field::Absent => Some(None),
+            Field::One(value) => read_checksum(value).map(Some),
             Field::Many => None,
         }
     }

@@ -1,5 +1,5 @@
 ghost use Rattle.std.specs.Prelude.{◌≡◌};
-ghost use Rattle.tus_steps.specs.Method.{is_applied_when_cut, is_get, is_head, is_options};
+ghost use Rattle.tus_steps.specs.Method.{is_get, is_head, is_options, is_patch};
 
 /// The method that a request asks for (tus 1.0.0, Core Protocol).
 #[derive(Clone, Copy, Debug, PartialEq, Eq)]
@@ -42,10 +42,9 @@ impl Method {
         matches!(self, Method::Options)
     }
 
-    /// Whether a request whose body is cut off is applied with the bytes that came. A PATCH is: that is
-    /// what makes an upload resumable.
-    pub fn is_applied_when_cut(self) -> bool
-        ensures { result ≡ is_applied_when_cut self }
+    /// Whether it is PATCH.
+    pub fn is_patch(self) -> bool
+        ensures { result ≡ is_patch self }
     {
         matches!(self, Method::Patch)
     }

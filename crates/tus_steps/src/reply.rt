@@ -21,10 +21,12 @@ pub enum Reply {
         max_size: u64,
     },
 
-    /// 201: the upload was created under this name, and expires then, if it does.
+    /// 201: the upload was created under this name, and expires then, if it does. `offset` is how many bytes
+    /// it has, where its creation may carry some.
     Created {
         tenant: Tenant,
         id: u64,
+        offset: Option<u64>,
         expires: Option<Moment>,
     },
 
@@ -69,14 +71,19 @@ impl Reply {
         }
     }
 
-    /// The reply to a creation.
-    pub fn to_creation(request: &Request, outcome: Result<Created, Refusal>) -> Reply
-        ensures { result ≡ creation_reply request.now outcome }
+    /// The reply to a creation, which tells this offset.
+    pub fn to_creation(
+        request: &Request,
+        offset: Option<u64>,
+        outcome: Result<Created, Refusal>,
+    ) -> Reply
+        ensures { result ≡ creation_reply request.now offset outcome }
     {
         match outcome {
             Ok(created) => Reply::Created {
                 tenant: request.tenant_name().map_or(Text::empty(), Text::copied),
                 id: created.name.id,
+                offset,
                 expires: created.expires,
             },
             Err(refusal) => Reply::refusing(request, refusal, None),

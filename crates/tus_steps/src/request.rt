@@ -128,11 +128,12 @@ impl<'a> Request<'a> {
     {
         let offset = self.fields.offset.number()?;
         let length = self.fields.length.optional_number()?;
+        let check = self.fields.checksum.optional_checksum()?;
         Some(Chunk {
             offset,
             length,
             typed: self.fields.media.has_patch_type(),
-            check: None,
+            check,
             bytes: self.body,
         })
     }

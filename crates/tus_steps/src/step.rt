@@ -11,8 +11,8 @@ use upload_book::{Book, Moment, Operation};
 
 /// Answers a request and applies it to the book, as the plain book does at this moment: refused by the
 /// first refusal of the order that applies, and then the book is as it was, or else by its operation.
-/// OPTIONS is answered whatever the request says. Where the bytes of a PATCH or of a GET, or the lists of a
-/// final upload, find no memory, it is refused as Memory, and the book is as it was.
+/// OPTIONS is answered whatever the request says. Where the bytes of a PATCH, of a creation or of a GET, or
+/// the lists of a final upload, find no memory, it is refused as Memory, and the book is as it was.
 pub fn answer(book: &mut Book, request: &Request, now: Moment) -> Reply
     ensures step { IsStep (plain_of book.old) request.now now result (plain_of book.new) }
     ensures refused { IsRefusing result → book.new ≡ book.old }
@@ -28,11 +28,16 @@ pub fn answer(book: &mut Book, request: &Request, now: Moment) -> Reply
         Err(refusal) => Reply::refusing(request, refusal, None),
         Ok(Operation::Create { tenant, new }) => {
             let outcome = book.create(tenant, new, now);
-            Reply::to_creation(request, outcome)
+            Reply::to_creation(request, None, outcome)
+        }
+        Ok(Operation::CreateWith { tenant, new, first }) => {
+            let offset = first.bytes.len() as u64;
+            let outcome = book.create_with(tenant, new, first, now);
+            Reply::to_creation(request, Some(offset), outcome)
         }
         Ok(Operation::Concat { tenant, new }) => {
             let outcome = book.concat(tenant, new, now);
-            Reply::to_creation(request, outcome)
+            Reply::to_creation(request, None, outcome)
         }
         Ok(Operation::Look(name)) => head_reply(book.look(&name, now)),
         Ok(Operation::Content(name)) => Reply::to_content(request, book.content(&name, now)),

@@ -106,6 +106,7 @@ fn fields<'a>() -> TusFields<Field<'a>> {
         offset: Field::Absent,
         metadata: Field::Absent,
         concat: Field::Absent,
+        checksum: Field::Absent,
         media: Field::Absent,
     }
 }
@@ -123,6 +124,18 @@ fn patch_fields<'a>(offset: &'a [u8]) -> TusFields<Field<'a>> {
         media: Field::One(b"application/offset+octet-stream"),
         ..fields()
     }
+}
+
+// Those of a creation with the first bytes of an upload of this length.
+fn upload_fields<'a>(length: &'a [u8]) -> TusFields<Field<'a>> {
+    TusFields {
+        media: Field::One(b"application/offset+octet-stream"),
+        ..length_fields(length)
+    }
+}
+
+fn upload_with<'a>(fields: TusFields<Field<'a>>, body: &'a [u8]) -> Request<'a> {
+    request_with(Method::Post, b"/files/acme", fields, body)
 }
 
 fn request<'a>(method: Method, target: &[u8]) -> Request<'a> {
@@ -302,7 +315,34 @@ fn each_reason_comes_in_its_order(rt: HostRuntime) -> Result<(), Fail> {
         (with_metadata(Field::One(b"a YQ")), Refusal::Field),
         (with_metadata(Field::One(b"a,,b")), Refusal::Field),
         (
-            request_with(Method::Post, b"/files/acme", length_fields(b"10"), b"x"),
+            upload_with(
+                TusFields {
+                    length: Field::Absent,
+                    concat: Field::One(b"final;/files/acme/1"),
+                    ..upload_fields(b"10")
+                },
+                b"x",
+            ),
+            Refusal::Field,
+        ),
+        (
+            upload_with(
+                TusFields {
+                    checksum: Field::Many,
+                    ..upload_fields(b"10")
+                },
+                b"x",
+            ),
+            Refusal::Field,
+        ),
+        (
+            patch_with(
+                TusFields {
+                    checksum: Field::One(b"sha1 abc"),
+                    ..patch_fields(b"0")
+                },
+                b"x",
+            ),
             Refusal::Field,
         ),
         (
@@ -326,12 +366,42 @@ fn each_reason_comes_in_its_order(rt: HostRuntime) -> Result<(), Fail> {
             Refusal::Field,
         ),
         (patch(b"0", b"x"), Refusal::Unknown),
+        (upload_with(length_fields(b"10"), b"x"), Refusal::Media),
         (creation(b"18446744073709551615"), Refusal::TooLong),
     ];
     for (request, refusal) in &rows {
         let reply = answer(&mut book, request, now);
         assert_eq!(rt; told_by(&reply), refused(*refusal));
     }
+    Ok(())
+}
+
+#[test]
+fn a_creation_may_carry_the_first_bytes(rt: HostRuntime) -> Result<(), Fail> {
+    let mut book = book(rt.alloc())?;
+    let now = at(1000)?;
+    let checked = TusFields {
+        checksum: Field::One(b"sha1 qvTGHdzF6KLavt4PO0gs2a6pQ00="),
+        ..upload_fields(b"10")
+    };
+    let first = answer(&mut book, &upload_with(checked, b"hello"), now);
+    let offset = match first {
+        Reply::Created { id: 1, offset, .. } => offset,
+        _ => None,
+    };
+    assert_eq!(rt; offset, Some(5));
+    let untyped = answer(&mut book, &creation(b"10"), now);
+    let told = matches!(
+        untyped,
+        Reply::Created {
+            id: 2,
+            offset: None,
+            ..
+        }
+    );
+    assert!(rt; told);
+    let rest = answer(&mut book, &patch(b"5", b"world"), now);
+    assert!(rt; matches!(rest, Reply::Patched { offset: 10, .. }));
     Ok(())
 }
 

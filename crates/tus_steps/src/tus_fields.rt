@@ -13,6 +13,8 @@ pub struct TusFields<F> {
     pub metadata: F,
     /// `Upload-Concat`.
     pub concat: F,
+    /// `Upload-Checksum`.
+    pub checksum: F,
     /// `Content-Type`.
     pub media: F,
 }

@@ -1,28 +1,26 @@
 -- The plain book after each step: what is charged and released, and that it is lawful.
-use Rattle.std.proofs.Common.{◌≡◌, ℕ, ◌+◌, ◌-◌, ◌<◌, ◌≤◌, List, length, set, Option, Some, None, Ok, refl, sym, ap, subst, ◌∙◌, arith}
+use Rattle.std.proofs.Common.{◌≡◌, ℕ, ◌+◌, ◌-◌, ◌<◌, ◌≤◌, List, length, set, Some, None, refl, ap, ◌∙◌, arith}
 use Rattle.std.proofs.lemmas.List.{set-get_or}
 use Rattle.upload_book.specs.Account.{account_in}
-use Rattle.upload_book.specs.Append.{append_refusal, part_after_append, upload_with}
+use Rattle.upload_book.specs.Append.{append_refusal, upload_with}
 use Rattle.upload_book.specs.Charge.{charge_in}
 use Rattle.upload_book.specs.Chunk.{Chunk}
 use Rattle.upload_book.specs.Concat.{concat_refusal, final_upload, parts_found}
-use Rattle.upload_book.specs.Create.{creation_refusal, created_upload, part_after_create}
-use Rattle.upload_book.specs.declared.refusal.Refusal.{Refusal}
+use Rattle.upload_book.specs.Create.{creation_refusal, created_upload}
 use Rattle.upload_book.specs.declared.settings.Numbers.{Numbers}
 use Rattle.upload_book.specs.Lawful.{IsLawful, IsTenantOf}
+use Rattle.upload_book.specs.FirstChunk.{FirstChunk}
 use Rattle.upload_book.specs.NewFinal.{NewFinal}
 use Rattle.upload_book.specs.NewUpload.{NewUpload}
 use Rattle.upload_book.specs.PlainBook.{PlainBook, book_after, tenant_book, with_tenant_book}
-use Rattle.upload_book.specs.TenantBook.{TenantBook, kept_in, opening_part, visible_upload, with_changed, with_new}
+use Rattle.upload_book.specs.TenantBook.{TenantBook, kept_in, opening_part, with_changed, with_new}
 use Rattle.upload_book.specs.Terminate.{given_back}
 use Rattle.upload_book.specs.Upload.{Upload, head_row_of}
-use Rattle.upload_book.proofs.AppendLemmas.{part_after_append-none}
 use Rattle.upload_book.proofs.ChargeLemmas.{charge-append, charge-create}
-use Rattle.upload_book.proofs.Entries.{visible_in-Ok}
 use Rattle.upload_book.proofs.LawfulAppend.{IsAppendable, IsAppendable-from_none, IsTenantOf-append}
 use Rattle.upload_book.proofs.LawfulConcat.{HasLawfulParts, IsTenantOf-concat, charge-concat}
-use Rattle.upload_book.proofs.LawfulSteps.{HasLawfulTexts, IsTenantOf-create, IsLawful-with_tenant_book, IsLawful-with_tenant_book-same}
-use Rattle.upload_book.proofs.Outcomes.{part_after_create-none, part_after_create-refused}
+use Rattle.upload_book.proofs.LawfulCreate.{HasLawfulTexts, IsCreatable, IsCreatable-from_none, IsTenantOf-create}
+use Rattle.upload_book.proofs.LawfulSteps.{IsLawful-with_tenant_book, IsLawful-with_tenant_book-same}
 
 -- the book with these parts and totals
 abbrev pub book_with : PlainBook → List TenantBook → ℕ → ℕ → PlainBook
@@ -71,17 +69,7 @@ book_after-stays b t after same = ap (with_tenant_book b t) same ∙ with_tenant
 pub IsTenantOf-book : (b : PlainBook) (t : ℕ) → IsLawful b → t < length b.tenants → IsTenantOf b.settings.numbers (tenant_book b t)
 IsTenantOf-book b t lawful within = lawful.tenants t (opening_part 0) within
 
--- a creation that is not refused leaves a lawful book lawful
-pub IsLawful-create : (b : PlainBook) (t : ℕ) (new : NewUpload) (now : ℕ) → IsLawful b → t < length b.tenants → creation_refusal b.settings.numbers (tenant_book b t) new ≡ None → HasLawfulTexts new
-    → IsLawful (with_tenant_book b t (with_new (tenant_book b t) (created_upload b.settings.numbers new now)))
-IsLawful-create b t new now lawful within none texts =
-    let part : TenantBook = tenant_book b t in
-    let sound = IsTenantOf-book b t lawful within in
-    IsLawful-with_tenant_book-same b t (with_new part (created_upload b.settings.numbers new now)) lawful within refl
-    (IsTenantOf-create b.settings.numbers part new now none texts sound)
-    (charge-create b.settings.numbers part new now sound)
-
--- so does a concatenation that is not refused
+-- a concatenation that is not refused leaves a lawful book lawful
 pub IsLawful-concat : (b : PlainBook) (t : ℕ) (new : NewFinal) (now : ℕ) → IsLawful b → t < length b.tenants → concat_refusal b.settings.numbers (tenant_book b t) new now ≡ None → HasLawfulParts new
     → IsLawful (with_tenant_book b t (with_new (tenant_book b t) (final_upload (parts_found (tenant_book b t) now new.parts) new)))
 IsLawful-concat b t new now lawful within none asked =
@@ -91,7 +79,11 @@ IsLawful-concat b t new now lawful within none asked =
     (IsTenantOf-concat b.settings.numbers part new now none asked sound)
     (charge-concat b.settings.numbers part new now sound)
 
--- a PATCH that is not refused leaves a lawful book lawful
+-- what is charged for more blocks stays within its bound
+more_bound : (after before added charged last : ℕ) → after ≡ before + added → charged + added ≤ last → charged + (after - before) ≤ last
+more_bound after before added charged last is within = omega arith
+
+-- so does a PATCH that is not refused
 pub IsLawful-append : (b : PlainBook) (t id : ℕ) (u : Upload) (chunk : Chunk) (now : ℕ) → IsLawful b → t < length b.tenants → kept_in (tenant_book b t).uploads id ≡ Some u
     → append_refusal b.settings.numbers (account_in b.settings.numbers (tenant_book b t) b.charged) (head_row_of u) chunk ≡ None
     → IsLawful (with_tenant_book b t (with_changed (tenant_book b t) id (upload_with b.settings.numbers u chunk now)))
@@ -105,23 +97,19 @@ IsLawful-append b t id u chunk now lawful within there none =
     IsLawful-with_tenant_book b t later lawful within refl
     (IsTenantOf-append b.settings.numbers account part id u chunk now there none sound)
     (omega (arith, is, can.paid))
-    (bound _ _ _ _ _ is can.unspent)
-  where
-    bound : (after before added charged last : ℕ) → after ≡ before + added → charged + added ≤ last → charged + (after - before) ≤ last
-    bound after before added charged last is within = omega arith
+    (more_bound _ _ _ _ _ is can.unspent)
 
--- so does one that may be refused
-created : (b : PlainBook) (t : ℕ) (new : NewUpload) (now : ℕ) (why : Option Refusal) → IsLawful b → t < length b.tenants → HasLawfulTexts new → creation_refusal b.settings.numbers (tenant_book b t) new ≡ why
-    → IsLawful (book_after b t (part_after_create new now))
-created b t new now None lawful within texts is =
-    subst (λ part. IsLawful (with_tenant_book b t part)) (sym (part_after_create-none b.settings.numbers (tenant_book b t) new now is)) (IsLawful-create b t new now lawful within is texts)
-created b t new now (Some why) lawful within texts is =
-    subst IsLawful (sym (book_after-stays b t (part_after_create new now) (part_after_create-refused b.settings.numbers (tenant_book b t) new now why is))) lawful
-
-accepted : (b : PlainBook) (t id : ℕ) (u : Upload) (chunk : Chunk) (now : ℕ) (why : Option Refusal) → IsLawful b → t < length b.tenants → visible_upload (tenant_book b t) id now ≡ Ok u
-    → append_refusal b.settings.numbers (account_in b.settings.numbers (tenant_book b t) b.charged) (head_row_of u) chunk ≡ why → IsLawful (book_after b t (part_after_append id chunk now b.charged))
-accepted b t id u chunk now None lawful within seen is =
-    subst (λ part. IsLawful (with_tenant_book b t part)) (sym (part_after_append-none b.settings.numbers (tenant_book b t) id now b.charged u chunk seen is))
-    (IsLawful-append b t id u chunk now lawful within (visible_in-Ok (λ u. u.expires) (tenant_book b t) id now u seen) is)
-accepted b t id u chunk now (Some why) lawful within seen is =
-    subst IsLawful (sym (book_after-stays b t (part_after_append id chunk now b.charged) (rw (seen, is) refl))) lawful
+-- so does a creation that is not refused
+pub IsLawful-create : (b : PlainBook) (t : ℕ) (new : NewUpload) (first : FirstChunk) (now : ℕ) → IsLawful b → t < length b.tenants
+    → creation_refusal b.settings.numbers (account_in b.settings.numbers (tenant_book b t) b.charged) (tenant_book b t) new first ≡ None → HasLawfulTexts new
+    → IsLawful (with_tenant_book b t (with_new (tenant_book b t) (created_upload b.settings.numbers new first.bytes now)))
+IsLawful-create b t new first now lawful within none texts =
+    let part : TenantBook = tenant_book b t in
+    let account = account_in b.settings.numbers (tenant_book b t) b.charged in
+    let sound = IsTenantOf-book b t lawful within in
+    let can : IsCreatable b.settings.numbers account part new first = IsCreatable-from_none b.settings.numbers account part new first none in
+    let is = charge-create b.settings.numbers part new first.bytes now sound in
+    IsLawful-with_tenant_book b t (with_new part (created_upload b.settings.numbers new first.bytes now)) lawful within refl
+    (IsTenantOf-create b.settings.numbers account part new first now none texts sound)
+    (omega (arith, is, can.paid))
+    (more_bound _ _ _ _ _ is can.unspent)

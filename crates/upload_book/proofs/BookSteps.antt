@@ -8,29 +8,25 @@ use Rattle.std.proofs.Math.ListN.{length-map, get_or-map}
 use Rattle.std.proofs.lemmas.List.{get_or-set_same}
 use Rattle.std.specs.List.{All, sum_by}
 use Rattle.std.specs.List.Sorted.{IsStrictlyIncreasing}
-use Rattle.block_pool.specs.Blocks.{Blocks, all_free, free_block, size_of}
+use Rattle.block_pool.specs.Blocks.{all_free, free_block, size_of}
 use Rattle.block_bodies.specs.Changes.{SameSizes}
 use Rattle.upload_book.specs.Book.{StoredBook, IsBook, plain_of}
 use Rattle.upload_book.specs.Charge.{charge_in, charge_with}
-use Rattle.upload_book.specs.Create.{creation_refusal, created_upload, part_after_create}
 use Rattle.upload_book.specs.declared.settings.Numbers.{Numbers}
 use Rattle.upload_book.specs.declared.settings.TenantQuota.{TenantQuota}
 use Rattle.upload_book.specs.Lawful.{IsLawful, IsTenantOf, IsUploadOf}
-use Rattle.upload_book.specs.NewUpload.{NewUpload}
-use Rattle.upload_book.specs.PlainBook.{answer_of, book_after, opening_book, tenant_book, with_tenant_book}
+use Rattle.upload_book.specs.PlainBook.{answer_of, opening_book, tenant_book, with_tenant_book}
 use Rattle.upload_book.specs.Settings.{Settings, settings_fault}
 use Rattle.upload_book.specs.Store.{Store, IsVisibleIn, no_upload, plain_in, part_at, shelf_at, entry_at, upload_at, with_upload, without_upload}
 use Rattle.upload_book.specs.Stored.{Shelf, entry_of, part_of}
 use Rattle.upload_book.specs.Sweep.{book_after_sweep, part_after_sweep, swept_blocks}
-use Rattle.upload_book.specs.TenantBook.{TenantBook, Entry, kept_in, opening_part, visible_upload, with_changed, with_new}
+use Rattle.upload_book.specs.TenantBook.{TenantBook, Entry, kept_in, opening_part, visible_upload, with_changed}
 use Rattle.upload_book.specs.Terminate.{without, given_back}
 use Rattle.upload_book.specs.Upload.{Upload}
-use Rattle.upload_book.proofs.BookLemmas.{book_with, IsLawful-create, IsTenantOf-book, with_tenant_book-less, with_tenant_book-same}
-use Rattle.upload_book.proofs.ChargeLemmas.{charge-create}
+use Rattle.upload_book.proofs.BookLemmas.{book_with, IsTenantOf-book, with_tenant_book-less}
 use Rattle.upload_book.proofs.Entries.{kept_in-All, visible_in-Ok, with_kept-place, without-place}
 use Rattle.upload_book.proofs.LawfulFewer.{IsLawful-sweep, IsLawful-without, charge-terminate, swept-total}
-use Rattle.upload_book.proofs.LawfulSteps.{HasLawfulTexts, IsLawful-opening}
-use Rattle.upload_book.proofs.Outcomes.{part_after_create-none}
+use Rattle.upload_book.proofs.LawfulSteps.{IsLawful-opening}
 use Rattle.upload_book.proofs.RoomLemmas.{released-within}
 use Rattle.upload_book.proofs.SettingsLemmas.{tenants-within, uploads-within}
 
@@ -134,44 +130,6 @@ pub part-follows : (b : StoredBook) (s : Store) (t : ℕ) (part : TenantBook) �
 part-follows b s t part f within =
     let inside : t < length (plain_in b.store) = omega (arith, parts-shelves b.store) in
     sym (get_or-map (part_of s.pool) s.shelves t (opening_part 0)) ∙ ap (λ tenants. get_or tenants t (opening_part 0)) f.plain ∙ get_or-set_same (plain_in b.store) t part (opening_part 0) inside
-
--- a new upload makes the book after its creation
-pub created-follows : (b : StoredBook) (s : Store) (t : ℕ) (new : NewUpload) (now : ℕ) → plain_in s ≡ set (plain_in b.store) t (with_new (part_at b.store t) (created_upload b.settings.numbers new now)) → s.pool ≡ b.store.pool → s.room ≡ b.store.room
-    → Follows b s t (with_new (tenant_book (plain_of b) t) (created_upload b.settings.numbers new now))
-created-follows b s t new now plain pool room = record {
-  plain = plain ∙ ap (λ part. set (plain_in b.store) t (with_new part (created_upload b.settings.numbers new now))) (sym (part-plain b t));
-  sizes = record { blocks = ap size_of pool; bytes = ap (λ (p : Blocks). p.block_size) pool };
-  room = room;
-}
-
--- a creation that is not refused
-pub record Creates (b : StoredBook) (s : Store) (t : ℕ) (new : NewUpload) (now : ℕ) : Type 0 where
-  pub kept : IsBook b
-  pub within : t < length b.store.shelves
-  pub texts : HasLawfulTexts new
-  pub none : creation_refusal b.settings.numbers (tenant_book (plain_of b) t) new ≡ None
-  pub follows : Follows b s t (with_new (tenant_book (plain_of b) t) (created_upload b.settings.numbers new now))
-
--- leaves the totals
-creates-totals : (b : StoredBook) (s : Store) (t : ℕ) (new : NewUpload) (now : ℕ) → Creates b s t new now
-    → with_tenant_book (plain_of b) t (with_new (tenant_book (plain_of b) t) (created_upload b.settings.numbers new now)) ≡ book_with (plain_of b) (set (plain_in b.store) t (with_new (tenant_book (plain_of b) t) (created_upload b.settings.numbers new now))) b.charged b.released
-creates-totals b s t new now f =
-    let part : TenantBook = tenant_book (plain_of b) t in
-    with_tenant_book-same (plain_of b) t (with_new part (created_upload b.settings.numbers new now)) (charge-create b.settings.numbers part new now (IsTenantOf-book (plain_of b) t f.kept.lawful (part-within b t f.within)))
-
--- makes a book
-pub IsBook-creates : (b : StoredBook) (s : Store) (t : ℕ) (new : NewUpload) (now : ℕ) → Creates b s t new now → IsBook (stored_with b s b.charged b.released)
-IsBook-creates b s t new now f =
-    let part : TenantBook = tenant_book (plain_of b) t in
-    IsBook-follows b s t (with_new part (created_upload b.settings.numbers new now)) b.charged b.released f.kept f.follows (creates-totals b s t new now f)
-    (IsLawful-create (plain_of b) t new now f.kept.lawful (part-within b t f.within) f.none f.texts)
-
--- and is the plain book's creation
-pub plain-creates : (b : StoredBook) (s : Store) (t : ℕ) (new : NewUpload) (now : ℕ) → Creates b s t new now → plain_of (stored_with b s b.charged b.released) ≡ book_after (plain_of b) t (part_after_create new now)
-plain-creates b s t new now f =
-    let part : TenantBook = tenant_book (plain_of b) t in
-    plain-follows b s t (with_new part (created_upload b.settings.numbers new now)) b.charged b.released f.follows (creates-totals b s t new now f)
-    ∙ ap (with_tenant_book (plain_of b) t) (sym (part_after_create-none b.settings.numbers part new now f.none))
 
 -- an upload that ends, and the blocks that its tenant no longer pays
 pub record Removes (b : StoredBook) (s : Store) (t id freed : ℕ) : Type 0 where

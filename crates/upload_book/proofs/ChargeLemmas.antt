@@ -1,8 +1,9 @@
 -- What a tenant pays after a creation and after a PATCH.
-use Rattle.std.proofs.Common.{◌≡◌, ◌≢◌, ◌⊎◌, ℕ, ◌+◌, ◌-◌, ◌<◌, Bool, true, false, eqb, not, List, [], ◌∷◌, length, get_or, set, Some, None, refl, inl, inr, ap, subst, ◌∙◌, arith}
+use Rattle.std.proofs.Common.{◌≡◌, ◌≢◌, ◌⊎◌, ℕ, ◌+◌, ◌-◌, ◌<◌, Bool, true, false, eqb, not, List, [], ◌∷◌, length, get_or, set, Some, None, refl, inl, inr, ap, sym, subst, ◌∙◌, arith}
 use Rattle.std.specs.List.{All, Contains, filter, flat_map, remove}
 use Rattle.std.proofs.lemmas.Bool.{cases_lt}
 use Rattle.std.proofs.lemmas.Bool.Decides.{nat_tests}
+use Rattle.std.proofs.lemmas.List.{append-nil}
 use Rattle.std.proofs.lemmas.List.Elements.{All-filter, All-weaker, filter_passes}
 use Rattle.std.proofs.lemmas.Slice.Zip.{length-zip, get_or-zip}
 use Rattle.block_bodies.specs.Bodies.{blocks_for}
@@ -20,7 +21,7 @@ use Rattle.upload_book.specs.TenantBook.{Entry, TenantBook, kept_in, with_change
 use Rattle.upload_book.specs.Upload.{Upload, offset_of, head_row_of}
 use Rattle.upload_book.proofs.Entries.{with_kept-place, kept_in-contains, kept_in-All, without-place}
 use Rattle.upload_book.proofs.LawfulAppend.{IsAppendable, IsAppendable-from_none, IsWhole-from_kind, offset_of-append, no_bytes}
-use Rattle.upload_book.proofs.PriceLemmas.{All-flat_map, blocks_between-adds, charge-more, charge-push, sources-All, sources-own}
+use Rattle.upload_book.proofs.PriceLemmas.{All-flat_map, blocks_between-adds, blocks_for-zero, charge-more, charge-new, sources-All, sources-own}
 
 -- the parts of a final upload
 final_parts : (part : TenantBook) (u : Upload) → IsOfKind part u u.kind → u.kind ≡ Final → HasParts part u
@@ -33,20 +34,25 @@ sources-given n part sound =
     let e : Entry Upload = get_or part.uploads k d in
     sources-All (λ id. id < part.next) e (sound.given k d within).1 (λ final. All-weaker (IsGivenIn part) (λ id. id < part.next) (λ id given. given.1) e.kept.parts (final_parts part e.kept (sound.uploads k d within).kind final).given))
 
--- a new upload without bytes leaves what the tenant pays
-pub charge-next : (n : Numbers) (part : TenantBook) (u : Upload) → IsTenantOf n part → is_final u.kind ≡ false → length u.segments ≡ 1 → offset_of u ≡ 0 → charge_in n (with_new part u) ≡ charge_in n part
-charge-next n part u sound own one empty =
-    let e : Entry Upload = record { id = part.next; kept = u } in
+pub new-own : (partial : Bool) → is_final (new_kind partial) ≡ false
+new-own true = refl
+new-own false = refl
+
+-- the blocks of the first bytes
+pub blocks_between-first : (size len : ℕ) → blocks_between size 0 len ≡ blocks_for size len
+blocks_between-first size len = first _ _ _ _ (blocks_between-adds size 0 len) (blocks_for-zero size) (ap (blocks_for size) (omega arith)) where
+  first : (all zero_blocks between whole : ℕ) → all ≡ zero_blocks + between → zero_blocks ≡ 0 → all ≡ whole → between ≡ whole
+  first all zero_blocks between whole adds none same = omega arith
+
+-- a new upload adds to what the tenant pays the blocks that its bytes take
+pub charge-create : (n : Numbers) (part : TenantBook) (new : NewUpload) (bytes : List ℕ) (now : ℕ) → IsTenantOf n part
+    → charge_in n (with_new part (created_upload n new bytes now)) ≡ charge_in n part + blocks_added n 0 (length bytes)
+charge-create n part new bytes now sound =
+    let e : Entry Upload = record { id = part.next; kept = created_upload n new bytes now } in
     let source : ℕ → List Source = λ (len : ℕ). record { origin = part.next; len = len } ∷ [] in
-    charge-push n.block_size part.next part.uploads e (sources-own e own one ∙ ap source empty) (sources-given n part sound)
-
-new_own : (partial : Bool) → is_final (new_kind partial) ≡ false
-new_own true = refl
-new_own false = refl
-
--- so does one that is created
-pub charge-create : (n : Numbers) (part : TenantBook) (new : NewUpload) (now : ℕ) → IsTenantOf n part → charge_in n (with_new part (created_upload n new now)) ≡ charge_in n part
-charge-create n part new now sound = charge-next n part (created_upload n new now) sound (new_own new.partial) refl refl
+    let own : sources_of e ≡ source (length bytes) = sources-own e (new-own new.partial) refl ∙ ap source (ap (length {A = ℕ}) (append-nil bytes)) in
+    charge-new n.block_size part.next (length bytes) part.uploads e own (sources-given n part sound)
+    ∙ ap (λ blocks. charge_in n part + blocks) (sym (blocks_between-first n.block_size (length bytes)))
 
 -- no final upload has a part that takes more bytes
 pub parts-differ : (n : Numbers) (account : Account) (part : TenantBook) (id : ℕ) (u : Upload) (chunk : Chunk) (v : Upload) → kept_in part.uploads id ≡ Some u → IsAppendable n account u chunk → 0 < length chunk.bytes → HasParts part v → All (λ o. o ≢ id) v.parts

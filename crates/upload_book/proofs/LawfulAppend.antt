@@ -62,7 +62,7 @@ IsAppendable-from_none n account u chunk none =
     at_most most k test = grind (arith, nat_tests)
 
 -- a number that is no more is not above
-not_above : (most k : ℕ) → k ≤ most → ltb most k ≡ false
+pub not_above : (most k : ℕ) → k ≤ most → ltb most k ≡ false
 not_above most k less = grind (arith, nat_tests)
 
 -- and no refusal applies where it is known
@@ -81,7 +81,7 @@ offset_of-append n u chunk now =
     ap length (content_of-append n u chunk now) ∙ length-append (content_of u) chunk.bytes
 
 -- bytes that are not too many end within the length that is known, and within the greatest size
-ends_within : (n : Numbers) (declared : Option ℕ) (end : ℕ) → is_too_long n (unwrap_or declared n.max_size) end ≡ false → IfSome declared (λ most. (end ≤ most) × (most ≤ n.max_size)) × (end ≤ n.max_size)
+pub ends_within : (n : Numbers) (declared : Option ℕ) (end : ℕ) → is_too_long n (unwrap_or declared n.max_size) end ≡ false → IfSome declared (λ most. (end ≤ most) × (most ≤ n.max_size)) × (end ≤ n.max_size)
 ends_within n None end fits = (tt, grind (arith, nat_tests))
 ends_within n (Some most) end fits = ((grind (arith, nat_tests), grind (arith, nat_tests)), grind (arith, nat_tests))
 
@@ -96,7 +96,7 @@ pub complete_tells : (u : Upload) → ((is_complete u ≡ true) × IsComplete u)
 complete_tells u = declared_tells u.declared (offset_of u)
 
 -- an upload that expires as its kind asks
-IsOfKind-renewed : (part : TenantBook) (kind : Kind) (u : Upload) (before : Option ℕ) (end : ℕ) → is_final kind ≡ false → IsWhole u → u.expires ≡ renewed kind (is_complete u) before end → IsOfKind part u kind
+pub IsOfKind-renewed : (part : TenantBook) (kind : Kind) (u : Upload) (before : Option ℕ) (end : ℕ) → is_final kind ≡ false → IsWhole u → u.expires ≡ renewed kind (is_complete u) before end → IsOfKind part u kind
 IsOfKind-renewed part Plain u before end own whole is =
     elim (complete_tells u) [
       | inl complete ↦

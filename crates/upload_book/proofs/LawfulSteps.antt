@@ -1,26 +1,22 @@
--- The book at the start is lawful, and a creation leaves a lawful book lawful.
-use Rattle.std.proofs.Common.{◌≡◌, ℕ, zero, suc, ◌+◌, ◌-◌, ◌<◌, ◌≤◌, Bool, true, false, ltb, leb, List, [], ◌∷◌, map, length, get_or, set, Option, Some, None, IfSome, IsTrue, refl, sym, ap, ◌∙◌, subst, arith, rules}
+-- The book at the start is lawful, and so is one with a part that changed into one that is as it should be.
+use Rattle.std.proofs.Common.{◌≡◌, ℕ, zero, suc, ◌+◌, ◌-◌, ◌<◌, ◌≤◌, List, [], ◌∷◌, map, length, get_or, set, None, refl, sym, ap, ◌∙◌, subst, arith, rules}
 use Rattle.std.proofs.Math.ListN.{length-append}
-use Rattle.std.proofs.lemmas.Bool.Decides.{nat_tests}
 use Rattle.std.proofs.lemmas.List.{map-append}
 use Rattle.std.proofs.lemmas.Slice.Zip.{length-zip, get_or-zip}
 use Rattle.std.proofs.lemmas.List.Elements.{All-push, All-set, All-map, All-weaker}
 use Rattle.std.proofs.lemmas.List.Sums.{sum_by-cons, sum_by-set}
 use Rattle.std.specs.List.{sum_by}
 use Rattle.upload_book.specs.Charge.{charge_in}
-use Rattle.upload_book.specs.Create.{is_above, creation_refusal, new_kind, created_upload}
 use Rattle.upload_book.specs.declared.head_row.Kind.{Kind}
 use Rattle.upload_book.specs.declared.head_row.Kind.TheVariants.{Plain, Partial, Final}
 use Rattle.upload_book.specs.declared.settings.Numbers.{Numbers}
 use Rattle.upload_book.specs.declared.settings.TenantQuota.{TenantQuota}
-use Rattle.upload_book.specs.Lawful.{IsLawful, IsTenantOf, IsUploadOf, IsOfKind, IsGivenIn, IsSegmentOf, IsConcatText, is_kept_metadata}
-use Rattle.upload_book.specs.NewUpload.{NewUpload}
+use Rattle.upload_book.specs.Lawful.{IsLawful, IsTenantOf, IsUploadOf, IsOfKind, IsGivenIn, IsSegmentOf}
 use Rattle.upload_book.specs.PlainBook.{PlainBook, with_tenant_book, opening_book, tenant_book}
 use Rattle.upload_book.specs.Settings.{Settings, settings_fault}
 use Rattle.upload_book.specs.TenantBook.{Entry, TenantBook, with_new, opening_part}
 use Rattle.upload_book.specs.Upload.{Upload}
 use Rattle.upload_book.proofs.Entries.{ids-push, kept_in-push}
-use Rattle.upload_book.proofs.FirstRefusal.{test-passed}
 
 -- a tenant's part at the start is as it should be
 IsTenantOf-opening : (n : Numbers) (quota : ℕ) → IsTenantOf n (opening_part quota)
@@ -141,45 +137,6 @@ IsUploadOf-beside n part later u given same sound = record {
   concat = sound.concat;
 }
 
--- a new upload is as its kind asks
-IsOfKind-new : (n : Numbers) (part : TenantBook) (partial : Bool) (declared : Option ℕ) (metadata concat : List ℕ) (now : ℕ) → let u = created_upload n (record { partial = partial; length = declared; metadata = metadata; concat = concat }) now in IsOfKind part u u.kind
-IsOfKind-new n part true declared metadata concat now = (record { segment = refl; parts = refl }, refl)
-IsOfKind-new n part false None metadata concat now =
-    (record { segment = refl; parts = refl }, (λ _ complete. cc, λ _. refl))
-IsOfKind-new n part false (Some zero) metadata concat now =
-    (record { segment = refl; parts = refl }, (λ expires. cc, λ open'. absurd (open' refl)))
-IsOfKind-new n part false (Some (suc more)) metadata concat now =
-    (record { segment = refl; parts = refl }, (λ _ complete. cc, λ _. grind (arith, nat_tests)))
-
--- what is known of a creation that is not refused
-pub record IsCreatable (n : Numbers) (part : TenantBook) (new : NewUpload) : Type 0 where
-  pub small : is_above new.length n.max_size ≡ false
-  pub room : length part.uploads < n.uploads
-  pub unspent : part.next ≤ n.last_id
-
--- it is known where no refusal applies
-pub IsCreatable-from_none : (n : Numbers) (part : TenantBook) (new : NewUpload) → creation_refusal n part new ≡ None → IsCreatable n part new
-IsCreatable-from_none n part new none =
-    let small = test-passed (is_above new.length n.max_size) _ _ none in
-    let room = test-passed (leb n.uploads (length part.uploads)) _ _ small.1 in
-    let unspent = test-passed (ltb n.last_id part.next) _ _ room.1 in
-    record { small = small.0; room = grind (arith, nat_tests); unspent = grind (arith, nat_tests) }
-
--- the texts of a new upload are of their forms
-pub record HasLawfulTexts (new : NewUpload) : Type 0 where
-  pub metadata : IsTrue (is_kept_metadata new.metadata)
-  pub concat : IsConcatText (new_kind new.partial) new.concat
-
--- a new upload is as it should be
-IsUploadOf-new : (n : Numbers) (part : TenantBook) (new : NewUpload) (now : ℕ) → is_above new.length n.max_size ≡ false → HasLawfulTexts new → IsUploadOf n part (created_upload n new now)
-IsUploadOf-new n part new now small asked = record {
-  within = elim new.length as (λ declared. is_above declared n.max_size ≡ false → IfSome declared (λ most. (0 ≤ most) × (most ≤ n.max_size))) [ None ↦ λ _. tt | Some most ↦ λ small. (omega arith, grind (arith, nat_tests)) ] small;
-  size = omega arith;
-  kind = IsOfKind-new n part new.partial new.length new.metadata new.concat now;
-  metadata = asked.metadata;
-  concat = asked.concat;
-}
-
 -- one more upload that is as it should be leaves the tenant's part so, where there is room for it
 pub IsTenantOf-with_new : (n : Numbers) (part : TenantBook) (u : Upload) → length part.uploads < n.uploads → part.next ≤ n.last_id → IsUploadOf n (with_new part u) u → IsTenantOf n part → IsTenantOf n (with_new part u)
 IsTenantOf-with_new n part u room unspent own sound =
@@ -195,9 +152,3 @@ IsTenantOf-with_new n part u room unspent own sound =
       given = All-push (λ (e : Entry Upload). IsGivenIn later e.id) part.uploads added (All-weaker (λ (e : Entry Upload). IsGivenIn part e.id) (λ (e : Entry Upload). IsGivenIn later e.id) (λ e. given e.id) part.uploads sound.given) (sound.first, omega arith);
       uploads = All-push (λ (e : Entry Upload). IsUploadOf n later e.kept) part.uploads added (All-weaker (λ (e : Entry Upload). IsUploadOf n part e.kept) (λ (e : Entry Upload). IsUploadOf n later e.kept) (λ e. IsUploadOf-beside n part later e.kept given same) part.uploads sound.uploads) own;
     }
-
--- so does a creation that is not refused
-pub IsTenantOf-create : (n : Numbers) (part : TenantBook) (new : NewUpload) (now : ℕ) → creation_refusal n part new ≡ None → HasLawfulTexts new → IsTenantOf n part → IsTenantOf n (with_new part (created_upload n new now))
-IsTenantOf-create n part new now none asked sound =
-    let can = IsCreatable-from_none n part new none in
-    IsTenantOf-with_new n part (created_upload n new now) can.room can.unspent (IsUploadOf-new n _ new now can.small asked) sound

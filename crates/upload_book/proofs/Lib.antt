@@ -28,9 +28,11 @@ pub mod OwnLemmas
 pub mod PutOnce
 pub mod PlainSteps
 pub mod StoreAppend
+pub mod StoreCreate
 pub mod ChargeLemmas
 pub mod LawfulFewer
 pub mod LawfulConcat
+pub mod LawfulCreate
 pub mod Outcomes
 pub mod BookLemmas
 pub mod RoomLemmas
@@ -41,6 +43,7 @@ pub mod BookSteps
 pub mod PartLemmas
 pub mod PatchSteps
 pub mod ConcatSteps
+pub mod CreateSteps
 pub mod HoldersLemmas
 pub mod StoreJoin
 pub mod SweepSteps

@@ -1,5 +1,5 @@
 -- What segments cost, and what a tenant pays after a step.
-use Rattle.std.proofs.Common.{◌≡◌, ◌≢◌, ◌⊎◌, ℕ, zero, suc, ◌+◌, ◌-◌, ◌<◌, ◌≤◌, max, Bool, true, false, cond, eqb, List, [], ◌∷◌, ◌++◌, map, length, get_or, set, refl, inl, inr, ap, sym, subst, ◌∙◌, arith, append-nil}
+use Rattle.std.proofs.Common.{◌≡◌, ◌≢◌, ◌⊎◌, ℕ, zero, suc, ◌+◌, ◌-◌, ◌<◌, ◌≤◌, max, Bool, true, false, cond, eqb, List, [], ◌∷◌, ◌++◌, map, length, get_or, set, refl, inl, inr, ap, ap₂, sym, subst, ◌∙◌, arith, append-nil}
 use Rattle.std.specs.List.{All, filter, flat_map, remove, zip}
 use Rattle.std.proofs.lemmas.Bool.Decides.{nat_tests, eqb_tells}
 use Rattle.std.proofs.lemmas.List.{get_or-set_same, take-set-le, drop-set-lt}
@@ -185,13 +185,17 @@ charge-more size next entries i e later added within there given own own_later m
         ∙ ap (λ (s : Entry Upload). max (price size (sources_of s) origin) (others origin) + cond (eqb e.id origin) added 0) (sym there)
         ∙ ap (λ k. k + cond (eqb e.id origin) added 0) (sym (price-entry size entries i e origin within))
 
--- an upload at the end whose segments cost no more than those before it leaves the price of each origin
-price-push : (size : ℕ) (entries : List (Entry Upload)) (e : Entry Upload) (origin : ℕ) → price size (sources_of e) origin ≤ price size (flat_map sources_of entries) origin
-    → price size (flat_map sources_of (entries ++ e ∷ [])) origin ≡ price size (flat_map sources_of entries) origin
-price-push size entries e origin less =
+-- an upload at the end adds its segments to those before it
+price-end : (size : ℕ) (entries : List (Entry Upload)) (e : Entry Upload) (origin : ℕ)
+    → price size (flat_map sources_of (entries ++ e ∷ [])) origin ≡ max (price size (flat_map sources_of entries) origin) (price size (sources_of e) origin)
+price-end size entries e origin =
     ap (λ l. price size l origin) (flat_map-append sources_of entries (e ∷ []) ∙ ap (λ l. flat_map sources_of entries ++ l) (append-nil (sources_of e)))
     ∙ price-append size (flat_map sources_of entries) (sources_of e) origin
-    ∙ dearer _ _ less
+
+-- where they cost no more it leaves the price of each origin
+price-push : (size : ℕ) (entries : List (Entry Upload)) (e : Entry Upload) (origin : ℕ) → price size (sources_of e) origin ≤ price size (flat_map sources_of entries) origin
+    → price size (flat_map sources_of (entries ++ e ∷ [])) origin ≡ price size (flat_map sources_of entries) origin
+price-push size entries e origin less = price-end size entries e origin ∙ dearer _ _ less
   where
     dearer : (a b : ℕ) → b ≤ a → max a b ≡ a
     dearer a b less = omega arith
@@ -210,15 +214,22 @@ charge-stays size next entries e below less =
     drop_none : (a b : ℕ) → b ≡ 0 → a + b ≡ a
     drop_none a b none = omega arith
 
--- an upload without bytes does
-pub charge-push : (size next : ℕ) (entries : List (Entry Upload)) (e : Entry Upload) → sources_of e ≡ record { origin = e.id; len = 0 } ∷ [] → All (λ s. s.origin < next) (flat_map sources_of entries)
-    → charge_of size (next + 1) (flat_map sources_of (entries ++ e ∷ [])) ≡ charge_of size next (flat_map sources_of entries)
-charge-push size next entries e own below =
-    charge-stays size next entries e below (λ origin. rw own (costs_none (eqb e.id origin) (price size (flat_map sources_of entries) origin) (blocks_for size 0) (blocks_for-zero size)))
+-- a new upload adds what its bytes cost
+pub charge-new : (size next len : ℕ) (entries : List (Entry Upload)) (e : Entry Upload) → sources_of e ≡ record { origin = next; len = len } ∷ [] → All (λ s. s.origin < next) (flat_map sources_of entries)
+    → charge_of size (next + 1) (flat_map sources_of (entries ++ e ∷ [])) ≡ charge_of size next (flat_map sources_of entries) + blocks_for size len
+charge-new size next len entries e own below =
+    let one_more : next + 1 ≡ suc next = omega arith in
+    let none : price size (flat_map sources_of entries) next ≡ 0 = price-none size (flat_map sources_of entries) next (λ k d within same. omega (arith, below k d within)) in
+    ap (λ end. charge_of size end (flat_map sources_of (entries ++ e ∷ []))) one_more
+    ∙ ap₂ (λ (a b : ℕ). a + b)
+    (sum_below-same next (price size (flat_map sources_of (entries ++ e ∷ []))) (price size (flat_map sources_of entries)) (λ origin less. price-push size entries e origin (rw own (elsewhere origin (blocks_for size len) (price size (flat_map sources_of entries) origin) next less))))
+    (price-end size entries e next ∙ ap (λ l. max (price size (flat_map sources_of entries) next) (price size l next)) own ∙ here _ _ none)
   where
-    costs_none : (t : Bool) (r b : ℕ) → b ≡ 0 → cond t (max b 0) 0 ≤ r
-    costs_none true r b none = omega arith
-    costs_none false r b none = omega arith
+    elsewhere : (origin b r next : ℕ) → origin < next → cond (eqb next origin) (max b 0) 0 ≤ r
+    elsewhere origin b r next less = grind (arith, nat_tests)
+
+    here : (r b : ℕ) → r ≡ 0 → max r (cond (eqb next next) (max b 0) 0) ≡ b
+    here r b none = grind (arith, nat_tests)
 
 fewer_step : (t : Bool) (size origin : ℕ) (e : Entry Upload) (kept rest : List (Entry Upload)) → price size (flat_map sources_of kept) origin ≤ price size (flat_map sources_of rest) origin
     → price size (flat_map sources_of (cond t (e ∷ kept) kept)) origin ≤ max (price size (sources_of e) origin) (price size (flat_map sources_of rest) origin)

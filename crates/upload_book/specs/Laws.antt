@@ -1,6 +1,7 @@
 -- Laws above the steps.
 use Rattle.std.specs.Prelude.{◌≡◌, ℕ, ◌+◌, ◌-◌, Bool, true, List, [], ◌∷◌, ◌++◌, length, codes, IsOk, Some, None, Result, Ok, Err}
 use Rattle.upload_book.specs.Chunk.{Chunk}
+use Rattle.upload_book.specs.FirstChunk.{FirstChunk}
 use Rattle.upload_book.specs.NewUpload.{NewUpload}
 use Rattle.upload_book.specs.declared.head_row.HeadRow.{HeadRow}
 use Rattle.upload_book.specs.declared.settings.Numbers.{Numbers}
@@ -29,7 +30,7 @@ memory_word = codes "memory" ∷ []
 
 -- the tests of a creation, of a concatenation, of a PATCH and of a GET follow the order of refusals
 pub record FollowOrder : Type 0 where
-  pub creation : (n : Numbers) (part : TenantBook) (new : NewUpload) → stand_in (words_of (creation_tests n part new)) order ≡ true
+  pub creation : (n : Numbers) (account : Account) (part : TenantBook) (new : NewUpload) (first : FirstChunk) → stand_in (words_of (creation_tests n account part new first) ++ memory_word) order ≡ true
   pub concat : (n : Numbers) (part : TenantBook) (there complete : Bool) (len : ℕ) → stand_in (words_of (concat_tests n part there complete len) ++ memory_word) order ≡ true
   pub append : (n : Numbers) (account : Account) (row : HeadRow) (chunk : Chunk) → stand_in (visible_words ++ words_of (append_tests n account row chunk) ++ memory_word) order ≡ true
   pub content : (u : Upload) → stand_in (visible_words ++ words_of (content_tests u) ++ memory_word) order ≡ true

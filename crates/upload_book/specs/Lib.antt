@@ -2,6 +2,7 @@ pub mod Order
 pub mod Refusal
 pub mod Settings
 pub mod Expiry
+pub mod FirstChunk
 pub mod Upload
 pub mod Standing
 pub mod Store

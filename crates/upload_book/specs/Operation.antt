@@ -2,28 +2,31 @@
 use Rattle.std.specs.Prelude.{◌≢◌, ℕ, ◌<◌, [], length, IsOk}
 use Rattle.std.specs.Result.{IsOkAnd}
 use Rattle.upload_book.specs.declared.operation.Operation.{Operation}
-use Rattle.upload_book.specs.declared.operation.Operation.TheVariants.{Create, Concat, Look, Content, Append, Terminate}
+use Rattle.upload_book.specs.declared.operation.Operation.TheVariants.{Create, CreateWith, Concat, Look, Content, Append, Terminate}
 use Rattle.upload_book.specs.Account.{blocks_added}
 use Rattle.upload_book.specs.Append.{append_answer, part_after_append}
 use Rattle.upload_book.specs.Concat.{concat_answer, part_after_concat}
 use Rattle.upload_book.specs.Content.{content_answer}
-use Rattle.upload_book.specs.Create.{part_after_create}
+use Rattle.upload_book.specs.Create.{create_answer, part_after_create, part_after_create_empty}
 use Rattle.upload_book.specs.Terminate.{part_after_terminate}
 use Rattle.upload_book.specs.PlainBook.{PlainBook, answer_of, book_after}
 
 -- the book after an operation at a moment: a HEAD and a GET leave it
 abbrev pub book_after_operation : PlainBook → Operation → ℕ → PlainBook
-book_after_operation b (Create tenant new) now = book_after b tenant (part_after_create new now)
+book_after_operation b (Create tenant new) now = book_after b tenant (part_after_create_empty new now)
+book_after_operation b (CreateWith tenant new first) now = book_after b tenant (part_after_create new first now b.charged)
 book_after_operation b (Concat tenant new) now = book_after b tenant (part_after_concat new now)
 book_after_operation b (Look name) now = b
 book_after_operation b (Content name) now = b
 book_after_operation b (Append name chunk) now = book_after b name.tenant (part_after_append name.id chunk now b.charged)
 book_after_operation b (Terminate name) now = book_after b name.tenant (part_after_terminate name.id now)
 
--- The operation may lack memory: it is a GET of an upload with bytes, a PATCH whose bytes take a block, or a
--- concatenation, and is not refused. Where it does, its answer is the refusal Memory, and the book stays as it was.
+-- The operation may lack memory: it is a GET of an upload with bytes, a PATCH or a creation whose bytes take a block,
+-- or a concatenation, and is not refused. Where it does, its answer is the refusal Memory, and the book stays as it was.
 abbrev pub MayLackMemory : PlainBook → Operation → ℕ → Type 0
 MayLackMemory b (Create tenant new) now = ⊥
+MayLackMemory b (CreateWith tenant new first) now =
+    IsOk (answer_of b tenant (create_answer tenant new first now b.charged)) × (0 < blocks_added b.settings.numbers 0 (length first.bytes))
 MayLackMemory b (Concat tenant new) now = IsOk (answer_of b tenant (concat_answer tenant new now))
 MayLackMemory b (Look name) now = ⊥
 MayLackMemory b (Content name) now = IsOkAnd (answer_of b name.tenant (content_answer name.id now)) (λ bytes. bytes ≢ [])

@@ -19,11 +19,11 @@ order =
     ∷ codes "path"  -- the target is the path of no upload and of no tenant
     ∷ codes "tenant"  -- there is no tenant of that name
     ∷ codes "method"  -- the path does not allow the method
-    ∷ codes "field"  -- a field that the method needs is missing, repeated, not of its form or out of place, or a POST has a body
+    ∷ codes "field"  -- a field that the method needs is missing, repeated, not of its form or out of place, or bytes are sent to a final upload
     ∷ codes "unknown"  -- the id was never given
     ∷ codes "gone"  -- it was given, and its upload has ended or expired
     ∷ codes "final"  -- a PATCH of a final upload, which takes no bytes
-    ∷ codes "media"  -- a PATCH without its content type
+    ∷ codes "media"  -- bytes without the content type of a PATCH
     ∷ codes "offset"  -- a PATCH at another offset than the upload's
     ∷ codes "length-fixed"  -- a PATCH that tells another length than the known one
     ∷ codes "too-long"  -- a length above the greatest size, or bytes past the upload's length
@@ -36,7 +36,7 @@ order =
     ∷ codes "spent"  -- the tenant's ids are used up, or the blocks that all tenants may be charged in all
     ∷ codes "quota"  -- the tenant would pay for more blocks than its quota
     ∷ codes "pool"  -- no block is free; never answered, since within the quotas there is one
-    ∷ codes "memory"  -- the bytes of a PATCH or of a GET, or the lists of a final upload, find no memory
+    ∷ codes "memory"  -- the bytes of a PATCH, of a creation or of a GET, or the lists of a final upload, find no memory
     ∷ []
 
 -- the words stand in a list in this sequence

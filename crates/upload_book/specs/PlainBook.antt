@@ -39,8 +39,8 @@ with_tenant_book b tenant part =
       released = b.released + (before - after);
     }
 
--- What a step gives is determined by the numbers of the settings and one tenant's part; a PATCH is also given
--- how many blocks were charged so far. This is how each step on a part is one of the book: its answer,
+-- What a step gives is determined by the numbers of the settings and one tenant's part; one that sends bytes is also
+-- given how many blocks were charged so far. This is how each step on a part is one of the book: its answer,
 abbrev pub answer_of : {A : Type 0} → PlainBook → ℕ → (Numbers → TenantBook → A) → A
 answer_of b tenant answer = answer b.settings.numbers (tenant_book b tenant)
 

@@ -9,7 +9,9 @@ use Rattle.upload_book.specs.declared.head_row.Kind.{Kind}
 use Rattle.upload_book.specs.declared.head_row.Kind.TheVariants.{Plain, Partial, Final}
 use Rattle.upload_book.specs.declared.piece.Piece.{Piece}
 use Rattle.upload_book.specs.declared.piece.UnheldPiece.{UnheldPiece}
+use Rattle.upload_book.specs.Create.{new_kind}
 use Rattle.upload_book.specs.NewFinal.{NewFinal}
+use Rattle.upload_book.specs.NewUpload.{NewUpload}
 use Rattle.upload_book.specs.TenantBook.{TenantBook, TenantPart, Entry}
 use Rattle.upload_book.specs.Upload.{Upload}
 
@@ -140,9 +142,13 @@ pub record IsStored (p : Blocks) (shelves : List Shelf) : Type 0 where
   pub counts : (b : ℕ) → count_at p b ≡ sum_by (places_on b) shelves
   pub apart : (b : ℕ) → sum_by (λ s. some_of (places_on b s)) shelves ≤ 1
 
+-- what is kept of a body that has no bytes yet
+abbrev pub no_chain : Chain
+no_chain = record { blocks = []; len = 0; room = 0 }
+
 -- the piece of an upload to which bytes are sent
 abbrev pub own_chain : List Piece → Chain
-own_chain [] = record { blocks = []; len = 0; room = 0 }
+own_chain [] = no_chain
 own_chain (x ∷ pieces) = x.chain
 
 -- an upload that is not final has one piece, whose bytes were sent to it
@@ -152,6 +158,17 @@ HasOwnPiece e = e.kept.kind ≢ Final → e.kept.pieces ≡ record { origin = e.
 -- each piece reads as as many bytes as it has
 abbrev pub ReadsWhole : Blocks → List Piece → Type 0
 ReadsWhole p pieces = (x : Piece) → Contains pieces x → length (content_of p x.chain) ≡ x.chain.len
+
+-- a new upload with these bytes and this end, as it is kept under its id
+abbrev pub new_stored : NewUpload → ℕ → Chain → Option ℕ → StoredUpload
+new_stored new id chain expires = record {
+  kind = new_kind new.partial;
+  declared = new.length;
+  pieces = record { origin = id; chain = chain } ∷ [];
+  metadata = new.metadata;
+  concat = new.concat;
+  expires = expires;
+}
 
 -- a final upload of these pieces, as it is kept
 abbrev pub final_of : NewFinal → List Piece → StoredUpload

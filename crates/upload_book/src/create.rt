@@ -1,17 +1,25 @@
-ghost use Rattle.std.specs.Prelude.{◌≡◌, ◌<◌, length, IsTrue, OnErr};
+ghost use Rattle.std.specs.Prelude.{◌≡◌, ◌<◌, ◌≤◌, ◌^◌, Err, length, IsTrue, OnOk, OnErr};
 ghost use Rattle.upload_book.specs.Book.{plain_of};
-ghost use Rattle.upload_book.specs.Create.{new_kind, creation_refusal, create_answer, part_after_create};
+ghost use Rattle.upload_book.specs.Create.{new_kind, creation_refusal, create_answer, create_empty_answer, first_end, part_after_create, part_after_create_empty};
+ghost use Rattle.upload_book.specs.declared.operation.Operation.TheVariants as operation;
+ghost use Rattle.upload_book.specs.declared.refusal.Refusal.TheVariants.{Memory};
 ghost use Rattle.upload_book.specs.Lawful.{IsConcatText, is_kept_metadata};
+ghost use Rattle.upload_book.specs.Operation.{MayLackMemory};
 ghost use Rattle.upload_book.specs.PlainBook.{answer_of, book_after};
+ghost use Rattle.upload_book.specs.Refusal.{IsAnswer};
 ghost use Rattle.upload_book.specs.Store.{part_at};
 
+use crate::account::Account;
 use crate::book::Book;
-use crate::head_row::Name;
+use crate::checksum::{is_mismatch, is_of_other_algorithm};
+use crate::expiry::{lifetime_end, renewed};
+use crate::head_row::{Kind, Name};
 use crate::moment::Moment;
 use crate::refusal::Refusal;
 use crate::settings::Numbers;
 use crate::store::Store;
 use std::marker::Model;
+use tus_text::Checksum;
 
 /// The upload that a creation asks for (tus 1.0.0, Creation and Concatenation). A contract sees its texts
 /// as lists of bytes.
@@ -40,6 +48,50 @@ impl<'a> Model for NewUpload<'a> {
     } };
 }
 
+impl<'a> NewUpload<'a> {
+    /// Whether it is a part of a later upload, or one of its own.
+    pub(crate) fn kind(&self) -> Kind
+        ensures { result ≡ new_kind self.now.partial }
+    {
+        if self.partial {
+            Kind::Partial
+        } else {
+            Kind::Plain
+        }
+    }
+
+    // When it expires, if it does, where it is created now with so many bytes.
+    fn first_end(&self, numbers: &Numbers, len: u64, now: Moment) -> Option<Moment>
+        ensures { result ≡ first_end numbers.now self.now len now }
+    {
+        let is_complete = self.length == Some(len);
+        renewed(self.kind(), is_complete, None, lifetime_end(numbers, now))
+    }
+}
+
+/// The first bytes of an upload, which its creation carries, and what it says of them (tus 1.0.0, Creation
+/// With Upload and Checksum). A contract sees the bytes as a list.
+#[derive(Drop)]
+pub struct FirstChunk<'a> {
+    /// Whether the content type is `application/offset+octet-stream`.
+    pub typed: bool,
+    /// `Upload-Checksum`, which came with the bytes.
+    pub check: Option<Checksum>,
+    pub bytes: &'a [u8],
+}
+
+impl<'a> Model for FirstChunk<'a> {
+    ghost use Rattle.upload_book.specs.FirstChunk as spec;
+
+    ghost Value = { spec.FirstChunk };
+
+    ghost view = { λ first. record {
+      typed = first.typed;
+      check = first.check;
+      bytes = first.bytes.now;
+    } };
+}
+
 /// The upload that was created.
 #[derive(Clone, Copy, Debug, PartialEq, Eq)]
 pub struct Created {
@@ -49,7 +101,7 @@ pub struct Created {
 }
 
 impl Book {
-    /// Creates an upload of the tenant at this place, under the next id. It takes no memory.
+    /// Creates an upload of the tenant at this place, under the next id. It has no bytes, and takes no memory.
     ///
     /// It is refused, in this order, as TooLong where the length is above the greatest size, as
     /// Uploads where the tenant has its greatest number of uploads, expired ones included, and as
@@ -58,41 +110,117 @@ impl Book {
         requires tenant_there { tenant < length (plain_of self.old).settings.tenants }
         requires metadata { IsTrue (is_kept_metadata new.metadata) }
         requires concat { IsConcatText (new_kind new.partial) new.concat }
-        ensures answer { result ≡ answer_of (plain_of self.old) tenant (create_answer tenant new.entry now) }
-        ensures after { plain_of self.new
-            ≡ book_after (plain_of self.old) tenant (part_after_create new.entry now) }
+        ensures answer { result ≡ answer_of (plain_of self.old) tenant
+            (create_empty_answer tenant new.entry now) }
+        ensures after { plain_of self.new ≡ book_after (plain_of self.old) tenant
+            (part_after_create_empty new.entry now) }
         ensures refused { OnErr result (self.new ≡ self.old) }
     {
-        let numbers = self.settings.numbers();
+        let none = FirstChunk {
+            typed: true,
+            check: None,
+            bytes: b"",
+        };
+        // the settings tell that the book is lawful, so no more was charged than may be
+        let _ = self.settings();
+        self.create_with(tenant, new, none, now)
+    }
+
+    /// Creates an upload of the tenant at this place, under the next id, with its first bytes. They are copied
+    /// once. One of its own that is complete with them does not expire, and any other expires a lifetime after
+    /// `now`. Its tenant pays the blocks that the bytes take.
+    ///
+    /// It is refused by the first of these that applies: Media; TooLong, where the length is above the greatest
+    /// size, or the bytes go past the length; Algorithm; Mismatch; Uploads, where the tenant has its greatest
+    /// number of uploads, expired ones included; Spent, where the tenant's ids are used up, or the blocks that
+    /// all tenants may be charged; Quota. Where none of them does and there are bytes, it may be refused as
+    /// Memory: there was none for the list of the upload's blocks. A refusal leaves the book as it was, and
+    /// uses no id.
+    pub fn create_with(
+        &mut self,
+        tenant: u8,
+        new: NewUpload,
+        first: FirstChunk,
+        now: Moment,
+    ) -> Result<Created, Refusal>
+        requires tenant_there { tenant < length (plain_of self.old).settings.tenants }
+        requires metadata { IsTrue (is_kept_metadata new.metadata) }
+        requires concat { IsConcatText (new_kind new.partial) new.concat }
+        ensures answer { IsAnswer
+            (answer_of (plain_of self.old) tenant
+            (create_answer tenant new.entry first.entry now (plain_of self.old).charged))
+            (MayLackMemory (plain_of self.old) (operation.CreateWith tenant new.entry first.entry) now)
+            (Err Memory) result }
+        ensures accepted { OnOk result (plain_of self.new ≡ book_after (plain_of self.old) tenant
+            (part_after_create new.entry first.entry now (plain_of self.old).charged)) }
+        ensures refused { OnErr result (self.new ≡ self.old) }
+    {
+        let account = self.account(tenant);
         let place = usize::from(tenant);
-        if let Some(refusal) = creation_refusal(numbers, &self.store, place, &new) {
+        let numbers = self.settings.numbers();
+        if let Some(refusal) = creation_refusal(
+            numbers,
+            &account,
+            &self.store,
+            place,
+            &new,
+            &first,
+        ) {
             return Err(refusal);
         }
         let id = self.store.next(place);
-        let expires = self.store.create(self.alloc, place, numbers, &new, now);
-        Ok(Created {
+        let created = Created {
             name: Name { tenant, id },
-            expires,
-        })
+            expires: new.first_end(numbers, first.bytes.len() as u64, now),
+        };
+        match self
+            .store
+            .create(self.alloc, place, &new, first.bytes, created.expires)
+        {
+            Ok(taken) => {
+                self.charged += taken;
+                Ok(created)
+            }
+            Err(_) => Err(Refusal::Memory),
+        }
     }
 }
 
-// Why the next creation of the tenant at this place is refused, if it is.
+// Why the next creation of the tenant at this place is refused on its account, if it is.
 fn creation_refusal(
     numbers: &Numbers,
+    account: &Account,
     store: &Store,
     tenant: usize,
     new: &NewUpload,
+    first: &FirstChunk,
 ) -> Option<Refusal>
-    requires { tenant < length store.now.shelves }
-    ensures { result ≡ creation_refusal numbers.now (part_at store.now tenant) new.now }
+    requires tenant { tenant < length store.now.shelves }
+    requires blocks { 0 < numbers.now.block_size }
+    requires quota { account.now.charge ≤ account.now.quota }
+    requires charged { account.now.charged ≤ numbers.now.last_total }
+    ensures value { result
+        ≡ creation_refusal numbers.now account.now (part_at store.now tenant) new.now first.now }
+    ensures last { numbers.now.last_total < 2 ^ 64 }
 {
-    if new.length.is_some_and(|n| n > numbers.max_size) {
+    let most = new.length.unwrap_or(numbers.max_size);
+    let len = first.bytes.len() as u64;
+    let last_total = numbers.last_total;
+    let added = len.div_ceil(numbers.block_size);
+    if !first.typed {
+        Some(Refusal::Media)
+    } else if most > numbers.max_size || len > most {
         Some(Refusal::TooLong)
+    } else if is_of_other_algorithm(first.check) {
+        Some(Refusal::Algorithm)
+    } else if is_mismatch(first.check, first.bytes) {
+        Some(Refusal::Mismatch)
     } else if store.count(tenant) as u64 >= numbers.uploads {
         Some(Refusal::Uploads)
-    } else if store.next(tenant) > numbers.last_id {
+    } else if store.next(tenant) > numbers.last_id || added > last_total - account.charged {
         Some(Refusal::Spent)
+    } else if added > account.quota - account.charge {
+        Some(Refusal::Quota)
     } else {
         None
     }

@@ -34,7 +34,7 @@ pub use append::{Appended, Chunk, Refused};
 pub use book::Book;
 pub use concat::NewFinal;
 pub use content::Content;
-pub use create::{Created, NewUpload};
+pub use create::{Created, FirstChunk, NewUpload};
 pub use head_row::{HeadRow, Kind, Name};
 pub use moment::Moment;
 pub use operation::Operation;

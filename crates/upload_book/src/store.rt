@@ -4,7 +4,7 @@ ghost use Rattle.block_pool.specs.Blocks.{IsWithinLimits, all_free, free_in, siz
 ghost use Rattle.upload_book.specs.Account.{blocks_between};
 ghost use Rattle.upload_book.specs.Charge.{charge_with};
 ghost use Rattle.upload_book.specs.Concat.{are_complete, are_there, final_upload, joined_len, parts_found};
-ghost use Rattle.upload_book.specs.Create.{created_upload, new_kind};
+ghost use Rattle.upload_book.specs.Create.{new_kind, upload_from};
 ghost use Rattle.upload_book.specs.Lawful.{IsConcatText, is_kept_metadata};
 ghost use Rattle.upload_book.specs.Expiry.{is_over};
 ghost use Rattle.upload_book.specs.Sweep.{part_after_sweep};
@@ -26,10 +26,10 @@ use crate::moment::Moment;
 use crate::parts_seen::PartsSeen;
 use crate::piece::UnheldPiece;
 use crate::refusal::Refusal;
-use crate::settings::{Numbers, Settings};
+use crate::settings::Settings;
 use crate::shelf::Shelf;
 use crate::standing::Standing;
-use crate::stored_upload::StoredUpload;
+use crate::stored_upload::{StoredUpload, body_of};
 use crate::sweep::Swept;
 use block_pool::Pool;
 use std::alloc::{AllocError, Global};
@@ -168,36 +168,42 @@ impl Store {
         self.shelves[tenant].uploads[place].read(alloc, &self.pool)
     }
 
-    /// Creates an upload, which has no bytes, as the tenant's next one. Gives when it expires, if it does. It takes
-    /// no memory: its texts get a box that is spare.
+    /// Creates an upload with these bytes and this end as the tenant's next one; its texts get a box that is
+    /// spare. Gives how many blocks were taken for the bytes. The error is that there was no memory for the list
+    /// of them, and then nothing changes.
     pub(crate) fn create(
         &mut self,
         alloc: Global,
         tenant: usize,
-        numbers: &Numbers,
         new: &NewUpload,
-        now: Moment,
-    ) -> Option<Moment>
+        bytes: &[u8],
+        expires: Option<Moment>,
+    ) -> Result<u64, AllocError>
         requires tenant { tenant < length self.old.shelves }
         requires room { length (shelf_at self.old tenant).uploads < self.old.room }
         requires id { (shelf_at self.old tenant).next + 1 < 2 ^ 64 }
         requires metadata { IsTrue (is_kept_metadata new.now.metadata) }
         requires concat { IsConcatText (new_kind new.now.partial) new.now.concat }
-        ensures expires { result ≡ (created_upload numbers.now new.now now).expires }
-        ensures plain { plain_in self.new ≡ set (plain_in self.old) tenant
-            (with_new (part_at self.old tenant) (created_upload numbers.now new.now now)) }
-        ensures pool { self.new.pool ≡ self.old.pool }
+        requires blocks { sum_by (charge_with self.old.pool.block_size) (plain_in self.old)
+            + blocks_between self.old.pool.block_size 0 (length bytes.now) ≤ size_of self.old.pool }
+        ensures plain { OnOk result (plain_in self.new ≡ set (plain_in self.old) tenant
+            (with_new (part_at self.old tenant) (upload_from new.now bytes.now expires))) }
+        ensures taken { IfOk result (λ n. n ≡ blocks_between self.old.pool.block_size 0 (length bytes.now)) }
+        ensures charge { IfOk result (λ n. charge_with self.old.pool.block_size (part_at self.new tenant)
+            ≡ charge_with self.old.pool.block_size (part_at self.old tenant) + n) }
+        ensures sizes { SameSizes self.old.pool self.new.pool }
         ensures room_stays { self.new.room ≡ self.old.room }
-        ensures charge { charge_with self.old.pool.block_size (part_at self.new tenant)
-            ≡ charge_with self.old.pool.block_size (part_at self.old tenant) }
+        ensures memory { OnErr result (0 < blocks_between self.old.pool.block_size 0 (length bytes.now)) }
+        ensures unchanged { OnErr result (self.new ≡ self.old) }
     {
+        let (body, taken) = body_of(alloc, &mut self.pool, bytes)?;
         let shelf = &mut self.shelves[tenant];
         let texts = shelf.spare.pop().unwrap();
-        let upload = StoredUpload::new(alloc, numbers, shelf.next, new, now, texts);
-        let expires = upload.expires();
+        let upload = StoredUpload::new(shelf.next, new, body, expires, texts);
         shelf.uploads.push_reserved(upload);
         shelf.next += 1;
-        expires
+        shelf.charge += taken;
+        Ok(taken)
     }
 
     /// The place of the upload that a part of a concatenation names, where it is a partial one that a request

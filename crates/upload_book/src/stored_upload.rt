@@ -2,24 +2,23 @@ ghost use Rattle.std.specs.Prelude.{◌≡◌, ◌≢◌, ◌+◌, ◌<◌, ◌�
 ghost use Rattle.block_pool.specs.Blocks.{Blocks, free_in};
 ghost use Rattle.block_bodies.specs.Bodies.{IsBodyOf, IsHeld, IsLastOwn, StandsOnce, blocks_with};
 ghost use Rattle.block_bodies.specs.Changes.{Puts, GivesBack};
-ghost use Rattle.upload_book.specs.Create.{created_upload, new_kind};
+ghost use Rattle.upload_book.specs.Create.{new_kind};
 ghost use Rattle.upload_book.specs.declared.head_row.Kind.TheVariants.{Final};
 ghost use Rattle.upload_book.specs.Expiry.{is_over};
 ghost use Rattle.upload_book.specs.Lawful.{is_kept_metadata, IsConcatText};
 ghost use Rattle.upload_book.specs.Standing.{standing_in};
 ghost use Rattle.upload_book.specs.Store.{with_chain, with_head};
-ghost use Rattle.upload_book.specs.Stored.{as_piece, block_at, bytes_of, final_of, own_chain, pieces_len, placed_in, segment_of, upload_of, AreBodies, HasOwnPiece, ReadsWhole};
+ghost use Rattle.upload_book.specs.Stored.{as_piece, block_at, bytes_of, final_of, new_stored, no_chain, own_chain, pieces_len, placed_in, segment_of, upload_of, AreBodies, ReadsWhole};
 ghost use Rattle.upload_book.specs.Upload.{head_row_of, content_of as upload_content_of};
 
 use crate::concat::NewFinal;
 use crate::create::NewUpload;
-use crate::expiry::{is_over, lifetime_end, renewed};
+use crate::expiry::is_over;
 use crate::head_row::{HeadRow, Kind};
 use crate::held::Held;
 use crate::joined::{give_back_each, read_each};
 use crate::moment::Moment;
 use crate::piece::{Piece, UnheldPiece};
-use crate::settings::Numbers;
 use crate::standing::Standing;
 use crate::texts::Texts;
 use block_bodies::{Body, BodyFault};
@@ -60,39 +59,28 @@ impl Model for StoredUpload {
 }
 
 impl StoredUpload {
-    /// A new upload, which has no bytes. It takes no memory: its texts are written into this box, whatever the box
-    /// had before.
+    /// A new upload with these bytes and this end. It takes no memory: its texts are written into this box,
+    /// whatever the box had before.
     pub(crate) fn new(
-        alloc: Global,
-        numbers: &Numbers,
         id: u64,
         new: &NewUpload,
-        now: Moment,
+        body: Body,
+        expires: Option<Moment>,
         mut texts: Box<Texts>,
     ) -> StoredUpload
         requires metadata { IsTrue (is_kept_metadata new.now.metadata) }
         requires concat { IsConcatText (new_kind new.now.partial) new.now.concat }
-        ensures id { result.id ≡ id }
-        ensures upload { (p : Blocks) → upload_of p result.kept ≡ created_upload numbers.now new.now now }
-        ensures piece { HasOwnPiece result }
-        ensures empty { (own_chain result.kept.pieces).blocks ≡ [] }
-        ensures len { (own_chain result.kept.pieces).len ≡ 0 }
+        ensures { result ≡ record { id = id; kept = new_stored new.now id body expires } }
     {
-        let kind = if new.partial {
-            Kind::Partial
-        } else {
-            Kind::Plain
-        };
-        let is_complete = new.length == Some(0);
         texts.set(new.metadata, new.concat);
         StoredUpload {
             id,
             held: Held::Own {
                 partial: new.partial,
-                body: Body::empty(alloc),
+                body,
             },
             declared: new.length,
-            expires: renewed(kind, is_complete, None, lifetime_end(numbers, now)),
+            expires,
             texts,
         }
     }
@@ -126,13 +114,6 @@ impl StoredUpload {
         ensures { result ≡ self.now.id }
     {
         self.id
-    }
-
-    /// When the upload expires, if it does.
-    pub(crate) fn expires(&self) -> Option<Moment>
-        ensures { result ≡ self.now.kept.expires }
-    {
-        self.expires
     }
 
     /// Whether the upload has expired at `now`.
@@ -286,6 +267,28 @@ impl StoredUpload {
             Held::Joined { pieces, .. } => give_back_each(pieces, pool),
         };
         (freed, texts)
+    }
+}
+
+/// A body of these bytes, and how many blocks were taken for them. The error is that there was no memory for the
+/// list of the blocks, and then nothing changes.
+pub(crate) fn body_of(
+    alloc: Global,
+    pool: &mut Pool,
+    bytes: &[u8],
+) -> Result<(Body, u64), AllocError>
+    requires blocks { 0 < pool.old.block_size }
+    requires free { blocks_with pool.old no_chain (length bytes.now) ≤ free_in pool.old }
+    ensures taken { IfOk result (λ made. length made.0.blocks ≡ made.1) }
+    ensures puts { IfOk result (λ made. Puts pool.old no_chain bytes.now pool.new made.0) }
+    ensures once { IfOk result (λ made. StandsOnce made.0.blocks) }
+    ensures memory { OnErr result (0 < blocks_with pool.old no_chain (length bytes.now)) }
+    ensures unchanged { OnErr result (pool.new ≡ pool.old) }
+{
+    let mut body = Body::empty(alloc);
+    match put_within(&mut body, pool, bytes) {
+        Ok(taken) => Ok((body, taken)),
+        Err(fault) => Err(fault),
     }
 }
 

@@ -106,7 +106,7 @@ Tus-Resumable: 1.0.0\r\nUpload-Length: 10\r\nUpload-Metadata:\r\nUpload-Metadata
 const POST_EMPTY_METADATA: &[u8] = b"POST /files/acme HTTP/1.1\r\nHost: x\r\n\
 Tus-Resumable: 1.0.0\r\nUpload-Length: 10\r\nUpload-Metadata:\r\n\r\n";
 
-const LOOKED_NEW: &[u8] = b"HTTP/1.1 200 OK\r\nDate: Thu, 01 Jan 1970 00:16:40 GMT\r\n\
+pub const LOOKED_NEW: &[u8] = b"HTTP/1.1 200 OK\r\nDate: Thu, 01 Jan 1970 00:16:40 GMT\r\n\
 Tus-Resumable: 1.0.0\r\nUpload-Offset: 0\r\nUpload-Length: 10\r\nCache-Control: no-store\r\n\r\n";
 
 static CREATIONS: [Row; 9] = [

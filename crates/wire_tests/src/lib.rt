@@ -4,6 +4,8 @@
 #![tactic(auto)]
 
 #[cfg(test)]
+mod checksums;
+#[cfg(test)]
 mod concatenations;
 #[cfg(test)]
 mod conversations;

@@ -9,8 +9,8 @@ const OPTIONS_OTHER_VERSION: &[u8] = b"OPTIONS * HTTP/1.1\r\nHost: x\r\nTus-Resu
 
 const ABLE: &[u8] = b"HTTP/1.1 204 No Content\r\nDate: Thu, 01 Jan 1970 00:16:40 GMT\r\n\
 Tus-Resumable: 1.0.0\r\nTus-Version: 1.0.0\r\n\
-Tus-Extension: creation,creation-defer-length,expiration,termination,concatenation\r\n\
-Tus-Max-Size: 64\r\n\r\n";
+Tus-Extension: creation,creation-defer-length,expiration,termination,concatenation,checksum,\
+creation-with-upload\r\nTus-Max-Size: 64\r\nTus-Checksum-Algorithm: sha1\r\n\r\n";
 
 const GET: &[u8] = b"GET /files/acme/1 HTTP/1.1\r\nHost: x\r\n\r\n";
 

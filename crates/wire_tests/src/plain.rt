@@ -43,8 +43,9 @@ pub fn plain_conversation(
                 if is_waiting {
                     page.put(rt, b"HTTP/1.1 100 Continue\r\n\r\n");
                 }
-                let is_patch = matches!(request.method, Method::Patch);
-                if rest.is_none() && !is_patch {
+                let is_unchecked = matches!(request.fields.checksum, Field::Absent);
+                let is_kept = matches!(request.method, Method::Patch) && is_unchecked;
+                if rest.is_none() && !is_kept {
                     return (page.text, Ended::Cut);
                 }
                 let reply = answer(book, &request, *now);
@@ -215,6 +216,7 @@ fn with_head<'a>(head: &Head<'_, 'a>, rest: &'a [u8], max_size: u64) -> Front<'a
             offset: named(headers, "upload-offset"),
             metadata: named(headers, "upload-metadata"),
             concat: named(headers, "upload-concat"),
+            checksum: named(headers, "upload-checksum"),
             media: named(headers, "content-type"),
         },
         body,

@@ -51,15 +51,17 @@ impl Replied {
             Reply::Options { max_size } => {
                 let mut told = Replied::new(alloc, 204);
                 told.line(rt, alloc, "Tus-Version", b"1.0.0");
-                let extensions =
-                    b"creation,creation-defer-length,expiration,termination,concatenation";
+                let extensions = b"creation,creation-defer-length,expiration,termination,\
+concatenation,checksum,creation-with-upload";
                 told.line(rt, alloc, "Tus-Extension", extensions);
                 told.number(rt, alloc, "Tus-Max-Size", *max_size);
+                told.line(rt, alloc, "Tus-Checksum-Algorithm", b"sha1");
                 told
             }
             Reply::Created {
                 tenant,
                 id,
+                offset,
                 expires,
             } => {
                 let mut told = Replied::new(alloc, 201);
@@ -69,6 +71,9 @@ impl Replied {
                 let id = format!(in alloc; "/{id}").expect(rt, "memory");
                 path.extend_from_slice(id.as_bytes()).expect(rt, "memory");
                 told.line(rt, alloc, "Location", &path);
+                if let Some(offset) = offset {
+                    told.number(rt, alloc, "Upload-Offset", *offset);
+                }
                 told.expires(rt, alloc, *expires);
                 told
             }

@@ -135,7 +135,12 @@ fn creation_for(tenant: u64, fields: TusFields<Field<'static>>) -> Request<'stat
 fn request_of(kind: u64, tenant: u64, id: u64) -> Request<'static> {
     match kind {
         0 => creation_for(tenant, length_fields(b"4")),
-        1 => creation_for(tenant, length_fields(b"9")),
+        1 => request_with(
+            Method::Post,
+            creations(tenant),
+            upload_fields(b"9"),
+            b"abcd",
+        ),
         2 => creation_for(
             tenant,
             TusFields {

@@ -31,7 +31,7 @@ returns-then-is_applied_when_cut-clause-front g c max bytes b =
         p.is_waiting,
         refl,
         IsFront-cut_patch max (bytes ++ grew.0) p all more c.lend_all.new.inbox (c.in-Ok-false.ensures.short c.in-Ok-false.field-0-test)
-            (held_in p.head_len c.args.inbox.now.held grew.0 all c.requires.held grew.1) (sym c.is_applied_when_cut.ensures ∙ c.if-is_applied_when_cut.true) c.lend_all.ensures.lent,
+            (held_in p.head_len c.args.inbox.now.held grew.0 all c.requires.held grew.1) (λ head. sym (c.is_applied_when_cut.ensures head) ∙ c.if-is_applied_when_cut.true) c.lend_all.ensures.lent,
       ),
     )
 
@@ -47,7 +47,7 @@ returns-else-is_applied_when_cut-clause-front g c max bytes b =
         p.is_waiting,
         refl,
         IsFront-cut_other max (bytes ++ grew.0) p all more (c.in-Ok-false.ensures.short c.in-Ok-false.field-0-test)
-            (held_in p.head_len c.args.inbox.now.held grew.0 all c.requires.held grew.1) (sym c.is_applied_when_cut.ensures ∙ c.if-is_applied_when_cut.false),
+            (held_in p.head_len c.args.inbox.now.held grew.0 all c.requires.held grew.1) (λ head. sym (c.is_applied_when_cut.ensures head) ∙ c.if-is_applied_when_cut.false),
       ),
     )
 
@@ -63,7 +63,7 @@ returns-then-is_applied_when_cut-2-clause-front g c max bytes b =
         p.is_waiting,
         refl,
         IsFront-cut_patch max (bytes ++ grew.0) p all more c.lend_all-then-is_applied_when_cut-2.new.inbox c.in-Err.ensures.broken
-            (held_in p.head_len c.args.inbox.now.held grew.0 all c.requires.held grew.1) (sym c.is_applied_when_cut-in-Err.ensures ∙ c.if-is_applied_when_cut-2.true) c.lend_all-then-is_applied_when_cut-2.ensures.lent,
+            (held_in p.head_len c.args.inbox.now.held grew.0 all c.requires.held grew.1) (λ head. sym (c.is_applied_when_cut-in-Err.ensures head) ∙ c.if-is_applied_when_cut-2.true) c.lend_all-then-is_applied_when_cut-2.ensures.lent,
       ),
     )
 
@@ -79,6 +79,6 @@ returns-else-is_applied_when_cut-2-clause-front g c max bytes b =
         p.is_waiting,
         refl,
         IsFront-cut_other max (bytes ++ grew.0) p all more c.in-Err.ensures.broken
-            (held_in p.head_len c.args.inbox.now.held grew.0 all c.requires.held grew.1) (sym c.is_applied_when_cut-in-Err.ensures ∙ c.if-is_applied_when_cut-2.false),
+            (held_in p.head_len c.args.inbox.now.held grew.0 all c.requires.held grew.1) (λ head. sym (c.is_applied_when_cut-in-Err.ensures head) ∙ c.if-is_applied_when_cut-2.false),
       )),
     )

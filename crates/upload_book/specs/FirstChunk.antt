@@ -1,0 +1,13 @@
+-- The first bytes of an upload, which its creation carries (tus 1.0.0, Creation With Upload and Checksum).
+use Rattle.std.specs.Prelude.{ℕ, Bool, true, List, [], Option, None}
+use Rattle.tus_text.specs.declared.checksum.Checksum.{Checksum}
+
+-- whether they have the content type of a PATCH, the checksum that came with them, if one did, and the bytes
+pub record FirstChunk : Type 0 where
+  pub typed : Bool
+  pub check : Option Checksum
+  pub bytes : List ℕ
+
+-- what a creation carries that sends no bytes
+abbrev pub no_chunk : FirstChunk
+no_chunk = record { typed = true; check = None; bytes = [] }
