@@ -17,7 +17,7 @@ import sys
 import tempfile
 import time
 
-SECONDS = 4
+SECONDS = 2
 MIB = 1048576
 NGINX = """worker_processes 16;
 daemon off;
