@@ -1,10 +1,9 @@
-use Rattle.std.proofs.Common.{arith, ◌≡◌, ℕ, ◌+◌, ◌∷◌, ◌++◌, [], true, false, true≢false, Some, Ok, Err, length, refl, ◌∙◌, ap, subst, subst₂, sym, append-nil, append_assoc}
+use Rattle.std.proofs.Common.{arith, ℕ, ◌+◌, ◌∷◌, ◌++◌, [], true≢false, Some, Ok, Err, refl, ◌∙◌, ap, subst, subst₂, sym, append-nil, append_assoc}
 use Rattle.std.proofs.lemmas.List.{length-append}
 use Rattle.std.proofs.lemmas.List.Elements.{All-nil}
 use Rattle.std.proofs.lemmas.Result.{err_from_is_err_and}
 use Rattle.http_wire.specs.Exchange.{Exchange}
 use Rattle.http_wire.specs.Turns.{Breaks, Converses, EndsByTurn, TakesTurn}
-use Rattle.http_wire.specs.declared.conversation.Ended.TheVariants.{Moments}
 use Rattle.http_wire.proofs.AheadLemmas.{Appends-none, Appends-more, Consumes-none, Consumes-more}
 use Rattle.http_wire.proofs.Talk.{Reached, next_from, Reached-more, Converses-last, Converses-all, Breaks-after, IfErr-from, All-more, timed_asked, timed_once}
 use Rattle.http_wire.proofs.serving.serve.Goals as goal
