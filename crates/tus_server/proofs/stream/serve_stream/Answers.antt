@@ -1,7 +1,6 @@
-use Rattle.std.proofs.Common.{◌≡◌, ◌++◌, ℕ, sym, ap, subst, subst₂, ◌∙◌}
+use Rattle.std.proofs.Common.{sym, subst, subst₂}
 use Rattle.std.proofs.lemmas.Result.{IfErr-weaker, IfOk-weaker}
 use Rattle.std.specs.Io.KnownBytes.{Appends, Consumes}
-use Rattle.http_wire.specs.Exchange.{Exchange}
 use Rattle.http_wire.specs.Turns.{Breaks, Converses}
 use Rattle.http_wire.proofs.Carried.{Breaks-carried, Converses-carried}
 use Rattle.tus_server.specs.DeskStep.{DeskStep}
