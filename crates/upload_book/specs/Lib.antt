@@ -28,3 +28,5 @@ pub mod Charge
 pub mod Account
 pub mod Terminate
 pub mod Sweep
+pub mod Heads
+pub mod HeadSteps

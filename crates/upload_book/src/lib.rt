@@ -4,6 +4,7 @@
 
 mod account;
 mod append;
+mod board_line;
 mod book;
 mod checksum;
 mod concat;
@@ -31,6 +32,7 @@ mod terminate;
 mod texts;
 
 pub use append::{Appended, Chunk, Refused};
+pub use board_line::{Accounts, BoardLine, HeadChange};
 pub use book::Book;
 pub use concat::NewFinal;
 pub use content::Content;

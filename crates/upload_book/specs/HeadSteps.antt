@@ -1,0 +1,56 @@
+-- Which lines may follow on heads: those of the steps of a lawful book.
+use Rattle.std.specs.Prelude.{◌≡◌, ℕ, ◌+◌, ◌≤◌, List, [], ◌∷◌, length, ◌⊎◌, Some, All, IfSome, ⊤}
+use Rattle.upload_book.specs.declared.board_line.Accounts.{Accounts}
+use Rattle.upload_book.specs.declared.board_line.BoardLine.{BoardLine}
+use Rattle.upload_book.specs.declared.board_line.HeadChange.{HeadChange}
+use Rattle.upload_book.specs.declared.board_line.HeadChange.TheVariants.{Put, Gone, Swept}
+use Rattle.upload_book.specs.declared.head_row.HeadRow.{HeadRow}
+use Rattle.upload_book.specs.declared.settings.Numbers.{Numbers}
+use Rattle.upload_book.specs.Heads.{Heads, HeadPart, apply_line, head_part_at, heads_of}
+use Rattle.upload_book.specs.PlainBook.{opening_book}
+use Rattle.upload_book.specs.Settings.{Settings}
+use Rattle.upload_book.specs.TenantBook.{kept_in}
+
+-- An upload of one row may get another: kind and texts stay, it does not become shorter, and a known length stays.
+pub record MayBecome (old new : HeadRow) : Type 0 where
+  pub kind : new.kind ≡ old.kind
+  pub metadata : new.metadata ≡ old.metadata
+  pub concat : new.concat ≡ old.concat
+  pub offset : old.offset ≤ new.offset
+  pub declared : IfSome old.declared (λ n. new.declared ≡ Some n)
+
+-- the row is that of an upload which stands under an id, and may get this one
+pub record Follows (part : HeadPart) (id : ℕ) (new : HeadRow) : Type 0 where
+  pub old : HeadRow
+  pub stands : kept_in part.uploads id ≡ Some old
+  pub becomes : MayBecome old new
+
+-- the change may be made: a row is put under the next id of a tenant or follows on one that stands, and what ends
+-- stands
+abbrev pub MayChange : Heads → HeadChange → Type 0
+MayChange h (Put name row) =
+    (name.id ≡ (head_part_at h name.tenant).next) ⊎ Follows (head_part_at h name.tenant) name.id row
+MayChange h (Gone name) = (row : HeadRow) × (kept_in (head_part_at h name.tenant).uploads name.id ≡ Some row)
+MayChange h (Swept now) = ⊤
+
+-- a tenant has no more uploads than the settings allow, and its ids go no further
+pub record IsWithin (n : Numbers) (part : HeadPart) : Type 0 where
+  pub few : length part.uploads ≤ n.uploads
+  pub last : part.next ≤ n.last_id + 1
+
+-- The line may follow on the heads: its change may be made, each tenant is within its numbers after it, and no total
+-- falls.
+pub record MayFollow (h : Heads) (line : BoardLine) : Type 0 where
+  pub change : MayChange h line.change
+  pub within : All (IsWithin h.settings.numbers) (apply_line h line).tenants
+  pub charged : h.accounts.charged ≤ line.accounts.charged
+  pub released : h.accounts.released ≤ line.accounts.released
+
+-- each of the lines may follow on those before it
+abbrev pub MayAllFollow : Heads → List BoardLine → Type 0
+MayAllFollow h [] = ⊤
+MayAllFollow h (line ∷ lines) = MayFollow h line × MayAllFollow (apply_line h line) lines
+
+-- the lines are what a book of these settings may have changed of its heads since its opening
+abbrev pub IsLegal : Settings → List BoardLine → Type 0
+IsLegal s lines = MayAllFollow (heads_of (opening_book s)) lines
