@@ -1,11 +1,12 @@
 -- What clap's getters tell, as the rows of what was found.
 use Rattle.std.proofs.Common.{◌≡◌, ℕ, ◌≤◌, ◌^◌, ◌&&◌, not, Bool, true, false, List, [], ◌∷◌, length, Option, None, Some, Result, Ok, Err, refl, sym, ap, ◌∙◌, true≢false, nat_lt, lt-ltb, le-ltb, ltb-true, ap₂, subst, ◌⊎◌, inl, inr}
-use Rattle.std.specs.Prelude.{unwrap_or, codes, SomeIff}
+use Rattle.std.specs.Prelude.{bytes_eq, unwrap_or, codes, option_and_then, SomeIff}
 use Rattle.std.specs.Borrow.{Bor}
 use Rattle.std.specs.List.{list_all}
 use Rattle.std.specs.Option.{option_map_or}
 use Rattle.std.specs.Char.{digit_value}
-use Rattle.std.specs.Str.Parse.{AllDigits, ParsesUnsigned, digits_value, without_leading_plus}
+use Rattle.std.specs.Str.Parse.{AllDigits, ParsesBool, ParsesUnsigned, digits_value, without_leading_plus}
+use Rattle.std.proofs.lemmas.Slice.Eq.{bytes_eq-Decides}
 use Rattle.clap.proofs.WalkLemmas.{both, one_text-rows}
 use Rattle.clap.specs.Walk.{Row, rows_of}
 use Rattle.clap.specs.Words.{AddsArg, App, FailsBy, HasMatchesOf, fault_of, is_simple, is_simple_and_free, subcommand_of, subcommand_rows_of, IsAmong, Kinds, ReadsOne, Rule, Text, all_of, app_of, one_text, rule_of, with_rule}
@@ -18,7 +19,8 @@ use Rattle.clap.specs.declared.error.Error.{Error}
 use Rattle.clap.specs.declared.parser.matches.ArgMatches.{ArgMatches}
 use Rattle.clap.specs.declared.parser.matches.Found.{Found}
 use Rattle.upload_book.specs.declared.settings.Numbers.{Numbers}
-use Rattle.tus_server.specs.CommandLine.{program, AsksForHelp, faults_in, is_number, number_in, number_under, numbers_told, option_rule, told_by, told_with}
+use Rattle.tus_server.specs.declared.serve_options.WorkOptions.{WorkOptions}
+use Rattle.tus_server.specs.CommandLine.{program, AsksForHelp, faults_in, is_number, is_set, number_in, number_told, number_under, numbers_told, option_rule, port_told, serve_told_by, told_by, told_with, work_told, workers_told}
 
 digits_pass : (digits : List ℕ) → AllDigits 10 digits → list_all (λ d. nat_lt (digit_value d) 10) digits ≡ true
 digits_pass [] h = refl
@@ -30,11 +32,11 @@ digits_from (d ∷ digits) e =
     let parts = both _ _ e in
     (ltb-true _ _ parts.0, digits_from digits parts.1)
 
--- a text that is no number counts as 0
-no_number : {E : Type 0} (text : Text) (e : E) → ParsesUnsigned 64 10 text (Err e) → 0 ≡ number_in text
+-- a text that is no number tells none
+no_number : {E : Type 0} (text : Text) (e : E) → ParsesUnsigned 64 10 text (Err e) → None ≡ number_in text
 no_number text e h = go (is_number text) refl
   where
-    go : (b : Bool) → is_number text ≡ b → 0 ≡ number_in text
+    go : (b : Bool) → is_number text ≡ b → None ≡ number_in text
     go false t = rw t refl
     go true t =
         let outer = both _ _ t in
@@ -43,21 +45,45 @@ no_number text e h = go (is_number text) refl
 
 -- the number that `get_one` reads from a text
 reads : {E : Type 0} (gives : List ℕ → Result ℕ E → Type 0) (text : Text) (r : Option ℕ) → ((r : Result ℕ E) → gives text r → ParsesUnsigned 64 10 text r)
-    → ReadsOne gives text r → unwrap_or r 0 ≡ number_in text
+    → ReadsOne gives text r → r ≡ number_in text
 reads gives text (Some n) parses h =
     let digits = without_leading_plus text in
     let parsed = parses (Ok n) h in
-    rw (lt-ltb 0 (length digits) parsed.0.0.0, digits_pass digits parsed.0.0.1, lt-ltb (digits_value 10 digits) (2 ^ 64) parsed.0.1) parsed.1
+    rw (lt-ltb 0 (length digits) parsed.0.0.0, digits_pass digits parsed.0.0.1, lt-ltb (digits_value 10 digits) (2 ^ 64) parsed.0.1) (ap Some parsed.1)
 reads gives text None parses h = no_number text h.0 (parses (Err h.0) h.1)
 
 -- the number that `get_one` reads under a name
 pub number_read : {E : Type 0} (gives : List ℕ → Result ℕ E → Type 0) (f : Found) (name : Text) (r : Option ℕ) → ((text : Text) (r : Result ℕ E) → gives text r → ParsesUnsigned 64 10 text r)
-    → (one_text f name ≡ None → r ≡ None) → ((text : Text) → one_text f name ≡ Some text → ReadsOne gives text r) → unwrap_or r 0 ≡ number_under name (rows_of f)
-number_read gives f name r parses none value = go (one_text f name) refl ∙ ap (λ o. option_map_or number_in o 0) (one_text-rows f name)
+    → (one_text f name ≡ None → r ≡ None) → ((text : Text) → one_text f name ≡ Some text → ReadsOne gives text r) → r ≡ number_told name (rows_of f)
+number_read gives f name r parses none value = go (one_text f name) refl ∙ ap (option_and_then number_in) (one_text-rows f name)
   where
-    go : (o : Option Text) → one_text f name ≡ o → unwrap_or r 0 ≡ option_map_or number_in o 0
-    go None is = ap (λ x. unwrap_or x 0) (none is)
+    go : (o : Option Text) → one_text f name ≡ o → r ≡ option_and_then number_in o
+    go None is = none is
     go (Some text) is = reads gives text r (parses text) (value text is)
+
+-- a text that is not another one
+differs : (text other : Text) → ¬ (text ≡ other) → bytes_eq text other ≡ false
+differs text other h = go (bytes_eq text other) refl
+  where
+    go : (b : Bool) → bytes_eq text other ≡ b → b ≡ false
+    go false e = refl
+    go true e = absurd (h ((bytes_eq-Decides text other).0 e))
+
+-- the flag that `get_one` reads from a text
+flag_in : {E : Type 0} (gives : List ℕ → Result Bool E → Type 0) (text : Text) (r : Option Bool) → ((r : Result Bool E) → gives text r → ParsesBool text r)
+    → ReadsOne gives text r → unwrap_or r false ≡ bytes_eq text (codes "true")
+flag_in gives text (Some true) parses h = rw (parses (Ok true) h) refl
+flag_in gives text (Some false) parses h = rw (parses (Ok false) h) refl
+flag_in gives text None parses h = sym (differs text (codes "true") (parses (Err h.0) h.1).0)
+
+-- the flag that `get_one` reads under a name
+pub flag_read : {E : Type 0} (gives : List ℕ → Result Bool E → Type 0) (f : Found) (name : Text) (r : Option Bool) → ((text : Text) (r : Result Bool E) → gives text r → ParsesBool text r)
+    → (one_text f name ≡ None → r ≡ None) → ((text : Text) → one_text f name ≡ Some text → ReadsOne gives text r) → unwrap_or r false ≡ is_set name (rows_of f)
+flag_read gives f name r parses none value = go (one_text f name) refl ∙ ap (λ o. option_map_or (λ text. bytes_eq text (codes "true")) o false) (one_text-rows f name)
+  where
+    go : (o : Option Text) → one_text f name ≡ o → unwrap_or r false ≡ option_map_or (λ text. bytes_eq text (codes "true")) o false
+    go None is = ap (λ x. unwrap_or x false) (none is)
+    go (Some text) is = flag_in gives text r (parses text) (value text is)
 
 -- the options of `talk`, as what its rows tell
 pub told_some : (rows : List Row) (numbers : Numbers) (secs moment : ℕ) (words : List Text) → numbers ≡ numbers_told rows → secs ≡ number_under (codes "moment") rows
@@ -69,6 +95,17 @@ told_some rows numbers secs moment words all at made given =
 
 pub told_none : (rows : List Row) → None ≡ all_of (codes "tenant") rows → None ≡ told_by rows
 told_none rows h = ap (told_with (number_under (codes "moment") rows) rows) h
+
+-- the options of `serve`, as what its rows tell
+pub serve_told_some : (rows : List Row) (numbers : Numbers) (words : List Text) (port workers : ℕ) (work : WorkOptions) → numbers ≡ numbers_told rows → Some work ≡ work_told rows
+    → Some port ≡ port_told rows → Some workers ≡ workers_told rows → Some words ≡ all_of (codes "tenant") rows
+    → Some (record { numbers = numbers; tenants = words; port = port; workers = workers; work = work }) ≡ serve_told_by rows
+serve_told_some rows numbers words port workers work given each at many all = rw (given, ← each, ← at, ← many, ← all) refl
+
+-- without words they tell nothing
+pub serve_told_none : (rows : List Row) (port workers : ℕ) (work : WorkOptions) → Some work ≡ work_told rows → Some port ≡ port_told rows → Some workers ≡ workers_told rows
+    → None ≡ all_of (codes "tenant") rows → None ≡ serve_told_by rows
+serve_told_none rows port workers work each at many none = rw (← each, ← at, ← many, ← none) refl
 
 program_is_simple : is_simple program ≡ true
 program_is_simple = refl

@@ -1,7 +1,8 @@
-ghost use Rattle.std.specs.Prelude.{◌≡◌, ◌⊎◌, None, IfOk, IfSome, codes, false, map, option_map};
+ghost use Rattle.std.specs.Prelude.{◌≡◌, IfOk, IfSome, codes, false, map, option_map};
 ghost use Rattle.clap.specs.Walk.{rows_of, texts};
 ghost use Rattle.clap.specs.Words.{FailsBy, app_of, found_of, rule_of, subcommand_of, subcommand_rows_of};
-ghost use Rattle.tus_server.specs.CommandLine.{IsToldServe, IsToldWork, faults_in, flag_rule, moment_rule, number_under, numbers_told, option_between, option_rule, program, serve_command, serve_rows, talk_command, talk_told, tenant_rule, told_by, told_of, with_sizes};
+ghost use Rattle.tus_server.specs.CommandLine.{connections_told, faults_in, flag_rule, is_set, moment_rule, moment_set, number_told, number_under, numbers_told, option_between, option_rule, port_told, program, serve_command, serve_told, serve_told_by, served_of, talk_command, talk_told, tenant_rule, told_by, told_of, with_sizes, work_told, workers_told};
+ghost use Rattle.upload_book.specs.Settings.{is_outside};
 
 use crate::serve_options::{ServeOptions, WorkOptions};
 use clap::{Arg, ArgAction, ArgMatches, Command, value_parser};
@@ -260,41 +261,68 @@ fn numbers_of(talk: &ArgMatches) -> Numbers
 }
 
 /// The number of the option of this name; 0 where it has none, which its default rules out.
-fn number_of(talk: &ArgMatches, name: &str) -> u64
-    ensures { result ≡ number_under name.now (rows_of (found_of talk.now)) }
+fn number_of(command: &ArgMatches, name: &str) -> u64
+    ensures { result ≡ number_under name.now (rows_of (found_of command.now)) }
 {
-    talk.get_one::<u64>(name).unwrap_or(0)
+    number_given(command, name).unwrap_or(0)
 }
 
-/// What the command `serve` was asked for, where that is the command and its moment is not past the year 9999.
+/// The number of the option of this name, if it has one.
+fn number_given(command: &ArgMatches, name: &str) -> Option<u64>
+    ensures { result ≡ number_told name.now (rows_of (found_of command.now)) }
+{
+    command.get_one::<u64>(name)
+}
+
+/// Whether the flag of this name is set.
+fn is_set(command: &ArgMatches, name: &str) -> bool
+    ensures { result ≡ is_set name.now (rows_of (found_of command.now)) }
+{
+    command.get_one::<bool>(name).unwrap_or(false)
+}
+
+/// What the command `serve` was asked for, where that is the command, its moment is not past the year 9999, its
+/// port is one, and it is to have 1 to 16 workers.
 pub fn serve_options<'m, 'a>(matches: &'m ArgMatches<'a>) -> Option<ServeOptions<'m, 'a>>
-    ensures told { IfSome result (λ o. IfSome (serve_rows (subcommand_rows_of matches.now)) (IsToldServe o)) }
-    ensures other { serve_rows (subcommand_rows_of matches.now) ≡ None → result ≡ None }
+    ensures told { option_map served_of result ≡ serve_told (subcommand_rows_of matches.now) }
+    ensures workers { IfSome result (λ o. is_outside o.workers 16 ≡ false) }
 {
     options_of_serve(matches.subcommand_matches("serve")?)
 }
 
 /// What the arguments of the command `serve` tell.
 fn options_of_serve<'m, 'a>(serve: &'m ArgMatches<'a>) -> Option<ServeOptions<'m, 'a>>
-    ensures { IfSome result (λ o. IsToldServe o (rows_of (found_of serve.now))) }
+    ensures told { option_map served_of result ≡ serve_told_by (rows_of (found_of serve.now)) }
+    ensures workers { IfSome result (λ o. is_outside o.workers 16 ≡ false) }
 {
-    let numbers = numbers_of(serve);
     let work = work_of(serve)?;
     let port = port_of(serve)?;
-    let workers = number_of(serve, "workers") as usize;
-    let tenants = serve.get_strs("tenant")?;
+    let workers = workers_of(serve)?;
     Some(ServeOptions {
-        numbers,
-        tenants,
+        numbers: numbers_of(serve),
+        tenants: serve.get_strs("tenant")?,
         port,
         workers,
         work,
     })
 }
 
-/// The port that the option tells; None where it is none.
+/// How many workers the option tells; None where the number is not from 1 to 16.
+fn workers_of(serve: &ArgMatches) -> Option<usize>
+    ensures told { result ≡ workers_told (rows_of (found_of serve.now)) }
+    ensures some { IfSome result (λ workers. is_outside workers 16 ≡ false) }
+{
+    let workers = number_of(serve, "workers");
+    if workers == 0 || workers > 16 {
+        None
+    } else {
+        Some(workers as usize)
+    }
+}
+
+/// The port that the option tells; None where the number is none.
 fn port_of(serve: &ArgMatches) -> Option<u16>
-    ensures { IfSome result (λ port. port ≡ number_under (codes "port") (rows_of (found_of serve.now))) }
+    ensures { result ≡ port_told (rows_of (found_of serve.now)) }
 {
     let port = number_of(serve, "port");
     if port <= 65_535 {
@@ -306,24 +334,20 @@ fn port_of(serve: &ArgMatches) -> Option<u16>
 
 /// What the arguments tell each worker; None where the moment is past the year 9999.
 fn work_of(serve: &ArgMatches) -> Option<WorkOptions>
-    ensures { IfSome result (λ work. IsToldWork work (rows_of (found_of serve.now))) }
+    ensures { result ≡ work_told (rows_of (found_of serve.now)) }
 {
-    let moment = moment_of(serve)?;
-    let connections = connections_of(serve);
-    let idle = number_of(serve, "idle");
     Some(WorkOptions {
-        moment,
-        connections,
-        idle,
+        moment: moment_of(serve)?,
+        connections: connections_of(serve),
+        idle: number_of(serve, "idle"),
     })
 }
 
 /// How many connections a worker accepts: without a bound it is the greatest number.
 fn connections_of(serve: &ArgMatches) -> u64
-    ensures { (result ≡ 18446744073709551615)
-        ⊎ (result ≡ number_under (codes "connections") (rows_of (found_of serve.now))) }
+    ensures { result ≡ connections_told (rows_of (found_of serve.now)) }
 {
-    if serve.get_flag("forever") {
+    if is_set(serve, "forever") {
         u64::MAX
     } else {
         number_of(serve, "connections")
@@ -332,11 +356,10 @@ fn connections_of(serve: &ArgMatches) -> u64
 
 /// The moment that is set, if any; None where it is past the year 9999.
 fn moment_of(serve: &ArgMatches) -> Option<Option<Moment>>
-    ensures { IfSome result (λ set. IfSome set (λ m. m ≡ number_under (codes "moment") (rows_of (found_of serve.now)))) }
+    ensures { result ≡ moment_set (number_told (codes "moment") (rows_of (found_of serve.now))) }
 {
-    if serve.contains_id("moment") {
-        Some(Some(Moment::new(number_of(serve, "moment"))?))
-    } else {
-        Some(None)
+    match number_given(serve, "moment") {
+        Some(secs) => Some(Some(Moment::new(secs)?)),
+        None => Some(None),
     }
 }

@@ -20,8 +20,7 @@ mod tests;
 mod worker;
 
 use crate::fault::{TalkFault, tell};
-use crate::program::run;
-use crate::serve::serve_as_told;
+use crate::program::{run, run_server};
 use http_wire::Tapped;
 use std::env;
 use std::io::{Error, ErrorKind};
@@ -32,7 +31,7 @@ fn main(rt: HostRuntime) -> ExitCode {
     let mut writer = Tapped::new(rt.stdout());
     let mut errors = Tapped::new(rt.stderr());
     let status = match words(&rt) {
-        Ok(words) if asks_to_serve(words.as_slice()) => serve_as_told(
+        Ok(words) if asks_to_serve(words.as_slice()) => run_server(
             &rt,
             rt.alloc(),
             words.as_slice(),

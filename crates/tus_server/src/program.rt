@@ -3,17 +3,24 @@ ghost use Rattle.std.specs.Prelude.{◌≡◌, ◌≢◌, ◌⊎◌, ◌++◌, �
 ghost use Rattle.std.specs.Io.KnownBytes.{Appends, Consumes, Keeps};
 ghost use Rattle.clap.specs.Values.{kind_of};
 ghost use Rattle.clap.specs.declared.error.kind.ErrorKind.TheVariants.{DisplayHelp, DisplayVersion, OutOfMemory};
-ghost use Rattle.tus_server.specs.CommandLine.{AsksForHelp, Told, faults_in, told_in};
+ghost use Rattle.tus_server.specs.CommandLine.{AsksForHelp, Told, faults_in, serve_told_in, told_in};
 ghost use Rattle.tus_server.specs.Fault.{WritesOrFails, line_of};
-ghost use Rattle.tus_server.specs.Talk.{settings_in, Talks, BreaksTalk};
+ghost use Rattle.tus_server.specs.Lines.{PrintsLines};
+ghost use Rattle.tus_server.specs.Talk.{settings_in, settings_told, Talks, BreaksTalk};
 
 use crate::command_line::parsed;
 use crate::fault::{TalkFault, tell};
+use crate::serve::serve_as_told;
 use crate::talk::{REFUSED, talk_as_told};
 use clap::error::ErrorKind;
 use http_wire::{Sink, Source, put_all};
 use std::alloc::Global;
 use std::convert::AsStr;
+use std::io::Eprint;
+use std::net::{Net, TcpListener, TcpStream};
+use std::sync::Wait;
+use std::thread::Threads;
+use std::time;
 
 /// Does what the words of the command line tell, over these streams, and gives the exit status. The
 /// first word is the program's name.
@@ -90,6 +97,69 @@ pub fn run<S: AsStr, R: Source, W: Sink, E: Sink>(
     match parsed(alloc, words) {
         Ok(matches) => talk_as_told(alloc, &matches, reader, writer, errors),
         Err(error) => explain(alloc, &error, writer, errors),
+    }
+}
+
+/// Does what the words of the command line tell, where they may ask for `serve`, and gives the exit status. The
+/// first word is the program's name.
+///
+/// The status is that of [`serve`](crate::serve::serve) where the words are taken. Words that are not are answered
+/// on `errors`, with status 2, and help on `output`, with status 0. At 3 and 4 the line that names the fault is
+/// written to `errors`.
+pub fn run_server<
+    S: AsStr,
+    H: Threads
+        + Wait
+        + Net<Stream = TcpStream, Listener = TcpListener>
+        + time::Clock
+        + Eprint
+        + Sync,
+    W: Sink,
+    E: Sink,
+>(rt: &H, alloc: Global, words: &[S], output: &mut W, errors: &mut E) -> u8
+    requires output { W.has_failed output.old ≡ false }
+    requires errors { E.has_failed errors.old ≡ false }
+    ensures status { (result ≡ 0) ⊎ (result ≡ 2) ⊎ (result ≡ 3) ⊎ (result ≡ 4) }
+
+    // words that are not taken: status 2, unless they ask for help
+    ensures not_taken { faults_in (map S.text words.now) ≢ []
+        → (result ≡ 2) ⊎ (result ≡ 4) ⊎ AsksForHelp (map S.text words.now) }
+    ensures help { faults_in (map S.text words.now) ≡ DisplayHelp ∷ []
+        → (result ≡ 0) ⊎ (result ≡ 3) ⊎ (result ≡ 4) }
+
+    // words that are taken
+    ensures no_command { faults_in (map S.text words.now) ≡ []
+        → IfNone (serve_told_in (map S.text words.now)) ((result ≡ 2) ⊎ (result ≡ 4)) }
+    ensures refused { result ≡ 2 → faults_in (map S.text words.now) ≡ []
+        → IfSome (serve_told_in (map S.text words.now)) (λ told.
+        IsErr (settings_told told.numbers told.tenants)) }
+    ensures settings { faults_in (map S.text words.now) ≡ []
+        → IfSome (serve_told_in (map S.text words.now)) (λ told.
+        OnErr (settings_told told.numbers told.tenants) ((result ≡ 2) ⊎ (result ≡ 4))) }
+    ensures printed { result ≡ 0 → faults_in (map S.text words.now) ≡ []
+        → PrintsLines (W.contents output.old) (W.contents output.new) }
+
+    // streams that stay as they were
+    ensures untouched { (result ≡ 2) ⊎ (result ≡ 4) → output.new ≡ output.old }
+    ensures alive { result ≡ 0 → W.has_failed output.new ≡ false }
+    ensures quiet { result ≡ 0 → errors.new ≡ errors.old }
+
+    // the lines of the faults
+    ensures settings_line { result ≡ 2 → faults_in (map S.text words.now) ≡ []
+        → IfSome (serve_told_in (map S.text words.now)) (λ told.
+        IfErr (settings_told told.numbers told.tenants) (λ fault.
+        WritesOrFails (E.contents errors.old) (E.contents errors.new) (E.has_failed errors.new)
+        (line_of (TalkFault.Settings fault)))) }
+    ensures wire_line { result ≡ 3
+        → WritesOrFails (E.contents errors.old) (E.contents errors.new) (E.has_failed errors.new)
+        (line_of TalkFault.Wire) }
+    ensures memory_line { result ≡ 4
+        → WritesOrFails (E.contents errors.old) (E.contents errors.new) (E.has_failed errors.new)
+        (line_of TalkFault.Memory) }
+{
+    match parsed(alloc, words) {
+        Ok(matches) => serve_as_told(rt, alloc, &matches, output, errors),
+        Err(error) => explain(alloc, &error, output, errors),
     }
 }
 

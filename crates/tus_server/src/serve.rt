@@ -1,19 +1,22 @@
 //! The command `serve`, after its command line was read.
-ghost use Rattle.std.specs.Prelude.{◌≡◌, ◌⊎◌, false, OnErr, IsErr, IsErrOf, IfErr};
+ghost use Rattle.std.specs.Prelude.{◌≡◌, ◌⊎◌, false, None, OnOk, OnErr, Err, IsErr, IsErrOf, IfErr, IfSome};
 ghost use Rattle.clap.specs.Walk.{texts};
+ghost use Rattle.clap.specs.Words.{subcommand_rows_of};
+ghost use Rattle.upload_book.specs.Settings.{is_outside};
+ghost use Rattle.tus_server.specs.CommandLine.{serve_told};
 ghost use Rattle.tus_server.specs.Fault.{WritesOrFails, line_of};
+ghost use Rattle.tus_server.specs.Lines.{PrintsLines};
 ghost use Rattle.tus_server.specs.Talk.{settings_told};
 
-use crate::command_line::{parsed, serve_options};
+use crate::command_line::serve_options;
 use crate::fault::{TalkFault, tell};
-use crate::lines::{balance_line, listening_line};
-use crate::program::explain;
+use crate::lines::{put_balance, put_listening};
 use crate::serve_options::{ServeOptions, WorkOptions};
 use crate::talk::{REFUSED, settings_with};
 use crate::worker::Workers;
-use http_wire::{Sink, put_all};
+use clap::ArgMatches;
+use http_wire::Sink;
 use std::alloc::Global;
-use std::convert::AsStr;
 use std::io::Eprint;
 use std::marker::Brand;
 use std::net::{Net, TcpListener, TcpStream};
@@ -22,13 +25,11 @@ use std::sync::ledger::{Blank, Ledger};
 use std::thread::{Threads, for_each_mut};
 use std::time;
 use tus_shared::{Charges, Desk, Shared, settle};
-use upload_book::Settings;
+use upload_book::{Settings, SettingsFault};
 
-/// Does the command `serve` as the words of the command line tell it, the program's name first, and gives the exit
-/// status: that of [`serve`], or that of words that are not taken, which are answered as by
-/// [`run`](crate::program::run).
+/// Does the command `serve` as the command line told it, and gives the exit status: that of [`serve`] with these
+/// options, or [`REFUSED`] with both streams untouched where it told no such command.
 pub fn serve_as_told<
-    S: AsStr,
     H: Threads
         + Wait
         + Net<Stream = TcpStream, Listener = TcpListener>
@@ -37,17 +38,35 @@ pub fn serve_as_told<
         + Sync,
     W: Sink,
     E: Sink,
->(rt: &H, alloc: Global, words: &[S], output: &mut W, errors: &mut E) -> u8
+>(rt: &H, alloc: Global, matches: &ArgMatches, output: &mut W, errors: &mut E) -> u8
     requires output { W.has_failed output.old ≡ false }
     requires errors { E.has_failed errors.old ≡ false }
     ensures status { (result ≡ 0) ⊎ (result ≡ 2) ⊎ (result ≡ 3) ⊎ (result ≡ 4) }
+    ensures no_command { serve_told (subcommand_rows_of matches.now) ≡ None
+        → (result ≡ 2) × (output.new ≡ output.old) × (errors.new ≡ errors.old) }
+    ensures settings { IfSome (serve_told (subcommand_rows_of matches.now)) (λ told.
+        OnErr (settings_told told.numbers told.tenants) ((result ≡ 2) ⊎ (result ≡ 4))) }
+    ensures refused { result ≡ 2 → IfSome (serve_told (subcommand_rows_of matches.now)) (λ told.
+        IsErr (settings_told told.numbers told.tenants)) }
+    ensures untouched { (result ≡ 2) ⊎ (result ≡ 4) → output.new ≡ output.old }
+    ensures printed { result ≡ 0 → PrintsLines (W.contents output.old) (W.contents output.new) }
+    ensures alive { result ≡ 0 → W.has_failed output.new ≡ false }
+    ensures quiet { result ≡ 0 → errors.new ≡ errors.old }
+    ensures settings_line { result ≡ 2
+        → IfSome (serve_told (subcommand_rows_of matches.now)) (λ told.
+        IfErr (settings_told told.numbers told.tenants) (λ fault.
+        WritesOrFails (E.contents errors.old) (E.contents errors.new) (E.has_failed errors.new)
+        (line_of (TalkFault.Settings fault)))) }
+    ensures wire_line { result ≡ 3
+        → WritesOrFails (E.contents errors.old) (E.contents errors.new) (E.has_failed errors.new)
+        (line_of TalkFault.Wire) }
+    ensures memory_line { result ≡ 4
+        → WritesOrFails (E.contents errors.old) (E.contents errors.new) (E.has_failed errors.new)
+        (line_of TalkFault.Memory) }
 {
-    match parsed(alloc, words) {
-        Ok(matches) => match serve_options(&matches) {
-            Some(options) => serve(rt, alloc, &options, output, errors),
-            None => REFUSED,
-        },
-        Err(error) => explain(alloc, &error, output, errors),
+    match serve_options(matches) {
+        Some(options) => serve(rt, alloc, &options, output, errors),
+        None => REFUSED,
     }
 }
 
@@ -58,7 +77,7 @@ pub fn serve_as_told<
 /// The status is 0 where each worker served all of its connections, 2 where the settings have a fault, 3 where the
 /// port could not be had, where a line could not be printed or where an accept failed, and 4 where there was no
 /// memory for the book. At 2 and 4 nothing was printed. At 2, 3 and 4 a line that names the fault is written to
-/// `errors`, whose own faults are passed over.
+/// `errors`, whose own faults are passed over; at 0 `errors` is untouched.
 pub fn serve<
     H: Threads
         + Wait
@@ -69,10 +88,28 @@ pub fn serve<
     W: Sink,
     E: Sink,
 >(rt: &H, alloc: Global, options: &ServeOptions, output: &mut W, errors: &mut E) -> u8
+    requires workers { is_outside options.now.workers 16 ≡ false }
     requires output { W.has_failed output.old ≡ false }
     requires errors { E.has_failed errors.old ≡ false }
     ensures status { (result ≡ 0) ⊎ (result ≡ 2) ⊎ (result ≡ 3) ⊎ (result ≡ 4) }
-    ensures settings { OnErr (settings_told options.now.numbers (texts options.now.tenants.now)) ((result ≡ 2) ⊎ (result ≡ 4)) }
+    ensures settings { OnErr (settings_told options.now.numbers (texts options.now.tenants.now))
+        ((result ≡ 2) ⊎ (result ≡ 4)) }
+    ensures refused { result ≡ 2
+        → IsErr (settings_told options.now.numbers (texts options.now.tenants.now)) }
+    ensures untouched { (result ≡ 2) ⊎ (result ≡ 4) → output.new ≡ output.old }
+    ensures printed { result ≡ 0 → PrintsLines (W.contents output.old) (W.contents output.new) }
+    ensures alive { result ≡ 0 → W.has_failed output.new ≡ false }
+    ensures quiet { result ≡ 0 → errors.new ≡ errors.old }
+    ensures settings_line { result ≡ 2
+        → IfErr (settings_told options.now.numbers (texts options.now.tenants.now)) (λ fault.
+        WritesOrFails (E.contents errors.old) (E.contents errors.new) (E.has_failed errors.new)
+        (line_of (TalkFault.Settings fault))) }
+    ensures wire_line { result ≡ 3
+        → WritesOrFails (E.contents errors.old) (E.contents errors.new) (E.has_failed errors.new)
+        (line_of TalkFault.Wire) }
+    ensures memory_line { result ≡ 4
+        → WritesOrFails (E.contents errors.old) (E.contents errors.new) (E.has_failed errors.new)
+        (line_of TalkFault.Memory) }
 {
     match serve_told(rt, alloc, options, output) {
         Ok(()) => 0,
@@ -90,9 +127,17 @@ fn serve_told<
         + Sync,
     W: Sink,
 >(rt: &H, alloc: Global, options: &ServeOptions, output: &mut W) -> Result<(), TalkFault>
+    requires workers { is_outside options.now.workers 16 ≡ false }
     requires output { W.has_failed output.old ≡ false }
     ensures settings { IfErr (settings_told options.now.numbers (texts options.now.tenants.now))
         (λ fault. IsErrOf result (TalkFault.Settings fault) ⊎ IsErrOf result TalkFault.Memory) }
+    ensures refused { (fault : SettingsFault) → IsErrOf result (TalkFault.Settings fault)
+        → (settings_told options.now.numbers (texts options.now.tenants.now) ≡ Err fault)
+        × (output.new ≡ output.old) }
+    ensures memory { IsErrOf result TalkFault.Memory → output.new ≡ output.old }
+    ensures words { IsErrOf result TalkFault.Words → ⊥ }
+    ensures printed { OnOk result (PrintsLines (W.contents output.old) (W.contents output.new)) }
+    ensures alive { OnOk result (W.has_failed output.new ≡ false) }
 {
     let settings = settings_with(alloc, options.numbers, options.tenants)?;
     serve_with::<Brand, Brand, H, W>(
@@ -130,7 +175,12 @@ fn serve_with<
     requires desks { options.now.workers ≡ C.desks }
     requires charged { (charged.name ≡ C.name) × (charged.parts ≡ C.parts) × (C.parts ≡ 16) }
     requires released { (released.name ≡ R.name) × (released.parts ≡ R.parts) × (R.parts ≡ 16) }
+    requires workers { is_outside options.now.workers 16 ≡ false }
     requires output { W.has_failed output.old ≡ false }
+    ensures fault { IfErr result (λ fault. (fault ≡ TalkFault.Wire) ⊎ (fault ≡ TalkFault.Memory)) }
+    ensures memory { IsErrOf result TalkFault.Memory → output.new ≡ output.old }
+    ensures printed { OnOk result (PrintsLines (W.contents output.old) (W.contents output.new)) }
+    ensures alive { OnOk result (W.has_failed output.new ≡ false) }
 {
     let (shared, mut desks) = Shared::<C, R>::open(
         alloc,
@@ -145,7 +195,7 @@ fn serve_with<
     let Ok(address) = listener.local_addr() else {
         return Err(TalkFault::Wire);
     };
-    put_all(output, listening_line(address.port()).as_bytes())?;
+    put_listening(output, address.port())?;
     let is_whole = work_at(
         rt,
         alloc,
@@ -155,7 +205,7 @@ fn serve_with<
         options.work,
     );
     let (_, balance) = settle(shared, desks);
-    put_all(output, balance_line(balance).as_bytes())?;
+    put_balance(output, balance)?;
     if is_whole {
         Ok(())
     } else {
