@@ -3,6 +3,8 @@
 Arguments: the program, and a folder to work in, where one_byte_reads.so lies.
 """
 
+import base64
+import hashlib
 import os
 import random
 import statistics
@@ -23,6 +25,7 @@ SHIM = os.path.join(WORK, "one_byte_reads.so")
 COUNT = os.path.join(WORK, "reads")
 TALK = [PROGRAM, "talk", "--moment", "1000", "--max-size", str(UPLOAD_MAX), "acme:4096"]
 CAT = ["cat"]
+SHA1SUM = ["sha1sum"]
 
 
 # ---- kinds of input: each function gives the bytes of a conversation and the replies that it gets
@@ -35,13 +38,18 @@ def post(length):
     ).encode()
 
 
-def patch(upload, offset, body):
+def patch(upload, offset, body, field=""):
     head = (
         f"PATCH /files/acme/{upload} HTTP/1.1\r\nHost: x\r\nTus-Resumable: 1.0.0\r\n"
-        "Content-Type: application/offset+octet-stream\r\n"
+        f"Content-Type: application/offset+octet-stream\r\n{field}"
         f"Upload-Offset: {offset}\r\nContent-Length: {len(body)}\r\n\r\n"
     )
     return head.encode() + body
+
+
+def checksum(body):
+    """The field that tells the SHA-1 of these bytes."""
+    return f"Upload-Checksum: sha1 {base64.b64encode(hashlib.sha1(body).digest()).decode()}\r\n"
 
 
 def head(upload, padding):
@@ -51,8 +59,9 @@ def head(upload, padding):
     ).encode()
 
 
-def patches(total, piece, upload_size):
-    """`total` bytes in pieces, into uploads of `upload_size` bytes, as far as the messages reach."""
+def patches(total, piece, upload_size, field_of=lambda body: ""):
+    """`total` bytes in pieces, into uploads of `upload_size` bytes, as far as the messages reach. Each piece comes
+    with a field that is made of it, if any."""
     text, upload, sent, replies = [], 0, 0, {"201": 0, "204": 0}
     while sent < total:
         if sent % upload_size == 0:
@@ -61,7 +70,8 @@ def patches(total, piece, upload_size):
             replies["201"] += 1
         if len(text) == MESSAGES:
             break
-        text.append(patch(upload, sent % upload_size, os.urandom(piece)))
+        body = os.urandom(piece)
+        text.append(patch(upload, sent % upload_size, body, field_of(body)))
         sent += piece
         replies["204"] += 1
     return b"".join(text), replies
@@ -187,6 +197,22 @@ def measure(title, inputs, runs, shim=False):
         before = best
 
 
+def measure_checksums():
+    """PATCHes of 1 MiB with a checksum and without, beside `sha1sum` and `cat` of the same file."""
+    table(
+        f"16 PATCHes of 1 MiB, best of {RUNS} runs (and the median):",
+        "checksum", "`talk`, ms", "`cat`, ms", "`sha1sum`, ms", "`talk` without, and `sha1sum`, ms",
+    )
+    plain = None
+    for label, field_of in [("none", lambda body: ""), ("SHA-1", checksum)]:
+        text, replies = patches(16 * MIB, MIB, UPLOAD_MAX, field_of)
+        path = written(text, replies)
+        talk, cat = times(path, RUNS)
+        hashed = [run(SHA1SUM, path) for _ in range(RUNS)]
+        plain = plain or min(talk)
+        row(label, milliseconds(talk), milliseconds(cat), milliseconds(hashed), f"{(plain + min(hashed)) * 1000:.1f}")
+
+
 def rate(number):
     return f"{number:.0f}" if number >= 100 else f"{number:.1f}"
 
@@ -206,6 +232,7 @@ def main():
     print(f"An empty input, best of {RUNS} runs (and the median): `talk` {milliseconds(talk)} ms, `cat` {milliseconds(cat)} ms.")
     for piece in [4 * KIB, 64 * KIB, MIB]:
         measure(f"PATCHes of {size_name(piece)} into one upload", patch_rows(piece), RUNS)
+    measure_checksums()
     measure("PATCHes of 64 KiB into uploads of 1 MiB", [("16 MiB", lambda: patches(16 * MIB, 64 * KIB, MIB))], RUNS)
     small = [(f"{number} HEADs", lambda number=number: heads(number)) for number in [1023, 4095]]
     measure("Small HEADs after one POST", small, RUNS)

@@ -1,6 +1,10 @@
+#[cfg(test)]
+mod streams;
+
+use crate::machine_clock::MachineClock;
 use crate::program::run;
 use crate::talk::talk;
-use http_wire::Tapped;
+use http_wire::{Clock, Tapped};
 use std::alloc::Global;
 use std::io;
 use std::io::{ErrorKind, Read, Write};
@@ -8,7 +12,7 @@ use std::process::Abort;
 use std::test::Fail;
 use upload_book::{Moment, Numbers};
 
-const NUMBERS: Numbers = Numbers {
+pub(crate) const NUMBERS: Numbers = Numbers {
     blocks: 12,
     block_size: 4,
     lifetime: 3600,
@@ -248,5 +252,14 @@ fn a_mebibyte_is_stored_and_given_back(rt: HostRuntime) -> Result<(), Fail> {
     let (status, output) = served(alloc, &["tus-server", "talk", "acme:256"], input.as_slice())?;
     assert_eq!(rt; status, 0);
     assert!(rt; output.as_slice() == wanted.as_slice());
+    Ok(())
+}
+
+#[test]
+fn a_clock_that_is_not_set_tells_the_machines_time(rt: HostRuntime) -> Result<(), Fail> {
+    let mut clock = MachineClock::new(&rt, None);
+    let now = clock.moment().secs();
+    // between the end of 2025 and that of 2099
+    assert!(rt; (1_767_225_600..4_102_444_800).contains(&now), "{now}");
     Ok(())
 }

@@ -1,0 +1,11 @@
+use Rattle.tus_server.proofs.tests.streams.an_upload_goes_on_over_another_connection.Given as goal
+
+-- the ledgers of this opening
+abbrev pub ghosts-settle_after-C-Charges : goal.ghosts-settle_after-C-Charges
+ghosts-settle_after-C-Charges g a = record { settings = a.settings; desks = 1 }
+
+abbrev pub ghosts-settle_after-C-Ledger : goal.ghosts-settle_after-C-Ledger
+ghosts-settle_after-C-Ledger g a = record { name = a.charged.name; parts = a.charged.parts }
+
+abbrev pub ghosts-settle_after-R-Ledger : goal.ghosts-settle_after-R-Ledger
+ghosts-settle_after-R-Ledger g a = record { name = a.released.name; parts = a.released.parts }
