@@ -65,7 +65,7 @@ pub fn new_book(alloc: Global) -> Result<Book, Fail> {
 }
 
 /// A book of these numbers with no upload.
-fn book_with(alloc: Global, numbers: Numbers) -> Result<Book, Fail> {
+pub fn book_with(alloc: Global, numbers: Numbers) -> Result<Book, Fail> {
     let settings = Settings::new(numbers, &[(b"acme", 8), (b"beta", 4)])?;
     Ok(Book::new(alloc, settings)?)
 }
@@ -110,7 +110,7 @@ pub fn talk_of<'a>(
 }
 
 /// The conversation of some bytes with a new book of these numbers by the plain program.
-fn plain_talk(
+pub fn plain_talk(
     rt: &impl Abort,
     alloc: Global,
     numbers: Numbers,
