@@ -1,12 +1,10 @@
 -- Turns one after another, and what follows them.
 use Rattle.std.proofs.Common.{◌≡◌, ℕ, ◌+◌, ◌<◌, IfErr, Option, Some, None, Result, Err, length, take, drop, get_or, take-append-drop, Bool, true, false, true≢false, List, [], ◌∷◌, ◌++◌, refl, sym, ap, ◌∙◌, subst, subst₂, inl, inr, append-nil, append_assoc}
 use Rattle.std.proofs.lemmas.List.{drop_more}
-use Rattle.std.proofs.lemmas.List.Elements.{All-append, All-cons, All-nil}
-use Rattle.std.specs.List.{All}
 use Rattle.std.specs.Io.KnownBytes.{Appends, Consumes}
 use Rattle.tus_steps.specs.Request.{Request}
 use Rattle.tus_steps.specs.declared.reply.Reply.{Reply}
-use Rattle.http_wire.specs.Clock.{IsTimed, asked, unasked}
+use Rattle.http_wire.specs.Clock.{IsTimed, asked, unasked, Tells}
 use Rattle.http_wire.specs.Conversation.{Conversation, Course, Goes, continue_text}
 use Rattle.http_wire.specs.Exchange.{Exchange, first_part, last_part, followed}
 use Rattle.http_wire.specs.Front.{Front, message, IsFront}
@@ -19,9 +17,11 @@ use Rattle.http_wire.specs.declared.framing.Framing.{Framing}
 use Rattle.http_wire.specs.declared.fault.WireFault.TheVariants.{Read, Write, Memory, Failed}
 use Rattle.http_wire.proofs.FrontLemmas.{IsFront-followed}
 
--- one moment more that a clock may tell
-pub All-more : (tells : ℕ → Type 0) (moments : List ℕ) (now : ℕ) → All tells moments → tells now → All tells (moments ++ now ∷ [])
-All-more tells moments now before told = All-append tells moments (now ∷ []) before (All-cons tells now [] told (All-nil tells))
+-- one moment more that a clock told
+pub Tells-more : {C : Type 0} (tells : C → ℕ → C → Type 0) (before : C) (moments : List ℕ) (middle : C) (now : ℕ) (after : C) → Tells tells before moments middle → tells middle now after → Tells tells before (moments ++ now ∷ []) after
+Tells-more tells before [] middle now after told more = (after, subst (λ c. tells c now after) told more, refl)
+Tells-more tells before (first ∷ moments) middle now after told more =
+    (told.0, told.1, Tells-more tells told.0 moments middle now after told.2 more)
 
 -- the moments before one, that one, and those after it
 pub moments_split : (moments : List ℕ) (i d : ℕ) → i < length moments → take i moments ++ get_or moments i d ∷ drop (i + 1) moments ≡ moments
@@ -29,19 +29,19 @@ moments_split moments i d h =
     ap (λ l. take i moments ++ l) (sym (drop_more moments i d h)) ∙ take-append-drop i moments
 
 -- what holds at the moment that a clock which stands still told
-pub timed_at : (m : ℕ) {failed : Type 0} {holds : ℕ → Type 0} → IsTimed (λ now. now ≡ m) failed holds → holds m
-timed_at m {failed} {holds} (asked now told h) = subst holds told h
-timed_at m (unasked fails h) = h m
+pub timed_at : (m : ℕ) {after : ℕ} {failed : Type 0} {holds : ℕ → Type 0} → IsTimed (λ before now after. (now ≡ before) × (after ≡ before)) m after failed holds → holds m
+timed_at m {after} {failed} {holds} (asked now told h) = subst holds told.0 h
+timed_at m (unasked fails same h) = h m
 
 -- what holds at a moment that a clock told, where nothing failed before it was asked
-pub timed_asked : {tells : ℕ → Type 0} {failed : Type 0} {holds : ℕ → Type 0} → (failed → ⊥) → IsTimed tells failed holds → (now : ℕ) × tells now × holds now
+pub timed_asked : {C : Type 0} {tells : C → ℕ → C → Type 0} {before after : C} {failed : Type 0} {holds : ℕ → Type 0} → (failed → ⊥) → IsTimed tells before after failed holds → (now : ℕ) × tells before now after × holds now
 timed_asked well (asked now told h) = (now, told, h)
-timed_asked well (unasked fails h) = absurd (well fails)
+timed_asked well (unasked fails same h) = absurd (well fails)
 
--- what holds at some moment
-pub timed_once : {tells : ℕ → Type 0} {failed : Type 0} {holds : ℕ → Type 0} → IsTimed tells failed holds → (now : ℕ) × holds now
-timed_once (asked now told h) = (now, h)
-timed_once (unasked fails h) = (0, h 0)
+-- what follows from what holds at the moment
+pub timed_weaker : {C : Type 0} {tells : C → ℕ → C → Type 0} {before after : C} {failed also : Type 0} {holds more : ℕ → Type 0} → (failed → also) → ((now : ℕ) → holds now → more now) → IsTimed tells before after failed holds → IsTimed tells before after also more
+timed_weaker fails weaker (asked now told h) = asked now told (weaker now h)
+timed_weaker fails weaker (unasked why same h) = unasked (fails why) same (λ now. weaker now (h now))
 
 -- what holds of an error that was passed up
 pub IfErr-from : {T : Type 0} (P : WireFault → Type 0) (r : Result T WireFault) (e e2 : WireFault) → r ≡ Err e → e ≡ e2 → P e2 → IfErr r P

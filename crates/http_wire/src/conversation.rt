@@ -96,13 +96,12 @@ pub fn take_turn<R: Source, W: Sink, A: Answer, C: Clock>(
     requires reader { R.has_failed reader.old ≡ false }
     requires writer { W.has_failed writer.old ≡ false }
     requires max_size { max_size < 2 ^ 31 }
-    ensures turn { IsTimed (C.tells clock.old) (IsErr result) (λ now.
+    ensures turn { IsTimed C.tells clock.old clock.new (IsErr result) (λ now.
         (got text : List ℕ) × Consumes (R.remaining reader.old) (R.remaining reader.new) got
         × Appends (W.contents writer.old) (W.contents writer.new) text
         × TakesTurn A.steps max_size now
         (record { input = buffers.old.inbox.held ++ got; text = text; before = answerer.old; after = answerer.new })
         buffers.new.inbox.held result) }
-    ensures later { (now : ℕ) → C.tells clock.new now → C.tells clock.old now }
     ensures end { IfOk result (λ r. SeesEnd (R.remaining reader.old) buffers.old.inbox
         → EndsTurnAtEnd (R.remaining reader.new) buffers.new.inbox r) }
     ensures ends { IfOk result EndsByTurn }

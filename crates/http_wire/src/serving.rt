@@ -1,6 +1,6 @@
-ghost use Rattle.std.specs.Prelude.{◌≡◌, ◌≤◌, ◌++◌, ℕ, List, length, true, IfOk, IfErr};
+ghost use Rattle.std.specs.Prelude.{◌≡◌, ◌<◌, ◌∷◌, ◌++◌, [], ℕ, List, length, true, IfOk, IfErr, IsErr};
 ghost use Rattle.std.specs.Io.KnownBytes.{Appends, Consumes};
-ghost use Rattle.http_wire.specs.Clock.{AreTold};
+ghost use Rattle.http_wire.specs.Clock.{AreTold, IsTimed, Tells};
 ghost use Rattle.http_wire.specs.Lent.{Names};
 ghost use Rattle.http_wire.specs.Turns.{Breaks, Converses, IsReadWhen};
 
@@ -22,19 +22,19 @@ pub fn serve<R: Source + Drop, W: Sink + Drop, A: Answer, C: Clock>(
 ) -> Result<Ended, WireFault>
     requires { wire.old.reads ≡ true }
     ensures converses { IfOk result (λ e. (moments : List ℕ)
-        × AreTold (C.tells clock.old) most e moments × (got text : List ℕ)
+        × AreTold C.tells clock.old clock.new most e moments × (got text : List ℕ)
         × Consumes (R.remaining wire.old.reader) (R.remaining wire.new.reader) got
         × Appends (W.contents wire.old.writer) (W.contents wire.new.writer) text
         × Converses A.steps wire.old.max_size moments
         (record { input = wire.old.held ++ got; text = text; before = answerer.old; after = answerer.new }) e) }
     ensures read { IfOk result (λ e. IsReadWhen e (R.remaining wire.new.reader)) }
-    ensures breaks { IfErr result (λ f. (moments : List ℕ) × (length moments ≤ most)
-        × (got text : List ℕ)
+    ensures breaks { IfErr result (λ f. (moments : List ℕ) × (last : C)
+        × (length moments < most) × Tells C.tells clock.old moments last
+        × IsTimed C.tells last clock.new (IsErr result) (λ now. (got text : List ℕ)
         × Consumes (R.remaining wire.old.reader) (R.remaining wire.new.reader) got
         × Appends (W.contents wire.old.writer) (W.contents wire.new.writer) text
-        × Breaks A.steps wire.old.max_size moments
-        (record { input = wire.old.held ++ got; text = text; before = answerer.old; after = answerer.new }) f) }
-    ensures later { (now : ℕ) → C.tells clock.new now → C.tells clock.old now }
+        × Breaks A.steps wire.old.max_size (moments ++ now ∷ [])
+        (record { input = wire.old.held ++ got; text = text; before = answerer.old; after = answerer.new }) f)) }
     ensures reads { IfOk result (λ e. e ≡ Ended.Moments → wire.new.reads ≡ true) }
     ensures fault { IfErr result (Names (R.has_failed wire.new.reader) (W.has_failed wire.new.writer)) }
 {

@@ -140,10 +140,9 @@ impl<R: Source + Drop, W: Sink + Drop> Wire<R, W> {
         clock: &mut C,
     ) -> Result<Option<Ended>, WireFault>
         ensures turn { TurnOn (streams R.remaining R.has_failed W.contents W.has_failed) A.steps
-            (C.tells clock.old)
-            (record { wire = self.old; state = answerer.old })
-            (record { wire = self.new; state = answerer.new }) result }
-        ensures later { (now : ℕ) → C.tells clock.new now → C.tells clock.old now }
+            C.tells
+            (record { wire = self.old; state = answerer.old; clock = clock.old })
+            (record { wire = self.new; state = answerer.new; clock = clock.new }) result }
     {
         turn_on(
             &mut self.reader,
@@ -226,16 +225,17 @@ fn turn_on<R: Source, W: Sink, A: Answer, C: Clock>(
     ensures sound { IsSound (streams R.remaining R.has_failed W.contents W.has_failed)
         (wire_of reader.new writer.new buffers.new.inbox max_size state.new) }
     ensures turn { TurnOn (streams R.remaining R.has_failed W.contents W.has_failed) A.steps
-        (C.tells clock.old)
+        C.tells
         (record {
           wire = wire_of reader.old writer.old buffers.old.inbox max_size state.old;
           state = answerer.old;
+          clock = clock.old;
         })
         (record {
           wire = wire_of reader.new writer.new buffers.new.inbox max_size state.new;
           state = answerer.new;
+          clock = clock.new;
         }) result }
-    ensures later { (now : ℕ) → C.tells clock.new now → C.tells clock.old now }
 {
     match *state {
         State::Open => {

@@ -36,7 +36,7 @@ impl<'a, H: time::Clock> MachineClock<'a, H> {
 }
 
 impl<'a, H: time::Clock> Clock for MachineClock<'a, H> {
-    ghost tells = { λ clock now. IfSome clock.set (λ set. now ≡ set) };
+    ghost tells = { λ before now after. (after ≡ before) × IfSome before.set (λ set. now ≡ set) };
 
     fn moment(&mut self) -> Moment {
         match self.set {

@@ -1,7 +1,7 @@
 //! A connection's conversation at a desk.
-ghost use Rattle.std.specs.Prelude.{◌≡◌, ◌≤◌, ℕ, List, length, false, IfErr, IfOk, OnOk};
+ghost use Rattle.std.specs.Prelude.{◌≡◌, ◌<◌, ◌∷◌, ◌++◌, [], ℕ, List, length, false, IfErr, IfOk, IsErr};
 ghost use Rattle.std.specs.Io.KnownBytes.{Appends, Consumes};
-ghost use Rattle.http_wire.specs.Clock.{AreTold};
+ghost use Rattle.http_wire.specs.Clock.{AreTold, IsTimed, Tells};
 ghost use Rattle.http_wire.specs.Lent.{Names};
 ghost use Rattle.http_wire.specs.Turns.{Breaks, Converses, IsReadWhen};
 ghost use Rattle.tus_server.specs.DeskStep.{DeskStep};
@@ -24,7 +24,7 @@ pub struct Served<C: Charges, R: Ledger, I, O> {
 }
 
 /// Reads messages, lets the desk answer them and writes the replies, until the input ends, the connection
-/// closes or 4,096 messages were read. Each has the moment that the clock tells when it has come. What ended it
+/// closes or 4,096 messages were read. For each the clock is asked once, when it has come. What ended it
 /// may be `WireFault::Read` or `WireFault::Write`; the steps that were made before it stay.
 ///
 /// Each reply is the plain book's on some lawful book of the desk's settings, and the desk counts what the step
@@ -51,17 +51,18 @@ pub fn serve_stream<
     requires reader { I.has_failed reader ≡ false }
     requires writer { O.has_failed writer ≡ false }
     ensures converses { IfOk result.ended (λ e. (moments : List ℕ)
-        × AreTold (K.tells clock.old) 4096 e moments × (got text : List ℕ)
+        × AreTold K.tells clock.old clock.new 4096 e moments × (got text : List ℕ)
         × Consumes (I.remaining reader) (I.remaining result.reader) got
         × Appends (O.contents writer) (O.contents result.writer) text
         × Converses (DeskStep C.settings) C.settings.numbers.max_size moments
         (record { input = got; text = text; before = desk; after = result.desk }) e) }
-    ensures breaks { IfErr result.ended (λ f. (moments : List ℕ)
-        × (length moments ≤ 4096) × (got text : List ℕ)
+    ensures breaks { IfErr result.ended (λ f. (moments : List ℕ) × (last : K)
+        × (length moments < 4096) × Tells K.tells clock.old moments last
+        × IsTimed K.tells last clock.new (IsErr result.ended) (λ now. (got text : List ℕ)
         × Consumes (I.remaining reader) (I.remaining result.reader) got
         × Appends (O.contents writer) (O.contents result.writer) text
-        × Breaks (DeskStep C.settings) C.settings.numbers.max_size moments
-        (record { input = got; text = text; before = desk; after = result.desk }) f) }
+        × Breaks (DeskStep C.settings) C.settings.numbers.max_size (moments ++ now ∷ [])
+        (record { input = got; text = text; before = desk; after = result.desk }) f)) }
     ensures read { IfOk result.ended (λ e. IsReadWhen e (I.remaining result.reader)) }
     ensures fault { IfErr result.ended (Names (I.has_failed result.reader) (O.has_failed result.writer)) }
 {

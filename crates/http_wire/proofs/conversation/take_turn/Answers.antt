@@ -15,7 +15,7 @@ returns-in_err-front-clause-turn g c =
     let p = err_from_is_err_and c.from_residual.result c.from_residual.ensures.1 in
     let f = c.in_err-front.ensures.front in
     let x : Exchange _ = record { input = c.args.buffers.now.inbox.held ++ f.0; text = f.1; before = c.args.answerer.now; after = c.args.answerer.now } in
-    unasked (rw p.1 refl) (λ now. (
+    unasked (rw p.1 refl) refl (λ now. (
       f.0,
       f.1,
       f.2,
@@ -39,7 +39,7 @@ returns-in_err-reply_to-in-Message-clause-turn g c =
     let request = c.request_in-request.ensures ∙ ap (request_at parts) c.lent.ensures in
     let step = subst (λ r. g.A.Answer.steps b r now reply c.reply_to.new.answerer) request told.1 in
     let last = take part.0 (reply_text reply now parts.framing) in
-    asked now c.moment-now.ensures.now (
+    asked now c.moment-now.ensures (
       f.0,
       f.1 ++ last,
       f.2,
@@ -57,7 +57,7 @@ returns-in_err-write_refusal-in-Refused-clause-turn g c =
     let x : Exchange _ = record { input = c.args.buffers.now.inbox.held ++ f.0; text = f.1; before = c.args.answerer.now; after = c.args.answerer.now } in
     let part = c.in_err-write_refusal-in-Refused.ensures.part in
     let last = take part.0 (refusal_text c.in-Refused.refusal now c.in-Refused.framing) in
-    asked now c.moment-now.ensures.now (
+    asked now c.moment-now.ensures (
       f.0,
       f.1 ++ last,
       f.2,
@@ -79,7 +79,7 @@ returns-then-parts-clause-turn g c =
     let request = c.request_in-request.ensures ∙ ap (request_at parts) c.lent.ensures in
     let step = subst (λ r. g.A.Answer.steps b r now reply c.reply_to.new.answerer) request told.1 in
     let last = reply_text reply now parts.framing in
-    asked now c.moment-now.ensures.now (
+    asked now c.moment-now.ensures (
       f.0,
       f.1 ++ last,
       f.2,
@@ -100,7 +100,7 @@ returns-else-parts-clause-turn g c =
     let request = c.request_in-request.ensures ∙ ap (request_at parts) c.lent.ensures in
     let step = subst (λ r. g.A.Answer.steps b r now reply c.reply_to.new.answerer) request told.1 in
     let last = reply_text reply now parts.framing in
-    asked now c.moment-now.ensures.now (
+    asked now c.moment-now.ensures (
       f.0,
       f.1 ++ last,
       f.2,
@@ -115,7 +115,7 @@ returns-in_ok-write_refusal-in-Refused-clause-turn g c =
     let a = c.read_front.new.inbox in
     let x : Exchange _ = record { input = c.args.buffers.now.inbox.held ++ f.0; text = f.1; before = c.args.answerer.now; after = c.args.answerer.now } in
     let last = refusal_text c.in-Refused.refusal now c.in-Refused.framing in
-    asked now c.moment-now.ensures.now (
+    asked now c.moment-now.ensures (
       f.0,
       f.1 ++ last,
       f.2,
@@ -134,7 +134,7 @@ returns-in-Ended-clause-turn g c =
     let reply = c.answer.result in
     let request = c.request_in.ensures ∙ ap (request_at parts) c.lent-in-CutPatch.ensures in
     let step = subst (λ r. g.A.Answer.steps b r now reply c.answer.new.self) request c.answer.ensures in
-    asked c.moment-now.result c.moment-now.ensures.now (f.0, f.1, f.2, f.3, λ rest none. LastTurn-alone g.A.Answer.steps c.args.max_size now x rest ended.Cut (Served-cut_patch g.A.Answer.steps c.args.max_size now x a parts c.in-CutPatch.why reply f.4 step) none)
+    asked c.moment-now.result c.moment-now.ensures (f.0, f.1, f.2, f.3, λ rest none. LastTurn-alone g.A.Answer.steps c.args.max_size now x rest ended.Cut (Served-cut_patch g.A.Answer.steps c.args.max_size now x a parts c.in-CutPatch.why reply f.4 step) none)
 
 pub returns-in-Fault-clause-turn : goal.returns-in-Fault-clause-turn
 returns-in-Fault-clause-turn g c =
@@ -147,16 +147,16 @@ returns-in-Fault-clause-turn g c =
     let reply = c.answer.result in
     let request = c.request_in.ensures ∙ ap (request_at parts) c.lent-in-CutPatch.ensures in
     let step = subst (λ r. g.A.Answer.steps b r now reply c.answer.new.self) request c.answer.ensures in
-    asked c.moment-now.result c.moment-now.ensures.now (f.0, f.1, f.2, f.3, (ended.Cut, tt, Served-cut_patch g.A.Answer.steps c.args.max_size now x a parts c.in-CutPatch.why reply f.4 step))
+    asked c.moment-now.result c.moment-now.ensures (f.0, f.1, f.2, f.3, (ended.Cut, tt, Served-cut_patch g.A.Answer.steps c.args.max_size now x a parts c.in-CutPatch.why reply f.4 step))
 
 pub returns-in-CutOther-clause-turn : goal.returns-in-CutOther-clause-turn
 returns-in-CutOther-clause-turn g c =
     let f = rw c.in-CutOther.is at c.in_ok-front.ensures.front in
     let x : Exchange _ = record { input = c.args.buffers.now.inbox.held ++ f.0; text = f.1; before = c.args.answerer.now; after = c.args.answerer.now } in
-    asked c.moment-now.result c.moment-now.ensures.now (f.0, f.1, f.2, f.3, λ rest none. LastTurn-alone g.A.Answer.steps c.args.max_size c.moment-now.result x rest ended.Cut (Served-cut_other g.A.Answer.steps c.args.max_size c.moment-now.result x c.read_front.new.inbox f.4 refl) none)
+    asked c.moment-now.result c.moment-now.ensures (f.0, f.1, f.2, f.3, λ rest none. LastTurn-alone g.A.Answer.steps c.args.max_size c.moment-now.result x rest ended.Cut (Served-cut_other g.A.Answer.steps c.args.max_size c.moment-now.result x c.read_front.new.inbox f.4 refl) none)
 
 pub returns-in-End-clause-turn : goal.returns-in-End-clause-turn
 returns-in-End-clause-turn g c =
     let f = rw c.in-End.is at c.in_ok-front.ensures.front in
     let x : Exchange _ = record { input = c.args.buffers.now.inbox.held ++ f.0; text = f.1; before = c.args.answerer.now; after = c.args.answerer.now } in
-    asked c.moment-now.result c.moment-now.ensures.now (f.0, f.1, f.2, f.3, λ rest none. LastTurn-alone g.A.Answer.steps c.args.max_size c.moment-now.result x rest ended.Input (Served-end g.A.Answer.steps c.args.max_size c.moment-now.result x f.4 refl) none)
+    asked c.moment-now.result c.moment-now.ensures (f.0, f.1, f.2, f.3, λ rest none. LastTurn-alone g.A.Answer.steps c.args.max_size c.moment-now.result x rest ended.Input (Served-end g.A.Answer.steps c.args.max_size c.moment-now.result x f.4 refl) none)

@@ -1,11 +1,10 @@
 use Rattle.std.proofs.Common.{arith, ℕ, ◌+◌, ◌∷◌, ◌++◌, [], true≢false, Some, Ok, Err, refl, ◌∙◌, ap, subst, subst₂, sym, append-nil, append_assoc}
 use Rattle.std.proofs.lemmas.List.{length-append}
-use Rattle.std.proofs.lemmas.List.Elements.{All-nil}
 use Rattle.std.proofs.lemmas.Result.{err_from_is_err_and}
 use Rattle.http_wire.specs.Exchange.{Exchange}
 use Rattle.http_wire.specs.Turns.{Breaks, Converses, EndsByTurn, TakesTurn}
 use Rattle.http_wire.proofs.AheadLemmas.{Appends-none, Appends-more, Consumes-none, Consumes-more}
-use Rattle.http_wire.proofs.Talk.{Reached, next_from, Reached-more, Converses-last, Converses-all, Breaks-after, IfErr-from, All-more, timed_asked, timed_once}
+use Rattle.http_wire.proofs.Talk.{Reached, next_from, Reached-more, Converses-last, Converses-all, Breaks-after, IfErr-from, Tells-more, timed_asked, timed_weaker}
 use Rattle.http_wire.proofs.serving.serve.Goals as goal
 
 pub loop-taken-init : goal.loop-taken-init
@@ -16,11 +15,10 @@ loop-taken-init g c =
     record {
       reads = c.requires;
       size = refl;
-      later = λ now h. h;
       reached = (
         [],
         refl,
-        All-nil (g.C.Clock.tells c.args.clock.now),
+        refl,
         [],
         [],
         Consumes-none (g.R.Source.remaining c.args.wire.now.reader),
@@ -34,9 +32,7 @@ returns-in_err-turn-clause-breaks g c =
     let p = err_from_is_err_and c.from_residual.result c.from_residual.ensures.1 in
     let max = c.args.wire.now.max_size in
     let reached = c.loop-taken.invariant.reached in
-    let timed = timed_once (c.in_err-turn.ensures.turn.reading c.loop-taken.invariant.reads).turn in
-    let m = timed.0 in
-    let turn = timed.1 in
+    let timed = (c.in_err-turn.ensures.turn.reading c.loop-taken.invariant.reads).turn in
     let ms = reached.0 in
     let fault = c.in_err-turn.field-0.0 in
     let b1 = c.loop-taken.answerer in
@@ -44,21 +40,21 @@ returns-in_err-turn-clause-breaks g c =
     let start = c.args.wire.now.held in
     let held = c.loop-taken.wire.held in
     let x : Exchange _ = record { input = start ++ reached.3; text = reached.4; before = c.args.answerer.now; after = b1 } in
-    let last = subst (λ (k : ℕ). TakesTurn g.A.Answer.steps k m (next_from g.A.Answer.steps k x held turn.0 turn.1 b2) c.take_turn.new.self.held (Err fault)) c.loop-taken.invariant.size turn.4 in
-    let breaks = Breaks-after g.A.Answer.steps max ms [] m x held turn.0 turn.1 b2 fault reached.7 last in
-    let few = length-append ms (m ∷ []) in
     IfErr-from _ c.from_residual.result p.0 fault p.1 p.2 (
-      ms ++ m ∷ [],
-      omega (arith, few, reached.1, c.loop-taken-test.true),
-      reached.3 ++ turn.0,
-      reached.4 ++ turn.1,
-      Consumes-more _ _ _ reached.3 turn.0 reached.5 turn.2,
-      Appends-more _ _ _ reached.4 turn.1 reached.6 turn.3,
-      subst (λ i. Breaks g.A.Answer.steps max (ms ++ m ∷ []) (record x { input = i; text = reached.4 ++ turn.1; after = b2 }) fault) (append_assoc start reached.3 turn.0) breaks,
+      ms,
+      c.loop-taken.clock,
+      omega (arith, reached.1, c.loop-taken-test.true),
+      reached.2,
+      timed_weaker (λ _. rw p.1 refl) (λ m turn.
+          let last = subst (λ (k : ℕ). TakesTurn g.A.Answer.steps k m (next_from g.A.Answer.steps k x held turn.0 turn.1 b2) c.take_turn.new.self.held (Err fault)) c.loop-taken.invariant.size turn.4 in
+          let breaks = Breaks-after g.A.Answer.steps max ms [] m x held turn.0 turn.1 b2 fault reached.7 last in (
+            reached.3 ++ turn.0,
+            reached.4 ++ turn.1,
+            Consumes-more _ _ _ reached.3 turn.0 reached.5 turn.2,
+            Appends-more _ _ _ reached.4 turn.1 reached.6 turn.3,
+            subst (λ i. Breaks g.A.Answer.steps max (ms ++ m ∷ []) (record x { input = i; text = reached.4 ++ turn.1; after = b2 }) fault) (append_assoc start reached.3 turn.0) breaks,
+          )) timed,
     )
-
-pub returns-in_err-turn-clause-later : goal.returns-in_err-turn-clause-later
-returns-in_err-turn-clause-later g c now h = c.loop-taken.invariant.later now (c.take_turn.ensures.later now h)
 
 pub returns-in_err-turn-clause-fault : goal.returns-in_err-turn-clause-fault
 returns-in_err-turn-clause-fault g c =
@@ -85,7 +81,7 @@ returns-in-Some-clause-converses g c =
     let ends = rw c.in-Some.is at on.ends in (
       ms ++ m ∷ [],
       record {
-        told = All-more (g.C.Clock.tells c.args.clock.now) ms m reached.2 (c.loop-taken.invariant.later m timed.1);
+        told = Tells-more g.C.Clock.tells c.args.clock.now ms c.loop-taken.clock m c.take_turn.new.clock reached.2 timed.1;
         few = omega (arith, few, reached.1, c.loop-taken-test.true);
         all = λ is. absurd (subst (λ e. EndsByTurn (Some e)) is ends);
       },
@@ -99,9 +95,6 @@ returns-in-Some-clause-converses g c =
 pub returns-in-Some-clause-read : goal.returns-in-Some-clause-read
 returns-in-Some-clause-read g c =
     rw c.in-Some.is at (c.in_ok-turn.ensures.turn.reading c.loop-taken.invariant.reads).end
-
-pub returns-in-Some-clause-later : goal.returns-in-Some-clause-later
-returns-in-Some-clause-later g c now h = c.loop-taken.invariant.later now (c.take_turn.ensures.later now h)
 
 pub returns-in-Some-clause-reads : goal.returns-in-Some-clause-reads
 returns-in-Some-clause-reads g c is =
@@ -128,11 +121,10 @@ loop-taken-preserved g c =
     record {
       reads = rw c.in_default.is at on.reads;
       size = on.size ∙ c.loop-taken.invariant.size;
-      later = λ now h. c.loop-taken.invariant.later now (c.take_turn.ensures.later now h);
       reached = (
         ms ++ m ∷ [],
         length-append ms (m ∷ []) ∙ ap (λ n. n + 1) reached.1,
-        All-more (g.C.Clock.tells c.args.clock.now) ms m reached.2 (c.loop-taken.invariant.later m timed.1),
+        Tells-more g.C.Clock.tells c.args.clock.now ms c.loop-taken.clock m c.take_turn.new.clock reached.2 timed.1,
         reached.3 ++ turn.0,
         reached.4 ++ turn.1,
         Consumes-more _ _ _ reached.3 turn.0 reached.5 turn.2,
@@ -160,9 +152,6 @@ returns-clause-converses g c =
       reached.6,
       Converses-all g.A.Answer.steps max reached.0 x held reached.7,
     )
-
-pub returns-clause-later : goal.returns-clause-later
-returns-clause-later g c = c.loop-taken.invariant.later
 
 pub returns-clause-reads : goal.returns-clause-reads
 returns-clause-reads g c _ = c.loop-taken.invariant.reads

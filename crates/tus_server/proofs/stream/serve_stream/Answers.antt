@@ -1,8 +1,9 @@
-use Rattle.std.proofs.Common.{sym, subst, subst₂}
+use Rattle.std.proofs.Common.{◌∷◌, ◌++◌, [], sym, subst, subst₂}
 use Rattle.std.proofs.lemmas.Result.{IfErr-weaker, IfOk-weaker}
 use Rattle.std.specs.Io.KnownBytes.{Appends, Consumes}
 use Rattle.http_wire.specs.Turns.{Breaks, Converses}
 use Rattle.http_wire.proofs.Carried.{Breaks-carried, Converses-carried}
+use Rattle.http_wire.proofs.Talk.{timed_weaker}
 use Rattle.tus_server.specs.DeskStep.{DeskStep}
 use Rattle.tus_server.proofs.stream.serve_stream.Goals as goal
 
@@ -32,8 +33,12 @@ returns-clause-breaks g c =
       h.1,
       h.2,
       h.3,
-      subst (λ r. Consumes (g.I.Source.remaining c.args.reader) (g.I.Source.remaining r) h.2) (sym parts.reader) (rw c.over-wire.ensures at h.4),
-      subst (λ w. Appends (g.O.Sink.contents c.args.writer) (g.O.Sink.contents w) h.3) (sym parts.writer) (rw c.over-wire.ensures at h.5),
-      subst₂ (λ before after. Breaks steps max h.0 (record { input = h.2; text = h.3; before = before; after = after }) f) c.new-answerer.ensures (sym c.into_desk.ensures)
-          (Breaks-carried (λ a. a.desk) _ steps (λ a r now reply b step. step) max h.0 _ f (rw (c.over-wire.ensures, c.max_size.ensures.value) at h.6)),
+      timed_weaker (λ failed. failed) (λ now turn. (
+        turn.0,
+        turn.1,
+        subst (λ r. Consumes (g.I.Source.remaining c.args.reader) (g.I.Source.remaining r) turn.0) (sym parts.reader) (rw c.over-wire.ensures at turn.2),
+        subst (λ w. Appends (g.O.Sink.contents c.args.writer) (g.O.Sink.contents w) turn.1) (sym parts.writer) (rw c.over-wire.ensures at turn.3),
+        subst₂ (λ before after. Breaks steps max (h.0 ++ now ∷ []) (record { input = turn.0; text = turn.1; before = before; after = after }) f) c.new-answerer.ensures (sym c.into_desk.ensures)
+            (Breaks-carried (λ a. a.desk) _ steps (λ a r now reply b step. step) max (h.0 ++ now ∷ []) _ f (rw (c.over-wire.ensures, c.max_size.ensures.value) at turn.4)),
+      )) h.4,
     )) c.serve-ended.ensures.breaks
