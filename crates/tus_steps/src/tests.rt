@@ -79,17 +79,18 @@ fn refused<'a>(refusal: Refusal) -> Told<'a> {
     }
 }
 
+const NUMBERS: Numbers = Numbers {
+    blocks: 12,
+    block_size: 4,
+    lifetime: 3600,
+    max_size: 64,
+    uploads: 64,
+    last_id: u64::MAX - 1,
+    last_total: u64::MAX,
+};
+
 fn book(alloc: Global) -> Result<Book, Fail> {
-    let numbers = Numbers {
-        blocks: 12,
-        block_size: 4,
-        lifetime: 3600,
-        max_size: 64,
-        uploads: 64,
-        last_id: u64::MAX - 1,
-        last_total: u64::MAX,
-    };
-    let settings = Settings::new(numbers, &[(b"acme", 8), (b"beta", 4)])?;
+    let settings = Settings::new(NUMBERS, &[(b"acme", 8), (b"beta", 4)])?;
     Ok(Book::new(alloc, settings)?)
 }
 

@@ -42,6 +42,42 @@ fn a_run_answers_in_order(rt: HostRuntime) -> Result<(), Fail> {
     Ok(())
 }
 
+/// `rt try --test --fail-alloc N -- lacking_memory_runs_nothing` refuses the Nth allocation: those of the book, and then
+/// that of the room for replies, which leaves the book as it was.
+#[test]
+fn lacking_memory_runs_nothing(rt: HostRuntime) -> Result<(), Fail> {
+    let one_upload = Numbers {
+        uploads: 1,
+        ..NUMBERS
+    };
+    let settings = Settings::new(one_upload, &[(b"acme", 8)])?;
+    let Ok(mut book) = Book::new(rt.alloc(), settings) else {
+        return Ok(());
+    };
+    let now = at(1000)?;
+    let none = run(rt.alloc(), &mut book, &[])?;
+    assert!(rt; none.is_empty());
+    let turns = [
+        (creation(b"10"), now),
+        (request(Method::Head, b"/files/acme/1"), now),
+    ];
+    let mut told = run(rt.alloc(), &mut book, &turns);
+    if let Err(RunFault::Memory) = told {
+        told = run(rt.alloc(), &mut book, &turns);
+    }
+    let expected = [
+        created(1, Some(4600)),
+        Told::Head {
+            offset: 0,
+            length: Some(10),
+            metadata: b"",
+            concat: b"",
+        },
+    ];
+    assert!(rt; tell(told?.as_slice(), &expected));
+    Ok(())
+}
+
 #[test]
 fn a_full_tenant_leaves_room_for_its_neighbour(rt: HostRuntime) -> Result<(), Fail> {
     let mut book = book(rt.alloc())?;
