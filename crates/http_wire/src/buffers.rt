@@ -18,11 +18,12 @@ pub struct Buffers {
 }
 
 impl Buffers {
-    /// Buffers that hold nothing. The error is that memory is lacking.
+    /// Buffers that hold nothing, with memory for 65,536 bytes of messages. The error is that memory is lacking.
     pub fn new(alloc: Global) -> Result<Self, AllocError>
         ensures held { IfOk result (λ b. b.inbox.held ≡ []) }
         ensures ended { IfOk result (λ b. b.inbox.ended ≡ false) }
         ensures page { IfOk result (λ b. b.page ≡ []) }
+        ensures room { IfOk result (λ b. b.inbox.room ≡ 65536) }
     {
         let inbox = Inbox::new(alloc)?;
         let page = Page::new(alloc)?;

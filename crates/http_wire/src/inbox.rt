@@ -1,4 +1,4 @@
-ghost use Rattle.std.specs.Prelude.{◌≡◌, ◌+◌, ◌^◌, ◌<◌, ◌≤◌, ◌++◌, [], true, false, length, take, drop, IfOk, OnOk, OnErr, IfErr, is_err, slice_range, vec_len, vec_capacity};
+ghost use Rattle.std.specs.Prelude.{◌≡◌, ◌⊎◌, ◌+◌, ◌^◌, ◌<◌, ◌≤◌, ◌++◌, [], true, false, length, take, drop, IfOk, OnOk, OnErr, IfErr, is_err, slice_range, vec_len, vec_capacity};
 ghost use Rattle.std.specs.Io.KnownBytes.{Consumes, Keeps, IsAtEnd};
 ghost use Rattle.http_wire.specs.Ahead.{Ahead, Grew};
 
@@ -253,6 +253,7 @@ fn widen(buffer: &mut Vec<u8>, end: usize, needed: usize, room: usize)
     ensures bytes { take end buffer.new.items ≡ take end buffer.old.items }
     ensures read { end + READ_SIZE ≤ vec_len buffer.new }
     ensures len { vec_len buffer.new ≤ room }
+    ensures few { (vec_len buffer.new ≡ vec_len buffer.old) ⊎ (vec_len buffer.new ≤ end + needed) }
     ensures room { room ≤ vec_capacity buffer.new }
 {
     if buffer.len() < end + READ_SIZE {
