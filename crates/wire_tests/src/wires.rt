@@ -1,14 +1,16 @@
-ghost use Rattle.std.specs.Prelude.{◌≡◌, true, IfOk};
+ghost use Rattle.std.specs.Prelude.{◌≡◌, ⊤, true, IfOk};
 
-use crate::conversations::{CHUNKED, CREATED, FIRST_UPLOAD, POST, REPLIES};
+use crate::conversations::{CHUNKED, CREATED, FIRST_UPLOAD, HEAD, POST, REPLIES};
 use crate::memory::{Input, Output};
 use crate::spoken::{Expected, assert_spoken, at, joined, known_talk, new_book};
-use http_wire::{Ended, Framing, Incoming, Tapped, Wire, WireFault, WireRefusal, serve};
+use http_wire::{
+    Buffers, Clock, Ended, Framing, Incoming, Tapped, Wire, WireFault, WireRefusal, serve,
+};
 use std::alloc::Global;
 use std::process::Abort;
 use std::test::Fail;
 use tus_steps::answer;
-use upload_book::Book;
+use upload_book::{Book, Moment};
 
 /// A wire over a reader and a writer in memory.
 type MemoryWire<'a> = Wire<Tapped<Input<'a>>, Tapped<Output>>;
@@ -94,6 +96,84 @@ fn turns_on_a_wire(rt: HostRuntime) -> Result<(), Fail> {
         Ok(Some(Ended::Input)),
     );
     assert_written(&rt, wire, &written);
+    Ok(())
+}
+
+/// A clock that is an hour later each time it is asked, from this hour after second 1000 on.
+#[derive(Drop)]
+struct Hours {
+    next: u64,
+}
+
+impl Clock for Hours {
+    ghost tells = { λ before now after. ⊤ };
+
+    fn moment(&mut self) -> Moment {
+        let hour = self.next.min(1_000_000);
+        self.next = hour + 1;
+        at(1000 + hour * 3600)
+    }
+}
+
+const EXPIRED: &[u8] = b"HTTP/1.1 410 Gone\r\nDate: Thu, 01 Jan 1970 01:16:40 GMT\r\n\
+Tus-Resumable: 1.0.0\r\nCache-Control: no-store\r\n\r\n";
+
+#[test]
+fn an_upload_expires_while_its_connection_stays_open(rt: HostRuntime) -> Result<(), Fail> {
+    let alloc = rt.alloc();
+    let all = joined(alloc, &[POST, HEAD])?;
+    let written = joined(alloc, &[CREATED, EXPIRED])?;
+    let mut book = new_book(alloc)?;
+    let mut wire = new_wire(alloc, Input::new(&all, usize::MAX), Output::new(alloc))?;
+    let served = serve(&mut wire, &mut book, &mut Hours { next: 0 }, 3);
+    assert_eq!(rt; served, Ok(Ended::Input));
+    assert_written(&rt, wire, &written);
+    Ok(())
+}
+
+const POST_WHOLE: &[u8] = b"POST /files/acme HTTP/1.1\r\nHost: x\r\nTus-Resumable: 1.0.0\r\n\
+Upload-Length: 5\r\nContent-Type: application/offset+octet-stream\r\nContent-Length: 5\r\n\r\nhello";
+
+const GET: &[u8] = b"GET /files/acme/1 HTTP/1.1\r\nHost: x\r\n\r\n";
+
+/// One read gives both messages, and the next one the end; each reply leaves in one write, with the content of a GET.
+#[test]
+fn one_write_a_reply(rt: HostRuntime) -> Result<(), Fail> {
+    let alloc = rt.alloc();
+    let all = joined(alloc, &[POST_WHOLE, GET])?;
+    let mut input = Input::new(&all, usize::MAX);
+    input.reads = 2;
+    let mut output = Output::new(alloc);
+    output.writes = 2;
+    let mut book = new_book(alloc)?;
+    let mut wire = new_wire(alloc, input, output)?;
+    let served = serve(&mut wire, &mut book, &mut at(1000), 3);
+    assert_eq!(rt; served, Ok(Ended::Input));
+    let (_, writer, _) = wire.into_parts();
+    assert!(rt; writer.inner.written.as_slice().ends_with(b"\r\n\r\nhello"));
+    Ok(())
+}
+
+const LARGE_HEAD: &[u8] =
+    b"PATCH /files/acme/1 HTTP/1.1\r\nHost: x\r\nContent-Length: 60000\r\n\r\n";
+
+/// The buffers have memory for a message and one more read after it, and keep it for the next connection.
+#[test]
+fn room_of_buffers(rt: HostRuntime) -> Result<(), Fail> {
+    let alloc = rt.alloc();
+    let mut large = Vec::from_slice(alloc, LARGE_HEAD)?;
+    large.resize(LARGE_HEAD.len().saturating_add(60_000), 0)?;
+    let mut room = 65_536;
+    let mut buffers = Buffers::new(alloc)?;
+    for sent in [POST, large.as_slice(), POST] {
+        assert_eq!(rt; buffers.room(), room);
+        let reader = Tapped::new(Input::new(sent, usize::MAX));
+        let mut wire = Wire::over(buffers, reader, Tapped::new(Output::new(alloc)), 60_000);
+        assert!(rt; matches!(wire.read_request()?, Incoming::Message(_)));
+        (_, _, buffers) = wire.into_parts();
+        room = room.max(sent.len().saturating_add(16_384));
+    }
+    assert_eq!(rt; buffers.room(), room);
     Ok(())
 }
 
