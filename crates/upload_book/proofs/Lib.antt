@@ -47,3 +47,10 @@ pub mod CreateSteps
 pub mod HoldersLemmas
 pub mod StoreJoin
 pub mod SweepSteps
+pub mod HeadParts
+pub mod HeadsNew
+pub mod HeadsCreate
+pub mod HeadsConcat
+pub mod HeadsAppend
+pub mod HeadsFewer
+pub mod HeadsLemmas

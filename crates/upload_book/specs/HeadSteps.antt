@@ -1,6 +1,5 @@
 -- Which lines may follow on heads: those of the steps of a lawful book.
 use Rattle.std.specs.Prelude.{◌≡◌, ℕ, ◌+◌, ◌≤◌, List, [], ◌∷◌, length, ◌⊎◌, Some, All, IfSome, ⊤}
-use Rattle.upload_book.specs.declared.board_line.Accounts.{Accounts}
 use Rattle.upload_book.specs.declared.board_line.BoardLine.{BoardLine}
 use Rattle.upload_book.specs.declared.board_line.HeadChange.{HeadChange}
 use Rattle.upload_book.specs.declared.board_line.HeadChange.TheVariants.{Put, Gone, Swept}

@@ -1,5 +1,5 @@
 -- Laws above the steps.
-use Rattle.std.specs.Prelude.{◌≡◌, ℕ, ◌+◌, ◌-◌, Bool, true, List, [], ◌∷◌, ◌++◌, length, codes, IsOk, Some, None, Result, Ok, Err}
+use Rattle.std.specs.Prelude.{◌≡◌, ℕ, ◌+◌, ◌-◌, Bool, true, List, [], ◌∷◌, ◌++◌, length, codes, IsOk, IfSome, IfNone, Some, None, Result, Ok, Err}
 use Rattle.upload_book.specs.Chunk.{Chunk}
 use Rattle.upload_book.specs.FirstChunk.{FirstChunk}
 use Rattle.upload_book.specs.NewUpload.{NewUpload}
@@ -7,14 +7,20 @@ use Rattle.upload_book.specs.declared.head_row.HeadRow.{HeadRow}
 use Rattle.upload_book.specs.declared.settings.Numbers.{Numbers}
 use Rattle.upload_book.specs.declared.account.Account.{Account}
 use Rattle.upload_book.specs.Account.{account_in, account_with, blocks_added}
+use Rattle.upload_book.specs.declared.board_line.BoardLine.{BoardLine}
+use Rattle.upload_book.specs.declared.change.Change.{Change}
 use Rattle.upload_book.specs.Append.{append_tests, append_answer, append_refusal, appended_row, appended_upload, part_after_append, upload_with}
 use Rattle.upload_book.specs.Charge.{charge_in}
+use Rattle.upload_book.specs.Change.{CanBeMade, book_after_change, line_of}
 use Rattle.upload_book.specs.Concat.{concat_tests}
 use Rattle.upload_book.specs.Content.{content_tests}
 use Rattle.upload_book.specs.Create.{creation_tests}
-use Rattle.upload_book.specs.Lawful.{IsTenantOf}
+use Rattle.upload_book.specs.Heads.{apply_line, heads_of}
+use Rattle.upload_book.specs.HeadSteps.{MayFollow}
+use Rattle.upload_book.specs.Lawful.{IsLawful, IsTenantOf}
 use Rattle.upload_book.specs.Look.{row_of}
 use Rattle.upload_book.specs.Order.{order, stand_in}
+use Rattle.upload_book.specs.PlainBook.{PlainBook}
 use Rattle.upload_book.specs.Refusal.{words_of}
 use Rattle.upload_book.specs.TenantBook.{TenantBook, kept_in, with_changed}
 use Rattle.upload_book.specs.declared.refusal.Refusal.{Refusal}
@@ -81,3 +87,16 @@ ResumedPatch =
     IsOk (append_answer id (first_part chunk first) now charged n part)
     × (append_answer id (later_part chunk first later) now more n middle ≡ append_answer id chunk now charged n part)
     × (part_after_append id (later_part chunk first later) now more n middle ≡ part_after_append id chunk now charged n part)
+
+-- The line leads from one book to another: it may follow on the heads of the first, and after it they are those of the
+-- second.
+pub record LeadsTo (before : PlainBook) (line : BoardLine) (after : PlainBook) : Type 0 where
+  pub may : MayFollow (heads_of before) line
+  pub heads : heads_of after ≡ apply_line (heads_of before) line
+
+-- The line of a change leads from a lawful book to the book after the change. A change without a line leaves the book.
+abbrev pub HeadsFollow : Type 0
+HeadsFollow =
+    (b : PlainBook) (change : Change) (now : ℕ) → IsLawful b → CanBeMade (length b.tenants) change
+    → IfSome (line_of b change now) (λ line. LeadsTo b line (book_after_change b change now))
+    × IfNone (line_of b change now) (book_after_change b change now ≡ b)

@@ -30,3 +30,4 @@ pub mod Terminate
 pub mod Sweep
 pub mod Heads
 pub mod HeadSteps
+pub mod Change

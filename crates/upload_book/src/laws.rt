@@ -1,5 +1,5 @@
 //! Laws of the definitions that the contracts cite: each is the contract of a function that does nothing.
-ghost use Rattle.upload_book.specs.Laws.{AccountsFollow, FollowOrder, ResumedPatch, RowsFollow};
+ghost use Rattle.upload_book.specs.Laws.{AccountsFollow, FollowOrder, HeadsFollow, ResumedPatch, RowsFollow};
 
 /// The tests that decide on a creation, on a concatenation, on a PATCH and on a GET follow the one order of
 /// refusals.
@@ -23,4 +23,10 @@ pub fn rows_follow()
 /// bytes there are: so the account follows a PATCH without the bytes.
 pub fn accounts_follow()
     ensures { AccountsFollow }
+{}
+
+/// The heads of a lawful book follow each change by its line alone, which may follow on them: after the line they are
+/// the heads of the book after the change. A change that is refused has no line.
+pub fn heads_follow()
+    ensures { HeadsFollow }
 {}

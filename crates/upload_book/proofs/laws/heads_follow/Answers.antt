@@ -1,0 +1,5 @@
+use Rattle.upload_book.proofs.HeadsLemmas.{heads_follow}
+use Rattle.upload_book.proofs.laws.heads_follow.Goals as goal
+
+pub returns : goal.returns
+returns c = heads_follow

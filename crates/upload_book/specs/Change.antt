@@ -1,0 +1,112 @@
+-- The changes of the book as one: what each answers, the book after it, which may lack memory, and the line by which
+-- it changes the heads of the book.
+use Rattle.std.specs.Prelude.{ℕ, ◌<◌, ◌≤◌, length, Option, Some, None, option_map, Result, Ok, Err, IsOk, IsTrue, ⊤}
+use Rattle.upload_book.specs.declared.append.Appended.{Appended}
+use Rattle.upload_book.specs.declared.append.Refused.{Refused}
+use Rattle.upload_book.specs.declared.board_line.BoardLine.{BoardLine}
+use Rattle.upload_book.specs.declared.board_line.HeadChange.{HeadChange}
+use Rattle.upload_book.specs.declared.board_line.HeadChange.TheVariants.{Put, Gone, Swept}
+use Rattle.upload_book.specs.declared.change.Change.{Change}
+use Rattle.upload_book.specs.declared.change.Change.TheVariants.{Create, Append, Concat, Terminate, Sweep}
+use Rattle.upload_book.specs.declared.change.Outcome.{Outcome}
+use Rattle.upload_book.specs.declared.change.Outcome.TheVariants as outcome
+use Rattle.upload_book.specs.declared.create.Created.{Created}
+use Rattle.upload_book.specs.declared.head_row.Kind.TheVariants.{Final}
+use Rattle.upload_book.specs.declared.head_row.Name.{Name}
+use Rattle.upload_book.specs.declared.refusal.Refusal.{Refusal}
+use Rattle.upload_book.specs.declared.refusal.Refusal.TheVariants.{Memory}
+use Rattle.upload_book.specs.declared.terminate.Removed.{Removed}
+use Rattle.upload_book.specs.Account.{blocks_added}
+use Rattle.upload_book.specs.Append.{append_answer, append_lacking, appended, part_after_append}
+use Rattle.upload_book.specs.Concat.{concat_answer, final_upload, part_after_concat, parts_found}
+use Rattle.upload_book.specs.Create.{create_answer, created_upload, new_kind, part_after_create}
+use Rattle.upload_book.specs.Heads.{accounts_of}
+use Rattle.upload_book.specs.Lawful.{IsConcatText, is_kept_metadata}
+use Rattle.upload_book.specs.PlainBook.{PlainBook, answer_of, book_after, tenant_book}
+use Rattle.upload_book.specs.Sweep.{book_after_sweep, sweep_answer}
+use Rattle.upload_book.specs.Terminate.{part_after_terminate, terminate_answer}
+use Rattle.upload_book.specs.Upload.{Upload, head_row_of}
+
+-- the book of so many tenants may be asked for it: a creation is of one of its tenants, with texts of their forms, and
+-- so is a concatenation, which is of 1 to 32 parts
+abbrev pub CanBeMade : ℕ → Change → Type 0
+CanBeMade tenants (Create tenant new first) =
+    (tenant < tenants) × IsTrue (is_kept_metadata new.metadata) × IsConcatText (new_kind new.partial) new.concat
+CanBeMade tenants (Append name chunk) = ⊤
+CanBeMade tenants (Concat tenant new) =
+    (tenant < tenants) × (0 < length new.parts) × (length new.parts ≤ 32) × IsTrue (is_kept_metadata new.metadata) × IsConcatText Final new.concat
+CanBeMade tenants (Terminate name) = ⊤
+CanBeMade tenants Sweep = ⊤
+
+-- what a call gives, as what a change gives; a refusal tells of no end
+abbrev pub outcome_in : {A : Type 0} → (A → Outcome) → Result A Refusal → Result Outcome Refused
+outcome_in outcome (Ok given) = Ok (outcome given)
+outcome_in outcome (Err refusal) = Err (record { refusal = refusal; expires = None })
+
+-- the same of a PATCH, whose refusal tells when its upload expires
+abbrev pub appended_in : Result Appended Refused → Result Outcome Refused
+appended_in (Ok given) = Ok (outcome.Appended given)
+appended_in (Err refused) = Err refused
+
+-- the answer to a change at a moment
+abbrev pub change_answer : PlainBook → Change → ℕ → Result Outcome Refused
+change_answer b (Create tenant new first) now =
+    outcome_in outcome.Created (answer_of b tenant (create_answer tenant new first now b.charged))
+change_answer b (Append name chunk) now = appended_in (answer_of b name.tenant (append_answer name.id chunk now b.charged))
+change_answer b (Concat tenant new) now = outcome_in outcome.Created (answer_of b tenant (concat_answer tenant new now))
+change_answer b (Terminate name) now = outcome_in outcome.Removed (answer_of b name.tenant (terminate_answer name.id now))
+change_answer b Sweep now = Ok (outcome.Swept (sweep_answer b now))
+
+-- the answer where memory lacks for it
+abbrev pub change_lacking : PlainBook → Change → ℕ → Result Outcome Refused
+change_lacking b (Append name chunk) now = appended_in (answer_of b name.tenant (append_lacking name.id now))
+change_lacking b _ now = Err (record { refusal = Memory; expires = None })
+
+-- The change may lack memory: it is a PATCH or a creation whose bytes take a block, or a concatenation, and is not
+-- refused.
+abbrev pub MayLackFor : PlainBook → Change → ℕ → Type 0
+MayLackFor b (Create tenant new first) now =
+    IsOk (answer_of b tenant (create_answer tenant new first now b.charged)) × (0 < blocks_added b.settings.numbers 0 (length first.bytes))
+MayLackFor b (Append name chunk) now =
+    IsOk (answer_of b name.tenant (append_answer name.id chunk now b.charged)) × (0 < blocks_added b.settings.numbers chunk.offset (length chunk.bytes))
+MayLackFor b (Concat tenant new) now = IsOk (answer_of b tenant (concat_answer tenant new now))
+MayLackFor b (Terminate name) now = ⊥
+MayLackFor b Sweep now = ⊥
+
+-- the book after a change; one that is refused leaves it as it was
+abbrev pub book_after_change : PlainBook → Change → ℕ → PlainBook
+book_after_change b (Create tenant new first) now = book_after b tenant (part_after_create new first now b.charged)
+book_after_change b (Append name chunk) now = book_after b name.tenant (part_after_append name.id chunk now b.charged)
+book_after_change b (Concat tenant new) now = book_after b tenant (part_after_concat new now)
+book_after_change b (Terminate name) now = book_after b name.tenant (part_after_terminate name.id now)
+book_after_change b Sweep now = book_after_sweep b now
+
+-- the upload that was created is put among the heads, where one was
+abbrev pub put_created : Upload → Result Created Refusal → Option HeadChange
+put_created u (Ok created) = Some (Put created.name (head_row_of u))
+put_created u (Err refusal) = None
+
+-- so is the upload to which bytes were added
+abbrev pub put_appended : Name → Result Upload Refused → Option HeadChange
+put_appended name (Ok u) = Some (Put name (head_row_of u))
+put_appended name (Err refused) = None
+
+-- the upload that ended is gone
+abbrev pub gone_removed : Name → Result Removed Refusal → Option HeadChange
+gone_removed name (Ok removed) = Some (Gone name)
+gone_removed name (Err refusal) = None
+
+-- what a change at a moment changes of the heads, where it is not refused
+abbrev pub head_change : PlainBook → Change → ℕ → Option HeadChange
+head_change b (Create tenant new first) now =
+    put_created (created_upload b.settings.numbers new first.bytes now) (answer_of b tenant (create_answer tenant new first now b.charged))
+head_change b (Append name chunk) now = put_appended name (answer_of b name.tenant (appended name.id chunk now b.charged))
+head_change b (Concat tenant new) now =
+    put_created (final_upload (parts_found (tenant_book b tenant) now new.parts) new) (answer_of b tenant (concat_answer tenant new now))
+head_change b (Terminate name) now = gone_removed name (answer_of b name.tenant (terminate_answer name.id now))
+head_change b Sweep now = Some (Swept now)
+
+-- the line of a change at a moment, where it is not refused: what it changes of the heads, and the accounts after it
+abbrev pub line_of : PlainBook → Change → ℕ → Option BoardLine
+line_of b change now =
+    option_map (λ (head : HeadChange). record { change = head; accounts = accounts_of (book_after_change b change now) }) (head_change b change now)
