@@ -174,3 +174,10 @@ plain-concats b s t new now f =
     let part : TenantBook = tenant_book (plain_of b) t in
     plain-follows b s t (with_new part (final_upload (parts_found part now new.parts) new)) b.charged b.released f.follows (concats-totals b s t new now f)
     ∙ ap (with_tenant_book (plain_of b) t) (sym (part_after_concat-none b.settings.numbers part new now f.none))
+
+-- so are the parts of a concatenation for which the book is ready
+pub SeesParts-ready : (b : StoredBook) (t : ℕ) (new : NewFinal) (now : ℕ) → IsBook b → t < length b.settings.tenants
+    → let rows = rows_at b.store t new.parts now in
+    SeesParts b t t b.settings.numbers new.parts new now (record { there = are_there new.parts rows; complete = are_complete rows; len = min (joined_len rows) 18446744073709551615 })
+SeesParts-ready b t new now kept within =
+    SeesParts-read b b t t b.settings.numbers new.parts new now _ kept refl within refl refl refl refl refl refl

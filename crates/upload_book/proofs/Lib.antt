@@ -54,3 +54,5 @@ pub mod HeadsConcat
 pub mod HeadsAppend
 pub mod HeadsFewer
 pub mod HeadsLemmas
+pub mod StoreReserve
+pub mod ReadyLemmas

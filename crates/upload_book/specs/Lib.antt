@@ -31,3 +31,4 @@ pub mod Sweep
 pub mod Heads
 pub mod HeadSteps
 pub mod Change
+pub mod Ready

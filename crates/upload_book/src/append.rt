@@ -1,15 +1,17 @@
-ghost use Rattle.std.specs.Prelude.{◌≡◌, ◌<◌, [], OnOk, OnErr, length};
+ghost use Rattle.std.specs.Prelude.{◌≡◌, ◌<◌, [], Ok, Err, IfOk, IfErr, OnOk, OnErr, length};
 ghost use Rattle.upload_book.specs.Append.{append_answer, append_lacking, part_after_append};
 ghost use Rattle.upload_book.specs.Book.{plain_of};
 ghost use Rattle.upload_book.specs.Operation.{MayLackMemory};
 ghost use Rattle.upload_book.specs.declared.operation.Operation.TheVariants as operation;
 ghost use Rattle.upload_book.specs.PlainBook.{answer_of, book_after};
+ghost use Rattle.upload_book.specs.Ready.{IsReadyForChunk};
 ghost use Rattle.upload_book.specs.Store.{IsVisibleIn};
 ghost use Rattle.upload_book.specs.Refusal.{IsAnswer};
 
 use crate::book::Book;
 use crate::head_row::Name;
 use crate::moment::Moment;
+use crate::ready::ReadyChunk;
 use crate::refusal::Refusal;
 use crate::standing::append_refusal;
 use std::marker::Model;
@@ -85,8 +87,33 @@ impl Book {
         ensures empty { chunk.entry.bytes ≡ [] → self.new.store.pool ≡ self.old.store.pool }
         ensures refused { OnErr result (self.new ≡ self.old) }
     {
-        match self.store.place(name, now) {
-            Ok(place) => self.append_at(name, place, &chunk, now),
+        let ready = self.ready_for_chunk(*name, chunk, now)?;
+        Ok(self.put_chunk(ready))
+    }
+
+    // Finds the upload to which a PATCH adds its bytes and makes room for them, or finds why it is refused. The book
+    // still stands for the same plain book.
+    pub(crate) fn ready_for_chunk<'a>(
+        &mut self,
+        name: Name,
+        chunk: Chunk<'a>,
+        now: Moment,
+    ) -> Result<ReadyChunk<'a>, Refused>
+        ensures name { IfOk result (λ r. r.name ≡ name) }
+        ensures chunk { IfOk result (λ r. r.chunk ≡ chunk.entry) }
+        ensures now { IfOk result (λ r. r.now ≡ now) }
+        ensures ready { IfOk result (IsReadyForChunk self.new) }
+        ensures refused { IfErr result (λ why. IsAnswer
+            (answer_of (plain_of self.old) name.tenant
+            (append_answer name.id chunk.entry now (plain_of self.old).charged))
+            (MayLackMemory (plain_of self.old) (operation.Append name chunk.entry) now)
+            (answer_of (plain_of self.old) name.tenant (append_lacking name.id now)) (Err why)) }
+        ensures plain { plain_of self.new ≡ plain_of self.old }
+        ensures pool { self.new.store.pool ≡ self.old.store.pool }
+        ensures unchanged { OnErr result (self.new ≡ self.old) }
+    {
+        match self.store.place(&name, now) {
+            Ok(place) => self.ready_at(name, place, chunk, now),
             Err(refusal) => Err(Refused {
                 refusal,
                 expires: None,
@@ -94,62 +121,88 @@ impl Book {
         }
     }
 
-    // Adds the bytes of a PATCH at the end of the upload that it sees, which stands at this place.
-    fn append_at(
+    // Makes room for the bytes of a PATCH of the upload that it sees, which stands at this place.
+    fn ready_at<'a>(
         &mut self,
-        name: &Name,
+        name: Name,
         place: usize,
-        chunk: &Chunk,
+        chunk: Chunk<'a>,
         now: Moment,
-    ) -> Result<Appended, Refused>
-        requires tenant { name.now.tenant < length self.old.settings.tenants }
-        requires visible { IsVisibleIn self.old.store name.now.tenant name.now.id now place }
-        ensures answer { IsAnswer
-            (answer_of (plain_of self.old) name.now.tenant
-            (append_answer name.now.id chunk.now now (plain_of self.old).charged))
-            (MayLackMemory (plain_of self.old) (operation.Append name.now chunk.now) now)
-            (answer_of (plain_of self.old) name.now.tenant (append_lacking name.now.id now)) result }
-        ensures accepted { OnOk result (plain_of self.new ≡ book_after (plain_of self.old)
-            name.now.tenant
-            (part_after_append name.now.id chunk.now now (plain_of self.old).charged)) }
-        ensures empty { chunk.now.bytes ≡ [] → self.new.store.pool ≡ self.old.store.pool }
-        ensures refused { OnErr result (self.new ≡ self.old) }
+    ) -> Result<ReadyChunk<'a>, Refused>
+        requires tenant { name.tenant < length self.old.settings.tenants }
+        requires visible { IsVisibleIn self.old.store name.tenant name.id now place }
+        ensures name { IfOk result (λ r. r.name ≡ name) }
+        ensures chunk { IfOk result (λ r. r.chunk ≡ chunk.entry) }
+        ensures now { IfOk result (λ r. r.now ≡ now) }
+        ensures ready { IfOk result (IsReadyForChunk self.new) }
+        ensures refused { IfErr result (λ why. IsAnswer
+            (answer_of (plain_of self.old) name.tenant
+            (append_answer name.id chunk.entry now (plain_of self.old).charged))
+            (MayLackMemory (plain_of self.old) (operation.Append name chunk.entry) now)
+            (answer_of (plain_of self.old) name.tenant (append_lacking name.id now)) (Err why)) }
+        ensures plain { plain_of self.new ≡ plain_of self.old }
+        ensures pool { self.new.store.pool ≡ self.old.store.pool }
+        ensures unchanged { OnErr result (self.new ≡ self.old) }
     {
-        let bytes = chunk.bytes;
         let account = self.account(name.tenant);
         let tenant = usize::from(name.tenant);
         let standing = self.store.standing(tenant, place);
         let numbers = self.settings.numbers();
-        if let Some(refusal) = append_refusal(numbers, &account, &standing, chunk) {
+        if let Some(refusal) = append_refusal(numbers, &account, &standing, &chunk) {
             return Err(Refused {
                 refusal,
                 expires: standing.expires,
             });
         }
-        let after = standing.with(numbers, chunk, now);
+        let after = standing.with(numbers, &chunk, now);
+        let more = chunk.bytes.len() as u64;
+        if more > 0 && self.store.reserve(tenant, place, more).is_err() {
+            return Err(Refused {
+                refusal: Refusal::Memory,
+                expires: standing.expires,
+            });
+        }
+        Ok(ReadyChunk {
+            name,
+            chunk,
+            now,
+            place,
+            after,
+        })
+    }
+
+    // Adds the bytes of a PATCH.
+    pub(crate) fn put_chunk(&mut self, ready: ReadyChunk) -> Appended
+        requires { IsReadyForChunk self.old ready }
+        ensures answer { answer_of (plain_of self.old) ready.entry.name.tenant
+            (append_answer ready.entry.name.id ready.entry.chunk ready.entry.now (plain_of self.old).charged) ≡ Ok result }
+        ensures after { plain_of self.new ≡ book_after (plain_of self.old) ready.entry.name.tenant
+            (part_after_append ready.entry.name.id ready.entry.chunk ready.entry.now (plain_of self.old).charged) }
+        ensures empty { ready.entry.chunk.bytes ≡ [] → self.new.store.pool ≡ self.old.store.pool }
+    {
+        let ReadyChunk {
+            name,
+            chunk,
+            place,
+            after,
+            ..
+        } = ready;
+        let bytes = chunk.bytes;
+        let tenant = usize::from(name.tenant);
+        let appended = Appended {
+            offset: after.offset,
+            expires: after.expires,
+        };
         if bytes.is_empty() {
             self.store
                 .renew(tenant, place, after.declared, after.expires);
-            return Ok(Appended {
-                offset: after.offset,
-                expires: after.expires,
-            });
+            return appended;
         }
-        match self
+        // the numbers tell that what may be charged in all is a number
+        let _ = self.settings.numbers();
+        self.charged += self
             .store
-            .append(tenant, place, bytes, after.declared, after.expires)
-        {
-            Ok(taken) => {
-                self.charged += taken;
-                Ok(Appended {
-                    offset: after.offset,
-                    expires: after.expires,
-                })
-            }
-            Err(_) => Err(Refused {
-                refusal: Refusal::Memory,
-                expires: standing.expires,
-            }),
-        }
+            .put(tenant, place, bytes, after.declared, after.expires);
+        appended
     }
 }

@@ -1,4 +1,4 @@
-ghost use Rattle.std.specs.Prelude.{◌≡◌, ◌<◌, ◌≤◌, Err, OnOk, OnErr, length, IsTrue};
+ghost use Rattle.std.specs.Prelude.{◌≡◌, ◌<◌, ◌≤◌, Ok, Err, IfOk, IfErr, OnOk, OnErr, length, IsTrue};
 ghost use Rattle.upload_book.specs.Book.{plain_of};
 ghost use Rattle.upload_book.specs.Concat.{concat_answer, concat_tests, part_after_concat};
 ghost use Rattle.upload_book.specs.declared.head_row.Kind.TheVariants.{Final};
@@ -6,6 +6,7 @@ ghost use Rattle.upload_book.specs.Lawful.{IsConcatText, is_kept_metadata};
 ghost use Rattle.upload_book.specs.Operation.{MayLackMemory};
 ghost use Rattle.upload_book.specs.declared.operation.Operation.TheVariants as operation;
 ghost use Rattle.upload_book.specs.PlainBook.{answer_of, book_after};
+ghost use Rattle.upload_book.specs.Ready.{IsReadyForFinal};
 ghost use Rattle.upload_book.specs.Refusal.{IsAnswer, first_that_holds};
 ghost use Rattle.upload_book.specs.Store.{part_at, Joins};
 
@@ -14,6 +15,7 @@ use crate::create::Created;
 use crate::head_row::Name;
 use crate::moment::Moment;
 use crate::parts_seen::PartsSeen;
+use crate::ready::ReadyFinal;
 use crate::refusal::Refusal;
 use crate::settings::Numbers;
 use crate::store::Store;
@@ -69,19 +71,69 @@ impl Book {
         ensures shared { OnOk result (Joins self.old.store self.new.store tenant new.entry now) }
         ensures refused { OnErr result (self.new ≡ self.old) }
     {
+        let ready = self.ready_for_final(tenant, new, now)?;
+        Ok(self.put_final(ready))
+    }
+
+    // Lists the pieces of the parts of a concatenation, or finds why it is refused. It changes nothing.
+    pub(crate) fn ready_for_final<'a>(
+        &self,
+        tenant: u8,
+        new: NewFinal<'a>,
+        now: Moment,
+    ) -> Result<ReadyFinal<'a>, Refusal>
+        requires tenant_there { tenant < length (plain_of self.now).settings.tenants }
+        requires some { 0 < length new.parts }
+        requires few { length new.parts ≤ 32 }
+        requires metadata { IsTrue (is_kept_metadata new.metadata) }
+        requires concat { IsConcatText Final new.concat }
+        ensures tenant { IfOk result (λ r. r.tenant ≡ tenant) }
+        ensures new { IfOk result (λ r. r.new ≡ new.entry) }
+        ensures now { IfOk result (λ r. r.now ≡ now) }
+        ensures ready { IfOk result (IsReadyForFinal self.now) }
+        ensures refused { IfErr result (λ why. IsAnswer
+            (answer_of (plain_of self.now) tenant (concat_answer tenant new.entry now))
+            (MayLackMemory (plain_of self.now) (operation.Concat tenant new.entry) now)
+            (Err Refusal.Memory) (Err why)) }
+    {
         let numbers = self.settings.numbers();
         let place = usize::from(tenant);
         let seen = self.store.parts_seen(place, new.parts, now);
         if let Some(refusal) = concat_refusal(numbers, &self.store, place, &seen) {
             return Err(refusal);
         }
-        let id = self.store.next(place);
-        match self.store.join(self.alloc, place, &new, seen.len, now) {
-            Ok(()) => Ok(Created {
-                name: Name { tenant, id },
-                expires: None,
+        let Ok(unheld) = self.store.list_parts(self.alloc, place, new.parts, now) else {
+            return Err(Refusal::Memory);
+        };
+        match Vec::with_capacity(self.alloc, unheld.len()) {
+            Ok(pieces) => Ok(ReadyFinal {
+                tenant,
+                new,
+                now,
+                len: seen.len,
+                unheld,
+                pieces,
             }),
             Err(_) => Err(Refusal::Memory),
+        }
+    }
+
+    // Joins an upload of others.
+    pub(crate) fn put_final(&mut self, ready: ReadyFinal) -> Created
+        requires { IsReadyForFinal self.old ready }
+        ensures answer { answer_of (plain_of self.old) ready.entry.tenant
+            (concat_answer ready.entry.tenant ready.entry.new ready.entry.now) ≡ Ok result }
+        ensures after { plain_of self.new
+            ≡ book_after (plain_of self.old) ready.entry.tenant (part_after_concat ready.entry.new ready.entry.now) }
+        ensures shared { Joins self.old.store self.new.store ready.entry.tenant ready.entry.new ready.entry.now }
+    {
+        let tenant = ready.tenant;
+        let place = usize::from(tenant);
+        let id = self.store.next(place);
+        self.store.join(place, ready);
+        Created {
+            name: Name { tenant, id },
+            expires: None,
         }
     }
 }

@@ -1,4 +1,4 @@
-ghost use Rattle.std.specs.Prelude.{◌≡◌, ◌<◌, ◌≤◌, ◌^◌, Err, length, IsTrue, OnOk, OnErr};
+ghost use Rattle.std.specs.Prelude.{◌≡◌, ◌<◌, ◌≤◌, ◌^◌, Ok, Err, length, IfOk, IfErr, IsTrue, OnOk, OnErr};
 ghost use Rattle.upload_book.specs.Book.{plain_of};
 ghost use Rattle.upload_book.specs.Create.{new_kind, creation_refusal, create_answer, create_empty_answer, first_end, part_after_create, part_after_create_empty};
 ghost use Rattle.upload_book.specs.declared.operation.Operation.TheVariants as operation;
@@ -6,6 +6,7 @@ ghost use Rattle.upload_book.specs.declared.refusal.Refusal.TheVariants.{Memory}
 ghost use Rattle.upload_book.specs.Lawful.{IsConcatText, is_kept_metadata};
 ghost use Rattle.upload_book.specs.Operation.{MayLackMemory};
 ghost use Rattle.upload_book.specs.PlainBook.{answer_of, book_after};
+ghost use Rattle.upload_book.specs.Ready.{IsReadyForUpload};
 ghost use Rattle.upload_book.specs.Refusal.{IsAnswer};
 ghost use Rattle.upload_book.specs.Store.{part_at};
 
@@ -15,6 +16,7 @@ use crate::checksum::{is_mismatch, is_of_other_algorithm};
 use crate::expiry::{lifetime_end, renewed};
 use crate::head_row::{Kind, Name};
 use crate::moment::Moment;
+use crate::ready::ReadyUpload;
 use crate::refusal::Refusal;
 use crate::settings::Numbers;
 use crate::store::Store;
@@ -155,6 +157,32 @@ impl Book {
             (part_after_create new.entry first.entry now (plain_of self.old).charged)) }
         ensures refused { OnErr result (self.new ≡ self.old) }
     {
+        let ready = self.ready_for_upload(tenant, new, first, now)?;
+        Ok(self.put_upload(ready))
+    }
+
+    // Makes room for a creation's first bytes, or finds why it is refused. It changes nothing.
+    pub(crate) fn ready_for_upload<'a>(
+        &self,
+        tenant: u8,
+        new: NewUpload<'a>,
+        first: FirstChunk<'a>,
+        now: Moment,
+    ) -> Result<ReadyUpload<'a>, Refusal>
+        requires tenant_there { tenant < length (plain_of self.now).settings.tenants }
+        requires metadata { IsTrue (is_kept_metadata new.metadata) }
+        requires concat { IsConcatText (new_kind new.partial) new.concat }
+        ensures tenant { IfOk result (λ r. r.tenant ≡ tenant) }
+        ensures new { IfOk result (λ r. r.new ≡ new.entry) }
+        ensures first { IfOk result (λ r. r.first ≡ first.entry) }
+        ensures now { IfOk result (λ r. r.now ≡ now) }
+        ensures ready { IfOk result (IsReadyForUpload self.now) }
+        ensures refused { IfErr result (λ why. IsAnswer
+            (answer_of (plain_of self.now) tenant
+            (create_answer tenant new.entry first.entry now (plain_of self.now).charged))
+            (MayLackMemory (plain_of self.now) (operation.CreateWith tenant new.entry first.entry) now)
+            (Err Memory) (Err why)) }
+    {
         let account = self.account(tenant);
         let place = usize::from(tenant);
         let numbers = self.settings.numbers();
@@ -168,21 +196,49 @@ impl Book {
         ) {
             return Err(refusal);
         }
+        let len = first.bytes.len() as u64;
+        let expires = new.first_end(numbers, len, now);
+        match self.store.body_for(self.alloc, len) {
+            Ok(body) => Ok(ReadyUpload {
+                tenant,
+                new,
+                first,
+                now,
+                expires,
+                body,
+            }),
+            Err(_) => Err(Refusal::Memory),
+        }
+    }
+
+    // Creates an upload.
+    pub(crate) fn put_upload(&mut self, ready: ReadyUpload) -> Created
+        requires { IsReadyForUpload self.old ready }
+        ensures answer { answer_of (plain_of self.old) ready.entry.tenant
+            (create_answer ready.entry.tenant ready.entry.new ready.entry.first ready.entry.now (plain_of self.old).charged)
+            ≡ Ok result }
+        ensures after { plain_of self.new ≡ book_after (plain_of self.old) ready.entry.tenant
+            (part_after_create ready.entry.new ready.entry.first ready.entry.now (plain_of self.old).charged) }
+    {
+        let ReadyUpload {
+            tenant,
+            new,
+            first,
+            expires,
+            body,
+            ..
+        } = ready;
+        let bytes = first.bytes;
+        let place = usize::from(tenant);
         let id = self.store.next(place);
         let created = Created {
             name: Name { tenant, id },
-            expires: new.first_end(numbers, first.bytes.len() as u64, now),
+            expires,
         };
-        match self
-            .store
-            .create(self.alloc, place, &new, first.bytes, created.expires)
-        {
-            Ok(taken) => {
-                self.charged += taken;
-                Ok(created)
-            }
-            Err(_) => Err(Refusal::Memory),
-        }
+        // the numbers tell that what may be charged in all is a number
+        let _ = self.settings.numbers();
+        self.charged += self.store.create(place, &new, body, bytes, created.expires);
+        created
     }
 }
 

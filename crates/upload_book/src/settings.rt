@@ -1,4 +1,4 @@
-ghost use Rattle.std.specs.Prelude.{◌≡◌, ◌<◌, ◌≤◌, not, nat_lt, bytes_eq, length, map, position, sum_by, slice_get, IfSome};
+ghost use Rattle.std.specs.Prelude.{◌≡◌, ◌<◌, ◌≤◌, ◌^◌, not, nat_lt, bytes_eq, length, map, position, sum_by, slice_get, IfSome};
 ghost use Rattle.std.specs.List.{list_all, list_any};
 ghost use Rattle.tus_text.specs.Tenant.{is_tenant_name};
 ghost use Rattle.upload_book.specs.Refusal.{first_that_holds};
@@ -107,7 +107,10 @@ impl Settings {
         ensures value { result.now ≡ self.now.numbers }
         ensures sound { settings_fault self.now ≡ None }
         ensures max_size { result.now.max_size ≤ 16777216 }
+        ensures last_total { result.now.last_total < 2 ^ 64 }
     {
+        // what is read of a number tells that it is one
+        let _last_total = self.numbers.last_total;
         &self.numbers
     }
 

@@ -5,6 +5,7 @@ ghost use Rattle.upload_book.specs.Account.{blocks_between};
 ghost use Rattle.upload_book.specs.Charge.{charge_with};
 ghost use Rattle.upload_book.specs.Concat.{are_complete, are_there, final_upload, joined_len, parts_found};
 ghost use Rattle.upload_book.specs.Create.{new_kind, upload_from};
+ghost use Rattle.upload_book.specs.Ready.{IsListed};
 ghost use Rattle.upload_book.specs.Lawful.{IsConcatText, is_kept_metadata};
 ghost use Rattle.upload_book.specs.Expiry.{is_over};
 ghost use Rattle.upload_book.specs.Sweep.{part_after_sweep};
@@ -13,24 +14,26 @@ ghost use Rattle.upload_book.specs.Kept.{shelf_of, HasRoom};
 ghost use Rattle.upload_book.specs.Settings.{settings_fault};
 ghost use Rattle.upload_book.specs.Standing.{standing_in};
 ghost use Rattle.upload_book.specs.Store.{opening_shelves, plain_in, shelf_at, part_at, pieces_named, entry_at, holders_at, rows_at, upload_at, with_bytes, with_upload, without_upload, AreFew, IsAlone, IsPartIn, IsVisibleIn, Joins};
-ghost use Rattle.upload_book.specs.Stored.{as_piece, part_kept, segment_of, IsStored};
+ghost use Rattle.upload_book.specs.Stored.{as_piece, no_chain, own_chain, part_kept, segment_of, IsStored};
+ghost use Rattle.block_bodies.specs.Bodies.{HasRoom as HasRoomFor};
 ghost use Rattle.block_bodies.specs.Changes.{SameSizes};
 ghost use Rattle.upload_book.specs.TenantBook.{visible_upload, with_new};
 ghost use Rattle.upload_book.specs.Upload.{content_of, head_row_of, offset_of};
 
-use crate::concat::NewFinal;
 use crate::create::NewUpload;
 use crate::head_row::{HeadRow, Name};
 use crate::joined::hold_each;
 use crate::moment::Moment;
 use crate::parts_seen::PartsSeen;
 use crate::piece::UnheldPiece;
+use crate::ready::ReadyFinal;
 use crate::refusal::Refusal;
 use crate::settings::Settings;
 use crate::shelf::Shelf;
 use crate::standing::Standing;
-use crate::stored_upload::{StoredUpload, body_of};
+use crate::stored_upload::{StoredUpload, body_for};
 use crate::sweep::Swept;
+use block_bodies::Body;
 use block_pool::Pool;
 use std::alloc::{AllocError, Global};
 use std::marker::Model;
@@ -168,17 +171,29 @@ impl Store {
         self.shelves[tenant].uploads[place].read(alloc, &self.pool)
     }
 
-    /// Creates an upload with these bytes and this end as the tenant's next one; its texts get a box that is
-    /// spare. Gives how many blocks were taken for the bytes. The error is that there was no memory for the list
-    /// of them, and then nothing changes.
+    /// A body of no bytes with room for so many, which a new upload may have. The error is that there was no memory
+    /// for the list of their blocks.
+    pub(crate) fn body_for(&self, alloc: Global, more: u64) -> Result<Body, AllocError>
+        requires blocks { sum_by (charge_with self.now.pool.block_size) (plain_in self.now)
+            + blocks_between self.now.pool.block_size 0 more ≤ size_of self.now.pool }
+        ensures empty { IfOk result (λ body. body ≡ record no_chain { room = body.room }) }
+        ensures listed { IfOk result (λ body. HasRoomFor self.now.pool body more) }
+        ensures memory { OnErr result (0 < blocks_between self.now.pool.block_size 0 more) }
+    {
+        let body = body_for(alloc, &self.pool, more)?;
+        Ok(body)
+    }
+
+    /// Creates an upload with these bytes, for which the body has room, and with this end as the tenant's next one;
+    /// its texts get a box that is spare. Gives how many blocks were taken for the bytes.
     pub(crate) fn create(
         &mut self,
-        alloc: Global,
         tenant: usize,
         new: &NewUpload,
+        body: Body,
         bytes: &[u8],
         expires: Option<Moment>,
-    ) -> Result<u64, AllocError>
+    ) -> u64
         requires tenant { tenant < length self.old.shelves }
         requires room { length (shelf_at self.old tenant).uploads < self.old.room }
         requires id { (shelf_at self.old tenant).next + 1 < 2 ^ 64 }
@@ -186,24 +201,25 @@ impl Store {
         requires concat { IsConcatText (new_kind new.now.partial) new.now.concat }
         requires blocks { sum_by (charge_with self.old.pool.block_size) (plain_in self.old)
             + blocks_between self.old.pool.block_size 0 (length bytes.now) ≤ size_of self.old.pool }
-        ensures plain { OnOk result (plain_in self.new ≡ set (plain_in self.old) tenant
-            (with_new (part_at self.old tenant) (upload_from new.now bytes.now expires))) }
-        ensures taken { IfOk result (λ n. n ≡ blocks_between self.old.pool.block_size 0 (length bytes.now)) }
-        ensures charge { IfOk result (λ n. charge_with self.old.pool.block_size (part_at self.new tenant)
-            ≡ charge_with self.old.pool.block_size (part_at self.old tenant) + n) }
+        requires empty { body ≡ record no_chain { room = body.room } }
+        requires listed { HasRoomFor self.old.pool body (length bytes.now) }
+        ensures plain { plain_in self.new ≡ set (plain_in self.old) tenant
+            (with_new (part_at self.old tenant) (upload_from new.now bytes.now expires)) }
+        ensures taken { result ≡ blocks_between self.old.pool.block_size 0 (length bytes.now) }
+        ensures charge { charge_with self.old.pool.block_size (part_at self.new tenant)
+            ≡ charge_with self.old.pool.block_size (part_at self.old tenant) + result }
         ensures sizes { SameSizes self.old.pool self.new.pool }
         ensures room_stays { self.new.room ≡ self.old.room }
-        ensures memory { OnErr result (0 < blocks_between self.old.pool.block_size 0 (length bytes.now)) }
-        ensures unchanged { OnErr result (self.new ≡ self.old) }
     {
-        let (body, taken) = body_of(alloc, &mut self.pool, bytes)?;
+        let mut body = body;
+        let taken = body.put(&mut self.pool, bytes);
         let shelf = &mut self.shelves[tenant];
         let texts = shelf.spare.pop().unwrap();
         let upload = StoredUpload::new(shelf.next, new, body, expires, texts);
         shelf.uploads.push_reserved(upload);
         shelf.next += 1;
         shelf.charge += taken;
-        Ok(taken)
+        taken
     }
 
     /// The place of the upload that a part of a concatenation names, where it is a partial one that a request
@@ -239,7 +255,7 @@ impl Store {
 
     /// The pieces of the parts of a concatenation, before their blocks are held for it. The error is that there
     /// was no memory for the lists of them.
-    fn list_parts(
+    pub(crate) fn list_parts(
         &self,
         alloc: Global,
         tenant: usize,
@@ -261,43 +277,40 @@ impl Store {
         Ok(listed)
     }
 
-    /// Keeps a final upload, which is joined of the parts that are named, as the tenant's next one. All memory
-    /// is taken before a block is held for it; the error is that there was too little, and then nothing changes.
-    pub(crate) fn join(
-        &mut self,
-        alloc: Global,
-        tenant: usize,
-        new: &NewFinal,
-        len: u64,
-        now: Moment,
-    ) -> Result<(), AllocError>
+    /// Keeps a final upload, which is joined of the pieces that were listed, as the tenant's next one.
+    pub(crate) fn join(&mut self, tenant: usize, ready: ReadyFinal)
         requires tenant { tenant < length self.old.shelves }
         requires room { length (shelf_at self.old tenant).uploads < self.old.room }
         requires id { (shelf_at self.old tenant).next + 1 < 2 ^ 64 }
         requires few { AreFew self.old tenant }
-        requires parts { length new.now.parts ≤ 32 }
-        requires len { len ≡ joined_len (rows_at self.old tenant new.now.parts now) }
-        requires metadata { IsTrue (is_kept_metadata new.now.metadata) }
-        requires concat { IsConcatText Final new.now.concat }
-        ensures plain { OnOk result (plain_in self.new ≡ set (plain_in self.old) tenant
+        requires parts { length ready.new.parts ≤ 32 }
+        requires len { ready.len ≡ joined_len (rows_at self.old tenant ready.new.parts ready.now) }
+        requires metadata { IsTrue (is_kept_metadata ready.new.metadata) }
+        requires concat { IsConcatText Final ready.new.concat }
+        requires listed { IsListed self.old tenant ready }
+        ensures plain { plain_in self.new ≡ set (plain_in self.old) tenant
             (with_new (part_at self.old tenant)
-            (final_upload (parts_found (part_at self.old tenant) now new.now.parts) new.now))) }
-        ensures joins { OnOk result (Joins self.old self.new tenant new.now now) }
+            (final_upload (parts_found (part_at self.old tenant) ready.entry.now ready.entry.new.parts) ready.entry.new)) }
+        ensures joins { Joins self.old self.new tenant ready.entry.new ready.entry.now }
         ensures sizes { SameSizes self.old.pool self.new.pool }
         ensures room_stays { self.new.room ≡ self.old.room }
         ensures charge { charge_with self.old.pool.block_size (part_at self.new tenant)
             ≡ charge_with self.old.pool.block_size (part_at self.old tenant) }
-        ensures unchanged { OnErr result (self.new ≡ self.old) }
     {
-        let unheld = self.list_parts(alloc, tenant, new.parts, now)?;
-        let mut pieces = Vec::with_capacity(alloc, unheld.len())?;
+        let ReadyFinal {
+            new,
+            len,
+            unheld,
+            pieces,
+            ..
+        } = ready;
+        let mut pieces = pieces;
         hold_each(unheld, &mut self.pool, &mut pieces);
         let shelf = &mut self.shelves[tenant];
         let texts = shelf.spare.pop().unwrap();
-        let upload = StoredUpload::joined(shelf.next, new, pieces, len, texts);
+        let upload = StoredUpload::joined(shelf.next, &new, pieces, len, texts);
         shelf.uploads.push_reserved(upload);
         shelf.next += 1;
-        Ok(())
     }
 
     /// Tells the length and the end of the upload at a place, which is not a final one.
@@ -325,44 +338,71 @@ impl Store {
         shelf.uploads[place].renew(declared, expires);
     }
 
-    /// Adds bytes at the end of the upload at a place, and tells its length and its end. Gives how many blocks
-    /// were taken for the bytes. The error is that there was no memory for the list of the upload's blocks,
-    /// which had to grow, and then nothing changes.
-    pub(crate) fn append(
+    /// Makes room in the list of the blocks of the upload at a place for so many more bytes. The error is that there
+    /// was no memory for it, and then nothing changes.
+    pub(crate) fn reserve(
+        &mut self,
+        tenant: usize,
+        place: usize,
+        more: u64,
+    ) -> Result<(), AllocError>
+        requires tenant { tenant < length self.old.shelves }
+        requires place { place < length (shelf_at self.old tenant).uploads }
+        requires alone { IsAlone self.old tenant place }
+        requires room { sum_by (charge_with self.old.pool.block_size) (plain_in self.old)
+            + blocks_between self.old.pool.block_size (offset_of (upload_at self.old tenant place)) more
+            ≤ size_of self.old.pool }
+        ensures plain { OnOk result (plain_in self.new ≡ plain_in self.old) }
+        ensures listed { OnOk result
+            (HasRoomFor self.new.pool (own_chain (entry_at self.new tenant place).kept.pieces) more) }
+        ensures pool { self.new.pool ≡ self.old.pool }
+        ensures room_stays { self.new.room ≡ self.old.room }
+        ensures memory { OnErr result (0 < blocks_between self.old.pool.block_size
+            (offset_of (upload_at self.old tenant place)) more) }
+        ensures unchanged { OnErr result (self.new ≡ self.old) }
+    {
+        let shelf = &mut self.shelves[tenant];
+        let upload = &mut shelf.uploads[place];
+        upload.reserve(&self.pool, more)?;
+        Ok(())
+    }
+
+    /// Adds bytes, for which room was made, at the end of the upload at a place, and tells its length and its end.
+    /// Gives how many blocks were taken for the bytes.
+    pub(crate) fn put(
         &mut self,
         tenant: usize,
         place: usize,
         bytes: &[u8],
         declared: Option<u64>,
         expires: Option<Moment>,
-    ) -> Result<u64, AllocError>
+    ) -> u64
         requires tenant { tenant < length self.old.shelves }
         requires place { place < length (shelf_at self.old tenant).uploads }
         requires alone { IsAlone self.old tenant place }
         requires room { sum_by (charge_with self.old.pool.block_size) (plain_in self.old)
             + blocks_between self.old.pool.block_size (offset_of (upload_at self.old tenant place)) (length bytes.now)
             ≤ size_of self.old.pool }
-        ensures plain { OnOk result (plain_in self.new ≡ set (plain_in self.old) tenant
+        requires listed { HasRoomFor self.old.pool (own_chain (entry_at self.old tenant place).kept.pieces)
+            (length bytes.now) }
+        ensures plain { plain_in self.new ≡ set (plain_in self.old) tenant
             (with_upload (part_at self.old tenant) place (record {
               id = (entry_at self.old tenant place).id;
               kept = with_bytes (upload_at self.old tenant place) bytes.now declared expires;
-            }))) }
-        ensures taken { IfOk result (λ n. n ≡ blocks_between self.old.pool.block_size
-            (offset_of (upload_at self.old tenant place)) (length bytes.now)) }
-        ensures charge { IfOk result (λ n. charge_with self.old.pool.block_size (part_at self.new tenant)
-            ≡ charge_with self.old.pool.block_size (part_at self.old tenant) + n) }
+            })) }
+        ensures taken { result ≡ blocks_between self.old.pool.block_size
+            (offset_of (upload_at self.old tenant place)) (length bytes.now) }
+        ensures charge { charge_with self.old.pool.block_size (part_at self.new tenant)
+            ≡ charge_with self.old.pool.block_size (part_at self.old tenant) + result }
         ensures sizes { SameSizes self.old.pool self.new.pool }
         ensures room_stays { self.new.room ≡ self.old.room }
-        ensures memory { OnErr result (0 < blocks_between self.old.pool.block_size
-            (offset_of (upload_at self.old tenant place)) (length bytes.now)) }
-        ensures unchanged { OnErr result (self.new ≡ self.old) }
     {
         let shelf = &mut self.shelves[tenant];
         let upload = &mut shelf.uploads[place];
-        let taken = upload.put(&mut self.pool, bytes)?;
+        let taken = upload.put(&mut self.pool, bytes);
         upload.renew(declared, expires);
         shelf.charge += taken;
-        Ok(taken)
+        taken
     }
 
     /// Ends the upload at a place. Gives how many blocks became free: those that its tenant no longer pays.

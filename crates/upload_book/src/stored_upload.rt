@@ -1,6 +1,6 @@
 ghost use Rattle.std.specs.Prelude.{◌≡◌, ◌≢◌, ◌+◌, ◌<◌, ◌≤◌, [], ◌∷◌, ◌++◌, length, map, vec_len, vec_capacity, IfOk, IsOk, OnOk, OnErr, IsTrue};
 ghost use Rattle.block_pool.specs.Blocks.{Blocks, free_in};
-ghost use Rattle.block_bodies.specs.Bodies.{IsBodyOf, IsHeld, IsLastOwn, StandsOnce, blocks_with};
+ghost use Rattle.block_bodies.specs.Bodies.{HasRoom, IsBodyOf, IsHeld, IsLastOwn, StandsOnce, blocks_with};
 ghost use Rattle.block_bodies.specs.Changes.{Puts, GivesBack};
 ghost use Rattle.upload_book.specs.Create.{new_kind};
 ghost use Rattle.upload_book.specs.declared.head_row.Kind.TheVariants.{Final};
@@ -222,27 +222,43 @@ impl StoredUpload {
         }
     }
 
-    /// Adds bytes at the end of the upload, and gives how many blocks were taken for them. The error is that
-    /// there was no memory for the list of its blocks, and then nothing changes.
-    pub(crate) fn put(&mut self, pool: &mut Pool, bytes: &[u8]) -> Result<u64, AllocError>
+    /// Makes room in the list of the upload's blocks for so many more bytes. The error is that there was no memory
+    /// for it, and then nothing changes.
+    pub(crate) fn reserve(&mut self, pool: &Pool, more: u64) -> Result<(), AllocError>
+        requires own { self.old.kept.kind ≢ Final }
+        requires body { IsBodyOf pool.now (own_chain self.old.kept.pieces) }
+        requires free { blocks_with pool.now (own_chain self.old.kept.pieces) more
+            ≤ length (own_chain self.old.kept.pieces).blocks + free_in pool.now }
+        ensures room { OnOk result (HasRoom pool.now (own_chain self.new.kept.pieces) more) }
+        ensures once { StandsOnce (own_chain self.new.kept.pieces).blocks }
+        ensures body { own_chain self.new.kept.pieces
+            ≡ record (own_chain self.old.kept.pieces) { room = (own_chain self.new.kept.pieces).room } }
+        ensures upload { OnOk result (self.new ≡ with_chain self.old (own_chain self.new.kept.pieces)) }
+        ensures memory { OnErr result (length (own_chain self.old.kept.pieces).blocks
+            < blocks_with pool.now (own_chain self.old.kept.pieces) more) }
+        ensures unchanged { OnErr result (self.new ≡ self.old) }
+    {
+        match &mut self.held {
+            Held::Own { body, .. } => reserve_within(body, pool, more),
+            Held::Joined { .. } => unreachable!(),
+        }
+    }
+
+    /// Adds bytes, for which room was made, at the end of the upload, and gives how many blocks were taken for them.
+    pub(crate) fn put(&mut self, pool: &mut Pool, bytes: &[u8]) -> u64
         requires own { self.old.kept.kind ≢ Final }
         requires body { IsBodyOf pool.old (own_chain self.old.kept.pieces) }
         requires last { 0 < length bytes.now → IsLastOwn pool.old (own_chain self.old.kept.pieces) }
-        requires free { blocks_with pool.old (own_chain self.old.kept.pieces) (length bytes.now)
-            ≤ length (own_chain self.old.kept.pieces).blocks + free_in pool.old }
-        ensures taken { IfOk result (λ n. length (own_chain self.new.kept.pieces).blocks
-            ≡ length (own_chain self.old.kept.pieces).blocks + n) }
-        ensures puts { OnOk result (Puts pool.old (own_chain self.old.kept.pieces) bytes.now
-            pool.new (own_chain self.new.kept.pieces)) }
+        requires room { HasRoom pool.old (own_chain self.old.kept.pieces) (length bytes.now) }
+        ensures taken { length (own_chain self.new.kept.pieces).blocks
+            ≡ length (own_chain self.old.kept.pieces).blocks + result }
+        ensures puts { Puts pool.old (own_chain self.old.kept.pieces) bytes.now
+            pool.new (own_chain self.new.kept.pieces) }
         ensures once { StandsOnce (own_chain self.new.kept.pieces).blocks }
-        ensures upload { OnOk result (self.new ≡ with_chain self.old (own_chain self.new.kept.pieces)) }
-        ensures memory { OnErr result (length (own_chain self.old.kept.pieces).blocks
-            < blocks_with pool.old (own_chain self.old.kept.pieces) (length bytes.now)) }
-        ensures unchanged { OnErr result (self.new ≡ self.old) }
-        ensures pool_unchanged { OnErr result (pool.new ≡ pool.old) }
+        ensures upload { self.new ≡ with_chain self.old (own_chain self.new.kept.pieces) }
     {
         match &mut self.held {
-            Held::Own { body, .. } => put_within(body, pool, bytes),
+            Held::Own { body, .. } => body.put(pool, bytes),
             Held::Joined { .. } => unreachable!(),
         }
     }
@@ -270,42 +286,34 @@ impl StoredUpload {
     }
 }
 
-/// A body of these bytes, and how many blocks were taken for them. The error is that there was no memory for the
-/// list of the blocks, and then nothing changes.
-pub(crate) fn body_of(
-    alloc: Global,
-    pool: &mut Pool,
-    bytes: &[u8],
-) -> Result<(Body, u64), AllocError>
-    requires blocks { 0 < pool.old.block_size }
-    requires free { blocks_with pool.old no_chain (length bytes.now) ≤ free_in pool.old }
-    ensures taken { IfOk result (λ made. length made.0.blocks ≡ made.1) }
-    ensures puts { IfOk result (λ made. Puts pool.old no_chain bytes.now pool.new made.0) }
-    ensures once { IfOk result (λ made. StandsOnce made.0.blocks) }
-    ensures memory { OnErr result (0 < blocks_with pool.old no_chain (length bytes.now)) }
-    ensures unchanged { OnErr result (pool.new ≡ pool.old) }
+/// A body of no bytes with room for so many. The error is that there was no memory for the list of their blocks.
+pub(crate) fn body_for(alloc: Global, pool: &Pool, more: u64) -> Result<Body, AllocError>
+    requires blocks { 0 < pool.now.block_size }
+    requires free { blocks_with pool.now no_chain more ≤ free_in pool.now }
+    ensures empty { IfOk result (λ body. body ≡ record no_chain { room = body.room }) }
+    ensures room { IfOk result (λ body. HasRoom pool.now body more) }
+    ensures once { IfOk result (λ body. StandsOnce body.blocks) }
+    ensures memory { OnErr result (0 < blocks_with pool.now no_chain more) }
 {
     let mut body = Body::empty(alloc);
-    match put_within(&mut body, pool, bytes) {
-        Ok(taken) => Ok((body, taken)),
+    match reserve_within(&mut body, pool, more) {
+        Ok(()) => Ok(body),
         Err(fault) => Err(fault),
     }
 }
 
-// Adds bytes to a body where enough blocks are free.
-fn put_within(body: &mut Body, pool: &mut Pool, bytes: &[u8]) -> Result<u64, AllocError>
-    requires body { IsBodyOf pool.old body.old }
-    requires last { 0 < length bytes.now → IsLastOwn pool.old body.old }
-    requires free { blocks_with pool.old body.old (length bytes.now) ≤ length body.old.blocks + free_in pool.old }
-    ensures taken { IfOk result (λ n. length body.new.blocks ≡ length body.old.blocks + n) }
-    ensures puts { OnOk result (Puts pool.old body.old bytes.now pool.new body.new) }
+// Makes room in the list of a body where enough blocks are free.
+fn reserve_within(body: &mut Body, pool: &Pool, more: u64) -> Result<(), AllocError>
+    requires body { IsBodyOf pool.now body.old }
+    requires free { blocks_with pool.now body.old more ≤ length body.old.blocks + free_in pool.now }
+    ensures room { OnOk result (HasRoom pool.now body.new more) }
     ensures once { StandsOnce body.new.blocks }
-    ensures memory { OnErr result (length body.old.blocks < blocks_with pool.old body.old (length bytes.now)) }
+    ensures body { body.new ≡ record body.old { room = body.new.room } }
+    ensures memory { OnErr result (length body.old.blocks < blocks_with pool.now body.old more) }
     ensures unchanged { OnErr result (body.new ≡ body.old) }
-    ensures pool_unchanged { OnErr result (pool.new ≡ pool.old) }
 {
-    match body.append(pool, bytes) {
-        Ok(taken) => Ok(taken),
+    match body.reserve(pool, more) {
+        Ok(_) => Ok(()),
         Err(BodyFault::Memory) => Err(AllocError),
         Err(BodyFault::Full) => unreachable!(),
     }

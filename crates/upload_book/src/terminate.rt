@@ -1,11 +1,13 @@
-ghost use Rattle.std.specs.Prelude.{◌≡◌, OnErr};
+ghost use Rattle.std.specs.Prelude.{◌≡◌, Ok, Err, IfOk, IfErr, OnErr};
 ghost use Rattle.upload_book.specs.Book.{plain_of};
 ghost use Rattle.upload_book.specs.PlainBook.{answer_of, book_after};
+ghost use Rattle.upload_book.specs.Ready.{IsReadyForEnd};
 ghost use Rattle.upload_book.specs.Terminate.{terminate_answer, part_after_terminate};
 
 use crate::book::Book;
 use crate::head_row::Name;
 use crate::moment::Moment;
+use crate::ready::ReadyEnd;
 use crate::refusal::Refusal;
 
 /// What a DELETE gave back.
@@ -29,12 +31,36 @@ impl Book {
             ≡ book_after (plain_of self.old) name.now.tenant (part_after_terminate name.now.id now) }
         ensures refused { OnErr result (self.new ≡ self.old) }
     {
-        let place = self.store.place(name, now)?;
-        let blocks = self.store.remove(usize::from(name.tenant), place);
+        let ready = self.ready_for_end(*name, now)?;
+        Ok(self.end(ready))
+    }
+
+    // Finds the upload that a DELETE ends, or why it is refused. It changes nothing.
+    pub(crate) fn ready_for_end(&self, name: Name, now: Moment) -> Result<ReadyEnd, Refusal>
+        ensures name { IfOk result (λ r. r.name ≡ name) }
+        ensures now { IfOk result (λ r. r.now ≡ now) }
+        ensures ready { IfOk result (IsReadyForEnd self.now) }
+        ensures refused { IfErr result
+            (λ e. answer_of (plain_of self.now) name.tenant (terminate_answer name.id now) ≡ Err e) }
+    {
+        let place = self.store.place(&name, now)?;
+        Ok(ReadyEnd { name, now, place })
+    }
+
+    // Ends an upload.
+    pub(crate) fn end(&mut self, ready: ReadyEnd) -> Removed
+        requires { IsReadyForEnd self.old ready }
+        ensures answer { answer_of (plain_of self.old) ready.name.tenant
+            (terminate_answer ready.name.id ready.now) ≡ Ok result }
+        ensures after { plain_of self.new
+            ≡ book_after (plain_of self.old) ready.name.tenant (part_after_terminate ready.name.id ready.now) }
+    {
+        let tenant = usize::from(ready.name.tenant);
+        let blocks = self.store.remove(tenant, ready.place);
         self.released += blocks;
-        Ok(Removed {
+        Removed {
             blocks,
             released: blocks,
-        })
+        }
     }
 }

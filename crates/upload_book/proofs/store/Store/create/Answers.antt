@@ -1,50 +1,54 @@
-use Rattle.std.proofs.Common.{◌+◌, [], ◌∷◌, ◌++◌, length, refl, ap, ◌∙◌, arith}
+use Rattle.std.proofs.Common.{◌≡◌, ℕ, List, subst, ◌+◌, [], ◌∷◌, ◌++◌, length, refl, ap, ◌∙◌, arith}
+use Rattle.block_pool.specs.Blocks.{Blocks}
+use Rattle.block_bodies.specs.Bodies.{Chain}
+use Rattle.block_bodies.specs.Changes.{Puts}
 use Rattle.upload_book.specs.Account.{blocks_between}
 use Rattle.upload_book.specs.declared.shelf.Shelf.{Shelf as KeptShelf}
-use Rattle.upload_book.specs.Stored.{StoredUpload}
+use Rattle.upload_book.specs.declared.store.Store.TheInside.{Inside}
+use Rattle.upload_book.specs.Stored.{StoredUpload, no_chain}
+use Rattle.upload_book.proofs.StoreReserve.{puts-roomy}
 use Rattle.upload_book.specs.TenantBook.{Entry}
-use Rattle.upload_book.proofs.PriceLemmas.{blocks_between-adds, blocks_for-zero}
-use Rattle.upload_book.proofs.StoreAppend.{charge-few, free-read}
+use Rattle.upload_book.proofs.StoreAppend.{charge-few}
 use Rattle.upload_book.proofs.StoreCreate.{IsMade, IsKept-made, made-taken, plain-made, charge-made}
 use Rattle.upload_book.proofs.StoreLemmas.{IsPart-read, room-part}
 use Rattle.upload_book.proofs.store.Store.create.Goals as goal
 
-pub body_of-requires-clause-free : goal.body_of-requires-clause-free
-body_of-requires-clause-free c =
-    let v = c.self.inside in
-    let free = free-read v (blocks_between v.pool.block_size 0 (length c.args.bytes.now)) c.self.invariant (rw (← c.self.view_is) at c.requires.blocks) in
-    omega (arith, free, blocks_between-adds v.pool.block_size 0 (length c.args.bytes.now), blocks_for-zero v.pool.block_size)
+-- the bytes are put into a body that has none
+puts_first : (v : Inside) (body : Chain) (bytes : List ℕ) (q : Blocks) (y : Chain) → body ≡ record no_chain { room = body.room } → Puts v.pool body bytes q y → Puts v.pool no_chain bytes q y
+puts_first v body bytes q y empty f =
+    puts-roomy v.pool no_chain body.room bytes q y (subst (λ (x : Chain). Puts v.pool x bytes q y) empty f)
 
-pub invariant_of-self : goal.invariant_of-self
-invariant_of-self c = rw c.in_err-body.ensures.unchanged c.self.invariant
+-- so its blocks are those that were taken
+blocks_taken : (body y : Chain) (taken : ℕ) → body ≡ record no_chain { room = body.room } → length y.blocks ≡ length body.blocks + taken → length y.blocks ≡ taken
+blocks_taken body y taken empty is = omega (arith, is, ap (λ (x : Chain). length x.blocks) empty)
 
 pub overflow_add-shelf-2 : goal.overflow_add-shelf-2
 overflow_add-shelf-2 c =
     let v = c.self.inside in
     let part = IsPart-read v c.args.self.now c.args.tenant c.index_mut-shelf.result.now c.self.view_is c.requires.tenant c.index_mut-shelf.ensures.value in
-    let taken = made-taken v c.args.bytes.now c.body_of.new.pool c.in_ok-body.body c.in_ok-body.taken c.in_ok-body.ensures.puts c.in_ok-body.ensures.taken in
+    let taken = made-taken v c.args.bytes.now c.put-taken.new.pool c.put-taken.new.self c.put-taken.result (puts_first v c.args.body c.args.bytes.now c.put-taken.new.pool c.put-taken.new.self c.requires.empty c.put-taken.ensures.puts) (blocks_taken c.args.body c.put-taken.new.self c.put-taken.result c.requires.empty c.put-taken.ensures.taken) in
     omega (arith, taken, charge-few v c.args.tenant c.index_mut-shelf.result.now (blocks_between v.pool.block_size 0 (length c.args.bytes.now)) c.self.invariant part (rw (← c.self.view_is) at c.requires.blocks))
 
 -- the part with the upload
 after : goal.After-self-1 → KeptShelf
 after c = record (c.index_mut-shelf.result.now) {
   next = c.index_mut-shelf.result.now.next + 1;
-  charge = c.index_mut-shelf.result.now.charge + c.in_ok-body.taken;
+  charge = c.index_mut-shelf.result.now.charge + c.put-taken.result;
   uploads = c.push_reserved.new.self;
   spare = c.pop.new.self;
 }
 
 -- it has one more, and a spare box less
-made : (c : goal.After-self-1) → IsMade c.self.inside c.args.tenant c.index_mut-shelf.result.now (after c) c.args.new.now c.args.bytes.now c.body_of.new.pool c.in_ok-body.body c.args.expires c.in_ok-body.taken
+made : (c : goal.After-self-1) → IsMade c.self.inside c.args.tenant c.index_mut-shelf.result.now (after c) c.args.new.now c.args.bytes.now c.put-taken.new.pool c.put-taken.new.self c.args.expires c.put-taken.result
 unfolding after
 made c =
     let part = IsPart-read c.self.inside c.args.self.now c.args.tenant c.index_mut-shelf.result.now c.self.view_is c.requires.tenant c.index_mut-shelf.ensures.value in
     let room = room-part c.self.inside c.args.tenant c.index_mut-shelf.result.now c.self.invariant part in
     record {
       part = part;
-      puts = c.in_ok-body.ensures.puts;
-      once = c.in_ok-body.ensures.once;
-      taken_is = c.in_ok-body.ensures.taken;
+      puts = puts_first c.self.inside c.args.body c.args.bytes.now c.put-taken.new.pool c.put-taken.new.self c.requires.empty c.put-taken.ensures.puts;
+      once = c.put-taken.ensures.once;
+      taken_is = blocks_taken c.args.body c.put-taken.new.self c.put-taken.result c.requires.empty c.put-taken.ensures.taken;
       quota = refl;
       next = refl;
       charge = refl;
@@ -56,17 +60,17 @@ made c =
       };
     }
 
-pub invariant_of-self-2 : goal.invariant_of-self-2
+pub invariant_of-self : goal.invariant_of-self
 unfolding after
-invariant_of-self-2 c =
-    IsKept-made c.self.inside c.args.tenant c.index_mut-shelf.result.now (after c) c.args.new.now c.args.bytes.now c.body_of.new.pool c.in_ok-body.body c.args.expires c.in_ok-body.taken c.self.invariant (made c)
+invariant_of-self c =
+    IsKept-made c.self.inside c.args.tenant c.index_mut-shelf.result.now (after c) c.args.new.now c.args.bytes.now c.put-taken.new.pool c.put-taken.new.self c.args.expires c.put-taken.result c.self.invariant (made c)
 
 pub returns-clause-plain : goal.returns-clause-plain
 unfolding after
 returns-clause-plain c =
-    rw (← c.self.view_is) (plain-made c.self.inside c.args.tenant c.index_mut-shelf.result.now (after c) c.args.new.now c.args.bytes.now c.body_of.new.pool c.in_ok-body.body c.args.expires c.in_ok-body.taken c.self.invariant (made c))
+    rw (← c.self.view_is) (plain-made c.self.inside c.args.tenant c.index_mut-shelf.result.now (after c) c.args.new.now c.args.bytes.now c.put-taken.new.pool c.put-taken.new.self c.args.expires c.put-taken.result c.self.invariant (made c))
 
 pub returns-clause-charge : goal.returns-clause-charge
 unfolding after
 returns-clause-charge c =
-    rw (← c.self.view_is) (charge-made c.self.inside c.args.tenant c.index_mut-shelf.result.now (after c) c.args.new.now c.args.bytes.now c.body_of.new.pool c.in_ok-body.body c.args.expires c.in_ok-body.taken c.self.invariant (made c))
+    rw (← c.self.view_is) (charge-made c.self.inside c.args.tenant c.index_mut-shelf.result.now (after c) c.args.new.now c.args.bytes.now c.put-taken.new.pool c.put-taken.new.self c.args.expires c.put-taken.result c.self.invariant (made c))

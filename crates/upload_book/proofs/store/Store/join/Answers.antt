@@ -1,9 +1,8 @@
-use Rattle.std.proofs.Common.{◌≡◌, ℕ, ◌+◌, List, Option, [], ◌∷◌, ◌++◌, map, length, refl, sym, ap, ◌∙◌, subst, arith}
+use Rattle.std.proofs.Common.{◌+◌, List, [], ◌∷◌, ◌++◌, map, refl, sym, ap, ◌∙◌, subst, arith}
 use Rattle.std.proofs.Math.ListN.{length-map}
 use Rattle.upload_book.specs.Concat.{joined_len}
 use Rattle.upload_book.specs.declared.piece.Piece.{Piece}
 use Rattle.upload_book.specs.declared.shelf.Shelf.{Shelf as KeptShelf}
-use Rattle.upload_book.specs.NewFinal.{NewFinal}
 use Rattle.upload_book.specs.Store.{Store, AreFew, rows_at}
 use Rattle.upload_book.specs.Stored.{StoredUpload, as_piece}
 use Rattle.upload_book.specs.TenantBook.{Entry}
@@ -11,18 +10,14 @@ use Rattle.upload_book.proofs.StoreJoin.{JoinsIn, JoinsIn-held, IsJoined, joined
 use Rattle.upload_book.proofs.StoreLemmas.{IsPart-read, room-part, spare-some}
 use Rattle.upload_book.proofs.store.Store.join.Goals as goal
 
--- the parts that are named, as the call sees them
-parts_named : (c : goal.After-pieces-2-1) → c.new.inside.parts.now ≡ c.args.new.now.parts
-parts_named c = ap (λ (new : NewFinal). new.parts) c.new.view_is
-
 pub hold_each-requires-clause-held : goal.hold_each-requires-clause-held
 hold_each-requires-clause-held c =
     let v = c.self.inside in
     let found = part-there v c.args.self.now c.args.tenant c.self.view_is c.requires.tenant in
-    let pieces : List Piece = map as_piece c.in_ok-unheld.unheld.items in
-    let segments = listed-read v c.args.self.now c.args.tenant found.0 c.new.inside.parts.now c.args.new.now.parts c.args.now pieces c.self.view_is found.1 (parts_named c) c.in_ok-unheld.ensures.pieces in
-    joined-held v c.args.tenant found.0 c.args.new.now.parts c.args.now pieces c.self.invariant found.1 (subst (λ (s : Store). AreFew s c.args.tenant) (sym c.self.view_is) c.requires.few) segments
-    (omega (arith, c.in_ok-unheld.ensures.few, c.requires.parts, ap (λ (named : List (Option ℕ)). length named) (parts_named c), length-map c.in_ok-unheld.unheld.items as_piece))
+    let pieces : List Piece = map as_piece c.args.ready.unheld.items in
+    let segments = listed-read v c.args.self.now c.args.tenant found.0 c.args.ready.new.parts c.args.ready.new.parts c.args.ready.now pieces c.self.view_is found.1 refl c.requires.listed.pieces in
+    joined-held v c.args.tenant found.0 c.args.ready.new.parts c.args.ready.now pieces c.self.invariant found.1 (subst (λ (s : Store). AreFew s c.args.tenant) (sym c.self.view_is) c.requires.few) segments
+    (omega (arith, c.requires.listed.few, c.requires.parts, length-map c.args.ready.unheld.items as_piece))
 
 -- there is a box for the texts
 pub unwrap-texts-requires : goal.unwrap-texts-requires
@@ -32,18 +27,18 @@ unwrap-texts-requires c =
 
 pub joined-upload-requires-clause-len : goal.joined-upload-requires-clause-len
 joined-upload-requires-clause-len c =
-    let joins = JoinsIn-held c.self.inside c.args.self.now c.args.tenant c.index_mut-shelf.result.now c.new.inside.parts.now c.args.new.now c.args.now c.in_ok-unheld.unheld.items c.in_ok-pieces.pieces.items c.hold_each.new.pieces.items c.hold_each.new.pool
-    c.self.view_is (IsPart-read c.self.inside c.args.self.now c.args.tenant c.index_mut-shelf.result.now c.self.view_is c.requires.tenant c.index_mut-shelf.ensures.value) (ap (λ (new : NewFinal). new.parts) c.new.view_is)
-    c.in_ok-unheld.ensures.pieces c.in_ok-pieces.ensures.items c.hold_each.ensures.pieces c.hold_each.ensures.holds in
-    c.requires.len ∙ ap (λ (s : Store). joined_len (rows_at s c.args.tenant c.args.new.now.parts c.args.now)) (sym c.self.view_is)
-    ∙ joined-len c.self.inside c.args.tenant c.index_mut-shelf.result.now c.args.new.now.parts c.args.now c.hold_each.new.pieces.items c.self.invariant joins.part joins.segments
+    let joins = JoinsIn-held c.self.inside c.args.self.now c.args.tenant c.index_mut-shelf.result.now c.args.ready.new.parts c.args.ready.new c.args.ready.now c.args.ready.unheld.items c.args.ready.pieces.items c.hold_each.new.pieces.items c.hold_each.new.pool
+    c.self.view_is (IsPart-read c.self.inside c.args.self.now c.args.tenant c.index_mut-shelf.result.now c.self.view_is c.requires.tenant c.index_mut-shelf.ensures.value) refl
+    c.requires.listed.pieces c.requires.listed.empty c.hold_each.ensures.pieces c.hold_each.ensures.holds in
+    c.requires.len ∙ ap (λ (s : Store). joined_len (rows_at s c.args.tenant c.args.ready.new.parts c.args.ready.now)) (sym c.self.view_is)
+    ∙ joined-len c.self.inside c.args.tenant c.index_mut-shelf.result.now c.args.ready.new.parts c.args.ready.now c.hold_each.new.pieces.items c.self.invariant joins.part joins.segments
 
 -- the part is read, and the pieces are those that were listed
-joins : (c : goal.After-self-1) → JoinsIn c.self.inside c.args.tenant c.index_mut-shelf.result.now c.args.new.now c.args.now c.hold_each.new.pieces.items c.hold_each.new.pool
+joins : (c : goal.After-self-1) → JoinsIn c.self.inside c.args.tenant c.index_mut-shelf.result.now c.args.ready.new c.args.ready.now c.hold_each.new.pieces.items c.hold_each.new.pool
 joins c =
-    JoinsIn-held c.self.inside c.args.self.now c.args.tenant c.index_mut-shelf.result.now c.new.inside.parts.now c.args.new.now c.args.now c.in_ok-unheld.unheld.items c.in_ok-pieces.pieces.items c.hold_each.new.pieces.items c.hold_each.new.pool
-    c.self.view_is (IsPart-read c.self.inside c.args.self.now c.args.tenant c.index_mut-shelf.result.now c.self.view_is c.requires.tenant c.index_mut-shelf.ensures.value) (ap (λ (new : NewFinal). new.parts) c.new.view_is)
-    c.in_ok-unheld.ensures.pieces c.in_ok-pieces.ensures.items c.hold_each.ensures.pieces c.hold_each.ensures.holds
+    JoinsIn-held c.self.inside c.args.self.now c.args.tenant c.index_mut-shelf.result.now c.args.ready.new.parts c.args.ready.new c.args.ready.now c.args.ready.unheld.items c.args.ready.pieces.items c.hold_each.new.pieces.items c.hold_each.new.pool
+    c.self.view_is (IsPart-read c.self.inside c.args.self.now c.args.tenant c.index_mut-shelf.result.now c.self.view_is c.requires.tenant c.index_mut-shelf.ensures.value) refl
+    c.requires.listed.pieces c.requires.listed.empty c.hold_each.ensures.pieces c.hold_each.ensures.holds
 
 -- the part with the upload
 after : goal.After-self-1 → KeptShelf
@@ -53,7 +48,7 @@ after c = record (c.index_mut-shelf.result.now) {
   spare = c.pop.new.self;
 }
 
-joined : (c : goal.After-self-1) → IsJoined c.self.inside c.index_mut-shelf.result.now (after c) c.args.new.now c.hold_each.new.pieces.items
+joined : (c : goal.After-self-1) → IsJoined c.self.inside c.index_mut-shelf.result.now (after c) c.args.ready.new c.hold_each.new.pieces.items
 unfolding after
 joined c = record {
   quota = refl;
@@ -72,19 +67,19 @@ joined c = record {
 pub invariant_of-self : goal.invariant_of-self
 unfolding after
 invariant_of-self c =
-    IsKept-joined c.self.inside c.args.tenant c.index_mut-shelf.result.now (after c) c.args.new.now c.args.now c.hold_each.new.pieces.items c.hold_each.new.pool c.self.invariant (joins c) (joined c)
+    IsKept-joined c.self.inside c.args.tenant c.index_mut-shelf.result.now (after c) c.args.ready.new c.args.ready.now c.hold_each.new.pieces.items c.hold_each.new.pool c.self.invariant (joins c) (joined c)
 
 pub returns-clause-plain : goal.returns-clause-plain
 unfolding after
 returns-clause-plain c =
-    rw (← c.self.view_is) (plain-joined c.self.inside c.args.tenant c.index_mut-shelf.result.now (after c) c.args.new.now c.args.now c.hold_each.new.pieces.items c.hold_each.new.pool c.self.invariant (joins c) (joined c))
+    rw (← c.self.view_is) (plain-joined c.self.inside c.args.tenant c.index_mut-shelf.result.now (after c) c.args.ready.new c.args.ready.now c.hold_each.new.pieces.items c.hold_each.new.pool c.self.invariant (joins c) (joined c))
 
 pub returns-clause-joins : goal.returns-clause-joins
 unfolding after
 returns-clause-joins c =
-    rw (← c.self.view_is) (Joins-joined c.self.inside c.args.tenant c.index_mut-shelf.result.now (after c) c.args.new.now c.args.now c.hold_each.new.pieces.items c.hold_each.new.pool c.self.invariant (joins c) (joined c))
+    rw (← c.self.view_is) (Joins-joined c.self.inside c.args.tenant c.index_mut-shelf.result.now (after c) c.args.ready.new c.args.ready.now c.hold_each.new.pieces.items c.hold_each.new.pool c.self.invariant (joins c) (joined c))
 
 pub returns-clause-charge : goal.returns-clause-charge
 unfolding after
 returns-clause-charge c =
-    rw (← c.self.view_is) (charge-joined c.self.inside c.args.tenant c.index_mut-shelf.result.now (after c) c.args.new.now c.args.now c.hold_each.new.pieces.items c.hold_each.new.pool c.self.invariant (joins c) (joined c))
+    rw (← c.self.view_is) (charge-joined c.self.inside c.args.tenant c.index_mut-shelf.result.now (after c) c.args.ready.new c.args.ready.now c.hold_each.new.pieces.items c.hold_each.new.pool c.self.invariant (joins c) (joined c))

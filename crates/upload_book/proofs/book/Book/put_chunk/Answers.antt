@@ -1,0 +1,131 @@
+use Rattle.std.proofs.Common.{◌≡◌, ℕ, ◌+◌, ◌<◌, ◌≤◌, Bool, true, false, eqb, List, [], length, Fits, w64, ap, sym, subst, ◌∙◌, arith}
+use Rattle.std.proofs.lemmas.Bool.Decides.{nat_tests}
+use Rattle.std.proofs.lemmas.List.{nil_from_length}
+use Rattle.block_pool.specs.Blocks.{Blocks, size_of}
+use Rattle.block_bodies.specs.Bodies.{HasRoom}
+use Rattle.upload_book.specs.Book.{StoredBook, IsBook}
+use Rattle.upload_book.specs.Chunk.{Chunk}
+use Rattle.upload_book.specs.contracts.book.Book.{the_view}
+use Rattle.upload_book.specs.declared.ready.ReadyChunk.{ReadyChunk}
+use Rattle.upload_book.specs.declared.settings.Numbers.{Numbers}
+use Rattle.upload_book.specs.Ready.{IsReadyForChunk}
+use Rattle.upload_book.specs.Account.{blocks_between}
+use Rattle.upload_book.specs.Store.{entry_at, upload_at}
+use Rattle.upload_book.specs.Upload.{offset_of}
+use Rattle.upload_book.specs.Stored.{own_chain}
+use Rattle.upload_book.proofs.BookSteps.{shelves-settings}
+use Rattle.upload_book.proofs.PatchSteps.{IsBook-patch, patch-alone, patch-answer, patch-charged, patch-follows, patch-free, patch-room, patch-taken, plain-patch}
+use Rattle.upload_book.proofs.book.Book.put_chunk.Goals as goal
+
+-- the test on the bytes tells that there are none,
+no_bytes : (bytes : List ℕ) (empty : Bool) → empty ≡ eqb (length bytes) 0 → empty ≡ true → bytes ≡ []
+no_bytes bytes empty is holds = nil_from_length bytes (grind (arith, nat_tests))
+
+-- or that there are some
+some_bytes : (bytes : List ℕ) (empty : Bool) → empty ≡ eqb (length bytes) 0 → empty ≡ false → 0 < length bytes
+some_bytes bytes empty is fails = grind (arith, nat_tests)
+
+-- the book was ready
+ready_as : (b w : StoredBook) (r : ReadyChunk) → b ≡ w → IsReadyForChunk w r → IsReadyForChunk b r
+ready_as b w r is ready = subst (λ (b : StoredBook). IsReadyForChunk b r) (sym is) ready
+
+-- the tenant has a shelf
+shelf_there : (b : StoredBook) (r : ReadyChunk) → IsBook b → IsReadyForChunk b r → r.name.tenant < length b.store.shelves
+shelf_there b r kept ready = omega (arith, ready.there, shelves-settings b kept)
+
+pub invariant_of-self : goal.invariant_of-self
+invariant_of-self c =
+    let b = the_view c.self.inside in
+    let r = c.args.ready in
+    let ready = ready_as b c.args.self.now r c.self.view_is c.requires in
+    let within = shelf_there b r c.self.invariant ready in
+    let bytes : c.chunk.inside.bytes.now ≡ r.chunk.bytes = ap (λ (chunk : Chunk). chunk.bytes) c.chunk.view_is in
+    let empty : [] ≡ r.chunk.bytes = sym (no_bytes c.chunk.inside.bytes.now c.is_empty.result c.is_empty.ensures c.if-is_empty.true) ∙ bytes in
+    let follows = patch-follows b r.name.tenant r.name.id r.place r.now r.chunk c.self.invariant within ready.seen ready.accepted c.renew.new.self [] r.after empty ready.after (rw c.from-tenant.ensures at c.renew.ensures.plain) (record { blocks = ap size_of c.renew.ensures.pool; bytes = ap (λ (p : Blocks). p.block_size) c.renew.ensures.pool }) c.renew.ensures.room_stays in
+    IsBook-patch b r.name.tenant r.name.id r.place r.now r.chunk c.self.invariant within ready.seen ready.accepted c.renew.new.self b.charged follows (patch-free b r.name.tenant r.name.id r.place r.now r.chunk c.self.invariant within ready.seen ready.accepted (sym empty))
+
+pub returns-then-is_empty-clause-answer : goal.returns-then-is_empty-clause-answer
+returns-then-is_empty-clause-answer c =
+    let b = the_view c.self.inside in
+    let r = c.args.ready in
+    let ready = ready_as b c.args.self.now r c.self.view_is c.requires in
+    rw (← c.self.view_is) (patch-answer b r.name.tenant r.name.id r.place r.now r.chunk c.self.invariant (shelf_there b r c.self.invariant ready) ready.seen ready.accepted r.after ready.after)
+
+pub returns-then-is_empty-clause-after : goal.returns-then-is_empty-clause-after
+returns-then-is_empty-clause-after c =
+    let b = the_view c.self.inside in
+    let r = c.args.ready in
+    let ready = ready_as b c.args.self.now r c.self.view_is c.requires in
+    let within = shelf_there b r c.self.invariant ready in
+    let bytes : c.chunk.inside.bytes.now ≡ r.chunk.bytes = ap (λ (chunk : Chunk). chunk.bytes) c.chunk.view_is in
+    let empty : [] ≡ r.chunk.bytes = sym (no_bytes c.chunk.inside.bytes.now c.is_empty.result c.is_empty.ensures c.if-is_empty.true) ∙ bytes in
+    let follows = patch-follows b r.name.tenant r.name.id r.place r.now r.chunk c.self.invariant within ready.seen ready.accepted c.renew.new.self [] r.after empty ready.after (rw c.from-tenant.ensures at c.renew.ensures.plain) (record { blocks = ap size_of c.renew.ensures.pool; bytes = ap (λ (p : Blocks). p.block_size) c.renew.ensures.pool }) c.renew.ensures.room_stays in
+    rw (← c.self.view_is) (plain-patch b r.name.tenant r.name.id r.place r.now r.chunk c.self.invariant within ready.seen ready.accepted c.renew.new.self b.charged follows (patch-free b r.name.tenant r.name.id r.place r.now r.chunk c.self.invariant within ready.seen ready.accepted (sym empty)))
+
+pub put-requires-clause-alone : goal.put-requires-clause-alone
+put-requires-clause-alone c =
+    let b = the_view c.self.inside in
+    let r = c.args.ready in
+    let ready = ready_as b c.args.self.now r c.self.view_is c.requires in
+    let bytes : c.chunk.inside.bytes.now ≡ r.chunk.bytes = ap (λ (chunk : Chunk). chunk.bytes) c.chunk.view_is in
+    let some : 0 < length r.chunk.bytes = subst (λ (bytes : List ℕ). 0 < length bytes) bytes (some_bytes c.chunk.inside.bytes.now c.is_empty.result c.is_empty.ensures c.if-is_empty.false) in
+    rw c.from-tenant.ensures (patch-alone b r.name.tenant r.name.id r.place r.now r.chunk c.self.invariant (shelf_there b r c.self.invariant ready) ready.seen ready.accepted some)
+
+pub put-requires-clause-room : goal.put-requires-clause-room
+put-requires-clause-room c =
+    let b = the_view c.self.inside in
+    let r = c.args.ready in
+    let ready = ready_as b c.args.self.now r c.self.view_is c.requires in
+    let bytes : c.chunk.inside.bytes.now ≡ r.chunk.bytes = ap (λ (chunk : Chunk). chunk.bytes) c.chunk.view_is in
+    rw (c.from-tenant.ensures, bytes) (patch-room b r.name.tenant r.name.id r.place r.now r.chunk c.self.invariant (shelf_there b r c.self.invariant ready) ready.seen ready.accepted)
+
+pub put-requires-clause-listed : goal.put-requires-clause-listed
+put-requires-clause-listed c =
+    let b = the_view c.self.inside in
+    let r = c.args.ready in
+    let ready = ready_as b c.args.self.now r c.self.view_is c.requires in
+    let bytes : c.chunk.inside.bytes.now ≡ r.chunk.bytes = ap (λ (chunk : Chunk). chunk.bytes) c.chunk.view_is in
+    let some : 0 < length r.chunk.bytes = subst (λ (bytes : List ℕ). 0 < length bytes) bytes (some_bytes c.chunk.inside.bytes.now c.is_empty.result c.is_empty.ensures c.if-is_empty.false) in
+    rw c.from-tenant.ensures (subst (λ (bytes : List ℕ). HasRoom b.store.pool (own_chain (entry_at b.store r.name.tenant r.place).kept.pieces) (length bytes)) (sym bytes) (ready.room some))
+
+-- what is charged in all fits
+fits_taken : (charged taken blocks most : ℕ) → most < 18446744073709551616 → taken ≡ blocks → charged + blocks ≤ most → Fits w64 (charged + taken)
+fits_taken charged taken blocks most fits same within = omega arith
+
+pub overflow_add-self : goal.overflow_add-self
+overflow_add-self c =
+    let b = the_view c.self.inside in
+    let r = c.args.ready in
+    let ready = ready_as b c.args.self.now r c.self.view_is c.requires in
+    let bytes : c.chunk.inside.bytes.now ≡ r.chunk.bytes = ap (λ (chunk : Chunk). chunk.bytes) c.chunk.view_is in
+    fits_taken b.charged c.put.result (blocks_between b.store.pool.block_size (offset_of (upload_at b.store r.name.tenant r.place)) (length r.chunk.bytes)) b.settings.numbers.last_total (subst (λ (n : Numbers). n.last_total < 18446744073709551616) c.numbers.ensures.value c.numbers.ensures.last_total) (rw (c.from-tenant.ensures, bytes) at c.put.ensures.taken)
+    (patch-charged b r.name.tenant r.name.id r.place r.now r.chunk c.self.invariant (shelf_there b r c.self.invariant ready) ready.seen ready.accepted)
+
+pub invariant_of-self-2 : goal.invariant_of-self-2
+invariant_of-self-2 c =
+    let b = the_view c.self.inside in
+    let r = c.args.ready in
+    let ready = ready_as b c.args.self.now r c.self.view_is c.requires in
+    let within = shelf_there b r c.self.invariant ready in
+    let bytes : c.chunk.inside.bytes.now ≡ r.chunk.bytes = ap (λ (chunk : Chunk). chunk.bytes) c.chunk.view_is in
+    let follows = patch-follows b r.name.tenant r.name.id r.place r.now r.chunk c.self.invariant within ready.seen ready.accepted c.put.new.self c.chunk.inside.bytes.now r.after bytes ready.after (rw c.from-tenant.ensures at c.put.ensures.plain) c.put.ensures.sizes c.put.ensures.room_stays in
+    let charged = ap (λ n. b.charged + n) (patch-taken b r.name.tenant r.name.id r.place r.now r.chunk c.self.invariant within ready.seen ready.accepted c.from-tenant.result c.put.result c.chunk.inside.bytes.now c.from-tenant.ensures bytes c.put.ensures.taken) in
+    IsBook-patch b r.name.tenant r.name.id r.place r.now r.chunk c.self.invariant within ready.seen ready.accepted c.put.new.self (b.charged + c.put.result) follows charged
+
+pub returns-clause-answer : goal.returns-clause-answer
+returns-clause-answer c =
+    let b = the_view c.self.inside in
+    let r = c.args.ready in
+    let ready = ready_as b c.args.self.now r c.self.view_is c.requires in
+    rw (← c.self.view_is) (patch-answer b r.name.tenant r.name.id r.place r.now r.chunk c.self.invariant (shelf_there b r c.self.invariant ready) ready.seen ready.accepted r.after ready.after)
+
+pub returns-clause-after : goal.returns-clause-after
+returns-clause-after c =
+    let b = the_view c.self.inside in
+    let r = c.args.ready in
+    let ready = ready_as b c.args.self.now r c.self.view_is c.requires in
+    let within = shelf_there b r c.self.invariant ready in
+    let bytes : c.chunk.inside.bytes.now ≡ r.chunk.bytes = ap (λ (chunk : Chunk). chunk.bytes) c.chunk.view_is in
+    let follows = patch-follows b r.name.tenant r.name.id r.place r.now r.chunk c.self.invariant within ready.seen ready.accepted c.put.new.self c.chunk.inside.bytes.now r.after bytes ready.after (rw c.from-tenant.ensures at c.put.ensures.plain) c.put.ensures.sizes c.put.ensures.room_stays in
+    let charged = ap (λ n. b.charged + n) (patch-taken b r.name.tenant r.name.id r.place r.now r.chunk c.self.invariant within ready.seen ready.accepted c.from-tenant.result c.put.result c.chunk.inside.bytes.now c.from-tenant.ensures bytes c.put.ensures.taken) in
+    rw (← c.self.view_is) (plain-patch b r.name.tenant r.name.id r.place r.now r.chunk c.self.invariant within ready.seen ready.accepted c.put.new.self (b.charged + c.put.result) follows charged)

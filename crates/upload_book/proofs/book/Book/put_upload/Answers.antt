@@ -1,0 +1,93 @@
+use Rattle.std.proofs.Common.{◌≡◌, ◌+◌, ◌<◌, ◌≤◌, ℕ, List, set, Fits, w64, ap, sym, ◌∙◌, subst, arith}
+use Rattle.upload_book.specs.Book.{StoredBook, IsBook}
+use Rattle.upload_book.specs.contracts.book.Book.{the_view}
+use Rattle.upload_book.specs.Create.{created_upload, upload_from}
+use Rattle.upload_book.specs.declared.ready.ReadyUpload.{ReadyUpload}
+use Rattle.upload_book.specs.FirstChunk.{FirstChunk}
+use Rattle.upload_book.specs.declared.settings.Numbers.{Numbers}
+use Rattle.upload_book.specs.Ready.{IsReadyForUpload}
+use Rattle.upload_book.specs.Store.{Store, part_at, plain_in}
+use Rattle.upload_book.specs.TenantBook.{with_new}
+use Rattle.upload_book.proofs.BookSteps.{shelves-settings}
+use Rattle.upload_book.proofs.CreateSteps.{IsCreation, IsBook-create, create-answer, create-blocks, create-charged, create-follows, create-next, create-room, create-taken, plain-create}
+use Rattle.upload_book.proofs.book.Book.put_upload.Goals as goal
+
+-- the book was ready
+ready_as : (b w : StoredBook) (r : ReadyUpload) → b ≡ w → IsReadyForUpload w r → IsReadyForUpload b r
+ready_as b w r is ready = subst (λ (b : StoredBook). IsReadyForUpload b r) (sym is) ready
+
+-- a creation that is not refused
+creation : (b w : StoredBook) (r : ReadyUpload) → IsBook b → b ≡ w → IsReadyForUpload w r → IsCreation b r.tenant r.new r.first
+creation b w r kept is asked =
+    let ready = ready_as b w r is asked in
+    record { kept = kept; within = omega (arith, ready.there, shelves-settings b kept); texts = record { metadata = ready.metadata; concat = ready.concat }; none = ready.accepted }
+
+-- the store has the upload
+stored : (b w : StoredBook) (r : ReadyUpload) (s : Store) (place : ℕ) (bytes : List ℕ) → b ≡ w → IsReadyForUpload w r → place ≡ r.tenant → bytes ≡ r.first.bytes
+    → plain_in s ≡ set (plain_in b.store) place (with_new (part_at b.store place) (upload_from r.new bytes r.expires))
+    → plain_in s ≡ set (plain_in b.store) r.tenant (with_new (part_at b.store r.tenant) (created_upload b.settings.numbers r.new r.first.bytes r.now))
+stored b w r s place bytes is asked at bytes_is plain =
+    plain ∙ ap (λ t. set (plain_in b.store) t (with_new (part_at b.store t) (upload_from r.new bytes r.expires))) at
+    ∙ ap (λ bytes. set (plain_in b.store) r.tenant (with_new (part_at b.store r.tenant) (upload_from r.new bytes r.expires))) bytes_is
+    ∙ ap (λ expires. set (plain_in b.store) r.tenant (with_new (part_at b.store r.tenant) (upload_from r.new r.first.bytes expires))) (ready_as b w r is asked).expires
+
+pub next-id-requires : goal.next-id-requires
+next-id-requires c = rw c.from-place.ensures (creation (the_view c.self.inside) c.args.self.now c.args.ready c.self.invariant c.self.view_is c.requires).within
+
+pub create-requires-clause-tenant : goal.create-requires-clause-tenant
+create-requires-clause-tenant c = rw c.from-place.ensures (creation (the_view c.self.inside) c.args.self.now c.args.ready c.self.invariant c.self.view_is c.requires).within
+
+pub create-requires-clause-room : goal.create-requires-clause-room
+create-requires-clause-room c =
+    let r = c.args.ready in
+    rw c.from-place.ensures (create-room (the_view c.self.inside) r.tenant r.new r.first r.now (creation (the_view c.self.inside) c.args.self.now r c.self.invariant c.self.view_is c.requires))
+
+pub create-requires-clause-id : goal.create-requires-clause-id
+create-requires-clause-id c =
+    let r = c.args.ready in
+    rw c.from-place.ensures (create-next (the_view c.self.inside) r.tenant r.new r.first r.now (creation (the_view c.self.inside) c.args.self.now r c.self.invariant c.self.view_is c.requires))
+
+pub create-requires-clause-blocks : goal.create-requires-clause-blocks
+create-requires-clause-blocks c =
+    let r = c.args.ready in
+    rw (ap (λ (first : FirstChunk). first.bytes) c.first.view_is) (create-blocks (the_view c.self.inside) r.tenant r.new r.first r.now (creation (the_view c.self.inside) c.args.self.now r c.self.invariant c.self.view_is c.requires))
+
+-- what is charged in all fits
+fits_taken : (charged taken blocks most : ℕ) → most < 18446744073709551616 → taken ≡ blocks → charged + blocks ≤ most → Fits w64 (charged + taken)
+fits_taken charged taken blocks most fits same within = omega arith
+
+pub overflow_add-self : goal.overflow_add-self
+overflow_add-self c =
+    let b = the_view c.self.inside in
+    let r = c.args.ready in
+    let is = creation b c.args.self.now r c.self.invariant c.self.view_is c.requires in
+    let bytes : c.first.inside.bytes.now ≡ r.first.bytes = ap (λ (first : FirstChunk). first.bytes) c.first.view_is in
+    let taken = create-taken b r.tenant r.new r.first r.now is c.create.result (rw bytes at c.create.ensures.taken) in
+    fits_taken _ _ _ _ (subst (λ (n : Numbers). n.last_total < 18446744073709551616) c.numbers.ensures.value c.numbers.ensures.last_total) taken (create-charged b r.tenant r.new r.first r.now is)
+
+pub invariant_of-self : goal.invariant_of-self
+invariant_of-self c =
+    let b = the_view c.self.inside in
+    let r = c.args.ready in
+    let is = creation b c.args.self.now r c.self.invariant c.self.view_is c.requires in
+    let bytes : c.first.inside.bytes.now ≡ r.first.bytes = ap (λ (first : FirstChunk). first.bytes) c.first.view_is in
+    let taken = create-taken b r.tenant r.new r.first r.now is c.create.result (rw bytes at c.create.ensures.taken) in
+    let follows = create-follows b r.tenant r.new r.first r.now is c.create.new.self (stored b c.args.self.now r c.create.new.self c.from-place.result c.first.inside.bytes.now c.self.view_is c.requires c.from-place.ensures bytes c.create.ensures.plain) c.create.ensures.sizes c.create.ensures.room_stays in
+    IsBook-create b r.tenant r.new r.first r.now is c.create.new.self (b.charged + c.create.result) follows (ap (λ n. b.charged + n) taken)
+
+pub returns-clause-answer : goal.returns-clause-answer
+returns-clause-answer c =
+    let b = the_view c.self.inside in
+    let r = c.args.ready in
+    let is = creation b c.args.self.now r c.self.invariant c.self.view_is c.requires in
+    rw (← c.self.view_is) (create-answer b r.tenant r.new r.first r.now is c.next-id.result r.expires (c.next-id.ensures ∙ ap (λ t. (part_at b.store t).next) c.from-place.ensures) (ready_as b c.args.self.now r c.self.view_is c.requires).expires)
+
+pub returns-clause-after : goal.returns-clause-after
+returns-clause-after c =
+    let b = the_view c.self.inside in
+    let r = c.args.ready in
+    let is = creation b c.args.self.now r c.self.invariant c.self.view_is c.requires in
+    let bytes : c.first.inside.bytes.now ≡ r.first.bytes = ap (λ (first : FirstChunk). first.bytes) c.first.view_is in
+    let taken = create-taken b r.tenant r.new r.first r.now is c.create.result (rw bytes at c.create.ensures.taken) in
+    let follows = create-follows b r.tenant r.new r.first r.now is c.create.new.self (stored b c.args.self.now r c.create.new.self c.from-place.result c.first.inside.bytes.now c.self.view_is c.requires c.from-place.ensures bytes c.create.ensures.plain) c.create.ensures.sizes c.create.ensures.room_stays in
+    rw (← c.self.view_is) (plain-create b r.tenant r.new r.first r.now is c.create.new.self (b.charged + c.create.result) follows (ap (λ n. b.charged + n) taken))

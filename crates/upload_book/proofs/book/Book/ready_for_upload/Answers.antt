@@ -1,0 +1,98 @@
+use Rattle.std.proofs.Common.{◌≡◌, ◌<◌, ℕ, List, length, None, Option, Some, inl, inr, refl, ap, sym, ◌∙◌, subst, arith}
+use Rattle.upload_book.specs.Book.{plain_of, IsBook, StoredBook}
+use Rattle.upload_book.specs.contracts.book.Book.{the_view}
+use Rattle.upload_book.specs.Create.{creation_refusal, first_end}
+use Rattle.upload_book.specs.declared.account.Account.{Account}
+use Rattle.upload_book.specs.declared.ready.ReadyUpload.{ReadyUpload}
+use Rattle.upload_book.specs.declared.refusal.Refusal.{Refusal}
+use Rattle.upload_book.specs.declared.settings.Numbers.{Numbers}
+use Rattle.upload_book.specs.FirstChunk.{FirstChunk}
+use Rattle.upload_book.specs.NewUpload.{NewUpload}
+use Rattle.upload_book.specs.PlainBook.{tenant_book}
+use Rattle.upload_book.specs.Ready.{IsReadyForUpload}
+use Rattle.block_bodies.specs.Bodies.{HasRoom}
+use Rattle.upload_book.specs.Store.{part_at}
+use Rattle.upload_book.proofs.BookSteps.{part-plain, shelves-settings}
+use Rattle.upload_book.proofs.CreateSteps.{IsCreation, create-blocks, create-lacks, create-taken}
+use Rattle.upload_book.proofs.LawfulCreate.{HasLawfulTexts}
+use Rattle.upload_book.proofs.Outcomes.{create_answer-refused}
+use Rattle.upload_book.proofs.PatchSteps.{account_at}
+use Rattle.upload_book.proofs.book.Book.ready_for_upload.Goals as goal
+
+-- what was read where a creation is tested
+record IsRead (b w : StoredBook) (t place : ℕ) (numbers : Numbers) (account : Account) (new : NewUpload) (first : FirstChunk) (found : Option Refusal) : Type 0 where
+  kept : IsBook b
+  is : b ≡ w
+  tenant : t < length w.settings.tenants
+  texts : HasLawfulTexts new
+  at : place ≡ t
+  numbers_read : numbers ≡ b.settings.numbers
+  account_read : account ≡ account_at w t
+  found_is : found ≡ creation_refusal numbers account (part_at b.store place) new first
+
+module _ {b w : StoredBook} {t place : ℕ} {numbers : Numbers} {account : Account} {new : NewUpload} {first : FirstChunk} {found : Option Refusal} (r : IsRead b w t place numbers account new first found) where
+  -- the tenant has a shelf
+  there : t < length b.store.shelves
+  there = omega (arith, r.tenant, shelves-settings b r.kept, ap (λ (b : StoredBook). length b.settings.tenants) r.is)
+
+  -- why the creation is refused, if it is
+  told : (why : Option Refusal) → found ≡ why → creation_refusal b.settings.numbers (account_at b t) (tenant_book (plain_of b) t) new first ≡ why
+  told why answer =
+      ap (λ part. creation_refusal b.settings.numbers (account_at b t) part new first) (part-plain b t)
+      ∙ ap (λ b'. creation_refusal b.settings.numbers (account_at b' t) (part_at b.store t) new first) r.is
+      ∙ ap (λ a. creation_refusal b.settings.numbers a (part_at b.store t) new first) (sym r.account_read)
+      ∙ ap (λ n. creation_refusal n account (part_at b.store t) new first) (sym r.numbers_read)
+      ∙ ap (λ t. creation_refusal numbers account (part_at b.store t) new first) (sym r.at) ∙ sym r.found_is ∙ answer
+
+  -- a creation that is not refused
+  creation : found ≡ None → IsCreation b t new first
+  creation none = record { kept = r.kept; within = there; texts = r.texts; none = told None none }
+
+  -- the end of the upload
+  ends : (now : ℕ) (bytes : List ℕ) (expires : Option ℕ) → bytes ≡ first.bytes → expires ≡ first_end numbers new (length bytes) now → expires ≡ first_end b.settings.numbers new (length first.bytes) now
+  ends now bytes expires bytes_is is =
+      is ∙ ap (λ n. first_end n new (length bytes) now) r.numbers_read ∙ ap (λ (bytes : List ℕ). first_end b.settings.numbers new (length bytes) now) bytes_is
+
+pub returns-in-Some-clause-refused : goal.returns-in-Some-clause-refused
+returns-in-Some-clause-refused c =
+    let b = the_view c.self.inside in
+    let r : IsRead b c.args.self.now c.args.tenant c.from-place.result c.numbers-numbers.result.now c.account-account.result c.args.new c.args.first c.creation_refusal.result =
+    record { kept = c.self.invariant; is = c.self.view_is; tenant = c.requires.tenant_there; texts = record { metadata = c.requires.metadata; concat = c.requires.concat }; at = c.from-place.ensures; numbers_read = c.numbers-numbers.ensures.value; account_read = c.account-account.ensures; found_is = c.creation_refusal.ensures.value } in
+    inl (rw (← c.self.view_is) (sym (create_answer-refused c.args.tenant b.settings.numbers (tenant_book (plain_of b) c.args.tenant) c.args.new c.args.first c.args.now b.charged c.in-Some.refusal (told r (Some c.in-Some.refusal) c.in-Some.is))))
+
+pub body_for-requires : goal.body_for-requires
+body_for-requires c =
+    let b = the_view c.self.inside in
+    let r : IsRead b c.args.self.now c.args.tenant c.from-place.result c.numbers-numbers.result.now c.account-account.result c.args.new c.args.first c.creation_refusal.result =
+    record { kept = c.self.invariant; is = c.self.view_is; tenant = c.requires.tenant_there; texts = record { metadata = c.requires.metadata; concat = c.requires.concat }; at = c.from-place.ensures; numbers_read = c.numbers-numbers.ensures.value; account_read = c.account-account.ensures; found_is = c.creation_refusal.ensures.value } in
+    let bytes : c.first.inside.bytes.now ≡ c.args.first.bytes = ap (λ (first : FirstChunk). first.bytes) c.first.view_is in
+    let is = creation r c.in_default.is in
+    record { blocks = rw bytes (create-blocks b c.args.tenant c.args.new c.args.first c.args.now is) }
+
+pub returns-in-Ok-clause-ready : goal.returns-in-Ok-clause-ready
+returns-in-Ok-clause-ready c =
+    let b = the_view c.self.inside in
+    let r : IsRead b c.args.self.now c.args.tenant c.from-place.result c.numbers-numbers.result.now c.account-account.result c.args.new c.args.first c.creation_refusal.result =
+    record { kept = c.self.invariant; is = c.self.view_is; tenant = c.requires.tenant_there; texts = record { metadata = c.requires.metadata; concat = c.requires.concat }; at = c.from-place.ensures; numbers_read = c.numbers-numbers.ensures.value; account_read = c.account-account.ensures; found_is = c.creation_refusal.ensures.value } in
+    let bytes : c.first.inside.bytes.now ≡ c.args.first.bytes = ap (λ (first : FirstChunk). first.bytes) c.first.view_is in
+    let is = creation r c.in_default.is in
+    let ready : ReadyUpload = record { tenant = c.args.tenant; new = c.args.new; first = c.args.first; now = c.args.now; expires = c.first_end-expires.result; body = c.in-Ok.body } in
+    subst (λ (b : StoredBook). IsReadyForUpload b ready) c.self.view_is (record {
+      there = omega (arith, c.requires.tenant_there, ap (λ (b : StoredBook). length b.settings.tenants) c.self.view_is);
+      metadata = c.requires.metadata;
+      concat = c.requires.concat;
+      accepted = is.none;
+      expires = ends r c.args.now c.first.inside.bytes.now c.first_end-expires.result bytes c.first_end-expires.ensures;
+      empty = c.in-Ok.ensures.empty;
+      room = subst (λ (bytes : List ℕ). HasRoom b.store.pool c.in-Ok.body (length bytes)) bytes c.in-Ok.ensures.listed;
+    })
+
+pub returns-in-Err-clause-refused : goal.returns-in-Err-clause-refused
+returns-in-Err-clause-refused c =
+    let b = the_view c.self.inside in
+    let r : IsRead b c.args.self.now c.args.tenant c.from-place.result c.numbers-numbers.result.now c.account-account.result c.args.new c.args.first c.creation_refusal.result =
+    record { kept = c.self.invariant; is = c.self.view_is; tenant = c.requires.tenant_there; texts = record { metadata = c.requires.metadata; concat = c.requires.concat }; at = c.from-place.ensures; numbers_read = c.numbers-numbers.ensures.value; account_read = c.account-account.ensures; found_is = c.creation_refusal.ensures.value } in
+    let bytes : c.first.inside.bytes.now ≡ c.args.first.bytes = ap (λ (first : FirstChunk). first.bytes) c.first.view_is in
+    let is = creation r c.in_default.is in
+    let some = subst (λ n. 0 < n) (create-taken b c.args.tenant c.args.new c.args.first c.args.now is _ refl) (rw bytes at c.in-Err.ensures.memory) in
+    inr (rw (← c.self.view_is) (create-lacks b c.args.tenant c.args.new c.args.first c.args.now is some, refl))

@@ -1,0 +1,103 @@
+-- When a book is ready for a change: all that it takes was found, and its memory taken.
+use Rattle.std.specs.Prelude.{◌≡◌, ℕ, ◌<◌, ◌≤◌, IsTrue, None, [], length, map, vec_capacity, ⊤}
+use Rattle.block_bodies.specs.Bodies.{HasRoom}
+use Rattle.upload_book.specs.Account.{account_in}
+use Rattle.upload_book.specs.Append.{append_refusal, row_with}
+use Rattle.upload_book.specs.Book.{StoredBook, plain_of}
+use Rattle.upload_book.specs.declared.change.Change.{Change}
+use Rattle.upload_book.specs.declared.change.Change.TheVariants as change
+use Rattle.upload_book.specs.declared.head_row.Kind.TheVariants.{Final}
+use Rattle.upload_book.specs.declared.ready.Ready.{Ready}
+use Rattle.upload_book.specs.declared.ready.ReadyChunk.{ReadyChunk}
+use Rattle.upload_book.specs.Concat.{concat_refusal, joined_len}
+use Rattle.upload_book.specs.Create.{creation_refusal, first_end, new_kind}
+use Rattle.upload_book.specs.declared.ready.ReadyEnd.{ReadyEnd}
+use Rattle.upload_book.specs.declared.ready.ReadyFinal.{ReadyFinal}
+use Rattle.upload_book.specs.declared.ready.ReadyUpload.{ReadyUpload}
+use Rattle.upload_book.specs.declared.ready.Step.{Step}
+use Rattle.upload_book.specs.declared.ready.Step.TheVariants.{Append, Concat, Create, Sweep, Terminate}
+use Rattle.upload_book.specs.Lawful.{IsConcatText, is_kept_metadata}
+use Rattle.upload_book.specs.PlainBook.{tenant_book}
+use Rattle.upload_book.specs.Standing.{standing_in}
+use Rattle.upload_book.specs.Store.{Store, IsVisibleIn, entry_at, pieces_named, rows_at, upload_at}
+use Rattle.upload_book.specs.Stored.{as_piece, no_chain, own_chain, segment_of}
+use Rattle.upload_book.specs.Upload.{head_row_of}
+
+-- The book is ready for a PATCH: it sees the upload at the place and refuses nothing, the upload will be so far, and
+-- there is room for the bytes in the list of its blocks.
+pub record IsReadyForChunk (b : StoredBook) (r : ReadyChunk) : Type 0 where
+  pub there : r.name.tenant < length b.settings.tenants
+  pub seen : IsVisibleIn b.store r.name.tenant r.name.id r.now r.place
+  pub accepted : append_refusal b.settings.numbers (account_in b.settings.numbers (tenant_book (plain_of b) r.name.tenant) b.charged) (head_row_of (upload_at b.store r.name.tenant r.place)) r.chunk ≡ None
+  pub after : r.after ≡ standing_in (row_with b.settings.numbers (head_row_of (upload_at b.store r.name.tenant r.place)) r.chunk r.now)
+  pub room : 0 < length r.chunk.bytes → HasRoom b.store.pool (own_chain (entry_at b.store r.name.tenant r.place).kept.pieces) (length r.chunk.bytes)
+
+-- the book is ready for a DELETE: it sees the upload at the place
+pub record IsReadyForEnd (b : StoredBook) (r : ReadyEnd) : Type 0 where
+  pub there : r.name.tenant < length b.store.shelves
+  pub seen : IsVisibleIn b.store r.name.tenant r.name.id r.now r.place
+
+-- The book is ready for a creation: it refuses nothing, the texts are of their forms, the upload will expire then, and
+-- there is a body with room for the first bytes.
+pub record IsReadyForUpload (b : StoredBook) (r : ReadyUpload) : Type 0 where
+  pub there : r.tenant < length b.settings.tenants
+  pub metadata : IsTrue (is_kept_metadata r.new.metadata)
+  pub concat : IsConcatText (new_kind r.new.partial) r.new.concat
+  pub accepted : creation_refusal b.settings.numbers (account_in b.settings.numbers (tenant_book (plain_of b) r.tenant) b.charged) (tenant_book (plain_of b) r.tenant) r.new r.first ≡ None
+  pub expires : r.expires ≡ first_end b.settings.numbers r.new (length r.first.bytes) r.now
+  pub empty : r.body ≡ record no_chain { room = r.body.room }
+  pub room : HasRoom b.store.pool r.body (length r.first.bytes)
+
+-- the pieces of the parts of a concatenation were listed, and there is an empty list with room for them
+pub record IsListed (s : Store) (tenant : ℕ) (r : ReadyFinal) : Type 0 where
+  pub pieces : map segment_of (map as_piece r.unheld.items) ≡ map segment_of (pieces_named s tenant r.new.parts r.now)
+  pub few : length r.unheld.items ≤ length r.new.parts
+  pub empty : r.pieces.items ≡ []
+  pub room : length r.unheld.items ≤ vec_capacity r.pieces
+
+-- The book is ready for a concatenation: it refuses nothing, there are 1 to 32 parts, which are so long together, the
+-- texts are of their forms, and the pieces of the parts are listed.
+pub record IsReadyForFinal (b : StoredBook) (r : ReadyFinal) : Type 0 where
+  pub there : r.tenant < length b.settings.tenants
+  pub some : 0 < length r.new.parts
+  pub few : length r.new.parts ≤ 32
+  pub metadata : IsTrue (is_kept_metadata r.new.metadata)
+  pub concat : IsConcatText Final r.new.concat
+  pub accepted : concat_refusal b.settings.numbers (tenant_book (plain_of b) r.tenant) r.new r.now ≡ None
+  pub len : r.len ≡ joined_len (rows_at b.store r.tenant r.new.parts r.now)
+  pub listed : IsListed b.store r.tenant r
+
+-- the book is ready for a change: for a sweep it always is
+abbrev pub IsReadyForStep : StoredBook → Step → Type 0
+IsReadyForStep b (Create r) = IsReadyForUpload b r
+IsReadyForStep b (Append r) = IsReadyForChunk b r
+IsReadyForStep b (Concat r) = IsReadyForFinal b r
+IsReadyForStep b (Terminate r) = IsReadyForEnd b r
+IsReadyForStep b (Sweep r) = ⊤
+
+-- the same of what `prepare` gives
+abbrev pub IsReady : StoredBook → Ready → Type 0
+IsReady b r = IsReadyForStep b r.step
+
+-- the change that was prepared
+abbrev pub step_change : Step → Change
+step_change (Create r) = change.Create r.tenant r.new r.first
+step_change (Append r) = change.Append r.name r.chunk
+step_change (Concat r) = change.Concat r.tenant r.new
+step_change (Terminate r) = change.Terminate r.name
+step_change (Sweep r) = change.Sweep
+
+-- the same of what `prepare` gives,
+abbrev pub change_in : Ready → Change
+change_in r = step_change r.step
+
+-- and the moment at which it was
+abbrev pub step_moment : Step → ℕ
+step_moment (Create r) = r.now
+step_moment (Append r) = r.now
+step_moment (Concat r) = r.now
+step_moment (Terminate r) = r.now
+step_moment (Sweep r) = r.now
+
+abbrev pub moment_in : Ready → ℕ
+moment_in r = step_moment r.step

@@ -1,0 +1,76 @@
+use crate::append::Chunk;
+use crate::concat::NewFinal;
+use crate::create::{FirstChunk, NewUpload};
+use crate::head_row::Name;
+use crate::moment::Moment;
+use crate::piece::{Piece, UnheldPiece};
+use crate::standing::Standing;
+use block_bodies::Body;
+
+/// A change that [`crate::Book::prepare`] accepted, with all the memory that it takes: [`crate::Book::commit`] makes it.
+#[derive(Drop)]
+pub struct Ready<'a> {
+    pub(crate) step: Step<'a>,
+}
+
+/// Which change it is.
+#[derive(Drop)]
+pub(crate) enum Step<'a> {
+    Create(ReadyUpload<'a>),
+    Append(ReadyChunk<'a>),
+    Concat(ReadyFinal<'a>),
+    Terminate(ReadyEnd),
+    Sweep(ReadySweep),
+}
+
+/// A PATCH that was accepted, of the upload at this place, for whose bytes there is room.
+#[derive(Drop)]
+pub(crate) struct ReadyChunk<'a> {
+    pub(crate) name: Name,
+    pub(crate) chunk: Chunk<'a>,
+    pub(crate) now: Moment,
+    pub(crate) place: usize,
+    /// How far the upload is afterwards.
+    pub(crate) after: Standing,
+}
+
+/// A DELETE that was accepted, of the upload at this place.
+#[derive(Clone, Copy, Debug)]
+pub(crate) struct ReadyEnd {
+    pub(crate) name: Name,
+    pub(crate) now: Moment,
+    pub(crate) place: usize,
+}
+
+/// A creation that was accepted, for the tenant at this place.
+#[derive(Drop)]
+pub(crate) struct ReadyUpload<'a> {
+    pub(crate) tenant: u8,
+    pub(crate) new: NewUpload<'a>,
+    pub(crate) first: FirstChunk<'a>,
+    pub(crate) now: Moment,
+    /// When the upload will expire, if it does.
+    pub(crate) expires: Option<Moment>,
+    /// A body with room for the first bytes.
+    pub(crate) body: Body,
+}
+
+/// A concatenation that was accepted, for the tenant at this place.
+#[derive(Drop)]
+pub(crate) struct ReadyFinal<'a> {
+    pub(crate) tenant: u8,
+    pub(crate) new: NewFinal<'a>,
+    pub(crate) now: Moment,
+    /// How many bytes its parts have together.
+    pub(crate) len: u64,
+    /// The pieces of its parts, whose blocks are not held for it yet.
+    pub(crate) unheld: Vec<UnheldPiece>,
+    /// An empty list with room for them once they are.
+    pub(crate) pieces: Vec<Piece>,
+}
+
+/// A sweep.
+#[derive(Clone, Copy, Debug)]
+pub(crate) struct ReadySweep {
+    pub(crate) now: Moment,
+}
