@@ -6,3 +6,4 @@ pub mod ApartLemmas
 pub mod OwnLemmas
 pub mod HistoryLemmas
 pub mod LawsLemmas
+pub mod ChangeLemmas

@@ -65,7 +65,7 @@ append-step b r now name chunk result after (inr lacks) accepted refused =
     inr (lacks.0, ap (append_reply r) lacks.1, kept b after result _ lacks.1 refused)
 
 -- a concatenation that is refused leaves the part as it was
-part_after_concat-refused : (n : Numbers) (part : TenantBook) (tenant : ℕ) (new : NewFinal) (now : ℕ) (why : Refusal) → concat_answer tenant new now n part ≡ Err why → part_after_concat new now n part ≡ part
+pub part_after_concat-refused : (n : Numbers) (part : TenantBook) (tenant : ℕ) (new : NewFinal) (now : ℕ) (why : Refusal) → concat_answer tenant new now n part ≡ Err why → part_after_concat new now n part ≡ part
 part_after_concat-refused n part tenant new now why is =
     let refused = unless-Err (concat_refusal n part new now) (record { name = record { tenant = tenant; id = part.next }; expires = None }) why is in rw refused refl
 

@@ -2,6 +2,8 @@
 //! and applied as the plain book does.
 #![tactic(auto)]
 
+mod asked;
+mod change;
 mod creation;
 mod field;
 mod head;
@@ -18,6 +20,8 @@ mod step;
 mod tests;
 mod tus_fields;
 
+pub use asked::ChangeOf;
+pub use change::{change_of, change_reply};
 pub use creation::PartIds;
 pub use field::Field;
 pub use head::{HeadOf, head_of, head_reply};

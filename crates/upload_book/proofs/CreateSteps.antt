@@ -130,7 +130,7 @@ after-create b t new first now (Err why) after is accepted refused =
     refused ∙ sym (book_after-stays b t (part_after_create new first now b.charged) (part_after_create-refused t b.settings.numbers (tenant_book b t) new first now b.charged why (sym is)))
 
 -- no bytes take no block
-none-added : (size : ℕ) → blocks_between size 0 0 ≡ 0
+pub none-added : (size : ℕ) → blocks_between size 0 0 ≡ 0
 none-added size = itself (blocks_for size 0)
   where
     itself : (blocks : ℕ) → blocks - blocks ≡ 0
