@@ -4,3 +4,7 @@ pub mod Store
 pub mod Turn
 pub mod Served
 pub mod Fault
+pub mod Room
+pub mod Rows
+pub mod Table
+pub mod Laws

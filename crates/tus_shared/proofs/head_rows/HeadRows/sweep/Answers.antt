@@ -1,0 +1,24 @@
+use Rattle.std.proofs.Common.{refl, arith, sym, ◌∙◌}
+use Rattle.tus_shared.proofs.RowLemmas.{IsSweptTo-all, IsSweptTo-out, IsSweptTo-passed}
+use Rattle.tus_shared.proofs.head_rows.HeadRows.sweep.Goals as goal
+
+pub loop-place-init : goal.loop-place-init
+loop-place-init c = record {
+  part = refl;
+  room = refl;
+  left = refl;
+  front = λ k d below. absurd (omega arith);
+  within = omega arith;
+}
+
+pub loop-place-preserved-then-is_over : goal.loop-place-preserved-then-is_over
+loop-place-preserved-then-is_over c =
+    IsSweptTo-out c.args.self.now c.loop-place.self c.take_out.new.self c.args.now c.loop-place.place c.loop-place.invariant (omega (arith, c.count.ensures)) (λ d. sym c.if-is_over.true ∙ c.is_over.ensures d) c.take_out.ensures
+
+pub loop-place-preserved : goal.loop-place-preserved
+loop-place-preserved c =
+    IsSweptTo-passed c.args.self.now c.loop-place.self c.args.now c.loop-place.place c.loop-place.invariant (omega (arith, c.count.ensures)) (λ d. sym c.if-is_over.false ∙ c.is_over.ensures d)
+
+pub returns : goal.returns
+returns c =
+    IsSweptTo-all c.args.self.now c.loop-place.self c.args.now c.loop-place.place c.loop-place.invariant (omega (arith, c.count.ensures))

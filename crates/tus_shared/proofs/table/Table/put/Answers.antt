@@ -1,0 +1,9 @@
+use Rattle.std.proofs.Common.{rules}
+use Rattle.upload_book.specs.Heads.{HeadPart, with_row}
+use Rattle.tus_shared.proofs.TableLemmas.{heads-put}
+use Rattle.tus_shared.proofs.table.Table.put.Goals as goal
+
+pub returns-clause-after : goal.returns-clause-after
+returns-clause-after c =
+    let f : HeadPart → HeadPart = λ part. with_row part c.args.name.now.id c.args.row.now in
+    rw (← c.self.view_is) (heads-put c.self.inside.settings c.self.inside.accounts c.self.inside.parts.items c.args.name.now.tenant c.from-tenant.result c.index_mut.result.now c.put.new.self f c.put.result (search rules) (search rules) c.index_mut.ensures.value c.put.ensures.after)

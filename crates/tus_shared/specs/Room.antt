@@ -1,0 +1,24 @@
+-- Which changes a table of heads has room for, and what a line makes of it.
+use Rattle.std.specs.Prelude.{ℕ, Bool, true, not, ◌==◌, ◌&&◌, ◌||◌, length, nat_le, nat_lt, if◌then◌else◌}
+use Rattle.upload_book.specs.declared.board_line.BoardLine.{BoardLine}
+use Rattle.upload_book.specs.declared.board_line.HeadChange.{HeadChange}
+use Rattle.upload_book.specs.declared.board_line.HeadChange.TheVariants.{Put, Gone, Swept}
+use Rattle.upload_book.specs.Heads.{Heads, HeadPart, apply_line, head_part_at}
+
+-- A part with room for so many rows takes one under this id. For a new upload there must be room for one more row,
+-- and the id may be no more than the last one.
+abbrev pub takes_row : ℕ → ℕ → HeadPart → ℕ → Bool
+takes_row room last_id part id =
+    not (id == part.next) || (nat_lt (length part.uploads) room && nat_le part.next last_id)
+
+-- There is room for a change: a row that is put is taken, unless there is no such tenant.
+abbrev pub has_room : Heads → HeadChange → Bool
+has_room h (Put name row) =
+    nat_le (length h.tenants) name.tenant
+    || takes_row h.settings.numbers.uploads h.settings.numbers.last_id (head_part_at h name.tenant) name.id
+has_room h (Gone name) = true
+has_room h (Swept now) = true
+
+-- the heads after a line, which changes nothing where there is no room for it
+abbrev pub heads_with : Heads → BoardLine → Heads
+heads_with h line = if has_room h line.change then apply_line h line else h
