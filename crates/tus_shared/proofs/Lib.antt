@@ -5,3 +5,7 @@ pub mod ZipLemmas
 pub mod RowLemmas
 pub mod TableLemmas
 pub mod LineLemmas
+pub mod LogLemmas
+pub mod RuleLemmas
+pub mod WindowLemmas
+pub mod BoardLemmas

@@ -8,3 +8,6 @@ pub mod Room
 pub mod Rows
 pub mod Table
 pub mod Laws
+pub mod LineLog
+pub mod Showing
+pub mod Board

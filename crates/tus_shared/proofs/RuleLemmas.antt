@@ -1,0 +1,80 @@
+-- The steps of a board keep its rule.
+use Rattle.std.proofs.Common.{◌≡◌, ◌≢◌, ℕ, List, [], ◌∷◌, ◌++◌, set, refl, sym, subst, ⊎_elim, ◌∙◌}
+use mathlib.Core.Option.{some}
+use lib.ListN.{get_elem?}
+use Rattle.left_right.specs.Register.{Admits, Forks, Merges, TurnsAt}
+use Rattle.atomic_table.proofs.Lists.{at_set, at_snoc}
+use Rattle.tus_shared.specs.declared.sheet.Sheet.{Sheet}
+use Rattle.tus_shared.specs.declared.sheet.View.{View}
+use Rattle.tus_shared.specs.Showing.{Fits, IsCurrent, IsKept, no_view, view_of}
+
+-- what is known of each place is right
+abbrev AllFit : Sheet → List View → Type 0
+AllFit s views = (seat : ℕ) (v : View) → get_elem? views seat ≡ some v → Fits v s
+
+fit-set : (s : Sheet) (views : List View) (seat : ℕ) (v : View) → AllFit s views → Fits v s → AllFit s (set views seat v)
+fit-set s views seat v all fits k u at =
+    ⊎_elim (λ (h : (k ≡ seat) × (v ≡ u)). subst (λ (u : View). Fits u s) h.1 fits) (λ (h : (k ≢ seat) × (get_elem? views k ≡ some u)). all k u h.1) (at_set views seat k v u at)
+
+fit-snoc : (s : Sheet) (views : List View) (v : View) → AllFit s views → Fits v s → AllFit s (views ++ v ∷ [])
+fit-snoc s views v all fits k u at =
+    ⊎_elim (all k u) (λ (same : v ≡ u). subst (λ (u : View). Fits u s) same fits) (at_snoc views v u k at)
+
+-- nothing is known at first
+fit-none : (s : Sheet) → Fits no_view s
+fit-none s knows = absurd (cc)
+
+-- a new place may come at any time
+pub admits : Admits IsKept no_view
+admits s views kept = record { current = kept.current; each = fit-snoc s views no_view kept.each (fit-none s) }
+
+-- one place, of the writer, before anything is known
+pub starts : (s : Sheet) → IsCurrent s → IsKept s (no_view ∷ [])
+starts s current = record { current = current; each = fit-snoc s [] no_view (λ k v at. absurd (cc)) (fit-none s) }
+
+-- a reader takes the sheet
+pub enters : (seat : ℕ) (v : View) (s : Sheet) → TurnsAt IsKept seat v s s (λ v x y w. IsCurrent y × Fits v y × (w ≡ v))
+enters seat v s views kept at = (
+  v,
+  record { current = kept.current; each = fit-set s views seat v kept.each (kept.each seat v at) },
+  (kept.current, kept.each seat v at, refl),
+)
+
+-- what was right of one sheet is right of the next one of that board
+pub fits-next : (v : View) (s next : Sheet) → next.table.settings ≡ s.table.settings → next.front.book ≡ s.front.book → Fits v s → Fits v next
+fits-next v s next settings log fits knows = ((fits knows).0 ∙ sym settings, (fits knows).1 ∙ sym log)
+
+-- the next sheet is shown
+pub shows : (seat : ℕ) (v : View) (s next : Sheet) → next.table.settings ≡ s.table.settings → next.front.book ≡ s.front.book → IsCurrent next → TurnsAt IsKept seat v s next (λ v x y w. w ≡ v)
+shows seat v s next settings log current views kept at = (
+  v,
+  record {
+    current = current;
+    each = fit-set next views seat v (λ k u at. fits-next u s next settings log (kept.each k u at)) (fits-next v s next settings log (kept.each seat v at));
+  },
+  refl,
+)
+
+-- the first sheet is shown once more
+pub begins : (seat : ℕ) (v : View) (s : Sheet) → TurnsAt IsKept seat v s s (λ v x y w. w ≡ view_of y)
+begins seat v s views kept at = (
+  view_of s,
+  record { current = kept.current; each = fit-set s views seat (view_of s) kept.each (λ knows. (refl, refl)) },
+  refl,
+)
+
+-- the writer tells what it knows
+pub forks : (seat : ℕ) (v : View) → Forks IsKept seat v v v
+forks seat v s views kept at = record {
+  current = kept.current;
+  each = fit-snoc s (set views seat v) v (fit-set s views seat v kept.each (kept.each seat v at)) (kept.each seat v at);
+}
+
+-- and a reader learns it
+pub merges : (seat : ℕ) (v : View) (other : ℕ) (w : View) → Merges IsKept seat v other w w no_view
+merges seat v other w s views kept at apart there =
+    let theirs : Fits w s = ⊎_elim (λ (h : (other ≡ seat) × (w ≡ w)). absurd (apart h.0)) (λ (h : (other ≢ seat) × (get_elem? views other ≡ some w)). kept.each other w h.1) (at_set views seat other w w there) in
+    record {
+      current = kept.current;
+      each = fit-set s (set views seat w) other no_view (fit-set s views seat w kept.each theirs) (fit-none s);
+    }
