@@ -39,6 +39,8 @@ pub enum Asked {
     Join(&'static [u8]),
     /// A PATCH of the upload at a path, at an offset, with these bytes.
     Patch(&'static [u8], &'static [u8], &'static [u8]),
+    /// The same with this `Upload-Checksum`, which stands before the bytes here.
+    Checked(&'static [u8], &'static [u8], &'static [u8], &'static [u8]),
     /// A HEAD of the upload at a path.
     Head(&'static [u8]),
     /// A GET of the upload at a path.
@@ -66,6 +68,16 @@ impl Asked {
                 ..fields()
             }),
             Asked::Patch(target, offset, body) => patch(target, offset, body),
+            Asked::Checked(target, offset, checksum, body) => {
+                let unchecked = patch(target, offset, body);
+                Request {
+                    fields: TusFields {
+                        checksum: Field::One(checksum),
+                        ..unchecked.fields
+                    },
+                    ..unchecked
+                }
+            }
             Asked::Head(target) => bare(Method::Head, target),
             Asked::Get(target) => bare(Method::Get, target),
             Asked::Delete(target) => bare(Method::Delete, target),

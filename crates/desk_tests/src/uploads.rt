@@ -1,6 +1,6 @@
 //! The worked uploads at two desks.
 
-use crate::requests::Asked::{Delete, Get, Head, Join, Partial, Patch, Post, Upload};
+use crate::requests::Asked::{Checked, Delete, Get, Head, Join, Partial, Patch, Post, Upload};
 use crate::requests::Told::{Bytes, Created, Deleted, Patched, Refused, Row, Swept};
 use crate::steps::Call::{Ask, Look, Sweep};
 use crate::steps::{Step, run, steps};
@@ -40,6 +40,23 @@ static A_CREATION_WITH_UPLOAD: [Step; 3] = steps! {
 #[test]
 fn a_creation_with_upload(rt: HostRuntime) -> Result<(), Fail> {
     run(&rt, rt.alloc(), &A_CREATION_WITH_UPLOAD)
+}
+
+// The SHA-1 of `hello` (RFC 4648, section 4), as sha1sum has it.
+const HELLO_SUM: &[u8] = b"sha1 qvTGHdzF6KLavt4PO0gs2a6pQ00=";
+
+// Bytes that were damaged on their way are not kept, and the same PATCH is accepted once they are whole.
+static A_PATCH_WITH_A_CHECKSUM: [Step; 5] = steps! {
+    0 1000 Ask(Post(b"10")) => Created(1, None, Some(4600)), [0, 0, 0, 12];
+    0 1000 Ask(Checked(FIRST, b"0", HELLO_SUM, b"hellp")) => Refused(Refusal::Mismatch, Some(4600)), [0, 0, 0, 12];
+    1 1000 Look(0, 1) => Row(0, Some(10), b"", Some(4600)), [0, 0, 0, 12];
+    0 1000 Ask(Checked(FIRST, b"0", HELLO_SUM, b"hello")) => Patched(5, Some(4600)), [2, 0, 2, 10];
+    1 1000 Look(0, 1) => Row(5, Some(10), b"", Some(4600)), [2, 0, 2, 10];
+};
+
+#[test]
+fn a_patch_with_a_checksum(rt: HostRuntime) -> Result<(), Fail> {
+    run(&rt, rt.alloc(), &A_PATCH_WITH_A_CHECKSUM)
 }
 
 // A final upload costs nothing beside its parts, and keeps their blocks when they end.
