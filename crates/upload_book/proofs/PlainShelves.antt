@@ -19,7 +19,7 @@ use Rattle.upload_book.proofs.PutLemmas.{own_piece, own-places}
 use Rattle.upload_book.proofs.Shelves.{IsShelf, IsStoredOn, IsStoredOn-shelf, places_on-held, shelves-apart}
 
 -- functions that agree on what a list has map it alike
-map-same : {X Y : Type 0} (f g : X → Y) (xs : List X) → ((x : X) → Contains xs x → f x ≡ g x) → map f xs ≡ map g xs
+pub map-same : {X Y : Type 0} (f g : X → Y) (xs : List X) → ((x : X) → Contains xs x → f x ≡ g x) → map f xs ≡ map g xs
 map-same f g [] same = refl
 map-same f g (x ∷ xs) same =
     let here : f x ≡ g x = same x (Contains-first x xs) in

@@ -3,12 +3,14 @@ ghost use Rattle.std.specs.List.{sum_by};
 ghost use Rattle.upload_book.specs.Account.{account_in};
 ghost use Rattle.upload_book.specs.Book.{plain_of};
 ghost use Rattle.upload_book.specs.Charge.{charge_in};
+ghost use Rattle.upload_book.specs.Heads.{accounts_of};
 ghost use Rattle.upload_book.specs.Lawful.{IsLawful};
 ghost use Rattle.upload_book.specs.PlainBook.{opening_book, tenant_book};
 ghost use Rattle.upload_book.specs.Store.{holders_at};
 ghost use Rattle.upload_book.specs.Stored.{IsStored};
 
 use crate::account::Account;
+use crate::board_line::Accounts;
 use crate::head_row::Name;
 use crate::settings::Settings;
 use crate::store::Store;
@@ -91,6 +93,17 @@ impl Book {
         ensures { result ≡ (plain_of self.now).released }
     {
         self.released
+    }
+
+    /// What all tenants were charged so far, what was released of it, and what each of them pays.
+    pub fn accounts(&self) -> Accounts
+        ensures { result ≡ accounts_of (plain_of self.now) }
+    {
+        Accounts {
+            charged: self.charged,
+            released: self.released,
+            charge: self.store.charges(),
+        }
     }
 
     /// How many blocks are free: all but those that the tenants pay.

@@ -1,5 +1,5 @@
 ghost use Rattle.std.specs.Prelude.{◌≡◌, ◌≢◌, ◌+◌, ◌-◌, ◌<◌, ◌≤◌, ◌^◌, [], length, map, min, set, All, None, IfOk, IfErr, IfSome, IfNone, IsOk, IsTrue, OnOk, OnErr};
-ghost use Rattle.std.specs.List.{sum_by};
+ghost use Rattle.std.specs.List.{range_with_len, sum_by};
 ghost use Rattle.block_pool.specs.Blocks.{IsWithinLimits, all_free, free_in, size_of};
 ghost use Rattle.upload_book.specs.Account.{blocks_between};
 ghost use Rattle.upload_book.specs.Charge.{charge_with};
@@ -94,6 +94,29 @@ impl Store {
         ensures { result ≡ charge_with self.now.pool.block_size (part_at self.now tenant) }
     {
         self.shelves[tenant].charge
+    }
+
+    /// How many blocks each of 16 tenants pays, by its place; 0 where there is none.
+    pub(crate) fn charges(&self) -> [u64; 16]
+        ensures { result ≡ map (λ tenant. charge_with self.now.pool.block_size (part_at self.now tenant))
+            (range_with_len 0 16) }
+    {
+        let mut charges = [0; 16];
+        for tenant in 0..16 {
+            charges[tenant] = self.charge_at(tenant);
+        }
+        charges
+    }
+
+    // How many blocks the tenant at this place pays; 0 where there is none.
+    fn charge_at(&self, tenant: usize) -> u64
+        ensures { result ≡ charge_with self.now.pool.block_size (part_at self.now tenant) }
+    {
+        if tenant < self.tenants() {
+            self.charge(tenant)
+        } else {
+            0
+        }
     }
 
     /// The id that the tenant's next upload gets.
