@@ -1,5 +1,5 @@
 //! The workers of a server: each has a desk, and serves one connection after another.
-ghost use Rattle.std.specs.Prelude.{◌≡◌};
+ghost use Rattle.std.specs.Prelude.{◌≡◌, ◌≤◌, IfSome};
 
 use crate::machine_clock::MachineClock;
 use crate::serve_options::WorkOptions;
@@ -53,7 +53,9 @@ impl<'a, C: Charges, R: Ledger, H: Wait + Eprint + time::Clock> Workers<'a, C, R
         listener: &'a TcpListener,
         shared: &'a Shared<C, R>,
         options: WorkOptions,
-    ) -> Self {
+    ) -> Self
+        ensures { result.options ≡ options }
+    {
         Workers {
             rt,
             alloc,
@@ -99,7 +101,9 @@ impl<'a, C: Charges, R: Ledger, H: Wait + Eprint + time::Clock> Workers<'a, C, R
         desk: Desk<C, R>,
         buffers: Option<Buffers>,
         clock: &mut MachineClock<'a, H>,
-    ) -> (Desk<C, R>, Option<Buffers>) {
+    ) -> (Desk<C, R>, Option<Buffers>)
+        ensures { IfSome result.1 (λ buffers. buffers.inbox.room ≤ 2097152) }
+    {
         let buffers = match buffers {
             Some(buffers) => buffers,
             None => match Buffers::new(self.alloc) {
