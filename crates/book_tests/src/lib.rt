@@ -5,6 +5,8 @@
 #[cfg(test)]
 mod books;
 #[cfg(test)]
+mod changes;
+#[cfg(test)]
 mod ends;
 #[cfg(test)]
 mod holders;

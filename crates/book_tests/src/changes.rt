@@ -1,0 +1,109 @@
+//! Changes in two halves: prepared and made, and prepared and let go.
+
+ghost use Rattle.std.specs.Prelude.{◌≡◌, false, [], Some};
+
+use crate::books::{ACME, NUMBERS, acme, moment, new_book};
+use crate::plain::PlainBook;
+use std::process::Abort;
+use std::test::Fail;
+use upload_book::{
+    Appended, Book, Change, Chunk, FirstChunk, Kind, NewUpload, Outcome, Refusal, Refused,
+};
+
+fn hello<'a>() -> Chunk<'a> {
+    Chunk {
+        offset: 0,
+        length: None,
+        typed: true,
+        check: None,
+        bytes: b"hello",
+    }
+}
+
+fn no_bytes<'a>() -> FirstChunk<'a> {
+    FirstChunk {
+        typed: true,
+        check: None,
+        bytes: b"",
+    }
+}
+
+// An upload of ten bytes.
+fn ten_bytes<'a>() -> NewUpload<'a>
+    ensures { result ≡ record { partial = false; length = Some 10; metadata = []; concat = [] } }
+{
+    NewUpload {
+        partial: false,
+        length: Some(10),
+        metadata: b"",
+        concat: b"",
+    }
+}
+
+// Prepares a PATCH of acme's first upload at second 1000, and makes it where it is to be made and was not refused.
+fn patch(rt: &impl Abort, book: &mut Book, made: bool) -> Result<Option<Outcome>, Refused> {
+    let change = Change::Append {
+        name: acme(1),
+        chunk: hello(),
+    };
+    let ready = book.prepare(change, moment(rt, 1000))?;
+    Ok(if made { Some(book.commit(ready)) } else { None })
+}
+
+// How far acme's first upload is, what acme pays, and how many blocks are free.
+fn seen(rt: &impl Abort, book: &Book) -> Option<(u64, u64, u64)> {
+    let tenant = book.settings().tenant(ACME).expect(rt, "acme");
+    let row = book.look(&acme(1), moment(rt, 1000)).ok()?;
+    Some((row.offset, book.charge(tenant), book.free_blocks()))
+}
+
+// What an accepted PATCH gives,
+fn appended(rt: &impl Abort) -> Appended {
+    Appended {
+        offset: 5,
+        expires: Some(moment(rt, 4600)),
+    }
+}
+
+// and why the same is refused after it.
+fn refused(rt: &impl Abort) -> Refused {
+    Refused {
+        refusal: Refusal::Offset,
+        expires: Some(moment(rt, 4600)),
+    }
+}
+
+#[test]
+fn a_patch_in_two_halves(rt: HostRuntime) -> Result<(), Fail> {
+    let now = moment(&rt, 1000);
+    let mut book = new_book(rt.alloc(), NUMBERS)?;
+    let mut plain = PlainBook::new(rt.alloc(), NUMBERS, [8, 4]);
+    let place = book.settings().tenant(ACME).expect(&rt, "acme");
+    let created = book.create(place, ten_bytes(), now);
+    let plainly = plain.create(&rt, place, Kind::Plain, Some(10), &no_bytes(), now);
+    assert_eq!(rt; created, plainly);
+    // one that is let go costs nothing
+    assert_eq!(rt; patch(&rt, &mut book, false), Ok(None));
+    assert_eq!(rt; seen(&rt, &book), Some((0, 0, 12)));
+    // one that is made answers as the plain program
+    assert_eq!(rt;
+        plain.append(&rt, &acme(1), &hello(), now),
+        Ok(appended(&rt))
+    );
+    assert_eq!(rt;
+        patch(&rt, &mut book, true),
+        Ok(Some(Outcome::Appended(appended(&rt))))
+    );
+    assert_eq!(rt; seen(&rt, &book), Some((5, 2, 10)));
+    let accounts = book.accounts();
+    assert_eq!(rt; (accounts.charged, accounts.released), (2, 0));
+    assert_eq!(rt; (accounts.charge[0], accounts.charge[1]), (2, 0));
+    // and so does one that is refused
+    assert_eq!(rt;
+        plain.append(&rt, &acme(1), &hello(), now),
+        Err(refused(&rt))
+    );
+    assert_eq!(rt; patch(&rt, &mut book, true), Err(refused(&rt)));
+    assert_eq!(rt; seen(&rt, &book), Some((5, 2, 10)));
+    Ok(())
+}
