@@ -5,6 +5,8 @@
 #[cfg(test)]
 mod batches;
 #[cfg(test)]
+mod boards;
+#[cfg(test)]
 mod openings;
 #[cfg(test)]
 mod requests;
@@ -12,5 +14,7 @@ mod requests;
 mod steps;
 #[cfg(test)]
 mod stops;
+#[cfg(test)]
+mod tables;
 #[cfg(test)]
 mod uploads;

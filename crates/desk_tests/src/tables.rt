@@ -1,0 +1,132 @@
+//! A table of heads that follows lines.
+
+ghost use Rattle.std.specs.Prelude.{◌≡◌};
+
+use crate::requests::{moment, settings};
+use std::process::Abort;
+use std::test::Fail;
+use tus_shared::Table;
+use tus_text::Text;
+use upload_book::HeadChange::{Gone, Put, Swept};
+use upload_book::{
+    Accounts, BoardLine, HeadChange, HeadRow, Kind, Moment, Name, Numbers, Refusal, Settings,
+};
+
+/// A line of a change, after which so much was charged.
+pub fn line(change: HeadChange, charged: u64) -> BoardLine
+    ensures { result.change ≡ change }
+{
+    BoardLine {
+        change,
+        accounts: Accounts {
+            charged,
+            released: 0,
+            charge: [0; 16],
+        },
+    }
+}
+
+/// The name of an upload.
+pub fn name(tenant: u8, id: u64) -> Name
+    ensures { result ≡ record { tenant = tenant; id = id } }
+{
+    Name { tenant, id }
+}
+
+/// A row of so many bytes of ten, with this metadata and this end.
+pub fn row(offset: u64, metadata: &'static [u8; 6], expires: Option<Moment>) -> HeadRow {
+    HeadRow {
+        kind: Kind::Plain,
+        offset,
+        declared: Some(10),
+        metadata: Text::of(metadata),
+        concat: Text::empty(),
+        expires,
+    }
+}
+
+/// Asserts the offset and the metadata that are told of an upload at a moment, or why none are.
+pub fn assert_shown(
+    rt: &impl Abort,
+    told: Result<HeadRow, Refusal>,
+    expected: Result<(u64, &[u8]), Refusal>,
+) {
+    match (told, expected) {
+        (Ok(told), Ok((offset, metadata))) => {
+            assert_eq!(rt; told.offset, offset);
+            assert_eq!(rt; told.declared, Some(10));
+            assert!(rt; told.metadata.as_slice() == metadata);
+        }
+        (Err(told), Err(refusal)) => assert_eq!(rt; told, refusal),
+        _ => assert!(rt; false, "a row, or none"),
+    }
+}
+
+#[test]
+fn a_table_follows_its_lines(rt: HostRuntime) -> Result<(), Fail> {
+    let mut table = Table::new(rt.alloc(), &settings()?)?;
+    let (now, later) = (moment(&rt, 1000), moment(&rt, 5000));
+    let first = name(0, 1);
+    assert_shown(&rt, table.look(&first, now), Err(Refusal::Unknown));
+    table.apply(&line(Put(first, row(0, b"key QQ", Some(later))), 0));
+    assert_shown(&rt, table.look(&first, now), Ok((0, b"key QQ")));
+    assert_shown(&rt, table.look(&first, later), Err(Refusal::Gone));
+    table.apply(&line(Put(first, row(5, b"key Qg", Some(later))), 2));
+    assert_shown(&rt, table.look(&first, now), Ok((5, b"key Qg")));
+    assert_eq!(rt; table.accounts().charged, 2);
+    table.apply(&line(Put(name(0, 2), row(7, b"key Qw", None)), 4));
+    table.apply(&line(Put(name(1, 1), row(9, b"key RA", Some(later))), 7));
+    assert_shown(&rt, table.look(&name(0, 2), now), Ok((7, b"key Qw")));
+    assert_shown(&rt, table.look(&name(1, 1), now), Ok((9, b"key RA")));
+    table.apply(&line(Gone(first), 7));
+    assert_shown(&rt, table.look(&first, now), Err(Refusal::Gone));
+    assert_shown(&rt, table.look(&name(0, 2), now), Ok((7, b"key Qw")));
+    table.apply(&line(Swept(later), 7));
+    assert_shown(&rt, table.look(&name(1, 1), now), Err(Refusal::Gone));
+    assert_shown(&rt, table.look(&name(0, 2), later), Ok((7, b"key Qw")));
+    assert_shown(&rt, table.look(&name(0, 3), now), Err(Refusal::Unknown));
+    assert_shown(&rt, table.look(&name(2, 1), now), Err(Refusal::Unknown));
+    Ok(())
+}
+
+// Settings of one tenant with so many uploads at most, of which the last has this id.
+fn narrow(uploads: u64, last_id: u64) -> Result<Settings, Fail> {
+    let numbers = Numbers {
+        blocks: 12,
+        block_size: 4,
+        lifetime: 3600,
+        max_size: 64,
+        uploads,
+        last_id,
+        last_total: u64::MAX,
+    };
+    Ok(Settings::new(numbers, &[(b"acme", 8)])?)
+}
+
+#[test]
+fn a_line_without_room_changes_nothing(rt: HostRuntime) -> Result<(), Fail> {
+    let now = moment(&rt, 1000);
+    for (uploads, last_id) in [(2, 9), (9, 2)] {
+        let mut table = Table::new(rt.alloc(), &narrow(uploads, last_id)?)?;
+        table.apply(&line(Put(name(0, 1), row(1, b"key QQ", None)), 1));
+        table.apply(&line(Put(name(0, 2), row(2, b"key Qg", None)), 2));
+        table.apply(&line(Put(name(0, 3), row(3, b"key Qw", None)), 3));
+        assert_shown(&rt, table.look(&name(0, 3), now), Err(Refusal::Unknown));
+        assert_shown(&rt, table.look(&name(0, 2), now), Ok((2, b"key Qg")));
+        assert_eq!(rt; table.accounts().charged, 2);
+    }
+    Ok(())
+}
+
+#[test]
+fn a_box_serves_the_next_upload(rt: HostRuntime) -> Result<(), Fail> {
+    let now = moment(&rt, 1000);
+    let mut table = Table::new(rt.alloc(), &narrow(1, 9)?)?;
+    for id in 1..6 {
+        table.apply(&line(Put(name(0, id), row(id, b"key QQ", None)), id));
+        assert_shown(&rt, table.look(&name(0, id), now), Ok((id, b"key QQ")));
+        table.apply(&line(Gone(name(0, id)), id));
+        assert_shown(&rt, table.look(&name(0, id), now), Err(Refusal::Gone));
+    }
+    Ok(())
+}
