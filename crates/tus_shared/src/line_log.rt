@@ -124,10 +124,10 @@ impl Front {
 
 /// A log with no line yet: its word, and a front that has seen nothing.
 pub struct Opened {
-    pub(crate) head: Head,
-    pub(crate) front: Front,
-    pub(crate) ghost empty: { front.lines ≡ [] },
-    pub(crate) ghost head_is: { head ≡ head_of front.book },
+    pub head: Head,
+    pub front: Front,
+    pub ghost empty: { front.lines ≡ [] },
+    pub ghost head_is: { head ≡ head_of front.book },
 }
 
 impl Opened {
