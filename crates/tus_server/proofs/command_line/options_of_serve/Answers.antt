@@ -13,4 +13,4 @@ returns-clause-told c =
 pub returns-in_err-get_strs-clause-told : goal.returns-in_err-get_strs-clause-told
 returns-in_err-get_strs-clause-told c =
     rw c.from_residual-in_err-get_strs.ensures (serve_told_none (rows_of (found_of c.args.serve.now)) _ _ _ c.in_ok-work.ensures c.in_ok-port.ensures c.in_ok-workers.ensures.told
-      (c.in_err-get_strs.ensures ∙ raw_values-rows (found_of c.args.serve.now) (codes "tenant")))
+    (c.in_err-get_strs.ensures ∙ raw_values-rows (found_of c.args.serve.now) (codes "tenant")))
