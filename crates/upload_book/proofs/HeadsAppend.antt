@@ -64,7 +64,7 @@ leads-append b name chunk now u seen lawful =
     (inr (record { old = head_row_of u; stands = row-stands b name.tenant name.id now u seen; becomes = becomes-appended b.settings.numbers u chunk now }))
 
 -- the upload after a PATCH that is not refused,
-appended-none : (n : Numbers) (part : TenantBook) (id now charged : ℕ) (u : Upload) (chunk : Chunk) → visible_upload part id now ≡ Ok u → append_refusal n (account_in n part charged) (head_row_of u) chunk ≡ None
+pub appended-none : (n : Numbers) (part : TenantBook) (id now charged : ℕ) (u : Upload) (chunk : Chunk) → visible_upload part id now ≡ Ok u → append_refusal n (account_in n part charged) (head_row_of u) chunk ≡ None
     → appended id chunk now charged n part ≡ Ok (upload_with n u chunk now)
 appended-none n part id now charged u chunk seen none = rw (seen, none) refl
 

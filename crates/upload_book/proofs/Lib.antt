@@ -56,3 +56,8 @@ pub mod HeadsFewer
 pub mod HeadsLemmas
 pub mod StoreReserve
 pub mod ReadyLemmas
+pub mod LeftLemmas
+pub mod StoreLeft
+pub mod Tables
+pub mod LineLemmas
+pub mod LineSteps

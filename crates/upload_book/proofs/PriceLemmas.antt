@@ -140,7 +140,7 @@ dearer_by true after before added r is alone = elim (alone refl) [ inl same ↦ 
 dearer_by false after before added r is alone = omega arith
 
 -- the price of one origin, summed
-sum_of_one : (next id added : ℕ) → id < next → sum_below next (λ origin. cond (eqb id origin) added 0) ≡ added
+pub sum_of_one : (next id added : ℕ) → id < next → sum_below next (λ origin. cond (eqb id origin) added 0) ≡ added
 sum_of_one next id added within =
     sum_below-one next id added (λ origin. cond (eqb id origin) added 0) within (here id added) (λ b other. there id b added other)
   where

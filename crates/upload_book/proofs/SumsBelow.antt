@@ -58,7 +58,7 @@ sum_below-sum_by n f (x ∷ xs) =
     ∙ sym (sum_by-cons (λ x. sum_below n (λ b. f b x)) x xs)
 
 -- the first term apart
-sum_below-first : (n : ℕ) (f : ℕ → ℕ) → sum_below (suc n) f ≡ f 0 + sum_below n (λ b. f (suc b))
+pub sum_below-first : (n : ℕ) (f : ℕ → ℕ) → sum_below (suc n) f ≡ f 0 + sum_below n (λ b. f (suc b))
 sum_below-first zero f = omega arith
 sum_below-first (suc n) f = omega (arith, sum_below-first n f)
 

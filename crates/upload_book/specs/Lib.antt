@@ -32,3 +32,4 @@ pub mod Heads
 pub mod HeadSteps
 pub mod Change
 pub mod Ready
+pub mod Left

@@ -1,8 +1,10 @@
 //! Lists of pieces: their blocks are held, read and given back one after another.
-ghost use Rattle.std.specs.Prelude.{◌≡◌, ◌+◌, ◌-◌, ◌≤◌, ◌++◌, map, length, vec_len, vec_capacity};
+ghost use Rattle.std.specs.Prelude.{◌≡◌, ◌+◌, ◌-◌, ◌<◌, ◌≤◌, ◌++◌, drop, map, length, vec_len, vec_capacity};
 ghost use Rattle.block_pool.specs.Blocks.{free_in};
 ghost use Rattle.block_bodies.specs.Bodies.{IsHeld};
 ghost use Rattle.block_bodies.specs.Changes.{GivesBack, Holds, MayHold};
+ghost use Rattle.upload_book.specs.Charge.{price};
+ghost use Rattle.upload_book.specs.Left.{sources_in};
 ghost use Rattle.upload_book.specs.Stored.{as_piece, bytes_of, pieces_len, placed_in, AreBodies};
 
 use crate::piece::{Piece, UnheldPiece};
@@ -51,4 +53,19 @@ fn release_each(pieces: Vec<Piece>, pool: &mut Pool)
     for piece in pieces {
         piece.chain.give_back(pool);
     }
+}
+
+/// The most blocks of a size that a piece of this origin takes, of the pieces from a place on; 0 where there is none.
+pub(crate) fn price_from(pieces: &[Piece], from: usize, size: u64, origin: u64) -> u64
+    requires { 0 < size }
+    ensures { result ≡ price size (sources_in (drop from pieces.now)) origin }
+{
+    let mut most = 0;
+    for place in from..pieces.len() {
+        let piece = &pieces[place];
+        if piece.origin == origin {
+            most = most.max(piece.chain.len().div_ceil(size));
+        }
+    }
+    most
 }

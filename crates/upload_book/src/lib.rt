@@ -16,6 +16,7 @@ mod head_row;
 mod held;
 mod joined;
 pub mod laws;
+mod left;
 mod look;
 mod moment;
 mod operation;

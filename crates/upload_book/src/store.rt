@@ -119,6 +119,51 @@ impl Store {
         }
     }
 
+    /// How many blocks the tenant at this place will pay once the upload at a place has ended. It goes over the
+    /// tenant's pieces once for each piece of this upload.
+    pub(crate) fn charge_without(&self, tenant: usize, place: usize) -> u64
+        requires tenant { tenant < length self.now.shelves }
+        requires place { place < length (shelf_at self.now tenant).uploads }
+        ensures { result ≡ charge_with self.now.pool.block_size (without_upload (part_at self.now tenant) place) }
+    {
+        let size = u64::from(self.pool.block_size());
+        self.shelves[tenant].charge_without(place, size)
+    }
+
+    /// How many blocks each of 16 tenants will pay, by its place, once all uploads that have expired at `now` have
+    /// ended; 0 where there is no tenant. It goes over all uploads once, and over a tenant's pieces once for each
+    /// piece of an upload that has expired.
+    pub(crate) fn charges_swept(&self, now: Moment) -> [u64; 16]
+        ensures { result ≡ map (λ tenant. charge_with self.now.pool.block_size
+            (part_after_sweep now (part_at self.now tenant))) (range_with_len 0 16) }
+    {
+        let mut charges = [0; 16];
+        for tenant in 0..16 {
+            charges[tenant] = self.charge_swept_at(tenant, now);
+        }
+        charges
+    }
+
+    // How many blocks the tenant at this place will pay once its uploads that have expired at `now` have ended.
+    fn charge_swept(&self, tenant: usize, now: Moment) -> u64
+        requires { tenant < length self.now.shelves }
+        ensures { result ≡ charge_with self.now.pool.block_size (part_after_sweep now (part_at self.now tenant)) }
+    {
+        let size = u64::from(self.pool.block_size());
+        self.shelves[tenant].charge_swept(now, size)
+    }
+
+    // The same; 0 where there is no tenant.
+    fn charge_swept_at(&self, tenant: usize, now: Moment) -> u64
+        ensures { result ≡ charge_with self.now.pool.block_size (part_after_sweep now (part_at self.now tenant)) }
+    {
+        if tenant < self.tenants() {
+            self.charge_swept(tenant, now)
+        } else {
+            0
+        }
+    }
+
     /// The id that the tenant's next upload gets.
     pub(crate) fn next(&self, tenant: usize) -> u64
         requires { tenant < length self.now.shelves }

@@ -1,10 +1,13 @@
-ghost use Rattle.std.specs.Prelude.{◌≡◌, ◌≢◌, ◌+◌, ◌<◌, ◌≤◌, [], ◌∷◌, ◌++◌, length, map, vec_len, vec_capacity, IfOk, IsOk, OnOk, OnErr, IsTrue};
+ghost use Rattle.std.specs.Prelude.{◌≡◌, ◌≢◌, ◌+◌, ◌<◌, ◌≤◌, [], ◌∷◌, ◌++◌, drop, get_or, length, map, vec_len, vec_capacity, IfOk, IsOk, OnOk, OnErr, IsTrue};
 ghost use Rattle.block_pool.specs.Blocks.{Blocks, free_in};
-ghost use Rattle.block_bodies.specs.Bodies.{HasRoom, IsBodyOf, IsHeld, IsLastOwn, StandsOnce, blocks_with};
+ghost use Rattle.block_bodies.specs.Bodies.{HasRoom, IsBodyOf, IsHeld, IsLastOwn, StandsOnce, blocks_for, blocks_with};
 ghost use Rattle.block_bodies.specs.Changes.{Puts, GivesBack};
+ghost use Rattle.upload_book.specs.Charge.{price};
 ghost use Rattle.upload_book.specs.Create.{new_kind};
 ghost use Rattle.upload_book.specs.declared.head_row.Kind.TheVariants.{Final};
+ghost use Rattle.upload_book.specs.declared.piece.Piece.{Piece};
 ghost use Rattle.upload_book.specs.Expiry.{is_over};
+ghost use Rattle.upload_book.specs.Left.{is_left, sources_in};
 ghost use Rattle.upload_book.specs.Lawful.{is_kept_metadata, IsConcatText};
 ghost use Rattle.upload_book.specs.Standing.{standing_in};
 ghost use Rattle.upload_book.specs.Store.{with_chain, with_head};
@@ -16,7 +19,8 @@ use crate::create::NewUpload;
 use crate::expiry::is_over;
 use crate::head_row::{HeadRow, Kind};
 use crate::held::Held;
-use crate::joined::{give_back_each, read_each};
+use crate::joined::{give_back_each, price_from, read_each};
+use crate::left::Ended;
 use crate::moment::Moment;
 use crate::piece::{Piece, UnheldPiece};
 use crate::standing::Standing;
@@ -123,6 +127,16 @@ impl StoredUpload {
         is_over(now, self.expires)
     }
 
+    /// Whether the upload is left where others have ended.
+    pub(crate) fn is_left(&self, ended: &Ended) -> bool
+        ensures { result ≡ is_left ended.now.at self.now.kept.expires }
+    {
+        match ended.at {
+            Some(now) => !self.is_over(now),
+            None => true,
+        }
+    }
+
     /// What the upload is for.
     pub(crate) fn kind(&self) -> Kind
         ensures { result ≡ self.now.kept.kind }
@@ -204,6 +218,52 @@ impl StoredUpload {
             Held::Own { body, .. } if piece == 0 => body.block(place),
             Held::Own { .. } => None,
             Held::Joined { pieces, .. } => pieces.get(piece)?.chain.block(place),
+        }
+    }
+
+    /// How many pieces the upload has.
+    pub(crate) fn piece_count(&self) -> usize
+        ensures { result ≡ length self.now.kept.pieces }
+    {
+        match &self.held {
+            Held::Own { .. } => 1,
+            Held::Joined { pieces, .. } => pieces.len(),
+        }
+    }
+
+    /// The id of the upload to which the bytes of a piece were sent.
+    pub(crate) fn origin(&self, piece: usize) -> u64
+        requires { piece < length self.now.kept.pieces }
+        ensures { (d : Piece) → result ≡ (get_or self.now.kept.pieces piece d).origin }
+    {
+        match &self.held {
+            Held::Own { .. } => self.id,
+            Held::Joined { pieces, .. } => pieces[piece].origin,
+        }
+    }
+
+    /// How many blocks of a size the bytes of a piece take.
+    pub(crate) fn blocks(&self, piece: usize, size: u64) -> u64
+        requires piece { piece < length self.now.kept.pieces }
+        requires size { 0 < size }
+        ensures { (d : Piece) → result ≡ blocks_for size (get_or self.now.kept.pieces piece d).chain.len }
+    {
+        match &self.held {
+            Held::Own { body, .. } => body.len().div_ceil(size),
+            Held::Joined { pieces, .. } => pieces[piece].chain.len().div_ceil(size),
+        }
+    }
+
+    /// The most blocks of a size that a piece of this origin takes, of the pieces from a place on; 0 where there is
+    /// none.
+    pub(crate) fn price_from(&self, piece: usize, size: u64, origin: u64) -> u64
+        requires { 0 < size }
+        ensures { result ≡ price size (sources_in (drop piece self.now.kept.pieces)) origin }
+    {
+        match &self.held {
+            Held::Own { body, .. } if piece == 0 && self.id == origin => body.len().div_ceil(size),
+            Held::Own { .. } => 0,
+            Held::Joined { pieces, .. } => price_from(pieces, piece, size, origin),
         }
     }
 
