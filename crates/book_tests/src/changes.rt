@@ -1,13 +1,16 @@
 //! Changes in two halves: prepared and made, and prepared and let go.
 
-ghost use Rattle.std.specs.Prelude.{◌≡◌, false, [], Some};
+ghost use Rattle.std.specs.Prelude.{◌≡◌, false, [], Some, length};
+ghost use Rattle.upload_book.specs.Book.{plain_of};
+ghost use Rattle.upload_book.specs.Change.{CanBeMade};
 
 use crate::books::{ACME, NUMBERS, acme, moment, new_book};
 use crate::plain::PlainBook;
 use std::process::Abort;
 use std::test::Fail;
 use upload_book::{
-    Appended, Book, Change, Chunk, FirstChunk, Kind, NewUpload, Outcome, Refusal, Refused,
+    Appended, BoardLine, Book, Change, Chunk, FirstChunk, HeadChange, Kind, Moment, Name, NewUpload,
+    Outcome, Refusal, Refused,
 };
 
 fn hello<'a>() -> Chunk<'a> {
@@ -40,14 +43,45 @@ fn ten_bytes<'a>() -> NewUpload<'a>
     }
 }
 
-// Prepares a PATCH of acme's first upload at second 1000, and makes it where it is to be made and was not refused.
-fn patch(rt: &impl Abort, book: &mut Book, made: bool) -> Result<Option<Outcome>, Refused> {
-    let change = Change::Append {
+// The PATCH of acme's first upload.
+fn greeting<'a>() -> Change<'a> {
+    Change::Append {
         name: acme(1),
         chunk: hello(),
-    };
-    let ready = book.prepare(change, moment(rt, 1000))?;
+    }
+}
+
+// Prepares a PATCH of acme's first upload at second 1000, and makes it where it is to be made and was not refused.
+fn patch(rt: &impl Abort, book: &mut Book, made: bool) -> Result<Option<Outcome>, Refused> {
+    let ready = book.prepare(greeting(), moment(rt, 1000))?;
     Ok(if made { Some(book.commit(ready)) } else { None })
+}
+
+// The line of a change that is let go.
+fn line(book: &mut Book, change: Change, now: Moment) -> Result<BoardLine, Refused>
+    requires { CanBeMade (length (plain_of book.old).settings.tenants) change }
+{
+    let ready = book.prepare(change, now)?;
+    Ok(ready.line(book))
+}
+
+// What was charged and released by a line, and what the two tenants pay.
+fn paid(line: Result<BoardLine, Refused>) -> Option<(u64, u64, u64, u64)> {
+    let accounts = line.ok()?.accounts;
+    Some((
+        accounts.charged,
+        accounts.released,
+        accounts.charge[0],
+        accounts.charge[1],
+    ))
+}
+
+// The name of the upload whose row a line puts, and how far it is by the row.
+fn put(line: Result<BoardLine, Refused>) -> Option<(Name, u64)> {
+    match line.ok()?.change {
+        HeadChange::Put(name, row) => Some((name, row.offset)),
+        HeadChange::Gone(_) | HeadChange::Swept(_) => None,
+    }
 }
 
 // How far acme's first upload is, what acme pays, and how many blocks are free.
@@ -85,6 +119,9 @@ fn a_patch_in_two_halves(rt: HostRuntime) -> Result<(), Fail> {
     // one that is let go costs nothing
     assert_eq!(rt; patch(&rt, &mut book, false), Ok(None));
     assert_eq!(rt; seen(&rt, &book), Some((0, 0, 12)));
+    // and its line tells what will be
+    assert_eq!(rt; put(line(&mut book, greeting(), now)), Some((acme(1), 5)));
+    assert_eq!(rt; paid(line(&mut book, greeting(), now)), Some((2, 0, 2, 0)));
     // one that is made answers as the plain program
     assert_eq!(rt;
         plain.append(&rt, &acme(1), &hello(), now),
@@ -98,6 +135,13 @@ fn a_patch_in_two_halves(rt: HostRuntime) -> Result<(), Fail> {
     let accounts = book.accounts();
     assert_eq!(rt; (accounts.charged, accounts.released), (2, 0));
     assert_eq!(rt; (accounts.charge[0], accounts.charge[1]), (2, 0));
+    // what ends the upload gives its blocks back, and a sweep too soon does not
+    let gone = Change::Terminate(acme(1));
+    assert_eq!(rt; paid(line(&mut book, gone, now)), Some((2, 2, 0, 0)));
+    let soon = moment(&rt, 4599);
+    assert_eq!(rt; paid(line(&mut book, Change::Sweep, soon)), Some((2, 0, 2, 0)));
+    let over = moment(&rt, 4600);
+    assert_eq!(rt; paid(line(&mut book, Change::Sweep, over)), Some((2, 2, 0, 0)));
     // and so does one that is refused
     assert_eq!(rt;
         plain.append(&rt, &acme(1), &hello(), now),

@@ -1,6 +1,6 @@
 -- What a tenant will pay once uploads have ended.
-use Rattle.std.proofs.Common.{◌≡◌, ℕ, suc, ◌+◌, ◌-◌, ◌<◌, ◌≤◌, max, Bool, true, false, cond, eqb, List, [], ◌∷◌, ◌++◌, drop, get_or, length, map, take, Option, None, Some, refl, inl, inr, ap, sym, subst, ◌∙◌, arith}
-use Rattle.std.specs.List.{Contains, filter, flat_map, remove}
+use Rattle.std.proofs.Common.{◌≡◌, ℕ, suc, ◌+◌, ◌-◌, ◌<◌, ◌≤◌, max, Bool, true, false, cond, eqb, List, [], ◌∷◌, ◌++◌, drop, get_or, length, take, Option, None, refl, inl, inr, ap, sym, ◌∙◌, arith}
+use Rattle.std.specs.List.{flat_map, remove}
 use Rattle.std.proofs.lemmas.Bool.Decides.{eqb_tells}
 use Rattle.std.proofs.lemmas.List.{append-nil, append_assoc, drop_all, drop_more, map-append, take-append-drop, take_all, take_more}
 use Rattle.std.proofs.lemmas.List.Concat.{flat_map-append}

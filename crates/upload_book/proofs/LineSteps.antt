@@ -1,9 +1,8 @@
 -- The line of each change for which a book is ready, where its row or name and its accounts were found so.
-use Rattle.std.proofs.Common.{◌≡◌, ℕ, ◌+◌, ◌-◌, ◌<◌, ◌≤◌, length, None, Option, Some, refl, ap, ap₂, sym, subst, ◌∙◌, append-nil, arith}
-use Rattle.std.specs.List.{sum, sum_by}
+use Rattle.std.proofs.Common.{◌≡◌, ℕ, ◌+◌, ◌-◌, ◌<◌, ◌≤◌, length, None, Option, Some, ap, ap₂, sym, ◌∙◌, append-nil, arith}
 use Rattle.std.proofs.lemmas.List.Sums.{get_or-le-sum_by}
 use Rattle.upload_book.specs.Account.{blocks_added}
-use Rattle.upload_book.specs.Append.{row_with, upload_with, with_appended}
+use Rattle.upload_book.specs.Append.{row_with, upload_with}
 use Rattle.upload_book.specs.Book.{StoredBook, IsBook, plain_of}
 use Rattle.upload_book.specs.Change.{gone_removed, line_of, put_appended, put_created}
 use Rattle.upload_book.specs.Charge.{charge_in, charge_with}
@@ -25,16 +24,16 @@ use Rattle.upload_book.specs.declared.settings.Numbers.{Numbers}
 use Rattle.upload_book.specs.declared.standing.Standing.{Standing}
 use Rattle.upload_book.specs.Heads.{accounts_of}
 use Rattle.upload_book.specs.Lawful.{IsTenantOf}
-use Rattle.upload_book.specs.PlainBook.{PlainBook, tenant_book, with_tenant_book}
+use Rattle.upload_book.specs.PlainBook.{tenant_book, with_tenant_book}
 use Rattle.upload_book.specs.Ready.{IsReadyForChunk, IsReadyForEnd, IsReadyForFinal, IsReadyForUpload}
 use Rattle.upload_book.specs.Standing.{standing_in}
-use Rattle.upload_book.specs.Store.{part_at, rows_at, upload_at, without_upload}
-use Rattle.upload_book.specs.TenantBook.{TenantBook, opening_part, visible_upload, with_changed, with_new}
+use Rattle.upload_book.specs.Store.{part_at, upload_at, without_upload}
+use Rattle.upload_book.specs.TenantBook.{TenantBook, opening_part, with_changed, with_new}
 use Rattle.upload_book.specs.Terminate.{without}
 use Rattle.upload_book.specs.Upload.{Upload, head_row_of, offset_of}
 use Rattle.upload_book.proofs.AppendLemmas.{part_after_append-none}
 use Rattle.upload_book.proofs.BookLemmas.{IsTenantOf-book}
-use Rattle.upload_book.proofs.BookSteps.{part-plain, part-within, seen-kept, seen-sound, seen-visible, seen-without, shelves-settings}
+use Rattle.upload_book.proofs.BookSteps.{part-plain, part-within, seen-kept, seen-visible, seen-without, shelves-settings}
 use Rattle.upload_book.proofs.ChargeLemmas.{charge-append, charge-create}
 use Rattle.upload_book.proofs.HeadsAppend.{appended-none}
 use Rattle.upload_book.proofs.LawfulAppend.{IsAppendable-from_none, offset_of-append}

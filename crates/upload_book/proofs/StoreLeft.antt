@@ -1,8 +1,8 @@
 -- What a tenant of the store will pay once uploads have ended.
-use Rattle.std.proofs.Common.{◌≡◌, ℕ, ◌+◌, Bool, true, false, cond, not, List, [], ◌∷◌, map, length, Some, refl, ap, sym, ◌∙◌, subst, arith}
-use Rattle.std.specs.List.{Contains, filter, flat_map, remove, sum_by}
+use Rattle.std.proofs.Common.{◌≡◌, ℕ, Bool, true, false, cond, not, List, [], ◌∷◌, map, Some, refl, ap, sym, ◌∙◌, arith}
+use Rattle.std.specs.List.{Contains, filter, remove}
 use Rattle.std.proofs.lemmas.List.Elements.{All-filter}
-use Rattle.block_pool.specs.Blocks.{Blocks, free_in, size_of}
+use Rattle.block_pool.specs.Blocks.{Blocks}
 use Rattle.upload_book.specs.Charge.{charge_with}
 use Rattle.upload_book.specs.declared.piece.Piece.{Piece}
 use Rattle.upload_book.specs.declared.shelf.Shelf.{Shelf as KeptShelf}
@@ -10,10 +10,10 @@ use Rattle.upload_book.specs.declared.store.Store.TheInside.{Inside}
 use Rattle.upload_book.specs.Expiry.{is_over}
 use Rattle.upload_book.specs.Kept.{shelf_of, store_of, IsKept}
 use Rattle.upload_book.specs.Left.{cost_of, left, IsPaid}
-use Rattle.upload_book.specs.Store.{part_at, plain_in, without_upload}
-use Rattle.upload_book.specs.Stored.{Shelf, StoredUpload, entry_of, part_of, pieces_of, HasOwnPiece, ReadsWhole}
+use Rattle.upload_book.specs.Store.{part_at, without_upload}
+use Rattle.upload_book.specs.Stored.{Shelf, StoredUpload, entry_of, part_of, pieces_of, HasOwnPiece}
 use Rattle.upload_book.specs.Sweep.{part_after_sweep}
-use Rattle.upload_book.specs.TenantBook.{Entry, TenantBook}
+use Rattle.upload_book.specs.TenantBook.{Entry}
 use Rattle.upload_book.specs.Upload.{Upload}
 use Rattle.upload_book.proofs.Entries.{Contains-filter}
 use Rattle.upload_book.proofs.InUse.{blocks_in_use}

@@ -17,6 +17,7 @@ mod held;
 mod joined;
 pub mod laws;
 mod left;
+mod line;
 mod look;
 mod moment;
 mod operation;

@@ -1,4 +1,4 @@
-use Rattle.std.proofs.Common.{◌≡◌, ◌+◌, ◌-◌, ◌≤◌, ℕ, None, ap, arith}
+use Rattle.std.proofs.Common.{◌≡◌, ◌+◌, ◌-◌, ◌≤◌, ℕ, ap, arith}
 use Rattle.upload_book.specs.Left.{cost_of}
 use Rattle.upload_book.proofs.LeftLemmas.{left_beside-none, left_to-none}
 use Rattle.upload_book.proofs.shelf.Shelf.charge_without.Goals as goal

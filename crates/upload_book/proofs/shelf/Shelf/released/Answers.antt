@@ -1,11 +1,11 @@
-use Rattle.std.proofs.Common.{◌≡◌, ◌+◌, ◌-◌, ◌<◌, ◌≤◌, ℕ, Option, drop, get_or, length, max, ap, sym, ◌∙◌, arith}
+use Rattle.std.proofs.Common.{◌≡◌, ◌+◌, ◌-◌, ◌<◌, ℕ, Option, drop, get_or, length, max, ap, sym, ◌∙◌, arith}
 use Rattle.std.proofs.lemmas.List.{get_or_default}
 use Rattle.block_bodies.specs.Bodies.{blocks_for}
 use Rattle.upload_book.specs.Charge.{price}
 use Rattle.upload_book.specs.declared.piece.Piece.{Piece}
 use Rattle.upload_book.specs.declared.shelf.Shelf.{Shelf as KeptShelf}
 use Rattle.upload_book.specs.Kept.{shelf_of}
-use Rattle.upload_book.specs.Left.{cost_of, left_beside, left_to, sources_in, sources_kept, IsPaid}
+use Rattle.upload_book.specs.Left.{left_beside, sources_in, sources_kept, IsPaid}
 use Rattle.upload_book.specs.Stored.{StoredUpload, no_chain}
 use Rattle.upload_book.specs.TenantBook.{Entry}
 use Rattle.upload_book.proofs.LeftLemmas.{IsReleasedTo, cost-apart, left_to-le, released-all, released-more}

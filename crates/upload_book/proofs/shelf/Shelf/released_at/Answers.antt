@@ -1,5 +1,5 @@
-use Rattle.std.proofs.Common.{◌+◌, ap, sym, ◌∙◌, arith}
-use Rattle.upload_book.specs.Left.{cost_of, left_beside}
+use Rattle.std.proofs.Common.{ap, sym, ◌∙◌, arith}
+use Rattle.upload_book.specs.Left.{cost_of}
 use Rattle.upload_book.proofs.LeftLemmas.{left_to-ends, left_to-stays}
 use Rattle.upload_book.proofs.shelf.Shelf.released_at.Goals as goal
 

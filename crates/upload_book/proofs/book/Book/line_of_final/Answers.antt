@@ -1,0 +1,13 @@
+use Rattle.std.proofs.Common.{subst}
+use Rattle.upload_book.specs.Book.{IsBook}
+use Rattle.upload_book.proofs.LineSteps.{final-charged, line-final}
+use Rattle.upload_book.proofs.book.Book.line_of_final.Goals as goal
+
+pub accounts_where-requires-clause-within : goal.accounts_where-requires-clause-within
+accounts_where-requires-clause-within c =
+    final-charged c.args.self.now c.args.ready.now (subst IsBook c.self.view_is c.self.invariant) c.requires c.charge.result c.charge.ensures
+
+pub returns : goal.returns
+returns c =
+    line-final c.args.self.now c.args.ready.now (subst IsBook c.self.view_is c.self.invariant) c.requires c.next_name.result c.row.result c.charge.result c.accounts_where.result
+    c.next_name.ensures c.row.ensures c.charge.ensures c.accounts_where.ensures
