@@ -13,7 +13,7 @@ use std::sync::ledger::{Blank, Ledger};
 use std::test::Fail;
 use std::thread;
 use std::thread::Threads;
-use tus_shared::{Balance, Charges, Gate, Shared, Stop, Turn, settle, work_all};
+use tus_shared::{Balance, Charges, Gate, Opened, Shared, Stop, Turn, settle, work_all};
 use tus_steps::Reply;
 use upload_book::{Name, Refusal, Settings};
 
@@ -30,10 +30,11 @@ pub fn wait_for(word: &AtomicU64, value: u64, missed: &AtomicU64) {
     missed.store(1, Ordering::SeqCst);
 }
 
-// Holds the first turn of desk 1 until that of desk 0 has begun, and this one until the other was answered.
+// Holds the first turn of desk 1 until that of desk 0 has the lock, and this one, with the lock, until the other was
+// answered.
 #[derive(Drop)]
 struct Meeting {
-    begun: AtomicU64,
+    locked: AtomicU64,
     answered: AtomicU64,
     missed: AtomicU64,
 }
@@ -41,11 +42,11 @@ struct Meeting {
 impl Gate for Meeting {
     fn pass(&self, desk: usize, turn: usize, stop: Stop) {
         match (desk, turn, stop) {
-            (0, 0, Stop::Before) => {
-                self.begun.store(1, Ordering::SeqCst);
+            (0, 0, Stop::Locked) => {
+                self.locked.store(1, Ordering::SeqCst);
                 wait_for(&self.answered, 1, &self.missed);
             }
-            (1, 0, Stop::Before) => wait_for(&self.begun, 1, &self.missed),
+            (1, 0, Stop::Before) => wait_for(&self.locked, 1, &self.missed),
             (1, 0, Stop::Answered) => self.answered.store(1, Ordering::SeqCst),
             _ => {}
         }
@@ -61,22 +62,32 @@ pub fn assert_told(rt: &impl Abort, replies: Option<&Vec<Reply>>, told: &[Told])
     }
 }
 
-// Both desks answer a batch at once: one is held in its first turn until the other has answered.
+// Both desks answer a batch at once: one is held in its first turn, with the lock, until the other has answered a HEAD.
 fn work_at_once<
     C: Charges + Send + Sync,
     R: Ledger + Send + Sync,
     W: Threads + Wait + Abort + Sync,
->(rt: &W, alloc: Global, settings: Settings, charged: Blank, released: Blank) -> Result<(), Fail>
+>(
+    rt: &W,
+    alloc: Global,
+    settings: Settings,
+    charged: Blank,
+    released: Blank,
+    lines: Opened,
+) -> Result<(), Fail>
     requires settings { settings ≡ C.settings }
     requires desks { C.desks ≡ 2 }
     requires charged { (charged.name ≡ C.name) × (charged.parts ≡ C.parts) × (C.parts ≡ 16) }
     requires released { (released.name ≡ R.name) × (released.parts ≡ R.parts) × (R.parts ≡ 16) }
+    requires log { lines.front.book ≡ C.log }
 {
-    let (shared, mut desks) = Shared::<C, R>::open(alloc, settings, 2, charged, released)?;
+    let (shared, mut desks) = Shared::<C, R, &W>::open(
+        rt, alloc, settings, 2, charged, released, lines,
+    )?;
     let created = turn(rt, Post(b"10"));
     let _ = desks[0].call(rt, &shared, &created.request, created.now);
     let meeting = Meeting {
-        begun: AtomicU64::new(0),
+        locked: AtomicU64::new(0),
         answered: AtomicU64::new(0),
         missed: AtomicU64::new(0),
     };
@@ -104,6 +115,9 @@ fn work_at_once<
     let first = Name { tenant: 0, id: 1 };
     let row = book.look(&first, moment(rt, 1000));
     assert_eq!(rt; told_of(&row), grown);
+    let second = Name { tenant: 0, id: 2 };
+    let none = book.look(&second, moment(rt, 1000));
+    assert_eq!(rt; told_of(&none), Told::Refused(Refusal::Unknown, None));
     Ok(())
 }
 
@@ -115,6 +129,7 @@ fn two_desks_work_at_once(rt: HostRuntime) -> Result<(), Fail> {
         settings()?,
         Blank::new(16),
         Blank::new(16),
+        Opened::new(),
     )
 }
 
@@ -214,13 +229,17 @@ fn race<C: Charges + Send + Sync, R: Ledger + Send + Sync, W: Threads + Wait + A
     settings: Settings,
     charged: Blank,
     released: Blank,
+    lines: Opened,
 ) -> Result<(), Fail>
     requires settings { settings ≡ C.settings }
     requires desks { C.desks ≡ 16 }
     requires charged { (charged.name ≡ C.name) × (charged.parts ≡ C.parts) × (C.parts ≡ 16) }
     requires released { (released.name ≡ R.name) × (released.parts ≡ R.parts) × (R.parts ≡ 16) }
+    requires log { lines.front.book ≡ C.log }
 {
-    let (shared, mut desks) = Shared::<C, R>::open(alloc, settings, 16, charged, released)?;
+    let (shared, mut desks) = Shared::<C, R, &W>::open(
+        rt, alloc, settings, 16, charged, released, lines,
+    )?;
     let created = turn(rt, Post(b"32"));
     let _ = desks[0].call(rt, &shared, &created.request, created.now);
     let together = Together {
@@ -257,5 +276,12 @@ fn race<C: Charges + Send + Sync, R: Ledger + Send + Sync, W: Threads + Wait + A
 
 #[test]
 fn sixteen_desks_at_one_upload(rt: HostRuntime) -> Result<(), Fail> {
-    race::<Brand, Brand, HostRuntime>(&rt, rt.alloc(), settings()?, Blank::new(16), Blank::new(16))
+    race::<Brand, Brand, HostRuntime>(
+        &rt,
+        rt.alloc(),
+        settings()?,
+        Blank::new(16),
+        Blank::new(16),
+        Opened::new(),
+    )
 }

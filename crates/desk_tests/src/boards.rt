@@ -20,7 +20,6 @@ fn windows_see_what_is_shown(rt: HostRuntime) -> Result<(), Fail> {
     assert!(rt; numbers.uploads >= 1);
     assert!(rt; numbers.last_id >= 1);
     assert!(rt; board.show(line(Put(first, row(5, b"key QQ", None)), 2)));
-    assert!(rt; board.begins_with(&one));
     let seen = one.look(&first, now).ok_or("entered")?;
     assert_shown(&rt, seen, Ok((5, b"key QQ")));
     let seen = other.look(&first, now).ok_or("entered")?;

@@ -7,7 +7,11 @@ mod batches;
 #[cfg(test)]
 mod boards;
 #[cfg(test)]
+mod memory;
+#[cfg(test)]
 mod openings;
+#[cfg(test)]
+mod refused_memory;
 #[cfg(test)]
 mod requests;
 #[cfg(test)]

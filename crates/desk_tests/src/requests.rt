@@ -8,17 +8,23 @@ use tus_steps::{Field, Method, Reply, Request, TusFields};
 use tus_text::read_path;
 use upload_book::{HeadRow, Moment, Numbers, Refusal, Settings};
 
+pub const NUMBERS: Numbers = Numbers {
+    blocks: 12,
+    block_size: 4,
+    lifetime: 3600,
+    max_size: 64,
+    uploads: 64,
+    last_id: u64::MAX - 1,
+    last_total: u64::MAX,
+};
+
 /// acme with 8 blocks and beta with 4.
 pub fn settings() -> Result<Settings, Fail> {
-    let numbers = Numbers {
-        blocks: 12,
-        block_size: 4,
-        lifetime: 3600,
-        max_size: 64,
-        uploads: 64,
-        last_id: u64::MAX - 1,
-        last_total: u64::MAX,
-    };
+    settings_of(NUMBERS)
+}
+
+/// The same with other numbers.
+pub fn settings_of(numbers: Numbers) -> Result<Settings, Fail> {
     Ok(Settings::new(numbers, &[(b"acme", 8), (b"beta", 4)])?)
 }
 

@@ -2,7 +2,7 @@
 
 ghost use Rattle.std.specs.Prelude.{◌≡◌, length};
 
-use crate::requests::{Asked, Told, moment, settings, told_by, told_of};
+use crate::requests::{Asked, NUMBERS, Told, moment, settings_of, told_by, told_of};
 use std::alloc::Global;
 use std::marker::Brand;
 use std::process::Abort;
@@ -10,9 +10,9 @@ use std::sync::Wait;
 use std::sync::ledger::{Blank, Ledger};
 use std::test::Fail;
 use std::thread::Threads;
-use tus_shared::{Balance, Charges, Desk, NoGate, Shared, Turn, settle, work_all};
+use tus_shared::{Balance, Charges, Desk, NoGate, Opened, Shared, Turn, settle, work_all};
 use tus_steps::Reply;
-use upload_book::{Name, Settings};
+use upload_book::{Name, Numbers, Settings};
 
 /// A call at a desk.
 #[derive(Clone, Copy, Debug)]
@@ -62,7 +62,7 @@ enum Way {
 fn reply_to<C: Charges + Send + Sync, R: Ledger + Send + Sync, W: Threads + Wait + Abort + Sync>(
     rt: &W,
     alloc: Global,
-    shared: &Shared<C, R>,
+    shared: &Shared<C, R, &W>,
     here: &mut [Desk<C, R>],
     way: Way,
     turn: Turn,
@@ -84,7 +84,7 @@ fn reply_to<C: Charges + Send + Sync, R: Ledger + Send + Sync, W: Threads + Wait
 fn take<C: Charges + Send + Sync, R: Ledger + Send + Sync, W: Threads + Wait + Abort + Sync>(
     rt: &W,
     alloc: Global,
-    shared: &Shared<C, R>,
+    shared: &Shared<C, R, &W>,
     desks: &mut [Desk<C, R>],
     way: Way,
     place: usize,
@@ -107,7 +107,7 @@ fn take<C: Charges + Send + Sync, R: Ledger + Send + Sync, W: Threads + Wait + A
             assert_eq!(rt; told_by(&reply), told, "step {place}, by {way:?}");
         }
         Call::Look(tenant, id) => {
-            let answer = here[0].head(rt, shared, &Name { tenant, id }, now);
+            let answer = here[0].head(&Name { tenant, id }, now);
             assert_eq!(rt; told_of(&answer), told, "step {place}");
         }
         Call::Sweep => {
@@ -130,6 +130,7 @@ fn settle_after<
     settings: Settings,
     charged: Blank,
     released: Blank,
+    lines: Opened,
     way: Way,
     steps: &[Step],
 ) -> Result<[u64; 4], Fail>
@@ -137,8 +138,11 @@ fn settle_after<
     requires desks { C.desks ≡ 2 }
     requires charged { (charged.name ≡ C.name) × (charged.parts ≡ C.parts) × (C.parts ≡ 16) }
     requires released { (released.name ≡ R.name) × (released.parts ≡ R.parts) × (R.parts ≡ 16) }
+    requires log { lines.front.book ≡ C.log }
 {
-    let (shared, mut desks) = Shared::<C, R>::open(alloc, settings, 2, charged, released)?;
+    let (shared, mut desks) = Shared::<C, R, &W>::open(
+        rt, alloc, settings, 2, charged, released, lines,
+    )?;
     for (place, step) in steps.iter().enumerate() {
         take(rt, alloc, &shared, desks.as_mut_slice(), way, place, step)?;
     }
@@ -158,14 +162,25 @@ pub fn run<W: Threads + Wait + Abort + Sync>(
     alloc: Global,
     steps: &[Step],
 ) -> Result<(), Fail> {
+    run_with(rt, alloc, NUMBERS, steps)
+}
+
+/// The same with other numbers of the settings.
+pub fn run_with<W: Threads + Wait + Abort + Sync>(
+    rt: &W,
+    alloc: Global,
+    numbers: Numbers,
+    steps: &[Step],
+) -> Result<(), Fail> {
     for way in [Way::Call, Way::Answer, Way::Batch] {
         for (place, step) in steps.iter().enumerate() {
             let settled = settle_after::<Brand, Brand, W>(
                 rt,
                 alloc,
-                settings()?,
+                settings_of(numbers)?,
                 Blank::new(16),
                 Blank::new(16),
+                Opened::new(),
                 way,
                 &steps[..place + 1],
             )?;

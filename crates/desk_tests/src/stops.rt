@@ -4,7 +4,7 @@ ghost use Rattle.std.specs.Prelude.{◌≡◌};
 
 use crate::batches::{assert_told, wait_for};
 use crate::requests::Asked::{Patch, Post};
-use crate::requests::{Told, settings, turn};
+use crate::requests::{Told, moment, settings, turn};
 use std::alloc::Global;
 use std::marker::Brand;
 use std::process::Abort;
@@ -14,8 +14,8 @@ use std::sync::ledger::{Blank, Ledger};
 use std::test::Fail;
 use std::thread;
 use std::thread::Threads;
-use tus_shared::{Charges, Gate, Shared, Stop, work_all};
-use upload_book::Settings;
+use tus_shared::{Charges, Gate, Opened, Shared, Stop, settle, work_all};
+use upload_book::{Name, Settings};
 
 const FIRST: &[u8] = b"/files/acme/1";
 
@@ -75,13 +75,17 @@ fn note_stops<C: Charges + Send + Sync, R: Ledger + Send + Sync, W: Threads + Wa
     settings: Settings,
     charged: Blank,
     released: Blank,
+    lines: Opened,
 ) -> Result<(), Fail>
     requires settings { settings ≡ C.settings }
     requires desks { C.desks ≡ 2 }
     requires charged { (charged.name ≡ C.name) × (charged.parts ≡ C.parts) × (C.parts ≡ 16) }
     requires released { (released.name ≡ R.name) × (released.parts ≡ R.parts) × (R.parts ≡ 16) }
+    requires log { lines.front.book ≡ C.log }
 {
-    let (shared, mut desks) = Shared::<C, R>::open(alloc, settings, 2, charged, released)?;
+    let (shared, mut desks) = Shared::<C, R, &W>::open(
+        rt, alloc, settings, 2, charged, released, lines,
+    )?;
     let created = turn(rt, Post(b"10"));
     let _ = desks[1].call(rt, &shared, &created.request, created.now);
     let notes = Notes {
@@ -103,6 +107,9 @@ fn note_stops<C: Charges + Send + Sync, R: Ledger + Send + Sync, W: Threads + Wa
     assert_eq!(rt; notes.second.load(Ordering::SeqCst), 123456);
     assert_eq!(rt; notes.intruded.load(Ordering::SeqCst), 0);
     assert_eq!(rt; notes.missed.load(Ordering::SeqCst), 0);
+    let (book, _) = settle(shared, desks);
+    let content = book.content(&Name { tenant: 0, id: 1 }, moment(rt, 1000))?;
+    assert!(rt; content.as_slice() == b"helloworld".as_slice());
     Ok(())
 }
 
@@ -114,5 +121,6 @@ fn a_turn_passes_its_stops(rt: HostRuntime) -> Result<(), Fail> {
         settings()?,
         Blank::new(16),
         Blank::new(16),
+        Opened::new(),
     )
 }

@@ -1,17 +1,20 @@
 //! The worked uploads at two desks.
 
 use crate::requests::Asked::{Checked, Delete, Get, Head, Join, Partial, Patch, Post, Upload};
+use crate::requests::NUMBERS;
 use crate::requests::Told::{Bytes, Created, Deleted, Patched, Refused, Row, Swept};
 use crate::steps::Call::{Ask, Look, Sweep};
-use crate::steps::{Step, run, steps};
+use crate::steps::{Step, run, run_with, steps};
 use std::test::Fail;
-use upload_book::Refusal;
+use upload_book::{Numbers, Refusal};
 
 const FIRST: &[u8] = b"/files/acme/1";
 
 const SECOND: &[u8] = b"/files/acme/2";
 
 const THIRD: &[u8] = b"/files/acme/3";
+
+const THIRTY: &[u8] = b"abcdefghijklmnopqrstuvwxyzabcd";
 
 // One desk begins what the other ends, and each sees what the other did.
 static AN_UPLOAD_AT_TWO_DESKS: [Step; 8] = steps! {
@@ -98,16 +101,93 @@ fn a_sweep_at_a_desk(rt: HostRuntime) -> Result<(), Fail> {
     run(&rt, rt.alloc(), &A_SWEEP_AT_A_DESK)
 }
 
-// An upload that ended, an id that was never given, and a tenant that is not there.
-static HEADS_OF_NO_UPLOAD: [Step; 5] = steps! {
+// A HEAD beside the lock is never behind what its desk did or was told; an upload that ended is gone, and neither an id
+// that was never given nor a tenant that is not there is known.
+static HEADS_BESIDE_THE_LOCK: [Step; 9] = steps! {
+    0 1000 Ask(Post(b"10")) => Created(1, None, Some(4600)), [0, 0, 0, 12];
+    0 1000 Ask(Patch(FIRST, b"0", b"hello")) => Patched(5, Some(4600)), [2, 0, 2, 10];
+    0 1000 Look(0, 1) => Row(5, Some(10), b"", Some(4600)), [2, 0, 2, 10];
+    1 1000 Ask(Patch(FIRST, b"5", b"!")) => Patched(6, Some(4600)), [2, 0, 2, 10];
+    1 1000 Look(0, 1) => Row(6, Some(10), b"", Some(4600)), [2, 0, 2, 10];
+    0 1000 Ask(Delete(FIRST)) => Deleted, [2, 2, 0, 12];
+    0 1000 Look(0, 1) => Refused(Refusal::Gone, None), [2, 2, 0, 12];
+    0 1000 Look(0, 9) => Refused(Refusal::Unknown, None), [2, 2, 0, 12];
+    0 1000 Look(2, 1) => Refused(Refusal::Unknown, None), [2, 2, 0, 12];
+};
+
+#[test]
+fn heads_beside_the_lock(rt: HostRuntime) -> Result<(), Fail> {
+    run(&rt, rt.alloc(), &HEADS_BESIDE_THE_LOCK)
+}
+
+// HEADs that are refused by their path, before any upload is looked at; the id of an upload that ended is not given again.
+static HEADS_OF_NO_UPLOAD: [Step; 8] = steps! {
     0 1000 Ask(Post(b"10")) => Created(1, None, Some(4600)), [0, 0, 0, 12];
     1 1000 Ask(Delete(FIRST)) => Deleted, [0, 0, 0, 12];
-    0 1000 Look(0, 1) => Refused(Refusal::Gone, None), [0, 0, 0, 12];
-    0 1000 Look(0, 9) => Refused(Refusal::Unknown, None), [0, 0, 0, 12];
-    0 1000 Look(2, 1) => Refused(Refusal::Unknown, None), [0, 0, 0, 12];
+    0 1000 Ask(Head(FIRST)) => Refused(Refusal::Gone, None), [0, 0, 0, 12];
+    0 1000 Ask(Head(b"/files/acme/9")) => Refused(Refusal::Unknown, None), [0, 0, 0, 12];
+    0 1000 Ask(Head(b"/files/acme/01")) => Refused(Refusal::Path, None), [0, 0, 0, 12];
+    1 1000 Ask(Head(b"/other")) => Refused(Refusal::Path, None), [0, 0, 0, 12];
+    1 1000 Ask(Head(b"/files/gamma/1")) => Refused(Refusal::Tenant, None), [0, 0, 0, 12];
+    1 1000 Ask(Post(b"10")) => Created(2, None, Some(4600)), [0, 0, 0, 12];
 };
 
 #[test]
 fn heads_of_no_upload(rt: HostRuntime) -> Result<(), Fail> {
     run(&rt, rt.alloc(), &HEADS_OF_NO_UPLOAD)
+}
+
+// A quota of eight blocks, the last of which has room for two bytes more.
+static A_FULL_QUOTA: [Step; 5] = steps! {
+    0 1000 Ask(Post(b"33")) => Created(1, None, Some(4600)), [0, 0, 0, 12];
+    0 1000 Ask(Patch(FIRST, b"0", THIRTY)) => Patched(30, Some(4600)), [8, 0, 8, 4];
+    1 1000 Ask(Patch(FIRST, b"30", b"de")) => Patched(32, Some(4600)), [8, 0, 8, 4];
+    0 1000 Ask(Patch(FIRST, b"32", b"f")) => Refused(Refusal::Quota, Some(4600)), [8, 0, 8, 4];
+    0 1000 Look(0, 1) => Row(32, Some(33), b"", Some(4600)), [8, 0, 8, 4];
+};
+
+#[test]
+fn a_full_quota(rt: HostRuntime) -> Result<(), Fail> {
+    run(&rt, rt.alloc(), &A_FULL_QUOTA)
+}
+
+// There is room for one upload,
+static ONE_UPLOAD: [Step; 2] = steps! {
+    0 1000 Ask(Post(b"10")) => Created(1, None, Some(4600)), [0, 0, 0, 12];
+    1 1000 Ask(Post(b"10")) => Refused(Refusal::Uploads, None), [0, 0, 0, 12];
+};
+
+// or one id,
+static ONE_ID: [Step; 3] = steps! {
+    0 1000 Ask(Post(b"10")) => Created(1, None, Some(4600)), [0, 0, 0, 12];
+    1 1000 Ask(Delete(FIRST)) => Deleted, [0, 0, 0, 12];
+    0 1000 Ask(Post(b"10")) => Refused(Refusal::Spent, None), [0, 0, 0, 12];
+};
+
+// or two blocks are ever charged.
+static TWO_BLOCKS_IN_ALL: [Step; 5] = steps! {
+    0 1000 Ask(Post(b"10")) => Created(1, None, Some(4600)), [0, 0, 0, 12];
+    0 1000 Ask(Post(b"10")) => Created(2, None, Some(4600)), [0, 0, 0, 12];
+    0 1000 Ask(Patch(FIRST, b"0", b"hello")) => Patched(5, Some(4600)), [2, 0, 2, 10];
+    1 1000 Ask(Patch(SECOND, b"0", b"x")) => Refused(Refusal::Spent, Some(4600)), [2, 0, 2, 10];
+    1 1000 Look(0, 2) => Row(0, Some(10), b"", Some(4600)), [2, 0, 2, 10];
+};
+
+#[test]
+fn what_the_settings_allow(rt: HostRuntime) -> Result<(), Fail> {
+    let uploads = Numbers {
+        uploads: 1,
+        ..NUMBERS
+    };
+    run_with(&rt, rt.alloc(), uploads, &ONE_UPLOAD)?;
+    let last_id = Numbers {
+        last_id: 1,
+        ..NUMBERS
+    };
+    run_with(&rt, rt.alloc(), last_id, &ONE_ID)?;
+    let last_total = Numbers {
+        last_total: 2,
+        ..NUMBERS
+    };
+    run_with(&rt, rt.alloc(), last_total, &TWO_BLOCKS_IN_ALL)
 }

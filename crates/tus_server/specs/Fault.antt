@@ -44,6 +44,7 @@ fault_of_wire wire.Memory = Memory
 abbrev pub fault_of_opening : OpenFault → TalkFault
 fault_of_opening opening.Desks = Words
 fault_of_opening opening.Memory = Memory
+fault_of_opening opening.Board = Memory
 
 -- what was told has this fault, or memory was lacking
 abbrev pub IsFaultOf : {T : Type 0} → Result T SettingsFault → TalkFault → Type 0

@@ -1,5 +1,5 @@
 ghost use Rattle.std.specs.Prelude.{◌≡◌, ℕ};
-ghost use Rattle.tus_shared.specs.Served.{Answers};
+ghost use Rattle.tus_shared.specs.Served.{TakesTurn};
 
 use http_wire::Answer;
 use std::sync::Wait;
@@ -10,18 +10,18 @@ use upload_book::Moment;
 
 /// A desk, as what answers the requests of one connection. It may wait for the other desks of its store.
 #[derive(Drop)]
-pub struct AtDesk<'a, C: Charges, R: Ledger, W: Wait, G: Gate> {
+pub struct AtDesk<'a, C: Charges, R: Ledger, W: Wait, B: Wait + Drop, G: Gate> {
     rt: &'a W,
     desk: Desk<C, R>,
-    shared: &'a Shared<C, R>,
+    shared: &'a Shared<C, R, B>,
     gate: &'a G,
     // How many requests were answered.
     turn: usize,
 }
 
-impl<'a, C: Charges, R: Ledger, W: Wait, G: Gate> AtDesk<'a, C, R, W, G> {
+impl<'a, C: Charges, R: Ledger, W: Wait, B: Wait + Drop, G: Gate> AtDesk<'a, C, R, W, B, G> {
     /// The desk, which has answered nothing on this connection.
-    pub fn new(rt: &'a W, desk: Desk<C, R>, shared: &'a Shared<C, R>, gate: &'a G) -> Self
+    pub fn new(rt: &'a W, desk: Desk<C, R>, shared: &'a Shared<C, R, B>, gate: &'a G) -> Self
         ensures { result.desk ≡ desk }
     {
         AtDesk {
@@ -41,10 +41,11 @@ impl<'a, C: Charges, R: Ledger, W: Wait, G: Gate> AtDesk<'a, C, R, W, G> {
     }
 }
 
-impl<'a, C: Charges, R: Ledger, W: Wait, G: Gate> Answer for AtDesk<'a, C, R, W, G> {
+impl<'a, C: Charges, R: Ledger, W: Wait, B: Wait + Drop, G: Gate> Answer
+    for AtDesk<'a, C, R, W, B, G> {
     ghost max_size = { λ _. C.settings.numbers.max_size };
 
-    ghost steps = { λ old request now reply new. Answers C.settings request now reply old.desk new.desk };
+    ghost steps = { λ old request now reply new. TakesTurn C.settings request now reply old.desk new.desk };
 
     fn max_size(&self) -> u64 {
         self.desk.settings().numbers().max_size

@@ -103,7 +103,7 @@ impl From<OpenFault> for TalkFault {
     fn from(fault: OpenFault) -> TalkFault {
         match fault {
             OpenFault::Desks => TalkFault::Words,
-            OpenFault::Memory => TalkFault::Memory,
+            OpenFault::Memory | OpenFault::Board => TalkFault::Memory,
         }
     }
 }

@@ -24,7 +24,7 @@ use std::sync::Wait;
 use std::sync::ledger::{Blank, Ledger};
 use std::thread::{Threads, for_each_mut};
 use std::time;
-use tus_shared::{Charges, Desk, Shared, settle};
+use tus_shared::{Charges, Desk, Opened, Shared, settle};
 use upload_book::{Settings, SettingsFault};
 
 /// Does the command `serve` as the command line told it, and gives the exit status: that of [`serve`] with these
@@ -76,7 +76,7 @@ pub fn serve_as_told<
 ///
 /// The status is 0 where each worker served all of its connections, 2 where the settings have a fault, 3 where the
 /// port could not be had, where a line could not be printed or where an accept failed, and 4 where there was no
-/// memory for the book. At 2 and 4 nothing was printed. At 2, 3 and 4 a line that names the fault is written to
+/// memory for the book or its board. At 2 and 4 nothing was printed. At 2, 3 and 4 a line that names the fault is written to
 /// `errors`, whose own faults are passed over; at 0 `errors` is untouched.
 pub fn serve<
     H: Threads
@@ -147,6 +147,7 @@ fn serve_told<
         options,
         Blank::new(16),
         Blank::new(16),
+        Opened::new(),
         output,
     )
 }
@@ -169,12 +170,14 @@ fn serve_with<
     options: &ServeOptions,
     charged: Blank,
     released: Blank,
+    lines: Opened,
     output: &mut W,
 ) -> Result<(), TalkFault>
     requires settings { settings ≡ C.settings }
     requires desks { options.now.workers ≡ C.desks }
     requires charged { (charged.name ≡ C.name) × (charged.parts ≡ C.parts) × (C.parts ≡ 16) }
     requires released { (released.name ≡ R.name) × (released.parts ≡ R.parts) × (R.parts ≡ 16) }
+    requires log { lines.front.book ≡ C.log }
     requires workers { is_outside options.now.workers 16 ≡ false }
     requires output { W.has_failed output.old ≡ false }
     ensures fault { IfErr result (λ fault. (fault ≡ TalkFault.Wire) ⊎ (fault ≡ TalkFault.Memory)) }
@@ -182,12 +185,14 @@ fn serve_with<
     ensures printed { OnOk result (PrintsLines (W.contents output.old) (W.contents output.new)) }
     ensures alive { OnOk result (W.has_failed output.new ≡ false) }
 {
-    let (shared, mut desks) = Shared::<C, R>::open(
+    let (shared, mut desks) = Shared::<C, R, &H>::open(
+        rt,
         alloc,
         settings,
         options.workers,
         charged,
         released,
+        lines,
     )?;
     let Ok(listener) = TcpListener::bind(rt, ("127.0.0.1", options.port)) else {
         return Err(TalkFault::Wire);
@@ -223,7 +228,7 @@ fn work_at<
     rt: &H,
     alloc: Global,
     listener: &TcpListener,
-    shared: &Shared<C, R>,
+    shared: &Shared<C, R, &H>,
     desks: &mut [Desk<C, R>],
     options: WorkOptions,
 ) -> bool {

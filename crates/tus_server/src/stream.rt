@@ -27,9 +27,10 @@ pub struct Served<C: Charges, R: Ledger, I, O> {
 /// closes or 4,096 messages were read. For each the clock is asked once, when it has come. What ended it
 /// may be `WireFault::Read` or `WireFault::Write`; the steps that were made before it stay.
 ///
-/// Each reply is the plain book's on some lawful book of the desk's settings, and the desk counts what the step
-/// charged and released: nobody can say what the other desks did meanwhile. Desk and buffers are given back, for
-/// the next connection.
+/// Each reply is that of a turn at the desk ([`Desk::answer`]): a HEAD is told beside the lock, and all else is the plain
+/// book's step on some lawful book, of which the desk counts what it charged and released. Nobody can say what the other
+/// desks did meanwhile, but the lines on which the replies rest only grow. Desk and buffers are given back, for the next
+/// connection.
 pub fn serve_stream<
     C: Charges,
     R: Ledger,
@@ -37,6 +38,7 @@ pub fn serve_stream<
     I: Source + Drop,
     O: Sink + Drop,
     K: Clock,
+    B: Wait + Drop,
     G: Gate,
 >(
     rt: &W,
@@ -44,7 +46,7 @@ pub fn serve_stream<
     reader: I,
     writer: O,
     desk: Desk<C, R>,
-    shared: &Shared<C, R>,
+    shared: &Shared<C, R, B>,
     clock: &mut K,
     gate: &G,
 ) -> Served<C, R, I, O>

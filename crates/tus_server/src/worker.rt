@@ -33,11 +33,11 @@ const REST_READS: usize = 4096;
 
 /// What the workers of a server share.
 #[derive(Drop)]
-pub struct Workers<'a, C: Charges, R: Ledger, H> {
+pub struct Workers<'a, C: Charges, R: Ledger, H, B: Wait + Drop> {
     rt: &'a H,
     alloc: Global,
     listener: &'a TcpListener,
-    shared: &'a Shared<C, R>,
+    shared: &'a Shared<C, R, B>,
     options: WorkOptions,
     // How many connections are open.
     open: AtomicU64,
@@ -45,13 +45,19 @@ pub struct Workers<'a, C: Charges, R: Ledger, H> {
     ended: AtomicU64,
 }
 
-impl<'a, C: Charges, R: Ledger, H: Wait + Eprint + time::Clock> Workers<'a, C, R, H> {
+impl<'a, C: Charges, R: Ledger, H: Wait + Eprint + time::Clock, B: Wait + Drop> Workers<
+    'a,
+    C,
+    R,
+    H,
+    B,
+> {
     /// Workers that have accepted nothing.
     pub fn new(
         rt: &'a H,
         alloc: Global,
         listener: &'a TcpListener,
-        shared: &'a Shared<C, R>,
+        shared: &'a Shared<C, R, B>,
         options: WorkOptions,
     ) -> Self
         ensures { result.options ≡ options }

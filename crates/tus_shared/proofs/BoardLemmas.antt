@@ -66,7 +66,7 @@ shown-rest s shown v w pending left note after knows fits one is none same =
     )
 
 -- a line that may follow on lines that may, follows with them
-follow-one : (h : Heads) (xs : List BoardLine) (line : BoardLine) → MayAllFollow h xs → MayFollow (apply_lines h xs) line → MayAllFollow h (xs ++ line ∷ [])
+pub follow-one : (h : Heads) (xs : List BoardLine) (line : BoardLine) → MayAllFollow h xs → MayFollow (apply_lines h xs) line → MayAllFollow h (xs ++ line ∷ [])
 follow-one h [] line all may = (may, tt)
 follow-one h (x ∷ xs) line all may = (all.0, follow-one (apply_line h x) xs line all.1 may)
 

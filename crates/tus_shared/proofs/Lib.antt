@@ -1,4 +1,3 @@
-pub mod TotalsLemmas
 pub mod SharesLemmas
 pub mod TenantLemmas
 pub mod ZipLemmas
@@ -9,3 +8,5 @@ pub mod LogLemmas
 pub mod RuleLemmas
 pub mod WindowLemmas
 pub mod BoardLemmas
+pub mod ChangeLemmas
+pub mod BatchLemmas

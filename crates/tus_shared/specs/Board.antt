@@ -35,11 +35,8 @@ pub record IsBoard (sheet : Sheet) (place : View) (pending : List Note) (front :
   pub same : front ≡ sheet.front
   pub word : head ≡ head_of front.book
 
--- A look at a window: it tells what the heads are after legal lines, which begin with those that the window was told;
--- it was told these from then on.
-pub record Looks (old new : BoardView) (name : Name) (now : ℕ) (row : Result HeadRow Refusal) : Type 0 where
-  pub lines : List BoardLine
-  pub begins : IsPrefix old.lines lines
-  pub legal : IsLegal old.settings lines
-  pub tells : row ≡ shown (heads_after old.settings lines) name now
-  pub told : new ≡ record old { lines = lines }
+-- A look where lines were told: it tells what the heads are after legal lines, which begin with these.
+pub record Looks (s : Settings) (told lines : List BoardLine) (name : Name) (now : ℕ) (row : Result HeadRow Refusal) : Type 0 where
+  pub begins : IsPrefix told lines
+  pub legal : IsLegal s lines
+  pub tells : row ≡ shown (heads_after s lines) name now

@@ -1,5 +1,6 @@
 -- What one opening fixes.
 use Rattle.std.specs.Prelude.{[]}
+use Rattle.logbook.specs.Pages.{Book}
 use Rattle.upload_book.specs.Settings.{Settings}
 
 -- settings of nothing, which no opening has
@@ -16,3 +17,7 @@ no_settings = record {
   };
   tenants = [];
 }
+
+-- the log of nothing
+abbrev pub no_log : Book
+no_log = record { number = 0; log_name = 0; cells_name = 0 }

@@ -1,7 +1,7 @@
 -- The words of faults.
 use Rattle.std.specs.Prelude.{ℕ, List, codes}
 use Rattle.tus_shared.specs.declared.open_fault.OpenFault.{OpenFault}
-use Rattle.tus_shared.specs.declared.open_fault.OpenFault.TheVariants.{Desks, Memory}
+use Rattle.tus_shared.specs.declared.open_fault.OpenFault.TheVariants.{Board, Desks, Memory}
 use Rattle.tus_shared.specs.declared.work_fault.WorkFault.{WorkFault}
 use Rattle.tus_shared.specs.declared.work_fault.WorkFault.TheVariants as work
 
@@ -9,6 +9,7 @@ use Rattle.tus_shared.specs.declared.work_fault.WorkFault.TheVariants as work
 abbrev pub open_fault_word : OpenFault → List ℕ
 open_fault_word Desks = codes "desks"
 open_fault_word Memory = codes "memory"
+open_fault_word Board = codes "board"
 
 -- the word that names a fault of a batch
 abbrev pub work_fault_word : WorkFault → List ℕ

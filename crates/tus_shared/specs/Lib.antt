@@ -1,6 +1,7 @@
 pub mod Charges
 pub mod Desk
 pub mod Store
+pub mod Steps
 pub mod Turn
 pub mod Served
 pub mod Fault

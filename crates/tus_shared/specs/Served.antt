@@ -1,55 +1,106 @@
--- What a desk answers. Nobody knows a book behind a lock before it is taken: a reply is that of the plain book's step on
--- some lawful book of the settings.
-use Rattle.std.specs.Prelude.{◌≡◌, ℕ, List, Result, Ok}
+-- What a desk answers. Nobody knows a store behind a lock before it is taken: a reply is that of the step on some store
+-- whose book is lawful, which has shown what changed of its heads, and whose lines begin with those that the desk was told.
+use Rattle.std.specs.Prelude.{◌≡◌, ◌⊎◌, ⊤, ℕ, true, List, [], ◌∷◌, None, Result, Ok, Err, IsOk}
+use mathlib.Core.List.{IsPrefix}
 use Rattle.upload_book.specs.declared.head_row.HeadRow.{HeadRow}
 use Rattle.upload_book.specs.declared.head_row.Name.{Name}
-use Rattle.upload_book.specs.Lawful.{IsLawful}
-use Rattle.upload_book.specs.Look.{look_answer}
-use Rattle.upload_book.specs.PlainBook.{PlainBook, answer_of}
-use Rattle.upload_book.specs.Settings.{Settings}
-use Rattle.upload_book.specs.Sweep.{book_after_sweep, sweep_answer}
+use Rattle.upload_book.specs.declared.operation.Operation.TheVariants as operation
 use Rattle.upload_book.specs.declared.refusal.Refusal.{Refusal}
+use Rattle.upload_book.specs.declared.refusal.Refusal.TheVariants.{Board}
 use Rattle.upload_book.specs.declared.sweep.Swept.{Swept}
+use Rattle.upload_book.specs.Lawful.{IsLawful}
+use Rattle.upload_book.specs.Settings.{Settings}
 use Rattle.tus_steps.specs.declared.reply.Reply.{Reply}
+use Rattle.tus_steps.specs.Method.{is_head}
+use Rattle.tus_steps.specs.Operation.{operation_of}
+use Rattle.tus_steps.specs.Reply.{head_reply, refusing}
 use Rattle.tus_steps.specs.Request.{Request}
-use Rattle.tus_steps.specs.Step.{IsStep}
-use Rattle.tus_shared.specs.Turn.{Turn}
-use Rattle.std.specs.List.{AllZip}
+use Rattle.tus_shared.specs.Board.{Looks}
 use Rattle.tus_shared.specs.Desk.{Desk, Moves}
+use Rattle.tus_shared.specs.Steps.{IsStoreStep, IsSweep, Shows}
+use Rattle.tus_shared.specs.Store.{IsShown, Store}
+use Rattle.tus_shared.specs.Turn.{Turn}
 
--- the desk answers the request at a moment with this reply, by the step from one lawful book to another, and its shares
--- rise by what that charges and releases
+-- the store is one that a desk may find behind the lock
+pub record IsFound (s : Settings) (desk : Desk) (store : Store) : Type 0 where
+  pub settings : store.book.settings ≡ s
+  pub lawful : IsLawful store.book
+  pub shown : IsShown s store
+  pub begins : IsPrefix desk.told store.lines
+
+-- the desk answers the request at a moment with this reply, by the step from one store to another: its shares rise by
+-- what that charges and releases, and it is told all lines that were shown
 pub record Answers (s : Settings) (request : Request) (now : ℕ) (reply : Reply) (old new : Desk) : Type 0 where
-  pub before : PlainBook
-  pub after : PlainBook
-  pub settings : before.settings ≡ s
-  pub lawful : IsLawful before
-  pub step : IsStep before request now reply after
-  pub moves : Moves before after old new
+  pub before : Store
+  pub after : Store
+  pub found : IsFound s old before
+  pub step : IsStoreStep before.book request now reply after.book
+  pub shows : Shows before request now reply after
+  pub moves : Moves before.book after.book old new
+  pub told : new.told ≡ after.lines
 
 -- the same of a sweep at a moment
 pub record Sweeps (s : Settings) (now : ℕ) (swept : Result Swept Refusal) (old new : Desk) : Type 0 where
-  pub before : PlainBook
-  pub settings : before.settings ≡ s
-  pub lawful : IsLawful before
-  pub answer : swept ≡ Ok (sweep_answer before now)
-  pub moves : Moves before (book_after_sweep before now) old new
+  pub before : Store
+  pub after : Store
+  pub found : IsFound s old before
+  pub sweep : IsSweep before now swept after
+  pub moves : Moves before.book after.book old new
+  pub told : new.told ≡ after.lines
 
--- what a HEAD of an upload tells at a moment is the plain book's answer, on some lawful book of the settings
-pub record IsRow (s : Settings) (name : Name) (now : ℕ) (row : Result HeadRow Refusal) : Type 0 where
-  pub book : PlainBook
-  pub settings : book.settings ≡ s
-  pub lawful : IsLawful book
-  pub answer : row ≡ answer_of book name.tenant (look_answer name.id now)
+-- nothing but what it was told changes of the desk
+abbrev pub IsToldAlone : Desk → Desk → Type 0
+IsToldAlone old new = new ≡ record old { told = new.told }
 
--- the reply is the plain book's to the request at a moment, on some lawful book of the settings
-pub record IsReply (s : Settings) (request : Request) (now : ℕ) (reply : Reply) : Type 0 where
-  pub before : PlainBook
-  pub after : PlainBook
-  pub settings : before.settings ≡ s
-  pub lawful : IsLawful before
-  pub step : IsStep before request now reply after
+-- A HEAD of an upload at a desk is a look where the desk was told its lines, and it is told those of the look; or the
+-- board was not entered, and the desk stays.
+abbrev pub TellsHead : Settings → Name → ℕ → Result HeadRow Refusal → Desk → Desk → Type 0
+TellsHead s name now row old new =
+    (Looks s old.told new.told name now row × IsToldAlone old new) ⊎ ((row ≡ Err Board) × (new ≡ old))
 
--- the replies to a batch: one for each of its turns, in their order
-abbrev pub AreReplies : Settings → List Turn → List Reply → Type 0
-AreReplies s batch replies = AllZip (λ turn reply. IsReply s turn.request turn.now reply) batch replies
+-- the request is a HEAD that is refused before any upload is looked at, and the desk stays
+pub record RefusesHead (s : Settings) (request : Request) (reply : Reply) (old new : Desk) : Type 0 where
+  pub head : is_head request.method ≡ true
+  pub why : Refusal
+  pub refused : operation_of s request ≡ Err why
+  pub reply_is : reply ≡ refusing request why None
+  pub same : new ≡ old
+
+-- the request is a HEAD, which is answered beside the lock
+pub record AnswersHead (s : Settings) (request : Request) (now : ℕ) (reply : Reply) (old new : Desk) : Type 0 where
+  pub head : is_head request.method ≡ true
+  pub name : Name
+  pub asks : operation_of s request ≡ Ok (operation.Look name)
+  pub row : Result HeadRow Refusal
+  pub looks : Looks s old.told new.told name now row
+  pub alone : IsToldAlone old new
+  pub reply_is : reply ≡ head_reply row
+
+-- the lock is taken for no HEAD that is refused before any upload is looked at
+abbrev pub MayTakeLock : Settings → Request → Type 0
+MayTakeLock s request = is_head request.method ≡ true → IsOk (operation_of s request)
+
+-- what a desk answers to a turn: a HEAD beside the lock, where the board can be entered; all else by its step on the store
+abbrev pub TakesTurn : Settings → Request → ℕ → Reply → Desk → Desk → Type 0
+TakesTurn s request now reply old new =
+    RefusesHead s request reply old new ⊎ AnswersHead s request now reply old new
+    ⊎ (MayTakeLock s request × Answers s request now reply old new)
+
+-- The replies to a batch at a desk, one for each of its turns, in their order: each turn is answered at the desk as the
+-- one before left it.
+abbrev pub TakesBatch : Settings → List Turn → List Reply → Desk → Desk → Type 0
+TakesBatch s [] [] old new = new ≡ old
+TakesBatch s (turn ∷ batch) (reply ∷ replies) old new =
+    (between : Desk) × TakesTurn s turn.request turn.now reply old between × TakesBatch s batch replies between new
+TakesBatch s [] (reply ∷ replies) old new = ⊥
+TakesBatch s (turn ∷ batch) [] old new = ⊥
+
+-- the elements of three lists go together, place by place
+abbrev pub AllThree : {A B C : Type 0} → (A → B → C → Type 0) → List A → List B → List C → Type 0
+AllThree P [] [] [] = ⊤
+AllThree P (x ∷ xs) (y ∷ ys) (z ∷ zs) = P x y z × AllThree P xs ys zs
+AllThree P xs ys zs = ⊥
+
+-- the replies to a batch at a desk, whatever became of that
+abbrev pub AreReplies : Settings → List Turn → Desk → List Reply → Type 0
+AreReplies s batch old replies = (new : Desk) × TakesBatch s batch replies old new

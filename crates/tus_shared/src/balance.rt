@@ -1,14 +1,19 @@
-ghost use Rattle.std.specs.Prelude.{◌≡◌, ◌+◌, vec_len};
+ghost use Rattle.std.specs.Prelude.{◌≡◌, ◌+◌, All, List, vec_len};
 ghost use Rattle.std.specs.List.{sum_by};
+ghost use mathlib.Core.List.{IsPrefix};
 ghost use Rattle.tus_shared.specs.Desk as spec;
+ghost use Rattle.tus_shared.specs.Store.{IsShown};
 ghost use Rattle.upload_book.specs.Book.{plain_of};
 ghost use Rattle.upload_book.specs.Charge.{charge_in};
+ghost use Rattle.upload_book.specs.declared.board_line.BoardLine.{BoardLine};
 ghost use Rattle.upload_book.specs.Lawful.{IsLawful};
 
+use crate::board::Board;
 use crate::charges::Charges;
 use crate::desk::Desk;
 use crate::shared::Shared;
 use crate::store::Store;
+use std::sync::Wait;
 use std::sync::ledger::{Ledger, Share};
 use upload_book::Book;
 
@@ -24,9 +29,10 @@ pub struct Balance {
 }
 
 /// Ends an opening: takes the book out of the lock, and adds the shares of all of its desks. The sums are
-/// the totals of the book, and what is held is what its tenants pay.
-pub fn settle<C: Charges, R: Ledger>(
-    shared: Shared<C, R>,
+/// the totals of the book, and what is held is what its tenants pay. The heads of the book are those after the lines
+/// that were shown, which begin with what each desk was told. It may wait for readers, of which none is left.
+pub fn settle<C: Charges, R: Ledger, B: Wait + Drop>(
+    shared: Shared<C, R, B>,
     desks: Vec<Desk<C, R>>,
 ) -> (Book, Balance)
     requires all { vec_len desks ≡ C.desks }
@@ -38,15 +44,19 @@ pub fn settle<C: Charges, R: Ledger>(
     ensures released_sum { result.1.released ≡ sum_by (λ (d : spec.Desk). d.released) desks.items }
     ensures charged { result.1.charged ≡ (plain_of result.0).charged }
     ensures released { result.1.released ≡ (plain_of result.0).released }
+    ensures told { (lines : List BoardLine)
+        × IsShown C.settings (record { book = plain_of result.0; lines = lines })
+        × All (λ (d : spec.Desk). IsPrefix d.told lines) desks.items }
     ensures held { result.1.held ≡ sum_by (charge_in C.settings.numbers) (plain_of result.0).tenants }
 {
     let Shared { store } = shared;
     let Store {
         book,
+        board,
         mut charged,
         mut released,
     } = store.into_inner();
-    gather(&mut charged.rest, &mut released.rest, desks);
+    gather(&board, &mut charged.rest, &mut released.rest, desks);
     charged.book.audit(&mut charged.rest);
     released.book.audit(&mut released.rest);
     let balance = Balance {
@@ -57,12 +67,15 @@ pub fn settle<C: Charges, R: Ledger>(
     (book, balance)
 }
 
-// Takes the shares of these desks in.
-fn gather<C: Charges, R: Ledger>(
+// Takes the shares of these desks in, each of which was told lines of the board.
+fn gather<C: Charges, R: Ledger, B: Wait + Drop>(
+    board: &Board<B>,
     charged: &mut Share<C>,
     released: &mut Share<R>,
     desks: Vec<Desk<C, R>>,
 )
+    requires log { board.now.log ≡ C.log }
+    ensures told { All (λ (d : spec.Desk). IsPrefix d.told board.now.lines) desks.items }
     ensures charged_parts { charged.new.parts ≡ charged.old.parts + vec_len desks }
     ensures released_parts { released.new.parts ≡ released.old.parts + vec_len desks }
     ensures charged { charged.new.amount ≡ charged.old.amount + sum_by (λ (d : spec.Desk). d.charged) desks.items }
@@ -74,7 +87,9 @@ fn gather<C: Charges, R: Ledger>(
             number: _,
             charged: its_charged,
             released: its_released,
+            mut window,
         } = desk;
+        board.tell(&mut window);
         charged.merge(its_charged);
         released.merge(its_released);
     }

@@ -100,21 +100,28 @@ impl<W: Wait + Drop> Board<W> {
         done
     }
 
-    /// Whether a window of this board was told no more lines than were shown, which then begin with them.
-    pub fn begins_with(&self, window: &Window) -> bool
-        requires { window.now.log ≡ self.now.log }
-        ensures { IsTrue result → IsPrefix window.now.lines self.now.lines }
+    /// Tells a window of this board all lines that were shown. It waits until these begin with those that the window
+    /// was told, which no run has to wait for: a window is told only what was shown.
+    pub fn tell(&self, window: &mut Window)
+        requires { window.old.log ≡ self.now.log }
+        ensures begins { IsPrefix window.old.lines self.now.lines }
+        ensures told { window.new ≡ record window.old { lines = self.now.lines } }
     {
-        window.front().begins(&self.front)
+        self.wait_for(window.front());
+        window.learn(self.front.again());
     }
 
-    /// Tells a window of this board all lines that were shown.
-    pub fn tell(&self, window: &mut Window)
-        requires log { window.old.log ≡ self.now.log }
-        requires begins { IsPrefix window.old.lines self.now.lines }
-        ensures { window.new ≡ record window.old { lines = self.now.lines } }
+    // Waits until the lines that were shown begin with these.
+    fn wait_for(&self, told: &Front)
+        requires { told.now.book ≡ self.now.log }
+        ensures { IsPrefix told.now.lines self.now.lines }
     {
-        window.learn(self.front.again());
+        for _ in self.rt.forever() {
+            if told.begins(&self.front) {
+                return;
+            }
+        }
+        unreachable!()
     }
 
     /// A new window on the board, which was told all lines that were shown. The error is that there are as many windows

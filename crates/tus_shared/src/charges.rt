@@ -1,5 +1,6 @@
 ghost use Rattle.std.specs.Prelude.{ℕ};
-ghost use Rattle.tus_shared.specs.Charges.{no_settings};
+ghost use Rattle.logbook.specs.Pages.{Book};
+ghost use Rattle.tus_shared.specs.Charges.{no_log, no_settings};
 ghost use Rattle.upload_book.specs.Settings as spec;
 
 use std::marker::Brand;
@@ -13,10 +14,15 @@ pub trait Charges: Ledger {
 
     // How many desks there are.
     ghost desks: { ℕ };
+
+    // The log of the lines that the store shows.
+    ghost log: { Book };
 }
 
 impl Charges for Brand {
     ghost settings = { no_settings };
 
     ghost desks = { 0 };
+
+    ghost log = { no_log };
 }

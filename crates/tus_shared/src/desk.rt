@@ -1,26 +1,33 @@
-ghost use Rattle.std.specs.Prelude.{◌≡◌, ◌≤◌, [], Err, length, vec_capacity};
-ghost use Rattle.tus_shared.specs.Served.{Answers, AreReplies, IsRow, Sweeps};
-ghost use Rattle.upload_book.specs.declared.refusal.Refusal.TheVariants.{Unknown};
+ghost use Rattle.std.specs.Prelude.{◌≡◌, ◌⊎◌, ◌≤◌, [], true, Err, IfNone, IfSome, Ok, length, vec_capacity};
+ghost use Rattle.tus_steps.specs.Method.{is_head};
+ghost use Rattle.tus_steps.specs.Operation.{operation_of};
+ghost use Rattle.upload_book.specs.declared.operation.Operation.TheVariants as operation;
+ghost use Rattle.tus_shared.specs.Board.{Looks};
+ghost use Rattle.tus_shared.specs.Served.{Answers, IsToldAlone, Sweeps, TakesBatch, TakesTurn, TellsHead};
+ghost use Rattle.upload_book.specs.declared.refusal.Refusal.TheVariants.{Board, Unknown};
 
 use crate::charges::Charges;
 use crate::gate::{Gate, Stop};
 use crate::shared::Shared;
 use crate::turn::Turn;
+use crate::window::Window;
 use std::marker::Model;
 use std::sync::Wait;
 use std::sync::ledger::{Ledger, Share};
-use tus_steps::{Reply, Request};
+use tus_steps::{HeadOf, Reply, Request, head_of, head_reply};
 use upload_book::{HeadRow, Moment, Name, Refusal, Settings, Swept};
 
 /// One of the desks that an opening gives, at which one thread answers its requests. It counts in two
-/// shares how many blocks its own steps charged, and how many they released. A contract sees the desk's
-/// number and these two counts.
+/// shares how many blocks its own steps charged, and how many they released, and looks at the board through a window.
+/// A contract sees the desk's number, these two counts, and the lines that it was told: those on which its answers
+/// rest so far.
 #[derive(Drop)]
 pub struct Desk<C: Charges, R: Ledger> {
     pub(crate) settings: Settings,
     pub(crate) number: usize,
     pub(crate) charged: Share<C>,
     pub(crate) released: Share<R>,
+    pub(crate) window: Window,
 }
 
 impl<C: Charges, R: Ledger> Model for Desk<C, R> {
@@ -33,9 +40,11 @@ impl<C: Charges, R: Ledger> Model for Desk<C, R> {
       number = d.number;
       charged = d.charged.amount;
       released = d.released.amount;
+      told = d.window.lines;
     } };
 
-    ghost invariant = { λ d. (d.settings ≡ C.settings) × (d.charged.parts ≡ 1) × (d.released.parts ≡ 1) };
+    ghost invariant = { λ d. (d.settings ≡ C.settings) × (d.charged.parts ≡ 1) × (d.released.parts ≡ 1)
+        × (d.window.settings ≡ C.settings) × (d.window.log ≡ C.log) };
 }
 
 impl<C: Charges, R: Ledger> Desk<C, R> {
@@ -47,12 +56,13 @@ impl<C: Charges, R: Ledger> Desk<C, R> {
     }
 
     /// Takes the lock for the step of this request at this moment ([`crate::Store::step`]), and gives its
-    /// reply: the plain book's on some lawful book of the settings. The bytes of a GET are a copy. It may
-    /// wait for other desks.
-    pub fn call<W: Wait>(
+    /// reply: the plain book's on a lawful book whose heads are those after the lines that were shown, which begin with
+    /// those that the desk was told. It is told them, and the line of its own change. The bytes of a GET are a copy. It
+    /// may wait for other desks.
+    pub fn call<W: Wait, B: Wait + Drop>(
         &mut self,
         rt: &W,
-        shared: &Shared<C, R>,
+        shared: &Shared<C, R, B>,
         request: &Request,
         now: Moment,
     ) -> Reply
@@ -61,12 +71,12 @@ impl<C: Charges, R: Ledger> Desk<C, R> {
         shared.store.lock(rt).step(self, request, now)
     }
 
-    /// Takes the lock for a sweep at this moment ([`crate::Store::sweep`]), and tells what it ended. It may
-    /// wait for other desks.
-    pub fn sweep<W: Wait>(
+    /// Takes the lock for a sweep at this moment ([`crate::Store::sweep`]), and tells what it ended. It is refused as
+    /// Memory where that lacks to show it. It may wait for other desks.
+    pub fn sweep<W: Wait, B: Wait + Drop>(
         &mut self,
         rt: &W,
-        shared: &Shared<C, R>,
+        shared: &Shared<C, R, B>,
         now: Moment,
     ) -> Result<Swept, Refusal>
         ensures { Sweeps C.settings now result self.old self.new }
@@ -74,48 +84,100 @@ impl<C: Charges, R: Ledger> Desk<C, R> {
         shared.store.lock(rt).sweep(self, now)
     }
 
-    /// Takes the lock to look what a HEAD of this upload tells at this moment: the row or the refusal of the
-    /// plain book on some lawful book of the settings. It is refused as Unknown where the name's tenant is not
-    /// there or never had the id, and as Gone where the upload has ended or expired. The desk's counts stay.
-    /// It takes no memory, and may wait for other desks.
-    pub fn head<W: Wait>(
-        &mut self,
-        rt: &W,
-        shared: &Shared<C, R>,
-        name: &Name,
-        now: Moment,
-    ) -> Result<HeadRow, Refusal>
-        ensures row { IsRow C.settings name.now now result }
-        ensures no_tenant { length C.settings.tenants ≤ name.now.tenant → result ≡ Err Unknown }
-        ensures desk { self.new ≡ self.old }
+    /// Looks on the board what a HEAD of this upload tells at this moment, after lines that begin with those which the
+    /// desk was told, and it is told these. So it is never behind what the desk was told before, its own steps among
+    /// that. It is refused as Unknown where the name's tenant is not there or never had the id, and as Gone where the
+    /// upload has ended or expired. The desk's counts stay. It takes no lock and no memory, and waits for nobody.
+    ///
+    /// Board, with the desk as it was, says that the board was not entered, as no run has it.
+    pub fn head(&mut self, name: &Name, now: Moment) -> Result<HeadRow, Refusal>
+        ensures head { TellsHead C.settings name.now now result self.old self.new }
+        ensures no_tenant { length C.settings.tenants ≤ name.now.tenant
+            → (result ≡ Err Unknown) ⊎ (result ≡ Err Board) }
     {
-        shared.store.lock(rt).look(name, now)
+        let Some(row) = self.look(name, now) else {
+            return Err(Refusal::Board);
+        };
+        row
     }
 
-    /// Does the step of [`Desk::call`], and passes the gate on the way: at `Before`, then with the lock at
-    /// `Locked`, then without it at `Answered`. The turn is for the gate alone.
-    pub fn answer<W: Wait, G: Gate>(
+    // What the board tells of an upload; nothing, where it was not entered, and then the desk stays.
+    fn look(&mut self, name: &Name, now: Moment) -> Option<Result<HeadRow, Refusal>>
+        ensures looks { IfSome result (Looks C.settings self.old.told self.new.told name.now now) }
+        ensures alone { IsToldAlone self.old self.new }
+        ensures stays { IfNone result (self.new ≡ self.old) }
+    {
+        self.window.look(name, now)
+    }
+
+    /// Answers a turn, and passes the gate on the way: at `Before`, then with the lock at `Locked`, if it takes the
+    /// lock, then without it at `Answered`. A HEAD is answered as [`Desk::head`] tells, without the lock; all else, and
+    /// a HEAD where the board was not entered, as [`Desk::call`] does. The number of the turn is for the gate alone.
+    pub fn answer<W: Wait, B: Wait + Drop, G: Gate>(
         &mut self,
         rt: &W,
-        shared: &Shared<C, R>,
+        shared: &Shared<C, R, B>,
         request: &Request,
         now: Moment,
         turn: usize,
         gate: &G,
     ) -> Reply
-        ensures { Answers C.settings request.now now result self.old self.new }
+        ensures { TakesTurn C.settings request.now now result self.old self.new }
     {
         gate.pass(self.number, turn, Stop::Before);
-        let reply = self.answer_locked(rt, shared, request, now, turn, gate);
+        let reply = self.reply_to(rt, shared, request, now, turn, gate);
         gate.pass(self.number, turn, Stop::Answered);
         reply
     }
 
-    // The part of it under the lock.
-    fn answer_locked<W: Wait, G: Gate>(
+    // The reply to a turn, without the first stop and the last.
+    fn reply_to<W: Wait, B: Wait + Drop, G: Gate>(
         &mut self,
         rt: &W,
-        shared: &Shared<C, R>,
+        shared: &Shared<C, R, B>,
+        request: &Request,
+        now: Moment,
+        turn: usize,
+        gate: &G,
+    ) -> Reply
+        ensures { TakesTurn C.settings request.now now result self.old self.new }
+    {
+        match head_of(&self.settings, request) {
+            HeadOf::Refused(reply) => return reply,
+            HeadOf::Of(name) => {
+                return self.answer_head(rt, shared, request, &name, now, turn, gate);
+            }
+            HeadOf::NotHead => {}
+        }
+        self.answer_locked(rt, shared, request, now, turn, gate)
+    }
+
+    // The reply to a HEAD of the upload of this name.
+    fn answer_head<W: Wait, B: Wait + Drop, G: Gate>(
+        &mut self,
+        rt: &W,
+        shared: &Shared<C, R, B>,
+        request: &Request,
+        name: &Name,
+        now: Moment,
+        turn: usize,
+        gate: &G,
+    ) -> Reply
+        requires head { is_head request.now.method ≡ true }
+        requires asks { operation_of C.settings request.now ≡ Ok (operation.Look name.now) }
+        ensures { TakesTurn C.settings request.now now result self.old self.new }
+    {
+        if let Some(row) = self.look(name, now) {
+            return head_reply(row);
+        }
+        self.answer_locked(rt, shared, request, now, turn, gate)
+    }
+
+    // The step of a turn that takes the lock.
+    fn answer_locked<W: Wait, B: Wait + Drop, G: Gate>(
+        &mut self,
+        rt: &W,
+        shared: &Shared<C, R, B>,
         request: &Request,
         now: Moment,
         turn: usize,
@@ -130,17 +192,17 @@ impl<C: Charges, R: Ledger> Desk<C, R> {
 
     // Answers the turns of a batch, one after another, and gives their replies in a list that has room for
     // them.
-    pub(crate) fn answer_all<W: Wait, G: Gate>(
+    pub(crate) fn answer_all<W: Wait, B: Wait + Drop, G: Gate>(
         &mut self,
         rt: &W,
-        shared: &Shared<C, R>,
+        shared: &Shared<C, R, B>,
         batch: &[Turn],
         mut replies: Vec<Reply>,
         gate: &G,
     ) -> Vec<Reply>
         requires empty { replies.items ≡ [] }
         requires room { length batch.now ≤ vec_capacity replies }
-        ensures { AreReplies C.settings batch.now result.items }
+        ensures { TakesBatch C.settings batch.now result.items self.old self.new }
     {
         for (number, turn) in batch.iter().enumerate() {
             let reply = self.answer(rt, shared, &turn.request, turn.now, number, gate);

@@ -123,6 +123,7 @@ impl Front {
 }
 
 /// A log with no line yet: its word, and a front that has seen nothing.
+#[derive(Drop)]
 pub struct Opened {
     pub head: Head,
     pub front: Front,

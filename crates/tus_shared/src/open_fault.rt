@@ -12,6 +12,8 @@ pub enum OpenFault {
     Desks,
     /// There was too little memory.
     Memory,
+    /// The board, or a window on it, could not be made.
+    Board,
 }
 
 impl OpenFault {
@@ -22,6 +24,7 @@ impl OpenFault {
         match self {
             OpenFault::Desks => "desks",
             OpenFault::Memory => "memory",
+            OpenFault::Board => "board",
         }
     }
 }

@@ -85,7 +85,8 @@ impl Window {
     /// `None`, with the window as it was, says that the board was not entered: it has been let go, or shows fewer lines
     /// than the window was told, as no run has it.
     pub fn look(&mut self, name: &Name, now: Moment) -> Option<Result<HeadRow, Refusal>>
-        ensures looks { IfSome result (λ row. Looks self.old self.new name.now now row) }
+        ensures looks { IfSome result (Looks self.old.settings self.old.lines self.new.lines name.now now) }
+        ensures board { self.new ≡ record self.old { lines = self.new.lines } }
         ensures stays { IfNone result (self.new ≡ self.old) }
     {
         let asked = Asked {

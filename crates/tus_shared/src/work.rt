@@ -1,7 +1,7 @@
 ghost use Rattle.std.specs.Prelude.{◌≡◌, ◌<◌, ◌≤◌, [], IfOk, OnErr, length, vec_capacity};
 ghost use Rattle.std.specs.Thread.{IsSend, IsSync};
 ghost use Rattle.std.specs.List.{AllZip};
-ghost use Rattle.tus_shared.specs.Served.{AreReplies};
+ghost use Rattle.tus_shared.specs.Served.{AllThree, AreReplies};
 
 use crate::charges::Charges;
 use crate::desk::Desk;
@@ -17,7 +17,8 @@ use tus_steps::Reply;
 
 /// Answers a batch of requests at each desk, in threads: each desk in one of its own, or one after another
 /// where no thread can be had. A batch is answered in its order, each turn through the gate; between two
-/// desks there is none. The replies stand as the requests do, a list for each desk.
+/// desks there is none. The replies stand as the requests do, a list for each desk, each reply that of
+/// [`Desk::answer`] at the desk as the one before left it.
 ///
 /// The room for all replies is taken first: the error is that there was too little memory for it, and then
 /// no desk has done anything.
@@ -26,18 +27,19 @@ pub fn work_all<
     R: Ledger + Send + Sync,
     G: Gate + Sync,
     W: Threads + Wait + Sync,
+    B: Wait + Drop + Send,
 >(
     rt: &W,
     alloc: Global,
-    shared: &Shared<C, R>,
+    shared: &Shared<C, R, B>,
     desks: &mut [Desk<C, R>],
     batches: &[&[Turn]],
     gate: &G,
 ) -> Result<Vec<Vec<Reply>>, WorkFault>
     requires { length batches.now ≡ length desks.old }
-    ensures replies { IfOk result (λ replies. AllZip
-        (λ batch told. AreReplies C.settings batch.now told.items)
-        batches.now replies.items) }
+    ensures replies { IfOk result (λ replies. AllThree
+        (λ batch desk told. AreReplies C.settings batch.now desk told.items)
+        batches.now desks.old replies.items) }
     ensures lacking { OnErr result (desks.new ≡ desks.old) }
 {
     let Ok(rooms) = room_for(alloc, batches) else {
@@ -69,9 +71,10 @@ fn work<
     R: Ledger + Send + Sync,
     G: Gate + Sync,
     W: Threads + Wait + Sync,
+    B: Wait + Drop + Send,
 >(
     rt: &W,
-    shared: &Shared<C, R>,
+    shared: &Shared<C, R, B>,
     desks: &mut [Desk<C, R>],
     batches: &[&[Turn]],
     mut rooms: Vec<Vec<Reply>>,
@@ -84,39 +87,40 @@ fn work<
         batches.now rooms.items }
     requires empty { replies.items ≡ [] }
     requires capacity { length batches.now ≤ vec_capacity replies }
-    ensures replies { AllZip
-        (λ batch told. AreReplies C.settings batch.now told.items)
-        batches.now result.items }
+    ensures replies { AllThree
+        (λ batch desk told. AreReplies C.settings batch.now desk told.items)
+        batches.now desks.old result.items }
     ensures capacity { vec_capacity result ≡ vec_capacity replies }
 {
     let Some(room) = rooms.pop() else {
         return replies;
     };
-    let count = batches.len() - 1;
-    let batch = batches[count];
-    let (others, _) = batches.split_at(count);
-    let (desks_there, desks_here) = desks.split_at_mut(count);
+    let Some((batch, others)) = batches.split_last() else {
+        return replies;
+    };
+    let Some((desk, desks_there)) = desks.split_last_mut() else {
+        return replies;
+    };
     let (mut told, last) = join(
         rt,
         || -> Vec<Vec<Reply>>
-            requires bounds { IsSync W.row × IsSync G.row × IsSend C.row × IsSync C.row × IsSend R.row × IsSync R.row }
+            requires bounds { IsSync W.row × IsSync G.row × IsSend C.row × IsSync C.row × IsSend R.row × IsSync R.row × IsSend B.row }
             requires desks { length others.now ≡ length desks_there.now }
             requires rooms { AllZip
                 (λ batch room. (room.items ≡ []) × (length batch.now ≤ vec_capacity room))
                 others.now rooms.items }
             requires empty { replies.items ≡ [] }
             requires capacity { length others.now ≤ vec_capacity replies }
-            ensures replies { AllZip
-                (λ batch told. AreReplies C.settings batch.now told.items)
-                others.entry.now result.items }
+            ensures replies { AllThree
+                (λ batch desk told. AreReplies C.settings batch.now desk told.items)
+                others.entry.now desks_there.entry.now result.items }
             ensures capacity { vec_capacity result ≡ vec_capacity replies }
         { work(rt, shared, desks_there, others, rooms, replies, gate) },
         || -> Vec<Reply>
-            requires one { 0 < length desks_here.now }
             requires empty { room.items ≡ [] }
-            requires room { length batch.now ≤ vec_capacity room }
-            ensures { AreReplies C.settings batch.entry.now result.items }
-        { desks_here[0].answer_all(rt, shared, batch, room, gate) },
+            requires room { length batch.now.now ≤ vec_capacity room }
+            ensures { AreReplies C.settings batch.entry.now.now desk.entry.now result.items }
+        { desk.answer_all(rt, shared, batch, room, gate) },
     );
     told.push_reserved(last);
     told

@@ -118,12 +118,14 @@ with_appended part id (Err refused) = part
 abbrev pub part_after_append : ℕ → Chunk → ℕ → ℕ → Numbers → TenantBook → TenantBook
 part_after_append id chunk now charged n part = with_appended part id (appended id chunk now charged n part)
 
--- when the visible upload of an id expires, if there is one and it does
+-- when an upload that was looked for expires, if it is visible and does
+abbrev pub expiry_seen : Result Upload Refusal → Option ℕ
+expiry_seen (Ok u) = u.expires
+expiry_seen (Err refusal) = None
+
+-- the same of the upload of an id
 abbrev pub expiry_told : ℕ → ℕ → TenantBook → Option ℕ
-expiry_told id now part = expiry_where (visible_upload part id now) where
-  expiry_where : Result Upload Refusal → Option ℕ
-  expiry_where (Ok u) = u.expires
-  expiry_where (Err refusal) = None
+expiry_told id now part = expiry_seen (visible_upload part id now)
 
 -- the answer to a PATCH whose bytes find no memory
 abbrev pub append_lacking : ℕ → ℕ → Numbers → TenantBook → Result Appended Refused

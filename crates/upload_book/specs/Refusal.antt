@@ -1,7 +1,7 @@
 -- The refusals of the steps: their words and statuses, and the first of several tests that applies.
 use Rattle.std.specs.Prelude.{◌≡◌, ◌⊎◌, ℕ, Bool, List, [], ◌∷◌, Option, Some, None, Result, Ok, Err, codes, if◌then◌else◌}
 use Rattle.upload_book.specs.declared.refusal.Refusal.{Refusal}
-use Rattle.upload_book.specs.declared.refusal.Refusal.TheVariants.{Version, Path, Tenant, Method, Field, Unknown, Gone, IsFinal, Media, Offset, LengthFixed, TooLong, Algorithm, Mismatch, Part, PartOpen, Unfinished, Uploads, Spent, Quota, Pool, Memory}
+use Rattle.upload_book.specs.declared.refusal.Refusal.TheVariants.{Version, Path, Tenant, Method, Field, Unknown, Gone, IsFinal, Media, Offset, LengthFixed, TooLong, Algorithm, Mismatch, Part, PartOpen, Unfinished, Uploads, Spent, Quota, Pool, Memory, Board}
 
 -- the word that names it, which is the body of its reply
 abbrev pub word_of : Refusal → List ℕ
@@ -27,6 +27,7 @@ word_of Spent = codes "spent"
 word_of Quota = codes "quota"
 word_of Pool = codes "pool"
 word_of Memory = codes "memory"
+word_of Board = codes "board"
 
 -- the status of its reply: those of RFC 9110, section 15, and 507 of RFC 4918, section 11.5; 412 for
 -- another version, 409 for a wrong offset, 415 for another content type, 403 for a PATCH of a final
@@ -55,6 +56,7 @@ status_of Spent = 507
 status_of Quota = 507
 status_of Pool = 507
 status_of Memory = 503
+status_of Board = 503
 
 -- the reason of the first test that holds, if one does
 abbrev pub first_that_holds : {R : Type 0} → List (Bool × R) → Option R

@@ -6,7 +6,7 @@ use std::fmt;
 use std::fmt::{Display, Formatter, Write};
 
 /// Why a request was refused. The reasons are checked in this order, but for Memory, which is the last
-/// wherever it comes. It displays its word.
+/// wherever it comes, and Board, which no request is refused by. It displays its word.
 #[derive(Clone, Copy, Debug, PartialEq, Eq)]
 pub enum Refusal {
     /// `Tus-Resumable` is not one field of value `1.0.0`.
@@ -53,6 +53,8 @@ pub enum Refusal {
     Pool,
     /// A growth was refused: out of memory.
     Memory,
+    /// What HEADs tell could not be looked at beside the lock. It is told to who looks, and is in no reply.
+    Board,
 }
 
 impl Refusal {
@@ -100,6 +102,7 @@ impl Refusal {
             Refusal::Quota => ("quota", 507),
             Refusal::Pool => ("pool", 507),
             Refusal::Memory => ("memory", 503),
+            Refusal::Board => ("board", 503),
         }
     }
 }

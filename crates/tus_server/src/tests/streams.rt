@@ -11,7 +11,7 @@ use std::process::Abort;
 use std::sync::Wait;
 use std::sync::ledger::{Blank, Ledger};
 use std::test::Fail;
-use tus_shared::{Balance, Charges, NoGate, Shared, settle};
+use tus_shared::{Balance, Charges, NoGate, Opened, Shared, settle};
 use upload_book::{Moment, Settings};
 
 const CREATES_AND_SENDS: &[u8] =
@@ -49,14 +49,18 @@ fn settle_after<C: Charges, R: Ledger, W: Wait + Abort>(
     settings: Settings,
     charged: Blank,
     released: Blank,
+    lines: Opened,
     connections: &[Connection],
 ) -> Result<[u64; 3], Fail>
     requires settings { settings ≡ C.settings }
     requires desks { C.desks ≡ 1 }
     requires charged { (charged.name ≡ C.name) × (charged.parts ≡ C.parts) × (C.parts ≡ 16) }
     requires released { (released.name ≡ R.name) × (released.parts ≡ R.parts) × (R.parts ≡ 16) }
+    requires log { lines.front.book ≡ C.log }
 {
-    let (shared, mut desks) = Shared::<C, R>::open(alloc, settings, 1, charged, released)?;
+    let (shared, mut desks) = Shared::<C, R, &W>::open(
+        rt, alloc, settings, 1, charged, released, lines,
+    )?;
     let mut clock = Moment::new(1000).ok_or("a moment")?;
     for connection in connections {
         let desk = desks.pop().ok_or("a desk")?;
@@ -110,6 +114,7 @@ fn an_upload_goes_on_over_another_connection(rt: HostRuntime) -> Result<(), Fail
         settings,
         Blank::new(16),
         Blank::new(16),
+        Opened::new(),
         &connections,
     )?;
     assert_eq!(rt; settled, [3, 0, 3]);

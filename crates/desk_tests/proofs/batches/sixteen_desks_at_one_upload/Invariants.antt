@@ -1,7 +1,7 @@
 use Rattle.desk_tests.proofs.batches.sixteen_desks_at_one_upload.Given as goal
 
 abbrev pub ghosts-race-C-Charges : goal.ghosts-race-C-Charges
-ghosts-race-C-Charges g a = record { settings = a.settings; desks = 16 }
+ghosts-race-C-Charges g a = record { settings = a.settings; desks = 16; log = a.lines.front.book }
 
 abbrev pub ghosts-race-C-Ledger : goal.ghosts-race-C-Ledger
 ghosts-race-C-Ledger g a = record { name = a.charged.name; parts = a.charged.parts }

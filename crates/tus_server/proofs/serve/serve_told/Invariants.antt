@@ -2,7 +2,7 @@ use Rattle.tus_server.proofs.serve.serve_told.Given as goal
 
 -- the ledgers of this opening
 abbrev pub ghosts-serve_with-C-Charges : goal.ghosts-serve_with-C-Charges
-ghosts-serve_with-C-Charges g a = record { settings = a.settings; desks = a.options.now.workers }
+ghosts-serve_with-C-Charges g a = record { settings = a.settings; desks = a.options.now.workers; log = a.lines.front.book }
 
 abbrev pub ghosts-serve_with-C-Ledger : goal.ghosts-serve_with-C-Ledger
 ghosts-serve_with-C-Ledger g a = record { name = a.charged.name; parts = a.charged.parts }

@@ -2,7 +2,7 @@ use Rattle.tus_server.proofs.tests.streams.an_upload_goes_on_over_another_connec
 
 -- the ledgers of this opening
 abbrev pub ghosts-settle_after-C-Charges : goal.ghosts-settle_after-C-Charges
-ghosts-settle_after-C-Charges g a = record { settings = a.settings; desks = 1 }
+ghosts-settle_after-C-Charges g a = record { settings = a.settings; desks = 1; log = a.lines.front.book }
 
 abbrev pub ghosts-settle_after-C-Ledger : goal.ghosts-settle_after-C-Ledger
 ghosts-settle_after-C-Ledger g a = record { name = a.charged.name; parts = a.charged.parts }

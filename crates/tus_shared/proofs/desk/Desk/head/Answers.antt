@@ -1,6 +1,6 @@
-use Rattle.std.proofs.Common.{◌∙◌}
-use Rattle.tus_shared.proofs.TenantLemmas.{look-past}
+use Rattle.std.proofs.Common.{inl, ◌∙◌}
+use Rattle.tus_shared.proofs.TenantLemmas.{shown-past}
 use Rattle.tus_shared.proofs.desk.Desk.head.Goals as goal
 
 pub returns-clause-no_tenant : goal.returns-clause-no_tenant
-returns-clause-no_tenant g c past = c.look.ensures.answer ∙ look-past _ _ _ _ c.look.ensures.lawful (rw c.look.ensures.settings past)
+returns-clause-no_tenant g c past = inl (c.in-Some.ensures.looks.tells ∙ shown-past g.C.Charges.settings c.look.new.self.told c.args.name.now c.args.now past)

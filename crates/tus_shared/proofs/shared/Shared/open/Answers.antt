@@ -1,4 +1,5 @@
-use Rattle.std.proofs.Common.{◌∙◌, arith}
+use Rattle.std.proofs.Common.{ap, ◌∙◌, arith}
+use Rattle.tus_shared.specs.Board.{BoardView}
 use Rattle.tus_shared.proofs.SharesLemmas.{new_desks-next}
 use Rattle.tus_shared.proofs.shared.Shared.open.Goals as goal
 
@@ -15,7 +16,8 @@ loop-number-preserved g c =
         amount = c.part-in-loop-number.ensures.none_left;
         total = c.part-in-loop-number.ensures.total ∙ i.1.total;
       },
-      new_desks-next _ _ _ _ _ c.push_reserved.ensures.items i.2 c.part.ensures.amount c.part-in-loop-number.ensures.amount,
-      omega (arith, c.push_reserved.ensures.len, i.3),
-      omega (arith, c.push_reserved.ensures.capacity, i.4),
+      c.in-Ok-window.ensures.board ∙ i.2,
+      new_desks-next _ _ _ _ _ _ c.push_reserved.ensures.items i.3 c.part.ensures.amount c.part-in-loop-number.ensures.amount (ap (λ (b : BoardView). b.lines) (c.in-Ok-window.ensures.window ∙ i.2)),
+      omega (arith, c.push_reserved.ensures.len, i.4),
+      omega (arith, c.push_reserved.ensures.capacity, i.5),
     )

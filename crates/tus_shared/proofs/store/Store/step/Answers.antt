@@ -1,41 +1,44 @@
-use Rattle.std.proofs.Common.{refl, ◌∙◌, arith}
+use Rattle.std.proofs.Common.{◌≡◌, ◌+◌, Some, ap, refl, sym, subst, ◌∙◌}
+use Rattle.tus_steps.specs.Changing.{change_found}
 use Rattle.upload_book.specs.Book.{plain_of}
-use Rattle.tus_shared.proofs.TotalsLemmas.{step-no_less}
+use Rattle.upload_book.specs.Lawful.{IsLawful}
+use Rattle.upload_book.specs.PlainBook.{PlainBook}
+use Rattle.upload_book.specs.Settings.{Settings}
+use Rattle.tus_shared.specs.Store.{IsShown, IsStore, Store}
+use Rattle.tus_shared.proofs.ChangeLemmas.{done-step}
 use Rattle.tus_shared.proofs.store.Store.step.Goals as goal
 
-pub overflow_sub-cost : goal.overflow_sub-cost
-overflow_sub-cost g c =
-    let n = step-no_less (plain_of c.self.inside.book) c.args.request.now c.args.now c.answer-reply.result (plain_of c.answer-reply.new.book) c.answer-reply.ensures.step in
-    rw (c.charged_total-charged_before.ensures.value, c.charged_total.ensures.value) n.charged
+pub returns-in-Some-clause-step : goal.returns-in-Some-clause-step
+returns-in-Some-clause-step g c =
+    let settings : c.args.self.now.book.settings ≡ c.settings.result.now = rw (← c.self.view_is) (sym c.settings.ensures.value) in
+    let steps = c.in-Some.ensures.step c.args.self.now.book c.args.now c.make-outcome.ensures.lawful settings in
+    let found : change_found c.args.self.now.book.settings c.args.request.now ≡ Some c.in-Some.asked = ap (λ (s : Settings). change_found s c.args.request.now) settings ∙ sym c.in-Some.ensures.found in
+    rw c.change_reply.ensures (done-step c.args.self.now c.make-outcome.new.self c.args.request.now c.args.now c.in-Some.asked c.make-outcome.result steps found c.make-outcome.ensures.done)
 
-pub overflow_sub-given_back : goal.overflow_sub-given_back
-overflow_sub-given_back g c =
-    let n = step-no_less (plain_of c.self.inside.book) c.args.request.now c.args.now c.answer-reply.result (plain_of c.answer-reply.new.book) c.answer-reply.ensures.step in
-    rw (c.released_total-released_before.ensures, c.released_total.ensures) n.released
-
+-- a request that asks for no change leaves the book
 pub invariant_of-self : goal.invariant_of-self
 invariant_of-self g c =
-    let n = step-no_less (plain_of c.self.inside.book) c.args.request.now c.args.now c.answer-reply.result (plain_of c.answer-reply.new.book) c.answer-reply.ensures.step in
-    let old = c.self.invariant in
-    record {
-      settings = c.answer-reply.ensures.settings ∙ old.settings;
-      charged = record {
-        total = omega (arith, n.charged, old.charged.total, c.add.ensures.total, c.charged_total-charged_before.ensures.value, c.charged_total.ensures.value);
-        parts = old.charged.parts;
-        rest = old.charged.rest;
-      };
-      released = record {
-        total = omega (arith, n.released, old.released.total, c.add-2.ensures.total, c.released_total-released_before.ensures, c.released_total.ensures);
-        parts = old.released.parts;
-        rest = old.released.rest;
-      };
-    }
+    let stays : plain_of c.answer.new.book ≡ plain_of c.self.inside.book = c.in-None.ensures.step (plain_of c.self.inside.book) c.args.now c.settings.ensures.lawful (sym c.settings.ensures.value) _ _ c.answer.ensures.step in
+    rw stays c.self.invariant
 
-pub returns-clause-moves : goal.returns-clause-moves
-returns-clause-moves g c =
-    let n = step-no_less (plain_of c.self.inside.book) c.args.request.now c.args.now c.answer-reply.result (plain_of c.answer-reply.new.book) c.answer-reply.ensures.step in
+pub returns-in-None-clause-stays_lawful : goal.returns-in-None-clause-stays_lawful
+returns-in-None-clause-stays_lawful g c =
+    let stays : plain_of c.answer.new.book ≡ plain_of c.self.inside.book = c.in-None.ensures.step (plain_of c.self.inside.book) c.args.now c.settings.ensures.lawful (sym c.settings.ensures.value) _ _ c.answer.ensures.step in
+    rw stays c.settings.ensures.lawful
+
+pub returns-in-None-clause-before : goal.returns-in-None-clause-before
+returns-in-None-clause-before g c = rw (← c.self.view_is) c.self.invariant.shown
+
+pub returns-in-None-clause-after : goal.returns-in-None-clause-after
+returns-in-None-clause-after g c =
+    let stays : plain_of c.answer.new.book ≡ plain_of c.self.inside.book = c.in-None.ensures.step (plain_of c.self.inside.book) c.args.now c.settings.ensures.lawful (sym c.settings.ensures.value) _ _ c.answer.ensures.step in
+    subst (λ (b : PlainBook). IsShown g.C.Charges.settings (record { book = b; lines = c.self.inside.board.lines })) (sym stays) c.self.invariant.shown
+
+pub returns-in-None-clause-moves : goal.returns-in-None-clause-moves
+returns-in-None-clause-moves g c =
+    let stays : plain_of c.answer.new.book ≡ plain_of c.self.inside.book = c.in-None.ensures.step (plain_of c.self.inside.book) c.args.now c.settings.ensures.lawful (sym c.settings.ensures.value) _ _ c.answer.ensures.step in
     rw (← c.self.view_is, ← c.desk.view_is) (record {
       number = refl;
-      charged = omega (arith, n.charged, c.add.ensures.amount, c.charged_total-charged_before.ensures.value, c.charged_total.ensures.value);
-      released = omega (arith, n.released, c.add-2.ensures.amount, c.released_total-released_before.ensures, c.released_total.ensures);
+      charged = ap (λ (b : PlainBook). c.desk.inside.charged.amount + b.charged) (sym stays);
+      released = ap (λ (b : PlainBook). c.desk.inside.released.amount + b.released) (sym stays);
     })

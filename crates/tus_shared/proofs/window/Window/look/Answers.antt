@@ -11,9 +11,13 @@ returns-clause-looks c =
     let found = c.in_ok-found.ensures in
     let lines = c.in_ok-found.found.front.lines in
     rw (← c.self.view_is) (record {
-      lines = lines;
       begins = subst (λ (t : Told). IsPrefix t.lines lines) c.again.ensures found.1.1;
       legal = found.1.2;
       tells = found.1.3;
-      told = ap₂ (λ (v : View) (log : Book). let view : BoardView = record { settings = v.settings; log = log; lines = lines } in view) found.0 (found.1.0 ∙ ap (λ (t : Told). t.book) c.again.ensures);
     })
+
+pub returns-clause-board : goal.returns-clause-board
+returns-clause-board c =
+    let found = c.in_ok-found.ensures in
+    let lines = c.in_ok-found.found.front.lines in
+    rw (← c.self.view_is) (ap₂ (λ (v : View) (log : Book). let view : BoardView = record { settings = v.settings; log = log; lines = lines } in view) found.0 (found.1.0 ∙ ap (λ (t : Told). t.book) c.again.ensures))

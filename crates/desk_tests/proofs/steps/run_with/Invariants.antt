@@ -1,7 +1,7 @@
-use Rattle.desk_tests.proofs.steps.run.Given as goal
+use Rattle.desk_tests.proofs.steps.run_with.Given as goal
 
 abbrev pub ghosts-settle_after-C-Charges : goal.ghosts-settle_after-C-Charges
-ghosts-settle_after-C-Charges g a = record { settings = a.settings; desks = 2 }
+ghosts-settle_after-C-Charges g a = record { settings = a.settings; desks = 2; log = a.lines.front.book }
 
 abbrev pub ghosts-settle_after-C-Ledger : goal.ghosts-settle_after-C-Ledger
 ghosts-settle_after-C-Ledger g a = record { name = a.charged.name; parts = a.charged.parts }

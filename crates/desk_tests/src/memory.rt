@@ -1,0 +1,66 @@
+//! What takes no memory at a desk: HEADs, and showing what changed. `rt try --test --fail-alloc N --
+//! takes_no_memory_after_the_opening` refuses the Nth allocation: the test fails up to the last one of the opening, and
+//! passes with the one after it, which is never asked for.
+
+ghost use Rattle.std.specs.Prelude.{◌≡◌};
+
+use crate::requests::Asked::Post;
+use crate::requests::{NUMBERS, Told, moment, settings_of, told_by, told_of, turn};
+use std::alloc::Global;
+use std::marker::Brand;
+use std::process::Abort;
+use std::sync::Wait;
+use std::sync::ledger::{Blank, Ledger};
+use std::test::Fail;
+use tus_shared::{Charges, Opened, Shared};
+use upload_book::{Name, Numbers, Settings};
+
+// Twenty creations and twenty sweeps, and 500 HEADs after each creation.
+fn create_look_and_sweep<C: Charges, R: Ledger, W: Wait + Abort>(
+    rt: &W,
+    alloc: Global,
+    settings: Settings,
+    charged: Blank,
+    released: Blank,
+    lines: Opened,
+) -> Result<(), Fail>
+    requires settings { settings ≡ C.settings }
+    requires desks { C.desks ≡ 1 }
+    requires charged { (charged.name ≡ C.name) × (charged.parts ≡ C.parts) × (C.parts ≡ 16) }
+    requires released { (released.name ≡ R.name) × (released.parts ≡ R.parts) × (R.parts ≡ 16) }
+    requires log { lines.front.book ≡ C.log }
+{
+    let (shared, mut desks) = Shared::<C, R, &W>::open(
+        rt, alloc, settings, 1, charged, released, lines,
+    )?;
+    let mut desk = desks.pop().ok_or("a desk")?;
+    let creation = turn(rt, Post(b"10"));
+    let empty = Told::Row(0, Some(10), b"", Some(4600));
+    for id in 1..21u64 {
+        let reply = desk.call(rt, &shared, &creation.request, creation.now);
+        assert_eq!(rt; told_by(&reply), Told::Created(id, None, Some(4600)));
+        for _ in 0..500u64 {
+            let row = desk.head(&Name { tenant: 0, id }, creation.now);
+            assert_eq!(rt; told_of(&row), empty, "upload {id}");
+        }
+        let swept = desk.sweep(rt, &shared, moment(rt, 4600))?;
+        assert_eq!(rt; swept.uploads, 1);
+    }
+    Ok(())
+}
+
+#[test]
+fn takes_no_memory_after_the_opening(rt: HostRuntime) -> Result<(), Fail> {
+    let numbers = Numbers {
+        uploads: 1,
+        ..NUMBERS
+    };
+    create_look_and_sweep::<Brand, Brand, HostRuntime>(
+        &rt,
+        rt.alloc(),
+        settings_of(numbers)?,
+        Blank::new(16),
+        Blank::new(16),
+        Opened::new(),
+    )
+}

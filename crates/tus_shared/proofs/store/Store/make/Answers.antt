@@ -1,0 +1,69 @@
+use Rattle.std.proofs.Common.{◌≡◌, ap, refl, sym, ◌∙◌, arith}
+use Rattle.upload_book.specs.Book.{plain_of}
+use Rattle.upload_book.specs.declared.board_line.BoardLine.{BoardLine}
+use Rattle.upload_book.specs.Heads.{heads_after, heads_of}
+use Rattle.upload_book.specs.PlainBook.{PlainBook}
+use Rattle.upload_book.specs.Settings.{Settings}
+use Rattle.tus_shared.specs.Board.{BoardView}
+use Rattle.tus_shared.specs.Store.{IsShown, Store}
+use Rattle.tus_shared.proofs.ChangeLemmas.{NoLess, done-made, done-refused, done-unshown, no-less, shown-more}
+use Rattle.tus_shared.proofs.store.Store.make.Goals as goal
+
+pub returns-in-Err-clause-before : goal.returns-in-Err-clause-before
+returns-in-Err-clause-before g c = rw (← c.self.view_is) c.self.invariant.shown
+
+pub returns-in-Err-clause-done : goal.returns-in-Err-clause-done
+returns-in-Err-clause-done g c =
+    rw (← c.self.view_is) (done-refused (plain_of c.self.inside.book) c.self.inside.board.lines (plain_of c.prepare.new.self) c.args.change c.args.now c.in-Err.refused c.prepare.ensures.plain c.in-Err.ensures.refused)
+
+pub show_line-requires-clause-heads : goal.show_line-requires-clause-heads
+show_line-requires-clause-heads g c =
+    ap heads_of c.prepare.ensures.plain ∙ c.self.invariant.shown.heads ∙ ap (λ (s : Settings). heads_after s c.self.inside.board.lines) (sym c.self.invariant.board_settings)
+
+pub returns-then-not-show_line-clause-before : goal.returns-then-not-show_line-clause-before
+returns-then-not-show_line-clause-before g c = rw (← c.self.view_is) c.self.invariant.shown
+
+pub returns-then-not-show_line-clause-after : goal.returns-then-not-show_line-clause-after
+returns-then-not-show_line-clause-after g c =
+    let same : (b : PlainBook) → (v : BoardView) → b ≡ plain_of c.self.inside.book → v ≡ c.self.inside.board → IsShown g.C.Charges.settings (record { book = b; lines = v.lines }) = λ b v plain board. rw (plain, board) c.self.invariant.shown in
+    same (plain_of c.prepare.new.self) c.show_line.new.board c.prepare.ensures.plain c.if-not-show_line.ensures.shown
+
+pub returns-then-not-show_line-clause-done : goal.returns-then-not-show_line-clause-done
+returns-then-not-show_line-clause-done g c =
+    rw (← c.self.view_is) (done-unshown (plain_of c.self.inside.book) c.self.inside.board.lines (plain_of c.prepare.new.self) c.show_line.new.board.lines c.args.change _ c.args.now _ c.unshown.result
+    c.prepare.ensures.plain (ap (λ (v : BoardView). v.lines) c.if-not-show_line.ensures.shown) c.in-Ok.ensures.change c.in-Ok.ensures.now c.show_line.ensures.accepted
+    (c.unshown.ensures c.args.change c.patched_by-patched.ensures))
+
+pub invariant_of-self-2 : goal.invariant_of-self-2
+invariant_of-self-2 g c =
+    let shows = c.if-not-show_line.ensures.shown in
+    let after = c.commit-outcome.ensures.after in
+    let n = no-less _ _ _ _ _ _ shows after in
+    let old = c.self.invariant in
+    record {
+      settings = n.settings ∙ ap (λ (b : PlainBook). b.settings) c.prepare.ensures.plain ∙ old.settings;
+      board_settings = ap (λ (v : BoardView). v.settings) shows.shown ∙ old.board_settings;
+      board_log = ap (λ (v : BoardView). v.log) shows.shown ∙ old.board_log;
+      shown = shown-more _ _ _ _ _ _ _ (rw c.prepare.ensures.plain old.shown) shows after;
+      charged = record {
+        total = omega (arith, n.charged, ap (λ (b : PlainBook). b.charged) c.prepare.ensures.plain, old.charged.total, c.add.ensures.total, c.charged_total-charged.ensures.value, c.charged_total.ensures.value);
+        parts = old.charged.parts;
+        rest = old.charged.rest;
+      };
+      released = record {
+        total = omega (arith, n.released, ap (λ (b : PlainBook). b.released) c.prepare.ensures.plain, old.released.total, c.add-2.ensures.total, c.released_total-released.ensures, c.released_total.ensures);
+        parts = old.released.parts;
+        rest = old.released.rest;
+      };
+    }
+
+pub returns-clause-before : goal.returns-clause-before
+returns-clause-before g c = rw (← c.self.view_is) c.self.invariant.shown
+
+pub returns-clause-after : goal.returns-clause-after
+returns-clause-after g c = shown-more _ _ _ _ _ _ _ (rw c.prepare.ensures.plain c.self.invariant.shown) c.if-not-show_line.ensures.shown c.commit-outcome.ensures.after
+
+pub returns-clause-done : goal.returns-clause-done
+returns-clause-done g c =
+    rw (← c.self.view_is) (done-made (plain_of c.self.inside.book) c.self.inside.board.lines _ _ _ _ c.args.change _ c.args.now _ _
+    c.prepare.ensures.plain refl c.in-Ok.ensures.change c.in-Ok.ensures.now c.if-not-show_line.ensures.shown c.commit-outcome.ensures.answer c.commit-outcome.ensures.after)
