@@ -1,6 +1,6 @@
 //! Changes in two halves: prepared and made, and prepared and let go.
 
-ghost use Rattle.std.specs.Prelude.{◌≡◌, false, [], Some, length};
+ghost use Rattle.std.specs.Prelude.{◌≡◌, ℕ, false, [], Some, length};
 ghost use Rattle.upload_book.specs.Book.{plain_of};
 ghost use Rattle.upload_book.specs.Change.{CanBeMade};
 
@@ -44,7 +44,9 @@ fn ten_bytes<'a>() -> NewUpload<'a>
 }
 
 // The PATCH of acme's first upload.
-fn greeting<'a>() -> Change<'a> {
+fn greeting<'a>() -> Change<'a>
+    ensures { (tenants : ℕ) → CanBeMade tenants result }
+{
     Change::Append {
         name: acme(1),
         chunk: hello(),

@@ -1,49 +1,47 @@
 //! Conversations in which parts are joined to final uploads.
 
-use crate::conversations::{
-    CREATED, CREATION_TOO_LONG, DELETE, DELETED, GONE, HEAD, PATCHED, POST,
-};
+use crate::conversations::{CREATED, CREATION_TOO_LONG, DELETE, DELETED, GONE, HEAD, PATCHED};
 use crate::creations::FIELD;
-use crate::spoken::{Expected, NUMBERS, assert_both_with, at};
+use crate::spoken::{Expected, assert_both, at};
 use http_wire::Ended;
-use std::alloc::{AllocError, Global};
+use std::alloc::Global;
 use std::process::Abort;
 use std::test::Fail;
-use upload_book::Numbers;
 
 /// A message, and what is written for it.
 type Turn = (&'static [u8], &'static [u8]);
 
-const PART_OF_5: &[u8] = b"POST /files/acme HTTP/1.1\r\nHost: x\r\nTus-Resumable: 1.0.0\r\n\
+pub const PART_OF_5: &[u8] = b"POST /files/acme HTTP/1.1\r\nHost: x\r\nTus-Resumable: 1.0.0\r\n\
 Upload-Length: 5\r\nUpload-Concat: partial\r\n\r\n";
 
-const ABCDE: &[u8] = b"PATCH /files/acme/1 HTTP/1.1\r\nHost: x\r\nTus-Resumable: 1.0.0\r\n\
+pub const ABCDE: &[u8] = b"PATCH /files/acme/1 HTTP/1.1\r\nHost: x\r\nTus-Resumable: 1.0.0\r\n\
 Content-Type: application/offset+octet-stream\r\nUpload-Offset: 0\r\nContent-Length: 5\r\n\r\n\
 abcde";
 
-const PART_OF_2: &[u8] = b"POST /files/acme HTTP/1.1\r\nHost: x\r\nTus-Resumable: 1.0.0\r\n\
+pub const PART_OF_2: &[u8] = b"POST /files/acme HTTP/1.1\r\nHost: x\r\nTus-Resumable: 1.0.0\r\n\
 Upload-Length: 2\r\nUpload-Concat: partial\r\n\r\n";
 
-const CREATED_2: &[u8] = b"HTTP/1.1 201 Created\r\nDate: Thu, 01 Jan 1970 00:16:40 GMT\r\n\
+pub const CREATED_2: &[u8] = b"HTTP/1.1 201 Created\r\nDate: Thu, 01 Jan 1970 00:16:40 GMT\r\n\
 Tus-Resumable: 1.0.0\r\nLocation: /files/acme/2\r\n\
 Upload-Expires: Thu, 01 Jan 1970 01:16:40 GMT\r\nContent-Length: 0\r\n\r\n";
 
-const FG: &[u8] = b"PATCH /files/acme/2 HTTP/1.1\r\nHost: x\r\nTus-Resumable: 1.0.0\r\n\
+pub const FG: &[u8] = b"PATCH /files/acme/2 HTTP/1.1\r\nHost: x\r\nTus-Resumable: 1.0.0\r\n\
 Content-Type: application/offset+octet-stream\r\nUpload-Offset: 0\r\nContent-Length: 2\r\n\r\nfg";
 
-const PATCHED_TO_2: &[u8] = b"HTTP/1.1 204 No Content\r\nDate: Thu, 01 Jan 1970 00:16:40 GMT\r\n\
+pub const PATCHED_TO_2: &[u8] =
+    b"HTTP/1.1 204 No Content\r\nDate: Thu, 01 Jan 1970 00:16:40 GMT\r\n\
 Tus-Resumable: 1.0.0\r\nUpload-Offset: 2\r\n\
 Upload-Expires: Thu, 01 Jan 1970 01:16:40 GMT\r\n\r\n";
 
-const FINAL_OF_BOTH: &[u8] = b"POST /files/acme HTTP/1.1\r\nHost: x\r\nTus-Resumable: 1.0.0\r\n\
+pub const FINAL_OF_BOTH: &[u8] = b"POST /files/acme HTTP/1.1\r\nHost: x\r\nTus-Resumable: 1.0.0\r\n\
 Upload-Concat: final;/files/acme/1 http://h:1/files/acme/2\r\n\r\n";
 
-const FINAL_3: &[u8] = b"HTTP/1.1 201 Created\r\nDate: Thu, 01 Jan 1970 00:16:40 GMT\r\n\
+pub const FINAL_3: &[u8] = b"HTTP/1.1 201 Created\r\nDate: Thu, 01 Jan 1970 00:16:40 GMT\r\n\
 Tus-Resumable: 1.0.0\r\nLocation: /files/acme/3\r\nContent-Length: 0\r\n\r\n";
 
-const HEAD_3: &[u8] = b"HEAD /files/acme/3 HTTP/1.1\r\nHost: x\r\nTus-Resumable: 1.0.0\r\n\r\n";
+pub const HEAD_3: &[u8] = b"HEAD /files/acme/3 HTTP/1.1\r\nHost: x\r\nTus-Resumable: 1.0.0\r\n\r\n";
 
-const LOOKED_3: &[u8] = b"HTTP/1.1 200 OK\r\nDate: Thu, 01 Jan 1970 00:16:40 GMT\r\n\
+pub const LOOKED_3: &[u8] = b"HTTP/1.1 200 OK\r\nDate: Thu, 01 Jan 1970 00:16:40 GMT\r\n\
 Tus-Resumable: 1.0.0\r\nUpload-Offset: 7\r\nUpload-Length: 7\r\n\
 Upload-Concat: final;/files/acme/1 http://h:1/files/acme/2\r\nCache-Control: no-store\r\n\r\n";
 
@@ -53,11 +51,12 @@ Content-Type: application/offset+octet-stream\r\nUpload-Offset: 7\r\nContent-Len
 const IS_FINAL: &[u8] = b"HTTP/1.1 403 Forbidden\r\nDate: Thu, 01 Jan 1970 00:16:40 GMT\r\n\
 Tus-Resumable: 1.0.0\r\nContent-Type: text/plain\r\nContent-Length: 6\r\n\r\nfinal\n";
 
-const DELETE_2: &[u8] = b"DELETE /files/acme/2 HTTP/1.1\r\nHost: x\r\nTus-Resumable: 1.0.0\r\n\r\n";
+pub const DELETE_2: &[u8] =
+    b"DELETE /files/acme/2 HTTP/1.1\r\nHost: x\r\nTus-Resumable: 1.0.0\r\n\r\n";
 
-const GET_3: &[u8] = b"GET /files/acme/3 HTTP/1.1\r\nHost: x\r\n\r\n";
+pub const GET_3: &[u8] = b"GET /files/acme/3 HTTP/1.1\r\nHost: x\r\n\r\n";
 
-const CONTENT_OF_BOTH: &[u8] = b"HTTP/1.1 200 OK\r\nDate: Thu, 01 Jan 1970 00:16:40 GMT\r\n\
+pub const CONTENT_OF_BOTH: &[u8] = b"HTTP/1.1 200 OK\r\nDate: Thu, 01 Jan 1970 00:16:40 GMT\r\n\
 Tus-Resumable: 1.0.0\r\nContent-Type: application/octet-stream\r\nContent-Length: 7\r\n\r\nabcdefg";
 
 const DELETE_3: &[u8] = b"DELETE /files/acme/3 HTTP/1.1\r\nHost: x\r\nTus-Resumable: 1.0.0\r\n\r\n";
@@ -80,7 +79,7 @@ static TWO_PARTS: [Turn; 12] = [
 const FINAL_OF_TWICE: &[u8] = b"POST /files/acme HTTP/1.1\r\nHost: x\r\nTus-Resumable: 1.0.0\r\n\
 Upload-Concat: final;/files/acme/1 /files/acme/1\r\n\r\n";
 
-const FINAL_2: &[u8] = b"HTTP/1.1 201 Created\r\nDate: Thu, 01 Jan 1970 00:16:40 GMT\r\n\
+pub const FINAL_2: &[u8] = b"HTTP/1.1 201 Created\r\nDate: Thu, 01 Jan 1970 00:16:40 GMT\r\n\
 Tus-Resumable: 1.0.0\r\nLocation: /files/acme/2\r\nContent-Length: 0\r\n\r\n";
 
 const LOOKED_PART: &[u8] = b"HTTP/1.1 200 OK\r\nDate: Thu, 01 Jan 1970 00:16:40 GMT\r\n\
@@ -113,7 +112,7 @@ const CREATED_BETA: &[u8] = b"HTTP/1.1 201 Created\r\nDate: Thu, 01 Jan 1970 00:
 Tus-Resumable: 1.0.0\r\nLocation: /files/beta/1\r\n\
 Upload-Expires: Thu, 01 Jan 1970 01:16:40 GMT\r\nContent-Length: 0\r\n\r\n";
 
-const FINAL_OF_1: &[u8] = b"POST /files/acme HTTP/1.1\r\nHost: x\r\nTus-Resumable: 1.0.0\r\n\
+pub const FINAL_OF_1: &[u8] = b"POST /files/acme HTTP/1.1\r\nHost: x\r\nTus-Resumable: 1.0.0\r\n\
 Upload-Concat: final;/files/acme/1\r\n\r\n";
 
 const FINAL_OF_2: &[u8] = b"POST /files/acme HTTP/1.1\r\nHost: x\r\nTus-Resumable: 1.0.0\r\n\
@@ -171,31 +170,12 @@ static WITH_THE_WHOLE_QUOTA: [Turn; 4] = [
     (FINAL_OF_TWICE, FINAL_2),
 ];
 
-const FINAL_4: &[u8] = b"HTTP/1.1 201 Created\r\nDate: Thu, 01 Jan 1970 00:16:40 GMT\r\n\
-Tus-Resumable: 1.0.0\r\nLocation: /files/acme/4\r\nContent-Length: 0\r\n\r\n";
-
-static NEVER_CHARGED: [Turn; 6] = [
-    (PART_OF_5, CREATED),
-    (ABCDE, PATCHED),
-    (FINAL_OF_1, FINAL_2),
-    (FINAL_OF_1, FINAL_3),
-    (DELETE_2, DELETED),
-    (FINAL_OF_1, FINAL_4),
-];
-
-const SPENT: &[u8] = b"HTTP/1.1 507 Insufficient Storage\r\n\
-Date: Thu, 01 Jan 1970 00:16:40 GMT\r\nTus-Resumable: 1.0.0\r\nContent-Type: text/plain\r\n\
-Content-Length: 6\r\n\r\nspent\n";
-
-static IDS_THAT_END: [Turn; 3] = [(POST, CREATED), (POST, CREATED_2), (POST, SPENT)];
-
-/// Asserts that each message of a conversation with a new book of these numbers is answered as its turn says,
+/// Asserts that each message of a conversation with a new book is answered as its turn says,
 /// and that the first upload of acme has so many bytes then.
 fn check_turns(
     rt: &impl Abort,
     alloc: Global,
     what: &str,
-    numbers: Numbers,
     turns: &[Turn],
     offset: Option<u64>,
 ) -> Result<(), Fail> {
@@ -211,81 +191,14 @@ fn check_turns(
         offset,
     };
     let moments = [at(1000); 16];
-    assert_both_with(rt, alloc, numbers, what, &sent, &moments, &expected)
+    assert_both(rt, alloc, what, &sent, &moments, &expected)
 }
 
 #[test]
 fn concatenations(rt: HostRuntime) -> Result<(), Fail> {
     let alloc = rt.alloc();
-    check_turns(&rt, alloc, "two parts", NUMBERS, &TWO_PARTS, None)?;
-    check_turns(&rt, alloc, "twice", NUMBERS, &ONE_PART_TWICE, None)?;
-    check_turns(&rt, alloc, "no parts", NUMBERS, &NO_PARTS, Some(0))?;
-    check_turns(
-        &rt,
-        alloc,
-        "quota",
-        NUMBERS,
-        &WITH_THE_WHOLE_QUOTA,
-        Some(30),
-    )
-}
-
-#[test]
-fn totals_and_ids_of_concatenations(rt: HostRuntime) -> Result<(), Fail> {
-    let alloc = rt.alloc();
-    let few_blocks = Numbers {
-        last_total: 4,
-        ..NUMBERS
-    };
-    check_turns(&rt, alloc, "charged", few_blocks, &NEVER_CHARGED, Some(5))?;
-    let few_ids = Numbers {
-        last_id: 2,
-        ..NUMBERS
-    };
-    check_turns(&rt, alloc, "ids", few_ids, &IDS_THAT_END, Some(0))
-}
-
-const PART_OF_0: &[u8] = b"POST /files/acme HTTP/1.1\r\nHost: x\r\nTus-Resumable: 1.0.0\r\n\
-Upload-Length: 0\r\nUpload-Concat: partial\r\n\r\n";
-
-const FINAL_OF: &[u8] = b"POST /files/acme HTTP/1.1\r\nHost: x\r\nTus-Resumable: 1.0.0\r\n\
-Upload-Concat: final;";
-
-const HEAD_2: &[u8] = b"HEAD /files/acme/2 HTTP/1.1\r\nHost: x\r\nTus-Resumable: 1.0.0\r\n\r\n";
-
-const LOOKED_FINAL: &[u8] = b"HTTP/1.1 200 OK\r\nDate: Thu, 01 Jan 1970 00:16:40 GMT\r\n\
-Tus-Resumable: 1.0.0\r\nUpload-Offset: 0\r\nUpload-Length: 0\r\nUpload-Concat: final;";
-
-/// Puts so many times the path of the first upload.
-fn put_parts(text: &mut Vec<u8>, count: usize) -> Result<(), AllocError> {
-    for _ in 0..count {
-        text.extend_from_slice(b" /files/acme/1")?;
-    }
-    Ok(())
-}
-
-#[test]
-fn many_parts(rt: HostRuntime) -> Result<(), Fail> {
-    let alloc = rt.alloc();
-    let mut sent = Vec::from_slice(alloc, PART_OF_0)?;
-    let mut written = Vec::from_slice(alloc, CREATED)?;
-    sent.extend_from_slice(FINAL_OF)?;
-    put_parts(&mut sent, 33)?;
-    sent.extend_from_slice(b"\r\n\r\n")?;
-    written.extend_from_slice(FIELD)?;
-    sent.extend_from_slice(FINAL_OF)?;
-    put_parts(&mut sent, 32)?;
-    sent.extend_from_slice(b"\r\n\r\n")?;
-    written.extend_from_slice(FINAL_2)?;
-    sent.extend_from_slice(HEAD_2)?;
-    written.extend_from_slice(LOOKED_FINAL)?;
-    put_parts(&mut written, 32)?;
-    written.extend_from_slice(b"\r\nCache-Control: no-store\r\n\r\n")?;
-    let expected = Expected {
-        text: &written,
-        ended: Ok(Ended::Input),
-        offset: Some(0),
-    };
-    let moments = [at(1000); 16];
-    assert_both_with(&rt, alloc, NUMBERS, "many", &sent, &moments, &expected)
+    check_turns(&rt, alloc, "two parts", &TWO_PARTS, None)?;
+    check_turns(&rt, alloc, "twice", &ONE_PART_TWICE, None)?;
+    check_turns(&rt, alloc, "no parts", &NO_PARTS, Some(0))?;
+    check_turns(&rt, alloc, "quota", &WITH_THE_WHOLE_QUOTA, Some(30))
 }

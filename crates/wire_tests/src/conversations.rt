@@ -57,15 +57,15 @@ const CODING: &[u8] = b"HTTP/1.1 411 Length Required\r\nDate: Thu, 01 Jan 1970 0
 Tus-Resumable: 1.0.0\r\nContent-Type: text/plain\r\nContent-Length: 7\r\nConnection: close\r\n\r\n\
 coding\n";
 
-const HEAD_SIZE: &[u8] = b"HTTP/1.1 431 Request Header Fields Too Large\r\n\
+pub const HEAD_SIZE: &[u8] = b"HTTP/1.1 431 Request Header Fields Too Large\r\n\
 Date: Thu, 01 Jan 1970 00:16:40 GMT\r\nTus-Resumable: 1.0.0\r\nContent-Type: text/plain\r\n\
 Content-Length: 10\r\nConnection: close\r\n\r\nhead-size\n";
 
-const BODY_SIZE: &[u8] = b"HTTP/1.1 413 Content Too Large\r\n\
+pub const BODY_SIZE: &[u8] = b"HTTP/1.1 413 Content Too Large\r\n\
 Date: Thu, 01 Jan 1970 00:16:40 GMT\r\nTus-Resumable: 1.0.0\r\nContent-Type: text/plain\r\n\
 Content-Length: 10\r\nConnection: close\r\n\r\nbody-size\n";
 
-const LENGTH: &[u8] = b"HTTP/1.1 400 Bad Request\r\n\
+pub const LENGTH: &[u8] = b"HTTP/1.1 400 Bad Request\r\n\
 Date: Thu, 01 Jan 1970 00:16:40 GMT\r\nTus-Resumable: 1.0.0\r\nContent-Type: text/plain\r\n\
 Content-Length: 15\r\nConnection: close\r\n\r\ncontent-length\n";
 
@@ -76,7 +76,7 @@ Content-Length: 5\r\nConnection: close\r\n\r\nhost\n";
 const BARE_HOST: &[u8] = b"HTTP/1.1 400 Bad Request\r\n\
 Date: Thu, 01 Jan 1970 00:16:40 GMT\r\nTus-Resumable: 1.0.0\r\nConnection: close\r\n\r\n";
 
-const MALFORMED: &[u8] = b"HTTP/1.1 400 Bad Request\r\n\
+pub const MALFORMED: &[u8] = b"HTTP/1.1 400 Bad Request\r\n\
 Date: Thu, 01 Jan 1970 00:16:40 GMT\r\nTus-Resumable: 1.0.0\r\nContent-Type: text/plain\r\n\
 Content-Length: 5\r\nConnection: close\r\n\r\nhead\n";
 
@@ -100,7 +100,7 @@ pub const CREATION_TOO_LONG: &[u8] = b"HTTP/1.1 413 Content Too Large\r\n\
 Date: Thu, 01 Jan 1970 00:16:40 GMT\r\nTus-Resumable: 1.0.0\r\n\
 Content-Type: text/plain\r\nContent-Length: 9\r\n\r\ntoo-long\n";
 
-const VERSION: &[u8] = b"HTTP/1.1 412 Precondition Failed\r\n\
+pub const VERSION: &[u8] = b"HTTP/1.1 412 Precondition Failed\r\n\
 Date: Thu, 01 Jan 1970 00:16:40 GMT\r\nTus-Resumable: 1.0.0\r\nTus-Version: 1.0.0\r\n\
 Content-Type: text/plain\r\nContent-Length: 8\r\n\r\nversion\n";
 
@@ -254,7 +254,7 @@ fn whole_messages(rt: HostRuntime) -> Result<(), Fail> {
     Ok(())
 }
 
-static REFUSED: [Row; 11] = [
+static REFUSED: [Row; 7] = [
     Row {
         name: "a transfer coding",
         sent: [CHUNKED, HEAD, NONE, NONE],
@@ -271,30 +271,6 @@ static REFUSED: [Row; 11] = [
             NONE,
         ],
         written: [BODY_SIZE, NONE, NONE, NONE],
-        ended: Ended::Closed,
-        offset: None,
-    },
-    Row {
-        name: "the greatest length, which is above it",
-        sent: [
-            b"POST / HTTP/1.1\r\nHost: x\r\nContent-Length: 18446744073709551615\r\n\r\n",
-            NONE,
-            NONE,
-            NONE,
-        ],
-        written: [BODY_SIZE, NONE, NONE, NONE],
-        ended: Ended::Closed,
-        offset: None,
-    },
-    Row {
-        name: "a length past 64 bits",
-        sent: [
-            b"POST / HTTP/1.1\r\nHost: x\r\nContent-Length: 18446744073709551616\r\n\r\n",
-            NONE,
-            NONE,
-            NONE,
-        ],
-        written: [LENGTH, NONE, NONE, NONE],
         ended: Ended::Closed,
         offset: None,
     },
@@ -342,27 +318,8 @@ static REFUSED: [Row; 11] = [
         offset: None,
     },
     Row {
-        name: "a byte 0 in a value",
-        sent: [b"POST / HTTP/1.1\r\nHost: \x00\r\n\r\n", NONE, NONE, NONE],
-        written: [MALFORMED, NONE, NONE, NONE],
-        ended: Ended::Closed,
-        offset: None,
-    },
-    Row {
         name: "bytes that are no text",
         sent: [b"\xff\xff\r\n\r\n", NONE, NONE, NONE],
-        written: [MALFORMED, NONE, NONE, NONE],
-        ended: Ended::Closed,
-        offset: None,
-    },
-    Row {
-        name: "another version of HTTP",
-        sent: [
-            b"POST /files/acme HTTP/1.2\r\nHost: x\r\n\r\n",
-            NONE,
-            NONE,
-            NONE,
-        ],
         written: [MALFORMED, NONE, NONE, NONE],
         ended: Ended::Closed,
         offset: None,
@@ -460,61 +417,12 @@ static HEADS: [HeadRow; 4] = [
     },
 ];
 
-/// One byte, `count` times, what is written for it, and how the conversation ends.
-#[derive(Clone, Copy)]
-struct RunRow {
-    name: &'static str,
-    byte: u8,
-    count: usize,
-    written: &'static [u8],
-    ended: Ended,
-}
-
-/// Asserts that a conversation is as its row says.
-fn check_run(rt: &impl Abort, alloc: Global, row: &RunRow) -> Result<(), Fail> {
-    let mut input = Vec::new(alloc);
-    input.resize(row.count, row.byte)?;
-    let expected = Expected {
-        text: row.written,
-        ended: Ok(row.ended),
-        offset: None,
-    };
-    assert_both(rt, alloc, row.name, &input, &at_1000(), &expected)
-}
-
-static RUNS: [RunRow; 3] = [
-    RunRow {
-        name: "no end",
-        byte: b'a',
-        count: 16_384,
-        written: HEAD_SIZE,
-        ended: Ended::Closed,
-    },
-    RunRow {
-        name: "16,384 line ends",
-        byte: b'\n',
-        count: 16_384,
-        written: HEAD_SIZE,
-        ended: Ended::Closed,
-    },
-    RunRow {
-        name: "16,383 line ends",
-        byte: b'\n',
-        count: 16_383,
-        written: NONE,
-        ended: Ended::Input,
-    },
-];
-
 #[test]
 fn large_heads(rt: HostRuntime) -> Result<(), Fail> {
     let greatest = with_fields(rt.alloc(), 0, 16_384)?;
     assert_eq!(rt; greatest.len(), 16_384);
     for row in &HEADS {
         check_head(&rt, rt.alloc(), row)?;
-    }
-    for row in &RUNS {
-        check_run(&rt, rt.alloc(), row)?;
     }
     Ok(())
 }

@@ -1,4 +1,4 @@
-use crate::conversations::{CREATED, HEAD, NONE, OFFSET, POST, Row, check_row};
+use crate::conversations::{CREATED, HEAD, NONE, OFFSET, Row, check_row};
 use http_wire::Ended;
 use std::test::Fail;
 
@@ -34,10 +34,6 @@ Tus-Resumable: 1.0.0\r\nContent-Type: text/plain\r\nContent-Length: 13\r\n\r\nle
 pub const FIELD: &[u8] = b"HTTP/1.1 400 Bad Request\r\nDate: Thu, 01 Jan 1970 00:16:40 GMT\r\n\
 Tus-Resumable: 1.0.0\r\nContent-Type: text/plain\r\nContent-Length: 6\r\n\r\nfield\n";
 
-const TOO_LONG: &[u8] = b"HTTP/1.1 413 Content Too Large\r\n\
-Date: Thu, 01 Jan 1970 00:16:40 GMT\r\nTus-Resumable: 1.0.0\r\nContent-Type: text/plain\r\n\
-Content-Length: 9\r\n\r\ntoo-long\n";
-
 const CREATED_COMPLETE: &[u8] = b"HTTP/1.1 201 Created\r\nDate: Thu, 01 Jan 1970 00:16:40 GMT\r\n\
 Tus-Resumable: 1.0.0\r\nLocation: /files/acme/1\r\nContent-Length: 0\r\n\r\n";
 
@@ -60,19 +56,6 @@ Tus-Resumable: 1.0.0\r\nUpload-Length: 5\r\nUpload-Defer-Length: 1\r\n\r\n";
 
 const POST_NO_LENGTH: &[u8] = b"POST /files/acme HTTP/1.1\r\nHost: x\r\nTus-Resumable: 1.0.0\r\n\
 \r\n";
-
-const POST_TWO_LENGTHS: &[u8] = b"POST /files/acme HTTP/1.1\r\nHost: x\r\n\
-Tus-Resumable: 1.0.0\r\nUpload-Length: 5\r\nUpload-Length: 5\r\n\r\n";
-
-const POST_GREATEST_NUMBER: &[u8] = b"POST /files/acme HTTP/1.1\r\nHost: x\r\n\
-Tus-Resumable: 1.0.0\r\nUpload-Length: 18446744073709551615\r\n\r\n";
-
-const POST_NO_NUMBER: &[u8] = b"POST /files/acme HTTP/1.1\r\nHost: x\r\nTus-Resumable: 1.0.0\r\n\
-Upload-Length: 18446744073709551616\r\n\r\n";
-
-const PATCH_TWO_OFFSETS: &[u8] = b"PATCH /files/acme/1 HTTP/1.1\r\nHost: x\r\n\
-Tus-Resumable: 1.0.0\r\nContent-Type: application/offset+octet-stream\r\nUpload-Offset: 0\r\n\
-Upload-Offset: 0\r\nContent-Length: 1\r\n\r\na";
 
 const POST_ZERO: &[u8] = b"POST /files/acme HTTP/1.1\r\nHost: x\r\nTus-Resumable: 1.0.0\r\n\
 Upload-Length: 0\r\n\r\n";
@@ -109,7 +92,7 @@ Tus-Resumable: 1.0.0\r\nUpload-Length: 10\r\nUpload-Metadata:\r\n\r\n";
 pub const LOOKED_NEW: &[u8] = b"HTTP/1.1 200 OK\r\nDate: Thu, 01 Jan 1970 00:16:40 GMT\r\n\
 Tus-Resumable: 1.0.0\r\nUpload-Offset: 0\r\nUpload-Length: 10\r\nCache-Control: no-store\r\n\r\n";
 
-static CREATIONS: [Row; 9] = [
+static CREATIONS: [Row; 8] = [
     Row {
         name: "a length that is told later, and a refused PATCH that tells one",
         sent: [POST_DEFERRED, HEAD, PATCH_AT_ONE, HEAD],
@@ -130,23 +113,11 @@ static CREATIONS: [Row; 9] = [
             POST_DEFERRED_BY_TWO,
             POST_BOTH_LENGTHS,
             POST_NO_LENGTH,
-            POST_TWO_LENGTHS,
+            NONE,
         ],
-        written: [FIELD, FIELD, FIELD, FIELD],
+        written: [FIELD, FIELD, FIELD, NONE],
         ended: Ended::Input,
         offset: None,
-    },
-    Row {
-        name: "numbers that are too great, and two offsets",
-        sent: [
-            POST_GREATEST_NUMBER,
-            POST_NO_NUMBER,
-            POST,
-            PATCH_TWO_OFFSETS,
-        ],
-        written: [TOO_LONG, FIELD, CREATED, FIELD],
-        ended: Ended::Input,
-        offset: Some(0),
     },
     Row {
         name: "an upload of no bytes",

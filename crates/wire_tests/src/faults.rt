@@ -1,140 +1,281 @@
+//! Reads and writes that fail, one byte being read or written a call: all earlier replies are whole, of the one that
+//! failed a front was written, the book has what came until then, and nothing is read or written any more.
+
 ghost use Rattle.std.specs.Prelude.{◌≤◌, length};
 
-use crate::conversations::{
-    CONTINUE, CREATED, FIRST_UPLOAD, HEAD, LOOKED, NONE, PATCH_WAITING, PATCHED, POST, REPLIES,
-};
-use crate::cuts::cut_at;
+use crate::conversations::{CREATED, FIRST_UPLOAD, HEAD, NONE, PATCH, PATCH_WAITING, POST};
 use crate::memory::{Input, Output};
-use crate::spoken::{Expected, assert_spoken, at_1000, joined, new_book, talk, talk_of};
-use http_wire::{Ended, WireFault};
+use crate::spoken::{
+    Expected, NUMBERS, Spoken, assert_spoken, at, at_1000, joined, new_book, plain_talk, talk,
+    talk_of,
+};
+use crate::wires::{assert_end, assert_turn, assert_written, new_wire};
+use http_wire::{Ended, Framing, WireFault, WireRefusal, serve};
 use std::alloc::Global;
 use std::process::Abort;
 use std::test::Fail;
+use tus_steps::Reply;
+use upload_book::Book;
 
-/// Asserts how a conversation of the first upload ends where the read after its first `len` bytes fails.
-/// Nothing is read after that.
+/// A reader of these bytes, one a read, of which the read after `reads` of them fails.
+fn failing_input(bytes: &[u8], reads: usize) -> Input<'_> {
+    let mut input = Input::new(bytes, 1);
+    input.reads = reads;
+    input
+}
+
+/// A writer of one byte a write, of which the write after `writes` of them fails, or takes none where not `fails`.
+fn failing_output(alloc: Global, writes: usize, fails: bool) -> Output {
+    Output {
+        written: Vec::new(alloc),
+        piece: 1,
+        writes,
+        fails,
+    }
+}
+
+const CLOSING: Framing = Framing {
+    bare: false,
+    close: true,
+};
+
+/// Asserts that a wire over these streams gives a fault, and `Failed` at each later call, with this text written.
+fn assert_stays_failed(
+    rt: &impl Abort,
+    alloc: Global,
+    what: &str,
+    input: Input<'_>,
+    output: Output,
+    fault: WireFault,
+    text: &[u8],
+) -> Result<(), Fail> {
+    let mut book = new_book(alloc)?;
+    let mut wire = new_wire(alloc, input, output)?;
+    let served = serve(&mut wire, &mut book, &mut at(1000), 8);
+    assert_eq!(rt; served, Err(fault), "{what}");
+    let failed = WireFault::Failed;
+    assert_turn(rt, what, &mut wire, &mut book, Err(failed));
+    assert_end(rt, what, &mut wire, Err(failed));
+    let refused = wire.write_refusal(WireRefusal::Head, at(1000), CLOSING);
+    assert_eq!(rt; refused, Err(failed), "{what}");
+    let replied = wire.write_reply(&Reply::Deleted, at(1000), CLOSING);
+    assert_eq!(rt; replied, Err(failed), "{what}");
+    assert_written(rt, wire, text);
+    Ok(())
+}
+
+/// Asserts how a conversation of the first upload ends where the read after its first `len` bytes fails: as the plain
+/// program's of these bytes, but for the fault.
 fn assert_read_fails(rt: &impl Abort, alloc: Global, all: &[u8], len: usize) -> Result<(), Fail>
     requires { len ≤ length all.now }
 {
-    let mut input = Input::new(all, 1);
-    input.reads = len;
-    let spoken = talk_of(alloc, input, Output::new(alloc), &at_1000())?;
-    let (whole, _, offset) = cut_at(len);
-    let written = joined(alloc, &REPLIES[..whole])?;
+    let (came, rest) = all.split_at(len);
+    let plain = plain_talk(rt, alloc, NUMBERS, came, &at_1000())?;
     let expected = Expected {
-        text: &written,
+        text: plain.text.as_slice(),
         ended: Err(WireFault::Read),
-        offset,
+        offset: plain.offset,
     };
     let what = format!(in alloc; "{len} reads")?;
+    let input = failing_input(all, len);
+    let spoken = talk_of(alloc, input, Output::new(alloc), &at_1000())?;
     assert_spoken(rt, &what, &spoken, &expected);
-    assert_eq!(rt; spoken.rest, &all[len..], "{what}: rest");
-    Ok(())
+    assert_eq!(rt; spoken.rest, rest, "{what}: rest");
+    let (input, output) = (failing_input(all, len), Output::new(alloc));
+    assert_stays_failed(
+        rt,
+        alloc,
+        &what,
+        input,
+        output,
+        WireFault::Read,
+        expected.text,
+    )
 }
 
 #[test]
 fn failing_reads(rt: HostRuntime) -> Result<(), Fail> {
     let all = joined(rt.alloc(), &FIRST_UPLOAD)?;
-    for len in 0..all.len() {
+    for len in 0..=all.len() {
         assert_read_fails(&rt, rt.alloc(), &all, len)?;
     }
     Ok(())
 }
 
-static WAITING_UPLOAD: [&[u8]; 3] = [POST, PATCH_WAITING, HEAD];
+const PATCH_WAITING_HEAD: &[u8] =
+    b"PATCH /files/acme/1 HTTP/1.1\r\nHost: x\r\nTus-Resumable: 1.0.0\r\n\
+Content-Type: application/offset+octet-stream\r\nUpload-Offset: 0\r\nExpect: 100-continue\r\n\
+Content-Length: 5\r\n\r\n";
 
-static WAITING_REPLIES: [&[u8]; 4] = [CREATED, CONTINUE, PATCHED, LOOKED];
+/// The first upload, and one whose client waits for `100 Continue`, each in the pieces after which something is written.
+static UPLOADS: [[&[u8]; 4]; 2] = [
+    [POST, PATCH, HEAD, NONE],
+    [POST, PATCH_WAITING_HEAD, b"hello", HEAD],
+];
 
-/// How many bytes of the upload that waits are read before the byte of its replies that stands after
-/// `len` others: the message that this byte answers, without its body where that is waited for.
-fn read_before(len: usize) -> usize {
-    let created = CREATED.len();
-    let told = created.saturating_add(CONTINUE.len());
-    let patched = told.saturating_add(PATCHED.len());
-    let first = POST.len();
-    let second = first.saturating_add(PATCH_WAITING.len());
-    if len < created {
-        first
-    } else if len < told {
-        second.saturating_sub(5)
-    } else if len < patched {
-        second
-    } else {
-        second.saturating_add(HEAD.len())
-    }
-}
-
-/// Asserts how a conversation of the upload that waits ends where the write after these first bytes of
-/// its replies fails, or takes no byte. Nothing is read or written after that.
+/// Asserts how a conversation ends where the write after the first `len` bytes of its replies fails, or takes no byte.
+/// These are written after `came`, and `plain` is what the plain program makes of that.
 fn assert_write_fails(
     rt: &impl Abort,
     alloc: Global,
-    sent: &[u8],
-    written: &[u8],
+    came: &[u8],
+    rest: &[u8],
+    plain: &Spoken<'_>,
+    len: usize,
     fails: bool,
-) -> Result<(), Fail> {
-    let len = written.len();
-    let output = Output {
-        written: Vec::new(alloc),
-        piece: 1,
-        writes: len,
-        fails,
-    };
-    let spoken = talk_of(alloc, Input::new(sent, 1), output, &at_1000())?;
-    let before_patch = CREATED.len().saturating_add(CONTINUE.len());
+) -> Result<(), Fail>
+    requires { len ≤ length plain.now.text.items }
+{
+    let all = joined(alloc, &[came, rest])?;
     let expected = Expected {
-        text: written,
+        text: &plain.text.as_slice()[..len],
         ended: Err(WireFault::Write),
-        offset: Some(if len < before_patch { 0 } else { 5 }),
+        offset: plain.offset,
     };
     let what = format!(in alloc; "{len} writes")?;
+    let (input, output) = (Input::new(&all, 1), failing_output(alloc, len, fails));
+    let spoken = talk_of(alloc, input, output, &at_1000())?;
     assert_spoken(rt, &what, &spoken, &expected);
-    let left = sent.len().saturating_sub(read_before(len));
-    assert_eq!(rt; spoken.rest.len(), left, "{what}: rest");
-    Ok(())
+    assert_eq!(rt; spoken.rest, rest, "{what}: rest");
+    let (input, output) = (Input::new(&all, 1), failing_output(alloc, len, fails));
+    assert_stays_failed(
+        rt,
+        alloc,
+        &what,
+        input,
+        output,
+        WireFault::Write,
+        expected.text,
+    )
 }
 
-#[test]
-fn failing_writes(rt: HostRuntime) -> Result<(), Fail> {
-    let sent = joined(rt.alloc(), &WAITING_UPLOAD)?;
-    let replies = joined(rt.alloc(), &WAITING_REPLIES)?;
-    for len in 0..replies.len() {
+/// Asserts it for each byte that is written after these pieces and was not before the last of them.
+fn assert_writes_fail(
+    rt: &impl Abort,
+    alloc: Global,
+    pieces: &[&[u8]],
+    place: usize,
+) -> Result<(), Fail>
+    requires { place ≤ length pieces.now }
+{
+    let (came, after) = pieces.split_at(place);
+    let (came, rest) = (joined(alloc, came)?, joined(alloc, after)?);
+    let earlier = joined(alloc, &pieces[..place.saturating_sub(1)])?;
+    let before = plain_talk(rt, alloc, NUMBERS, &earlier, &at_1000())?;
+    let plain = plain_talk(rt, alloc, NUMBERS, &came, &at_1000())?;
+    for len in before.text.len()..plain.text.len() {
         for fails in [true, false] {
-            assert_write_fails(&rt, rt.alloc(), &sent, &replies[..len], fails)?;
+            assert_write_fails(rt, alloc, &came, &rest, &plain, len, fails)?;
         }
     }
     Ok(())
 }
 
-/// A first write that fails leaves a new upload of no byte.
-const NOTHING_WRITTEN: Expected<'static> = Expected {
-    text: NONE,
-    ended: Err(WireFault::Write),
-    offset: Some(0),
-};
-
 #[test]
-fn a_write_of_no_byte(rt: HostRuntime) -> Result<(), Fail> {
-    let alloc = rt.alloc();
-    let sent = joined(alloc, &FIRST_UPLOAD)?;
-    let mut output = Output::new(alloc);
-    output.piece = 0;
-    let spoken = talk_of(alloc, Input::new(&sent, usize::MAX), output, &at_1000())?;
-    assert_spoken(&rt, "a write of no byte", &spoken, &NOTHING_WRITTEN);
+fn failing_writes(rt: HostRuntime) -> Result<(), Fail> {
+    for pieces in &UPLOADS {
+        for place in 1..=pieces.len() {
+            assert_writes_fail(&rt, rt.alloc(), pieces, place)?;
+        }
+    }
+    Ok(())
+}
+
+/// What a client sent before, and now sends; what is written until the fault, which comes once that was sent where it
+/// is of a read, and once that was written where it is of a write; and what the first upload of acme has then, in bytes
+/// and in blocks.
+struct FaultRow {
+    name: &'static str,
+    before: &'static [u8],
+    came: [&'static [u8]; 3],
+    written: &'static [u8],
+    fault: WireFault,
+    /// Whether a write fails, in place of taking no byte.
+    fails: bool,
+    offset: u64,
+    charge: u64,
+}
+
+const PATCH_CUT: &[u8] = b"PATCH /files/acme/1 HTTP/1.1\r\nHost: x\r\nTus-Resumable: 1.0.0\r\n\
+Content-Type: application/offset+octet-stream\r\nUpload-Offset: 0\r\nContent-Length: 5\r\n\r\nhe";
+
+static FAULTS: [FaultRow; 4] = [
+    FaultRow {
+        name: "a read fails inside the body of a PATCH, and what came of it is kept",
+        before: NONE,
+        came: [POST, PATCH_CUT, NONE],
+        written: CREATED,
+        fault: WireFault::Read,
+        fails: true,
+        offset: 2,
+        charge: 1,
+    },
+    FaultRow {
+        name: "the first write of the second reply fails, and the bytes stay",
+        before: NONE,
+        came: [POST, PATCH, HEAD],
+        written: CREATED,
+        fault: WireFault::Write,
+        fails: true,
+        offset: 5,
+        charge: 2,
+    },
+    FaultRow {
+        name: "a write of the first reply takes no byte, and the upload stays",
+        before: NONE,
+        came: [POST, PATCH, HEAD],
+        written: NONE,
+        fault: WireFault::Write,
+        fails: false,
+        offset: 0,
+        charge: 0,
+    },
+    FaultRow {
+        name: "a client that waits can't be told to continue",
+        before: POST,
+        came: [PATCH_WAITING, NONE, NONE],
+        written: NONE,
+        fault: WireFault::Write,
+        fails: true,
+        offset: 0,
+        charge: 0,
+    },
+];
+
+/// How many blocks acme pays.
+fn charge_of(rt: &impl Abort, book: &Book) -> u64 {
+    let acme = book.settings().tenant(b"acme").expect(rt, "acme");
+    book.charge(acme)
+}
+
+/// Asserts that a conversation ends as its row says.
+fn check_fault(rt: &impl Abort, alloc: Global, row: &FaultRow) -> Result<(), Fail> {
+    let mut book = new_book(alloc)?;
+    let input = Input::new(row.before, usize::MAX);
+    let before = talk(alloc, &mut book, input, Output::new(alloc), &at_1000());
+    assert_eq!(rt; before.ended, Ok(Ended::Input), "{}", row.name);
+    let came = joined(alloc, &row.came)?;
+    let (reads, writes) = match row.fault {
+        WireFault::Read => (came.len(), usize::MAX),
+        _ => (usize::MAX, row.written.len()),
+    };
+    let input = failing_input(&came, reads);
+    let output = failing_output(alloc, writes, row.fails);
+    let spoken = talk(alloc, &mut book, input, output, &at_1000());
+    let expected = Expected {
+        text: row.written,
+        ended: Err(row.fault),
+        offset: Some(row.offset),
+    };
+    assert_spoken(rt, row.name, &spoken, &expected);
+    assert_eq!(rt; charge_of(rt, &book), row.charge, "{}: charge", row.name);
     Ok(())
 }
 
 #[test]
-fn a_refused_continue(rt: HostRuntime) -> Result<(), Fail> {
-    let alloc = rt.alloc();
-    let mut book = new_book(alloc)?;
-    let input = Input::new(POST, usize::MAX);
-    let created = talk(alloc, &mut book, input, Output::new(alloc), &at_1000());
-    assert_eq!(rt; created.ended, Ok(Ended::Input));
-    let mut output = Output::new(alloc);
-    output.writes = 0;
-    let input = Input::new(PATCH_WAITING, usize::MAX);
-    let spoken = talk(alloc, &mut book, input, output, &at_1000());
-    assert_spoken(&rt, "a refused continue", &spoken, &NOTHING_WRITTEN);
+fn what_stands_after_a_fault(rt: HostRuntime) -> Result<(), Fail> {
+    for row in &FAULTS {
+        check_fault(&rt, rt.alloc(), row)?;
+    }
     Ok(())
 }

@@ -12,19 +12,21 @@ mod conversations;
 #[cfg(test)]
 mod creations;
 #[cfg(test)]
-mod cuts;
-#[cfg(test)]
 mod faults;
 #[cfg(test)]
 mod hostile;
 #[cfg(test)]
 mod limits;
 #[cfg(test)]
+mod malformed;
+#[cfg(test)]
 mod memory;
 #[cfg(test)]
 mod methods;
 #[cfg(test)]
 mod plain;
+#[cfg(test)]
+mod refused_memory;
 #[cfg(test)]
 mod replies;
 #[cfg(test)]

@@ -36,7 +36,7 @@ const POST_AS_PATCH_UNTYPED: &[u8] = b"POST /files/acme/1 HTTP/1.1\r\nHost: x\r\
 Tus-Resumable: 1.0.0\r\nX-HTTP-Method-Override: PATCH\r\nUpload-Offset: 5\r\n\
 Content-Length: 5\r\n\r\nhello";
 
-const MEDIA: &[u8] = b"HTTP/1.1 415 Unsupported Media Type\r\n\
+pub const MEDIA: &[u8] = b"HTTP/1.1 415 Unsupported Media Type\r\n\
 Date: Thu, 01 Jan 1970 00:16:40 GMT\r\nTus-Resumable: 1.0.0\r\n\
 Upload-Expires: Thu, 01 Jan 1970 01:16:40 GMT\r\nContent-Type: text/plain\r\n\
 Content-Length: 6\r\n\r\nmedia\n";
@@ -54,35 +54,7 @@ X-HTTP-Method-Override: GET\r\n\r\n";
 const BARE_CONTENT: &[u8] = b"HTTP/1.1 200 OK\r\nDate: Thu, 01 Jan 1970 00:16:40 GMT\r\n\
 Tus-Resumable: 1.0.0\r\n\r\n";
 
-const POST_TWO_OVERRIDES: &[u8] = b"POST /files/acme HTTP/1.1\r\nHost: x\r\n\
-Tus-Resumable: 1.0.0\r\nX-HTTP-Method-Override: POST\r\nX-HTTP-Method-Override: POST\r\n\
-Upload-Length: 10\r\n\r\n";
-
-const METHOD: &[u8] = b"HTTP/1.1 405 Method Not Allowed\r\n\
-Date: Thu, 01 Jan 1970 00:16:40 GMT\r\nTus-Resumable: 1.0.0\r\nAllow: POST, OPTIONS\r\n\
-Content-Type: text/plain\r\nContent-Length: 7\r\n\r\nmethod\n";
-
-const POST_TWO_VERSIONS: &[u8] = b"POST /files/acme HTTP/1.1\r\nHost: x\r\n\
-Tus-Resumable: 1.0.0\r\nTus-Resumable: 1.0.0\r\nUpload-Length: 10\r\n\r\n";
-
-const VERSION: &[u8] = b"HTTP/1.1 412 Precondition Failed\r\n\
-Date: Thu, 01 Jan 1970 00:16:40 GMT\r\nTus-Resumable: 1.0.0\r\nTus-Version: 1.0.0\r\n\
-Content-Type: text/plain\r\nContent-Length: 8\r\n\r\nversion\n";
-
-const PATCH_TWO_TYPES: &[u8] = b"PATCH /files/acme/1 HTTP/1.1\r\nHost: x\r\n\
-Tus-Resumable: 1.0.0\r\nContent-Type: application/offset+octet-stream\r\n\
-Content-Type: application/offset+octet-stream\r\nUpload-Offset: 0\r\nContent-Length: 1\r\n\r\na";
-
-const HEAD_GREATEST_ID: &[u8] = b"HEAD /files/acme/18446744073709551615 HTTP/1.1\r\nHost: x\r\n\
-Tus-Resumable: 1.0.0\r\n\r\n";
-
-const HEAD_NO_ID: &[u8] = b"HEAD /files/acme/18446744073709551616 HTTP/1.1\r\nHost: x\r\n\
-Tus-Resumable: 1.0.0\r\n\r\n";
-
-const UNKNOWN: &[u8] = b"HTTP/1.1 404 Not Found\r\nDate: Thu, 01 Jan 1970 00:16:40 GMT\r\n\
-Tus-Resumable: 1.0.0\r\nCache-Control: no-store\r\n\r\n";
-
-static METHODS: [Row; 6] = [
+static METHODS: [Row; 4] = [
     Row {
         name: "OPTIONS of any version and target",
         sent: [OPTIONS_NO_VERSION, OPTIONS_OTHER_VERSION, NONE, NONE],
@@ -110,20 +82,6 @@ static METHODS: [Row; 6] = [
         written: [CREATED, COMPLETED, BARE_CONTENT, NONE],
         ended: Ended::Input,
         offset: Some(10),
-    },
-    Row {
-        name: "two fields of one name",
-        sent: [POST_TWO_OVERRIDES, POST_TWO_VERSIONS, POST, PATCH_TWO_TYPES],
-        written: [METHOD, VERSION, CREATED, MEDIA],
-        ended: Ended::Input,
-        offset: Some(0),
-    },
-    Row {
-        name: "an id that was never given, and a path with none",
-        sent: [HEAD_GREATEST_ID, HEAD_NO_ID, NONE, NONE],
-        written: [UNKNOWN, UNKNOWN, NONE, NONE],
-        ended: Ended::Input,
-        offset: None,
     },
 ];
 

@@ -13,9 +13,13 @@ use tus_steps::answer;
 use upload_book::{Book, Moment};
 
 /// A wire over a reader and a writer in memory.
-type MemoryWire<'a> = Wire<Tapped<Input<'a>>, Tapped<Output>>;
+pub type MemoryWire<'a> = Wire<Tapped<Input<'a>>, Tapped<Output>>;
 
-fn new_wire(alloc: Global, input: Input<'_>, output: Output) -> Result<MemoryWire<'_>, WireFault>
+pub fn new_wire(
+    alloc: Global,
+    input: Input<'_>,
+    output: Output,
+) -> Result<MemoryWire<'_>, WireFault>
     ensures { IfOk result (λ wire. wire.reads ≡ true) }
 {
     Wire::new(alloc, Tapped::new(input), Tapped::new(output), 64)
@@ -26,7 +30,7 @@ fn is_at_end(wire: &mut MemoryWire<'_>) -> Result<bool, WireFault> {
 }
 
 /// Asserts whether the end of the input stands next on a wire, or which fault a read of it gives.
-fn assert_end(
+pub fn assert_end(
     rt: &impl Abort,
     what: &str,
     wire: &mut MemoryWire<'_>,
@@ -36,7 +40,7 @@ fn assert_end(
 }
 
 /// Asserts what a turn on a wire at moment 1000 gives.
-fn assert_turn(
+pub fn assert_turn(
     rt: &impl Abort,
     what: &str,
     wire: &mut MemoryWire<'_>,
@@ -47,7 +51,7 @@ fn assert_turn(
 }
 
 /// Asserts what was written on a wire.
-fn assert_written(rt: &impl Abort, wire: MemoryWire<'_>, expected: &[u8]) {
+pub fn assert_written(rt: &impl Abort, wire: MemoryWire<'_>, expected: &[u8]) {
     let (_, writer, _) = wire.into_parts();
     assert_eq!(rt; writer.inner.written.as_slice(), expected, "written");
 }
@@ -230,52 +234,5 @@ fn a_refusal_and_the_end(rt: HostRuntime) -> Result<(), Fail> {
     let (refusal, closes) = refuse_one(&mut wire)?;
     assert!(rt; refusal == WireRefusal::Coding && closes);
     assert_end(&rt, "the end", &mut wire, Ok(true));
-    Ok(())
-}
-
-#[test]
-fn a_fault_stays(rt: HostRuntime) -> Result<(), Fail> {
-    let mut input = Input::new(POST, 1);
-    input.reads = 3;
-    let mut wire = new_wire(rt.alloc(), input, Output::new(rt.alloc()))?;
-    let framing = Framing {
-        bare: false,
-        close: true,
-    };
-    assert_end(&rt, "a failed read", &mut wire, Err(WireFault::Read));
-    assert_end(&rt, "a read after it", &mut wire, Err(WireFault::Failed));
-    let written = wire.write_refusal(WireRefusal::Head, at(1000), framing);
-    assert!(rt; written == Err(WireFault::Failed));
-    Ok(())
-}
-
-#[test]
-fn nothing_is_written_after_a_failed_write(rt: HostRuntime) -> Result<(), Fail> {
-    let alloc = rt.alloc();
-    let mut book = new_book(alloc)?;
-    let all = joined(alloc, &FIRST_UPLOAD[..2])?;
-    let output = Output {
-        written: Vec::new(alloc),
-        piece: 10,
-        writes: 1,
-        fails: true,
-    };
-    let mut wire = new_wire(alloc, Input::new(&all, usize::MAX), output)?;
-    assert_turn(
-        &rt,
-        "a failed write",
-        &mut wire,
-        &mut book,
-        Err(WireFault::Write),
-    );
-    assert_turn(
-        &rt,
-        "a turn after it",
-        &mut wire,
-        &mut book,
-        Err(WireFault::Failed),
-    );
-    assert_end(&rt, "a read after it", &mut wire, Err(WireFault::Failed));
-    assert_written(&rt, wire, b"HTTP/1.1 2");
     Ok(())
 }
