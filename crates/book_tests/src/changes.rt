@@ -9,8 +9,8 @@ use crate::plain::PlainBook;
 use std::process::Abort;
 use std::test::Fail;
 use upload_book::{
-    Appended, BoardLine, Book, Change, Chunk, FirstChunk, HeadChange, Kind, Moment, Name, NewUpload,
-    Outcome, Refusal, Refused,
+    Appended, BoardLine, Book, Change, Chunk, FirstChunk, HeadChange, Kind, Moment, Name,
+    NewUpload, Outcome, Refusal, Refused,
 };
 
 fn hello<'a>() -> Chunk<'a> {
@@ -141,9 +141,15 @@ fn a_patch_in_two_halves(rt: HostRuntime) -> Result<(), Fail> {
     let gone = Change::Terminate(acme(1));
     assert_eq!(rt; paid(line(&mut book, gone, now)), Some((2, 2, 0, 0)));
     let soon = moment(&rt, 4599);
-    assert_eq!(rt; paid(line(&mut book, Change::Sweep, soon)), Some((2, 0, 2, 0)));
+    assert_eq!(rt;
+        paid(line(&mut book, Change::Sweep, soon)),
+        Some((2, 0, 2, 0))
+    );
     let over = moment(&rt, 4600);
-    assert_eq!(rt; paid(line(&mut book, Change::Sweep, over)), Some((2, 2, 0, 0)));
+    assert_eq!(rt;
+        paid(line(&mut book, Change::Sweep, over)),
+        Some((2, 2, 0, 0))
+    );
     // and so does one that is refused
     assert_eq!(rt;
         plain.append(&rt, &acme(1), &hello(), now),
