@@ -25,7 +25,6 @@ use Rattle.upload_book.specs.Terminate.{terminate_answer}
 use Rattle.upload_book.specs.Upload.{Upload}
 use Rattle.tus_steps.specs.Changing.{IsStepOf, change_found, change_reply}
 use Rattle.tus_steps.specs.declared.asked.ChangeOf.{ChangeOf}
-use Rattle.tus_steps.specs.declared.reply.Reply.{Reply}
 use Rattle.tus_steps.specs.Request.{Request}
 use Rattle.tus_steps.specs.Step.{IsStep}
 use Rattle.tus_shared.specs.Board.{BoardView}

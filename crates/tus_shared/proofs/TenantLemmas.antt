@@ -1,5 +1,5 @@
 -- What heads tell of a tenant that the settings do not have.
-use Rattle.std.proofs.Common.{◌≡◌, ◌≤◌, ℕ, zero, suc, Bool, false, ltb, ◌&&◌, if◌then◌else◌, List, [], ◌∷◌, map, None, Err, Result, length, refl, sym, ap, ◌∙◌, arith}
+use Rattle.std.proofs.Common.{◌≡◌, ◌≤◌, ℕ, zero, suc, Bool, false, ltb, ◌&&◌, List, [], ◌∷◌, Err, length, refl, ap, ◌∙◌, arith}
 use Rattle.std.proofs.lemmas.List.{get_or_past, length-map}
 use Rattle.std.proofs.Math.Bool.{and-false}
 use Rattle.std.proofs.Math.ListN.{length-set}
@@ -9,13 +9,12 @@ use Rattle.upload_book.specs.declared.board_line.HeadChange.{HeadChange}
 use Rattle.upload_book.specs.declared.board_line.HeadChange.TheVariants.{Put, Gone, Swept}
 use Rattle.upload_book.specs.declared.head_row.HeadRow.{HeadRow}
 use Rattle.upload_book.specs.declared.head_row.Name.{Name}
-use Rattle.upload_book.specs.declared.refusal.Refusal.{Refusal}
 use Rattle.upload_book.specs.declared.refusal.Refusal.TheVariants.{Unknown}
 use Rattle.upload_book.specs.declared.settings.TenantQuota.{TenantQuota}
-use Rattle.upload_book.specs.Heads.{HeadPart, Heads, apply_line, apply_lines, head_part, heads_after, heads_of, parts_after, shown, without_over}
+use Rattle.upload_book.specs.Heads.{Heads, apply_line, apply_lines, head_part, heads_after, heads_of, parts_after, shown, without_over}
 use Rattle.upload_book.specs.PlainBook.{opening_book}
 use Rattle.upload_book.specs.Settings.{Settings}
-use Rattle.upload_book.specs.TenantBook.{TenantBook, is_given, opening_part, visible}
+use Rattle.upload_book.specs.TenantBook.{TenantBook, is_given, opening_part}
 
 -- a part with no upload gave no id
 opening-given : (id : ℕ) → is_given {K = HeadRow} (opening_part 0) id ≡ false

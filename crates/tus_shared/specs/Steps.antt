@@ -1,5 +1,5 @@
 -- What is done at a store, and which line is shown of it.
-use Rattle.std.specs.Prelude.{◌≡◌, ◌⊎◌, ℕ, ◌++◌, ◌∷◌, [], Option, Some, None, Result, Err, IfOk, IfErr, IsErr, IsOk}
+use Rattle.std.specs.Prelude.{◌≡◌, ◌⊎◌, ℕ, ◌++◌, ◌∷◌, [], Option, Some, None, Result, IfOk, IfErr, IsErr, IsOk}
 use Rattle.upload_book.specs.Change.{book_after_change, change_answer, change_lacking, line_of}
 use Rattle.upload_book.specs.declared.append.Refused.{Refused}
 use Rattle.upload_book.specs.declared.board_line.BoardLine.{BoardLine}

@@ -1,5 +1,4 @@
-use Rattle.std.proofs.Common.{◌+◌, List, ap, refl, ◌∙◌}
-use Rattle.std.specs.List.{All}
+use Rattle.std.proofs.Common.{◌+◌, ap, refl, ◌∙◌}
 use Rattle.std.proofs.lemmas.List.Elements.{All-cons}
 use mathlib.Core.List.{IsPrefix}
 use Rattle.tus_shared.specs.Desk.{Desk}

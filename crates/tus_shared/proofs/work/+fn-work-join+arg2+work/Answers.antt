@@ -1,4 +1,4 @@
-use Rattle.std.proofs.Common.{◌≡◌, ◌<◌, ◌≤◌, ◌++◌, ◌∷◌, [], length, vec_capacity, rules, arith}
+use Rattle.std.proofs.Common.{◌≡◌, ◌<◌, ◌≤◌, [], length, vec_capacity, rules, arith}
 use Rattle.std.specs.List.{AllZip}
 use Rattle.tus_shared.specs.Served.{AllThree, AreReplies}
 use Rattle.std.proofs.lemmas.Slice.Zip.{AllZip-long}

@@ -1,12 +1,11 @@
 use Rattle.std.proofs.Common.{◌≡◌, ap, refl, sym, ◌∙◌, arith}
 use Rattle.upload_book.specs.Book.{plain_of}
-use Rattle.upload_book.specs.declared.board_line.BoardLine.{BoardLine}
 use Rattle.upload_book.specs.Heads.{heads_after, heads_of}
 use Rattle.upload_book.specs.PlainBook.{PlainBook}
 use Rattle.upload_book.specs.Settings.{Settings}
 use Rattle.tus_shared.specs.Board.{BoardView}
-use Rattle.tus_shared.specs.Store.{IsShown, Store}
-use Rattle.tus_shared.proofs.ChangeLemmas.{NoLess, done-made, done-refused, done-unshown, no-less, shown-more}
+use Rattle.tus_shared.specs.Store.{IsShown}
+use Rattle.tus_shared.proofs.ChangeLemmas.{done-made, done-refused, done-unshown, no-less, shown-more}
 use Rattle.tus_shared.proofs.store.Store.make.Goals as goal
 
 pub returns-in-Err-clause-before : goal.returns-in-Err-clause-before

@@ -1,10 +1,9 @@
 use Rattle.std.proofs.Common.{◌≡◌, ◌+◌, Some, ap, refl, sym, subst, ◌∙◌}
 use Rattle.tus_steps.specs.Changing.{change_found}
 use Rattle.upload_book.specs.Book.{plain_of}
-use Rattle.upload_book.specs.Lawful.{IsLawful}
 use Rattle.upload_book.specs.PlainBook.{PlainBook}
 use Rattle.upload_book.specs.Settings.{Settings}
-use Rattle.tus_shared.specs.Store.{IsShown, IsStore, Store}
+use Rattle.tus_shared.specs.Store.{IsShown}
 use Rattle.tus_shared.proofs.ChangeLemmas.{done-step}
 use Rattle.tus_shared.proofs.store.Store.step.Goals as goal
 
