@@ -86,6 +86,19 @@ fn refused(refusal: Refusal, expires: Option<u64>) -> Refused {
     }
 }
 
+/// When an upload expires, its tenant's place, and its id.
+pub type Ending = [u64; 3];
+
+// Whether one comes before another: by the first number in which they differ.
+fn comes_before(one: &Ending, other: &Ending) -> bool {
+    for place in 0..3 {
+        if one[place] != other[place] {
+            return one[place] < other[place];
+        }
+    }
+    false
+}
+
 /// The settings' numbers, the quotas of two tenants, all uploads, and the totals of blocks charged and released.
 #[derive(Drop)]
 pub struct PlainBook {
@@ -341,6 +354,22 @@ impl PlainBook {
             blocks,
             released: blocks,
         })
+    }
+
+    /// The uploads that expire, in order: each at the place of as many as come before it.
+    pub fn expiries(&self, rt: &impl Abort) -> Vec<Ending> {
+        let mut endings = Vec::new(self.alloc);
+        for upload in &self.uploads {
+            if let Some(at) = upload.expires.filter(|_| !upload.has_ended) {
+                let ending = [at, u64::from(upload.name.tenant), upload.name.id];
+                let place = endings
+                    .iter()
+                    .filter(|other| comes_before(other, &ending))
+                    .count();
+                endings.insert(place, ending).expect(rt, "memory");
+            }
+        }
+        endings
     }
 
     pub fn sweep(&mut self, now: Moment) -> Swept {

@@ -2,7 +2,7 @@
 //! it the plain program of a book.
 
 use crate::books::{ACME, BETA, moment, new_book, new_final};
-use crate::plain::{PlainBook, PlainRow};
+use crate::plain::{Ending, PlainBook, PlainRow};
 use std::alloc::Global;
 use std::process::Abort;
 use std::test::Fail;
@@ -39,6 +39,8 @@ pub enum Call {
     Get(u64),
     Delete(u64),
     Sweep,
+    /// The uploads of all tenants that expire.
+    Expiries,
 }
 
 /// What a call answers.
@@ -56,6 +58,7 @@ pub enum Told<'a> {
     /// How many uploads ended, how many blocks became free, and how many are no longer paid.
     Swept(u64, u64, u64),
     Refused(Refusal),
+    Expire(&'a [Ending]),
     /// Why a PATCH was refused, and when the upload expires.
     RefusedPatch(Refusal, Option<u64>),
 }
@@ -255,6 +258,22 @@ impl Pair {
         assert_told(rt, place, [bytes(&answer), plain_bytes(&plainly)], told);
     }
 
+    // Asserts that the uploads which expire are those of the plain book, in order, and that they are these where they
+    // are asked for.
+    fn assert_expiries(&self, rt: &impl Abort, place: usize, told: Told) {
+        let plainly = self.plain.expiries(rt);
+        let mut endings = Vec::new(self.plain.alloc);
+        for expiring in self.book.expiries() {
+            let Name { tenant, id } = expiring.name;
+            let ending = [expiring.at.secs(), u64::from(tenant), id];
+            endings.push(ending).expect(rt, "memory");
+        }
+        assert_eq!(rt; endings, plainly, "after call {place}");
+        if let Told::Expire(expected) = told {
+            assert_eq!(rt; endings.as_slice(), expected, "call {place}");
+        }
+    }
+
     // Asserts what the tenants pay, how many blocks are free, and the two totals.
     fn assert_paid(&self, rt: &impl Abort, place: usize, after: [u64; 5]) {
         let book = &self.book;
@@ -374,8 +393,10 @@ fn take(rt: &impl Abort, pair: &mut Pair, place: usize, step: &Step) {
         }
         Call::Delete(id) => pair.terminate(named(id), now),
         Call::Sweep => pair.sweep(now),
+        Call::Expiries => [told, told],
     };
     assert_told(rt, place, answers, told);
+    pair.assert_expiries(rt, place, told);
     pair.assert_paid(rt, place, after);
 }
 

@@ -1,8 +1,8 @@
 //! Sweeps of single uploads, and before, between and after the ends of partial uploads and of final ones over them.
 
 use crate::books::{ACME, BETA, NUMBERS};
-use crate::steps::Call::{Delete, Get, Head, Join, Partial, Patch, Post, Sweep};
-use crate::steps::Told::{Appended, Bytes, Created, Refused, Removed, Row, Swept};
+use crate::steps::Call::{Delete, Expiries, Get, Head, Join, Partial, Patch, Post, Sweep};
+use crate::steps::Told::{Appended, Bytes, Created, Expire, Refused, Removed, Row, Swept};
 use crate::steps::{Step, run, steps};
 use std::test::Fail;
 use upload_book::{Kind, Refusal};
@@ -118,4 +118,41 @@ fn sweeps_in_each_order(rt: HostRuntime) -> Result<(), Fail> {
     run(&rt, rt.alloc(), NUMBERS, &ENDED_BEFORE_ITS_FINAL)?;
     run(&rt, rt.alloc(), NUMBERS, &SWEPT_BETWEEN_FINALS)?;
     run(&rt, rt.alloc(), NUMBERS, &SWEPT_AMONG_OTHERS)
+}
+
+// Each upload that expires is listed once: by when, and where that is the same by its id, whatever their order before.
+static LISTED_AND_SWEPT: [Step; 9] = steps! {
+    1000 ACME Partial(Some(1)) => Created(1, Some(4600)), [0, 0, 12, 0, 0];
+    1010 ACME Partial(Some(1)) => Created(2, Some(4610)), [0, 0, 12, 0, 0];
+    1000 ACME Partial(Some(1)) => Created(3, Some(4600)), [0, 0, 12, 0, 0];
+    1020 ACME Patch(1, 0, b"a") => Appended(1, Some(4620)), [1, 0, 11, 1, 0];
+    1020 ACME Expiries => Expire(&[[4600, 0, 3], [4610, 0, 2], [4620, 0, 1]]), [1, 0, 11, 1, 0];
+    4600 ACME Sweep => Swept(1, 0, 0), [1, 0, 11, 1, 0];
+    4610 ACME Sweep => Swept(1, 0, 0), [1, 0, 11, 1, 0];
+    4620 ACME Sweep => Swept(1, 1, 1), [0, 0, 12, 1, 1];
+    4620 ACME Expiries => Expire(&[]), [0, 0, 12, 1, 1];
+};
+
+// Of one moment, acme's come before beta's. One that is complete, one that ends and a final upload leave the list or
+// never come into it; one that is over stays in it until the sweep.
+static LISTED_BY_TENANT: [Step; 13] = steps! {
+    1000 BETA Post(Some(9)) => Created(1, Some(4600)), [0, 0, 12, 0, 0];
+    1000 ACME Post(Some(9)) => Created(1, Some(4600)), [0, 0, 12, 0, 0];
+    1000 ACME Partial(Some(1)) => Created(2, Some(4600)), [0, 0, 12, 0, 0];
+    1000 ACME Patch(2, 0, b"a") => Appended(1, Some(4600)), [1, 0, 11, 1, 0];
+    1000 ACME Join(&[Some(2)]) => Created(3, None), [1, 0, 11, 1, 0];
+    1000 ACME Post(Some(1)) => Created(4, Some(4600)), [1, 0, 11, 1, 0];
+    900 ACME Post(Some(1)) => Created(5, Some(4500)), [1, 0, 11, 1, 0];
+    4499 BETA Expiries => Expire(&[[4500, 0, 5], [4600, 0, 1], [4600, 0, 2], [4600, 0, 4], [4600, 1, 1]]), [1, 0, 11, 1, 0];
+    4499 ACME Patch(4, 0, b"b") => Appended(1, None), [2, 0, 10, 2, 0];
+    4500 ACME Delete(1) => Removed(0, 0), [2, 0, 10, 2, 0];
+    4500 BETA Expiries => Expire(&[[4500, 0, 5], [4600, 0, 2], [4600, 1, 1]]), [2, 0, 10, 2, 0];
+    4599 ACME Sweep => Swept(1, 0, 0), [2, 0, 10, 2, 0];
+    4599 BETA Expiries => Expire(&[[4600, 0, 2], [4600, 1, 1]]), [2, 0, 10, 2, 0];
+};
+
+#[test]
+fn uploads_that_expire(rt: HostRuntime) -> Result<(), Fail> {
+    run(&rt, rt.alloc(), NUMBERS, &LISTED_AND_SWEPT)?;
+    run(&rt, rt.alloc(), NUMBERS, &LISTED_BY_TENANT)
 }

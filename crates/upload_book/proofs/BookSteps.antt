@@ -1,34 +1,35 @@
 -- The plain book that a book over a store stands for, and what the book keeps where its store changes.
-use Rattle.std.proofs.Common.{◌≡◌, ℕ, ◌+◌, ◌-◌, ◌<◌, ◌≤◌, List, map, length, get_or, set, slice_get, Some, None, Ok, ap, sym, subst, ◌∙◌, arith}
+use Rattle.std.proofs.Common.{◌≡◌, ℕ, ◌+◌, ◌-◌, ◌*◌, ◌<◌, ◌≤◌, List, [], map, length, get_or, set, slice_get, Some, None, Ok, ap, sym, subst, ◌∙◌, arith}
 use Rattle.std.proofs.lemmas.List.{length-replicate}
-use Rattle.std.proofs.lemmas.List.Sums.{sum_by-le}
 use Rattle.std.proofs.lemmas.Option.{get_or_from_slice_get}
 use Rattle.std.proofs.lemmas.Simd.{map-map}
 use Rattle.std.proofs.Math.ListN.{length-map, get_or-map}
 use Rattle.std.proofs.lemmas.List.{get_or-set_same}
-use Rattle.std.specs.List.{All, sum_by}
 use Rattle.std.specs.List.Sorted.{IsStrictlyIncreasing}
+use Rattle.std.specs.Option.{option_and_then}
 use Rattle.block_pool.specs.Blocks.{all_free, free_block, size_of}
 use Rattle.block_bodies.specs.Changes.{SameSizes}
 use Rattle.upload_book.specs.Book.{StoredBook, IsBook, plain_of}
 use Rattle.upload_book.specs.Charge.{charge_in, charge_with}
 use Rattle.upload_book.specs.declared.settings.Numbers.{Numbers}
 use Rattle.upload_book.specs.declared.settings.TenantQuota.{TenantQuota}
+use Rattle.upload_book.specs.Expiries.{AreExpiries}
+use Rattle.upload_book.specs.ExpiryList.{ExpiryList}
 use Rattle.upload_book.specs.Lawful.{IsLawful, IsTenantOf, IsUploadOf}
 use Rattle.upload_book.specs.PlainBook.{answer_of, opening_book, tenant_book, with_tenant_book}
 use Rattle.upload_book.specs.Settings.{Settings, settings_fault}
-use Rattle.upload_book.specs.Store.{Store, IsVisibleIn, no_upload, plain_in, part_at, shelf_at, entry_at, upload_at, with_upload, without_upload}
+use Rattle.upload_book.specs.Store.{Store, IsPlaceOf, IsVisibleIn, no_upload, plain_in, part_at, shelf_at, entry_at, upload_at, with_upload, without_upload}
 use Rattle.upload_book.specs.Stored.{Shelf, entry_of, part_of}
-use Rattle.upload_book.specs.Sweep.{book_after_sweep, part_after_sweep, swept_blocks}
 use Rattle.upload_book.specs.TenantBook.{TenantBook, Entry, kept_in, opening_part, visible_upload, with_changed}
 use Rattle.upload_book.specs.Terminate.{without, given_back}
 use Rattle.upload_book.specs.Upload.{Upload}
 use Rattle.upload_book.proofs.BookLemmas.{book_with, IsTenantOf-book, with_tenant_book-less}
-use Rattle.upload_book.proofs.Entries.{kept_in-All, visible_in-Ok, with_kept-place, without-place}
-use Rattle.upload_book.proofs.LawfulFewer.{IsLawful-sweep, IsLawful-without, charge-terminate, swept-total}
+use Rattle.upload_book.proofs.Entries.{kept_in-All, kept_in-place, visible_in-Ok, with_kept-place, without-place}
+use Rattle.upload_book.proofs.BookEnds.{HasEnd-without}
+use Rattle.upload_book.proofs.ExpirySteps.{AreExpiries-opening, IsRenewed}
+use Rattle.upload_book.proofs.LawfulFewer.{IsLawful-without, charge-terminate}
 use Rattle.upload_book.proofs.LawfulSteps.{IsLawful-opening}
 use Rattle.upload_book.proofs.RoomLemmas.{released-within}
-use Rattle.upload_book.proofs.SettingsLemmas.{tenants-within, uploads-within}
 
 -- a tenant's part of the plain book is its shelf as the plain book has it
 pub part-plain : (b : StoredBook) (t : ℕ) → tenant_book (plain_of b) t ≡ part_at b.store t
@@ -67,6 +68,11 @@ part-quota b t quota kept is =
     let quotas : List ℕ = map {A = TenantQuota} {B = ℕ} (λ t. t.quota) b.settings.tenants in
     sym (get_or-map (λ (part : TenantBook). part.quota) (plain_in b.store) t (opening_part 0)) ∙ ap (λ l. get_or l t 0) kept.lawful.quotas ∙ get_or_from_slice_get quotas t quota 0 is
 
+-- there is room for as many ends as the tenants may have uploads
+pub expiries-room_is : (b : StoredBook) → IsBook b → length (plain_of b).tenants * b.settings.numbers.uploads ≡ b.expiries.room
+expiries-room_is b kept =
+    ap (λ n. n * b.settings.numbers.uploads) (parts-shelves b.store ∙ shelves-settings b kept) ∙ sym kept.entries
+
 -- the store at the start
 abbrev opening_store : Settings → Store
 opening_store s = record {
@@ -76,24 +82,26 @@ opening_store s = record {
 }
 
 -- the book at the start
-abbrev opened : Settings → Store → StoredBook
-opened settings s = record { settings = settings; store = s; charged = 0; released = 0 }
+abbrev opened : Settings → Store → ExpiryList → StoredBook
+opened settings s e = record { settings = settings; store = s; charged = 0; released = 0; expiries = e }
 
 parts-opening : (settings : Settings) → plain_in (opening_store settings) ≡ (opening_book settings).tenants
 parts-opening settings = map_opening settings.tenants where
   map_opening : (tenants : List TenantQuota) → map {A = Shelf} {B = TenantBook} (part_of (opening_store settings).pool) (map {A = TenantQuota} {B = Shelf} (λ t. opening_part t.quota) tenants) ≡ map {A = TenantQuota} {B = TenantBook} (λ t. opening_part t.quota) tenants
   map_opening tenants = map-map (part_of (opening_store settings).pool) (λ (t : TenantQuota). opening_part t.quota) tenants
 
-pub plain-opening : (settings : Settings) (s : Store) → s ≡ opening_store settings → plain_of (opened settings s) ≡ opening_book settings
-plain-opening settings s is =
-    ap (λ s. plain_of (opened settings s)) is ∙ ap (λ tenants. book_with (opening_book settings) tenants 0 0) (parts-opening settings)
+pub plain-opening : (settings : Settings) (s : Store) (e : ExpiryList) → s ≡ opening_store settings → plain_of (opened settings s e) ≡ opening_book settings
+plain-opening settings s e is =
+    ap (λ s. plain_of (opened settings s e)) is ∙ ap (λ tenants. book_with (opening_book settings) tenants 0 0) (parts-opening settings)
 
-pub IsBook-opening : (settings : Settings) (s : Store) → settings_fault settings ≡ None → s ≡ opening_store settings → IsBook (opened settings s)
-IsBook-opening settings s sound is = record {
-  lawful = subst IsLawful (sym (plain-opening settings s is)) (IsLawful-opening settings sound);
+pub IsBook-opening : (settings : Settings) (s : Store) (e : ExpiryList) → settings_fault settings ≡ None → s ≡ opening_store settings → e ≡ record { list = []; room = length settings.tenants * settings.numbers.uploads } → IsBook (opened settings s e)
+IsBook-opening settings s e sound is none = record {
+  lawful = subst IsLawful (sym (plain-opening settings s e is)) (IsLawful-opening settings sound);
   size = ap (λ (s : Store). s.pool.block_size) is;
   blocks = ap (λ (s : Store). size_of s.pool) is ∙ length-replicate settings.numbers.blocks free_block;
   room = ap (λ (s : Store). s.room) is;
+  expiries = subst (λ b. AreExpiries b e.list) (sym (plain-opening settings s e is)) (subst (λ (e : ExpiryList). AreExpiries (opening_book settings) e.list) (sym none) (AreExpiries-opening settings));
+  entries = ap (λ (e : ExpiryList). e.room) none;
 }
 
 -- the store in which one tenant has another part
@@ -113,16 +121,24 @@ pub plain-follows : (b : StoredBook) (s : Store) (t : ℕ) (part : TenantBook) (
 plain-follows b s t part charged released f is =
     ap (λ tenants. book_with (plain_of b) tenants charged released) f.plain ∙ sym is
 
+-- a list of the uploads that expire once a tenant has the part, with the room of the book's
+pub record IsIndex (b : StoredBook) (t : ℕ) (part : TenantBook) (e : ExpiryList) : Type 0 where
+  pub expiries : AreExpiries (with_tenant_book (plain_of b) t part) e.list
+  pub room : e.room ≡ b.expiries.room
+
 -- and is a book where that is lawful
-pub IsBook-follows : (b : StoredBook) (s : Store) (t : ℕ) (part : TenantBook) (charged released : ℕ) → IsBook b → Follows b s t part
+pub IsBook-follows : (b : StoredBook) (s : Store) (t : ℕ) (part : TenantBook) (charged released : ℕ) (e : ExpiryList) → IsBook b → Follows b s t part
     → with_tenant_book (plain_of b) t part ≡ book_with (plain_of b) (set (plain_in b.store) t part) charged released
     → IsLawful (with_tenant_book (plain_of b) t part)
-    → IsBook (stored_with b s charged released)
-IsBook-follows b s t part charged released kept f is lawful = record {
+    → IsIndex b t part e
+    → IsBook (record (stored_with b s charged released) { expiries = e })
+IsBook-follows b s t part charged released e kept f is lawful index = record {
   lawful = subst IsLawful (sym (plain-follows b s t part charged released f is)) lawful;
   size = f.sizes.bytes ∙ kept.size;
   blocks = f.sizes.blocks ∙ kept.blocks;
   room = f.room ∙ kept.room;
+  expiries = subst (λ b. AreExpiries b e.list) (sym (plain-follows b s t part charged released f is)) index.expiries;
+  entries = index.room ∙ kept.entries;
 }
 
 -- the part of the tenant is then this one
@@ -152,10 +168,10 @@ removes-totals b s t id freed f =
     ∙ ap (λ back. book_with (plain_of b) (set (plain_in b.store) t (without part id)) b.charged (b.released + back)) (removes-freed b s t id freed f)
 
 -- it leaves a book
-pub IsBook-removes : (b : StoredBook) (s : Store) (t id freed : ℕ) → Removes b s t id freed → IsBook (stored_with b s b.charged (b.released + freed))
-IsBook-removes b s t id freed f =
-    IsBook-follows b s t (without (tenant_book (plain_of b) t) id) b.charged (b.released + freed) f.kept f.follows (removes-totals b s t id freed f)
-    (IsLawful-without (plain_of b) t id f.kept.lawful (part-within b t f.within))
+pub IsBook-removes : (b : StoredBook) (s : Store) (t id freed : ℕ) (e : ExpiryList) → Removes b s t id freed → IsIndex b t (without (tenant_book (plain_of b) t) id) e → IsBook (record (stored_with b s b.charged (b.released + freed)) { expiries = e })
+IsBook-removes b s t id freed e f index =
+    IsBook-follows b s t (without (tenant_book (plain_of b) t) id) b.charged (b.released + freed) e f.kept f.follows (removes-totals b s t id freed f)
+    (IsLawful-without (plain_of b) t id f.kept.lawful (part-within b t f.within)) index
 
 -- that stands for the plain book without it
 pub plain-removes : (b : StoredBook) (s : Store) (t id freed : ℕ) → Removes b s t id freed → plain_of (stored_with b s b.charged (b.released + freed)) ≡ with_tenant_book (plain_of b) t (without (tenant_book (plain_of b) t) id)
@@ -166,47 +182,6 @@ plain-removes b s t id freed f =
 pub removes-within : (b : StoredBook) (s : Store) (t id freed : ℕ) → Removes b s t id freed → b.released + freed ≤ b.charged
 removes-within b s t id freed f =
     omega (arith, removes-freed b s t id freed f, released-within (plain_of b) t (without (tenant_book (plain_of b) t) id) f.kept.lawful (part-within b t f.within))
-
--- the tenants have few uploads
-pub uploads-few : (b : StoredBook) → IsBook b → sum_by (λ (part : TenantBook). length part.uploads) (plain_in b.store) ≤ 1024
-uploads-few b kept =
-    let each : All (λ (part : TenantBook). length part.uploads ≤ 64) (plain_in b.store) =
-    λ k d within. omega (arith, (kept.lawful.tenants k d within).few, uploads-within b.settings kept.lawful.settings) in
-    omega (arith, sum_by-le (λ (part : TenantBook). length part.uploads) 64 (plain_in b.store) each, parts-shelves b.store, shelves-settings b kept, tenants-within b.settings kept.lawful.settings)
-
--- a sweep of the store, and the blocks that became free
-pub record Sweeps (b : StoredBook) (s : Store) (now blocks : ℕ) : Type 0 where
-  pub kept : IsBook b
-  pub plain : plain_in s ≡ map {A = TenantBook} {B = TenantBook} (part_after_sweep now) (plain_in b.store)
-  pub freed : blocks ≡ sum_by (λ (part : TenantBook). charge_with b.store.pool.block_size part - charge_with b.store.pool.block_size (part_after_sweep now part)) (plain_in b.store)
-  pub sizes : SameSizes b.store.pool s.pool
-  pub room : s.room ≡ b.store.room
-
--- they are those of the plain book
-sweeps-freed : (b : StoredBook) (s : Store) (now blocks : ℕ) → Sweeps b s now blocks → blocks ≡ swept_blocks (plain_of b) now
-sweeps-freed b s now blocks f =
-    f.freed ∙ ap (λ size. sum_by (λ (part : TenantBook). charge_with size part - charge_with size (part_after_sweep now part)) (plain_in b.store)) f.kept.size
-
--- what is released is within what was charged
-pub sweeps-within : (b : StoredBook) (s : Store) (now blocks : ℕ) → Sweeps b s now blocks → b.released + blocks ≤ b.charged
-sweeps-within b s now blocks f =
-    less _ _ _ _ _ _ (sweeps-freed b s now blocks f) f.kept.lawful.totals (swept-total b.settings.numbers now (plain_in b.store))
-  where
-    less : (released blocks back charged all left : ℕ) → blocks ≡ back → charged ≡ released + all → left + back ≡ all → released + blocks ≤ charged
-    less released blocks back charged all left is total sums = omega arith
-
--- it leaves a book
-pub IsBook-sweeps : (b : StoredBook) (s : Store) (now blocks : ℕ) → Sweeps b s now blocks → IsBook (stored_with b s b.charged (b.released + blocks))
-IsBook-sweeps b s now blocks f =
-    let after : plain_of (stored_with b s b.charged (b.released + blocks)) ≡ book_after_sweep (plain_of b) now =
-    ap (λ tenants. book_with (plain_of b) tenants b.charged (b.released + blocks)) f.plain
-    ∙ ap (λ n. book_with (plain_of b) (map {A = TenantBook} {B = TenantBook} (part_after_sweep now) (plain_in b.store)) b.charged (b.released + n)) (sweeps-freed b s now blocks f) in
-    record {
-      lawful = subst IsLawful (sym after) (IsLawful-sweep (plain_of b) now f.kept.lawful);
-      size = f.sizes.bytes ∙ f.kept.size;
-      blocks = f.sizes.blocks ∙ f.kept.blocks;
-      room = f.room ∙ f.kept.room;
-    }
 
 -- The upload at a place that a request sees.
 module _ (b : StoredBook) (t id place now : ℕ) (kept : IsBook b) (within : t < length b.store.shelves) (seen : IsVisibleIn b.store t id now place) where
@@ -230,38 +205,68 @@ module _ (b : StoredBook) (t id place now : ℕ) (kept : IsBook b) (within : t <
   pub seen-upload : IsUploadOf b.settings.numbers seen_part (upload_at b.store t place)
   seen-upload = kept_in-All (IsUploadOf b.settings.numbers seen_part) seen_part.uploads id (upload_at b.store t place) seen-sound.uploads seen-kept
 
+  -- it stands there
+  pub seen-placed : IsPlaceOf b.store t id place
+  seen-placed = record { there = seen.there; named = seen.named }
+
+-- The upload at a place, whether a request sees it or not.
+module _ (b : StoredBook) (t id place : ℕ) (kept : IsBook b) (within : t < length b.store.shelves) (placed : IsPlaceOf b.store t id place) where
+  -- the plain book's part of its tenant
+  abbrev pub placed_part : TenantBook
+  placed_part = tenant_book (plain_of b) t
+
   abbrev nothing : Entry Upload
   nothing = entry_of b.store.pool no_upload
 
-  seen-there : place < length (part_at b.store t).uploads
-  seen-there = omega (arith, seen.there, length-map (shelf_at b.store t).uploads (entry_of b.store.pool))
+  placed-there : place < length (part_at b.store t).uploads
+  placed-there = omega (arith, placed.there, length-map (shelf_at b.store t).uploads (entry_of b.store.pool))
 
-  seen-named : (get_or (part_at b.store t).uploads place nothing).id ≡ id
-  seen-named = ap (λ (e : Entry Upload). e.id) (get_or-map (entry_of b.store.pool) (shelf_at b.store t).uploads place no_upload) ∙ seen.named
+  placed-entry : get_or (part_at b.store t).uploads place nothing ≡ entry_of b.store.pool (entry_at b.store t place)
+  placed-entry = get_or-map (entry_of b.store.pool) (shelf_at b.store t).uploads place no_upload
 
-  seen-ascending : IsStrictlyIncreasing (map {A = Entry Upload} {B = ℕ} (λ e. e.id) (part_at b.store t).uploads)
-  seen-ascending = (part-sound b t kept within).ascending
+  placed-named : (get_or (part_at b.store t).uploads place nothing).id ≡ id
+  placed-named = ap (λ (e : Entry Upload). e.id) placed-entry ∙ placed.named
+
+  placed-ascending : IsStrictlyIncreasing (map {A = Entry Upload} {B = ℕ} (λ e. e.id) (part_at b.store t).uploads)
+  placed-ascending = (part-sound b t kept within).ascending
+
+  -- it is kept under the id
+  pub placed-kept : kept_in placed_part.uploads id ≡ Some (upload_at b.store t place)
+  placed-kept =
+      ap (λ (part : TenantBook). kept_in part.uploads id) (part-plain b t) ∙ kept_in-place (part_at b.store t).uploads id place nothing placed-ascending placed-there placed-named
+      ∙ ap (λ (e : Entry Upload). Some e.kept) placed-entry
+
+  -- without it there is one end less
+  pub placed-renewed : IsRenewed (plain_of b) b.expiries.list t id (without placed_part id) (upload_at b.store t place).expires None
+  placed-renewed = record {
+    lawful = kept.lawful;
+    are = kept.expiries;
+    within = part-within b t within;
+    was = ap (λ found. option_and_then (λ (u : Upload). u.expires) found) placed-kept;
+    has = HasEnd-without placed_part id;
+    after = IsLawful-without (plain_of b) t id kept.lawful (part-within b t within);
+  }
 
   -- another upload at its place is another one under its id
-  pub seen-changed : (u : Upload) → with_upload (part_at b.store t) place (record { id = (entry_at b.store t place).id; kept = u }) ≡ with_changed seen_part id u
-  seen-changed u =
-      ap (λ named. with_upload (part_at b.store t) place (record { id = named; kept = u })) seen.named
-      ∙ ap (λ uploads. record (part_at b.store t) { uploads = uploads }) (sym (with_kept-place (part_at b.store t).uploads id place nothing u seen-ascending seen-there seen-named))
+  pub placed-changed : (u : Upload) → with_upload (part_at b.store t) place (record { id = (entry_at b.store t place).id; kept = u }) ≡ with_changed placed_part id u
+  placed-changed u =
+      ap (λ named. with_upload (part_at b.store t) place (record { id = named; kept = u })) placed.named
+      ∙ ap (λ uploads. record (part_at b.store t) { uploads = uploads }) (sym (with_kept-place (part_at b.store t).uploads id place nothing u placed-ascending placed-there placed-named))
       ∙ ap (λ part. with_changed part id u) (sym (part-plain b t))
 
   -- without its place there is nothing under its id
-  pub seen-without : without_upload (part_at b.store t) place ≡ without seen_part id
-  seen-without =
-      ap (λ uploads. record (part_at b.store t) { uploads = uploads }) (sym (without-place (part_at b.store t).uploads id place nothing seen-ascending seen-there seen-named))
+  pub placed-without : without_upload (part_at b.store t) place ≡ without placed_part id
+  placed-without =
+      ap (λ uploads. record (part_at b.store t) { uploads = uploads }) (sym (without-place (part_at b.store t).uploads id place nothing placed-ascending placed-there placed-named))
       ∙ ap (λ part. without part id) (sym (part-plain b t))
 
   -- the store without it
-  pub seen-removes : (s : Store) (freed : ℕ) → plain_in s ≡ set (plain_in b.store) t (without_upload (part_at b.store t) place) → charge_with b.store.pool.block_size (part_at s t) + freed ≡ charge_with b.store.pool.block_size (part_at b.store t)
+  pub placed-removes : (s : Store) (freed : ℕ) → plain_in s ≡ set (plain_in b.store) t (without_upload (part_at b.store t) place) → charge_with b.store.pool.block_size (part_at s t) + freed ≡ charge_with b.store.pool.block_size (part_at b.store t)
       → SameSizes b.store.pool s.pool → s.room ≡ b.store.room → Removes b s t id freed
-  seen-removes s freed plain pays sizes room =
-      let follows : Follows b s t (without seen_part id) = record { plain = plain ∙ ap (set (plain_in b.store) t) seen-without; sizes = sizes; room = room } in
-      let after : charge_with b.store.pool.block_size (part_at s t) ≡ charge_in b.settings.numbers (without seen_part id) =
-      ap (λ size. charge_with size (part_at s t)) kept.size ∙ ap (charge_in b.settings.numbers) (part-follows b s t (without seen_part id) follows within) in
+  placed-removes s freed plain pays sizes room =
+      let follows : Follows b s t (without placed_part id) = record { plain = plain ∙ ap (set (plain_in b.store) t) placed-without; sizes = sizes; room = room } in
+      let after : charge_with b.store.pool.block_size (part_at s t) ≡ charge_in b.settings.numbers (without placed_part id) =
+      ap (λ size. charge_with size (part_at s t)) kept.size ∙ ap (charge_in b.settings.numbers) (part-follows b s t (without placed_part id) follows within) in
       record {
         kept = kept;
         within = within;

@@ -19,6 +19,9 @@ use Rattle.upload_book.specs.Stored.{entry_of}
 use Rattle.upload_book.specs.TenantBook.{TenantBook, with_new}
 use Rattle.upload_book.proofs.AloneLemmas.{segments-few}
 use Rattle.upload_book.proofs.BookLemmas.{book_with, IsLawful-concat, IsTenantOf-book, with_tenant_book-same}
+use Rattle.upload_book.proofs.BookEnds.{HasEnd-new}
+use Rattle.upload_book.proofs.ExpirySteps.{AreExpiries-stays, IsRenewed, ids-below, next-none}
+use Rattle.upload_book.specs.Upload.{Upload}
 use Rattle.upload_book.proofs.BookSteps.{Follows, IsBook-follows, part-plain, part-sound, part-within, plain-follows, shelves-settings, stored_with}
 use Rattle.upload_book.proofs.LawfulConcat.{HasLawfulParts, IsJoinable, IsJoinable-from_none, charge-concat}
 use Rattle.upload_book.proofs.Outcomes.{part_after_concat-none}
@@ -165,8 +168,18 @@ concats-totals b s t new now f =
 pub IsBook-concats : (b : StoredBook) (s : Store) (t : ℕ) (new : NewFinal) (now : ℕ) → Concats b s t new now → IsBook (stored_with b s b.charged b.released)
 IsBook-concats b s t new now f =
     let part : TenantBook = tenant_book (plain_of b) t in
-    IsBook-follows b s t (with_new part (final_upload (parts_found part now new.parts) new)) b.charged b.released f.kept f.follows (concats-totals b s t new now f)
-    (IsLawful-concat (plain_of b) t new now f.kept.lawful (part-within b t f.within) f.none f.parts)
+    let final : Upload = final_upload (parts_found part now new.parts) new in
+    let lawful = IsLawful-concat (plain_of b) t new now f.kept.lawful (part-within b t f.within) f.none f.parts in
+    let below = ids-below b.settings.numbers part (IsTenantOf-book (plain_of b) t f.kept.lawful (part-within b t f.within)) in
+    let stays : IsRenewed (plain_of b) b.expiries.list t part.next (with_new part final) None None = record {
+      lawful = f.kept.lawful;
+      are = f.kept.expiries;
+      within = part-within b t f.within;
+      was = next-none part below;
+      has = HasEnd-new part final below;
+      after = lawful;
+    } in
+    IsBook-follows b s t (with_new part final) b.charged b.released b.expiries f.kept f.follows (concats-totals b s t new now f) lawful (record { expiries = AreExpiries-stays stays; room = refl })
 
 -- and is the plain book's concatenation
 pub plain-concats : (b : StoredBook) (s : Store) (t : ℕ) (new : NewFinal) (now : ℕ) → Concats b s t new now → plain_of (stored_with b s b.charged b.released) ≡ book_after (plain_of b) t (part_after_concat new now)

@@ -27,7 +27,10 @@ use Rattle.upload_book.specs.Stored.{entry_of}
 use Rattle.upload_book.specs.TenantBook.{TenantBook, with_new}
 use Rattle.upload_book.specs.Upload.{Upload}
 use Rattle.upload_book.proofs.BookLemmas.{book_after-stays, book_with, IsLawful-create, IsTenantOf-book, with_tenant_book-more}
-use Rattle.upload_book.proofs.BookSteps.{Follows, IsBook-follows, part-plain, part-within, plain-follows, stored_with}
+use Rattle.upload_book.specs.ExpiryList.{ExpiryList}
+use Rattle.upload_book.proofs.BookEnds.{HasEnd-new}
+use Rattle.upload_book.proofs.ExpirySteps.{IsRenewed, ids-below, next-none}
+use Rattle.upload_book.proofs.BookSteps.{Follows, IsBook-follows, IsIndex, part-plain, part-within, plain-follows, stored_with}
 use Rattle.upload_book.proofs.ChargeLemmas.{charge-create}
 use Rattle.upload_book.proofs.LawfulAppend.{not_above}
 use Rattle.upload_book.proofs.LawfulCreate.{HasLawfulTexts, IsCreatable, IsCreatable-from_none}
@@ -98,11 +101,23 @@ module _ (b : StoredBook) (t : ℕ) (new : NewUpload) (first : FirstChunk) (now 
       with_tenant_book-more (plain_of b) t create_blocks (with_new part made) (charge-create b.settings.numbers part new first.bytes now (IsTenantOf-book (plain_of b) t is.kept.lawful (part-within b t is.within)))
       ∙ ap (λ charged. book_with (plain_of b) (set (plain_in b.store) t (with_new part made)) charged b.released) (sym at)
 
+  -- the upload gets its end
+  pub create-renewed : IsRenewed (plain_of b) b.expiries.list t part.next (with_new part made) None made.expires
+  create-renewed =
+      let below = ids-below b.settings.numbers part (IsTenantOf-book (plain_of b) t is.kept.lawful (part-within b t is.within)) in
+      record {
+        lawful = is.kept.lawful;
+        are = is.kept.expiries;
+        within = part-within b t is.within;
+        was = next-none part below;
+        has = HasEnd-new part made below;
+        after = IsLawful-create (plain_of b) t new first now is.kept.lawful (part-within b t is.within) is.none is.texts;
+      }
+
   -- makes a book
-  pub IsBook-create : (s : Store) (charged : ℕ) → Follows b s t (with_new part made) → charged ≡ b.charged + create_blocks → IsBook (stored_with b s charged b.released)
-  IsBook-create s charged follows at =
-      IsBook-follows b s t (with_new part made) charged b.released is.kept follows (create-totals charged at)
-      (IsLawful-create (plain_of b) t new first now is.kept.lawful (part-within b t is.within) is.none is.texts)
+  pub IsBook-create : (s : Store) (charged : ℕ) (e : ExpiryList) → Follows b s t (with_new part made) → charged ≡ b.charged + create_blocks → IsIndex b t (with_new part made) e → IsBook (record (stored_with b s charged b.released) { expiries = e })
+  IsBook-create s charged e follows at index =
+      IsBook-follows b s t (with_new part made) charged b.released e is.kept follows (create-totals charged at) create-renewed.after index
 
   -- which is the plain book after the creation
   pub plain-create : (s : Store) (charged : ℕ) → Follows b s t (with_new part made) → charged ≡ b.charged + create_blocks → plain_of (stored_with b s charged b.released) ≡ book_after (plain_of b) t (part_after_create new first now b.charged)

@@ -239,7 +239,7 @@ module _ {K : Type 0} where
       kept_at entries id place d within named (others_in entries id place d ascending within named)
 
   -- a filter leaves a list whose elements all pass
-  filter_all : (p : Entry K → Bool) (entries : List (Entry K)) → All (λ e. p e ≡ true) entries → filter p entries ≡ entries
+  pub filter_all : (p : Entry K → Bool) (entries : List (Entry K)) → All (λ e. p e ≡ true) entries → filter p entries ≡ entries
   filter_all p [] pass = refl
   filter_all p (e ∷ entries) pass =
       rw (All-head (λ e. p e ≡ true) e entries pass) (ap (λ l. e ∷ l) (filter_all p entries (All-tail (λ e. p e ≡ true) e entries pass)))

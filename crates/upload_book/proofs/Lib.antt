@@ -1,5 +1,14 @@
 pub mod AppendLemmas
 pub mod Entries
+pub mod ExpiryLemmas
+pub mod ExpirySteps
+pub mod FirstEnds
+pub mod EndsLemmas
+pub mod BookEnds
+pub mod FewEnds
+pub mod SweepOne
+pub mod SweepNone
+pub mod SweepSteps
 pub mod FirstRefusal
 pub mod LawfulSteps
 pub mod LawfulAppend
@@ -46,7 +55,6 @@ pub mod ConcatSteps
 pub mod CreateSteps
 pub mod HoldersLemmas
 pub mod StoreJoin
-pub mod SweepSteps
 pub mod HeadParts
 pub mod HeadsNew
 pub mod HeadsCreate

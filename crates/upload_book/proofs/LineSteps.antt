@@ -33,7 +33,7 @@ use Rattle.upload_book.specs.Terminate.{without}
 use Rattle.upload_book.specs.Upload.{Upload, head_row_of, offset_of}
 use Rattle.upload_book.proofs.AppendLemmas.{part_after_append-none}
 use Rattle.upload_book.proofs.BookLemmas.{IsTenantOf-book}
-use Rattle.upload_book.proofs.BookSteps.{part-plain, part-within, seen-kept, seen-visible, seen-without, shelves-settings}
+use Rattle.upload_book.proofs.BookSteps.{part-plain, part-within, placed-without, seen-kept, seen-placed, seen-visible, shelves-settings}
 use Rattle.upload_book.proofs.ChargeLemmas.{charge-append, charge-create}
 use Rattle.upload_book.proofs.HeadsAppend.{appended-none}
 use Rattle.upload_book.proofs.LawfulAppend.{IsAppendable-from_none, offset_of-append}
@@ -185,7 +185,7 @@ module _ (b : StoredBook) (r : ReadyEnd) (kept : IsBook b) (ready : IsReadyForEn
   end-pays : (charge : ℕ) → charge ≡ charge_with b.store.pool.block_size (without_upload (part_at b.store r.name.tenant) r.place) → charge_in b.settings.numbers (without part r.name.id) ≡ charge
   end-pays charge is =
       sym (is ∙ ap (λ size. charge_with size (without_upload (part_at b.store r.name.tenant) r.place)) kept.size
-      ∙ ap (charge_in b.settings.numbers) (seen-without b r.name.tenant r.name.id r.place r.now kept ready.there ready.seen))
+      ∙ ap (charge_in b.settings.numbers) (placed-without b r.name.tenant r.name.id r.place kept ready.there (seen-placed b r.name.tenant r.name.id r.place r.now kept ready.there ready.seen)))
 
   -- is no more than before,
   pub end-charged : (charge : ℕ) → charge ≡ charge_with b.store.pool.block_size (without_upload (part_at b.store r.name.tenant) r.place) → b.charged + (charge - pays b r.name.tenant) ≤ b.settings.numbers.last_total

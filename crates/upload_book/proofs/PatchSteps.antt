@@ -25,7 +25,11 @@ use Rattle.upload_book.specs.Store.{Store, IsAlone, IsVisibleIn, plain_in, part_
 use Rattle.upload_book.specs.TenantBook.{TenantBook, Entry, visible_upload, with_changed}
 use Rattle.upload_book.specs.Upload.{Upload, head_row_of, offset_of}
 use Rattle.upload_book.proofs.BookLemmas.{book_with, IsLawful-append, with_tenant_book-more}
-use Rattle.upload_book.proofs.BookSteps.{Follows, IsBook-follows, part-plain, part-sound, part-within, plain-follows, seen-changed, seen-kept, seen-sound, seen-upload, seen-visible, shelves-settings, stored_with}
+use Rattle.upload_book.specs.ExpiryList.{ExpiryList}
+use Rattle.std.specs.Option.{option_and_then}
+use Rattle.upload_book.proofs.BookEnds.{HasEnd-changed}
+use Rattle.upload_book.proofs.ExpirySteps.{IsRenewed}
+use Rattle.upload_book.proofs.BookSteps.{Follows, IsBook-follows, IsIndex, seen-placed, part-plain, part-sound, part-within, plain-follows, placed-changed, seen-kept, seen-sound, seen-upload, seen-visible, shelves-settings, stored_with}
 use Rattle.upload_book.proofs.AppendLemmas.{part_after_append-none}
 use Rattle.upload_book.proofs.ChargeLemmas.{blocks_between-none, charge-append, uploads-differ}
 use Rattle.upload_book.proofs.LawfulAppend.{IsAppendable, IsAppendable-from_none, offset_of-append}
@@ -130,7 +134,7 @@ module _ (b : StoredBook) (t id place now : ℕ) (chunk : Chunk) (kept : IsBook 
     patch-follows s bytes after bytes-is after-is plain sizes room =
         let kept_as : List ℕ → Standing → List TenantBook = λ bytes after. set (plain_in b.store) t (with_upload (part_at b.store t) place (record { id = (entry_at b.store t place).id; kept = with_bytes u bytes after.declared after.expires })) in
         record {
-          plain = plain ∙ ap (λ bytes. kept_as bytes after) bytes-is ∙ ap (kept_as chunk.bytes) after-is ∙ ap (set (plain_in b.store) t) (seen-changed b t id place now kept within seen later);
+          plain = plain ∙ ap (λ bytes. kept_as bytes after) bytes-is ∙ ap (kept_as chunk.bytes) after-is ∙ ap (set (plain_in b.store) t) (placed-changed b t id place kept within (seen-placed b t id place now kept within seen) later);
           sizes = sizes;
           room = room;
         }
@@ -140,11 +144,23 @@ module _ (b : StoredBook) (t id place now : ℕ) (chunk : Chunk) (kept : IsBook 
         with_tenant_book-more (plain_of b) t patch_blocks (with_changed part id later) (charge-append b.settings.numbers (account_at b t) part id u chunk now (seen-sound b t id place now kept within seen) (seen-kept b t id place now kept within seen) none)
         ∙ ap (λ charged. book_with (plain_of b) (set (plain_in b.store) t (with_changed part id later)) charged b.released) (sym is)
 
+    -- the upload gets another end
+    pub patch-renewed : IsRenewed (plain_of b) b.expiries.list t id (with_changed part id later) u.expires later.expires
+    patch-renewed =
+        let there = seen-kept b t id place now kept within seen in
+        record {
+          lawful = kept.lawful;
+          are = kept.expiries;
+          within = part-within b t within;
+          was = ap (λ found. option_and_then (λ (u : Upload). u.expires) found) there;
+          has = HasEnd-changed part id later u there;
+          after = IsLawful-append (plain_of b) t id u chunk now kept.lawful (part-within b t within) there none;
+        }
+
     -- makes a book
-    pub IsBook-patch : (s : Store) (charged : ℕ) → Follows b s t (with_changed part id later) → charged ≡ b.charged + patch_blocks → IsBook (stored_with b s charged b.released)
-    IsBook-patch s charged follows is =
-        IsBook-follows b s t (with_changed part id later) charged b.released kept follows (patch-totals charged is)
-        (IsLawful-append (plain_of b) t id u chunk now kept.lawful (part-within b t within) (seen-kept b t id place now kept within seen) none)
+    pub IsBook-patch : (s : Store) (charged : ℕ) (e : ExpiryList) → Follows b s t (with_changed part id later) → charged ≡ b.charged + patch_blocks → IsIndex b t (with_changed part id later) e → IsBook (record (stored_with b s charged b.released) { expiries = e })
+    IsBook-patch s charged e follows is index =
+        IsBook-follows b s t (with_changed part id later) charged b.released e kept follows (patch-totals charged is) patch-renewed.after index
 
     -- which is the plain book after the PATCH
     pub plain-patch : (s : Store) (charged : ℕ) → Follows b s t (with_changed part id later) → charged ≡ b.charged + patch_blocks → plain_of (stored_with b s charged b.released) ≡ book_after (plain_of b) t (part_after_append id chunk now b.charged)

@@ -24,7 +24,7 @@ kept-first : (p : Blocks) (same : Bool) (u : StoredUpload) (rest : Option Upload
 kept-first p true u rest kept is = refl
 kept-first p false u rest kept is = is
 
-kept_in-plain : (p : Blocks) (entries : List (Entry StoredUpload)) (id : ℕ) → kept_in (map {A = Entry StoredUpload} {B = Entry Upload} (entry_of p) entries) id ≡ option_map (upload_of p) (kept_in entries id)
+pub kept_in-plain : (p : Blocks) (entries : List (Entry StoredUpload)) (id : ℕ) → kept_in (map {A = Entry StoredUpload} {B = Entry Upload} (entry_of p) entries) id ≡ option_map (upload_of p) (kept_in entries id)
 kept_in-plain p [] id = refl
 kept_in-plain p (e ∷ entries) id = kept-first p (eqb e.id id) e.kept _ (kept_in entries id) (kept_in-plain p entries id)
 

@@ -2,6 +2,8 @@ pub mod Order
 pub mod Refusal
 pub mod Settings
 pub mod Expiry
+pub mod ExpiryList
+pub mod Expiries
 pub mod FirstChunk
 pub mod Upload
 pub mod Standing

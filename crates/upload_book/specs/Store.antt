@@ -51,6 +51,11 @@ entry_at s tenant place = get_or (shelf_at s tenant).uploads place no_upload
 abbrev pub upload_at : Store → ℕ → ℕ → Upload
 upload_at s tenant place = upload_of s.pool (entry_at s tenant place).kept
 
+-- the upload with the id stands at this place of its tenant's part
+pub record IsPlaceOf (s : Store) (tenant id place : ℕ) : Type 0 where
+  pub there : place < length (shelf_at s tenant).uploads
+  pub named : (entry_at s tenant place).id ≡ id
+
 -- a request for the id sees, at this moment, the upload at this place
 pub record IsVisibleIn (s : Store) (tenant id now place : ℕ) : Type 0 where
   pub there : place < length (shelf_at s tenant).uploads

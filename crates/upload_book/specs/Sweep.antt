@@ -1,5 +1,5 @@
 -- The sweep, which ends all uploads that have expired (tus 1.0.0, Expiration).
-use Rattle.std.specs.Prelude.{ℕ, ◌+◌, ◌-◌, not, length, map}
+use Rattle.std.specs.Prelude.{◌≡◌, ℕ, ◌+◌, ◌-◌, not, length, map}
 use Rattle.std.specs.List.{filter, sum_by}
 use Rattle.upload_book.specs.declared.sweep.Swept.{Swept}
 use Rattle.upload_book.specs.Expiry.{is_over}
@@ -29,3 +29,16 @@ book_after_sweep b now = record b {
   tenants = map {A = TenantBook} {B = TenantBook} (part_after_sweep now) b.tenants;
   released = b.released + swept_blocks b now;
 }
+
+-- Of the uploads that a sweep ends one has ended, which gave so many blocks back: a sweep of what is left ends one less,
+-- gives back so many blocks less, and then the book is the one after the whole sweep.
+pub record EndsOne (b : PlainBook) (now blocks : ℕ) (after : PlainBook) : Type 0 where
+  pub uploads : (sweep_answer b now).uploads ≡ (sweep_answer after now).uploads + 1
+  pub back : swept_blocks b now ≡ swept_blocks after now + blocks
+  pub book : book_after_sweep after now ≡ book_after_sweep b now
+
+-- a sweep ends nothing
+pub record EndsNone (b : PlainBook) (now : ℕ) : Type 0 where
+  pub uploads : (sweep_answer b now).uploads ≡ 0
+  pub back : swept_blocks b now ≡ 0
+  pub book : book_after_sweep b now ≡ b

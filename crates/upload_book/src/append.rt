@@ -193,6 +193,8 @@ impl Book {
             offset: after.offset,
             expires: after.expires,
         };
+        let before = self.store.expires(tenant, place);
+        self.expiries.set_end(name, before, after.expires);
         if bytes.is_empty() {
             self.store
                 .renew(tenant, place, after.declared, after.expires);

@@ -3,6 +3,7 @@ ghost use Rattle.std.specs.List.{sum_by};
 ghost use Rattle.upload_book.specs.Account.{account_in};
 ghost use Rattle.upload_book.specs.Book.{plain_of};
 ghost use Rattle.upload_book.specs.Charge.{charge_in};
+ghost use Rattle.upload_book.specs.Expiries.{AreExpiries};
 ghost use Rattle.upload_book.specs.Heads.{accounts_of};
 ghost use Rattle.upload_book.specs.Lawful.{IsLawful};
 ghost use Rattle.upload_book.specs.PlainBook.{opening_book, tenant_book};
@@ -11,6 +12,7 @@ ghost use Rattle.upload_book.specs.Stored.{IsStored};
 
 use crate::account::Account;
 use crate::board_line::Accounts;
+use crate::expiry_list::{Expiring, ExpiryList};
 use crate::head_row::Name;
 use crate::settings::Settings;
 use crate::store::Store;
@@ -25,6 +27,7 @@ pub struct Book {
     pub(crate) store: Store,
     pub(crate) charged: u64,
     pub(crate) released: u64,
+    pub(crate) expiries: ExpiryList,
     pub(crate) alloc: Global,
 }
 
@@ -38,6 +41,7 @@ impl Model for Book {
       store = b.store;
       charged = b.charged;
       released = b.released;
+      expiries = b.expiries;
     } };
 
     ghost invariant = { λ b. IsBook (record {
@@ -45,6 +49,7 @@ impl Model for Book {
       store = b.store;
       charged = b.charged;
       released = b.released;
+      expiries = b.expiries;
     }) };
 }
 
@@ -55,11 +60,14 @@ impl Book {
         ensures { IfOk result (λ b. plain_of b ≡ opening_book settings) }
     {
         let store = Store::new(alloc, &settings)?;
+        let room = settings.tenant_count() * settings.numbers().uploads as usize;
+        let expiries = ExpiryList::new(alloc, room)?;
         Ok(Book {
             settings,
             store,
             charged: 0,
             released: 0,
+            expiries,
             alloc,
         })
     }
@@ -123,6 +131,14 @@ impl Book {
         ensures stored { IsStored self.now.store.pool self.now.store.shelves }
     {
         self.store.holders(name, segment, place)
+    }
+
+    /// The uploads that expire, each once, with the moment from which on it is over: by ascending moment, then by the
+    /// tenant's place, then by the id. Those that have expired and are not swept yet are among them.
+    pub fn expiries(&self) -> &[Expiring]
+        ensures { AreExpiries (plain_of self.now) result.now }
+    {
+        self.expiries.as_slice()
     }
 
     // The account of the tenant at this place.

@@ -238,6 +238,7 @@ impl Book {
         // the numbers tell that what may be charged in all is a number
         let _ = self.settings.numbers();
         self.charged += self.store.create(place, &new, body, bytes, created.expires);
+        self.expiries.set_end(created.name, None, created.expires);
         created
     }
 }

@@ -170,6 +170,9 @@ impl Book {
     fn accounts_swept(&self, now: Moment) -> Accounts
         ensures { result ≡ accounts_of (book_after_sweep (plain_of self.now) now) }
     {
+        if self.first_over(now).is_none() {
+            return self.accounts();
+        }
         let charge = self.store.charges_swept(now);
         let released = self.charged - total(&charge);
         Accounts {

@@ -1,4 +1,4 @@
-ghost use Rattle.std.specs.Prelude.{◌≡◌, ◌≢◌, ◌+◌, ◌-◌, ◌<◌, ◌≤◌, ◌^◌, [], length, map, min, set, All, None, IfOk, IfErr, IfSome, IfNone, IsOk, IsTrue, OnOk, OnErr};
+ghost use Rattle.std.specs.Prelude.{◌≡◌, ◌≢◌, ◌+◌, ◌-◌, ◌<◌, ◌≤◌, ◌^◌, ◌==◌, [], length, map, min, position, set, All, None, IfOk, IfErr, IfSome, IfNone, IsOk, IsTrue, OnOk, OnErr};
 ghost use Rattle.std.specs.List.{range_with_len, sum_by};
 ghost use Rattle.block_pool.specs.Blocks.{IsWithinLimits, all_free, free_in, size_of};
 ghost use Rattle.upload_book.specs.Account.{blocks_between};
@@ -7,7 +7,6 @@ ghost use Rattle.upload_book.specs.Concat.{are_complete, are_there, final_upload
 ghost use Rattle.upload_book.specs.Create.{new_kind, upload_from};
 ghost use Rattle.upload_book.specs.Ready.{IsListed};
 ghost use Rattle.upload_book.specs.Lawful.{IsConcatText, is_kept_metadata};
-ghost use Rattle.upload_book.specs.Expiry.{is_over};
 ghost use Rattle.upload_book.specs.Sweep.{part_after_sweep};
 ghost use Rattle.upload_book.specs.declared.head_row.Kind.TheVariants.{Final};
 ghost use Rattle.upload_book.specs.Kept.{shelf_of, HasRoom};
@@ -32,7 +31,6 @@ use crate::settings::Settings;
 use crate::shelf::Shelf;
 use crate::standing::Standing;
 use crate::stored_upload::{StoredUpload, body_for};
-use crate::sweep::Swept;
 use block_bodies::Body;
 use block_pool::Pool;
 use std::alloc::{AllocError, Global};
@@ -203,6 +201,23 @@ impl Store {
             Some(shelf) => shelf.visible(name.id, now),
             None => Err(Refusal::Unknown),
         }
+    }
+
+    /// The place, in its tenant's part, of the upload of this name, whether it has expired or not; `None` where there is
+    /// none. It goes over the tenant's uploads once.
+    pub(crate) fn find(&self, name: &Name) -> Option<usize>
+        ensures { result ≡ position (λ e. e.id == name.now.id) (shelf_at self.now name.now.tenant).uploads }
+    {
+        self.shelves.get(usize::from(name.tenant))?.place(name.id)
+    }
+
+    /// When the upload at a place expires, if it does.
+    pub(crate) fn expires(&self, tenant: usize, place: usize) -> Option<Moment>
+        requires tenant { tenant < length self.now.shelves }
+        requires place { place < length (shelf_at self.now tenant).uploads }
+        ensures { result ≡ (upload_at self.now tenant place).expires }
+    {
+        self.shelves[tenant].uploads[place].expires()
     }
 
     /// What a HEAD tells of the upload at a place.
@@ -498,75 +513,6 @@ impl Store {
         ensures { result ≡ length self.now.shelves }
     {
         self.shelves.len()
-    }
-
-    /// Whether the upload at a place has expired at `now`.
-    pub(crate) fn is_over(&self, tenant: usize, place: usize, now: Moment) -> bool
-        requires tenant { tenant < length self.now.shelves }
-        requires place { place < length (shelf_at self.now tenant).uploads }
-        ensures { result ≡ is_over now (upload_at self.now tenant place).expires }
-    {
-        self.shelves[tenant].uploads[place].is_over(now)
-    }
-
-    /// Ends the tenant's uploads that have expired at `now`. Gives how many they were, and how many blocks
-    /// became free: those that the tenant no longer pays.
-    pub(crate) fn sweep_part(&mut self, tenant: usize, now: Moment) -> Swept
-        requires { tenant < length self.old.shelves }
-        ensures plain { plain_in self.new ≡ set (plain_in self.old) tenant
-            (part_after_sweep now (part_at self.old tenant)) }
-        ensures uploads { result.uploads ≡ length (part_at self.old tenant).uploads
-            - length (part_after_sweep now (part_at self.old tenant)).uploads }
-        ensures blocks { result.blocks ≡ charge_with self.old.pool.block_size (part_at self.old tenant)
-            - charge_with self.old.pool.block_size (part_after_sweep now (part_at self.old tenant)) }
-        ensures released { result.released ≡ result.blocks }
-        ensures sizes { SameSizes self.old.pool self.new.pool }
-        ensures room_stays { self.new.room ≡ self.old.room }
-    {
-        let count = self.count(tenant);
-        let charge = self.charge(tenant);
-        let mut place = 0;
-        while place < self.count(tenant) {
-            if self.is_over(tenant, place, now) {
-                self.remove(tenant, place);
-            } else {
-                place += 1;
-            }
-        }
-        let uploads = count - self.count(tenant);
-        let blocks = charge - self.charge(tenant);
-        Swept {
-            uploads: uploads as u64,
-            blocks,
-            released: blocks,
-        }
-    }
-
-    /// Ends all uploads that have expired at `now`. Gives how many they were, and how many blocks became free.
-    pub(crate) fn sweep(&mut self, now: Moment) -> Swept
-        requires uploads { sum_by (λ part. length part.uploads) (plain_in self.old) < 2 ^ 64 }
-        requires blocks { sum_by (charge_with self.old.pool.block_size) (plain_in self.old) < 2 ^ 64 }
-        ensures plain { plain_in self.new ≡ map (part_after_sweep now) (plain_in self.old) }
-        ensures uploads { result.uploads ≡ sum_by (λ part. length part.uploads
-            - length (part_after_sweep now part).uploads) (plain_in self.old) }
-        ensures blocks { result.blocks ≡ sum_by (λ part. charge_with self.old.pool.block_size part
-            - charge_with self.old.pool.block_size (part_after_sweep now part)) (plain_in self.old) }
-        ensures released { result.released ≡ result.blocks }
-        ensures sizes { SameSizes self.old.pool self.new.pool }
-        ensures room_stays { self.new.room ≡ self.old.room }
-    {
-        let mut uploads = 0;
-        let mut blocks = 0;
-        for tenant in 0..self.tenants() {
-            let ended = self.sweep_part(tenant, now);
-            uploads += ended.uploads;
-            blocks += ended.blocks;
-        }
-        Swept {
-            uploads,
-            blocks,
-            released: blocks,
-        }
     }
 }
 

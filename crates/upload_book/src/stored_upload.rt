@@ -127,6 +127,13 @@ impl StoredUpload {
         is_over(now, self.expires)
     }
 
+    /// When it expires, if it does.
+    pub(crate) fn expires(&self) -> Option<Moment>
+        ensures { result ≡ self.now.kept.expires }
+    {
+        self.expires
+    }
+
     /// Whether the upload is left where others have ended.
     pub(crate) fn is_left(&self, ended: &Ended) -> bool
         ensures { result ≡ is_left ended.now.at self.now.kept.expires }

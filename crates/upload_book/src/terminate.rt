@@ -1,8 +1,9 @@
-ghost use Rattle.std.specs.Prelude.{◌≡◌, Ok, Err, IfOk, IfErr, OnErr};
+ghost use Rattle.std.specs.Prelude.{◌≡◌, ◌<◌, length, Ok, Err, IfOk, IfErr, OnErr};
 ghost use Rattle.upload_book.specs.Book.{plain_of};
-ghost use Rattle.upload_book.specs.PlainBook.{answer_of, book_after};
+ghost use Rattle.upload_book.specs.PlainBook.{answer_of, book_after, tenant_book, with_tenant_book};
 ghost use Rattle.upload_book.specs.Ready.{IsReadyForEnd};
-ghost use Rattle.upload_book.specs.Terminate.{terminate_answer, part_after_terminate};
+ghost use Rattle.upload_book.specs.Store.{IsPlaceOf};
+ghost use Rattle.upload_book.specs.Terminate.{given_back, part_after_terminate, terminate_answer, without};
 
 use crate::book::Book;
 use crate::head_row::Name;
@@ -47,6 +48,24 @@ impl Book {
         Ok(ReadyEnd { name, now, place })
     }
 
+    // Ends the upload of this name, which stands at this place of its tenant's part, whether it has expired or not. Gives
+    // how many blocks became free.
+    pub(crate) fn remove(&mut self, name: Name, place: usize) -> u64
+        requires tenant { name.tenant < length self.old.store.shelves }
+        requires placed { IsPlaceOf self.old.store name.tenant name.id place }
+        ensures freed { result ≡ given_back (plain_of self.old).settings.numbers
+            (tenant_book (plain_of self.old) name.tenant) (without (tenant_book (plain_of self.old) name.tenant) name.id) }
+        ensures after { plain_of self.new ≡ with_tenant_book (plain_of self.old) name.tenant
+            (without (tenant_book (plain_of self.old) name.tenant) name.id) }
+    {
+        let tenant = usize::from(name.tenant);
+        let end = self.store.expires(tenant, place);
+        let blocks = self.store.remove(tenant, place);
+        self.expiries.set_end(name, end, None);
+        self.released += blocks;
+        blocks
+    }
+
     // Ends an upload.
     pub(crate) fn end(&mut self, ready: ReadyEnd) -> Removed
         requires { IsReadyForEnd self.old ready }
@@ -55,9 +74,7 @@ impl Book {
         ensures after { plain_of self.new
             ≡ book_after (plain_of self.old) ready.name.tenant (part_after_terminate ready.name.id ready.now) }
     {
-        let tenant = usize::from(ready.name.tenant);
-        let blocks = self.store.remove(tenant, ready.place);
-        self.released += blocks;
+        let blocks = self.remove(ready.name, ready.place);
         Removed {
             blocks,
             released: blocks,

@@ -53,7 +53,7 @@ Content-Type: text/plain\r\nContent-Length: 7\r\n\r\noffset\n";
 pub const CHUNKED: &[u8] = b"POST /files/acme HTTP/1.1\r\nHost: x\r\nTus-Resumable: 1.0.0\r\n\
 Transfer-Encoding: chunked\r\nUpload-Length: 10\r\n\r\n";
 
-const CODING: &[u8] = b"HTTP/1.1 411 Length Required\r\nDate: Thu, 01 Jan 1970 00:16:40 GMT\r\n\
+pub const CODING: &[u8] = b"HTTP/1.1 411 Length Required\r\nDate: Thu, 01 Jan 1970 00:16:40 GMT\r\n\
 Tus-Resumable: 1.0.0\r\nContent-Type: text/plain\r\nContent-Length: 7\r\nConnection: close\r\n\r\n\
 coding\n";
 

@@ -1,6 +1,6 @@
 ghost use Rattle.std.specs.Prelude.{◌≡◌, ⊤, true, IfOk};
 
-use crate::conversations::{CHUNKED, CREATED, FIRST_UPLOAD, HEAD, POST, REPLIES};
+use crate::conversations::{CHUNKED, CODING, CREATED, FIRST_UPLOAD, HEAD, POST, REPLIES};
 use crate::memory::{Input, Output};
 use crate::spoken::{Expected, assert_spoken, at, joined, known_talk, new_book};
 use http_wire::{
@@ -213,6 +213,12 @@ fn known_bytes(rt: HostRuntime) -> Result<(), Fail> {
         offset: Some(5),
     };
     assert_spoken(&rt, "known bytes", &spoken, &expected);
+    let closed = Expected {
+        text: CODING,
+        ended: Ok(Ended::Closed),
+        offset: None,
+    };
+    assert_spoken(&rt, "a close", &known_talk(rt.alloc(), CHUNKED)?, &closed);
     Ok(())
 }
 

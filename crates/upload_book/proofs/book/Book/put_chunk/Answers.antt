@@ -1,20 +1,27 @@
-use Rattle.std.proofs.Common.{◌≡◌, ℕ, ◌+◌, ◌<◌, ◌≤◌, Bool, true, false, eqb, List, [], length, Fits, w64, ap, sym, subst, ◌∙◌, arith}
+use Rattle.std.proofs.Common.{◌≡◌, ℕ, ◌+◌, ◌<◌, ◌≤◌, Bool, true, false, eqb, List, Option, [], length, Fits, w64, ap, sym, subst, ◌∙◌, arith}
 use Rattle.std.proofs.lemmas.Bool.Decides.{nat_tests}
 use Rattle.std.proofs.lemmas.List.{nil_from_length}
 use Rattle.block_pool.specs.Blocks.{Blocks, size_of}
 use Rattle.block_bodies.specs.Bodies.{HasRoom}
-use Rattle.upload_book.specs.Book.{StoredBook, IsBook}
+use Rattle.upload_book.specs.Book.{StoredBook, IsBook, plain_of}
 use Rattle.upload_book.specs.Chunk.{Chunk}
 use Rattle.upload_book.specs.contracts.book.Book.{the_view}
 use Rattle.upload_book.specs.declared.ready.ReadyChunk.{ReadyChunk}
 use Rattle.upload_book.specs.declared.settings.Numbers.{Numbers}
+use Rattle.upload_book.specs.declared.standing.Standing.{Standing}
+use Rattle.upload_book.specs.Append.{upload_with}
+use Rattle.upload_book.specs.Expiries.{ends_of}
+use Rattle.upload_book.specs.ExpiryList.{with_end, AreExpiring, Ends, ExpiryList}
+use Rattle.upload_book.specs.PlainBook.{tenant_book}
 use Rattle.upload_book.specs.Ready.{IsReadyForChunk}
+use Rattle.upload_book.specs.TenantBook.{with_changed}
 use Rattle.upload_book.specs.Account.{blocks_between}
 use Rattle.upload_book.specs.Store.{entry_at, upload_at}
 use Rattle.upload_book.specs.Upload.{offset_of}
 use Rattle.upload_book.specs.Stored.{own_chain}
-use Rattle.upload_book.proofs.BookSteps.{shelves-settings}
-use Rattle.upload_book.proofs.PatchSteps.{IsBook-patch, patch-alone, patch-answer, patch-charged, patch-follows, patch-free, patch-room, patch-taken, plain-patch}
+use Rattle.upload_book.proofs.BookSteps.{IsIndex, expiries-room_is, shelves-settings}
+use Rattle.upload_book.proofs.ExpirySteps.{AreExpiries-renewed, IsRenewed, renewed-few, renewed-known, renewed-room}
+use Rattle.upload_book.proofs.PatchSteps.{IsBook-patch, patch-alone, patch-answer, patch-charged, patch-follows, patch-free, patch-renewed, patch-room, patch-taken, plain-patch}
 use Rattle.upload_book.proofs.book.Book.put_chunk.Goals as goal
 
 -- the test on the bytes tells that there are none,
@@ -33,6 +40,40 @@ ready_as b w r is ready = subst (λ (b : StoredBook). IsReadyForChunk b r) (sym 
 shelf_there : (b : StoredBook) (r : ReadyChunk) → IsBook b → IsReadyForChunk b r → r.name.tenant < length b.store.shelves
 shelf_there b r kept ready = omega (arith, ready.there, shelves-settings b kept)
 
+-- the upload gets the end after the PATCH
+renewed_to : (b : StoredBook) (r : ReadyChunk) (tenant : ℕ) (before : Option ℕ) → IsBook b → IsReadyForChunk b r → tenant ≡ r.name.tenant → before ≡ (upload_at b.store tenant r.place).expires
+    → IsRenewed (plain_of b) b.expiries.list r.name.tenant r.name.id (with_changed (tenant_book (plain_of b) r.name.tenant) r.name.id (upload_with b.settings.numbers (upload_at b.store r.name.tenant r.place) r.chunk r.now)) before r.after.expires
+renewed_to b r tenant before kept ready at was =
+    let changed = with_changed (tenant_book (plain_of b) r.name.tenant) r.name.id (upload_with b.settings.numbers (upload_at b.store r.name.tenant r.place) r.chunk r.now) in
+    subst (λ before. IsRenewed (plain_of b) b.expiries.list r.name.tenant r.name.id changed before r.after.expires) (sym (was ∙ ap (λ t. (upload_at b.store t r.place).expires) at))
+    (subst (λ (after : Standing). IsRenewed (plain_of b) b.expiries.list r.name.tenant r.name.id changed (upload_at b.store r.name.tenant r.place).expires after.expires) (sym ready.after)
+    (patch-renewed b r.name.tenant r.name.id r.place r.now r.chunk kept (shelf_there b r kept ready) ready.seen ready.accepted))
+
+pub set_end-requires-clause-known : goal.set_end-requires-clause-known
+set_end-requires-clause-known c =
+    let b = the_view c.self.inside in
+    renewed-known (renewed_to b c.args.ready c.from-tenant.result c.expires-before.result c.self.invariant (ready_as b c.args.self.now c.args.ready c.self.view_is c.requires) c.from-tenant.ensures c.expires-before.ensures)
+
+pub set_end-requires-clause-room : goal.set_end-requires-clause-room
+set_end-requires-clause-room c =
+    let b = the_view c.self.inside in
+    subst (λ n. length b.expiries.list ≤ n) (expiries-room_is b c.self.invariant)
+    (renewed-few (renewed_to b c.args.ready c.from-tenant.result c.expires-before.result c.self.invariant (ready_as b c.args.self.now c.args.ready c.self.view_is c.requires) c.from-tenant.ensures c.expires-before.ensures))
+
+pub set_end-requires-clause-more : goal.set_end-requires-clause-more
+set_end-requires-clause-more c =
+    let b = the_view c.self.inside in
+    λ none some. subst (λ n. length b.expiries.list < n) (expiries-room_is b c.self.invariant)
+    (renewed-room (renewed_to b c.args.ready c.from-tenant.result c.expires-before.result c.self.invariant (ready_as b c.args.self.now c.args.ready c.self.view_is c.requires) c.from-tenant.ensures c.expires-before.ensures) none some)
+
+-- the list is that of the book after the PATCH
+index : (b : StoredBook) (r : ReadyChunk) (tenant : ℕ) (before : Option ℕ) (e : ExpiryList) → IsBook b → IsReadyForChunk b r → tenant ≡ r.name.tenant → before ≡ (upload_at b.store tenant r.place).expires
+    → ((ends : Ends) → AreExpiring ends b.expiries.list → ends r.name ≡ before → AreExpiring (with_end ends r.name r.after.expires) e.list) → e.room ≡ b.expiries.room
+    → IsIndex b r.name.tenant (with_changed (tenant_book (plain_of b) r.name.tenant) r.name.id (upload_with b.settings.numbers (upload_at b.store r.name.tenant r.place) r.chunk r.now)) e
+index b r tenant before e kept ready at was ends room =
+    let renewed = renewed_to b r tenant before kept ready at was in
+    record { expiries = AreExpiries-renewed renewed e.list (ends (ends_of (plain_of b)) kept.expiries renewed.was); room = room }
+
 pub invariant_of-self : goal.invariant_of-self
 invariant_of-self c =
     let b = the_view c.self.inside in
@@ -42,7 +83,7 @@ invariant_of-self c =
     let bytes : c.chunk.inside.bytes.now ≡ r.chunk.bytes = ap (λ (chunk : Chunk). chunk.bytes) c.chunk.view_is in
     let empty : [] ≡ r.chunk.bytes = sym (no_bytes c.chunk.inside.bytes.now c.is_empty.result c.is_empty.ensures c.if-is_empty.true) ∙ bytes in
     let follows = patch-follows b r.name.tenant r.name.id r.place r.now r.chunk c.self.invariant within ready.seen ready.accepted c.renew.new.self [] r.after empty ready.after (rw c.from-tenant.ensures at c.renew.ensures.plain) (record { blocks = ap size_of c.renew.ensures.pool; bytes = ap (λ (p : Blocks). p.block_size) c.renew.ensures.pool }) c.renew.ensures.room_stays in
-    IsBook-patch b r.name.tenant r.name.id r.place r.now r.chunk c.self.invariant within ready.seen ready.accepted c.renew.new.self b.charged follows (patch-free b r.name.tenant r.name.id r.place r.now r.chunk c.self.invariant within ready.seen ready.accepted (sym empty))
+    IsBook-patch b r.name.tenant r.name.id r.place r.now r.chunk c.self.invariant within ready.seen ready.accepted c.renew.new.self b.charged c.set_end.new.self follows (patch-free b r.name.tenant r.name.id r.place r.now r.chunk c.self.invariant within ready.seen ready.accepted (sym empty)) (index b r c.from-tenant.result c.expires-before.result c.set_end.new.self c.self.invariant ready c.from-tenant.ensures c.expires-before.ensures c.set_end.ensures.ends c.set_end.ensures.room_stays)
 
 pub returns-then-is_empty-clause-answer : goal.returns-then-is_empty-clause-answer
 returns-then-is_empty-clause-answer c =
@@ -110,7 +151,7 @@ invariant_of-self-2 c =
     let bytes : c.chunk.inside.bytes.now ≡ r.chunk.bytes = ap (λ (chunk : Chunk). chunk.bytes) c.chunk.view_is in
     let follows = patch-follows b r.name.tenant r.name.id r.place r.now r.chunk c.self.invariant within ready.seen ready.accepted c.put.new.self c.chunk.inside.bytes.now r.after bytes ready.after (rw c.from-tenant.ensures at c.put.ensures.plain) c.put.ensures.sizes c.put.ensures.room_stays in
     let charged = ap (λ n. b.charged + n) (patch-taken b r.name.tenant r.name.id r.place r.now r.chunk c.self.invariant within ready.seen ready.accepted c.from-tenant.result c.put.result c.chunk.inside.bytes.now c.from-tenant.ensures bytes c.put.ensures.taken) in
-    IsBook-patch b r.name.tenant r.name.id r.place r.now r.chunk c.self.invariant within ready.seen ready.accepted c.put.new.self (b.charged + c.put.result) follows charged
+    IsBook-patch b r.name.tenant r.name.id r.place r.now r.chunk c.self.invariant within ready.seen ready.accepted c.put.new.self (b.charged + c.put.result) c.set_end.new.self follows charged (index b r c.from-tenant.result c.expires-before.result c.set_end.new.self c.self.invariant ready c.from-tenant.ensures c.expires-before.ensures c.set_end.ensures.ends c.set_end.ensures.room_stays)
 
 pub returns-clause-answer : goal.returns-clause-answer
 returns-clause-answer c =

@@ -1,15 +1,18 @@
-use Rattle.std.proofs.Common.{◌≡◌, ◌+◌, ◌<◌, ◌≤◌, ℕ, List, set, Fits, w64, ap, sym, ◌∙◌, subst, arith}
-use Rattle.upload_book.specs.Book.{StoredBook, IsBook}
+use Rattle.std.proofs.Common.{◌≡◌, ◌+◌, ◌<◌, ◌≤◌, ℕ, List, length, set, None, Fits, w64, ap, sym, ◌∙◌, subst, arith}
+use Rattle.upload_book.specs.Book.{StoredBook, IsBook, plain_of}
 use Rattle.upload_book.specs.contracts.book.Book.{the_view}
 use Rattle.upload_book.specs.Create.{created_upload, upload_from}
 use Rattle.upload_book.specs.declared.ready.ReadyUpload.{ReadyUpload}
+use Rattle.upload_book.specs.Expiries.{ends_of}
 use Rattle.upload_book.specs.FirstChunk.{FirstChunk}
 use Rattle.upload_book.specs.declared.settings.Numbers.{Numbers}
+use Rattle.upload_book.specs.PlainBook.{tenant_book}
 use Rattle.upload_book.specs.Ready.{IsReadyForUpload}
 use Rattle.upload_book.specs.Store.{Store, part_at, plain_in}
-use Rattle.upload_book.specs.TenantBook.{with_new}
-use Rattle.upload_book.proofs.BookSteps.{shelves-settings}
-use Rattle.upload_book.proofs.CreateSteps.{IsCreation, IsBook-create, create-answer, create-blocks, create-charged, create-follows, create-next, create-room, create-taken, plain-create}
+use Rattle.upload_book.specs.TenantBook.{TenantBook, with_new}
+use Rattle.upload_book.proofs.BookSteps.{expiries-room_is, part-plain, shelves-settings}
+use Rattle.upload_book.proofs.ExpirySteps.{AreExpiries-renewed, IsRenewed, renewed-few, renewed-known, renewed-room}
+use Rattle.upload_book.proofs.CreateSteps.{IsCreation, IsBook-create, create-answer, create-blocks, create-charged, create-follows, create-next, create-renewed, create-room, create-taken, plain-create}
 use Rattle.upload_book.proofs.book.Book.put_upload.Goals as goal
 
 -- the book was ready
@@ -52,6 +55,35 @@ create-requires-clause-blocks c =
     let r = c.args.ready in
     rw (ap (λ (first : FirstChunk). first.bytes) c.first.view_is) (create-blocks (the_view c.self.inside) r.tenant r.new r.first r.now (creation (the_view c.self.inside) c.args.self.now r c.self.invariant c.self.view_is c.requires))
 
+-- the upload gets its end under the id that was read
+renewed_to : (b : StoredBook) (r : ReadyUpload) (place id : ℕ) → IsCreation b r.tenant r.new r.first → place ≡ r.tenant → id ≡ (part_at b.store place).next → IsReadyForUpload b r
+    → IsRenewed (plain_of b) b.expiries.list r.tenant id (with_new (tenant_book (plain_of b) r.tenant) (created_upload b.settings.numbers r.new r.first.bytes r.now)) None r.expires
+renewed_to b r place id is at next ready =
+    let given : id ≡ (tenant_book (plain_of b) r.tenant).next = next ∙ ap (λ t. (part_at b.store t).next) at ∙ ap (λ (part : TenantBook). part.next) (sym (part-plain b r.tenant)) in
+    let made = with_new (tenant_book (plain_of b) r.tenant) (created_upload b.settings.numbers r.new r.first.bytes r.now) in
+    subst (λ id. IsRenewed (plain_of b) b.expiries.list r.tenant id made None r.expires) (sym given)
+    (subst (λ end. IsRenewed (plain_of b) b.expiries.list r.tenant (tenant_book (plain_of b) r.tenant).next made None end) (sym ready.expires) (create-renewed b r.tenant r.new r.first r.now is))
+
+pub set_end-requires-clause-known : goal.set_end-requires-clause-known
+set_end-requires-clause-known c =
+    let b = the_view c.self.inside in
+    let r = c.args.ready in
+    renewed-known (renewed_to b r c.from-place.result c.next-id.result (creation b c.args.self.now r c.self.invariant c.self.view_is c.requires) c.from-place.ensures c.next-id.ensures (ready_as b c.args.self.now r c.self.view_is c.requires))
+
+pub set_end-requires-clause-room : goal.set_end-requires-clause-room
+set_end-requires-clause-room c =
+    let b = the_view c.self.inside in
+    let r = c.args.ready in
+    subst (λ n. length b.expiries.list ≤ n) (expiries-room_is b c.self.invariant)
+    (renewed-few (renewed_to b r c.from-place.result c.next-id.result (creation b c.args.self.now r c.self.invariant c.self.view_is c.requires) c.from-place.ensures c.next-id.ensures (ready_as b c.args.self.now r c.self.view_is c.requires)))
+
+pub set_end-requires-clause-more : goal.set_end-requires-clause-more
+set_end-requires-clause-more c =
+    let b = the_view c.self.inside in
+    let r = c.args.ready in
+    λ none some. subst (λ n. length b.expiries.list < n) (expiries-room_is b c.self.invariant)
+    (renewed-room (renewed_to b r c.from-place.result c.next-id.result (creation b c.args.self.now r c.self.invariant c.self.view_is c.requires) c.from-place.ensures c.next-id.ensures (ready_as b c.args.self.now r c.self.view_is c.requires)) none some)
+
 -- what is charged in all fits
 fits_taken : (charged taken blocks most : ℕ) → most < 18446744073709551616 → taken ≡ blocks → charged + blocks ≤ most → Fits w64 (charged + taken)
 fits_taken charged taken blocks most fits same within = omega arith
@@ -73,7 +105,9 @@ invariant_of-self c =
     let bytes : c.first.inside.bytes.now ≡ r.first.bytes = ap (λ (first : FirstChunk). first.bytes) c.first.view_is in
     let taken = create-taken b r.tenant r.new r.first r.now is c.create.result (rw bytes at c.create.ensures.taken) in
     let follows = create-follows b r.tenant r.new r.first r.now is c.create.new.self (stored b c.args.self.now r c.create.new.self c.from-place.result c.first.inside.bytes.now c.self.view_is c.requires c.from-place.ensures bytes c.create.ensures.plain) c.create.ensures.sizes c.create.ensures.room_stays in
-    IsBook-create b r.tenant r.new r.first r.now is c.create.new.self (b.charged + c.create.result) follows (ap (λ n. b.charged + n) taken)
+    let renewed = renewed_to b r c.from-place.result c.next-id.result is c.from-place.ensures c.next-id.ensures (ready_as b c.args.self.now r c.self.view_is c.requires) in
+    IsBook-create b r.tenant r.new r.first r.now is c.create.new.self (b.charged + c.create.result) c.set_end.new.self follows (ap (λ n. b.charged + n) taken)
+    (record { expiries = AreExpiries-renewed renewed c.set_end.new.self.list (c.set_end.ensures.ends (ends_of (plain_of b)) c.self.invariant.expiries renewed.was); room = c.set_end.ensures.room_stays })
 
 pub returns-clause-answer : goal.returns-clause-answer
 returns-clause-answer c =
