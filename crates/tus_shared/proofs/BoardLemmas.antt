@@ -89,16 +89,3 @@ current-added s line after current is may =
       settings = settings;
       log = ap (λ (t : Told). t.book) is;
     }
-
--- nothing is always next
-pub nothing-next : (s : Sheet) → IsCurrent s → IsNext s Nothing
-nothing-next s current = record { current = current; settings = refl; log = refl }
-
--- the heads of a new book are current after no line
-pub current-opening : (s : Sheet) (settings : Settings) → s.table ≡ heads_of (opening_book settings) → s.front.lines ≡ [] → IsCurrent s
-current-opening s settings table none =
-    let same : s.table.settings ≡ settings = ap (λ (h : Heads). h.settings) table in
-    record {
-      legal = subst (IsLegal s.table.settings) (sym none) tt;
-      heads = table ∙ ap (λ (settings : Settings). heads_of (opening_book settings)) (sym same) ∙ ap (heads_after s.table.settings) (sym none);
-    }

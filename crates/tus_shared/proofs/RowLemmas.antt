@@ -67,15 +67,12 @@ AreBelow-set next rows id place e after row found read is are =
       below = All-set P rows place after (subst P (sym is) (subst P (sym read) (All-get_or P rows place e at.0 are.below))) are.below;
     }
 
-removed : (rows : List (Entry HeadRow)) (id place : ℕ) (d : Entry HeadRow) → IsStrictlyIncreasing (row_ids rows) → position (has_id id) rows ≡ Some place → remove rows place ≡ filter (λ e. not (eqb e.id id)) rows
-removed rows id place d ascending found =
-    let at = position-Some (has_id id) rows place d found in
-    let named : (get_or rows place d).id ≡ id = (let test : eqb (get_or rows place d).id id ≡ true = at.1 in grind (arith, nat_tests)) in
-    sym (without-place rows id place d ascending at.0 named)
-
 -- a row is taken out under its id
 pub is_removed : (rows : List (Entry HeadRow)) (id place : ℕ) → IsStrictlyIncreasing (row_ids rows) → position (has_id id) rows ≡ Some place → remove rows place ≡ filter (λ e. not (eqb e.id id)) rows
-is_removed rows id place ascending found = removed rows id place no_row ascending found
+is_removed rows id place ascending found =
+    let at = position-Some (has_id id) rows place no_row found in
+    let named : (get_or rows place no_row).id ≡ id = (let test : eqb (get_or rows place no_row).id id ≡ true = at.1 in grind (arith, nat_tests)) in
+    sym (without-place rows id place no_row ascending at.0 named)
 
 module _ {K : Type 0} where
   -- what has no entry is not missed,

@@ -28,10 +28,6 @@ fit-none s knows = absurd (cc)
 pub admits : Admits IsKept no_view
 admits s views kept = record { current = kept.current; each = fit-snoc s views no_view kept.each (fit-none s) }
 
--- one place, of the writer, before anything is known
-pub starts : (s : Sheet) → IsCurrent s → IsKept s (no_view ∷ [])
-starts s current = record { current = current; each = fit-snoc s [] no_view (λ k v at. absurd (cc)) (fit-none s) }
-
 -- a reader takes the sheet
 pub enters : (seat : ℕ) (v : View) (s : Sheet) → TurnsAt IsKept seat v s s (λ v x y w. IsCurrent y × Fits v y × (w ≡ v))
 enters seat v s views kept at = (

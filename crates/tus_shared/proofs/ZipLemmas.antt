@@ -1,6 +1,5 @@
 -- Lists whose elements go together, place by place.
-use Rattle.std.proofs.Common.{◌≡◌, ℕ, suc, ◌+◌, ◌-◌, ◌<◌, List, [], ◌∷◌, ◌++◌, length, take, get_or, add-one, refl, sym, ap, ◌∙◌, arith}
-use Rattle.std.proofs.lemmas.List.{take_all}
+use Rattle.std.proofs.Common.{◌≡◌, ℕ, suc, ◌+◌, ◌<◌, List, [], ◌∷◌, ◌++◌, length, take, get_or, add-one, refl, ap, arith}
 use Rattle.std.proofs.Math.Seq.{take-suc}
 use Rattle.std.specs.List.{AllZip}
 use Rattle.tus_shared.specs.Served.{AllThree}
@@ -11,14 +10,6 @@ AllZip-append [] more [] others P all rest = rest
 AllZip-append [] more (y ∷ ys) others P all rest = absurd all
 AllZip-append (x ∷ xs) more [] others P all rest = absurd all
 AllZip-append (x ∷ xs) more (y ∷ ys) others P all rest = (all.0, AllZip-append xs more ys others P all.1 rest)
-
--- a list is what is before its last place, and the element there
-pub last-whole : {A : Type 0} (xs front : List A) (x : A) (n : ℕ) → 0 < length xs → n ≡ length xs - 1 → front ≡ take n xs → x ≡ get_or xs n x → xs ≡ front ++ x ∷ []
-last-whole xs front x n some at is last =
-    let all : take (suc n) xs ≡ xs = take_all (suc n) xs (omega arith) in
-    let parted : take (suc n) xs ≡ take n xs ++ get_or xs n x ∷ [] = take-suc xs n x (omega arith) in
-    let here : take n xs ++ get_or xs n x ∷ [] ≡ take n xs ++ x ∷ [] = ap (λ v. take n xs ++ v ∷ []) (sym last) in
-    rw is (sym all ∙ parted ∙ here)
 
 -- two such lists without their last elements; and these
 init : {A B : Type 0} (front : List A) (x : A) (ys : List B) (y : B) (P : A → B → Type 0) → AllZip P (front ++ x ∷ []) (ys ++ y ∷ []) → AllZip P front ys × P x y
@@ -32,18 +23,6 @@ init (f ∷ front) x (z ∷ ys) y P all = let rest = init front x ys y P all.1 i
 pub AllZip-init : {A B : Type 0} (xs front : List A) (x : A) (rooms ys : List B) (y : B) (P : A → B → Type 0)
     → xs ≡ front ++ x ∷ [] → rooms ≡ ys ++ y ∷ [] → AllZip P xs rooms → AllZip P front ys × P x y
 AllZip-init xs front x rooms ys y P whole popped all = init front x ys y P (rw (whole, popped) at all)
-
--- the empty lists
-pub AllZip-none : {A B D : Type 0} (xs : List A) (ys : List B) (zs : List D) (P : A → B → Type 0) (Q : A → D → Type 0) → AllZip P xs ys → length ys ≡ 0 → zs ≡ [] → AllZip Q xs zs
-AllZip-none [] [] zs P Q all none empty = rw empty tt
-AllZip-none [] (y ∷ ys) zs P Q all none empty = absurd all
-AllZip-none (x ∷ xs) [] zs P Q all none empty = absurd all
-AllZip-none (x ∷ xs) (y ∷ ys) zs P Q all none empty = absurd (omega arith)
-
--- one more of each at the end
-pub AllZip-last : {A B : Type 0} (xs front : List A) (x : A) (told ys : List B) (y : B) (P : A → B → Type 0)
-    → xs ≡ front ++ x ∷ [] → told ≡ ys ++ y ∷ [] → AllZip P front ys → P x y → AllZip P xs told
-AllZip-last xs front x told ys y P whole pushed before here = rw (whole, pushed) (AllZip-append front (x ∷ []) ys (y ∷ []) P before (here, tt))
 
 -- one more of each
 pub AllZip-next : {A B : Type 0} (xs : List A) (ys more : List B) (P : A → B → Type 0) (n : ℕ) (x : A) (y : B)
