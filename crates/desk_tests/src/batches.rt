@@ -97,7 +97,7 @@ fn work_at_once<
     ];
     let second = [turn(rt, Head(FIRST))];
     let batches = [&first[..], &second[..]];
-    let replies = work_all(rt, alloc, &shared, desks.as_mut_slice(), &batches, &meeting)?;
+    let replies = work_all(rt, alloc, &shared, &mut desks, &batches, &meeting)?;
     assert_eq!(rt; meeting.missed.load(Ordering::SeqCst), 0);
     let begun = Told::Row(0, Some(10), b"", Some(4600));
     let grown = Told::Row(5, Some(10), b"", Some(4600));
@@ -248,14 +248,7 @@ fn race<C: Charges + Send + Sync, R: Ledger + Send + Sync, W: Threads + Wait + A
     };
     let batch = RACES.map(|(asked, _, _)| turn(rt, asked));
     let batches = [&batch[..]; 16];
-    let replies = work_all(
-        rt,
-        alloc,
-        &shared,
-        desks.as_mut_slice(),
-        &batches,
-        &together,
-    )?;
+    let replies = work_all(rt, alloc, &shared, &mut desks, &batches, &together)?;
     assert_eq!(rt; together.missed.load(Ordering::SeqCst), 0);
     assert_eq!(rt; replies.len(), 16);
     for (turn, (_, first, late)) in RACES.iter().enumerate() {

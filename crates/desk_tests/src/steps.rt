@@ -1,6 +1,6 @@
 //! Tables of calls at two desks, each with what it tells and what is settled after it.
 
-ghost use Rattle.std.specs.Prelude.{◌≡◌, length};
+ghost use Rattle.std.specs.Prelude.{◌≡◌, ◌<◌, vec_len};
 
 use crate::requests::{Asked, NUMBERS, Told, moment, settings_of, told_by, told_of};
 use std::alloc::Global;
@@ -58,38 +58,51 @@ enum Way {
     Batch,
 }
 
-// The reply of the one desk here to a turn.
+// The reply of one of two desks to a turn.
 fn reply_to<C: Charges + Send + Sync, R: Ledger + Send + Sync, W: Threads + Wait + Abort + Sync>(
     rt: &W,
     alloc: Global,
     shared: &Shared<C, R, &W>,
-    here: &mut [Desk<C, R>],
+    desks: &mut Vec<Desk<C, R>>,
+    desk: usize,
     way: Way,
     turn: Turn,
 ) -> Result<Reply, Fail>
-    requires one { length here.old ≡ 1 }
+    requires two { vec_len desks.old ≡ 2 }
+    requires desk { desk < 2 }
+    ensures { vec_len desks.new ≡ 2 }
 {
     match way {
-        Way::Call => Ok(here[0].call(rt, shared, &turn.request, turn.now)),
-        Way::Answer => Ok(here[0].answer(rt, shared, &turn.request, turn.now, 0, &NoGate)),
+        Way::Call => Ok(desks[desk].call(rt, shared, &turn.request, turn.now)),
+        Way::Answer => Ok(desks[desk].answer(rt, shared, &turn.request, turn.now, 0, &NoGate)),
         Way::Batch => {
-            let mut replies = work_all(rt, alloc, shared, here, &[&[turn][..]], &NoGate)?;
-            let mut told = replies.pop().expect(rt, "a list");
+            let none: [Turn; 0] = [];
+            let batch = [turn];
+            let batches = if desk == 0 {
+                [&batch[..], &none[..]]
+            } else {
+                [&none[..], &batch[..]]
+            };
+            let mut replies = work_all(rt, alloc, shared, desks, &batches, &NoGate)?;
+            let told = replies.get_mut(desk).expect(rt, "a list");
             Ok(told.pop().expect(rt, "a reply"))
         }
     }
 }
 
-// Takes the desks through one step.
+// Takes two desks through one step.
 fn take<C: Charges + Send + Sync, R: Ledger + Send + Sync, W: Threads + Wait + Abort + Sync>(
     rt: &W,
     alloc: Global,
     shared: &Shared<C, R, &W>,
-    desks: &mut [Desk<C, R>],
+    desks: &mut Vec<Desk<C, R>>,
     way: Way,
     place: usize,
     step: &Step,
-) -> Result<(), Fail> {
+) -> Result<(), Fail>
+    requires { vec_len desks.old ≡ 2 }
+    ensures { vec_len desks.new ≡ 2 }
+{
     let Step {
         desk,
         secs,
@@ -98,20 +111,20 @@ fn take<C: Charges + Send + Sync, R: Ledger + Send + Sync, W: Threads + Wait + A
         settled: _,
     } = *step;
     assert!(rt; desk < desks.len(), "a desk");
-    let here = &mut desks[desk..desk + 1];
     let now = moment(rt, secs);
     match call {
         Call::Ask(asked) => {
             let request = asked.request();
-            let reply = reply_to(rt, alloc, shared, here, way, Turn { request, now })?;
+            let turn = Turn { request, now };
+            let reply = reply_to(rt, alloc, shared, desks, desk, way, turn)?;
             assert_eq!(rt; told_by(&reply), told, "step {place}, by {way:?}");
         }
         Call::Look(tenant, id) => {
-            let answer = here[0].head(&Name { tenant, id }, now);
+            let answer = desks[desk].head(&Name { tenant, id }, now);
             assert_eq!(rt; told_of(&answer), told, "step {place}");
         }
         Call::Sweep => {
-            let swept = here[0].sweep(rt, shared, now)?;
+            let swept = desks[desk].sweep(rt, shared, now)?;
             let ended = Told::Swept(swept.uploads, swept.blocks, swept.released);
             assert_eq!(rt; ended, told, "step {place}");
         }
@@ -144,7 +157,7 @@ fn settle_after<
         rt, alloc, settings, 2, charged, released, lines,
     )?;
     for (place, step) in steps.iter().enumerate() {
-        take(rt, alloc, &shared, desks.as_mut_slice(), way, place, step)?;
+        take(rt, alloc, &shared, &mut desks, way, place, step)?;
     }
     let (book, balance) = settle(shared, desks);
     let Balance {

@@ -1,6 +1,7 @@
 //! What a gate is passed: each stop of each turn, in order; at `Locked` the lock is held, and at `Answered` it is not.
+//! Batches after others come to the desks in the same places.
 
-ghost use Rattle.std.specs.Prelude.{◌≡◌};
+ghost use Rattle.std.specs.Prelude.{◌≡◌, vec_len};
 
 use crate::batches::{assert_told, wait_for};
 use crate::requests::Asked::{Patch, Post};
@@ -14,10 +15,8 @@ use std::sync::ledger::{Blank, Ledger};
 use std::test::Fail;
 use std::thread;
 use std::thread::Threads;
-use tus_shared::{Charges, Gate, Opened, Shared, Stop, settle, work_all};
+use tus_shared::{Charges, Desk, Gate, Opened, Shared, Stop, settle, work_all};
 use upload_book::{Name, Settings};
-
-const FIRST: &[u8] = b"/files/acme/1";
 
 // Notes the stops of two desks, a digit each: 1, 2 and 3 in a desk's first turn, 4, 5 and 6 in its second. Desk 1
 // waits until the other has the lock. That one then gives it time to come to the lock too, notes if it got it, and
@@ -68,7 +67,44 @@ impl Gate for Notes {
     }
 }
 
-// Two desks answer batches at once, of one turn and of two.
+// Both desks answer batches at once, of one turn and of two, which fill a new upload at this path. The stops are noted
+// by the number of the desk, so a batch that comes to another desk than the one in its place is seen.
+fn fill<C: Charges + Send + Sync, R: Ledger + Send + Sync, W: Threads + Wait + Abort + Sync>(
+    rt: &W,
+    alloc: Global,
+    shared: &Shared<C, R, &W>,
+    desks: &mut Vec<Desk<C, R>>,
+    path: &'static [u8],
+) -> Result<(), Fail>
+    requires { vec_len desks.old ≡ 2 }
+    ensures { vec_len desks.new ≡ 2 }
+{
+    let created = turn(rt, Post(b"10"));
+    let _ = desks[1].call(rt, shared, &created.request, created.now);
+    let notes = Notes {
+        first: AtomicU64::new(0),
+        second: AtomicU64::new(0),
+        intruded: AtomicU64::new(0),
+        missed: AtomicU64::new(0),
+    };
+    let first = [turn(rt, Patch(path, b"0", b"hello"))];
+    let second = [
+        turn(rt, Patch(path, b"5", b"wor")),
+        turn(rt, Patch(path, b"8", b"ld")),
+    ];
+    let batches = [&first[..], &second[..]];
+    let replies = work_all(rt, alloc, shared, desks, &batches, &notes)?;
+    assert_told(rt, replies.get(0), &[Told::Patched(5, Some(4600))]);
+    let grown = Told::Patched(8, Some(4600));
+    assert_told(rt, replies.get(1), &[grown, Told::Patched(10, None)]);
+    assert_eq!(rt; notes.first.load(Ordering::SeqCst), 123);
+    assert_eq!(rt; notes.second.load(Ordering::SeqCst), 123456);
+    assert_eq!(rt; notes.intruded.load(Ordering::SeqCst), 0);
+    assert_eq!(rt; notes.missed.load(Ordering::SeqCst), 0);
+    Ok(())
+}
+
+// Two desks fill an upload, and once more, as they came back from the first batches, another one.
 fn note_stops<C: Charges + Send + Sync, R: Ledger + Send + Sync, W: Threads + Wait + Abort + Sync>(
     rt: &W,
     alloc: Global,
@@ -86,30 +122,13 @@ fn note_stops<C: Charges + Send + Sync, R: Ledger + Send + Sync, W: Threads + Wa
     let (shared, mut desks) = Shared::<C, R, &W>::open(
         rt, alloc, settings, 2, charged, released, lines,
     )?;
-    let created = turn(rt, Post(b"10"));
-    let _ = desks[1].call(rt, &shared, &created.request, created.now);
-    let notes = Notes {
-        first: AtomicU64::new(0),
-        second: AtomicU64::new(0),
-        intruded: AtomicU64::new(0),
-        missed: AtomicU64::new(0),
-    };
-    let first = [turn(rt, Patch(FIRST, b"0", b"hello"))];
-    let second = [
-        turn(rt, Patch(FIRST, b"5", b"wor")),
-        turn(rt, Patch(FIRST, b"8", b"ld")),
-    ];
-    let batches = [&first[..], &second[..]];
-    let replies = work_all(rt, alloc, &shared, desks.as_mut_slice(), &batches, &notes)?;
-    let grown = Told::Patched(8, Some(4600));
-    assert_told(rt, replies.get(1), &[grown, Told::Patched(10, None)]);
-    assert_eq!(rt; notes.first.load(Ordering::SeqCst), 123);
-    assert_eq!(rt; notes.second.load(Ordering::SeqCst), 123456);
-    assert_eq!(rt; notes.intruded.load(Ordering::SeqCst), 0);
-    assert_eq!(rt; notes.missed.load(Ordering::SeqCst), 0);
+    fill(rt, alloc, &shared, &mut desks, b"/files/acme/1")?;
+    fill(rt, alloc, &shared, &mut desks, b"/files/acme/2")?;
     let (book, _) = settle(shared, desks);
-    let content = book.content(&Name { tenant: 0, id: 1 }, moment(rt, 1000))?;
-    assert!(rt; content.as_slice() == b"helloworld".as_slice());
+    for id in [1, 2] {
+        let content = book.content(&Name { tenant: 0, id }, moment(rt, 1000))?;
+        assert!(rt; content.as_slice() == b"helloworld".as_slice());
+    }
     Ok(())
 }
 

@@ -1,8 +1,8 @@
 -- Lists whose elements go together, place by place.
-use Rattle.std.proofs.Common.{◌≡◌, ℕ, suc, ◌+◌, ◌<◌, List, [], ◌∷◌, ◌++◌, length, take, get_or, add-one, refl, ap, arith}
+use Rattle.std.proofs.Common.{◌≡◌, ℕ, suc, ◌+◌, ◌<◌, List, [], ◌∷◌, ◌++◌, length, take, get_or, add-one, refl, ap}
 use Rattle.std.proofs.Math.Seq.{take-suc}
 use Rattle.std.specs.List.{AllZip}
-use Rattle.tus_shared.specs.Served.{AllThree}
+use Rattle.tus_shared.specs.Served.{AllFour}
 
 -- two such pairs of lists, joined
 pub AllZip-append : {A B : Type 0} (xs more : List A) (ys others : List B) (P : A → B → Type 0) → AllZip P xs ys → AllZip P more others → AllZip P (xs ++ more) (ys ++ others)
@@ -30,32 +30,30 @@ pub AllZip-next : {A B : Type 0} (xs : List A) (ys more : List B) (P : A → B �
 AllZip-next xs ys more P n x y within is pushed so_far here =
     rw (add-one, take-suc xs n x within, ← is, pushed) (AllZip-append (take n xs) (x ∷ []) ys (y ∷ []) P so_far (here, tt))
 
--- three such lists, joined
-AllThree-append : {A B D : Type 0} (xs more : List A) (ys others : List B) (zs rest : List D) (P : A → B → D → Type 0) → AllThree P xs ys zs → AllThree P more others rest → AllThree P (xs ++ more) (ys ++ others) (zs ++ rest)
-AllThree-append [] more [] others [] rest P all then = then
-AllThree-append [] more [] others (z ∷ zs) rest P all then = absurd all
-AllThree-append [] more (y ∷ ys) others zs rest P all then = absurd all
-AllThree-append (x ∷ xs) more [] others zs rest P all then = absurd all
-AllThree-append (x ∷ xs) more (y ∷ ys) others [] rest P all then = absurd all
-AllThree-append (x ∷ xs) more (y ∷ ys) others (z ∷ zs) rest P all then = (all.0, AllThree-append xs more ys others zs rest P all.1 then)
+-- four such lists, with one more of each at the end
+AllFour-push : {A B C D : Type 0} (P : A → B → C → D → Type 0) (xs : List A) (x : A) (ys : List B) (y : B) (zs : List C) (z : C) (ws : List D) (w : D)
+    → AllFour P xs ys zs ws → P x y z w → AllFour P (xs ++ x ∷ []) (ys ++ y ∷ []) (zs ++ z ∷ []) (ws ++ w ∷ [])
+AllFour-push P [] x [] y [] z [] w all here = (here, tt)
+AllFour-push P [] x [] y [] z (v ∷ ws) w all here = absurd all
+AllFour-push P [] x [] y (u ∷ zs) z ws w all here = absurd all
+AllFour-push P [] x (r ∷ ys) y zs z ws w all here = absurd all
+AllFour-push P (q ∷ xs) x [] y zs z ws w all here = absurd all
+AllFour-push P (q ∷ xs) x (r ∷ ys) y [] z ws w all here = absurd all
+AllFour-push P (q ∷ xs) x (r ∷ ys) y (u ∷ zs) z [] w all here = absurd all
+AllFour-push P (q ∷ xs) x (r ∷ ys) y (u ∷ zs) z (v ∷ ws) w all here = (all.0, AllFour-push P xs x ys y zs z ws w all.1 here)
 
--- one more of each at the end
-pub AllThree-last : {A B D : Type 0} (xs front : List A) (x : A) (ys before : List B) (y : B) (told zs : List D) (z : D) (P : A → B → D → Type 0)
-    → xs ≡ front ++ x ∷ [] → ys ≡ before ++ y ∷ [] → told ≡ zs ++ z ∷ [] → AllThree P front before zs → P x y z → AllThree P xs ys told
-AllThree-last xs front x ys before y told zs z P whole all pushed so_far here =
-    rw (whole, all, pushed) (AllThree-append front (x ∷ []) before (y ∷ []) zs (z ∷ []) P so_far (here, tt))
+pub AllFour-last : {A B C D : Type 0} (P : A → B → C → D → Type 0) (xs front : List A) (x : A) (told ys : List B) (y : B) (olds zs : List C) (z : C) (news ws : List D) (w : D)
+    → xs ≡ front ++ x ∷ [] → told ≡ ys ++ y ∷ [] → olds ≡ zs ++ z ∷ [] → news ≡ ws ++ w ∷ [] → AllFour P front ys zs ws → P x y z w → AllFour P xs told olds news
+AllFour-last P xs front x told ys y olds zs z news ws w whole replies before after all here =
+    rw (whole, replies, before, after) (AllFour-push P front x ys y zs z ws w all here)
 
--- the empty lists
-pub AllThree-none : {A B D : Type 0} (xs : List A) (ys : List B) (zs : List D) (P : A → B → D → Type 0) → length xs ≡ 0 → length ys ≡ 0 → zs ≡ [] → AllThree P xs ys zs
-AllThree-none [] [] zs P few fewer empty = rw empty tt
-AllThree-none [] (y ∷ ys) zs P few fewer empty = absurd (omega arith)
-AllThree-none (x ∷ xs) ys zs P few fewer empty = absurd (omega arith)
-
--- the first and the third are as long
-pub AllThree-long : {A B D : Type 0} (P : A → B → D → Type 0) (xs : List A) (ys : List B) (zs : List D) → AllThree P xs ys zs → length xs ≡ length zs
-AllThree-long P [] [] [] all = refl
-AllThree-long P [] [] (z ∷ zs) all = absurd all
-AllThree-long P [] (y ∷ ys) zs all = absurd all
-AllThree-long P (x ∷ xs) [] zs all = absurd all
-AllThree-long P (x ∷ xs) (y ∷ ys) [] all = absurd all
-AllThree-long P (x ∷ xs) (y ∷ ys) (z ∷ zs) all = ap suc (AllThree-long P xs ys zs all.1)
+-- the second and the fourth are as long as the first
+pub AllFour-long : {A B C D : Type 0} (P : A → B → C → D → Type 0) (xs : List A) (ys : List B) (zs : List C) (ws : List D) → AllFour P xs ys zs ws → (length xs ≡ length ys) × (length xs ≡ length ws)
+AllFour-long P [] [] [] [] all = (refl, refl)
+AllFour-long P [] [] [] (w ∷ ws) all = absurd all
+AllFour-long P [] [] (z ∷ zs) ws all = absurd all
+AllFour-long P [] (y ∷ ys) zs ws all = absurd all
+AllFour-long P (x ∷ xs) [] zs ws all = absurd all
+AllFour-long P (x ∷ xs) (y ∷ ys) [] ws all = absurd all
+AllFour-long P (x ∷ xs) (y ∷ ys) (z ∷ zs) [] all = absurd all
+AllFour-long P (x ∷ xs) (y ∷ ys) (z ∷ zs) (w ∷ ws) all = let rest = AllFour-long P xs ys zs ws all.1 in (ap suc rest.0, ap suc rest.1)

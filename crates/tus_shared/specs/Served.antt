@@ -95,12 +95,8 @@ TakesBatch s (turn ∷ batch) (reply ∷ replies) old new =
 TakesBatch s [] (reply ∷ replies) old new = ⊥
 TakesBatch s (turn ∷ batch) [] old new = ⊥
 
--- the elements of three lists go together, place by place
-abbrev pub AllThree : {A B C : Type 0} → (A → B → C → Type 0) → List A → List B → List C → Type 0
-AllThree P [] [] [] = ⊤
-AllThree P (x ∷ xs) (y ∷ ys) (z ∷ zs) = P x y z × AllThree P xs ys zs
-AllThree P xs ys zs = ⊥
-
--- the replies to a batch at a desk, whatever became of that
-abbrev pub AreReplies : Settings → List Turn → Desk → List Reply → Type 0
-AreReplies s batch old replies = (new : Desk) × TakesBatch s batch replies old new
+-- the elements of four lists go together, place by place
+abbrev pub AllFour : {A B C D : Type 0} → (A → B → C → D → Type 0) → List A → List B → List C → List D → Type 0
+AllFour P [] [] [] [] = ⊤
+AllFour P (x ∷ xs) (y ∷ ys) (z ∷ zs) (w ∷ ws) = P x y z w × AllFour P xs ys zs ws
+AllFour P xs ys zs ws = ⊥

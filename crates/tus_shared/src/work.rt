@@ -1,7 +1,7 @@
-ghost use Rattle.std.specs.Prelude.{◌≡◌, ◌<◌, ◌≤◌, [], IfOk, OnErr, length, vec_capacity};
+ghost use Rattle.std.specs.Prelude.{◌≡◌, ◌≤◌, [], IfOk, OnErr, length, vec_capacity, vec_len};
 ghost use Rattle.std.specs.Thread.{IsSend, IsSync};
 ghost use Rattle.std.specs.List.{AllZip};
-ghost use Rattle.tus_shared.specs.Served.{AllThree, AreReplies};
+ghost use Rattle.tus_shared.specs.Served.{AllFour, TakesBatch};
 
 use crate::charges::Charges;
 use crate::desk::Desk;
@@ -9,6 +9,7 @@ use crate::gate::Gate;
 use crate::shared::Shared;
 use crate::turn::Turn;
 use crate::work_fault::WorkFault;
+use core::mem;
 use std::alloc::{AllocError, Global};
 use std::sync::Wait;
 use std::sync::ledger::Ledger;
@@ -18,7 +19,7 @@ use tus_steps::Reply;
 /// Answers a batch of requests at each desk, in threads: each desk in one of its own, or one after another
 /// where no thread can be had. A batch is answered in its order, each turn through the gate; between two
 /// desks there is none. The replies stand as the requests do, a list for each desk, each reply that of
-/// [`Desk::answer`] at the desk as the one before left it.
+/// [`Desk::answer`] at the desk as the one before left it. Each desk stands after it where it stood before.
 ///
 /// The room for all replies is taken first: the error is that there was too little memory for it, and then
 /// no desk has done anything.
@@ -32,23 +33,24 @@ pub fn work_all<
     rt: &W,
     alloc: Global,
     shared: &Shared<C, R, B>,
-    desks: &mut [Desk<C, R>],
+    desks: &mut Vec<Desk<C, R>>,
     batches: &[&[Turn]],
     gate: &G,
 ) -> Result<Vec<Vec<Reply>>, WorkFault>
-    requires { length batches.now ≡ length desks.old }
-    ensures replies { IfOk result (λ replies. AllThree
-        (λ batch desk told. AreReplies C.settings batch.now desk told.items)
-        batches.now desks.old replies.items) }
+    requires { length batches.now ≡ vec_len desks.old }
+    ensures answers { IfOk result (λ replies. AllFour
+        (λ batch told before after. TakesBatch C.settings batch.now told.items before after)
+        batches.now replies.items desks.old.items desks.new.items) }
     ensures lacking { OnErr result (desks.new ≡ desks.old) }
+    ensures count { vec_len desks.new ≡ vec_len desks.old }
 {
     let Ok(rooms) = room_for(alloc, batches) else {
         return Err(WorkFault::Memory);
     };
-    let Ok(replies) = Vec::with_capacity(alloc, batches.len()) else {
-        return Err(WorkFault::Memory);
-    };
-    Ok(work(rt, shared, desks, batches, rooms, replies, gate))
+    let before = mem::replace(desks, Vec::new(alloc));
+    let (after, replies) = work(rt, shared, before, batches, rooms, gate);
+    *desks = after;
+    Ok(replies)
 }
 
 // A list for each batch, with room for its replies.
@@ -64,8 +66,9 @@ fn room_for(alloc: Global, batches: &[&[Turn]]) -> Result<Vec<Vec<Reply>>, Alloc
     Ok(replies)
 }
 
-// Answers the batches at these desks: the last one in a thread of its own, and so the others. Each takes its
-// list of replies from `rooms`, and the lists are put into `replies`.
+// Answers the batches at these desks: the last one in a thread of its own, and so the others. The desks and the lists
+// of replies are taken by value and given back, the lists filled: of what is only lent to a thread, nothing is known
+// after it.
 fn work<
     C: Charges + Send + Sync,
     R: Ledger + Send + Sync,
@@ -75,53 +78,68 @@ fn work<
 >(
     rt: &W,
     shared: &Shared<C, R, B>,
-    desks: &mut [Desk<C, R>],
+    mut desks: Vec<Desk<C, R>>,
     batches: &[&[Turn]],
     mut rooms: Vec<Vec<Reply>>,
-    replies: Vec<Vec<Reply>>,
     gate: &G,
-) -> Vec<Vec<Reply>>
-    requires desks { length batches.now ≡ length desks.old }
+) -> (Vec<Desk<C, R>>, Vec<Vec<Reply>>)
+    requires desks { length batches.now ≡ length desks.items }
     requires rooms { AllZip
         (λ batch room. (room.items ≡ []) × (length batch.now ≤ vec_capacity room))
         batches.now rooms.items }
-    requires empty { replies.items ≡ [] }
-    requires capacity { length batches.now ≤ vec_capacity replies }
-    ensures replies { AllThree
-        (λ batch desk told. AreReplies C.settings batch.now desk told.items)
-        batches.now desks.old result.items }
-    ensures capacity { vec_capacity result ≡ vec_capacity replies }
+    ensures answers { AllFour
+        (λ batch told before after. TakesBatch C.settings batch.now told.items before after)
+        batches.now result.1.items desks.items result.0.items }
+    ensures desks { vec_capacity result.0 ≡ vec_capacity desks }
+    ensures replies { vec_capacity result.1 ≡ vec_capacity rooms }
 {
-    let Some(room) = rooms.pop() else {
-        return replies;
-    };
     let Some((batch, others)) = batches.split_last() else {
-        return replies;
+        return (desks, rooms);
     };
-    let Some((desk, desks_there)) = desks.split_last_mut() else {
-        return replies;
+    let Some(desk) = desks.pop() else {
+        return (desks, rooms);
     };
-    let (mut told, last) = join(
+    let Some(room) = rooms.pop() else {
+        return (desks, rooms);
+    };
+    let ((mut after, mut told), (moved, last)) = join(
         rt,
-        || -> Vec<Vec<Reply>>
+        || -> (Vec<Desk<C, R>>, Vec<Vec<Reply>>)
             requires bounds { IsSync W.row × IsSync G.row × IsSend C.row × IsSync C.row × IsSend R.row × IsSync R.row × IsSend B.row }
-            requires desks { length others.now ≡ length desks_there.now }
+            requires desks { length others.now ≡ length desks.items }
             requires rooms { AllZip
                 (λ batch room. (room.items ≡ []) × (length batch.now ≤ vec_capacity room))
                 others.now rooms.items }
-            requires empty { replies.items ≡ [] }
-            requires capacity { length others.now ≤ vec_capacity replies }
-            ensures replies { AllThree
-                (λ batch desk told. AreReplies C.settings batch.now desk told.items)
-                others.entry.now desks_there.entry.now result.items }
-            ensures capacity { vec_capacity result ≡ vec_capacity replies }
-        { work(rt, shared, desks_there, others, rooms, replies, gate) },
-        || -> Vec<Reply>
+            ensures answers { AllFour
+                (λ batch told before after. TakesBatch C.settings batch.now told.items before after)
+                others.entry.now result.1.items desks.items result.0.items }
+            ensures desks { vec_capacity result.0 ≡ vec_capacity desks }
+            ensures replies { vec_capacity result.1 ≡ vec_capacity rooms }
+        { work(rt, shared, desks, others, rooms, gate) },
+        || -> (Desk<C, R>, Vec<Reply>)
             requires empty { room.items ≡ [] }
             requires room { length batch.now.now ≤ vec_capacity room }
-            ensures { AreReplies C.settings batch.entry.now.now desk.entry.now result.items }
-        { desk.answer_all(rt, shared, batch, room, gate) },
+            ensures { TakesBatch C.settings batch.entry.now.now result.1.items desk result.0 }
+        { answered(rt, shared, desk, batch, room, gate) },
     );
+    after.push_reserved(moved);
     told.push_reserved(last);
-    told
+    (after, told)
+}
+
+// The desk after its batch, and the replies to that, in a list that has room for them.
+fn answered<C: Charges, R: Ledger, G: Gate, W: Wait, B: Wait + Drop>(
+    rt: &W,
+    shared: &Shared<C, R, B>,
+    mut desk: Desk<C, R>,
+    batch: &[Turn],
+    room: Vec<Reply>,
+    gate: &G,
+) -> (Desk<C, R>, Vec<Reply>)
+    requires empty { room.items ≡ [] }
+    requires room { length batch.now ≤ vec_capacity room }
+    ensures { TakesBatch C.settings batch.now result.1.items desk result.0 }
+{
+    let replies = desk.answer_all(rt, shared, batch, room, gate);
+    (desk, replies)
 }
