@@ -28,7 +28,7 @@ pub use board::Board;
 pub use charges::Charges;
 pub use desk::Desk;
 pub use gate::{Gate, NoGate, Stop};
-pub use line_log::{Front, Head, Law, Opened};
+pub use line_log::Opened;
 pub use open_fault::OpenFault;
 pub use shared::{DESKS_MAX, Shared};
 pub use store::Store;
