@@ -2,6 +2,7 @@ pub mod SharesLemmas
 pub mod TenantLemmas
 pub mod ZipLemmas
 pub mod RowLemmas
+pub mod FreshRows
 pub mod TableLemmas
 pub mod LineLemmas
 pub mod LogLemmas

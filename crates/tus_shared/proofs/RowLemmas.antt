@@ -13,7 +13,7 @@ use Rattle.upload_book.specs.declared.refusal.Refusal.TheVariants.{Gone}
 use Rattle.upload_book.specs.Expiry.{is_over}
 use Rattle.upload_book.specs.Heads.{HeadPart}
 use Rattle.upload_book.specs.TenantBook.{Entry, kept_in, visible_in, with_kept}
-use Rattle.upload_book.proofs.Entries.{ascending-filter, has_id, ids-push, ids_of-with_kept, kept_in-position, visible_in-given, with_kept-place, without-place}
+use Rattle.upload_book.proofs.Entries.{ascending-filter, filter_all, has_id, ids-push, ids_of-with_kept, kept_in-position, visible_in-given, with_kept-place, without-place}
 use Rattle.upload_book.proofs.Pieces.{All-remove}
 use Rattle.tus_shared.specs.Rows.{AreBelow, Rows, row_ids}
 
@@ -139,11 +139,6 @@ filter-without p [] i d within fails = absurd (omega arith)
 filter-without p (x ∷ xs) zero d within fails = rw fails refl
 filter-without p (x ∷ xs) (suc i) d within fails = ap (λ rest. cond (p x) (x ∷ rest) rest) (filter-without p xs i d (omega arith) fails)
 
--- where all pass, all stay
-filter-passing : {X : Type 0} (p : X → Bool) (xs : List X) → ((k : ℕ) (d : X) → k < length xs → p (get_or xs k d) ≡ true) → filter p xs ≡ xs
-filter-passing p [] passes = refl
-filter-passing p (x ∷ xs) passes = rw (passes 0 x (omega arith)) (ap (λ rest. x ∷ rest) (filter-passing p xs (λ k d within. passes (suc k) d (omega arith))))
-
 -- one that is over is taken out
 pub IsSweptTo-out : (old r after : Rows) (now place : ℕ) → IsSweptTo old r now place → place < length r.part.uploads → ((d : Entry HeadRow) → true ≡ is_over now (get_or r.part.uploads place d).kept.expires) → after ≡ record r { part = record r.part { uploads = remove r.part.uploads place } } → IsSweptTo old after now place
 IsSweptTo-out old r after now place f within over is =
@@ -173,6 +168,6 @@ IsSweptTo-passed old r now place f within fresh = record {
 -- at the end the part is swept
 pub IsSweptTo-all : (old r : Rows) (now place : ℕ) → IsSweptTo old r now place → length r.part.uploads ≤ place → r ≡ record old { part = record old.part { uploads = filter (stays now) old.part.uploads } }
 IsSweptTo-all old r now place f all =
-    let rows : r.part.uploads ≡ filter (stays now) old.part.uploads = sym (filter-passing (stays now) r.part.uploads (λ k d below. f.front k d (omega arith))) ∙ f.left in
+    let rows : r.part.uploads ≡ filter (stays now) old.part.uploads = sym (filter_all (stays now) r.part.uploads (λ k d below. f.front k d (omega arith))) ∙ f.left in
     let part : r.part ≡ record old.part { uploads = filter (stays now) old.part.uploads } = f.part ∙ ap (λ (rows : List (Entry HeadRow)). let q : HeadPart = record old.part { uploads = rows } in q) rows in
     ap₂ (λ (p : HeadPart) (n : ℕ). let q : Rows = record { part = p; room = n } in q) part f.room

@@ -1,8 +1,9 @@
 -- How a table keeps the rows of a tenant.
-use Rattle.std.specs.Prelude.{◌+◌, ◌<◌, ◌≤◌, ℕ, List, map, vec_len, vec_capacity, All}
+use Rattle.std.specs.Prelude.{◌≡◌, ◌+◌, ◌<◌, ◌≤◌, ℕ, false, List, map, vec_len, vec_capacity, All, Option, Some, None, IfSome, if◌then◌else◌}
 use Rattle.std.specs.List.Sorted.{IsStrictlyIncreasing}
 use Rattle.tus_shared.specs.declared.head_rows.HeadRows.TheInside.{Inside}
 use Rattle.upload_book.specs.declared.head_row.HeadRow.{HeadRow}
+use Rattle.upload_book.specs.Expiry.{is_over}
 use Rattle.upload_book.specs.Heads.{HeadPart}
 use Rattle.upload_book.specs.TenantBook.{Entry}
 
@@ -27,8 +28,18 @@ pub record AreBelow (next : ℕ) (rows : List (Entry HeadRow)) : Type 0 where
   pub ascending : IsStrictlyIncreasing (row_ids rows)
   pub below : All (λ (e : Entry HeadRow). e.id < next) rows
 
--- each of the two lists has room for all boxes, so that none is ever lost, and the ids are as they should be
+-- a moment at which no row is over, where that stays so with one more row, which has this end
+abbrev pub fresh_with : Option ℕ → Option ℕ → Option ℕ
+fresh_with None end = None
+fresh_with (Some now) end = if is_over now end then None else Some now
+
+-- at the moment, if there is one, none of the rows is over
+abbrev pub AreFresh : Option ℕ → List (Entry HeadRow) → Type 0
+AreFresh fresh rows = IfSome fresh (λ now. All (λ (e : Entry HeadRow). is_over now e.kept.expires ≡ false) rows)
+
+-- each of the two lists has room for all boxes, so that none is ever lost, the ids are as they should be, and none is over where that is known
 pub record AreRows (r : Inside) : Type 0 where
   pub rows : vec_len r.rows + vec_len r.spare ≤ vec_capacity r.rows
   pub spare : vec_len r.rows + vec_len r.spare ≤ vec_capacity r.spare
   pub ids : AreBelow r.next r.rows.items
+  pub fresh : AreFresh r.fresh r.rows.items

@@ -1,8 +1,8 @@
-ghost use Rattle.std.specs.Prelude.{◌≡◌, ◌<◌, ◌≤◌, ◌==◌, ◌⊎◌, length, position, slice_index_or, IfOk, MatchBool, if◌then◌else◌};
+ghost use Rattle.std.specs.Prelude.{◌≡◌, ◌<◌, ◌≤◌, ◌==◌, ◌⊎◌, length, position, slice_index_or, true, IfOk, MatchBool, if◌then◌else◌};
 ghost use Rattle.std.specs.List.{remove};
 ghost use Rattle.std.specs.List.Sorted.{IsStrictlyIncreasing};
 ghost use Rattle.tus_shared.specs.Room.{takes_row};
-ghost use Rattle.tus_shared.specs.Rows.{row_ids};
+ghost use Rattle.tus_shared.specs.Rows.{fresh_with, row_ids};
 ghost use Rattle.upload_book.specs.Heads.{with_row, without_over};
 ghost use Rattle.upload_book.specs.Expiry.{is_over};
 ghost use Rattle.upload_book.specs.TenantBook.{Entry, opening_part, visible_in, with_changed, with_new};
@@ -13,14 +13,16 @@ use std::alloc::{AllocError, Global};
 use std::marker::Model;
 use upload_book::{HeadRow, Moment, Refusal};
 
-/// The rows of a tenant's uploads by ascending id, the id that its next one gets, and boxes for as many more as it may
-/// have. A contract sees the tenant's part of the heads, and for how many rows there is room.
+/// The rows of a tenant's uploads by ascending id, the id that its next one gets, boxes for as many more as it may have,
+/// and a moment at which none of the rows is over, where one is known: so most sweeps need not look at the rows. A contract
+/// sees the tenant's part of the heads, and for how many rows there is room.
 #[derive(Drop)]
 pub(crate) struct HeadRows {
     quota: u64,
     next: u64,
     rows: Vec<KeptRow>,
     spare: Vec<Box<HeadRow>>,
+    fresh: Option<Moment>,
 }
 
 impl Model for HeadRows {
@@ -44,6 +46,7 @@ impl HeadRows {
             next: 1,
             rows: Vec::with_capacity(alloc, room)?,
             spare: empty_rows(alloc, room)?,
+            fresh: None,
         })
     }
 
@@ -79,6 +82,7 @@ impl HeadRows {
         };
         self.rows.push_reserved(KeptRow::new(self.next, place, row));
         self.next += 1;
+        self.fresh = fresh_with(self.fresh, row.expires);
         true
     }
 
@@ -88,6 +92,7 @@ impl HeadRows {
     {
         if let Some(place) = self.place(id) {
             self.rows[place].set(row);
+            self.fresh = fresh_with(self.fresh, row.expires);
         }
     }
 
@@ -100,10 +105,14 @@ impl HeadRows {
         }
     }
 
-    /// Takes out the rows of all uploads that have expired at this moment.
+    /// Takes out the rows of all uploads that have expired at this moment. It looks at none of them where it is known
+    /// that none has.
     pub(crate) fn sweep(&mut self, now: Moment)
         ensures { self.new ≡ record self.old { part = without_over now self.old.part } }
     {
+        if self.is_fresh(now) {
+            return;
+        }
         let mut place = 0;
         while place < self.count() {
             if self.is_over(place, now) {
@@ -112,6 +121,7 @@ impl HeadRows {
                 place += 1;
             }
         }
+        self.fresh = Some(now);
     }
 
     /// What is told of an id at this moment: Unknown where it was never given, Gone where its upload has ended or
@@ -130,6 +140,16 @@ impl HeadRows {
             return Err(Refusal::Gone);
         }
         Ok(row.copied())
+    }
+
+    // Whether it is known that none of the rows is over at this moment.
+    fn is_fresh(&self, now: Moment) -> bool
+        ensures { result ≡ true → without_over now self.now.part ≡ self.now.part }
+    {
+        match self.fresh {
+            Some(fresh) => now <= fresh,
+            None => false,
+        }
     }
 
     // How many rows there are.
@@ -164,5 +184,15 @@ impl HeadRows {
     {
         let row = self.rows.remove(place);
         self.spare.push_reserved(row.into_box());
+    }
+}
+
+// A moment at which no row is over, where that stays so with one more row, which has this end.
+fn fresh_with(fresh: Option<Moment>, end: Option<Moment>) -> Option<Moment>
+    ensures { result ≡ fresh_with fresh end }
+{
+    match fresh {
+        Some(now) if !end.is_some_and(|end| end <= now) => fresh,
+        _ => None,
     }
 }

@@ -1,4 +1,8 @@
-use Rattle.std.proofs.Common.{sym, ◌∙◌}
+use Rattle.std.proofs.Common.{set, sym, ap, subst, ◌∙◌}
+use Rattle.upload_book.specs.declared.head_row.HeadRow.{HeadRow}
+use Rattle.upload_book.specs.TenantBook.{Entry}
+use Rattle.tus_shared.specs.Rows.{fresh_with, AreFresh}
+use Rattle.tus_shared.proofs.FreshRows.{AreFresh-set}
 use Rattle.tus_shared.proofs.RowLemmas.{is_absent, is_set, same_rows, AreBelow-set, with_kept-absent}
 use Rattle.tus_shared.proofs.head_rows.HeadRows.change.Goals as goal
 
@@ -7,6 +11,7 @@ invariant_of-self c = record {
   rows = c.self.invariant.rows;
   spare = c.self.invariant.spare;
   ids = AreBelow-set c.self.inside.next c.self.inside.rows.items c.args.id c.in-Some.place c.index_mut.result.now c.set.new.self c.args.row.now (sym (rw (← c.self.view_is) at c.in-Some.ensures.place)) c.index_mut.ensures.value c.set.ensures c.self.invariant.ids;
+  fresh = rw c.fresh_with-self-inside.ensures (subst (λ end. AreFresh (fresh_with c.self.inside.fresh end) (set c.self.inside.rows.items c.in-Some.place c.set.new.self)) (ap (λ (e : Entry HeadRow). e.kept.expires) c.set.ensures) (AreFresh-set c.self.inside.fresh c.self.inside.rows.items c.in-Some.place c.set.new.self c.self.invariant.fresh));
 }
 
 pub returns-in-Some : goal.returns-in-Some

@@ -1,4 +1,6 @@
-use Rattle.std.proofs.Common.{refl, arith, sym, ◌∙◌}
+use Rattle.std.proofs.Common.{refl, arith, ap, sym, ◌∙◌}
+use Rattle.upload_book.specs.Heads.{HeadPart}
+use Rattle.tus_shared.specs.Rows.{Rows}
 use Rattle.tus_shared.proofs.RowLemmas.{IsSweptTo-all, IsSweptTo-out, IsSweptTo-passed}
 use Rattle.tus_shared.proofs.head_rows.HeadRows.sweep.Goals as goal
 
@@ -19,6 +21,10 @@ pub loop-place-preserved : goal.loop-place-preserved
 loop-place-preserved c =
     IsSweptTo-passed c.args.self.now c.loop-place.self c.args.now c.loop-place.place c.loop-place.invariant (omega (arith, c.count.ensures)) (λ d. sym c.if-is_over.false ∙ c.is_over.ensures d)
 
+pub returns-then-is_fresh : goal.returns-then-is_fresh
+returns-then-is_fresh c =
+    sym (ap (λ (part : HeadPart). let q : Rows = record c.args.self.now { part = part } in q) (c.is_fresh.ensures c.if-is_fresh.true))
+
 pub returns : goal.returns
 returns c =
-    IsSweptTo-all c.args.self.now c.loop-place.self c.args.now c.loop-place.place c.loop-place.invariant (omega (arith, c.count.ensures))
+    c.self.view_is ∙ IsSweptTo-all c.args.self.now c.loop-place.self c.args.now c.loop-place.place c.loop-place.invariant (omega (arith, c.count.ensures))
