@@ -1,11 +1,11 @@
 //! Sweeps of single uploads, and before, between and after the ends of partial uploads and of final ones over them.
 
-use crate::books::{ACME, BETA, NUMBERS};
+use crate::books::{ACME, BETA, NUMBERS, moment};
 use crate::steps::Call::{Delete, Expiries, Get, Head, Join, Partial, Patch, Post, Sweep};
 use crate::steps::Told::{Appended, Bytes, Created, Expire, Refused, Removed, Row, Swept};
 use crate::steps::{Step, run, steps};
 use std::test::Fail;
-use upload_book::{Kind, Refusal};
+use upload_book::{Book, Kind, NewUpload, Refusal, Settings};
 
 // An expired upload costs its blocks until a sweep ends it.
 static EXPIRED_AND_SWEPT: [Step; 9] = steps! {
@@ -155,4 +155,46 @@ static LISTED_BY_TENANT: [Step; 13] = steps! {
 fn uploads_that_expire(rt: HostRuntime) -> Result<(), Fail> {
     run(&rt, rt.alloc(), NUMBERS, &LISTED_AND_SWEPT)?;
     run(&rt, rt.alloc(), NUMBERS, &LISTED_BY_TENANT)
+}
+
+// As many uploads as a book may have are listed, sixty-four of each of sixteen tenants, and one sweep ends them all.
+#[test]
+fn as_many_as_there_may_be(rt: HostRuntime) -> Result<(), Fail> {
+    let sixteen: [(&[u8], u64); 16] = [
+        (b"a", 0),
+        (b"b", 0),
+        (b"c", 0),
+        (b"d", 0),
+        (b"e", 0),
+        (b"f", 0),
+        (b"g", 0),
+        (b"h", 0),
+        (b"i", 0),
+        (b"j", 0),
+        (b"k", 0),
+        (b"l", 0),
+        (b"m", 0),
+        (b"n", 0),
+        (b"o", 0),
+        (b"p", 0),
+    ];
+    let mut book = Book::new(rt.alloc(), Settings::new(NUMBERS, &sixteen)?)?;
+    for (name, _) in sixteen {
+        for _ in 0..64 {
+            let tenant = book.settings().tenant(name).expect(&rt, "a tenant");
+            let new = NewUpload {
+                partial: false,
+                length: Some(1),
+                metadata: b"",
+                concat: b"",
+            };
+            let created = book.create(tenant, new, moment(&rt, 1000));
+            assert!(rt; created.is_ok());
+        }
+    }
+    assert_eq!(rt; book.expiries().len(), 1024);
+    let swept = book.sweep(moment(&rt, 4600));
+    assert_eq!(rt; swept.uploads, 1024);
+    assert!(rt; book.expiries().is_empty());
+    Ok(())
 }

@@ -19,7 +19,7 @@ IsAscending list = AllPairs (λ x y. comes_before x y ≡ true) list
 abbrev pub Ends : Type 0
 Ends = Name → Option ℕ
 
--- two names are one
+-- whether two names are one
 abbrev pub is_same_name : Name → Name → Bool
 is_same_name a b = a.tenant == b.tenant && a.id == b.id
 

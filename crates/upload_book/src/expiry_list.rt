@@ -119,7 +119,7 @@ impl ExpiryList {
         }
     }
 
-    // Enters an upload that is not there, where it expires.
+    // Enters an upload that is not there, if it expires.
     fn enter(&mut self, name: Name, end: Option<Moment>)
         requires unknown { KnowsEnd self.old.list name None }
         requires room { IsSome end → length self.old.list < self.old.room }
@@ -132,7 +132,7 @@ impl ExpiryList {
         }
     }
 
-    // Takes an upload out that expires then, if it does.
+    // Takes out an upload with this end. One without an end is not there, and nothing changes.
     fn leave(&mut self, name: Name, end: Option<Moment>)
         requires known { KnowsEnd self.old.list name end }
         ensures ends { (ends : Ends) → AreExpiring ends self.old.list → ends name ≡ end

@@ -19,8 +19,9 @@ pub struct Swept {
 
 impl Book {
     /// Ends all uploads that have expired at `now`. Their blocks become free, but for those that another
-    /// upload holds. It takes no memory. It looks at the first upload that expires and at those that it ends, and costs
-    /// the blocks of these and, for each, the number of its tenant's uploads.
+    /// upload holds. It takes no memory. It looks at the first upload that expires and at those that it ends. For each of
+    /// these it costs its blocks, the number of its tenant's uploads, and that of all uploads that expire, whose entries
+    /// in their list move.
     pub fn sweep(&mut self, now: Moment) -> Swept
         ensures answer { result ≡ sweep_answer (plain_of self.old) now }
         ensures after { plain_of self.new ≡ book_after_sweep (plain_of self.old) now }

@@ -22,7 +22,8 @@ pub struct Removed {
 
 impl Book {
     /// Ends an upload. Its blocks become free, but for those that another upload holds. It takes no memory,
-    /// and costs the blocks of the upload and the number of the tenant's uploads.
+    /// and costs the blocks of the upload and the number of the tenant's uploads; where it expires, the entries of those
+    /// that expire later move.
     ///
     /// It is refused as Unknown where the id was never given, and as Gone where the upload has ended or
     /// expired. A refusal leaves the book as it was.
