@@ -15,8 +15,6 @@ mod serve;
 mod serve_options;
 mod stream;
 mod talk;
-#[cfg(test)]
-mod tests;
 mod worker;
 
 use crate::fault::{TalkFault, tell};

@@ -16,8 +16,6 @@ mod route;
 mod run_fault;
 mod runs;
 mod step;
-#[cfg(test)]
-mod tests;
 mod tus_fields;
 
 pub use asked::ChangeOf;
