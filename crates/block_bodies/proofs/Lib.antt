@@ -3,4 +3,3 @@ pub mod BodiesLaws
 pub mod EachBlock
 pub mod Putting
 pub mod Reading
-pub mod Sole

@@ -10,6 +10,3 @@ pub use body::Body;
 pub use fault::BodyFault;
 pub use laws::lists_in_parts;
 pub use unheld::Unheld;
-
-#[cfg(test)]
-mod tests;

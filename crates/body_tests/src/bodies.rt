@@ -1,4 +1,5 @@
-use crate::{Body, BodyFault};
+//! Bodies in blocks of small pools.
+use block_bodies::{Body, BodyFault};
 use block_pool::Pool;
 use std::test::Fail;
 

@@ -1,9 +1,9 @@
 use Rattle.std.proofs.Common.{ap, arith, List, ℕ}
 use Rattle.block_pool.specs.Blocks.{places_of}
 use Rattle.block_bodies.specs.Bodies.{Chain}
-use Rattle.block_bodies.proofs.Sole.{IsSole-empty, IsSole-put, IsSole-may_hold, held-twice, held-once}
+use Rattle.body_tests.proofs.Sole.{IsSole-empty, IsSole-put, IsSole-may_hold, held-twice, held-once}
 use Rattle.block_bodies.proofs.BodiesLaws.{Holds-copy, Stays-given_back}
-use Rattle.block_bodies.proofs.tests.two_thousand_blocks.Goals as goal
+use Rattle.body_tests.proofs.bodies.two_thousand_blocks.Goals as goal
 
 pub share-requires : goal.share-requires
 share-requires g c =

@@ -1,7 +1,7 @@
 use Rattle.std.proofs.Common.{ℕ, List, ◌∙◌, refl, ap}
 use Rattle.block_bodies.specs.Bodies.{Chain}
-use Rattle.block_bodies.proofs.Sole.{IsSole-twice, IsSole-may_hold, held-twice, held-once}
-use Rattle.block_bodies.proofs.tests.put_and_hold.Goals as goal
+use Rattle.body_tests.proofs.Sole.{IsSole-twice, IsSole-may_hold, held-twice, held-once}
+use Rattle.body_tests.proofs.bodies.put_and_hold.Goals as goal
 
 pub hold-copy-requires : goal.hold-copy-requires
 hold-copy-requires g c =

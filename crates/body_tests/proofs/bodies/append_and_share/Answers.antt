@@ -1,8 +1,8 @@
 use Rattle.std.proofs.Common.{ap}
 use Rattle.block_bodies.specs.Bodies.{Chain}
-use Rattle.block_bodies.proofs.Sole.{IsSole-twice, IsSole-may_hold, held-twice, held-once}
+use Rattle.body_tests.proofs.Sole.{IsSole-twice, IsSole-may_hold, held-twice, held-once}
 use Rattle.block_bodies.proofs.BodiesLaws.{Holds-copy}
-use Rattle.block_bodies.proofs.tests.append_and_share.Goals as goal
+use Rattle.body_tests.proofs.bodies.append_and_share.Goals as goal
 
 pub share-requires : goal.share-requires
 share-requires g c =
