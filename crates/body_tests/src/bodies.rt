@@ -4,18 +4,27 @@ use block_pool::Pool;
 use std::test::Fail;
 
 #[test]
-fn append_and_share(rt: HostRuntime) -> Result<(), Fail> {
+fn append_fills_the_last_block(rt: HostRuntime) -> Result<(), Fail> {
     let alloc = rt.alloc();
     let mut pool = Pool::new(alloc, 2, 4)?;
     let mut body = Body::empty(alloc);
     assert_eq!(rt; body.append(&mut pool, b"hello")?, 2);
-    assert_eq!(rt; body.read(alloc, &pool)?.as_slice(), b"hello".as_slice());
     let Err(BodyFault::Full) = body.append(&mut pool, b"wxyz") else {
         panic!(rt; "nine bytes in two blocks of four");
     };
     assert_eq!(rt; body.read(alloc, &pool)?.as_slice(), b"hello".as_slice());
     assert_eq!(rt; body.append(&mut pool, b"wxy")?, 0);
     assert_eq!(rt; body.len(), 8);
+    assert_eq!(rt; body.read(alloc, &pool)?.as_slice(), b"hellowxy".as_slice());
+    Ok(())
+}
+
+#[test]
+fn share_holds_each_block_twice(rt: HostRuntime) -> Result<(), Fail> {
+    let alloc = rt.alloc();
+    let mut pool = Pool::new(alloc, 2, 4)?;
+    let mut body = Body::empty(alloc);
+    assert_eq!(rt; body.append(&mut pool, b"hello")?, 2);
     let copy = body.share(&mut pool)?;
     for place in 0..2 {
         let Some(block) = copy.block(place) else {
@@ -24,14 +33,14 @@ fn append_and_share(rt: HostRuntime) -> Result<(), Fail> {
         assert!(rt; block.number() < pool.size());
         assert_eq!(rt; pool.count(block), 2);
     }
-    assert_eq!(rt; copy.read(alloc, &pool)?.as_slice(), b"hellowxy".as_slice());
+    assert_eq!(rt; copy.read(alloc, &pool)?.as_slice(), b"hello".as_slice());
     assert_eq!(rt; body.give_back(&mut pool), 0);
     assert_eq!(rt; copy.give_back(&mut pool), 2);
     assert_eq!(rt; pool.free(), 2);
     Ok(())
 }
 
-// The same, each call in its two halves.
+// Each call in its two halves.
 #[test]
 fn put_and_hold(rt: HostRuntime) -> Result<(), Fail> {
     let alloc = rt.alloc();

@@ -1,7 +1,7 @@
 //! Refused memory. `rt try --test --fail-alloc N -- lacking_memory` runs these tests with the Nth allocation of each
 //! refused: the call that needed it says so and leaves the book as it was, and the same call is then accepted. Before its
-//! calls a test makes as many allocations as its name says, so that one build tries eight places: with 8, 16, 24 and so
-//! on for N it is every one. Each test prints whether memory was lacking.
+//! calls a test makes as many allocations as its name says, so that one build tries sixteen places: with 16, 32, 48
+//! and so on for N it is every one. Each test prints whether memory was lacking.
 
 use crate::books::{ACME, BETA, NUMBERS, acme, moment, new_final, patch};
 use std::alloc::Global;
@@ -215,4 +215,44 @@ fn lacking_memory_6(rt: HostRuntime) -> Result<(), Fail> {
 #[test]
 fn lacking_memory_7(rt: HostRuntime) -> Result<(), Fail> {
     print_after(&rt, rt.alloc(), 7)
+}
+
+#[test]
+fn lacking_memory_8(rt: HostRuntime) -> Result<(), Fail> {
+    print_after(&rt, rt.alloc(), 8)
+}
+
+#[test]
+fn lacking_memory_9(rt: HostRuntime) -> Result<(), Fail> {
+    print_after(&rt, rt.alloc(), 9)
+}
+
+#[test]
+fn lacking_memory_10(rt: HostRuntime) -> Result<(), Fail> {
+    print_after(&rt, rt.alloc(), 10)
+}
+
+#[test]
+fn lacking_memory_11(rt: HostRuntime) -> Result<(), Fail> {
+    print_after(&rt, rt.alloc(), 11)
+}
+
+#[test]
+fn lacking_memory_12(rt: HostRuntime) -> Result<(), Fail> {
+    print_after(&rt, rt.alloc(), 12)
+}
+
+#[test]
+fn lacking_memory_13(rt: HostRuntime) -> Result<(), Fail> {
+    print_after(&rt, rt.alloc(), 13)
+}
+
+#[test]
+fn lacking_memory_14(rt: HostRuntime) -> Result<(), Fail> {
+    print_after(&rt, rt.alloc(), 14)
+}
+
+#[test]
+fn lacking_memory_15(rt: HostRuntime) -> Result<(), Fail> {
+    print_after(&rt, rt.alloc(), 15)
 }

@@ -1,20 +1,21 @@
 //! Texts that a book keeps, and names that are no upload's.
 
-use crate::books::{ACME, BETA, NUMBERS, moment, new_book, patch};
+use crate::books::{ACME, BETA, NUMBERS, moment, new_book, new_final, patch};
 use std::test::Fail;
-use tus_text::{Concat, check_metadata, read_concat};
+use tus_text::check_metadata;
 use upload_book::{Chunk, Kind, Moment, Name, NewFinal, NewUpload, Refusal, Refused};
+
+const METADATA: &[u8] = b"a YQ==,b";
 
 #[test]
 fn a_partial_upload_keeps_its_texts(rt: HostRuntime) -> Result<(), Fail> {
+    assert!(rt; check_metadata(METADATA));
     let mut book = new_book(rt.alloc(), NUMBERS)?;
     let beta = book.settings().tenant(BETA).ok_or("beta")?;
-    let metadata = b"a YQ==,b".as_slice();
-    assert!(rt; check_metadata(metadata));
     let new = NewUpload {
         partial: true,
         length: Some(0),
-        metadata,
+        metadata: METADATA,
         concat: b"partial",
     };
     let made = book.create(beta, new, moment(&rt, 1000))?;
@@ -22,7 +23,7 @@ fn a_partial_upload_keeps_its_texts(rt: HostRuntime) -> Result<(), Fail> {
     assert_eq!(rt; made.expires, Moment::new(4600));
     let row = book.look(&made.name, moment(&rt, 1000))?;
     assert_eq!(rt; row.kind, Kind::Partial);
-    assert_eq!(rt; row.metadata.as_slice(), b"a YQ==,b".as_slice());
+    assert_eq!(rt; row.metadata.as_slice(), METADATA);
     assert_eq!(rt; row.concat.as_slice(), b"partial".as_slice());
     assert_eq!(rt; row.expires, Moment::new(4600));
     Ok(())
@@ -30,8 +31,9 @@ fn a_partial_upload_keeps_its_texts(rt: HostRuntime) -> Result<(), Fail> {
 
 #[test]
 fn a_final_upload_keeps_its_texts(rt: HostRuntime) -> Result<(), Fail> {
+    assert!(rt; check_metadata(METADATA));
     let mut book = new_book(rt.alloc(), NUMBERS)?;
-    let now = Moment::new(1000).ok_or("a moment")?;
+    let now = moment(&rt, 1000);
     let acme = book.settings().tenant(ACME).ok_or("acme")?;
     let part = NewUpload {
         partial: true,
@@ -40,23 +42,17 @@ fn a_final_upload_keeps_its_texts(rt: HostRuntime) -> Result<(), Fail> {
         concat: b"partial",
     };
     assert_eq!(rt; book.create(acme, part, now)?.name.id, 1);
-    let metadata = b"a YQ==,b".as_slice();
-    assert!(rt; check_metadata(metadata));
-    let concat = b"final;/files/acme/1 http://h:1/files/acme/1".as_slice();
-    let Some(Concat::Final(_)) = read_concat(concat) else {
-        panic!(rt; "a concat text");
-    };
-    let acme = book.settings().tenant(ACME).ok_or("acme")?;
+    let parts = [Some(1), Some(1)];
     let new = NewFinal {
-        parts: &[Some(1), Some(1)],
-        metadata,
-        concat,
+        metadata: METADATA,
+        ..new_final(&rt, &parts)
     };
+    let concat = new.concat;
+    let acme = book.settings().tenant(ACME).ok_or("acme")?;
     let made = book.concat(acme, new, now)?;
     let row = book.look(&made.name, now)?;
-    assert_eq!(rt; row.metadata.as_slice(), b"a YQ==,b".as_slice());
-    let kept = b"final;/files/acme/1 http://h:1/files/acme/1".as_slice();
-    assert_eq!(rt; row.concat.as_slice(), kept);
+    assert_eq!(rt; row.metadata.as_slice(), METADATA);
+    assert_eq!(rt; row.concat.as_slice(), concat);
     Ok(())
 }
 

@@ -5,6 +5,7 @@ use crate::requests::{
 };
 use crate::told::{Told, at_offset, created, told_by};
 use std::alloc::Global;
+use std::io::Print;
 use std::test::Fail;
 use tus_steps::{Field, Method, Reply, Request, RunFault, TusFields, run};
 use tus_text::{Path, read_path};
@@ -49,8 +50,8 @@ fn a_run_answers_in_order(rt: HostRuntime) -> Result<(), Fail> {
     Ok(())
 }
 
-/// `rt try --test --fail-alloc N -- lacking_memory_runs_nothing` refuses the Nth allocation: those of the book, and then
-/// that of the room for replies, which leaves the book as it was.
+/// `rt try --test --fail-alloc 9 -- lacking_memory_runs_nothing` refuses the first allocation after those of the book:
+/// that of the room for replies. It prints that, and the book is as it was.
 #[test]
 fn lacking_memory_runs_nothing(rt: HostRuntime) -> Result<(), Fail> {
     let one_upload = Numbers {
@@ -70,6 +71,7 @@ fn lacking_memory_runs_nothing(rt: HostRuntime) -> Result<(), Fail> {
     ];
     let mut told = run(rt.alloc(), &mut book, &turns);
     if let Err(RunFault::Memory) = told {
+        rt.println("the room for the replies was refused")?;
         told = run(rt.alloc(), &mut book, &turns);
     }
     let expected = [

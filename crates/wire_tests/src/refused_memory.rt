@@ -1,7 +1,7 @@
 //! Refused memory. `rt try --test --fail-alloc N -- lacking_memory` runs these tests with the Nth allocation of each
 //! refused: the message that met it is answered 503, or the start says that memory is lacking; nothing is changed by
 //! it, and all goes on as ever. Before its conversation a test makes as many allocations as its name says, so that one
-//! build tries eight places: with 8, 16, 24 and so on for N it is every one. Each test prints whether memory was
+//! build tries sixteen places: with 16, 32, 48 and so on for N it is every one. Each test prints whether memory was
 //! lacking. Reader and writer take no memory, so the first allocation is that of the book.
 
 use crate::concatenations::{
@@ -228,15 +228,15 @@ fn told_by(alloc: Global, turns: &[Turn]) -> Result<(Vec<u8>, Vec<u8>), AllocErr
 }
 
 /// What a conversation wrote: how many turns have their replies at its front, and what follows these.
-fn whole_turns(text: &[u8]) -> (usize, &[u8]) {
+fn whole_turns<'a>(turns: &[Turn], text: &'a [u8]) -> (usize, &'a [u8]) {
     let mut rest = text;
-    for (count, turn) in TURNS.iter().enumerate() {
+    for (count, turn) in turns.iter().enumerate() {
         match rest.strip_prefix(turn.written) {
             Some(after) => rest = after,
             None => return (count, rest),
         }
     }
-    (TURNS.len(), rest)
+    (turns.len(), rest)
 }
 
 /// Speaks these turns with a book by the plain program, and gives what that wrote.
@@ -293,10 +293,10 @@ fn answer_next(
 }
 
 /// Answers the messages of the turns on a wire, up to the first for which memory is lacking, and gives what was written.
-fn answer_each(alloc: Global, book: &mut Book) -> Result<Sheet, WireFault> {
-    let reader = Tapped::new(Messages::new(&TURNS));
+fn answer_each(alloc: Global, turns: &'static [Turn], book: &mut Book) -> Result<Sheet, WireFault> {
+    let reader = Tapped::new(Messages::new(turns));
     let mut wire = Wire::new(alloc, reader, Tapped::new(Sheet::new()), 64)?;
-    for _ in &TURNS {
+    for _ in turns {
         if answer_next(&mut wire, book)? {
             break;
         }
@@ -305,81 +305,139 @@ fn answer_each(alloc: Global, book: &mut Book) -> Result<Sheet, WireFault> {
     Ok(writer.inner)
 }
 
-/// Asserts that these turns are spoken as ever with a book, and that it is then as after all turns.
-fn assert_goes_on(
+/// Asserts that a reply says that memory is lacking, for a turn's step or for the fields of its message.
+fn assert_lacking(rt: &impl Abort, count: usize, turn: &Turn, reply: &[u8]) {
+    if reply != turn.lacking {
+        assert_eq!(rt; reply, lacking_for_fields(turn), "turn {count}");
+    }
+    assert!(rt; !reply.is_empty(), "turn {count}");
+}
+
+/// Speaks the turns on a wire, and asserts what is written. Gives how many were answered before the first for which
+/// memory was lacking, or none where it was lacking for none.
+fn answered_on_a_wire(
     rt: &impl Abort,
     alloc: Global,
-    book: &mut Book,
     turns: &'static [Turn],
+    book: &mut Book,
+) -> Option<usize> {
+    let sheet = match answer_each(alloc, turns, book) {
+        Ok(sheet) => sheet,
+        Err(fault) => {
+            assert_eq!(rt; fault, WireFault::Memory);
+            return Some(0);
+        }
+    };
+    let (count, rest) = whole_turns(turns, sheet.text());
+    match turns.get(count) {
+        Some(turn) => {
+            assert_lacking(rt, count, turn, rest);
+            Some(count)
+        }
+        None => {
+            assert!(rt; rest.is_empty());
+            None
+        }
+    }
+}
+
+/// A book with which these turns were spoken by the plain program.
+fn plain_book(rt: &impl Abort, alloc: Global, turns: &[Turn]) -> Result<Book, Fail> {
+    let mut book = new_book(alloc)?;
+    speak_plainly(rt, alloc, &mut book, turns)?;
+    Ok(book)
+}
+
+/// Asserts that two books tell the same.
+fn assert_alike(rt: &impl Abort, book: &Book, plain: &Book) {
+    assert_eq!(rt; seen(rt, book), seen(rt, plain));
+}
+
+/// Asserts that turns are spoken as ever in a conversation.
+fn assert_spoken_as_ever(
+    rt: &impl Abort,
+    alloc: Global,
+    turns: &'static [Turn],
+    book: &mut Book,
 ) -> Result<(), Fail> {
+    let (_, written) = told_by(alloc, turns)?;
     let mut reader = Tapped::new(Messages::new(turns));
     let mut writer = Tapped::new(Sheet::new());
     let ended = converse(alloc, &mut reader, &mut writer, book, &moments());
     assert_eq!(rt; ended, Ok(Ended::Input));
-    let (_, written) = told_by(alloc, turns)?;
     assert_eq!(rt; writer.inner.text(), written.as_slice());
-    let mut ample = new_book(alloc)?;
-    speak_plainly(rt, alloc, &mut ample, &TURNS)?;
-    assert_eq!(rt; seen(rt, book), seen(rt, &ample));
     Ok(())
 }
 
 /// The turns on a wire. The first for which memory is lacking is answered so, and nothing is changed; on a new wire
 /// that turn and those after it go as ever. Says whether memory was lacking.
-fn on_a_wire(rt: &impl Abort, alloc: Global, book: &mut Book) -> Result<bool, Fail> {
-    let sheet = match answer_each(alloc, book) {
-        Ok(sheet) => sheet,
-        Err(fault) => {
-            assert_eq!(rt; fault, WireFault::Memory);
-            assert_goes_on(rt, alloc, book, &TURNS)?;
-            return Ok(true);
-        }
-    };
-    let (count, rest) = whole_turns(sheet.text());
-    let Some(turn) = TURNS.get(count) else {
-        assert_eq!(rt; rest, NONE);
+fn on_a_wire(
+    rt: &impl Abort,
+    alloc: Global,
+    turns: &'static [Turn],
+    book: &mut Book,
+) -> Result<bool, Fail> {
+    let Some(count) = answered_on_a_wire(rt, alloc, turns, book) else {
         return Ok(false);
     };
-    if rest != turn.lacking {
-        assert_eq!(rt; rest, lacking_for_fields(turn), "turn {count}");
-    }
-    assert!(rt; !rest.is_empty(), "turn {count}");
-    let mut ample = new_book(alloc)?;
-    speak_plainly(rt, alloc, &mut ample, &TURNS[..count])?;
-    assert_eq!(rt; seen(rt, book), seen(rt, &ample), "turn {count}");
-    assert_goes_on(rt, alloc, book, &TURNS[count..])?;
+    let (before, after) = turns.split_at_checked(count).ok_or("turns")?;
+    assert_alike(rt, book, &plain_book(rt, alloc, before)?);
+    assert_spoken_as_ever(rt, alloc, after, book)?;
+    assert_alike(rt, book, &plain_book(rt, alloc, turns)?);
     Ok(true)
+}
+
+/// Asserts what a conversation wrote after whole turns, the next of which met a lack of memory: nothing, where that was
+/// for its buffers; a last reply, where it was for the fields of the message; or the reply for the step alone, and then
+/// what the plain program writes without that step.
+fn assert_lacked(
+    rt: &impl Abort,
+    alloc: Global,
+    turns: &[Turn],
+    ended: Result<Ended, WireFault>,
+    rest: &[u8],
+    plain: &mut Book,
+) -> Result<(), Fail> {
+    let (turn, others) = turns.split_first().ok_or("a turn")?;
+    match ended {
+        Err(fault) => {
+            assert_eq!(rt; fault, WireFault::Memory);
+            assert_eq!(rt; rest, NONE);
+        }
+        Ok(Ended::Closed) => assert_eq!(rt; rest, lacking_for_fields(turn)),
+        Ok(ended) => {
+            assert_eq!(rt; ended, Ended::Input);
+            assert!(rt; !turn.lacking.is_empty());
+            let after = rest.strip_prefix(turn.lacking).ok_or("a reply of 503")?;
+            let others = speak_plainly(rt, alloc, plain, others)?;
+            assert_eq!(rt; after, others.as_slice());
+        }
+    }
+    Ok(())
 }
 
 /// The turns in one conversation. Where memory is lacking for the fields of a message it ends, and where it is lacking
 /// for a step it goes on as the plain program does without that step. Says whether memory was lacking.
-fn in_a_conversation(rt: &impl Abort, alloc: Global, book: &mut Book) -> Result<bool, Fail> {
-    let mut reader = Tapped::new(Messages::new(&TURNS));
+fn in_a_conversation(
+    rt: &impl Abort,
+    alloc: Global,
+    turns: &'static [Turn],
+    book: &mut Book,
+) -> Result<bool, Fail> {
+    let mut reader = Tapped::new(Messages::new(turns));
     let mut writer = Tapped::new(Sheet::new());
     let ended = converse(alloc, &mut reader, &mut writer, book, &moments());
-    let (count, rest) = whole_turns(writer.inner.text());
-    let Some(turn) = TURNS.get(count) else {
-        assert_eq!(rt; rest, NONE);
+    let (count, rest) = whole_turns(turns, writer.inner.text());
+    let (before, after) = turns.split_at_checked(count).ok_or("turns")?;
+    if after.is_empty() {
         assert_eq!(rt; ended, Ok(Ended::Input));
+        assert!(rt; rest.is_empty());
         return Ok(false);
-    };
-    let mut ample = new_book(alloc)?;
-    speak_plainly(rt, alloc, &mut ample, &TURNS[..count])?;
-    match ended {
-        Err(fault) => {
-            assert_eq!(rt; fault, WireFault::Memory);
-            assert_eq!(rt; (count, rest), (0, NONE));
-        }
-        Ok(Ended::Closed) => assert_eq!(rt; rest, lacking_for_fields(turn), "turn {count}"),
-        Ok(ended) => {
-            assert_eq!(rt; ended, Ended::Input, "turn {count}");
-            assert!(rt; !turn.lacking.is_empty(), "turn {count}");
-            let after = rest.strip_prefix(turn.lacking).ok_or("a reply of 503")?;
-            let others = speak_plainly(rt, alloc, &mut ample, &TURNS[count + 1..])?;
-            assert_eq!(rt; after, others.as_slice(), "turn {count}");
-        }
     }
-    assert_eq!(rt; seen(rt, book), seen(rt, &ample), "turn {count}");
+    assert!(rt; ended.is_ok() || count == 0);
+    let mut plain = plain_book(rt, alloc, before)?;
+    assert_lacked(rt, alloc, after, ended, rest, &mut plain)?;
+    assert_alike(rt, book, &plain);
     Ok(true)
 }
 
@@ -403,8 +461,8 @@ fn speak_after<W: Abort + Print>(
     let settings = Settings::new(NUMBERS, &[(b"acme", 8), (b"beta", 4)])?;
     let is_lacking = match Book::new(alloc, settings) {
         Ok(mut book) => match way {
-            Way::Wire => on_a_wire(rt, alloc, &mut book)?,
-            Way::Conversation => in_a_conversation(rt, alloc, &mut book)?,
+            Way::Wire => on_a_wire(rt, alloc, &TURNS, &mut book)?,
+            Way::Conversation => in_a_conversation(rt, alloc, &TURNS, &mut book)?,
         },
         Err(_) => true,
     };
@@ -457,6 +515,46 @@ fn lacking_memory_on_a_wire_7(rt: HostRuntime) -> Result<(), Fail> {
 }
 
 #[test]
+fn lacking_memory_on_a_wire_8(rt: HostRuntime) -> Result<(), Fail> {
+    speak_after(&rt, rt.alloc(), 8, Way::Wire)
+}
+
+#[test]
+fn lacking_memory_on_a_wire_9(rt: HostRuntime) -> Result<(), Fail> {
+    speak_after(&rt, rt.alloc(), 9, Way::Wire)
+}
+
+#[test]
+fn lacking_memory_on_a_wire_10(rt: HostRuntime) -> Result<(), Fail> {
+    speak_after(&rt, rt.alloc(), 10, Way::Wire)
+}
+
+#[test]
+fn lacking_memory_on_a_wire_11(rt: HostRuntime) -> Result<(), Fail> {
+    speak_after(&rt, rt.alloc(), 11, Way::Wire)
+}
+
+#[test]
+fn lacking_memory_on_a_wire_12(rt: HostRuntime) -> Result<(), Fail> {
+    speak_after(&rt, rt.alloc(), 12, Way::Wire)
+}
+
+#[test]
+fn lacking_memory_on_a_wire_13(rt: HostRuntime) -> Result<(), Fail> {
+    speak_after(&rt, rt.alloc(), 13, Way::Wire)
+}
+
+#[test]
+fn lacking_memory_on_a_wire_14(rt: HostRuntime) -> Result<(), Fail> {
+    speak_after(&rt, rt.alloc(), 14, Way::Wire)
+}
+
+#[test]
+fn lacking_memory_on_a_wire_15(rt: HostRuntime) -> Result<(), Fail> {
+    speak_after(&rt, rt.alloc(), 15, Way::Wire)
+}
+
+#[test]
 fn lacking_memory_in_a_conversation_0(rt: HostRuntime) -> Result<(), Fail> {
     speak_after(&rt, rt.alloc(), 0, Way::Conversation)
 }
@@ -494,4 +592,44 @@ fn lacking_memory_in_a_conversation_6(rt: HostRuntime) -> Result<(), Fail> {
 #[test]
 fn lacking_memory_in_a_conversation_7(rt: HostRuntime) -> Result<(), Fail> {
     speak_after(&rt, rt.alloc(), 7, Way::Conversation)
+}
+
+#[test]
+fn lacking_memory_in_a_conversation_8(rt: HostRuntime) -> Result<(), Fail> {
+    speak_after(&rt, rt.alloc(), 8, Way::Conversation)
+}
+
+#[test]
+fn lacking_memory_in_a_conversation_9(rt: HostRuntime) -> Result<(), Fail> {
+    speak_after(&rt, rt.alloc(), 9, Way::Conversation)
+}
+
+#[test]
+fn lacking_memory_in_a_conversation_10(rt: HostRuntime) -> Result<(), Fail> {
+    speak_after(&rt, rt.alloc(), 10, Way::Conversation)
+}
+
+#[test]
+fn lacking_memory_in_a_conversation_11(rt: HostRuntime) -> Result<(), Fail> {
+    speak_after(&rt, rt.alloc(), 11, Way::Conversation)
+}
+
+#[test]
+fn lacking_memory_in_a_conversation_12(rt: HostRuntime) -> Result<(), Fail> {
+    speak_after(&rt, rt.alloc(), 12, Way::Conversation)
+}
+
+#[test]
+fn lacking_memory_in_a_conversation_13(rt: HostRuntime) -> Result<(), Fail> {
+    speak_after(&rt, rt.alloc(), 13, Way::Conversation)
+}
+
+#[test]
+fn lacking_memory_in_a_conversation_14(rt: HostRuntime) -> Result<(), Fail> {
+    speak_after(&rt, rt.alloc(), 14, Way::Conversation)
+}
+
+#[test]
+fn lacking_memory_in_a_conversation_15(rt: HostRuntime) -> Result<(), Fail> {
+    speak_after(&rt, rt.alloc(), 15, Way::Conversation)
 }

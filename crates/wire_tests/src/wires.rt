@@ -1,5 +1,6 @@
 ghost use Rattle.std.specs.Prelude.{◌≡◌, ⊤, true, IfOk};
 
+use crate::concatenations::CREATED_2;
 use crate::conversations::{CHUNKED, CODING, CREATED, FIRST_UPLOAD, HEAD, POST, REPLIES};
 use crate::memory::{Input, Output};
 use crate::spoken::{Expected, assert_spoken, at, joined, known_talk, new_book};
@@ -181,24 +182,25 @@ fn room_of_buffers(rt: HostRuntime) -> Result<(), Fail> {
     Ok(())
 }
 
+/// The first wire leaves its buffers with a message in them that nobody has asked for. A wire over these begins anew.
 #[test]
 fn buffers_pass_on(rt: HostRuntime) -> Result<(), Fail> {
     let alloc = rt.alloc();
-    let all = joined(alloc, &FIRST_UPLOAD)?;
+    let all = joined(alloc, &[POST, CHUNKED])?;
     let mut book = new_book(alloc)?;
     let mut wire = new_wire(alloc, Input::new(&all, usize::MAX), Output::new(alloc))?;
-    answer_one(&mut wire, &mut book)?;
+    let served = serve(&mut wire, &mut book, &mut at(1000), 1);
+    assert_eq!(rt; served, Ok(Ended::Moments));
     let (_, _, buffers) = wire.into_parts();
-    let mut book = new_book(alloc)?;
     let mut wire = Wire::over(
         buffers,
         Tapped::new(Input::new(POST, usize::MAX)),
         Tapped::new(Output::new(alloc)),
         64,
     );
-    answer_one(&mut wire, &mut book)?;
-    assert_end(&rt, "the end", &mut wire, Ok(true));
-    assert_written(&rt, wire, CREATED);
+    let served = serve(&mut wire, &mut book, &mut at(1000), 2);
+    assert_eq!(rt; served, Ok(Ended::Input));
+    assert_written(&rt, wire, CREATED_2);
     Ok(())
 }
 
