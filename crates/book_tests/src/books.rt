@@ -8,7 +8,9 @@ use std::alloc::Global;
 use std::process::Abort;
 use std::test::Fail;
 use tus_text::{Checksum, Concat, read_concat};
-use upload_book::{Appended, Book, Chunk, Moment, Name, NewFinal, Numbers, Refused, Settings};
+use upload_book::{
+    Appended, Book, Chunk, Moment, Name, NewFinal, NewUpload, Numbers, Refused, Settings,
+};
 
 pub const ACME: &[u8] = b"acme";
 
@@ -67,6 +69,21 @@ pub fn patch(
         bytes,
     };
     book.append(&acme(id), chunk, moment(rt, 1000))
+}
+
+/// Makes a complete partial upload of acme.
+pub fn part(rt: &impl Abort, book: &mut Book, bytes: &[u8]) {
+    let acme = book.settings().tenant(ACME).expect(rt, "acme");
+    let new = NewUpload {
+        partial: true,
+        length: Some(bytes.len() as u64),
+        metadata: b"",
+        concat: b"partial",
+    };
+    let made = book.create(acme, new, moment(rt, 1000));
+    let made = made.expect(rt, "a part");
+    let sent = patch(rt, book, made.name.id, 0, bytes);
+    assert!(rt; sent.is_ok());
 }
 
 /// A concatenation of parts, with a text of some. The book keeps that, and does not read it.

@@ -1,25 +1,9 @@
 //! How many hold each block.
 
-use crate::books::{ACME, NUMBERS, acme, moment, new_book, new_final, patch};
+use crate::books::{ACME, NUMBERS, acme, moment, new_book, new_final, part};
 use std::process::Abort;
 use std::test::Fail;
-use upload_book::{Book, NewUpload};
-
-// A complete partial upload of acme.
-fn part(rt: &impl Abort, book: &mut Book, bytes: &[u8]) {
-    let acme = book.settings().tenant(ACME).expect(rt, "acme");
-    let new = NewUpload {
-        partial: true,
-        length: Some(bytes.len() as u64),
-        metadata: b"",
-        concat: b"partial",
-    };
-    let made = book
-        .create(acme, new, moment(rt, 1000))
-        .expect(rt, "a part");
-    let sent = patch(rt, book, made.name.id, 0, bytes);
-    assert!(rt; sent.is_ok());
-}
+use upload_book::Book;
 
 // A final upload of acme.
 fn join(rt: &impl Abort, book: &mut Book, parts: &[Option<u64>]) {

@@ -9,7 +9,8 @@ use std::io::Print;
 use std::process::Abort;
 use std::test::Fail;
 use upload_book::{
-    Appended, Book, Created, FirstChunk, HeadRow, NewUpload, Numbers, Refusal, Refused, Settings,
+    Appended, Book, Created, FirstChunk, HeadRow, Moment, NewUpload, Numbers, Refusal, Refused,
+    Settings,
 };
 
 // How far acme's first two uploads are, what acme and beta pay, how many blocks are free, and the two totals.
@@ -42,16 +43,18 @@ fn patched(
     bytes: &[u8],
 ) -> Result<Appended, Refused> {
     let before = seen(rt, book);
-    let lacking = Err(Refused {
-        refusal: Refusal::Memory,
-        expires: Some(moment(rt, 4600)),
-    });
     let answer = patch(rt, book, 1, offset, bytes);
-    if answer != lacking {
+    let Err(
+        Refused {
+            refusal: Refusal::Memory,
+            expires,
+        },
+    ) = answer
+    else {
         return answer;
-    }
+    };
     *is_lacking = true;
-    assert_eq!(rt; seen(rt, book), before);
+    assert!(rt; expires == Moment::new(4600) && seen(rt, book) == before);
     patch(rt, book, 1, offset, bytes)
 }
 
@@ -80,7 +83,7 @@ fn created(rt: &impl Abort, book: &mut Book, is_lacking: &mut bool) -> Result<Cr
         return answer;
     }
     *is_lacking = true;
-    assert_eq!(rt; seen(rt, book), before);
+    assert!(rt; seen(rt, book) == before);
     create(rt, book)
 }
 
@@ -99,7 +102,7 @@ fn joined(rt: &impl Abort, book: &mut Book, is_lacking: &mut bool) -> Result<Cre
         return answer;
     }
     *is_lacking = true;
-    assert_eq!(rt; seen(rt, book), before);
+    assert!(rt; seen(rt, book) == before);
     join(rt, book)
 }
 
@@ -109,7 +112,7 @@ fn assert_content(rt: &impl Abort, book: &Book, is_lacking: &mut bool, id: u64, 
     let mut answer = book.content(&acme(id), moment(rt, 1000));
     if let Err(Refusal::Memory) = answer {
         *is_lacking = true;
-        assert_eq!(rt; seen(rt, book), before);
+        assert!(rt; seen(rt, book) == before);
         answer = book.content(&acme(id), moment(rt, 1000));
     }
     let content = answer.expect(rt, "a content");

@@ -1,58 +1,67 @@
 //! Texts that a book keeps, and names that are no upload's.
 
-use crate::books::{ACME, BETA, NUMBERS, moment, new_book, new_final, patch};
+use crate::books::{ACME, BETA, NUMBERS, acme, moment, new_book, new_final, part};
+use std::process::Abort;
 use std::test::Fail;
 use tus_text::check_metadata;
-use upload_book::{Chunk, Kind, Moment, Name, NewFinal, NewUpload, Refusal, Refused};
+use upload_book::{
+    Book, Chunk, Created, Kind, Moment, Name, NewFinal, NewUpload, Refusal, Refused,
+};
 
 const METADATA: &[u8] = b"a YQ==,b";
 
-#[test]
-fn a_partial_upload_keeps_its_texts(rt: HostRuntime) -> Result<(), Fail> {
+// A complete partial upload of beta with texts.
+fn partial(rt: &impl Abort, book: &mut Book) -> Created {
     assert!(rt; check_metadata(METADATA));
-    let mut book = new_book(rt.alloc(), NUMBERS)?;
-    let beta = book.settings().tenant(BETA).ok_or("beta")?;
+    let beta = book.settings().tenant(BETA).expect(rt, "beta");
     let new = NewUpload {
         partial: true,
         length: Some(0),
         metadata: METADATA,
         concat: b"partial",
     };
-    let made = book.create(beta, new, moment(&rt, 1000))?;
-    assert_eq!(rt; made.name, Name { tenant: 1, id: 1 });
-    assert_eq!(rt; made.expires, Moment::new(4600));
-    let row = book.look(&made.name, moment(&rt, 1000))?;
-    assert_eq!(rt; row.kind, Kind::Partial);
-    assert_eq!(rt; row.metadata.as_slice(), METADATA);
-    assert_eq!(rt; row.concat.as_slice(), b"partial".as_slice());
-    assert_eq!(rt; row.expires, Moment::new(4600));
+    let made = book.create(beta, new, moment(rt, 1000));
+    made.expect(rt, "a partial upload")
+}
+
+// A final upload of acme's first one twice, with texts.
+fn twice(rt: &impl Abort, book: &mut Book) -> Created {
+    assert!(rt; check_metadata(METADATA));
+    let acme = book.settings().tenant(ACME).expect(rt, "acme");
+    let parts = [Some(1), Some(1)];
+    let new = NewFinal {
+        metadata: METADATA,
+        ..new_final(rt, &parts)
+    };
+    let made = book.concat(acme, new, moment(rt, 1000));
+    made.expect(rt, "a final upload")
+}
+
+// An upload that was just made has this kind, the texts that it was made with, and the end that it was told.
+fn assert_shown(rt: &impl Abort, book: &Book, made: Created, kind: Kind, concat: &[u8]) {
+    let row = book.look(&made.name, moment(rt, 1000));
+    let row = row.expect(rt, "an upload");
+    assert!(rt; row.kind == kind && row.expires == made.expires);
+    assert!(rt; row.metadata.as_slice() == METADATA);
+    assert!(rt; row.concat.as_slice() == concat);
+}
+
+#[test]
+fn a_partial_upload_keeps_its_texts(rt: HostRuntime) -> Result<(), Fail> {
+    let mut book = new_book(rt.alloc(), NUMBERS)?;
+    let made = partial(&rt, &mut book);
+    assert!(rt; made.name == Name { tenant: 1, id: 1 } && made.expires == Moment::new(4600));
+    assert_shown(&rt, &book, made, Kind::Partial, b"partial");
     Ok(())
 }
 
 #[test]
 fn a_final_upload_keeps_its_texts(rt: HostRuntime) -> Result<(), Fail> {
-    assert!(rt; check_metadata(METADATA));
     let mut book = new_book(rt.alloc(), NUMBERS)?;
-    let now = moment(&rt, 1000);
-    let acme = book.settings().tenant(ACME).ok_or("acme")?;
-    let part = NewUpload {
-        partial: true,
-        length: Some(0),
-        metadata: b"",
-        concat: b"partial",
-    };
-    assert_eq!(rt; book.create(acme, part, now)?.name.id, 1);
-    let parts = [Some(1), Some(1)];
-    let new = NewFinal {
-        metadata: METADATA,
-        ..new_final(&rt, &parts)
-    };
-    let concat = new.concat;
-    let acme = book.settings().tenant(ACME).ok_or("acme")?;
-    let made = book.concat(acme, new, now)?;
-    let row = book.look(&made.name, now)?;
-    assert_eq!(rt; row.metadata.as_slice(), METADATA);
-    assert_eq!(rt; row.concat.as_slice(), concat);
+    part(&rt, &mut book, b"");
+    let made = twice(&rt, &mut book);
+    assert!(rt; made.name == acme(2) && made.expires.is_none());
+    assert_shown(&rt, &book, made, Kind::Final, b"final;/files/acme/1");
     Ok(())
 }
 
@@ -80,19 +89,17 @@ fn a_tenant_that_is_not_there(rt: HostRuntime) -> Result<(), Fail> {
     Ok(())
 }
 
+// A GET of acme's first upload hands over these bytes.
+fn assert_handed_over(rt: &impl Abort, book: &Book, bytes: &[u8]) {
+    let content = book.content(&acme(1), moment(rt, 1000));
+    let content = content.expect(rt, "a content").into_vec();
+    assert!(rt; content.as_slice() == bytes);
+}
+
 #[test]
 fn a_content_is_handed_over(rt: HostRuntime) -> Result<(), Fail> {
     let mut book = new_book(rt.alloc(), NUMBERS)?;
-    let tenant = book.settings().tenant(ACME).ok_or("acme")?;
-    let new = NewUpload {
-        partial: false,
-        length: Some(5),
-        metadata: b"",
-        concat: b"",
-    };
-    let name = book.create(tenant, new, moment(&rt, 1000))?.name;
-    assert!(rt; patch(&rt, &mut book, name.id, 0, b"abcde").is_ok());
-    let content = book.content(&name, moment(&rt, 1000))?;
-    assert_eq!(rt; content.into_vec().as_slice(), b"abcde".as_slice());
+    part(&rt, &mut book, b"abcde");
+    assert_handed_over(&rt, &book, b"abcde");
     Ok(())
 }

@@ -1,6 +1,6 @@
 //! Desks that answer batches at once.
 
-ghost use Rattle.std.specs.Prelude.{◌≡◌};
+ghost use Rattle.std.specs.Prelude.{◌≡◌, vec_len};
 
 use crate::requests::Asked::{Delete, Get, Head, Patch, Post};
 use crate::requests::{Asked, Told, moment, settings, told_by, told_of, turn};
@@ -13,9 +13,9 @@ use std::sync::ledger::{Blank, Ledger};
 use std::test::Fail;
 use std::thread;
 use std::thread::Threads;
-use tus_shared::{Balance, Charges, Gate, Opened, Shared, Stop, Turn, settle, work_all};
+use tus_shared::{Balance, Charges, Desk, Gate, Opened, Shared, Stop, Turn, settle, work_all};
 use tus_steps::Reply;
-use upload_book::{Name, Refusal, Settings};
+use upload_book::{Book, Name, Refusal, Settings};
 
 const FIRST: &[u8] = b"/files/acme/1";
 
@@ -62,6 +62,60 @@ pub fn assert_told(rt: &impl Abort, replies: Option<&Vec<Reply>>, told: &[Told])
     }
 }
 
+// A desk makes an upload of this length.
+fn create<C: Charges, R: Ledger, W: Wait + Abort>(
+    rt: &W,
+    shared: &Shared<C, R, &W>,
+    desk: &mut Desk<C, R>,
+    length: &'static [u8],
+) {
+    let created = turn(rt, Post(length));
+    let _ = desk.call(rt, shared, &created.request, created.now);
+}
+
+const BEGUN: Told<'static> = Told::Row(0, Some(10), b"", Some(4600));
+
+const GROWN: Told<'static> = Told::Row(5, Some(10), b"", Some(4600));
+
+// Two desks answer their batches: a PATCH and a HEAD, and a HEAD that is answered before that PATCH.
+fn meet<C: Charges + Send + Sync, R: Ledger + Send + Sync, W: Threads + Wait + Abort + Sync>(
+    rt: &W,
+    alloc: Global,
+    shared: &Shared<C, R, &W>,
+    desks: &mut Vec<Desk<C, R>>,
+) -> Result<(), Fail>
+    requires { vec_len desks.old ≡ 2 }
+    ensures { vec_len desks.new ≡ 2 }
+{
+    let meeting = Meeting {
+        locked: AtomicU64::new(0),
+        answered: AtomicU64::new(0),
+        missed: AtomicU64::new(0),
+    };
+    let first = [
+        turn(rt, Patch(FIRST, b"0", b"hello")),
+        turn(rt, Head(FIRST)),
+    ];
+    let second = [turn(rt, Head(FIRST))];
+    let batches = [&first[..], &second[..]];
+    let replies = work_all(rt, alloc, shared, desks, &batches, &meeting)?;
+    assert!(rt;
+        meeting.missed.load(Ordering::SeqCst) == 0,
+        "each desk was met"
+    );
+    assert_told(rt, replies.get(0), &[Told::Patched(5, Some(4600)), GROWN]);
+    assert_told(rt, replies.get(1), &[BEGUN]);
+    Ok(())
+}
+
+// The book has one upload, which has grown.
+fn assert_grown(rt: &impl Abort, book: &Book) {
+    let row = book.look(&Name { tenant: 0, id: 1 }, moment(rt, 1000));
+    assert!(rt; told_of(&row) == GROWN);
+    let none = book.look(&Name { tenant: 0, id: 2 }, moment(rt, 1000));
+    assert!(rt; told_of(&none) == Told::Refused(Refusal::Unknown, None));
+}
+
 // Both desks answer a batch at once: one is held in its first turn, with the lock, until the other has answered a HEAD.
 fn work_at_once<
     C: Charges + Send + Sync,
@@ -84,41 +138,22 @@ fn work_at_once<
     let (shared, mut desks) = Shared::<C, R, &W>::open(
         rt, alloc, settings, 2, charged, released, lines,
     )?;
-    let created = turn(rt, Post(b"10"));
-    let _ = desks[0].call(rt, &shared, &created.request, created.now);
-    let meeting = Meeting {
-        locked: AtomicU64::new(0),
-        answered: AtomicU64::new(0),
-        missed: AtomicU64::new(0),
-    };
-    let first = [
-        turn(rt, Patch(FIRST, b"0", b"hello")),
-        turn(rt, Head(FIRST)),
-    ];
-    let second = [turn(rt, Head(FIRST))];
-    let batches = [&first[..], &second[..]];
-    let replies = work_all(rt, alloc, &shared, &mut desks, &batches, &meeting)?;
-    assert_eq!(rt; meeting.missed.load(Ordering::SeqCst), 0);
-    let begun = Told::Row(0, Some(10), b"", Some(4600));
-    let grown = Told::Row(5, Some(10), b"", Some(4600));
-    assert_told(rt, replies.get(0), &[Told::Patched(5, Some(4600)), grown]);
-    assert_told(rt, replies.get(1), &[begun]);
+    create(rt, &shared, &mut desks[0], b"10");
+    meet(rt, alloc, &shared, &mut desks)?;
     let (book, balance) = settle(shared, desks);
-    assert_eq!(rt;
-        balance,
-        Balance {
-            charged: 2,
-            released: 0,
-            held: 2
-        }
-    );
-    let first = Name { tenant: 0, id: 1 };
-    let row = book.look(&first, moment(rt, 1000));
-    assert_eq!(rt; told_of(&row), grown);
-    let second = Name { tenant: 0, id: 2 };
-    let none = book.look(&second, moment(rt, 1000));
-    assert_eq!(rt; told_of(&none), Told::Refused(Refusal::Unknown, None));
+    assert_grown(rt, &book);
+    assert_balance(rt, balance, [2, 0, 2]);
     Ok(())
+}
+
+// How many blocks were charged, were released, and are held.
+fn assert_balance(rt: &impl Abort, balance: Balance, expected: [u64; 3]) {
+    let Balance {
+        charged,
+        released,
+        held,
+    } = balance;
+    assert!(rt; [charged, released, held] == expected);
 }
 
 #[test]
@@ -222,7 +257,39 @@ fn assert_race(rt: &impl Abort, replies: &[Vec<Reply>], turn: usize, first: Told
     assert!(rt; !is_open, "turn {turn}");
 }
 
-// Sixteen desks have the same batch, and come to each of its turns together.
+// Sixteen desks answer the same batch, and come to each of its turns together.
+fn meet_each_turn<
+    C: Charges + Send + Sync,
+    R: Ledger + Send + Sync,
+    W: Threads + Wait + Abort + Sync,
+>(rt: &W, alloc: Global, shared: &Shared<C, R, &W>, desks: &mut Vec<Desk<C, R>>) -> Result<(), Fail>
+    requires { vec_len desks.old ≡ 16 }
+    ensures { vec_len desks.new ≡ 16 }
+{
+    let together = Together {
+        begun: AtomicU64::new(0),
+        missed: AtomicU64::new(0),
+    };
+    let batch = RACES.map(|(asked, _, _)| turn(rt, asked));
+    let batches = [&batch[..]; 16];
+    let replies = work_all(rt, alloc, shared, desks, &batches, &together)?;
+    assert!(rt;
+        together.missed.load(Ordering::SeqCst) == 0,
+        "each desk was met"
+    );
+    assert_races(rt, &replies);
+    Ok(())
+}
+
+// Asserts what the desks' replies tell, turn by turn.
+fn assert_races(rt: &impl Abort, replies: &[Vec<Reply>]) {
+    assert!(rt; replies.len() == 16);
+    for (turn, (_, first, late)) in RACES.iter().enumerate() {
+        assert_race(rt, replies, turn, *first, *late);
+    }
+}
+
+// Sixteen desks race for one upload, and its blocks are free at the end.
 fn race<C: Charges + Send + Sync, R: Ledger + Send + Sync, W: Threads + Wait + Abort + Sync>(
     rt: &W,
     alloc: Global,
@@ -240,30 +307,12 @@ fn race<C: Charges + Send + Sync, R: Ledger + Send + Sync, W: Threads + Wait + A
     let (shared, mut desks) = Shared::<C, R, &W>::open(
         rt, alloc, settings, 16, charged, released, lines,
     )?;
-    let created = turn(rt, Post(b"32"));
-    let _ = desks[0].call(rt, &shared, &created.request, created.now);
-    let together = Together {
-        begun: AtomicU64::new(0),
-        missed: AtomicU64::new(0),
-    };
-    let batch = RACES.map(|(asked, _, _)| turn(rt, asked));
-    let batches = [&batch[..]; 16];
-    let replies = work_all(rt, alloc, &shared, &mut desks, &batches, &together)?;
-    assert_eq!(rt; together.missed.load(Ordering::SeqCst), 0);
-    assert_eq!(rt; replies.len(), 16);
-    for (turn, (_, first, late)) in RACES.iter().enumerate() {
-        assert_race(rt, &replies, turn, *first, *late);
-    }
+    create(rt, &shared, &mut desks[0], b"32");
+    meet_each_turn(rt, alloc, &shared, &mut desks)?;
     let (book, balance) = settle(shared, desks);
-    assert_eq!(rt;
-        balance,
-        Balance {
-            charged: 8,
-            released: 8,
-            held: 0
-        }
-    );
-    assert_eq!(rt; book.free_blocks(), 12);
+    let free = book.free_blocks();
+    assert_balance(rt, balance, [8, 8, 0]);
+    assert!(rt; free == 12);
     Ok(())
 }
 

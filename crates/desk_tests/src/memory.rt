@@ -12,8 +12,29 @@ use std::process::Abort;
 use std::sync::Wait;
 use std::sync::ledger::{Blank, Ledger};
 use std::test::Fail;
-use tus_shared::{Charges, Opened, Shared};
+use tus_shared::{Charges, Desk, Opened, Shared};
 use upload_book::{Name, Numbers, Settings};
+
+// A desk makes an upload, and tells its id.
+fn create<C: Charges, R: Ledger, W: Wait + Abort>(
+    rt: &W,
+    shared: &Shared<C, R, &W>,
+    desk: &mut Desk<C, R>,
+    id: u64,
+) {
+    let creation = turn(rt, Post(b"10"));
+    let reply = desk.call(rt, shared, &creation.request, creation.now);
+    assert!(rt; told_by(&reply) == Told::Created(id, None, Some(4600)));
+}
+
+// A desk answers 500 HEADs of an upload without bytes.
+fn look<C: Charges, R: Ledger>(rt: &impl Abort, desk: &mut Desk<C, R>, id: u64) {
+    let empty = Told::Row(0, Some(10), b"", Some(4600));
+    for _ in 0..500u64 {
+        let row = desk.head(&Name { tenant: 0, id }, moment(rt, 1000));
+        assert!(rt; told_of(&row) == empty, "upload {id}");
+    }
+}
 
 // Twenty creations and twenty sweeps, and 500 HEADs after each creation.
 fn create_look_and_sweep<C: Charges, R: Ledger, W: Wait + Abort>(
@@ -34,17 +55,11 @@ fn create_look_and_sweep<C: Charges, R: Ledger, W: Wait + Abort>(
         rt, alloc, settings, 1, charged, released, lines,
     )?;
     let mut desk = desks.pop().ok_or("a desk")?;
-    let creation = turn(rt, Post(b"10"));
-    let empty = Told::Row(0, Some(10), b"", Some(4600));
     for id in 1..21u64 {
-        let reply = desk.call(rt, &shared, &creation.request, creation.now);
-        assert_eq!(rt; told_by(&reply), Told::Created(id, None, Some(4600)));
-        for _ in 0..500u64 {
-            let row = desk.head(&Name { tenant: 0, id }, creation.now);
-            assert_eq!(rt; told_of(&row), empty, "upload {id}");
-        }
+        create(rt, &shared, &mut desk, id);
+        look(rt, &mut desk, id);
         let swept = desk.sweep(rt, &shared, moment(rt, 4600))?;
-        assert_eq!(rt; swept.uploads, 1);
+        assert!(rt; swept.uploads == 1);
     }
     Ok(())
 }

@@ -90,6 +90,11 @@ fn reply_to<C: Charges + Send + Sync, R: Ledger + Send + Sync, W: Threads + Wait
     }
 }
 
+// What a desk tells is what the step at a place says, by each way in which it is asked.
+fn assert_tells(rt: &impl Abort, told: Told, expected: Told, place: usize, way: Way) {
+    assert_eq!(rt; told, expected, "step {place}, by {way:?}");
+}
+
 // Takes two desks through one step.
 fn take<C: Charges + Send + Sync, R: Ledger + Send + Sync, W: Threads + Wait + Abort + Sync>(
     rt: &W,
@@ -117,16 +122,16 @@ fn take<C: Charges + Send + Sync, R: Ledger + Send + Sync, W: Threads + Wait + A
             let request = asked.request();
             let turn = Turn { request, now };
             let reply = reply_to(rt, alloc, shared, desks, desk, way, turn)?;
-            assert_eq!(rt; told_by(&reply), told, "step {place}, by {way:?}");
+            assert_tells(rt, told_by(&reply), told, place, way);
         }
         Call::Look(tenant, id) => {
             let answer = desks[desk].head(&Name { tenant, id }, now);
-            assert_eq!(rt; told_of(&answer), told, "step {place}");
+            assert_tells(rt, told_of(&answer), told, place, way);
         }
         Call::Sweep => {
             let swept = desks[desk].sweep(rt, shared, now)?;
             let ended = Told::Swept(swept.uploads, swept.blocks, swept.released);
-            assert_eq!(rt; ended, told, "step {place}");
+            assert_tells(rt, ended, told, place, way);
         }
     }
     Ok(())

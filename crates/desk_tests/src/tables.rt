@@ -62,30 +62,79 @@ pub fn assert_shown(
     }
 }
 
+// The tenant and the id of an upload.
+type Place = (u8, u64);
+
+// A line for a table, with how many blocks were charged after it, or what the table shows then.
+enum Step {
+    // An upload has so many bytes, this metadata and this end.
+    Put(Place, u64, &'static [u8; 6], Option<u64>, u64),
+    Gone(Place, u64),
+    Swept(u64, u64),
+    // At a second an upload has so many bytes and this metadata, or is not shown.
+    Shows(Place, u64, Result<(u64, &'static [u8]), Refusal>),
+}
+
+static FOLLOWED: [Step; 16] = [
+    Step::Shows((0, 1), 1000, Err(Refusal::Unknown)),
+    Step::Put((0, 1), 0, b"key QQ", Some(5000), 0),
+    Step::Shows((0, 1), 1000, Ok((0, b"key QQ"))),
+    Step::Shows((0, 1), 5000, Err(Refusal::Gone)),
+    Step::Put((0, 1), 5, b"key Qg", Some(5000), 2),
+    Step::Shows((0, 1), 1000, Ok((5, b"key Qg"))),
+    Step::Put((0, 2), 7, b"key Qw", None, 4),
+    Step::Put((1, 1), 9, b"key RA", Some(5000), 7),
+    Step::Shows((0, 2), 1000, Ok((7, b"key Qw"))),
+    Step::Shows((1, 1), 1000, Ok((9, b"key RA"))),
+    Step::Gone((0, 1), 7),
+    Step::Shows((0, 1), 1000, Err(Refusal::Gone)),
+    Step::Shows((0, 2), 1000, Ok((7, b"key Qw"))),
+    Step::Swept(5000, 7),
+    Step::Shows((1, 1), 1000, Err(Refusal::Gone)),
+    Step::Shows((0, 2), 5000, Ok((7, b"key Qw"))),
+];
+
+// Asserts what a table shows of an upload at a second, or why nothing.
+fn assert_shows(
+    rt: &impl Abort,
+    table: &Table,
+    name: Name,
+    secs: u64,
+    expected: Result<(u64, &[u8]), Refusal>,
+) {
+    assert_shown(rt, table.look(&name, moment(rt, secs)), expected);
+}
+
+// Applies a line to a table, which then has what was charged after it.
+fn apply(rt: &impl Abort, table: &mut Table, change: HeadChange, charged: u64) {
+    table.apply(&line(change, charged));
+    assert!(rt; table.accounts().charged == charged);
+}
+
+// Takes a table through one step.
+fn take(rt: &impl Abort, table: &mut Table, step: &Step) {
+    match step {
+        Step::Put((tenant, id), offset, metadata, expires, charged) => {
+            let expires = expires.map(|end| moment(rt, end));
+            let change = Put(name(*tenant, *id), row(*offset, metadata, expires));
+            apply(rt, table, change, *charged);
+        }
+        Step::Gone((tenant, id), charged) => apply(rt, table, Gone(name(*tenant, *id)), *charged),
+        Step::Swept(secs, charged) => apply(rt, table, Swept(moment(rt, *secs)), *charged),
+        Step::Shows((tenant, id), secs, expected) => {
+            assert_shows(rt, table, name(*tenant, *id), *secs, *expected)
+        }
+    }
+}
+
 #[test]
 fn a_table_follows_its_lines(rt: HostRuntime) -> Result<(), Fail> {
     let mut table = Table::new(rt.alloc(), &settings()?)?;
-    let (now, later) = (moment(&rt, 1000), moment(&rt, 5000));
-    let first = name(0, 1);
-    assert_shown(&rt, table.look(&first, now), Err(Refusal::Unknown));
-    table.apply(&line(Put(first, row(0, b"key QQ", Some(later))), 0));
-    assert_shown(&rt, table.look(&first, now), Ok((0, b"key QQ")));
-    assert_shown(&rt, table.look(&first, later), Err(Refusal::Gone));
-    table.apply(&line(Put(first, row(5, b"key Qg", Some(later))), 2));
-    assert_shown(&rt, table.look(&first, now), Ok((5, b"key Qg")));
-    assert_eq!(rt; table.accounts().charged, 2);
-    table.apply(&line(Put(name(0, 2), row(7, b"key Qw", None)), 4));
-    table.apply(&line(Put(name(1, 1), row(9, b"key RA", Some(later))), 7));
-    assert_shown(&rt, table.look(&name(0, 2), now), Ok((7, b"key Qw")));
-    assert_shown(&rt, table.look(&name(1, 1), now), Ok((9, b"key RA")));
-    table.apply(&line(Gone(first), 7));
-    assert_shown(&rt, table.look(&first, now), Err(Refusal::Gone));
-    assert_shown(&rt, table.look(&name(0, 2), now), Ok((7, b"key Qw")));
-    table.apply(&line(Swept(later), 7));
-    assert_shown(&rt, table.look(&name(1, 1), now), Err(Refusal::Gone));
-    assert_shown(&rt, table.look(&name(0, 2), later), Ok((7, b"key Qw")));
-    assert_shown(&rt, table.look(&name(0, 3), now), Err(Refusal::Unknown));
-    assert_shown(&rt, table.look(&name(2, 1), now), Err(Refusal::Unknown));
+    for step in &FOLLOWED {
+        take(&rt, &mut table, step);
+    }
+    assert_shows(&rt, &table, name(0, 3), 1000, Err(Refusal::Unknown));
+    assert_shows(&rt, &table, name(2, 1), 1000, Err(Refusal::Unknown));
     Ok(())
 }
 

@@ -1,10 +1,11 @@
 //! How a HEAD is found among requests, and answered by what its upload shows.
 use crate::books::{at, book};
-use crate::requests::{creation, request};
+use crate::requests::{CREATION, FIELDS, HEAD, Sent, sent};
 use crate::told::{Told, told_by};
+use std::process::Abort;
 use std::test::Fail;
-use tus_steps::{HeadOf, Method, answer, head_of, head_reply};
-use upload_book::{Name, Refusal};
+use tus_steps::{HeadOf, Method, TusFields, answer, head_of, head_reply};
+use upload_book::{Book, Moment, Name, Refusal, Settings};
 
 /// What `head_of` finds, with a reply as what it tells.
 #[derive(Clone, Copy, Debug, PartialEq, Eq)]
@@ -22,54 +23,46 @@ fn found_by(found: &HeadOf) -> Found<'_> {
     }
 }
 
+static FOUND: [(Sent, Found); 5] = [
+    (HEAD, Found::Of(Name { tenant: 0, id: 1 })),
+    (
+        sent!(Head b"/files/beta/7" [] b""),
+        Found::Of(Name { tenant: 1, id: 7 }),
+    ),
+    (
+        sent!(Head b"/files/acme" [] b""),
+        Found::Refused(Told::Bare(Refusal::Method, None)),
+    ),
+    (sent!(Get b"/files/acme/1" [] b""), Found::NotHead),
+    (CREATION, Found::NotHead),
+];
+
+fn check_found(rt: &impl Abort, settings: &Settings, rows: &[(Sent, Found)]) {
+    for (sent, expected) in rows {
+        let found = head_of(settings, &sent.request());
+        assert!(rt; found_by(&found) == *expected);
+    }
+}
+
 #[test]
 fn a_head_is_found_among_the_requests(rt: HostRuntime) -> Result<(), Fail> {
     let book = book(rt.alloc())?;
-    let no_upload = Found::Refused(Told::Refused {
-        refusal: Refusal::Method,
-        head: true,
-        expires: None,
-    });
-    let rows = [
-        (
-            request(Method::Head, b"/files/acme/1"),
-            Found::Of(Name { tenant: 0, id: 1 }),
-        ),
-        (
-            request(Method::Head, b"/files/beta/7"),
-            Found::Of(Name { tenant: 1, id: 7 }),
-        ),
-        (request(Method::Head, b"/files/acme"), no_upload),
-        (request(Method::Get, b"/files/acme/1"), Found::NotHead),
-        (creation(b"10"), Found::NotHead),
-    ];
-    for (request, expected) in &rows {
-        let found = head_of(book.settings(), request);
-        assert_eq!(rt; &found_by(&found), expected);
-    }
+    check_found(&rt, book.settings(), &FOUND);
     Ok(())
+}
+
+// A HEAD of acme's first upload, answered by a look, is told this.
+fn assert_shown(rt: &impl Abort, book: &Book, told: &Told) {
+    let now = Moment::new(1000).expect(rt, "a moment");
+    let reply = head_reply(book.look(&Name { tenant: 0, id: 1 }, now));
+    assert!(rt; told_by(&reply) == *told);
 }
 
 #[test]
 fn a_head_is_answered_by_a_look(rt: HostRuntime) -> Result<(), Fail> {
     let mut book = book(rt.alloc())?;
-    let now = at(1000)?;
-    let name = Name { tenant: 0, id: 1 };
-    let unknown = Told::Refused {
-        refusal: Refusal::Unknown,
-        head: true,
-        expires: None,
-    };
-    let reply = head_reply(book.look(&name, now));
-    assert_eq!(rt; told_by(&reply), unknown);
-    answer(&mut book, &creation(b"10"), now);
-    let shown = Told::Head {
-        offset: 0,
-        length: Some(10),
-        metadata: b"",
-        concat: b"",
-    };
-    let reply = head_reply(book.look(&name, now));
-    assert_eq!(rt; told_by(&reply), shown);
+    assert_shown(&rt, &book, &Told::Bare(Refusal::Unknown, None));
+    answer(&mut book, &CREATION.request(), at(1000)?);
+    assert_shown(&rt, &book, &Told::Row(0, Some(10), b"", b""));
     Ok(())
 }

@@ -2,102 +2,57 @@
 use tus_steps::{Field, Method, Request, TusFields};
 use tus_text::read_path;
 
+/// A request as a row has it, with its target as a text.
+#[derive(Clone, Copy)]
+pub(crate) struct Sent<'a> {
+    pub(crate) method: Method,
+    pub(crate) target: &'a [u8],
+    pub(crate) fields: TusFields<Field<'a>>,
+    pub(crate) body: &'a [u8],
+}
+
+impl<'a> Sent<'a> {
+    pub(crate) fn request(&self) -> Request<'a> {
+        Request {
+            method: self.method,
+            path: read_path(self.target),
+            fields: self.fields,
+            body: self.body,
+        }
+    }
+}
+
 /// The fields of a request that names the version alone.
-pub(crate) fn fields<'a>() -> TusFields<Field<'a>> {
-    TusFields {
-        version: Field::One(b"1.0.0"),
-        length: Field::Absent,
-        defer: Field::Absent,
-        offset: Field::Absent,
-        metadata: Field::Absent,
-        concat: Field::Absent,
-        checksum: Field::Absent,
-        media: Field::Absent,
-    }
+pub(crate) const FIELDS: TusFields<Field<'static>> = TusFields {
+    version: Field::One(b"1.0.0"),
+    length: Field::Absent,
+    defer: Field::Absent,
+    offset: Field::Absent,
+    metadata: Field::Absent,
+    concat: Field::Absent,
+    checksum: Field::Absent,
+    media: Field::Absent,
+};
+
+/// The content type of a PATCH.
+pub(crate) const TYPED: Field<'static> = Field::One(b"application/offset+octet-stream");
+
+/// A request `Method target [field: value, ..] body`, which names the version where no field says another.
+macro_rules! sent {
+    ($method:ident $target:literal [$($name:ident: $field:expr),*] $body:literal) => {
+        Sent {
+            method: Method::$method,
+            target: $target,
+            fields: TusFields { $($name: $field,)* ..FIELDS },
+            body: $body,
+        }
+    };
 }
 
-pub(crate) fn length_fields<'a>(length: &'a [u8]) -> TusFields<Field<'a>> {
-    TusFields {
-        length: Field::One(length),
-        ..fields()
-    }
-}
+pub(crate) use sent;
 
-pub(crate) fn patch_fields<'a>(offset: &'a [u8]) -> TusFields<Field<'a>> {
-    TusFields {
-        offset: Field::One(offset),
-        media: Field::One(b"application/offset+octet-stream"),
-        ..fields()
-    }
-}
+/// A creation for acme, of ten bytes.
+pub(crate) const CREATION: Sent = sent!(Post b"/files/acme" [length: Field::One(b"10")] b"");
 
-/// Those of a creation with the first bytes of an upload of this length.
-pub(crate) fn upload_fields<'a>(length: &'a [u8]) -> TusFields<Field<'a>> {
-    TusFields {
-        media: Field::One(b"application/offset+octet-stream"),
-        ..length_fields(length)
-    }
-}
-
-pub(crate) fn upload_with<'a>(fields: TusFields<Field<'a>>, body: &'a [u8]) -> Request<'a> {
-    request_with(Method::Post, b"/files/acme", fields, body)
-}
-
-pub(crate) fn request<'a>(method: Method, target: &[u8]) -> Request<'a> {
-    request_with(method, target, fields(), b"")
-}
-
-pub(crate) fn request_with<'a>(
-    method: Method,
-    target: &[u8],
-    fields: TusFields<Field<'a>>,
-    body: &'a [u8],
-) -> Request<'a> {
-    Request {
-        method,
-        path: read_path(target),
-        fields,
-        body,
-    }
-}
-
-/// A creation for acme with these fields.
-pub(crate) fn creation_with<'a>(fields: TusFields<Field<'a>>) -> Request<'a> {
-    request_with(Method::Post, b"/files/acme", fields, b"")
-}
-
-pub(crate) fn creation<'a>(length: &'a [u8]) -> Request<'a> {
-    creation_with(length_fields(length))
-}
-
-pub(crate) fn with_metadata<'a>(metadata: Field<'a>) -> Request<'a> {
-    creation_with(TusFields {
-        metadata,
-        ..length_fields(b"10")
-    })
-}
-
-/// A PATCH of acme's first upload with these fields.
-pub(crate) fn patch_with<'a>(fields: TusFields<Field<'a>>, body: &'a [u8]) -> Request<'a> {
-    request_with(Method::Patch, b"/files/acme/1", fields, body)
-}
-
-pub(crate) fn patch<'a>(offset: &'a [u8], body: &'a [u8]) -> Request<'a> {
-    patch_with(patch_fields(offset), body)
-}
-
-/// A creation of a part of this length for acme.
-pub(crate) fn part<'a>(length: &'a [u8]) -> Request<'a> {
-    creation_with(TusFields {
-        concat: Field::One(b"partial"),
-        ..length_fields(length)
-    })
-}
-
-/// A creation for acme with this concat text, and with no length.
-pub(crate) fn concat<'a>(text: &'a [u8]) -> Request<'a> {
-    creation_with(TusFields {
-        concat: Field::One(text),
-        ..fields()
-    })
-}
+/// A HEAD of acme's first upload.
+pub(crate) const HEAD: Sent = sent!(Head b"/files/acme/1" [] b"");

@@ -1,52 +1,66 @@
 //! Runs: worked rows, and random events of three tenants.
 use crate::books::{NUMBERS, at, book};
-use crate::requests::{
-    creation, fields, length_fields, patch, patch_fields, request, request_with, upload_fields,
-};
-use crate::told::{Told, at_offset, created, told_by};
+use crate::requests::{CREATION, FIELDS, HEAD, Sent, TYPED};
+use crate::rows::{Row, rows};
+use crate::told::Told::{Created, Patched, Refused, Row as Shown};
+use crate::told::{Told, told_by};
 use std::alloc::Global;
 use std::io::Print;
+use std::process::Abort;
 use std::test::Fail;
 use tus_steps::{Field, Method, Reply, Request, RunFault, TusFields, run};
 use tus_text::{Path, read_path};
 use upload_book::{Book, Moment, Numbers, Refusal, Settings};
 
-// Whether the replies tell this, one after another.
-fn tell(replies: &[Reply], expected: &[Told]) -> bool {
-    replies.len() == expected.len()
-        && replies
-            .iter()
-            .zip(expected)
-            .all(|(reply, told)| told_by(reply) == *told)
+// Runs what the rows ask at a book.
+fn check_run(rt: &impl Abort, alloc: Global, book: &mut Book, rows: &[Row]) -> Result<(), Fail> {
+    let mut turns = Vec::new(alloc);
+    for row in rows {
+        turns.push((row.sent.request(), at(row.now)?))?;
+    }
+    let replies = run(alloc, book, turns.as_slice())?;
+    assert_told(rt, replies.as_slice(), rows);
+    Ok(())
 }
+
+// The replies tell what the rows say, one after another.
+fn assert_told(rt: &impl Abort, replies: &[Reply], rows: &[Row]) {
+    assert!(rt; replies.len() == rows.len());
+    for (reply, row) in replies.iter().zip(rows) {
+        assert!(rt; told_by(reply) == row.told);
+    }
+}
+
+static IN_ORDER: [Row; 4] = rows! {
+    1000 Post b"/files/acme" [length: Field::One(b"10")] b"" => Created(1, None, Some(4600));
+    1000 Patch b"/files/acme/1" [offset: Field::One(b"0"), media: TYPED] b"hello" => Patched(5, Some(4600));
+    1000 Patch b"/files/acme/1" [offset: Field::One(b"3"), media: TYPED] b"x" => Refused(Refusal::Offset, Some(4600));
+    1000 Head b"/files/acme/1" [] b"" => Shown(5, Some(10), b"", b"");
+};
 
 #[test]
 fn a_run_answers_in_order(rt: HostRuntime) -> Result<(), Fail> {
-    let mut book = book(rt.alloc())?;
-    let now = at(1000)?;
-    let turns = [
-        (creation(b"10"), now),
-        (patch(b"0", b"hello"), now),
-        (patch(b"3", b"x"), now),
-        (request(Method::Head, b"/files/acme/1"), now),
-    ];
-    let replies = run(rt.alloc(), &mut book, &turns)?;
-    let expected = [
-        created(1, Some(4600)),
-        Told::Patched {
-            offset: 5,
-            expires: Some(4600),
-        },
-        at_offset(Refusal::Offset),
-        Told::Head {
-            offset: 5,
-            length: Some(10),
-            metadata: b"",
-            concat: b"",
-        },
-    ];
-    assert!(rt; tell(replies.as_slice(), &expected));
     assert_eq!(rt; RunFault::Memory.word(), "memory");
+    let mut book = book(rt.alloc())?;
+    check_run(&rt, rt.alloc(), &mut book, &[])?;
+    check_run(&rt, rt.alloc(), &mut book, &IN_ORDER)
+}
+
+static CREATED_AND_SHOWN: [Row; 2] = rows! {
+    1000 Post b"/files/acme" [length: Field::One(b"10")] b"" => Created(1, None, Some(4600));
+    1000 Head b"/files/acme/1" [] b"" => Shown(0, Some(10), b"", b"");
+};
+
+// Runs a creation and a HEAD, and once more where the first run was refused; says on the output whether it was.
+fn run_again<W: Abort + Print>(rt: &W, alloc: Global, book: &mut Book) -> Result<(), Fail> {
+    let now = at(1000)?;
+    let turns = [(CREATION.request(), now), (HEAD.request(), now)];
+    let mut replies = run(alloc, book, &turns);
+    if let Err(RunFault::Memory) = replies {
+        rt.println("the room for the replies was refused")?;
+        replies = run(alloc, book, &turns);
+    }
+    assert_told(rt, replies?.as_slice(), &CREATED_AND_SHOWN);
     Ok(())
 }
 
@@ -62,67 +76,22 @@ fn lacking_memory_runs_nothing(rt: HostRuntime) -> Result<(), Fail> {
     let Ok(mut book) = Book::new(rt.alloc(), settings) else {
         return Ok(());
     };
-    let now = at(1000)?;
-    let none = run(rt.alloc(), &mut book, &[])?;
-    assert!(rt; none.is_empty());
-    let turns = [
-        (creation(b"10"), now),
-        (request(Method::Head, b"/files/acme/1"), now),
-    ];
-    let mut told = run(rt.alloc(), &mut book, &turns);
-    if let Err(RunFault::Memory) = told {
-        rt.println("the room for the replies was refused")?;
-        told = run(rt.alloc(), &mut book, &turns);
-    }
-    let expected = [
-        created(1, Some(4600)),
-        Told::Head {
-            offset: 0,
-            length: Some(10),
-            metadata: b"",
-            concat: b"",
-        },
-    ];
-    assert!(rt; tell(told?.as_slice(), &expected));
-    Ok(())
+    run_again(&rt, rt.alloc(), &mut book)
 }
+
+static FULL: [Row; 6] = rows! {
+    1000 Post b"/files/beta" [length: Field::One(b"16")] b"" => Created(1, None, Some(4600));
+    1000 Patch b"/files/beta/1" [offset: Field::One(b"0"), media: TYPED] b"bbbbbbbbbbbbbbbb" => Patched(16, None);
+    1000 Post b"/files/acme" [length: Field::One(b"32")] b"" => Created(1, None, Some(4600));
+    1000 Patch b"/files/acme/1" [offset: Field::One(b"0"), media: TYPED] b"aaaaaaaaaaaaaaaaaaaaaaaaaaaaaaaa" => Patched(32, None);
+    1000 Post b"/files/acme" [length: Field::One(b"1")] b"" => Created(2, None, Some(4600));
+    1000 Patch b"/files/acme/2" [offset: Field::One(b"0"), media: TYPED] b"x" => Refused(Refusal::Quota, Some(4600));
+};
 
 #[test]
 fn a_full_tenant_leaves_room_for_its_neighbour(rt: HostRuntime) -> Result<(), Fail> {
     let mut book = book(rt.alloc())?;
-    let now = at(1000)?;
-    let beta_creation = request_with(Method::Post, b"/files/beta", length_fields(b"16"), b"");
-    let beta_patch = request_with(
-        Method::Patch,
-        b"/files/beta/1",
-        patch_fields(b"0"),
-        &[b'b'; 16],
-    );
-    let second_patch = request_with(Method::Patch, b"/files/acme/2", patch_fields(b"0"), b"x");
-    let turns = [
-        (beta_creation, now),
-        (beta_patch, now),
-        (creation(b"32"), now),
-        (patch(b"0", &[b'a'; 32]), now),
-        (creation(b"1"), now),
-        (second_patch, now),
-    ];
-    let replies = run(rt.alloc(), &mut book, &turns)?;
-    let expected = [
-        created(1, Some(4600)),
-        Told::Patched {
-            offset: 16,
-            expires: None,
-        },
-        created(1, Some(4600)),
-        Told::Patched {
-            offset: 32,
-            expires: None,
-        },
-        created(2, Some(4600)),
-        at_offset(Refusal::Quota),
-    ];
-    assert!(rt; tell(replies.as_slice(), &expected));
+    check_run(&rt, rt.alloc(), &mut book, &FULL)?;
     assert_eq!(rt; book.free_blocks(), 0);
     Ok(())
 }
@@ -171,35 +140,57 @@ fn parts(tenant: u64) -> &'static [u8] {
     }
 }
 
-// A creation for a tenant with these fields.
-fn creation_for(tenant: u64, fields: TusFields<Field<'static>>) -> Request<'static> {
-    request_with(Method::Post, creations(tenant), fields, b"")
+// A creation for a tenant with these fields and bytes.
+fn creation_for(
+    tenant: u64,
+    fields: TusFields<Field<'static>>,
+    body: &'static [u8],
+) -> Request<'static> {
+    Request {
+        method: Method::Post,
+        path: read_path(creations(tenant)),
+        fields,
+        body,
+    }
 }
+
+const FOUR: TusFields<Field<'static>> = TusFields {
+    length: Field::One(b"4"),
+    ..FIELDS
+};
+
+const PART_OF_FOUR: TusFields<Field<'static>> = TusFields {
+    concat: Field::One(b"partial"),
+    ..FOUR
+};
+
+const FIRST_OF_NINE: TusFields<Field<'static>> = TusFields {
+    length: Field::One(b"9"),
+    media: TYPED,
+    ..FIELDS
+};
+
+const AT_START: TusFields<Field<'static>> = TusFields {
+    offset: Field::One(b"0"),
+    media: TYPED,
+    ..FIELDS
+};
+
+const AT_FOUR: TusFields<Field<'static>> = TusFields {
+    offset: Field::One(b"4"),
+    ..AT_START
+};
 
 // A request of this kind for a tenant and an id.
 fn request_of(kind: u64, tenant: u64, id: u64) -> Request<'static> {
     match kind {
-        0 => creation_for(tenant, length_fields(b"4")),
-        1 => request_with(
-            Method::Post,
-            creations(tenant),
-            upload_fields(b"9"),
-            b"abcd",
-        ),
-        2 => creation_for(
-            tenant,
-            TusFields {
-                concat: Field::One(b"partial"),
-                ..length_fields(b"4")
-            },
-        ),
-        3 => creation_for(
-            tenant,
-            TusFields {
-                concat: Field::One(parts(tenant)),
-                ..fields()
-            },
-        ),
+        0 => creation_for(tenant, FOUR, b""),
+        1 => creation_for(tenant, FIRST_OF_NINE, b"abcd"),
+        2 => creation_for(tenant, PART_OF_FOUR, b""),
+        3 => {
+            let concat = Field::One(parts(tenant));
+            creation_for(tenant, TusFields { concat, ..FIELDS }, b"")
+        }
         _ => request_at(kind, upload(tenant, id)),
     }
 }
@@ -207,12 +198,12 @@ fn request_of(kind: u64, tenant: u64, id: u64) -> Request<'static> {
 // A request of this kind at an upload.
 fn request_at(kind: u64, path: Path) -> Request<'static> {
     let (method, fields, body) = match kind {
-        4 | 5 | 6 => (Method::Patch, patch_fields(b"0"), b"abcd".as_slice()),
-        7 => (Method::Patch, patch_fields(b"4"), b"efghi".as_slice()),
-        8 => (Method::Patch, patch_fields(b"0"), b"".as_slice()),
-        9 => (Method::Get, fields(), b"".as_slice()),
-        10 => (Method::Delete, fields(), b"".as_slice()),
-        _ => (Method::Head, fields(), b"".as_slice()),
+        4 | 5 | 6 => (Method::Patch, AT_START, b"abcd".as_slice()),
+        7 => (Method::Patch, AT_FOUR, b"efghi".as_slice()),
+        8 => (Method::Patch, AT_START, b"".as_slice()),
+        9 => (Method::Get, FIELDS, b"".as_slice()),
+        10 => (Method::Delete, FIELDS, b"".as_slice()),
+        _ => (Method::Head, FIELDS, b"".as_slice()),
     };
     Request {
         method,
@@ -321,14 +312,25 @@ impl Server {
     }
 }
 
+// Whether two servers told a tenant the same.
+fn tell_alike<'a>(one: &'a Server, other: &'a Server, tenant: u64) -> Result<bool, Fail> {
+    let told = one.told_to(tenant)?;
+    let also = other.told_to(tenant)?;
+    Ok(told.as_slice() == also.as_slice())
+}
+
+// A tenant is told the same by a server of all as where its requests are the only ones.
+fn assert_alone(rt: &impl Abort, all: &Server, tenant: u64) -> Result<(), Fail> {
+    let own = Server::after(all.alloc, Some(tenant))?;
+    assert!(rt; tell_alike(all, &own, tenant)?);
+    Ok(())
+}
+
 #[test]
 fn neighbours_change_no_reply(rt: HostRuntime) -> Result<(), Fail> {
     let all = Server::after(rt.alloc(), None)?;
     for tenant in 0..3 {
-        let own = Server::after(rt.alloc(), Some(tenant))?;
-        let among_others = all.told_to(tenant)?;
-        let alone = own.told_to(tenant)?;
-        assert_eq!(rt; among_others.as_slice(), alone.as_slice());
+        assert_alone(&rt, &all, tenant)?;
     }
     Ok(())
 }

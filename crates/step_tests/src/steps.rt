@@ -1,494 +1,182 @@
 //! The worked rows of the steps.
-use crate::books::{at, book};
-use crate::requests::{
-    concat, creation, creation_with, fields, length_fields, part, patch, patch_fields, patch_with,
-    request, request_with, upload_fields, upload_with, with_metadata,
-};
-use crate::told::{Told, at_offset, created, joined, refused, told_by};
+use crate::requests::{FIELDS, Sent, TYPED};
+use crate::rows::{Row, check, rows};
+use crate::told::Told::{Bare, Bytes, Created, Deleted, Options, Patched, Refused, Row as Shown};
 use std::test::Fail;
-use tus_steps::{Field, Method, Reply, TusFields, answer};
+use tus_steps::Field::{Absent, Many, One};
+use tus_steps::{Method, TusFields};
 use upload_book::Refusal;
+
+static AN_UPLOAD_GROWS_TO_ITS_END: [Row; 9] = rows! {
+    1000 Post b"/files/acme" [length: One(b"10")] b"" => Created(1, None, Some(4600));
+    1000 Patch b"/files/acme/1" [offset: One(b"0"), media: TYPED] b"hello" => Patched(5, Some(4600));
+    1000 Patch b"/files/acme/1" [offset: One(b"3"), media: TYPED] b"x" => Refused(Refusal::Offset, Some(4600));
+    1000 Patch b"/files/acme/1" [offset: One(b"5"), media: TYPED] b"worlds" => Refused(Refusal::TooLong, Some(4600));
+    1000 Head b"http://h:1/files/acme/1" [] b"" => Shown(5, Some(10), b"", b"");
+    1000 Patch b"/files/acme/1" [offset: One(b"5"), media: TYPED] b"world" => Patched(10, None);
+    1000 Patch b"/files/acme/1" [offset: One(b"10"), media: TYPED] b"" => Patched(10, None);
+    1000 Post b"/files/acme" [length: One(b"65")] b"" => Refused(Refusal::TooLong, None);
+    1000 Post b"/files/acme" [length: One(b"64")] b"" => Created(2, None, Some(4600));
+};
 
 #[test]
 fn an_upload_grows_to_its_end(rt: HostRuntime) -> Result<(), Fail> {
-    let mut book = book(rt.alloc())?;
-    let now = at(1000)?;
-    let rows = [
-        (
-            creation(b"10"),
-            Told::Created {
-                id: 1,
-                expires: Some(4600),
-            },
-        ),
-        (
-            patch(b"0", b"hello"),
-            Told::Patched {
-                offset: 5,
-                expires: Some(4600),
-            },
-        ),
-        (patch(b"3", b"x"), at_offset(Refusal::Offset)),
-        (patch(b"5", b"worlds"), at_offset(Refusal::TooLong)),
-        (
-            request(Method::Head, b"http://h:1/files/acme/1"),
-            Told::Head {
-                offset: 5,
-                length: Some(10),
-                metadata: b"",
-                concat: b"",
-            },
-        ),
-        (
-            patch(b"5", b"world"),
-            Told::Patched {
-                offset: 10,
-                expires: None,
-            },
-        ),
-        (
-            patch(b"10", b""),
-            Told::Patched {
-                offset: 10,
-                expires: None,
-            },
-        ),
-        (creation(b"65"), refused(Refusal::TooLong)),
-        (
-            creation(b"64"),
-            Told::Created {
-                id: 2,
-                expires: Some(4600),
-            },
-        ),
-    ];
-    for (request, expected) in &rows {
-        let reply = answer(&mut book, request, now);
-        assert_eq!(rt; &told_by(&reply), expected);
-    }
-    Ok(())
+    check(&rt, rt.alloc(), &AN_UPLOAD_GROWS_TO_ITS_END)
 }
+
+static EACH_REASON_COMES_IN_ITS_ORDER: [Row; 27] = rows! {
+    1000 Post b"/files/acme" [version: Absent, length: One(b"10")] b"" => Refused(Refusal::Version, None);
+    1000 Post b"/other" [version: One(b"0.2.2"), length: One(b"1")] b"" => Refused(Refusal::Version, None);
+    1000 Post b"/files/acme" [version: Many, length: One(b"10")] b"" => Refused(Refusal::Version, None);
+    1000 Other b"/other" [] b"" => Refused(Refusal::Path, None);
+    1000 Patch b"/files/acme/01" [] b"" => Refused(Refusal::Path, None);
+    1000 Other b"/files/gamma/1" [] b"" => Refused(Refusal::Tenant, None);
+    1000 Patch b"/files/acme" [] b"" => Refused(Refusal::Method, None);
+    1000 Get b"/files/acme" [] b"" => Refused(Refusal::Method, None);
+    1000 Post b"/files/acme/1" [] b"" => Refused(Refusal::Method, None);
+    1000 Other b"/files/acme/1" [] b"" => Refused(Refusal::Method, None);
+    1000 Post b"/files/acme" [] b"" => Refused(Refusal::Field, None);
+    1000 Post b"/files/acme" [length: One(b"18446744073709551616")] b"" => Refused(Refusal::Field, None);
+    1000 Post b"/files/acme" [length: Many] b"" => Refused(Refusal::Field, None);
+    1000 Post b"/files/acme" [defer: One(b"1"), length: One(b"10")] b"" => Refused(Refusal::Field, None);
+    1000 Post b"/files/acme" [defer: One(b"2")] b"" => Refused(Refusal::Field, None);
+    1000 Post b"/files/acme" [metadata: Many, length: One(b"10")] b"" => Refused(Refusal::Field, None);
+    1000 Post b"/files/acme" [metadata: One(b"a YQ==,a"), length: One(b"10")] b"" => Refused(Refusal::Field, None);
+    1000 Post b"/files/acme" [metadata: One(b"a YQ"), length: One(b"10")] b"" => Refused(Refusal::Field, None);
+    1000 Post b"/files/acme" [metadata: One(b"a,,b"), length: One(b"10")] b"" => Refused(Refusal::Field, None);
+    1000 Post b"/files/acme" [concat: One(b"final;/files/acme/1"), media: TYPED] b"x" => Refused(Refusal::Field, None);
+    1000 Post b"/files/acme" [checksum: Many, length: One(b"10"), media: TYPED] b"x" => Refused(Refusal::Field, None);
+    1000 Patch b"/files/acme/1" [offset: One(b"0"), media: TYPED, checksum: One(b"sha1 abc")] b"x" => Refused(Refusal::Field, None);
+    1000 Patch b"/files/acme/1" [offset: Many, media: TYPED] b"x" => Refused(Refusal::Field, None);
+    1000 Patch b"/files/acme/1" [offset: One(b"0"), media: TYPED, length: One(b"ten")] b"x" => Refused(Refusal::Field, None);
+    1000 Patch b"/files/acme/1" [offset: One(b"0"), media: TYPED] b"x" => Refused(Refusal::Unknown, None);
+    1000 Post b"/files/acme" [length: One(b"10")] b"x" => Refused(Refusal::Media, None);
+    1000 Post b"/files/acme" [length: One(b"18446744073709551615")] b"" => Refused(Refusal::TooLong, None);
+};
 
 #[test]
 fn each_reason_comes_in_its_order(rt: HostRuntime) -> Result<(), Fail> {
-    let mut book = book(rt.alloc())?;
-    let now = at(1000)?;
-    let rows = [
-        (
-            creation_with(TusFields {
-                version: Field::Absent,
-                ..length_fields(b"10")
-            }),
-            Refusal::Version,
-        ),
-        (
-            request_with(
-                Method::Post,
-                b"/other",
-                TusFields {
-                    version: Field::One(b"0.2.2"),
-                    ..length_fields(b"1")
-                },
-                b"",
-            ),
-            Refusal::Version,
-        ),
-        (
-            creation_with(TusFields {
-                version: Field::Many,
-                ..length_fields(b"10")
-            }),
-            Refusal::Version,
-        ),
-        (request(Method::Other, b"/other"), Refusal::Path),
-        (request(Method::Patch, b"/files/acme/01"), Refusal::Path),
-        (request(Method::Other, b"/files/gamma/1"), Refusal::Tenant),
-        (request(Method::Patch, b"/files/acme"), Refusal::Method),
-        (request(Method::Get, b"/files/acme"), Refusal::Method),
-        (request(Method::Post, b"/files/acme/1"), Refusal::Method),
-        (request(Method::Other, b"/files/acme/1"), Refusal::Method),
-        (request(Method::Post, b"/files/acme"), Refusal::Field),
-        (creation(b"18446744073709551616"), Refusal::Field),
-        (
-            creation_with(TusFields {
-                length: Field::Many,
-                ..length_fields(b"10")
-            }),
-            Refusal::Field,
-        ),
-        (
-            creation_with(TusFields {
-                defer: Field::One(b"1"),
-                ..length_fields(b"10")
-            }),
-            Refusal::Field,
-        ),
-        (
-            creation_with(TusFields {
-                defer: Field::One(b"2"),
-                ..fields()
-            }),
-            Refusal::Field,
-        ),
-        (with_metadata(Field::Many), Refusal::Field),
-        (with_metadata(Field::One(b"a YQ==,a")), Refusal::Field),
-        (with_metadata(Field::One(b"a YQ")), Refusal::Field),
-        (with_metadata(Field::One(b"a,,b")), Refusal::Field),
-        (
-            upload_with(
-                TusFields {
-                    length: Field::Absent,
-                    concat: Field::One(b"final;/files/acme/1"),
-                    ..upload_fields(b"10")
-                },
-                b"x",
-            ),
-            Refusal::Field,
-        ),
-        (
-            upload_with(
-                TusFields {
-                    checksum: Field::Many,
-                    ..upload_fields(b"10")
-                },
-                b"x",
-            ),
-            Refusal::Field,
-        ),
-        (
-            patch_with(
-                TusFields {
-                    checksum: Field::One(b"sha1 abc"),
-                    ..patch_fields(b"0")
-                },
-                b"x",
-            ),
-            Refusal::Field,
-        ),
-        (
-            patch_with(
-                TusFields {
-                    offset: Field::Many,
-                    ..patch_fields(b"0")
-                },
-                b"x",
-            ),
-            Refusal::Field,
-        ),
-        (
-            patch_with(
-                TusFields {
-                    length: Field::One(b"ten"),
-                    ..patch_fields(b"0")
-                },
-                b"x",
-            ),
-            Refusal::Field,
-        ),
-        (patch(b"0", b"x"), Refusal::Unknown),
-        (upload_with(length_fields(b"10"), b"x"), Refusal::Media),
-        (creation(b"18446744073709551615"), Refusal::TooLong),
-    ];
-    for (request, refusal) in &rows {
-        let reply = answer(&mut book, request, now);
-        assert_eq!(rt; told_by(&reply), refused(*refusal));
-    }
-    Ok(())
+    check(&rt, rt.alloc(), &EACH_REASON_COMES_IN_ITS_ORDER)
 }
+
+static A_CREATION_MAY_CARRY_THE_FIRST_BYTES: [Row; 3] = rows! {
+    1000 Post b"/files/acme" [checksum: One(b"sha1 qvTGHdzF6KLavt4PO0gs2a6pQ00="), length: One(b"10"), media: TYPED] b"hello" => Created(1, Some(5), Some(4600));
+    1000 Post b"/files/acme" [length: One(b"10")] b"" => Created(2, None, Some(4600));
+    1000 Patch b"/files/acme/1" [offset: One(b"5"), media: TYPED] b"world" => Patched(10, None);
+};
 
 #[test]
 fn a_creation_may_carry_the_first_bytes(rt: HostRuntime) -> Result<(), Fail> {
-    let mut book = book(rt.alloc())?;
-    let now = at(1000)?;
-    let checked = TusFields {
-        checksum: Field::One(b"sha1 qvTGHdzF6KLavt4PO0gs2a6pQ00="),
-        ..upload_fields(b"10")
-    };
-    let first = answer(&mut book, &upload_with(checked, b"hello"), now);
-    let offset = match first {
-        Reply::Created { id: 1, offset, .. } => offset,
-        _ => None,
-    };
-    assert_eq!(rt; offset, Some(5));
-    let untyped = answer(&mut book, &creation(b"10"), now);
-    let told = matches!(
-        untyped,
-        Reply::Created {
-            id: 2,
-            offset: None,
-            ..
-        }
-    );
-    assert!(rt; told);
-    let rest = answer(&mut book, &patch(b"5", b"world"), now);
-    assert!(rt; matches!(rest, Reply::Patched { offset: 10, .. }));
-    Ok(())
+    check(&rt, rt.alloc(), &A_CREATION_MAY_CARRY_THE_FIRST_BYTES)
 }
+
+static OPTIONS_ARE_TOLD_BEFORE_ALL_ELSE: [Row; 2] = rows! {
+    1000 Options b"/files/acme" [version: Absent] b"" => Options(64);
+    1000 Options b"/other" [version: One(b"0.2.2")] b"" => Options(64);
+};
 
 #[test]
 fn options_are_told_before_all_else(rt: HostRuntime) -> Result<(), Fail> {
-    let mut book = book(rt.alloc())?;
-    let rows = [
-        (Field::Absent, b"/files/acme".as_slice()),
-        (Field::One(b"0.2.2".as_slice()), b"/other".as_slice()),
-    ];
-    for (version, target) in rows {
-        let asked = request_with(
-            Method::Options,
-            target,
-            TusFields {
-                version,
-                ..fields()
-            },
-            b"",
-        );
-        let reply = answer(&mut book, &asked, at(1000)?);
-        assert_eq!(rt; told_by(&reply), Told::Options { max_size: 64 });
-    }
-    Ok(())
+    check(&rt, rt.alloc(), &OPTIONS_ARE_TOLD_BEFORE_ALL_ELSE)
 }
+
+static A_HEAD_TELLS_WHAT_WAS_CREATED: [Row; 6] = rows! {
+    1000 Post b"/files/acme" [defer: One(b"1")] b"" => Created(1, None, Some(4600));
+    1000 Head b"/files/acme/1" [] b"" => Shown(0, None, b"", b"");
+    1000 Post b"/files/acme" [metadata: One(b"a ,b"), length: One(b"10")] b"" => Created(2, None, Some(4600));
+    1000 Head b"/files/acme/2" [] b"" => Shown(0, Some(10), b"a ,b", b"");
+    1000 Post b"/files/acme" [metadata: One(b"a YQ==,b"), length: One(b"10")] b"" => Created(3, None, Some(4600));
+    1000 Head b"/files/acme/3" [] b"" => Shown(0, Some(10), b"a YQ==,b", b"");
+};
 
 #[test]
 fn a_head_tells_what_was_created(rt: HostRuntime) -> Result<(), Fail> {
-    let mut book = book(rt.alloc())?;
-    let now = at(1000)?;
-    let deferred = creation_with(TusFields {
-        defer: Field::One(b"1"),
-        ..fields()
-    });
-    let rows = [
-        (deferred, None, b"".as_slice()),
-        (
-            with_metadata(Field::One(b"a ,b")),
-            Some(10),
-            b"a ,b".as_slice(),
-        ),
-        (
-            with_metadata(Field::One(b"a YQ==,b")),
-            Some(10),
-            b"a YQ==,b".as_slice(),
-        ),
-    ];
-    let targets = [b"/files/acme/1", b"/files/acme/2", b"/files/acme/3"];
-    for ((creation, length, metadata), target) in rows.iter().zip(targets) {
-        answer(&mut book, creation, now);
-        let reply = answer(&mut book, &request(Method::Head, target), now);
-        let told = Told::Head {
-            offset: 0,
-            length: *length,
-            metadata,
-            concat: b"",
-        };
-        assert_eq!(rt; told_by(&reply), told);
-    }
-    Ok(())
+    check(&rt, rt.alloc(), &A_HEAD_TELLS_WHAT_WAS_CREATED)
 }
+
+static A_GET_GIVES_THE_BYTES: [Row; 5] = rows! {
+    1000 Post b"/files/acme" [length: One(b"5")] b"" => Created(1, None, Some(4600));
+    1000 Get b"/files/acme/1" [] b"" => Refused(Refusal::Unfinished, None);
+    1000 Patch b"/files/acme/1" [offset: One(b"0"), media: TYPED] b"hello" => Patched(5, None);
+    1000 Get b"/files/acme/1" [] b"" => Bytes(b"hello");
+    1000 Get b"/files/acme/1" [version: Absent] b"" => Bytes(b"hello");
+};
 
 #[test]
 fn a_get_gives_the_bytes(rt: HostRuntime) -> Result<(), Fail> {
-    let mut book = book(rt.alloc())?;
-    let now = at(1000)?;
-    let get = request(Method::Get, b"/files/acme/1");
-    let unversioned = request_with(
-        Method::Get,
-        b"/files/acme/1",
-        TusFields {
-            version: Field::Absent,
-            ..fields()
-        },
-        b"",
-    );
-    answer(&mut book, &creation(b"5"), now);
-    let reply = answer(&mut book, &get, now);
-    assert_eq!(rt; told_by(&reply), refused(Refusal::Unfinished));
-    answer(&mut book, &patch(b"0", b"hello"), now);
-    for request in [get, unversioned] {
-        let reply = answer(&mut book, &request, now);
-        assert_eq!(rt; told_by(&reply), Told::Content(b"hello"));
-    }
-    Ok(())
+    check(&rt, rt.alloc(), &A_GET_GIVES_THE_BYTES)
 }
+
+static PARTS_ARE_JOINED: [Row; 11] = rows! {
+    1000 Post b"/files/acme" [length: One(b"5"), concat: One(b"partial")] b"" => Created(1, None, Some(4600));
+    1000 Post b"/files/acme" [concat: One(b"final;/files/acme/1 http://h:1/files/acme/1")] b"" => Refused(Refusal::PartOpen, None);
+    1000 Patch b"/files/acme/1" [offset: One(b"0"), media: TYPED] b"hello" => Patched(5, Some(4600));
+    1000 Post b"/files/acme" [length: One(b"0")] b"" => Created(2, None, None);
+    1000 Post b"/files/acme" [concat: One(b"final;/files/acme/1 /files/acme/2")] b"" => Refused(Refusal::Part, None);
+    1000 Post b"/files/acme" [concat: One(b"final;/files/beta/1")] b"" => Refused(Refusal::Part, None);
+    1000 Post b"/files/acme" [concat: One(b"final;/files/acme/1 http://h:1/files/acme/1")] b"" => Created(3, None, None);
+    1000 Head b"/files/acme/1" [] b"" => Shown(5, Some(5), b"", b"partial");
+    1000 Head b"/files/acme/3" [] b"" => Shown(10, Some(10), b"", b"final;/files/acme/1 http://h:1/files/acme/1");
+    1000 Get b"/files/acme/3" [] b"" => Bytes(b"hellohello");
+    1000 Patch b"/files/acme/3" [offset: One(b"10"), media: TYPED] b"x" => Refused(Refusal::IsFinal, None);
+};
 
 #[test]
 fn parts_are_joined(rt: HostRuntime) -> Result<(), Fail> {
-    let mut book = book(rt.alloc())?;
-    let now = at(1000)?;
-    let twice = b"final;/files/acme/1 http://h:1/files/acme/1";
-    let offset = Told::Patched {
-        offset: 5,
-        expires: Some(4600),
-    };
-    let late = request_with(Method::Patch, b"/files/acme/3", patch_fields(b"10"), b"x");
-    let rows = [
-        (part(b"5"), created(1, Some(4600))),
-        (concat(twice), refused(Refusal::PartOpen)),
-        (patch(b"0", b"hello"), offset),
-        (creation(b"0"), created(2, None)),
-        (
-            concat(b"final;/files/acme/1 /files/acme/2"),
-            refused(Refusal::Part),
-        ),
-        (concat(b"final;/files/beta/1"), refused(Refusal::Part)),
-        (concat(twice), created(3, None)),
-        (
-            request(Method::Head, b"/files/acme/1"),
-            joined(5, b"partial"),
-        ),
-        (request(Method::Head, b"/files/acme/3"), joined(10, twice)),
-        (
-            request(Method::Get, b"/files/acme/3"),
-            Told::Content(b"hellohello"),
-        ),
-        (late, refused(Refusal::IsFinal)),
-    ];
-    for (request, expected) in &rows {
-        let reply = answer(&mut book, request, now);
-        assert_eq!(rt; &told_by(&reply), expected);
-    }
-    Ok(())
+    check(&rt, rt.alloc(), &PARTS_ARE_JOINED)
 }
+
+static FIELDS_THAT_ASK_FOR_NO_CONCATENATION: [Row; 10] = rows! {
+    1000 Post b"/files/acme" [concat: One(b"")] b"" => Refused(Refusal::Field, None);
+    1000 Post b"/files/acme" [concat: One(b"final;")] b"" => Refused(Refusal::Field, None);
+    1000 Post b"/files/acme" [concat: One(b"Partial")] b"" => Refused(Refusal::Field, None);
+    1000 Post b"/files/acme" [concat: One(b"partial")] b"" => Refused(Refusal::Field, None);
+    1000 Post b"/files/acme" [concat: Many, length: One(b"10")] b"" => Refused(Refusal::Field, None);
+    1000 Post b"/files/acme" [concat: One(b"final;/files/acme/1"), length: One(b"10")] b"" => Refused(Refusal::Field, None);
+    1000 Post b"/files/acme" [length: Many, concat: One(b"final;/files/acme/1")] b"" => Refused(Refusal::Field, None);
+    1000 Post b"/files/acme" [defer: One(b"1"), concat: One(b"final;/files/acme/1")] b"" => Refused(Refusal::Field, None);
+    1000 Post b"/files/acme" [metadata: One(b"a YQ"), concat: One(b"final;/files/acme/1")] b"" => Refused(Refusal::Field, None);
+    1000 Post b"/files/acme" [concat: One(b"final;/files/acme/1")] b"x" => Refused(Refusal::Field, None);
+};
 
 #[test]
 fn fields_that_ask_for_no_concatenation(rt: HostRuntime) -> Result<(), Fail> {
-    let mut book = book(rt.alloc())?;
-    let now = at(1000)?;
-    let whole = TusFields {
-        concat: Field::One(b"final;/files/acme/1"),
-        ..fields()
-    };
-    let rows = [
-        concat(b""),
-        concat(b"final;"),
-        concat(b"Partial"),
-        concat(b"partial"),
-        creation_with(TusFields {
-            concat: Field::Many,
-            ..length_fields(b"10")
-        }),
-        creation_with(TusFields {
-            length: Field::One(b"10"),
-            ..whole
-        }),
-        creation_with(TusFields {
-            length: Field::Many,
-            ..whole
-        }),
-        creation_with(TusFields {
-            defer: Field::One(b"1"),
-            ..whole
-        }),
-        creation_with(TusFields {
-            metadata: Field::One(b"a YQ"),
-            ..whole
-        }),
-        request_with(Method::Post, b"/files/acme", whole, b"x"),
-    ];
-    for request in &rows {
-        let reply = answer(&mut book, request, now);
-        assert_eq!(rt; told_by(&reply), refused(Refusal::Field));
-    }
-    Ok(())
+    check(&rt, rt.alloc(), &FIELDS_THAT_ASK_FOR_NO_CONCATENATION)
 }
+
+static AN_UPLOAD_IS_ENDED: [Row; 4] = rows! {
+    1000 Delete b"/files/acme/1" [] b"" => Refused(Refusal::Unknown, None);
+    1000 Post b"/files/acme" [length: One(b"10")] b"" => Created(1, None, Some(4600));
+    1000 Delete b"/files/acme/1" [] b"" => Deleted;
+    1000 Delete b"/files/acme/1" [] b"" => Refused(Refusal::Gone, None);
+};
 
 #[test]
 fn an_upload_is_ended(rt: HostRuntime) -> Result<(), Fail> {
-    let mut book = book(rt.alloc())?;
-    let now = at(1000)?;
-    let delete = request(Method::Delete, b"/files/acme/1");
-    let reply = answer(&mut book, &delete, now);
-    assert_eq!(rt; told_by(&reply), refused(Refusal::Unknown));
-    answer(&mut book, &creation(b"10"), now);
-    let reply = answer(&mut book, &delete, now);
-    assert_eq!(rt; told_by(&reply), Told::Deleted);
-    let reply = answer(&mut book, &delete, now);
-    assert_eq!(rt; told_by(&reply), refused(Refusal::Gone));
-    Ok(())
+    check(&rt, rt.alloc(), &AN_UPLOAD_IS_ENDED)
 }
+
+static A_REFUSED_CREATION_USES_NO_ID: [Row; 4] = rows! {
+    1000 Post b"/files/acme" [version: Absent, length: One(b"10")] b"" => Refused(Refusal::Version, None);
+    1000 Post b"/files/acme" [metadata: One(b""), length: One(b"10")] b"" => Created(1, None, Some(4600));
+    1000 Patch b"/files/acme/1" [offset: One(b"0"), media: Many] b"x" => Refused(Refusal::Media, Some(4600));
+    1000 Patch b"/files/acme/1" [offset: One(b"0"), media: One(b"Application/Offset+Octet-Stream ; a=b"), length: One(b"010")] b"x" => Patched(1, Some(4600));
+};
 
 #[test]
 fn a_refused_creation_uses_no_id(rt: HostRuntime) -> Result<(), Fail> {
-    let mut book = book(rt.alloc())?;
-    let now = at(1000)?;
-    answer(
-        &mut book,
-        &creation_with(TusFields {
-            version: Field::Absent,
-            ..length_fields(b"10")
-        }),
-        now,
-    );
-    let empty_metadata = creation_with(TusFields {
-        metadata: Field::One(b""),
-        ..length_fields(b"10")
-    });
-    let reply = answer(&mut book, &empty_metadata, now);
-    assert_eq!(rt;
-        told_by(&reply),
-        Told::Created {
-            id: 1,
-            expires: Some(4600)
-        }
-    );
-    let untyped = patch_with(
-        TusFields {
-            media: Field::Many,
-            ..patch_fields(b"0")
-        },
-        b"x",
-    );
-    let reply = answer(&mut book, &untyped, now);
-    assert_eq!(rt; told_by(&reply), at_offset(Refusal::Media));
-    let typed = patch_with(
-        TusFields {
-            media: Field::One(b"Application/Offset+Octet-Stream ; a=b"),
-            length: Field::One(b"010"),
-            ..patch_fields(b"0")
-        },
-        b"x",
-    );
-    let reply = answer(&mut book, &typed, now);
-    assert_eq!(rt;
-        told_by(&reply),
-        Told::Patched {
-            offset: 1,
-            expires: Some(4600)
-        }
-    );
-    Ok(())
+    check(&rt, rt.alloc(), &A_REFUSED_CREATION_USES_NO_ID)
 }
+
+static AN_EXPIRED_UPLOAD_IS_GONE: [Row; 5] = rows! {
+    1000 Post b"/files/acme" [length: One(b"10")] b"" => Created(1, None, Some(4600));
+    4600 Head b"/files/acme/1" [] b"" => Bare(Refusal::Gone, None);
+    4599 Head b"/files/acme/1" [] b"" => Shown(0, Some(10), b"", b"");
+    4599 Patch b"/files/acme/1" [offset: One(b"0"), media: TYPED] b"a" => Patched(1, Some(8199));
+    4600 Head b"/files/acme/1" [] b"" => Shown(1, Some(10), b"", b"");
+};
 
 #[test]
 fn an_expired_upload_is_gone(rt: HostRuntime) -> Result<(), Fail> {
-    let mut book = book(rt.alloc())?;
-    let head = request(Method::Head, b"/files/acme/1");
-    let gone = Told::Refused {
-        refusal: Refusal::Gone,
-        head: true,
-        expires: None,
-    };
-    answer(&mut book, &creation(b"10"), at(1000)?);
-    assert_eq!(rt; told_by(&answer(&mut book, &head, at(4600)?)), gone);
-    let shown = Told::Head {
-        offset: 0,
-        length: Some(10),
-        metadata: b"",
-        concat: b"",
-    };
-    assert_eq!(rt; told_by(&answer(&mut book, &head, at(4599)?)), shown);
-    let renewed = Told::Patched {
-        offset: 1,
-        expires: Some(8199),
-    };
-    assert_eq!(rt;
-        told_by(&answer(&mut book, &patch(b"0", b"a"), at(4599)?)),
-        renewed
-    );
-    let shown = Told::Head {
-        offset: 1,
-        length: Some(10),
-        metadata: b"",
-        concat: b"",
-    };
-    assert_eq!(rt; told_by(&answer(&mut book, &head, at(4600)?)), shown);
-    Ok(())
+    check(&rt, rt.alloc(), &AN_EXPIRED_UPLOAD_IS_GONE)
 }

@@ -1,96 +1,58 @@
 //! What a reply tells, in a form that rows can have.
 use tus_steps::Reply;
-use upload_book::Refusal;
+use upload_book::{Moment, Refusal};
 
 /// What a reply tells, as numbers and bytes.
 #[derive(Clone, Copy, Debug, PartialEq, Eq)]
 pub(crate) enum Told<'a> {
-    Options {
-        max_size: u64,
-    },
-    Created {
-        id: u64,
-        expires: Option<u64>,
-    },
-    Head {
-        offset: u64,
-        length: Option<u64>,
-        metadata: &'a [u8],
-        concat: &'a [u8],
-    },
-    Content(&'a [u8]),
-    Patched {
-        offset: u64,
-        expires: Option<u64>,
-    },
+    /// The greatest size.
+    Options(u64),
+    /// An id, the offset if it is told, and when the upload expires.
+    Created(u64, Option<u64>, Option<u64>),
+    /// An offset, a length, the metadata and the concat text.
+    Row(u64, Option<u64>, &'a [u8], &'a [u8]),
+    Bytes(&'a [u8]),
+    /// An offset, and when the upload expires.
+    Patched(u64, Option<u64>),
     Deleted,
-    Refused {
-        refusal: Refusal,
-        head: bool,
-        expires: Option<u64>,
-    },
+    /// Why it was refused, and when the upload expires.
+    Refused(Refusal, Option<u64>),
+    /// The same for a HEAD, whose reply has no content.
+    Bare(Refusal, Option<u64>),
 }
 
 pub(crate) fn told_by(reply: &Reply) -> Told<'_> {
     match reply {
-        Reply::Options { max_size } => Told::Options {
-            max_size: *max_size,
-        },
-        Reply::Created { id, expires, .. } => Told::Created {
-            id: *id,
-            expires: expires.map(|end| end.secs()),
-        },
-        Reply::Head(row) => Told::Head {
-            offset: row.offset,
-            length: row.declared,
-            metadata: row.metadata.as_slice(),
-            concat: row.concat.as_slice(),
-        },
-        Reply::Content(content) => Told::Content(content.as_slice()),
-        Reply::Patched { offset, expires } => Told::Patched {
-            offset: *offset,
-            expires: expires.map(|end| end.secs()),
-        },
+        Reply::Options { max_size } => Told::Options(*max_size),
+        Reply::Created {
+            id,
+            offset,
+            expires,
+            ..
+        } => Told::Created(*id, *offset, secs(expires)),
+        Reply::Head(row) => {
+            let (metadata, concat) = (row.metadata.as_slice(), row.concat.as_slice());
+            Told::Row(row.offset, row.declared, metadata, concat)
+        }
+        Reply::Content(content) => Told::Bytes(content.as_slice()),
+        Reply::Patched { offset, expires } => Told::Patched(*offset, secs(expires)),
         Reply::Deleted => Told::Deleted,
         Reply::Refused {
             refusal,
             head,
             expires,
             ..
-        } => Told::Refused {
-            refusal: *refusal,
-            head: *head,
-            expires: expires.map(|end| end.secs()),
-        },
+        } => {
+            if *head {
+                Told::Bare(*refusal, secs(expires))
+            } else {
+                Told::Refused(*refusal, secs(expires))
+            }
+        }
     }
 }
 
-pub(crate) fn refused<'a>(refusal: Refusal) -> Told<'a> {
-    Told::Refused {
-        refusal,
-        head: false,
-        expires: None,
-    }
-}
-
-pub(crate) fn at_offset<'a>(refusal: Refusal) -> Told<'a> {
-    Told::Refused {
-        refusal,
-        head: false,
-        expires: Some(4600),
-    }
-}
-
-/// What a HEAD tells of a complete upload of so many bytes with this concat text.
-pub(crate) fn joined<'a>(len: u64, concat: &'a [u8]) -> Told<'a> {
-    Told::Head {
-        offset: len,
-        length: Some(len),
-        metadata: b"",
-        concat,
-    }
-}
-
-pub(crate) fn created<'a>(id: u64, expires: Option<u64>) -> Told<'a> {
-    Told::Created { id, expires }
+// The second at which an upload expires, if it does.
+fn secs(end: &Option<Moment>) -> Option<u64> {
+    end.map(|end| end.secs())
 }

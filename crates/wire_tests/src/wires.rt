@@ -1,6 +1,5 @@
 ghost use Rattle.std.specs.Prelude.{◌≡◌, ⊤, true, IfOk};
 
-use crate::concatenations::CREATED_2;
 use crate::conversations::{CHUNKED, CODING, CREATED, FIRST_UPLOAD, HEAD, POST, REPLIES};
 use crate::memory::{Input, Output};
 use crate::spoken::{Expected, assert_spoken, at, joined, known_talk, new_book};
@@ -55,6 +54,20 @@ pub fn assert_turn(
 pub fn assert_written(rt: &impl Abort, wire: MemoryWire<'_>, expected: &[u8]) {
     let (_, writer, _) = wire.into_parts();
     assert_eq!(rt; writer.inner.written.as_slice(), expected, "written");
+}
+
+/// A wire over these streams that has served so many turns with a new book, and how that ended.
+fn served<'a>(
+    alloc: Global,
+    input: Input<'a>,
+    output: Output,
+    clock: &mut impl Clock,
+    turns: usize,
+) -> Result<(MemoryWire<'a>, Result<Ended, WireFault>), Fail> {
+    let mut book = new_book(alloc)?;
+    let mut wire = new_wire(alloc, input, output)?;
+    let ended = serve(&mut wire, &mut book, clock, turns);
+    Ok((wire, ended))
 }
 
 /// Reads a message and writes its reply.
@@ -127,12 +140,11 @@ Tus-Resumable: 1.0.0\r\nCache-Control: no-store\r\n\r\n";
 fn an_upload_expires_while_its_connection_stays_open(rt: HostRuntime) -> Result<(), Fail> {
     let alloc = rt.alloc();
     let all = joined(alloc, &[POST, HEAD])?;
-    let written = joined(alloc, &[CREATED, EXPIRED])?;
-    let mut book = new_book(alloc)?;
-    let mut wire = new_wire(alloc, Input::new(&all, usize::MAX), Output::new(alloc))?;
-    let served = serve(&mut wire, &mut book, &mut Hours { next: 0 }, 3);
-    assert_eq!(rt; served, Ok(Ended::Input));
-    assert_written(&rt, wire, &written);
+    let input = Input::new(&all, usize::MAX);
+    let mut clock = Hours { next: 0 };
+    let (wire, ended) = served(alloc, input, Output::new(alloc), &mut clock, 3)?;
+    assert!(rt; ended == Ok(Ended::Input));
+    assert_written(&rt, wire, &joined(alloc, &[CREATED, EXPIRED])?);
     Ok(())
 }
 
@@ -150,10 +162,8 @@ fn one_write_a_reply(rt: HostRuntime) -> Result<(), Fail> {
     input.reads = 2;
     let mut output = Output::new(alloc);
     output.writes = 2;
-    let mut book = new_book(alloc)?;
-    let mut wire = new_wire(alloc, input, output)?;
-    let served = serve(&mut wire, &mut book, &mut at(1000), 3);
-    assert_eq!(rt; served, Ok(Ended::Input));
+    let (wire, ended) = served(alloc, input, output, &mut at(1000), 3)?;
+    assert!(rt; ended == Ok(Ended::Input));
     let (_, writer, _) = wire.into_parts();
     assert!(rt; writer.inner.written.as_slice().ends_with(b"\r\n\r\nhello"));
     Ok(())
@@ -162,45 +172,54 @@ fn one_write_a_reply(rt: HostRuntime) -> Result<(), Fail> {
 const LARGE_HEAD: &[u8] =
     b"PATCH /files/acme/1 HTTP/1.1\r\nHost: x\r\nContent-Length: 60000\r\n\r\n";
 
+/// The buffers after a wire over them has read a message of these bytes.
+fn read_over(alloc: Global, buffers: Buffers, sent: &[u8]) -> Result<Buffers, Fail> {
+    let reader = Tapped::new(Input::new(sent, usize::MAX));
+    let mut wire = Wire::over(buffers, reader, Tapped::new(Output::new(alloc)), 60_000);
+    let is_message = matches!(wire.read_request()?, Incoming::Message(_));
+    let (_, _, buffers) = wire.into_parts();
+    if is_message {
+        Ok(buffers)
+    } else {
+        Err(Fail::from("a whole message was sent"))
+    }
+}
+
 /// The buffers have memory for a message and one more read after it, and keep it for the next connection.
 #[test]
 fn room_of_buffers(rt: HostRuntime) -> Result<(), Fail> {
     let alloc = rt.alloc();
     let mut large = Vec::from_slice(alloc, LARGE_HEAD)?;
     large.resize(LARGE_HEAD.len().saturating_add(60_000), 0)?;
-    let mut room = 65_536;
-    let mut buffers = Buffers::new(alloc)?;
-    for sent in [POST, large.as_slice(), POST] {
-        assert_eq!(rt; buffers.room(), room);
-        let reader = Tapped::new(Input::new(sent, usize::MAX));
-        let mut wire = Wire::over(buffers, reader, Tapped::new(Output::new(alloc)), 60_000);
-        assert!(rt; matches!(wire.read_request()?, Incoming::Message(_)));
-        (_, _, buffers) = wire.into_parts();
-        room = room.max(sent.len().saturating_add(16_384));
-    }
-    assert_eq!(rt; buffers.room(), room);
+    let grown = large.len().saturating_add(16_384);
+    let new = Buffers::new(alloc)?;
+    let at_first = new.room();
+    let small = read_over(alloc, new, POST)?;
+    let after_small = small.room();
+    let full = read_over(alloc, small, &large)?;
+    let after_large = full.room();
+    let kept = read_over(alloc, full, POST)?.room();
+    assert!(rt; [at_first, after_small] == [65_536, 65_536]);
+    assert!(rt; [after_large, kept] == [grown, grown]);
     Ok(())
 }
 
-/// The first wire leaves its buffers with a message in them that nobody has asked for. A wire over these begins anew.
+/// The first wire leaves its buffers with a message in them that nobody has asked for. A wire over these begins anew,
+/// and its first message makes the book's first upload.
 #[test]
 fn buffers_pass_on(rt: HostRuntime) -> Result<(), Fail> {
     let alloc = rt.alloc();
     let all = joined(alloc, &[POST, CHUNKED])?;
-    let mut book = new_book(alloc)?;
-    let mut wire = new_wire(alloc, Input::new(&all, usize::MAX), Output::new(alloc))?;
-    let served = serve(&mut wire, &mut book, &mut at(1000), 1);
-    assert_eq!(rt; served, Ok(Ended::Moments));
+    let input = Input::new(&all, usize::MAX);
+    let (wire, ended) = served(alloc, input, Output::new(alloc), &mut at(1000), 1)?;
+    assert!(rt; ended == Ok(Ended::Moments));
     let (_, _, buffers) = wire.into_parts();
-    let mut wire = Wire::over(
-        buffers,
-        Tapped::new(Input::new(POST, usize::MAX)),
-        Tapped::new(Output::new(alloc)),
-        64,
-    );
-    let served = serve(&mut wire, &mut book, &mut at(1000), 2);
-    assert_eq!(rt; served, Ok(Ended::Input));
-    assert_written(&rt, wire, CREATED_2);
+    let reader = Tapped::new(Input::new(POST, usize::MAX));
+    let mut wire = Wire::over(buffers, reader, Tapped::new(Output::new(alloc)), 64);
+    let mut book = new_book(alloc)?;
+    assert_turn(&rt, "the next connection", &mut wire, &mut book, Ok(None));
+    assert_end(&rt, "its end", &mut wire, Ok(true));
+    assert_written(&rt, wire, CREATED);
     Ok(())
 }
 

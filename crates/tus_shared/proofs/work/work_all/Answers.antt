@@ -1,6 +1,9 @@
-use Rattle.std.proofs.Common.{arith}
+use Rattle.std.proofs.Common.{arith, rules}
 use Rattle.tus_shared.proofs.ZipLemmas.{AllFour-long}
 use Rattle.tus_shared.proofs.work.work_all.Goals as goal
+
+pub returns-clause-answers : goal.returns-clause-answers
+returns-clause-answers g c = search rules
 
 pub returns-clause-count : goal.returns-clause-count
 returns-clause-count g c =
