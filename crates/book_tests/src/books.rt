@@ -1,12 +1,12 @@
 //! The books of the tests, and what is asked of them.
 
 ghost use Rattle.std.specs.Prelude.{◌≡◌, ◌<◌, ◌≤◌, [], length};
+ghost use Rattle.upload_book.specs.Create.{new_kind};
 ghost use Rattle.upload_book.specs.declared.head_row.Kind.TheVariants.{Final};
 ghost use Rattle.upload_book.specs.Lawful.{IsConcatText};
 
 use std::alloc::Global;
 use std::process::Abort;
-use std::test::Fail;
 use tus_text::{Checksum, Concat, read_concat};
 use upload_book::{
     Appended, Book, Chunk, Moment, Name, NewFinal, NewUpload, Numbers, Refused, Settings,
@@ -39,9 +39,9 @@ pub const NOTHING: Checksum = Checksum::Sha1([
 ]);
 
 /// A book of acme with 8 blocks and beta with 4.
-pub fn new_book(alloc: Global, numbers: Numbers) -> Result<Book, Fail> {
-    let settings = Settings::new(numbers, &[(ACME, 8), (BETA, 4)])?;
-    Ok(Book::new(alloc, settings)?)
+pub fn new_book(rt: &impl Abort, alloc: Global, numbers: Numbers) -> Book {
+    let settings = Settings::new(numbers, &[(ACME, 8), (BETA, 4)]);
+    Book::new(alloc, settings.expect(rt, "settings")).expect(rt, "a book")
 }
 
 pub fn moment(rt: &impl Abort, secs: u64) -> Moment {
@@ -51,6 +51,23 @@ pub fn moment(rt: &impl Abort, secs: u64) -> Moment {
 /// The name of an upload of acme.
 pub fn acme(id: u64) -> Name {
     Name { tenant: 0, id }
+}
+
+/// A partial upload or one of its own, of this length, without metadata.
+pub fn new_upload<'a>(partial: bool, length: Option<u64>) -> NewUpload<'a>
+    ensures metadata { result.metadata ≡ [] }
+    ensures concat { IsConcatText (new_kind result.partial) result.concat }
+{
+    NewUpload {
+        partial,
+        length,
+        metadata: b"",
+        concat: if partial {
+            b"partial".as_slice()
+        } else {
+            b"".as_slice()
+        },
+    }
 }
 
 /// A PATCH of an upload of acme at second 1000, which tells no length.
@@ -74,12 +91,7 @@ pub fn patch(
 /// Makes a complete partial upload of acme.
 pub fn part(rt: &impl Abort, book: &mut Book, bytes: &[u8]) {
     let acme = book.settings().tenant(ACME).expect(rt, "acme");
-    let new = NewUpload {
-        partial: true,
-        length: Some(bytes.len() as u64),
-        metadata: b"",
-        concat: b"partial",
-    };
+    let new = new_upload(true, Some(bytes.len() as u64));
     let made = book.create(acme, new, moment(rt, 1000));
     let made = made.expect(rt, "a part");
     let sent = patch(rt, book, made.name.id, 0, bytes);

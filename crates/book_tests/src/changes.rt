@@ -7,7 +7,6 @@ ghost use Rattle.upload_book.specs.Change.{CanBeMade};
 use crate::books::{ACME, NUMBERS, acme, moment, new_book};
 use crate::plain::PlainBook;
 use std::process::Abort;
-use std::test::Fail;
 use upload_book::{
     Appended, BoardLine, Book, Change, Chunk, FirstChunk, HeadChange, Kind, Moment, Name,
     NewUpload, Outcome, Refusal, Refused,
@@ -109,53 +108,81 @@ fn refused(rt: &impl Abort) -> Refused {
     }
 }
 
-#[test]
-fn a_patch_in_two_halves(rt: HostRuntime) -> Result<(), Fail> {
-    let now = moment(&rt, 1000);
-    let mut book = new_book(rt.alloc(), NUMBERS)?;
-    let mut plain = PlainBook::new(rt.alloc(), NUMBERS, [8, 4]);
-    let place = book.settings().tenant(ACME).expect(&rt, "acme");
+// An upload of acme's, in the book and in the plain program.
+fn create(rt: &impl Abort, book: &mut Book, plain: &mut PlainBook) {
+    let now = moment(rt, 1000);
+    let place = book.settings().tenant(ACME).expect(rt, "acme");
     let created = book.create(place, ten_bytes(), now);
-    let plainly = plain.create(&rt, place, Kind::Plain, Some(10), &no_bytes(), now);
-    assert_eq!(rt; created, plainly);
-    // one that is let go costs nothing
-    assert_eq!(rt; patch(&rt, &mut book, false), Ok(None));
-    assert_eq!(rt; seen(&rt, &book), Some((0, 0, 12)));
-    // and its line tells what will be
-    assert_eq!(rt; put(line(&mut book, greeting(), now)), Some((acme(1), 5)));
-    assert_eq!(rt; paid(line(&mut book, greeting(), now)), Some((2, 0, 2, 0)));
-    // one that is made answers as the plain program
-    assert_eq!(rt;
-        plain.append(&rt, &acme(1), &hello(), now),
-        Ok(appended(&rt))
+    let plainly = plain.create(rt, place, Kind::Plain, Some(10), &no_bytes(), now);
+    assert!(rt; created == plainly);
+}
+
+// A PATCH that is let go costs nothing.
+fn assert_let_go(rt: &impl Abort, book: &mut Book) {
+    assert!(rt; patch(rt, book, false) == Ok(None));
+    assert!(rt; seen(rt, book) == Some((0, 0, 12)));
+}
+
+// The line of the PATCH tells how far the upload will be.
+fn assert_put(rt: &impl Abort, book: &mut Book) {
+    let now = moment(rt, 1000);
+    assert!(rt; put(line(book, greeting(), now)) == Some((acme(1), 5)));
+}
+
+// The line of a change at a second tells what will be charged, released and paid.
+fn assert_paid(
+    rt: &impl Abort,
+    book: &mut Book,
+    change: Change,
+    secs: u64,
+    expected: (u64, u64, u64, u64),
+)
+    requires { CanBeMade (length (plain_of book.old).settings.tenants) change }
+{
+    let now = moment(rt, secs);
+    assert!(rt;
+        paid(line(book, change, now)) == Some(expected),
+        "at second {secs}"
     );
-    assert_eq!(rt;
-        patch(&rt, &mut book, true),
-        Ok(Some(Outcome::Appended(appended(&rt))))
-    );
-    assert_eq!(rt; seen(&rt, &book), Some((5, 2, 10)));
+}
+
+// A PATCH that is made answers as the plain program.
+fn assert_made(rt: &impl Abort, book: &mut Book, plain: &mut PlainBook) {
+    let plainly = plain.append(rt, &acme(1), &hello(), moment(rt, 1000));
+    assert!(rt; plainly == Ok(appended(rt)));
+    assert!(rt; patch(rt, book, true) == Ok(Some(Outcome::Appended(appended(rt)))));
+    assert!(rt; seen(rt, book) == Some((5, 2, 10)));
+}
+
+// The accounts after it.
+fn assert_accounts(rt: &impl Abort, book: &Book) {
     let accounts = book.accounts();
-    assert_eq!(rt; (accounts.charged, accounts.released), (2, 0));
-    assert_eq!(rt; (accounts.charge[0], accounts.charge[1]), (2, 0));
+    assert!(rt; accounts.charged == 2 && accounts.released == 0);
+    assert!(rt; accounts.charge[0] == 2 && accounts.charge[1] == 0);
+}
+
+// The same PATCH is refused after it, as by the plain program, and changes nothing.
+fn assert_refused(rt: &impl Abort, book: &mut Book, plain: &mut PlainBook) {
+    let plainly = plain.append(rt, &acme(1), &hello(), moment(rt, 1000));
+    assert!(rt; plainly == Err(refused(rt)));
+    assert!(rt; patch(rt, book, true) == Err(refused(rt)));
+    assert!(rt; seen(rt, book) == Some((5, 2, 10)));
+}
+
+#[test]
+fn a_patch_in_two_halves(rt: HostRuntime) {
+    let mut book = new_book(&rt, rt.alloc(), NUMBERS);
+    let mut plain = PlainBook::new(rt.alloc(), NUMBERS, [8, 4]);
+    create(&rt, &mut book, &mut plain);
+    assert_let_go(&rt, &mut book);
+    assert_put(&rt, &mut book);
+    assert_paid(&rt, &mut book, greeting(), 1000, (2, 0, 2, 0));
+    assert_made(&rt, &mut book, &mut plain);
+    assert_accounts(&rt, &book);
     // what ends the upload gives its blocks back, and a sweep too soon does not
     let gone = Change::Terminate(acme(1));
-    assert_eq!(rt; paid(line(&mut book, gone, now)), Some((2, 2, 0, 0)));
-    let soon = moment(&rt, 4599);
-    assert_eq!(rt;
-        paid(line(&mut book, Change::Sweep, soon)),
-        Some((2, 0, 2, 0))
-    );
-    let over = moment(&rt, 4600);
-    assert_eq!(rt;
-        paid(line(&mut book, Change::Sweep, over)),
-        Some((2, 2, 0, 0))
-    );
-    // and so does one that is refused
-    assert_eq!(rt;
-        plain.append(&rt, &acme(1), &hello(), now),
-        Err(refused(&rt))
-    );
-    assert_eq!(rt; patch(&rt, &mut book, true), Err(refused(&rt)));
-    assert_eq!(rt; seen(&rt, &book), Some((5, 2, 10)));
-    Ok(())
+    assert_paid(&rt, &mut book, gone, 1000, (2, 2, 0, 0));
+    assert_paid(&rt, &mut book, Change::Sweep, 4599, (2, 0, 2, 0));
+    assert_paid(&rt, &mut book, Change::Sweep, 4600, (2, 2, 0, 0));
+    assert_refused(&rt, &mut book, &mut plain);
 }

@@ -4,7 +4,6 @@ use crate::books::{ACME, BETA, NUMBERS};
 use crate::steps::Call::{Delete, Get, Head, Patch, Post};
 use crate::steps::Told::{Appended, Bytes, Created, Refused, Removed, Row};
 use crate::steps::{Step, run, steps};
-use std::test::Fail;
 use upload_book::{Kind, Refusal};
 
 static ENDED: [Step; 12] = steps! {
@@ -23,8 +22,8 @@ static ENDED: [Step; 12] = steps! {
 };
 
 #[test]
-fn an_upload_is_ended(rt: HostRuntime) -> Result<(), Fail> {
-    run(&rt, rt.alloc(), NUMBERS, &ENDED)
+fn an_upload_is_ended(rt: HostRuntime) {
+    run(&rt, rt.alloc(), NUMBERS, &ENDED);
 }
 
 // A middle one of three uploads ends, and each of the others goes on with its own bytes.
@@ -43,8 +42,8 @@ static A_MIDDLE_ONE: [Step; 11] = steps! {
 };
 
 #[test]
-fn an_end_leaves_the_others(rt: HostRuntime) -> Result<(), Fail> {
-    run(&rt, rt.alloc(), NUMBERS, &A_MIDDLE_ONE)
+fn an_end_leaves_the_others(rt: HostRuntime) {
+    run(&rt, rt.alloc(), NUMBERS, &A_MIDDLE_ONE);
 }
 
 // The bytes of a pool that was filled, emptied, and filled again in other pieces are read back.
@@ -73,6 +72,6 @@ static FILLED_AGAIN: [Step; 21] = steps! {
 };
 
 #[test]
-fn a_pool_is_filled_again(rt: HostRuntime) -> Result<(), Fail> {
-    run(&rt, rt.alloc(), NUMBERS, &FILLED_AGAIN)
+fn a_pool_is_filled_again(rt: HostRuntime) {
+    run(&rt, rt.alloc(), NUMBERS, &FILLED_AGAIN);
 }

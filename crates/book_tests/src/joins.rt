@@ -4,7 +4,6 @@ use crate::books::{ACME, BETA, NUMBERS};
 use crate::steps::Call::{Delete, Get, Head, Join, Partial, Patch, Post};
 use crate::steps::Told::{Appended, Bytes, Created, Refused, RefusedPatch, Removed, Row};
 use crate::steps::{Step, run, steps};
-use std::test::Fail;
 use upload_book::{Kind, Numbers, Refusal};
 
 // Two partial uploads and a final one over them, which keeps its bytes when they end.
@@ -24,8 +23,8 @@ static PARTIALS_AND_FINAL: [Step; 12] = steps! {
 };
 
 #[test]
-fn partials_and_final(rt: HostRuntime) -> Result<(), Fail> {
-    run(&rt, rt.alloc(), NUMBERS, &PARTIALS_AND_FINAL)
+fn partials_and_final(rt: HostRuntime) {
+    run(&rt, rt.alloc(), NUMBERS, &PARTIALS_AND_FINAL);
 }
 
 // Parts in another order than they were sent, and one part twice.
@@ -44,8 +43,8 @@ static PARTS_IN_ORDER: [Step; 11] = steps! {
 };
 
 #[test]
-fn parts_in_order(rt: HostRuntime) -> Result<(), Fail> {
-    run(&rt, rt.alloc(), NUMBERS, &PARTS_IN_ORDER)
+fn parts_in_order(rt: HostRuntime) {
+    run(&rt, rt.alloc(), NUMBERS, &PARTS_IN_ORDER);
 }
 
 // Two final uploads of one part, which its tenant pays once until the last of the three ends.
@@ -62,8 +61,8 @@ static TWO_FINALS_OF_ONE_PART: [Step; 9] = steps! {
 };
 
 #[test]
-fn two_finals_of_one_part(rt: HostRuntime) -> Result<(), Fail> {
-    run(&rt, rt.alloc(), NUMBERS, &TWO_FINALS_OF_ONE_PART)
+fn two_finals_of_one_part(rt: HostRuntime) {
+    run(&rt, rt.alloc(), NUMBERS, &TWO_FINALS_OF_ONE_PART);
 }
 
 // A part goes on living beside its final upload, and each end of either changes nothing of the other.
@@ -81,8 +80,8 @@ static A_PART_BESIDE_ITS_FINAL: [Step; 10] = steps! {
 };
 
 #[test]
-fn a_part_beside_its_final(rt: HostRuntime) -> Result<(), Fail> {
-    run(&rt, rt.alloc(), NUMBERS, &A_PART_BESIDE_ITS_FINAL)
+fn a_part_beside_its_final(rt: HostRuntime) {
+    run(&rt, rt.alloc(), NUMBERS, &A_PART_BESIDE_ITS_FINAL);
 }
 
 const THIRTY_TWO: [Option<u64>; 32] = [Some(1); 32];
@@ -106,9 +105,9 @@ static THIRTY_TWO_EMPTY_PARTS: [Step; 5] = steps! {
 };
 
 #[test]
-fn as_many_parts_as_there_may_be(rt: HostRuntime) -> Result<(), Fail> {
-    run(&rt, rt.alloc(), NUMBERS, &THIRTY_TWO_PARTS)?;
-    run(&rt, rt.alloc(), NUMBERS, &THIRTY_TWO_EMPTY_PARTS)
+fn as_many_parts_as_there_may_be(rt: HostRuntime) {
+    run(&rt, rt.alloc(), NUMBERS, &THIRTY_TWO_PARTS);
+    run(&rt, rt.alloc(), NUMBERS, &THIRTY_TWO_EMPTY_PARTS);
 }
 
 // An upload that is not complete, that is no partial one, of another tenant, or never given, expired or ended.
@@ -135,8 +134,8 @@ static NO_PARTS: [Step; 19] = steps! {
 };
 
 #[test]
-fn no_parts(rt: HostRuntime) -> Result<(), Fail> {
-    run(&rt, rt.alloc(), NUMBERS, &NO_PARTS)
+fn no_parts(rt: HostRuntime) {
+    run(&rt, rt.alloc(), NUMBERS, &NO_PARTS);
 }
 
 // The bytes of parts are counted as often as they are named, against the greatest size, and never against the quota.
@@ -150,8 +149,8 @@ static LONG_PARTS: [Step; 6] = steps! {
 };
 
 #[test]
-fn long_parts(rt: HostRuntime) -> Result<(), Fail> {
-    run(&rt, rt.alloc(), NUMBERS, &LONG_PARTS)
+fn long_parts(rt: HostRuntime) {
+    run(&rt, rt.alloc(), NUMBERS, &LONG_PARTS);
 }
 
 // With room for two uploads and two ids, each refusal comes before the next in the order.
@@ -169,13 +168,13 @@ static REFUSED_IN_ORDER: [Step; 10] = steps! {
 };
 
 #[test]
-fn joins_refused_in_order(rt: HostRuntime) -> Result<(), Fail> {
+fn joins_refused_in_order(rt: HostRuntime) {
     let few = Numbers {
         uploads: 2,
         last_id: 2,
         ..NUMBERS
     };
-    run(&rt, rt.alloc(), few, &REFUSED_IN_ORDER)
+    run(&rt, rt.alloc(), few, &REFUSED_IN_ORDER);
 }
 
 // A join charges nothing, so it is not refused where the total of charges is used up.
@@ -190,15 +189,14 @@ static JOINS_SPEND_NOTHING: [Step; 7] = steps! {
 };
 
 #[test]
-fn joins_spend_nothing(rt: HostRuntime) -> Result<(), Fail> {
+fn joins_spend_nothing(rt: HostRuntime) {
     for last_total in [2, 4] {
         let few = Numbers {
             last_total,
             ..NUMBERS
         };
-        run(&rt, rt.alloc(), few, &JOINS_SPEND_NOTHING)?;
+        run(&rt, rt.alloc(), few, &JOINS_SPEND_NOTHING);
     }
-    Ok(())
 }
 
 // A pool without a free block: a join needs none. It is free again when the last holder of each block has ended.
@@ -219,6 +217,6 @@ static A_FULL_POOL: [Step; 13] = steps! {
 };
 
 #[test]
-fn a_full_pool(rt: HostRuntime) -> Result<(), Fail> {
-    run(&rt, rt.alloc(), NUMBERS, &A_FULL_POOL)
+fn a_full_pool(rt: HostRuntime) {
+    run(&rt, rt.alloc(), NUMBERS, &A_FULL_POOL);
 }

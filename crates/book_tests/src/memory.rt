@@ -3,23 +3,26 @@
 //! calls a test makes as many allocations as its name says, so that one build tries sixteen places: with 16, 32, 48
 //! and so on for N it is every one. Each test prints whether memory was lacking.
 
-use crate::books::{ACME, BETA, NUMBERS, acme, moment, new_final, patch};
+use crate::books::{ACME, BETA, NUMBERS, acme, moment, new_final, new_upload, patch};
 use std::alloc::Global;
 use std::io::Print;
 use std::process::Abort;
 use std::test::Fail;
 use upload_book::{
-    Appended, Book, Created, FirstChunk, HeadRow, Moment, NewUpload, Numbers, Refusal, Refused,
-    Settings,
+    Appended, Book, Content, Created, FirstChunk, Moment, Numbers, Refusal, Refused, Settings,
 };
 
 // How far acme's first two uploads are, what acme and beta pay, how many blocks are free, and the two totals.
 type Seen = ([Result<u64, Refusal>; 2], [u64; 5]);
 
 fn seen(rt: &impl Abort, book: &Book) -> Seen {
-    let offset = |row: HeadRow| row.offset;
-    let rows = [1, 2].map(|id| book.look(&acme(id), moment(rt, 1000)).map(offset));
-    (rows, paid(rt, book))
+    let offsets = [offset(rt, book, 1), offset(rt, book, 2)];
+    (offsets, paid(rt, book))
+}
+
+fn offset(rt: &impl Abort, book: &Book, id: u64) -> Result<u64, Refusal> {
+    let row = book.look(&acme(id), moment(rt, 1000))?;
+    Ok(row.offset)
 }
 
 fn paid(rt: &impl Abort, book: &Book) -> [u64; 5] {
@@ -32,6 +35,12 @@ fn paid(rt: &impl Abort, book: &Book) -> [u64; 5] {
         book.charged_total(),
         book.released_total(),
     ]
+}
+
+// Notes that memory was lacking for a call, which has to leave the book as it was before.
+fn note_lacking(rt: &impl Abort, book: &Book, before: &Seen, is_lacking: &mut bool) {
+    assert!(rt; seen(rt, book) == *before);
+    *is_lacking = true;
 }
 
 // A PATCH, and once more where it was refused since there was no memory; gives its answer, which is no such refusal.
@@ -53,20 +62,15 @@ fn patched(
     else {
         return answer;
     };
-    *is_lacking = true;
-    assert!(rt; expires == Moment::new(4600) && seen(rt, book) == before);
+    assert!(rt; expires == Moment::new(4600));
+    note_lacking(rt, book, &before, is_lacking);
     patch(rt, book, 1, offset, bytes)
 }
 
 // A creation of an upload with its first bytes.
 fn create(rt: &impl Abort, book: &mut Book) -> Result<Created, Refusal> {
     let tenant = book.settings().tenant(ACME).expect(rt, "acme");
-    let new = NewUpload {
-        partial: false,
-        length: Some(5),
-        metadata: b"",
-        concat: b"",
-    };
+    let new = new_upload(false, Some(5));
     let first = FirstChunk {
         typed: true,
         check: None,
@@ -79,11 +83,10 @@ fn create(rt: &impl Abort, book: &mut Book) -> Result<Created, Refusal> {
 fn created(rt: &impl Abort, book: &mut Book, is_lacking: &mut bool) -> Result<Created, Refusal> {
     let before = seen(rt, book);
     let answer = create(rt, book);
-    if answer != Err(Refusal::Memory) {
+    let Err(Refusal::Memory) = answer else {
         return answer;
-    }
-    *is_lacking = true;
-    assert!(rt; seen(rt, book) == before);
+    };
+    note_lacking(rt, book, &before, is_lacking);
     create(rt, book)
 }
 
@@ -98,25 +101,113 @@ fn join(rt: &impl Abort, book: &mut Book) -> Result<Created, Refusal> {
 fn joined(rt: &impl Abort, book: &mut Book, is_lacking: &mut bool) -> Result<Created, Refusal> {
     let before = seen(rt, book);
     let answer = join(rt, book);
-    if answer != Err(Refusal::Memory) {
+    let Err(Refusal::Memory) = answer else {
         return answer;
-    }
-    *is_lacking = true;
-    assert!(rt; seen(rt, book) == before);
+    };
+    note_lacking(rt, book, &before, is_lacking);
     join(rt, book)
+}
+
+// A GET, and once more where there was no memory for the first.
+fn content(
+    rt: &impl Abort,
+    book: &Book,
+    is_lacking: &mut bool,
+    id: u64,
+) -> Result<Content, Refusal> {
+    let before = seen(rt, book);
+    let answer = book.content(&acme(id), moment(rt, 1000));
+    let Err(Refusal::Memory) = answer else {
+        return answer;
+    };
+    note_lacking(rt, book, &before, is_lacking);
+    book.content(&acme(id), moment(rt, 1000))
 }
 
 // Asserts that a GET gives these bytes, if not at once then where memory was lacking for the first.
 fn assert_content(rt: &impl Abort, book: &Book, is_lacking: &mut bool, id: u64, bytes: &[u8]) {
-    let before = seen(rt, book);
-    let mut answer = book.content(&acme(id), moment(rt, 1000));
-    if let Err(Refusal::Memory) = answer {
-        *is_lacking = true;
-        assert!(rt; seen(rt, book) == before);
-        answer = book.content(&acme(id), moment(rt, 1000));
-    }
-    let content = answer.expect(rt, "a content");
-    assert_eq!(rt; content.as_slice(), bytes);
+    let content = content(rt, book, is_lacking, id).expect(rt, "a content");
+    assert!(rt; content.as_slice() == bytes, "upload {id}");
+}
+
+// Asserts what acme and beta pay, how many blocks are free, and the two totals.
+fn assert_paid(rt: &impl Abort, book: &Book, expected: [u64; 5]) {
+    assert!(rt; paid(rt, book) == expected);
+}
+
+// Settings by which a tenant may have two uploads.
+fn two_uploads(rt: &impl Abort) -> Settings {
+    let numbers = Numbers {
+        uploads: 2,
+        ..NUMBERS
+    };
+    let settings = Settings::new(numbers, &[(ACME, 8), (BETA, 4)]);
+    settings.expect(rt, "settings")
+}
+
+// Makes acme's first upload, a partial one of twenty bytes.
+fn create_partial(rt: &impl Abort, book: &mut Book) {
+    let place = book.settings().tenant(ACME).expect(rt, "acme");
+    let made = book.create(place, new_upload(true, Some(20)), moment(rt, 1000));
+    assert_made(rt, made, 1);
+}
+
+// Asserts that an upload was made, of this id.
+fn assert_made(rt: &impl Abort, made: Result<Created, Refusal>, id: u64) {
+    let made = made.expect(rt, "an upload");
+    assert!(rt; made.name.id == id, "upload {id}");
+}
+
+// Asserts that a PATCH is accepted, and that the first upload ends there after it.
+fn assert_patched(
+    rt: &impl Abort,
+    book: &mut Book,
+    is_lacking: &mut bool,
+    offset: u64,
+    bytes: &[u8],
+    end: u64,
+) {
+    let appended = patched(rt, book, is_lacking, offset, bytes).expect(rt, "a PATCH");
+    assert!(rt; appended.offset == end, "at {offset}");
+}
+
+// Asserts that an upload is ended, and that so many blocks become free.
+fn assert_removed(rt: &impl Abort, book: &mut Book, id: u64, blocks: u64) {
+    let removed = book.terminate(&acme(id), moment(rt, 1000));
+    let removed = removed.expect(rt, "an end");
+    assert!(rt; removed.released == blocks, "upload {id}");
+}
+
+// The first upload gets its bytes in three pieces.
+fn fill(rt: &impl Abort, book: &mut Book, is_lacking: &mut bool) {
+    assert_patched(rt, book, is_lacking, 0, b"hello", 5);
+    assert_patched(rt, book, is_lacking, 5, b"wor", 8);
+    assert_patched(rt, book, is_lacking, 8, b"ld and more.", 20);
+    assert_paid(rt, book, [5, 0, 7, 5, 0]);
+    assert_content(rt, book, is_lacking, 1, b"helloworld and more.");
+}
+
+// The second one is the first twice.
+fn double(rt: &impl Abort, book: &mut Book, is_lacking: &mut bool) {
+    let made = joined(rt, book, is_lacking);
+    assert_made(rt, made, 2);
+    let twice = b"helloworld and more.helloworld and more.";
+    assert_content(rt, book, is_lacking, 2, twice);
+}
+
+// Both are ended,
+fn end_both(rt: &impl Abort, book: &mut Book) {
+    assert_removed(rt, book, 1, 0);
+    assert_removed(rt, book, 2, 5);
+    assert_paid(rt, book, [0, 0, 12, 5, 5]);
+}
+
+// and there is a third.
+fn create_third(rt: &impl Abort, book: &mut Book, is_lacking: &mut bool) {
+    let made = created(rt, book, is_lacking);
+    assert_made(rt, made, 3);
+    assert_content(rt, book, is_lacking, 3, b"hello");
+    assert_paid(rt, book, [2, 0, 10, 7, 5]);
 }
 
 // Makes the calls after so many allocations. Says whether memory was lacking for the book or for a call.
@@ -124,49 +215,15 @@ fn is_lacking_after(rt: &impl Abort, alloc: Global, spent: usize) -> bool {
     for _ in 0..spent {
         let _ = Vec::<u8>::with_capacity(alloc, 1);
     }
-    let two_uploads = Numbers {
-        uploads: 2,
-        ..NUMBERS
-    };
-    let settings = Settings::new(two_uploads, &[(ACME, 8), (BETA, 4)]);
-    let settings = settings.expect(rt, "settings");
-    let Ok(mut book) = Book::new(alloc, settings) else {
+    let Ok(mut book) = Book::new(alloc, two_uploads(rt)) else {
         return true;
     };
     let mut is_lacking = false;
-    let place = book.settings().tenant(ACME).expect(rt, "acme");
-    let new = NewUpload {
-        partial: true,
-        length: Some(20),
-        metadata: b"",
-        concat: b"partial",
-    };
-    let made = book.create(place, new, moment(rt, 1000));
-    assert_eq!(rt; made.map(|created| created.name.id), Ok(1));
-    for (offset, bytes, end) in [
-        (0, b"hello".as_slice(), 5),
-        (5, b"wor".as_slice(), 8),
-        (8, b"ld and more.".as_slice(), 20),
-    ] {
-        let answer = patched(rt, &mut book, &mut is_lacking, offset, bytes);
-        assert_eq!(rt; answer.map(|appended| appended.offset), Ok(end));
-    }
-    assert_eq!(rt; paid(rt, &book), [5, 0, 7, 5, 0]);
-    assert_content(rt, &book, &mut is_lacking, 1, b"helloworld and more.");
-    let made = joined(rt, &mut book, &mut is_lacking);
-    assert_eq!(rt; made.map(|created| created.name.id), Ok(2));
-    let twice = b"helloworld and more.helloworld and more.";
-    assert_content(rt, &book, &mut is_lacking, 2, twice);
-    for (id, blocks) in [(1, 0), (2, 5)] {
-        let removed = book.terminate(&acme(id), moment(rt, 1000));
-        let released = removed.map(|removed| removed.released);
-        assert_eq!(rt; released, Ok(blocks));
-    }
-    assert_eq!(rt; paid(rt, &book), [0, 0, 12, 5, 5]);
-    let made = created(rt, &mut book, &mut is_lacking);
-    assert_eq!(rt; made.map(|created| created.name.id), Ok(3));
-    assert_content(rt, &book, &mut is_lacking, 3, b"hello");
-    assert_eq!(rt; paid(rt, &book), [2, 0, 10, 7, 5]);
+    create_partial(rt, &mut book);
+    fill(rt, &mut book, &mut is_lacking);
+    double(rt, &mut book, &mut is_lacking);
+    end_both(rt, &mut book);
+    create_third(rt, &mut book, &mut is_lacking);
     is_lacking
 }
 

@@ -53,6 +53,22 @@ impl Upload {
         }
         bytes
     }
+
+    // Appends bytes to each of its segments. From then on it has this length and this end.
+    fn append(
+        &mut self,
+        rt: &impl Abort,
+        bytes: &[u8],
+        declared: Option<u64>,
+        expires: Option<u64>,
+    ) {
+        self.declared = declared;
+        self.expires = expires;
+        for segment in self.segments.iter_mut() {
+            let copied = segment.bytes.extend_from_slice(bytes);
+            copied.expect(rt, "memory");
+        }
+    }
 }
 
 /// The kind, the offset, the length and the end of an upload.
@@ -77,6 +93,11 @@ fn differs(check: Option<Checksum>, bytes: &[u8]) -> bool {
         Some(Checksum::Sha1(digest)) => digest != made,
         _ => false,
     }
+}
+
+// Whether a digest is by an algorithm that the book does not know.
+fn is_other(check: Option<Checksum>) -> bool {
+    matches!(check, Some(Checksum::Other))
 }
 
 fn refused(refusal: Refusal, expires: Option<u64>) -> Refused {
@@ -150,6 +171,23 @@ impl PlainBook {
         less
     }
 
+    // Whether an upload of this length may not have so many bytes.
+    fn is_too_long(&self, length: Option<u64>, len: u64) -> bool {
+        let most = length.unwrap_or(self.numbers.max_size);
+        most > self.numbers.max_size || len > most
+    }
+
+    // How many blocks a segment takes more that grows to this offset.
+    fn added(&self, before: u64, offset: u64) -> u64 {
+        let size = self.numbers.block_size.max(1);
+        offset.div_ceil(size).saturating_sub(before.div_ceil(size))
+    }
+
+    // The quota of a tenant.
+    fn quota(&self, tenant: u8) -> u64 {
+        self.quotas[usize::from(tenant.min(1))]
+    }
+
     // The id that the tenant's next upload gets.
     fn next(&self, tenant: u8) -> u64 {
         let uploads = self.uploads.iter();
@@ -190,10 +228,7 @@ impl PlainBook {
         refused_by(&[
             (is_full, Refusal::Uploads),
             (is_spent, Refusal::Spent),
-            (
-                charge > self.quotas[usize::from(tenant.min(1))],
-                Refusal::Quota,
-            ),
+            (charge > self.quota(tenant), Refusal::Quota),
         ])?;
         self.uploads.push(upload).expect(rt, "memory");
         self.settle(tenant, before);
@@ -214,12 +249,10 @@ impl PlainBook {
         now: Moment,
     ) -> Result<Created, Refusal> {
         let len = first.bytes.len() as u64;
-        let most = length.unwrap_or(self.numbers.max_size);
-        let is_too_long = most > self.numbers.max_size || len > most;
         refused_by(&[
             (!first.typed, Refusal::Media),
-            (is_too_long, Refusal::TooLong),
-            (first.check == Some(Checksum::Other), Refusal::Algorithm),
+            (self.is_too_long(length, len), Refusal::TooLong),
+            (is_other(first.check), Refusal::Algorithm),
             (differs(first.check, first.bytes), Refusal::Mismatch),
         ])?;
         let id = self.next(tenant);
@@ -233,7 +266,7 @@ impl PlainBook {
             segments: vec![in self.alloc; segment].expect(rt, "memory"),
             expires: self.touched(kind, length == Some(len), None, now),
         };
-        self.add(rt, upload, len.div_ceil(self.numbers.block_size.max(1)))
+        self.add(rt, upload, self.added(0, len))
     }
 
     pub fn concat(
@@ -289,6 +322,28 @@ impl PlainBook {
         Ok(upload.content(rt, self.alloc))
     }
 
+    // Refuses a PATCH of an upload of this row.
+    fn admit(&self, tenant: u8, row: PlainRow, chunk: &Chunk) -> Result<(), Refusal> {
+        let (kind, at, declared, _) = row;
+        let offset = at.saturating_add(chunk.bytes.len() as u64);
+        let added = self.added(at, offset);
+        let charge = self.charge(tenant).saturating_add(added);
+        let charged = self.charged.saturating_add(added);
+        let length = declared.or(chunk.length);
+        let other = chunk.length.is_some() && chunk.length != length;
+        refused_by(&[
+            (kind == Kind::Final, Refusal::IsFinal),
+            (!chunk.typed, Refusal::Media),
+            (chunk.offset != at, Refusal::Offset),
+            (other, Refusal::LengthFixed),
+            (self.is_too_long(length, offset), Refusal::TooLong),
+            (is_other(chunk.check), Refusal::Algorithm),
+            (differs(chunk.check, chunk.bytes), Refusal::Mismatch),
+            (charged > self.numbers.last_total, Refusal::Spent),
+            (charge > self.quota(tenant), Refusal::Quota),
+        ])
+    }
+
     pub fn append(
         &mut self,
         rt: &impl Abort,
@@ -296,44 +351,21 @@ impl PlainBook {
         chunk: &Chunk,
         now: Moment,
     ) -> Result<Appended, Refused> {
-        let (kind, at, declared, expires) = match self.look(name, now) {
+        let row = match self.look(name, now) {
             Ok(row) => row,
             Err(refusal) => return Err(refused(refusal, None)),
         };
-        let before = self.charge(name.tenant);
-        let quota = self.quotas[usize::from(name.tenant.min(1))];
-        let size = self.numbers.block_size.max(1);
-        let offset = at.saturating_add(chunk.bytes.len() as u64);
-        let added = offset.div_ceil(size).saturating_sub(at.div_ceil(size));
-        let charge = before.saturating_add(added);
-        let charged = self.charged.saturating_add(added);
-        let length = declared.or(chunk.length);
-        let most = length.unwrap_or(self.numbers.max_size);
-        let is_too_long = most > self.numbers.max_size || offset > most;
-        let other = chunk.length.is_some() && chunk.length != length;
-        let tests = refused_by(&[
-            (kind == Kind::Final, Refusal::IsFinal),
-            (!chunk.typed, Refusal::Media),
-            (chunk.offset != at, Refusal::Offset),
-            (other, Refusal::LengthFixed),
-            (is_too_long, Refusal::TooLong),
-            (chunk.check == Some(Checksum::Other), Refusal::Algorithm),
-            (differs(chunk.check, chunk.bytes), Refusal::Mismatch),
-            (charged > self.numbers.last_total, Refusal::Spent),
-            (charge > quota, Refusal::Quota),
-        ]);
-        if let Err(refusal) = tests {
+        let (kind, at, declared, expires) = row;
+        if let Err(refusal) = self.admit(name.tenant, row, chunk) {
             return Err(refused(refusal, expires));
         }
+        let before = self.charge(name.tenant);
+        let offset = at.saturating_add(chunk.bytes.len() as u64);
+        let length = declared.or(chunk.length);
         let expires = self.touched(kind, length == Some(offset), expires, now);
         for upload in self.uploads.iter_mut() {
             if upload.name == *name {
-                upload.declared = length;
-                upload.expires = expires;
-                for segment in upload.segments.iter_mut() {
-                    let copied = segment.bytes.extend_from_slice(chunk.bytes);
-                    copied.expect(rt, "memory");
-                }
+                upload.append(rt, chunk.bytes, length, expires);
             }
         }
         self.settle(name.tenant, before);

@@ -4,7 +4,6 @@ use crate::books::{ACME, BETA, NUMBERS};
 use crate::steps::Call::{Delete, Get, Head, Patch, Post};
 use crate::steps::Told::{Appended, Bytes, Created, RefusedPatch, Removed, Row};
 use crate::steps::{Step, run, steps};
-use std::test::Fail;
 use upload_book::{Kind, Numbers, Refusal};
 
 // The last block of a quota is filled to its last byte, and no further.
@@ -17,8 +16,8 @@ static TO_THE_LAST_BYTE: [Step; 5] = steps! {
 };
 
 #[test]
-fn a_quota_is_filled(rt: HostRuntime) -> Result<(), Fail> {
-    run(&rt, rt.alloc(), NUMBERS, &TO_THE_LAST_BYTE)
+fn a_quota_is_filled(rt: HostRuntime) {
+    run(&rt, rt.alloc(), NUMBERS, &TO_THE_LAST_BYTE);
 }
 
 // With no block free, the quota refuses each tenant before the pool could.
@@ -34,8 +33,8 @@ static NO_BLOCK_FREE: [Step; 8] = steps! {
 };
 
 #[test]
-fn quotas_fill_the_pool(rt: HostRuntime) -> Result<(), Fail> {
-    run(&rt, rt.alloc(), NUMBERS, &NO_BLOCK_FREE)
+fn quotas_fill_the_pool(rt: HostRuntime) {
+    run(&rt, rt.alloc(), NUMBERS, &NO_BLOCK_FREE);
 }
 
 // What was charged once counts for ever, also where the blocks are free again.
@@ -51,12 +50,12 @@ static TWO_BLOCKS_EVER: [Step; 8] = steps! {
 };
 
 #[test]
-fn charges_are_spent(rt: HostRuntime) -> Result<(), Fail> {
+fn charges_are_spent(rt: HostRuntime) {
     let two_blocks = Numbers {
         last_total: 2,
         ..NUMBERS
     };
-    run(&rt, rt.alloc(), two_blocks, &TWO_BLOCKS_EVER)
+    run(&rt, rt.alloc(), two_blocks, &TWO_BLOCKS_EVER);
 }
 
 // Past the length before past the total, and that before past the quota.
@@ -77,17 +76,17 @@ static PAST_THE_QUOTA: [Step; 5] = steps! {
 };
 
 #[test]
-fn refusals_come_in_their_order(rt: HostRuntime) -> Result<(), Fail> {
+fn refusals_come_in_their_order(rt: HostRuntime) {
     let eight_blocks = Numbers {
         last_total: 8,
         ..NUMBERS
     };
-    run(&rt, rt.alloc(), eight_blocks, &PAST_ALL)?;
+    run(&rt, rt.alloc(), eight_blocks, &PAST_ALL);
     let nine_blocks = Numbers {
         last_total: 9,
         ..NUMBERS
     };
-    run(&rt, rt.alloc(), nine_blocks, &PAST_THE_QUOTA)
+    run(&rt, rt.alloc(), nine_blocks, &PAST_THE_QUOTA);
 }
 
 // An empty PATCH costs nothing, also where quota and total are used up.
@@ -102,10 +101,10 @@ static EMPTY_PATCHES: [Step; 7] = steps! {
 };
 
 #[test]
-fn an_empty_patch_is_free(rt: HostRuntime) -> Result<(), Fail> {
+fn an_empty_patch_is_free(rt: HostRuntime) {
     let eight_blocks = Numbers {
         last_total: 8,
         ..NUMBERS
     };
-    run(&rt, rt.alloc(), eight_blocks, &EMPTY_PATCHES)
+    run(&rt, rt.alloc(), eight_blocks, &EMPTY_PATCHES);
 }

@@ -1,19 +1,18 @@
 //! Tables of calls, each with what it answers and what holds after it. A book is taken through a table, and beside
 //! it the plain program of a book.
 
-use crate::books::{ACME, BETA, moment, new_book, new_final};
+use crate::books::{ACME, BETA, moment, new_book, new_final, new_upload};
 use crate::plain::{Ending, PlainBook, PlainRow};
 use std::alloc::Global;
 use std::process::Abort;
-use std::test::Fail;
 use tus_text::Checksum;
 use upload_book::{
-    Appended, Book, Chunk, Content, Created, FirstChunk, HeadRow, Kind, Moment, Name, NewUpload,
-    Numbers, Refusal, Refused, Removed, Swept,
+    Appended, Book, Chunk, Content, Created, FirstChunk, HeadRow, Kind, Moment, Name, Numbers,
+    Refusal, Refused, Removed, Swept,
 };
 
 /// A call of a book.
-#[derive(Clone, Copy, Debug)]
+#[derive(Clone, Copy)]
 pub enum Call {
     /// A creation of an upload of its own, of this length.
     Post(Option<u64>),
@@ -44,7 +43,7 @@ pub enum Call {
 }
 
 /// What a call answers.
-#[derive(Clone, Copy, Debug, PartialEq, Eq)]
+#[derive(Clone, Copy, PartialEq, Eq)]
 pub enum Told<'a> {
     /// An id, and when the upload expires.
     Created(u64, Option<u64>),
@@ -64,7 +63,7 @@ pub enum Told<'a> {
 }
 
 /// A call at a moment for a tenant, what it answers, and what holds after it.
-#[derive(Clone, Copy, Debug)]
+#[derive(Clone, Copy)]
 pub struct Step {
     pub secs: u64,
     pub tenant: &'static [u8],
@@ -163,23 +162,8 @@ impl Pair {
         now: Moment,
     ) -> [Told<'static>; 2] {
         let place = self.book.settings().tenant(tenant).expect(rt, "a tenant");
-        let answer = if kind == Kind::Partial {
-            let new = NewUpload {
-                partial: true,
-                length,
-                metadata: b"",
-                concat: b"partial",
-            };
-            self.book.create(place, new, now)
-        } else {
-            let new = NewUpload {
-                partial: false,
-                length,
-                metadata: b"",
-                concat: b"",
-            };
-            self.book.create(place, new, now)
-        };
+        let new = new_upload(kind == Kind::Partial, length);
+        let answer = self.book.create(place, new, now);
         let plainly = self
             .plain
             .create(rt, place, kind, length, &first(true, None, b""), now);
@@ -198,13 +182,9 @@ impl Pair {
         let plainly = self
             .plain
             .create(rt, place, Kind::Plain, length, &first, now);
-        let new = NewUpload {
-            partial: false,
-            length,
-            metadata: b"",
-            concat: b"",
-        };
-        let answer = self.book.create_with(place, new, first, now);
+        let answer = self
+            .book
+            .create_with(place, new_upload(false, length), first, now);
         [created(answer), created(plainly)]
     }
 
@@ -268,9 +248,9 @@ impl Pair {
             let ending = [expiring.at.secs(), u64::from(tenant), id];
             endings.push(ending).expect(rt, "memory");
         }
-        assert_eq!(rt; endings, plainly, "after call {place}");
+        assert!(rt; endings == plainly, "after call {place}");
         if let Told::Expire(expected) = told {
-            assert_eq!(rt; endings.as_slice(), expected, "call {place}");
+            assert!(rt; endings.as_slice() == expected, "call {place}");
         }
     }
 
@@ -294,8 +274,8 @@ impl Pair {
             .saturating_sub(acme)
             .saturating_sub(beta);
         let plainly = [acme, beta, free, plain.charged, plain.released];
-        assert_eq!(rt; paid, after, "after call {place}");
-        assert_eq!(rt; plainly, after, "after call {place}, by the plain book");
+        assert!(rt; paid == after, "after call {place}");
+        assert!(rt; plainly == after, "after call {place}, by the plain book");
     }
 }
 
@@ -344,23 +324,23 @@ fn untyped<'a>(bytes: &'a [u8]) -> Chunk<'a> {
 // Asserts what a call answers, of a book and of the plain one.
 fn assert_told(rt: &impl Abort, place: usize, answers: [Told; 2], told: Told) {
     let [answer, plainly] = answers;
-    assert_eq!(rt; answer, told, "call {place}");
-    assert_eq!(rt; plainly, told, "call {place}, by the plain book");
+    assert!(rt; answer == told, "call {place}");
+    assert!(rt; plainly == told, "call {place}, by the plain book");
 }
 
-// Takes the pair through one step.
-fn take(rt: &impl Abort, pair: &mut Pair, place: usize, step: &Step) {
+// What the call of a step answers, of a book and of the plain one.
+fn answers(rt: &impl Abort, pair: &mut Pair, place: usize, step: &Step) -> [Told<'static>; 2] {
     let Step {
         secs,
         tenant,
         call,
         told,
-        after,
+        ..
     } = *step;
     let now = moment(rt, secs);
     let number = pair.book.settings().tenant(tenant).expect(rt, "a tenant");
     let named = |id: u64| Name { tenant: number, id };
-    let answers = match call {
+    match call {
         Call::Post(length) => pair.create(rt, tenant, Kind::Plain, length, now),
         Call::PostWith(length, bytes) => {
             pair.create_with(rt, tenant, length, first(true, None, bytes), now)
@@ -394,20 +374,24 @@ fn take(rt: &impl Abort, pair: &mut Pair, place: usize, step: &Step) {
         Call::Delete(id) => pair.terminate(named(id), now),
         Call::Sweep => pair.sweep(now),
         Call::Expiries => [told, told],
-    };
-    assert_told(rt, place, answers, told);
-    pair.assert_expiries(rt, place, told);
-    pair.assert_paid(rt, place, after);
+    }
+}
+
+// Takes the pair through one step.
+fn take(rt: &impl Abort, pair: &mut Pair, place: usize, step: &Step) {
+    let answers = answers(rt, pair, place, step);
+    assert_told(rt, place, answers, step.told);
+    pair.assert_expiries(rt, place, step.told);
+    pair.assert_paid(rt, place, step.after);
 }
 
 /// Takes a new book, and a new plain one, through the steps of a table.
-pub fn run(rt: &impl Abort, alloc: Global, numbers: Numbers, steps: &[Step]) -> Result<(), Fail> {
+pub fn run(rt: &impl Abort, alloc: Global, numbers: Numbers, steps: &[Step]) {
     let mut pair = Pair {
-        book: new_book(alloc, numbers)?,
+        book: new_book(rt, alloc, numbers),
         plain: PlainBook::new(alloc, numbers, [8, 4]),
     };
     for (place, step) in steps.iter().enumerate() {
         take(rt, &mut pair, place, step);
     }
-    Ok(())
 }

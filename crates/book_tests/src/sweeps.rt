@@ -1,11 +1,12 @@
 //! Sweeps of single uploads, and before, between and after the ends of partial uploads and of final ones over them.
 
-use crate::books::{ACME, BETA, NUMBERS, moment};
+use crate::books::{ACME, BETA, NUMBERS, moment, new_upload};
 use crate::steps::Call::{Delete, Expiries, Get, Head, Join, Partial, Patch, Post, Sweep};
 use crate::steps::Told::{Appended, Bytes, Created, Expire, Refused, Removed, Row, Swept};
 use crate::steps::{Step, run, steps};
+use std::process::Abort;
 use std::test::Fail;
-use upload_book::{Book, Kind, NewUpload, Refusal, Settings};
+use upload_book::{Book, Kind, Refusal, Settings};
 
 // An expired upload costs its blocks until a sweep ends it.
 static EXPIRED_AND_SWEPT: [Step; 9] = steps! {
@@ -42,9 +43,9 @@ static EVERY_OTHER_ONE: [Step; 17] = steps! {
 };
 
 #[test]
-fn sweeps_of_single_uploads(rt: HostRuntime) -> Result<(), Fail> {
-    run(&rt, rt.alloc(), NUMBERS, &EXPIRED_AND_SWEPT)?;
-    run(&rt, rt.alloc(), NUMBERS, &EVERY_OTHER_ONE)
+fn sweeps_of_single_uploads(rt: HostRuntime) {
+    run(&rt, rt.alloc(), NUMBERS, &EXPIRED_AND_SWEPT);
+    run(&rt, rt.alloc(), NUMBERS, &EVERY_OTHER_ONE);
 }
 
 // The part expires and is swept; the final upload keeps its blocks.
@@ -112,12 +113,12 @@ static SWEPT_AMONG_OTHERS: [Step; 14] = steps! {
 };
 
 #[test]
-fn sweeps_in_each_order(rt: HostRuntime) -> Result<(), Fail> {
-    run(&rt, rt.alloc(), NUMBERS, &SWEPT_BEFORE_ITS_FINAL)?;
-    run(&rt, rt.alloc(), NUMBERS, &SWEPT_AFTER_ITS_FINAL)?;
-    run(&rt, rt.alloc(), NUMBERS, &ENDED_BEFORE_ITS_FINAL)?;
-    run(&rt, rt.alloc(), NUMBERS, &SWEPT_BETWEEN_FINALS)?;
-    run(&rt, rt.alloc(), NUMBERS, &SWEPT_AMONG_OTHERS)
+fn sweeps_in_each_order(rt: HostRuntime) {
+    run(&rt, rt.alloc(), NUMBERS, &SWEPT_BEFORE_ITS_FINAL);
+    run(&rt, rt.alloc(), NUMBERS, &SWEPT_AFTER_ITS_FINAL);
+    run(&rt, rt.alloc(), NUMBERS, &ENDED_BEFORE_ITS_FINAL);
+    run(&rt, rt.alloc(), NUMBERS, &SWEPT_BETWEEN_FINALS);
+    run(&rt, rt.alloc(), NUMBERS, &SWEPT_AMONG_OTHERS);
 }
 
 // Each upload that expires is listed once: by when, and where that is the same by its id, whatever their order before.
@@ -152,49 +153,59 @@ static LISTED_BY_TENANT: [Step; 13] = steps! {
 };
 
 #[test]
-fn uploads_that_expire(rt: HostRuntime) -> Result<(), Fail> {
-    run(&rt, rt.alloc(), NUMBERS, &LISTED_AND_SWEPT)?;
-    run(&rt, rt.alloc(), NUMBERS, &LISTED_BY_TENANT)
+fn uploads_that_expire(rt: HostRuntime) {
+    run(&rt, rt.alloc(), NUMBERS, &LISTED_AND_SWEPT);
+    run(&rt, rt.alloc(), NUMBERS, &LISTED_BY_TENANT);
+}
+
+static SIXTEEN: [(&[u8], u64); 16] = [
+    (b"a", 0),
+    (b"b", 0),
+    (b"c", 0),
+    (b"d", 0),
+    (b"e", 0),
+    (b"f", 0),
+    (b"g", 0),
+    (b"h", 0),
+    (b"i", 0),
+    (b"j", 0),
+    (b"k", 0),
+    (b"l", 0),
+    (b"m", 0),
+    (b"n", 0),
+    (b"o", 0),
+    (b"p", 0),
+];
+
+// Creates an upload of a tenant, which expires at second 4600.
+fn create(rt: &impl Abort, book: &mut Book, tenant: &[u8]) {
+    let tenant = book.settings().tenant(tenant).expect(rt, "a tenant");
+    let created = book.create(tenant, new_upload(false, Some(1)), moment(rt, 1000));
+    assert!(rt; created.is_ok());
+}
+
+// Creates as many uploads of each tenant as it may have.
+fn create_all(rt: &impl Abort, book: &mut Book, tenants: &[(&[u8], u64)]) {
+    for tenant in tenants {
+        for _ in 0..64 {
+            create(rt, book, tenant.0);
+        }
+    }
+}
+
+// Asserts that all of them are listed until a sweep ends them.
+fn assert_all_swept(rt: &impl Abort, book: &mut Book) {
+    assert!(rt; book.expiries().len() == 1024);
+    let swept = book.sweep(moment(rt, 4600));
+    assert!(rt; swept.uploads == 1024);
+    assert!(rt; book.expiries().is_empty());
 }
 
 // As many uploads as a book may have are listed, sixty-four of each of sixteen tenants, and one sweep ends them all.
 #[test]
 fn as_many_as_there_may_be(rt: HostRuntime) -> Result<(), Fail> {
-    let sixteen: [(&[u8], u64); 16] = [
-        (b"a", 0),
-        (b"b", 0),
-        (b"c", 0),
-        (b"d", 0),
-        (b"e", 0),
-        (b"f", 0),
-        (b"g", 0),
-        (b"h", 0),
-        (b"i", 0),
-        (b"j", 0),
-        (b"k", 0),
-        (b"l", 0),
-        (b"m", 0),
-        (b"n", 0),
-        (b"o", 0),
-        (b"p", 0),
-    ];
-    let mut book = Book::new(rt.alloc(), Settings::new(NUMBERS, &sixteen)?)?;
-    for (name, _) in sixteen {
-        for _ in 0..64 {
-            let tenant = book.settings().tenant(name).expect(&rt, "a tenant");
-            let new = NewUpload {
-                partial: false,
-                length: Some(1),
-                metadata: b"",
-                concat: b"",
-            };
-            let created = book.create(tenant, new, moment(&rt, 1000));
-            assert!(rt; created.is_ok());
-        }
-    }
-    assert_eq!(rt; book.expiries().len(), 1024);
-    let swept = book.sweep(moment(&rt, 4600));
-    assert_eq!(rt; swept.uploads, 1024);
-    assert!(rt; book.expiries().is_empty());
+    let mut book = Book::new(rt.alloc(), Settings::new(NUMBERS, &SIXTEEN)?)?;
+    create_all(&rt, &mut book, &SIXTEEN);
+    assert_all_swept(&rt, &mut book);
     Ok(())
 }

@@ -2,7 +2,6 @@
 
 use crate::books::{ACME, BETA, NUMBERS, acme, moment, new_book, new_final, part};
 use std::process::Abort;
-use std::test::Fail;
 use tus_text::check_metadata;
 use upload_book::{
     Book, Chunk, Created, Kind, Moment, Name, NewFinal, NewUpload, Refusal, Refused,
@@ -47,33 +46,32 @@ fn assert_shown(rt: &impl Abort, book: &Book, made: Created, kind: Kind, concat:
 }
 
 #[test]
-fn a_partial_upload_keeps_its_texts(rt: HostRuntime) -> Result<(), Fail> {
-    let mut book = new_book(rt.alloc(), NUMBERS)?;
+fn a_partial_upload_keeps_its_texts(rt: HostRuntime) {
+    let mut book = new_book(&rt, rt.alloc(), NUMBERS);
     let made = partial(&rt, &mut book);
     assert!(rt; made.name == Name { tenant: 1, id: 1 } && made.expires == Moment::new(4600));
     assert_shown(&rt, &book, made, Kind::Partial, b"partial");
-    Ok(())
 }
 
 #[test]
-fn a_final_upload_keeps_its_texts(rt: HostRuntime) -> Result<(), Fail> {
-    let mut book = new_book(rt.alloc(), NUMBERS)?;
+fn a_final_upload_keeps_its_texts(rt: HostRuntime) {
+    let mut book = new_book(&rt, rt.alloc(), NUMBERS);
     part(&rt, &mut book, b"");
     let made = twice(&rt, &mut book);
     assert!(rt; made.name == acme(2) && made.expires.is_none());
     assert_shown(&rt, &book, made, Kind::Final, b"final;/files/acme/1");
-    Ok(())
 }
 
-// A third tenant has no upload, and is refused as an unknown one is.
-#[test]
-fn a_tenant_that_is_not_there(rt: HostRuntime) -> Result<(), Fail> {
-    let mut book = new_book(rt.alloc(), NUMBERS)?;
-    let now = moment(&rt, 1000);
-    let name = Name { tenant: 2, id: 1 };
-    assert_eq!(rt; book.look(&name, now).err(), Some(Refusal::Unknown));
-    assert_eq!(rt; book.content(&name, now).err(), Some(Refusal::Unknown));
-    assert_eq!(rt; book.terminate(&name, now).err(), Some(Refusal::Unknown));
+// Asserts that no upload of this name can be seen, read or ended.
+fn assert_unknown(rt: &impl Abort, book: &mut Book, name: &Name) {
+    let now = moment(rt, 1000);
+    assert!(rt; book.look(name, now).err() == Some(Refusal::Unknown));
+    assert!(rt; book.content(name, now).err() == Some(Refusal::Unknown));
+    assert!(rt; book.terminate(name, now).err() == Some(Refusal::Unknown));
+}
+
+// Asserts that no upload of this name takes a byte.
+fn assert_no_append(rt: &impl Abort, book: &mut Book, name: &Name) {
     let chunk = Chunk {
         offset: 0,
         length: None,
@@ -85,8 +83,16 @@ fn a_tenant_that_is_not_there(rt: HostRuntime) -> Result<(), Fail> {
         refusal: Refusal::Unknown,
         expires: None,
     };
-    assert_eq!(rt; book.append(&name, chunk, now), Err(refused));
-    Ok(())
+    assert!(rt; book.append(name, chunk, moment(rt, 1000)) == Err(refused));
+}
+
+// A third tenant has no upload, and is refused as an unknown one is.
+#[test]
+fn a_tenant_that_is_not_there(rt: HostRuntime) {
+    let mut book = new_book(&rt, rt.alloc(), NUMBERS);
+    let name = Name { tenant: 2, id: 1 };
+    assert_unknown(&rt, &mut book, &name);
+    assert_no_append(&rt, &mut book, &name);
 }
 
 // A GET of acme's first upload hands over these bytes.
@@ -97,9 +103,8 @@ fn assert_handed_over(rt: &impl Abort, book: &Book, bytes: &[u8]) {
 }
 
 #[test]
-fn a_content_is_handed_over(rt: HostRuntime) -> Result<(), Fail> {
-    let mut book = new_book(rt.alloc(), NUMBERS)?;
+fn a_content_is_handed_over(rt: HostRuntime) {
+    let mut book = new_book(&rt, rt.alloc(), NUMBERS);
     part(&rt, &mut book, b"abcde");
     assert_handed_over(&rt, &book, b"abcde");
-    Ok(())
 }

@@ -7,7 +7,6 @@ use crate::steps::Call::{
 };
 use crate::steps::Told::{Appended, Bytes, Created, Refused, RefusedPatch, Removed, Row, Swept};
 use crate::steps::{Step, run, steps};
-use std::test::Fail;
 use tus_text::Checksum;
 use upload_book::{Kind, Numbers, Refusal};
 
@@ -25,8 +24,8 @@ static IN_TWO_PIECES: [Step; 9] = steps! {
 };
 
 #[test]
-fn an_upload_in_two_pieces(rt: HostRuntime) -> Result<(), Fail> {
-    run(&rt, rt.alloc(), NUMBERS, &IN_TWO_PIECES)
+fn an_upload_in_two_pieces(rt: HostRuntime) {
+    run(&rt, rt.alloc(), NUMBERS, &IN_TWO_PIECES);
 }
 
 static WITHOUT_BYTES: [Step; 5] = steps! {
@@ -38,8 +37,8 @@ static WITHOUT_BYTES: [Step; 5] = steps! {
 };
 
 #[test]
-fn an_upload_without_bytes(rt: HostRuntime) -> Result<(), Fail> {
-    run(&rt, rt.alloc(), NUMBERS, &WITHOUT_BYTES)
+fn an_upload_without_bytes(rt: HostRuntime) {
+    run(&rt, rt.alloc(), NUMBERS, &WITHOUT_BYTES);
 }
 
 // A PATCH at an earlier moment leaves the end, and no end is past the year 9999.
@@ -52,8 +51,8 @@ static ENDS_RISE: [Step; 5] = steps! {
 };
 
 #[test]
-fn the_expiry_is_never_lowered(rt: HostRuntime) -> Result<(), Fail> {
-    run(&rt, rt.alloc(), NUMBERS, &ENDS_RISE)
+fn the_expiry_is_never_lowered(rt: HostRuntime) {
+    run(&rt, rt.alloc(), NUMBERS, &ENDS_RISE);
 }
 
 static EXPIRED: [Step; 6] = steps! {
@@ -66,8 +65,8 @@ static EXPIRED: [Step; 6] = steps! {
 };
 
 #[test]
-fn an_upload_expires(rt: HostRuntime) -> Result<(), Fail> {
-    run(&rt, rt.alloc(), NUMBERS, &EXPIRED)
+fn an_upload_expires(rt: HostRuntime) {
+    run(&rt, rt.alloc(), NUMBERS, &EXPIRED);
 }
 
 // A length that is told late: with a refused PATCH it is not kept, and once kept it stays.
@@ -82,8 +81,8 @@ static LENGTH_TOLD_LATE: [Step; 7] = steps! {
 };
 
 #[test]
-fn an_upload_is_told_its_length(rt: HostRuntime) -> Result<(), Fail> {
-    run(&rt, rt.alloc(), NUMBERS, &LENGTH_TOLD_LATE)
+fn an_upload_is_told_its_length(rt: HostRuntime) {
+    run(&rt, rt.alloc(), NUMBERS, &LENGTH_TOLD_LATE);
 }
 
 static CONTENTS: [Step; 10] = steps! {
@@ -100,8 +99,8 @@ static CONTENTS: [Step; 10] = steps! {
 };
 
 #[test]
-fn contents(rt: HostRuntime) -> Result<(), Fail> {
-    run(&rt, rt.alloc(), NUMBERS, &CONTENTS)
+fn contents(rt: HostRuntime) {
+    run(&rt, rt.alloc(), NUMBERS, &CONTENTS);
 }
 
 // Without its content type, a PATCH is refused after an upload that is not there, and before a wrong offset.
@@ -115,8 +114,8 @@ static WITHOUT_TYPE: [Step; 6] = steps! {
 };
 
 #[test]
-fn refused_patches(rt: HostRuntime) -> Result<(), Fail> {
-    run(&rt, rt.alloc(), NUMBERS, &WITHOUT_TYPE)
+fn refused_patches(rt: HostRuntime) {
+    run(&rt, rt.alloc(), NUMBERS, &WITHOUT_TYPE);
 }
 
 // A checksum is asked after the length and before the quota: only bytes of that digest are kept.
@@ -133,8 +132,8 @@ static CHECKSUMS: [Step; 9] = steps! {
 };
 
 #[test]
-fn checksums(rt: HostRuntime) -> Result<(), Fail> {
-    run(&rt, rt.alloc(), NUMBERS, &CHECKSUMS)
+fn checksums(rt: HostRuntime) {
+    run(&rt, rt.alloc(), NUMBERS, &CHECKSUMS);
 }
 
 // The first bytes of an upload come with its creation, and are paid; a refused creation uses no id.
@@ -164,13 +163,13 @@ static SPENT_BY_CREATIONS: [Step; 3] = steps! {
 };
 
 #[test]
-fn creations_with_upload(rt: HostRuntime) -> Result<(), Fail> {
-    run(&rt, rt.alloc(), NUMBERS, &WITH_UPLOAD)?;
+fn creations_with_upload(rt: HostRuntime) {
+    run(&rt, rt.alloc(), NUMBERS, &WITH_UPLOAD);
     let three_blocks = Numbers {
         last_total: 3,
         ..NUMBERS
     };
-    run(&rt, rt.alloc(), three_blocks, &SPENT_BY_CREATIONS)
+    run(&rt, rt.alloc(), three_blocks, &SPENT_BY_CREATIONS);
 }
 
 // A refused creation uses no id.
@@ -199,16 +198,16 @@ static ONE_UPLOAD: [Step; 6] = steps! {
 };
 
 #[test]
-fn refused_creations(rt: HostRuntime) -> Result<(), Fail> {
-    run(&rt, rt.alloc(), NUMBERS, &TOO_LONG)?;
+fn refused_creations(rt: HostRuntime) {
+    run(&rt, rt.alloc(), NUMBERS, &TOO_LONG);
     let two_ids = Numbers {
         last_id: 2,
         ..NUMBERS
     };
-    run(&rt, rt.alloc(), two_ids, &TWO_IDS)?;
+    run(&rt, rt.alloc(), two_ids, &TWO_IDS);
     let one_upload = Numbers {
         uploads: 1,
         ..NUMBERS
     };
-    run(&rt, rt.alloc(), one_upload, &ONE_UPLOAD)
+    run(&rt, rt.alloc(), one_upload, &ONE_UPLOAD);
 }

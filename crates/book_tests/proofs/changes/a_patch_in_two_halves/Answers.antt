@@ -1,7 +1,4 @@
 use Rattle.book_tests.proofs.changes.a_patch_in_two_halves.Goals as goal
 
-pub line-requires : goal.line-requires
-line-requires g c = c.greeting.ensures _
-
-pub line-requires-2 : goal.line-requires-2
-line-requires-2 g c = c.greeting-2.ensures _
+pub assert_paid-requires : goal.assert_paid-requires
+assert_paid-requires g c = c.greeting.ensures _
