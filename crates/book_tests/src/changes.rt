@@ -123,13 +123,14 @@ fn assert_let_go(rt: &impl Abort, book: &mut Book) {
     assert!(rt; seen(rt, book) == Some((0, 0, 12)));
 }
 
-// The line of the PATCH tells how far the upload will be.
-fn assert_put(rt: &impl Abort, book: &mut Book) {
+// And its line tells what will be.
+fn assert_foretold(rt: &impl Abort, book: &mut Book) {
     let now = moment(rt, 1000);
     assert!(rt; put(line(book, greeting(), now)) == Some((acme(1), 5)));
+    assert!(rt; paid(line(book, greeting(), now)) == Some((2, 0, 2, 0)));
 }
 
-// The line of a change at a second tells what will be charged, released and paid.
+// The line of a change at a second tells what will be charged and released in all, and what the two tenants will pay.
 fn assert_paid(
     rt: &impl Abort,
     book: &mut Book,
@@ -154,7 +155,7 @@ fn assert_made(rt: &impl Abort, book: &mut Book, plain: &mut PlainBook) {
     assert!(rt; seen(rt, book) == Some((5, 2, 10)));
 }
 
-// The accounts after it.
+// The accounts after it have its blocks.
 fn assert_accounts(rt: &impl Abort, book: &Book) {
     let accounts = book.accounts();
     assert!(rt; accounts.charged == 2 && accounts.released == 0);
@@ -175,8 +176,7 @@ fn a_patch_in_two_halves(rt: HostRuntime) {
     let mut plain = PlainBook::new(rt.alloc(), NUMBERS, [8, 4]);
     create(&rt, &mut book, &mut plain);
     assert_let_go(&rt, &mut book);
-    assert_put(&rt, &mut book);
-    assert_paid(&rt, &mut book, greeting(), 1000, (2, 0, 2, 0));
+    assert_foretold(&rt, &mut book);
     assert_made(&rt, &mut book, &mut plain);
     assert_accounts(&rt, &book);
     // what ends the upload gives its blocks back, and a sweep too soon does not

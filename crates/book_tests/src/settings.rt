@@ -32,6 +32,7 @@ macro_rules! faults {
     };
 }
 
+// What is out of range, and where two numbers are, the first of them.
 static FAULTS_OF_NUMBERS: [(Numbers, SettingsFault); 9] = faults! {
     blocks: 0 => Blocks;
     blocks: 1_048_577, block_size: 0 => Blocks;
@@ -77,6 +78,7 @@ const GREATEST: Numbers = Numbers {
     last_total: 18_446_744_073_709_551_615,
 };
 
+// As many blocks as there may be, blocks as large as they may be, and each number at its least.
 static ACCEPTED: [Numbers; 3] = [
     GREATEST,
     Numbers {
@@ -122,6 +124,7 @@ fn greatest_settings(rt: HostRuntime) {
     }
 }
 
+// One tenant more than there may be, of a name that is none.
 const ACMES: [(&[u8], u64); 17] = [(b"Acme", 1); 17];
 
 // Tenants, and their fault.
@@ -173,19 +176,19 @@ fn settings_tell_their_tenants(rt: HostRuntime) -> Result<(), Fail> {
 }
 
 // Asserts that a refusal displays this word.
-fn assert_refusal(rt: &impl Abort, alloc: Global, refusal: Refusal, word: &str) {
+fn assert_refusal_word(rt: &impl Abort, alloc: Global, refusal: Refusal, word: &str) {
     let shown = format!(in alloc; "{refusal}").expect(rt, "memory");
     assert!(rt; shown.as_str() == word);
 }
 
 // Asserts that a fault displays this word.
-fn assert_word(rt: &impl Abort, alloc: Global, fault: SettingsFault, word: &str) {
+fn assert_fault_word(rt: &impl Abort, alloc: Global, fault: SettingsFault, word: &str) {
     let shown = format!(in alloc; "{fault}").expect(rt, "memory");
     assert!(rt; shown.as_str() == word);
 }
 
 #[test]
 fn words(rt: HostRuntime) {
-    assert_refusal(&rt, rt.alloc(), Refusal::TooLong, "too-long");
-    assert_word(&rt, rt.alloc(), SettingsFault::PoolBytes, "pool-bytes");
+    assert_refusal_word(&rt, rt.alloc(), Refusal::TooLong, "too-long");
+    assert_fault_word(&rt, rt.alloc(), SettingsFault::PoolBytes, "pool-bytes");
 }

@@ -330,17 +330,9 @@ fn assert_told(rt: &impl Abort, place: usize, answers: [Told; 2], told: Told) {
 
 // What the call of a step answers, of a book and of the plain one.
 fn answers(rt: &impl Abort, pair: &mut Pair, place: usize, step: &Step) -> [Told<'static>; 2] {
-    let Step {
-        secs,
-        tenant,
-        call,
-        told,
-        ..
-    } = *step;
-    let now = moment(rt, secs);
-    let number = pair.book.settings().tenant(tenant).expect(rt, "a tenant");
-    let named = |id: u64| Name { tenant: number, id };
-    match call {
+    let now = moment(rt, step.secs);
+    let tenant = step.tenant;
+    match step.call {
         Call::Post(length) => pair.create(rt, tenant, Kind::Plain, length, now),
         Call::PostWith(length, bytes) => {
             pair.create_with(rt, tenant, length, first(true, None, bytes), now)
@@ -353,27 +345,42 @@ fn answers(rt: &impl Abort, pair: &mut Pair, place: usize, step: &Step) -> [Told
         }
         Call::Partial(length) => pair.create(rt, tenant, Kind::Partial, length, now),
         Call::Join(parts) => pair.concat(rt, tenant, parts, now),
-        Call::Patch(id, offset, bytes) => pair.append(
-            rt,
-            named(id),
-            typed(offset, None, bytes),
-            now,
-        ),
+        _ => later_answers(rt, pair, place, step),
+    }
+}
+
+// The same of a call that is no creation.
+fn later_answers(
+    rt: &impl Abort,
+    pair: &mut Pair,
+    place: usize,
+    step: &Step,
+) -> [Told<'static>; 2] {
+    let now = moment(rt, step.secs);
+    let settings = pair.book.settings();
+    let tenant = settings.tenant(step.tenant).expect(rt, "a tenant");
+    match step.call {
+        Call::Patch(id, offset, bytes) => {
+            pair.append(rt, Name { tenant, id }, typed(offset, None, bytes), now)
+        }
         Call::PatchOf(id, offset, length, bytes) => {
-            pair.append(rt, named(id), typed(offset, Some(length), bytes), now)
+            let chunk = typed(offset, Some(length), bytes);
+            pair.append(rt, Name { tenant, id }, chunk, now)
         }
         Call::Checked(id, offset, check, bytes) => {
-            pair.append(rt, named(id), checked(offset, check, bytes), now)
+            let chunk = checked(offset, check, bytes);
+            pair.append(rt, Name { tenant, id }, chunk, now)
         }
-        Call::Untyped(id, bytes) => pair.append(rt, named(id), untyped(bytes), now),
-        Call::Head(id) => pair.look(named(id), now),
+        Call::Untyped(id, bytes) => pair.append(rt, Name { tenant, id }, untyped(bytes), now),
+        Call::Head(id) => pair.look(Name { tenant, id }, now),
         Call::Get(id) => {
-            pair.assert_content(rt, place, named(id), now, told);
-            [told, told]
+            pair.assert_content(rt, place, Name { tenant, id }, now, step.told);
+            [step.told, step.told]
         }
-        Call::Delete(id) => pair.terminate(named(id), now),
+        Call::Delete(id) => pair.terminate(Name { tenant, id }, now),
         Call::Sweep => pair.sweep(now),
-        Call::Expiries => [told, told],
+        Call::Expiries => [step.told, step.told],
+        _ => panic!(rt; "call {place} is a creation"),
     }
 }
 
