@@ -1,11 +1,10 @@
 //! Checksums of the bytes of a PATCH, and creations that carry the first bytes of their upload.
 
 use crate::conversations::{
-    CREATED, CREATION_TOO_LONG, HEAD, LOOKED, NONE, PATCHED, POST, Row, check_row,
+    CREATED, CREATION_TOO_LONG, HEAD, LOOKED, NONE, PATCHED, POST, Row, check_rows,
 };
 use crate::creations::{FIELD, LOOKED_NEW};
 use http_wire::Ended;
-use std::test::Fail;
 
 const PATCH_CHECKED: &[u8] = b"PATCH /files/acme/1 HTTP/1.1\r\nHost: x\r\nTus-Resumable: 1.0.0\r\n\
 Content-Type: application/offset+octet-stream\r\nUpload-Offset: 0\r\n\
@@ -198,11 +197,8 @@ static CHECKSUMS: [Row; 5] = [
 ];
 
 #[test]
-fn checksums(rt: HostRuntime) -> Result<(), Fail> {
-    for row in &CHECKSUMS {
-        check_row(&rt, rt.alloc(), row)?;
-    }
-    Ok(())
+fn checksums(rt: HostRuntime) {
+    check_rows(&rt, rt.alloc(), &CHECKSUMS);
 }
 
 static WITH_UPLOAD: [Row; 7] = [
@@ -263,9 +259,6 @@ static WITH_UPLOAD: [Row; 7] = [
 ];
 
 #[test]
-fn creations_with_upload(rt: HostRuntime) -> Result<(), Fail> {
-    for row in &WITH_UPLOAD {
-        check_row(&rt, rt.alloc(), row)?;
-    }
-    Ok(())
+fn creations_with_upload(rt: HostRuntime) {
+    check_rows(&rt, rt.alloc(), &WITH_UPLOAD);
 }

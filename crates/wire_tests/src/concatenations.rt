@@ -2,11 +2,10 @@
 
 use crate::conversations::{CREATED, CREATION_TOO_LONG, DELETE, DELETED, GONE, HEAD, PATCHED};
 use crate::creations::FIELD;
-use crate::spoken::{Expected, assert_both, at};
+use crate::spoken::{Expected, assert_both, at, put};
 use http_wire::Ended;
 use std::alloc::Global;
 use std::process::Abort;
-use std::test::Fail;
 
 /// A message, and what is written for it.
 type Turn = (&'static [u8], &'static [u8]);
@@ -172,18 +171,12 @@ static WITH_THE_WHOLE_QUOTA: [Turn; 4] = [
 
 /// Asserts that each message of a conversation with a new book is answered as its turn says,
 /// and that the first upload of acme has so many bytes then.
-fn check_turns(
-    rt: &impl Abort,
-    alloc: Global,
-    what: &str,
-    turns: &[Turn],
-    offset: Option<u64>,
-) -> Result<(), Fail> {
+fn check_turns(rt: &impl Abort, alloc: Global, what: &str, turns: &[Turn], offset: Option<u64>) {
     let mut sent = Vec::new(alloc);
     let mut written = Vec::new(alloc);
     for (message, reply) in turns {
-        sent.extend_from_slice(message)?;
-        written.extend_from_slice(reply)?;
+        put(rt, &mut sent, message);
+        put(rt, &mut written, reply);
     }
     let expected = Expected {
         text: &written,
@@ -195,10 +188,10 @@ fn check_turns(
 }
 
 #[test]
-fn concatenations(rt: HostRuntime) -> Result<(), Fail> {
+fn concatenations(rt: HostRuntime) {
     let alloc = rt.alloc();
-    check_turns(&rt, alloc, "two parts", &TWO_PARTS, None)?;
-    check_turns(&rt, alloc, "twice", &ONE_PART_TWICE, None)?;
-    check_turns(&rt, alloc, "no parts", &NO_PARTS, Some(0))?;
-    check_turns(&rt, alloc, "quota", &WITH_THE_WHOLE_QUOTA, Some(30))
+    check_turns(&rt, alloc, "two parts", &TWO_PARTS, None);
+    check_turns(&rt, alloc, "twice", &ONE_PART_TWICE, None);
+    check_turns(&rt, alloc, "no parts", &NO_PARTS, Some(0));
+    check_turns(&rt, alloc, "quota", &WITH_THE_WHOLE_QUOTA, Some(30));
 }

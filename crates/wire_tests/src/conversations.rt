@@ -1,9 +1,10 @@
 use crate::memory::{Input, Output};
-use crate::spoken::{Expected, assert_both, assert_spoken, at, at_1000, joined, talk_of};
+use crate::spoken::{
+    Expected, assert_both, assert_spoken, at, at_1000, is_in, joined, put, talk_of,
+};
 use http_wire::Ended;
-use std::alloc::{AllocError, Global};
+use std::alloc::Global;
 use std::process::Abort;
-use std::test::Fail;
 use upload_book::Moment;
 
 pub const POST: &[u8] = b"POST /files/acme HTTP/1.1\r\nHost: x\r\nTus-Resumable: 1.0.0\r\n\
@@ -132,15 +133,22 @@ pub struct Row {
 }
 
 /// Asserts that a conversation is as its row says.
-pub fn check_row(rt: &impl Abort, alloc: Global, row: &Row) -> Result<(), Fail> {
-    let sent = joined(alloc, &row.sent)?;
-    let written = joined(alloc, &row.written)?;
+pub fn check_row(rt: &impl Abort, alloc: Global, row: &Row) {
+    let sent = joined(rt, alloc, &row.sent);
+    let written = joined(rt, alloc, &row.written);
     let expected = Expected {
         text: &written,
         ended: Ok(row.ended),
         offset: row.offset,
     };
     assert_both(rt, alloc, row.name, &sent, &at_1000(), &expected)
+}
+
+/// Asserts it for each of these rows.
+pub fn check_rows(rt: &impl Abort, alloc: Global, rows: &[Row]) {
+    for row in rows {
+        check_row(rt, alloc, row);
+    }
 }
 
 static WHOLE: [Row; 12] = [
@@ -247,11 +255,8 @@ Connection: x, Close\r\n\r\n",
 ];
 
 #[test]
-fn whole_messages(rt: HostRuntime) -> Result<(), Fail> {
-    for row in &WHOLE {
-        check_row(&rt, rt.alloc(), row)?;
-    }
-    Ok(())
+fn whole_messages(rt: HostRuntime) {
+    check_rows(&rt, rt.alloc(), &WHOLE);
 }
 
 static REFUSED: [Row; 7] = [
@@ -327,11 +332,8 @@ static REFUSED: [Row; 7] = [
 ];
 
 #[test]
-fn refused_messages(rt: HostRuntime) -> Result<(), Fail> {
-    for row in &REFUSED {
-        check_row(&rt, rt.alloc(), row)?;
-    }
-    Ok(())
+fn refused_messages(rt: HostRuntime) {
+    check_rows(&rt, rt.alloc(), &REFUSED);
 }
 
 /// The messages of the first upload, and their replies.
@@ -340,9 +342,9 @@ pub static FIRST_UPLOAD: [&[u8]; 3] = [POST, PATCH, HEAD];
 pub static REPLIES: [&[u8]; 3] = [CREATED, PATCHED, LOOKED];
 
 /// Asserts that a HEAD of the first upload is answered after a POST and a PATCH of it.
-pub fn assert_looked(rt: &impl Abort, alloc: Global, what: &str, head: &[u8]) -> Result<(), Fail> {
-    let sent = joined(alloc, &[POST, PATCH, head])?;
-    let written = joined(alloc, &REPLIES)?;
+pub fn assert_looked(rt: &impl Abort, alloc: Global, what: &str, head: &[u8]) {
+    let sent = joined(rt, alloc, &[POST, PATCH, head]);
+    let written = joined(rt, alloc, &REPLIES);
     let expected = Expected {
         text: &written,
         ended: Ok(Ended::Input),
@@ -353,16 +355,16 @@ pub fn assert_looked(rt: &impl Abort, alloc: Global, what: &str, head: &[u8]) ->
 
 /// The HEAD of the first upload with `count` fields beside Host, Tus-Resumable and a last one, which fills
 /// it up to `len` bytes.
-fn with_fields(alloc: Global, count: usize, len: usize) -> Result<Vec<u8>, AllocError> {
-    let mut text = Vec::from_slice(alloc, b"HEAD /files/acme/1 HTTP/1.1\r\nHost: x\r\n")?;
+fn with_fields(rt: &impl Abort, alloc: Global, count: usize, len: usize) -> Vec<u8> {
+    let mut text = joined(rt, alloc, &[b"HEAD /files/acme/1 HTTP/1.1\r\nHost: x\r\n"]);
     for _ in 0..count {
-        text.extend_from_slice(b"X: y\r\n")?;
+        put(rt, &mut text, b"X: y\r\n");
     }
-    text.extend_from_slice(b"Tus-Resumable: 1.0.0\r\nFill: ")?;
+    put(rt, &mut text, b"Tus-Resumable: 1.0.0\r\nFill: ");
     let filled = text.len().max(len.saturating_sub(4));
-    text.resize(filled, b'z')?;
-    text.extend_from_slice(b"\r\n\r\n")?;
-    Ok(text)
+    text.resize(filled, b'z').expect(rt, "memory");
+    put(rt, &mut text, b"\r\n\r\n");
+    text
 }
 
 /// The HEAD of the first upload with so many fields as `with_fields` gives it, which is refused where it is
@@ -376,8 +378,8 @@ struct HeadRow {
 }
 
 /// Asserts that a head is answered or refused, as its row says.
-fn check_head(rt: &impl Abort, alloc: Global, row: &HeadRow) -> Result<(), Fail> {
-    let head = with_fields(alloc, row.count, row.len)?;
+fn check_head(rt: &impl Abort, alloc: Global, row: &HeadRow) {
+    let head = with_fields(rt, alloc, row.count, row.len);
     if row.is_too_large {
         let expected = Expected {
             text: HEAD_SIZE,
@@ -418,75 +420,76 @@ static HEADS: [HeadRow; 4] = [
 ];
 
 #[test]
-fn large_heads(rt: HostRuntime) -> Result<(), Fail> {
-    let greatest = with_fields(rt.alloc(), 0, 16_384)?;
-    assert_eq!(rt; greatest.len(), 16_384);
+fn large_heads(rt: HostRuntime) {
+    assert!(rt; with_fields(&rt, rt.alloc(), 0, 16_384).len() == 16_384);
     for row in &HEADS {
-        check_head(&rt, rt.alloc(), row)?;
+        check_head(&rt, rt.alloc(), row);
     }
-    Ok(())
+}
+
+/// Asserts that a conversation of the first upload, each of whose reads gives a message, is as expected, and that the
+/// last message is not read.
+fn assert_message_a_read(
+    rt: &impl Abort,
+    alloc: Global,
+    sent: &[u8],
+    moments: &[Moment],
+    expected: &Expected<'_>,
+) {
+    let input = Input {
+        rest: sent,
+        first: POST.len(),
+        more: PATCH.len(),
+        reads: usize::MAX,
+    };
+    let spoken = talk_of(rt, alloc, input, Output::new(alloc), moments);
+    assert_spoken(rt, "a message a read", &spoken, expected);
+    assert!(rt; spoken.rest == HEAD, "what is not read");
 }
 
 #[test]
-fn few_moments(rt: HostRuntime) -> Result<(), Fail> {
+fn few_moments(rt: HostRuntime) {
     let alloc = rt.alloc();
-    let sent = joined(alloc, &FIRST_UPLOAD)?;
-    let written = joined(alloc, &REPLIES[..2])?;
+    let sent = joined(&rt, alloc, &FIRST_UPLOAD);
+    let written = joined(&rt, alloc, &REPLIES[..2]);
     let moments = [at(1000); 2];
     let expected = Expected {
         text: &written,
         ended: Ok(Ended::Moments),
         offset: Some(5),
     };
-    assert_both(&rt, alloc, "two moments", &sent, &moments, &expected)?;
-    let input = Input {
-        rest: &sent,
-        first: POST.len(),
-        more: PATCH.len(),
-        reads: usize::MAX,
-    };
-    let spoken = talk_of(alloc, input, Output::new(alloc), &moments)?;
-    assert_spoken(&rt, "a message a read", &spoken, &expected);
-    assert_eq!(rt; spoken.rest, HEAD);
-    Ok(())
-}
-
-/// Whether one of the lines of a text, which end with CR and LF, is this one.
-fn has_line(text: &[u8], line: &[u8]) -> bool {
-    let mut lines = text.split(|byte| *byte == b'\n');
-    lines.any(|each| each.strip_suffix(b"\r") == Some(line))
+    assert_both(&rt, alloc, "two moments", &sent, &moments, &expected);
+    assert_message_a_read(&rt, alloc, &sent, &moments, &expected);
 }
 
 /// Asserts that the reply to a PATCH, which comes at moment `then` after a POST at 1000, has a line.
-fn assert_second_has(
-    rt: &impl Abort,
-    alloc: Global,
-    name: &str,
-    then: Moment,
-    line: &[u8],
-) -> Result<(), Fail> {
-    let sent = joined(alloc, &FIRST_UPLOAD[..2])?;
+fn assert_second_has(rt: &impl Abort, alloc: Global, name: &str, then: Moment, line: &[u8]) {
+    let sent = joined(rt, alloc, &FIRST_UPLOAD[..2]);
     let moments = [at(1000), then];
     let input = Input::new(&sent, usize::MAX);
-    let spoken = talk_of(alloc, input, Output::new(alloc), &moments)?;
-    let text = spoken.text.as_slice();
-    let second = text.strip_prefix(CREATED).ok_or("the first reply")?;
-    assert!(rt; has_line(second, line), "{name}");
+    let spoken = talk_of(rt, alloc, input, Output::new(alloc), &moments);
+    assert_line_after_created(rt, name, &spoken.text, line);
     let expected = Expected {
-        text,
+        text: &spoken.text,
         ended: Ok(Ended::Moments),
         offset: Some(5),
     };
     assert_both(rt, alloc, name, &sent, &moments, &expected)
 }
 
+/// Asserts that a line, with the line ends around it, is in what follows the reply to the first upload's creation.
+fn assert_line_after_created(rt: &impl Abort, name: &str, text: &[u8], line: &[u8]) {
+    let second = text.strip_prefix(CREATED).expect(rt, "the first reply");
+    assert!(rt; is_in(line, second), "{name}");
+}
+
 #[test]
-fn later_and_earlier_moments(rt: HostRuntime) -> Result<(), Fail> {
+fn later_and_earlier_moments(rt: HostRuntime) {
     let alloc = rt.alloc();
-    let kept = b"Upload-Expires: Thu, 01 Jan 1970 01:16:40 GMT";
-    let later = b"Upload-Expires: Thu, 01 Jan 1970 01:33:20 GMT";
-    assert_second_has(&rt, alloc, "500", at(500), kept)?;
-    assert_second_has(&rt, alloc, "2000", at(2000), later)
+    let kept = b"\r\nUpload-Expires: Thu, 01 Jan 1970 01:16:40 GMT\r\n";
+    let later = b"\r\nUpload-Expires: Thu, 01 Jan 1970 01:33:20 GMT\r\n";
+    assert_second_has(&rt, alloc, "500", at(500), kept);
+    assert_second_has(&rt, alloc, "2000", at(2000), later);
 }
 
 const LAST: &[u8] = b"HTTP/1.1 201 Created\r\nDate: Fri, 31 Dec 9999 23:59:59 GMT\r\n\
@@ -496,20 +499,14 @@ HTTP/1.1 410 Gone\r\nDate: Fri, 31 Dec 9999 23:59:59 GMT\r\nTus-Resumable: 1.0.0
 Cache-Control: no-store\r\n\r\n";
 
 #[test]
-fn the_last_moment(rt: HostRuntime) -> Result<(), Fail> {
-    let sent = joined(rt.alloc(), &[POST, HEAD])?;
+fn the_last_moment(rt: HostRuntime) {
+    let alloc = rt.alloc();
+    let sent = joined(&rt, alloc, &[POST, HEAD]);
     let expected = Expected {
         text: LAST,
         ended: Ok(Ended::Input),
         offset: Some(0),
     };
     let moments = [at(253_402_300_799); 3];
-    assert_both(
-        &rt,
-        rt.alloc(),
-        "the last moment",
-        &sent,
-        &moments,
-        &expected,
-    )
+    assert_both(&rt, alloc, "the last moment", &sent, &moments, &expected);
 }

@@ -1,6 +1,5 @@
-use crate::conversations::{CREATED, HEAD, NONE, OFFSET, Row, check_row};
+use crate::conversations::{CREATED, HEAD, NONE, OFFSET, Row, check_rows};
 use http_wire::Ended;
-use std::test::Fail;
 
 const POST_DEFERRED: &[u8] = b"POST /files/acme HTTP/1.1\r\nHost: x\r\nTus-Resumable: 1.0.0\r\n\
 Upload-Defer-Length: 1\r\n\r\n";
@@ -162,9 +161,6 @@ static CREATIONS: [Row; 8] = [
 ];
 
 #[test]
-fn creations(rt: HostRuntime) -> Result<(), Fail> {
-    for row in &CREATIONS {
-        check_row(&rt, rt.alloc(), row)?;
-    }
-    Ok(())
+fn creations(rt: HostRuntime) {
+    check_rows(&rt, rt.alloc(), &CREATIONS);
 }

@@ -6,14 +6,13 @@ ghost use Rattle.std.specs.Prelude.{◌≤◌, length};
 use crate::conversations::{CREATED, FIRST_UPLOAD, HEAD, NONE, PATCH, PATCH_WAITING, POST};
 use crate::memory::{Input, Output};
 use crate::spoken::{
-    Expected, NUMBERS, Spoken, assert_spoken, at, at_1000, joined, new_book, plain_talk, talk,
-    talk_of,
+    Expected, NUMBERS, Spoken, assert_spoken, at, at_1000, charge_of, joined, new_book, plain_talk,
+    talk, talk_of,
 };
-use crate::wires::{assert_end, assert_turn, assert_written, new_wire};
-use http_wire::{Ended, Framing, WireFault, WireRefusal, serve};
+use crate::wires::{MemoryWire, assert_end, assert_served, assert_turn, assert_written, new_wire};
+use http_wire::{Ended, Framing, WireFault, WireRefusal};
 use std::alloc::Global;
 use std::process::Abort;
-use std::test::Fail;
 use tus_steps::Reply;
 use upload_book::Book;
 
@@ -39,6 +38,17 @@ const CLOSING: Framing = Framing {
     close: true,
 };
 
+/// Asserts that each call on a wire gives `Failed`.
+fn assert_failed(rt: &impl Abort, what: &str, wire: &mut MemoryWire<'_>, book: &mut Book) {
+    let failed = WireFault::Failed;
+    assert_turn(rt, what, wire, book, Err(failed));
+    assert_end(rt, what, wire, Err(failed));
+    let refused = wire.write_refusal(WireRefusal::Head, at(1000), CLOSING);
+    assert!(rt; refused == Err(failed), "{what}: a refusal");
+    let replied = wire.write_reply(&Reply::Deleted, at(1000), CLOSING);
+    assert!(rt; replied == Err(failed), "{what}: a reply");
+}
+
 /// Asserts that a wire over these streams gives a fault, and `Failed` at each later call, with this text written.
 fn assert_stays_failed(
     rt: &impl Abort,
@@ -48,58 +58,54 @@ fn assert_stays_failed(
     output: Output,
     fault: WireFault,
     text: &[u8],
-) -> Result<(), Fail> {
-    let mut book = new_book(alloc)?;
-    let mut wire = new_wire(alloc, input, output)?;
-    let served = serve(&mut wire, &mut book, &mut at(1000), 8);
-    assert_eq!(rt; served, Err(fault), "{what}");
-    let failed = WireFault::Failed;
-    assert_turn(rt, what, &mut wire, &mut book, Err(failed));
-    assert_end(rt, what, &mut wire, Err(failed));
-    let refused = wire.write_refusal(WireRefusal::Head, at(1000), CLOSING);
-    assert_eq!(rt; refused, Err(failed), "{what}");
-    let replied = wire.write_reply(&Reply::Deleted, at(1000), CLOSING);
-    assert_eq!(rt; replied, Err(failed), "{what}");
+) {
+    let mut book = new_book(rt, alloc);
+    let mut wire = new_wire(rt, alloc, input, output);
+    assert_served(rt, what, &mut wire, &mut book, &mut at(1000), 8, Err(fault));
+    assert_failed(rt, what, &mut wire, &mut book);
     assert_written(rt, wire, text);
-    Ok(())
+}
+
+/// Asserts that a conversation with a new book over these streams is as expected, and what is not read of its input.
+fn assert_breaks(
+    rt: &impl Abort,
+    alloc: Global,
+    what: &str,
+    input: Input<'_>,
+    output: Output,
+    expected: &Expected<'_>,
+    rest: &[u8],
+) {
+    let spoken = talk_of(rt, alloc, input, output, &at_1000());
+    assert_spoken(rt, what, &spoken, expected);
+    assert!(rt; spoken.rest == rest, "{what}: rest");
 }
 
 /// Asserts how a conversation of the first upload ends where the read after its first `len` bytes fails: as the plain
 /// program's of these bytes, but for the fault.
-fn assert_read_fails(rt: &impl Abort, alloc: Global, all: &[u8], len: usize) -> Result<(), Fail>
+fn assert_read_fails(rt: &impl Abort, alloc: Global, all: &[u8], len: usize)
     requires { len ≤ length all.now }
 {
+    let what = format!(in alloc; "{len} reads").expect(rt, "memory");
     let (came, rest) = all.split_at(len);
-    let plain = plain_talk(rt, alloc, NUMBERS, came, &at_1000())?;
+    let plain = plain_talk(rt, alloc, NUMBERS, came, &at_1000());
     let expected = Expected {
-        text: plain.text.as_slice(),
         ended: Err(WireFault::Read),
-        offset: plain.offset,
+        ..plain.as_expected()
     };
-    let what = format!(in alloc; "{len} reads")?;
-    let input = failing_input(all, len);
-    let spoken = talk_of(alloc, input, Output::new(alloc), &at_1000())?;
-    assert_spoken(rt, &what, &spoken, &expected);
-    assert_eq!(rt; spoken.rest, rest, "{what}: rest");
     let (input, output) = (failing_input(all, len), Output::new(alloc));
-    assert_stays_failed(
-        rt,
-        alloc,
-        &what,
-        input,
-        output,
-        WireFault::Read,
-        expected.text,
-    )
+    assert_breaks(rt, alloc, &what, input, output, &expected, rest);
+    let (input, output) = (failing_input(all, len), Output::new(alloc));
+    let fault = WireFault::Read;
+    assert_stays_failed(rt, alloc, &what, input, output, fault, expected.text);
 }
 
 #[test]
-fn failing_reads(rt: HostRuntime) -> Result<(), Fail> {
-    let all = joined(rt.alloc(), &FIRST_UPLOAD)?;
+fn failing_reads(rt: HostRuntime) {
+    let all = joined(&rt, rt.alloc(), &FIRST_UPLOAD);
     for len in 0..=all.len() {
-        assert_read_fails(&rt, rt.alloc(), &all, len)?;
+        assert_read_fails(&rt, rt.alloc(), &all, len);
     }
-    Ok(())
 }
 
 const PATCH_WAITING_HEAD: &[u8] =
@@ -123,62 +129,47 @@ fn assert_write_fails(
     plain: &Spoken<'_>,
     len: usize,
     fails: bool,
-) -> Result<(), Fail>
+)
     requires { len ≤ length plain.now.text.items }
 {
-    let all = joined(alloc, &[came, rest])?;
     let expected = Expected {
         text: &plain.text.as_slice()[..len],
         ended: Err(WireFault::Write),
         offset: plain.offset,
     };
-    let what = format!(in alloc; "{len} writes")?;
+    let what = format!(in alloc; "{len} writes").expect(rt, "memory");
+    let all = joined(rt, alloc, &[came, rest]);
     let (input, output) = (Input::new(&all, 1), failing_output(alloc, len, fails));
-    let spoken = talk_of(alloc, input, output, &at_1000())?;
-    assert_spoken(rt, &what, &spoken, &expected);
-    assert_eq!(rt; spoken.rest, rest, "{what}: rest");
+    assert_breaks(rt, alloc, &what, input, output, &expected, rest);
     let (input, output) = (Input::new(&all, 1), failing_output(alloc, len, fails));
-    assert_stays_failed(
-        rt,
-        alloc,
-        &what,
-        input,
-        output,
-        WireFault::Write,
-        expected.text,
-    )
+    let fault = WireFault::Write;
+    assert_stays_failed(rt, alloc, &what, input, output, fault, expected.text);
 }
 
 /// Asserts it for each byte that is written after these pieces and was not before the last of them.
-fn assert_writes_fail(
-    rt: &impl Abort,
-    alloc: Global,
-    pieces: &[&[u8]],
-    place: usize,
-) -> Result<(), Fail>
+fn assert_writes_fail(rt: &impl Abort, alloc: Global, pieces: &[&[u8]], place: usize)
     requires { place ≤ length pieces.now }
 {
     let (came, after) = pieces.split_at(place);
-    let (came, rest) = (joined(alloc, came)?, joined(alloc, after)?);
-    let earlier = joined(alloc, &pieces[..place.saturating_sub(1)])?;
-    let before = plain_talk(rt, alloc, NUMBERS, &earlier, &at_1000())?;
-    let plain = plain_talk(rt, alloc, NUMBERS, &came, &at_1000())?;
-    for len in before.text.len()..plain.text.len() {
-        for fails in [true, false] {
-            assert_write_fails(rt, alloc, &came, &rest, &plain, len, fails)?;
-        }
+    let (came, rest) = (joined(rt, alloc, came), joined(rt, alloc, after));
+    let earlier = joined(rt, alloc, &pieces[..place.saturating_sub(1)]);
+    let written = plain_talk(rt, alloc, NUMBERS, &earlier, &at_1000())
+        .text
+        .len();
+    let plain = plain_talk(rt, alloc, NUMBERS, &came, &at_1000());
+    for len in written..plain.text.len() {
+        assert_write_fails(rt, alloc, &came, &rest, &plain, len, true);
+        assert_write_fails(rt, alloc, &came, &rest, &plain, len, false);
     }
-    Ok(())
 }
 
 #[test]
-fn failing_writes(rt: HostRuntime) -> Result<(), Fail> {
+fn failing_writes(rt: HostRuntime) {
     for pieces in &UPLOADS {
         for place in 1..=pieces.len() {
-            assert_writes_fail(&rt, rt.alloc(), pieces, place)?;
+            assert_writes_fail(&rt, rt.alloc(), pieces, place);
         }
     }
-    Ok(())
 }
 
 /// What a client sent before, and now sends; what is written until the fault, which comes once that was sent where it
@@ -242,40 +233,46 @@ static FAULTS: [FaultRow; 4] = [
     },
 ];
 
-/// How many blocks acme pays.
-fn charge_of(rt: &impl Abort, book: &Book) -> u64 {
-    let acme = book.settings().tenant(b"acme").expect(rt, "acme");
-    book.charge(acme)
+/// Speaks with a book what a row's client sent before.
+fn speak_before(rt: &impl Abort, alloc: Global, row: &FaultRow, book: &mut Book) {
+    let input = Input::new(row.before, usize::MAX);
+    let before = talk(alloc, book, input, Output::new(alloc), &at_1000());
+    assert!(rt; before.ended == Ok(Ended::Input), "{}: before", row.name);
 }
 
-/// Asserts that a conversation ends as its row says.
-fn check_fault(rt: &impl Abort, alloc: Global, row: &FaultRow) -> Result<(), Fail> {
-    let mut book = new_book(alloc)?;
-    let input = Input::new(row.before, usize::MAX);
-    let before = talk(alloc, &mut book, input, Output::new(alloc), &at_1000());
-    assert_eq!(rt; before.ended, Ok(Ended::Input), "{}", row.name);
-    let came = joined(alloc, &row.came)?;
+/// Asserts that a conversation with a book ends as its row says.
+fn assert_ends_by_fault(rt: &impl Abort, alloc: Global, row: &FaultRow, book: &mut Book) {
+    let came = joined(rt, alloc, &row.came);
     let (reads, writes) = match row.fault {
         WireFault::Read => (came.len(), usize::MAX),
         _ => (usize::MAX, row.written.len()),
     };
     let input = failing_input(&came, reads);
     let output = failing_output(alloc, writes, row.fails);
-    let spoken = talk(alloc, &mut book, input, output, &at_1000());
+    let spoken = talk(alloc, book, input, output, &at_1000());
     let expected = Expected {
         text: row.written,
         ended: Err(row.fault),
         offset: Some(row.offset),
     };
     assert_spoken(rt, row.name, &spoken, &expected);
-    assert_eq!(rt; charge_of(rt, &book), row.charge, "{}: charge", row.name);
-    Ok(())
+}
+
+/// Asserts how a row's conversation ends, and what stands then.
+fn check_fault(rt: &impl Abort, alloc: Global, row: &FaultRow) {
+    let mut book = new_book(rt, alloc);
+    speak_before(rt, alloc, row, &mut book);
+    assert_ends_by_fault(rt, alloc, row, &mut book);
+    assert!(rt;
+        charge_of(rt, &book, b"acme") == row.charge,
+        "{}: charge",
+        row.name
+    );
 }
 
 #[test]
-fn what_stands_after_a_fault(rt: HostRuntime) -> Result<(), Fail> {
+fn what_stands_after_a_fault(rt: HostRuntime) {
     for row in &FAULTS {
-        check_fault(&rt, rt.alloc(), row)?;
+        check_fault(&rt, rt.alloc(), row);
     }
-    Ok(())
 }

@@ -1,11 +1,10 @@
 //! Conversations that are put together at random, most of them with something wrong. Each is held against the plain
 //! program, byte for byte. The seeds are fixed, so every run tries the same ones.
 
-use crate::memory::{Input, Output};
-use crate::spoken::{Expected, NUMBERS as OTHERS, assert_spoken, at, book_with, plain_talk, talk};
-use std::alloc::{AllocError, Global};
+use crate::memory::Input;
+use crate::spoken::{NUMBERS as OTHERS, assert_talk_with, at, is_in, plain_talk, put};
+use std::alloc::Global;
 use std::process::Abort;
-use std::test::Fail;
 use upload_book::{Moment, Numbers};
 
 /// How many conversations are tried.
@@ -216,36 +215,40 @@ fn pick<T: Copy>(dice: &mut Dice, of: &[T], otherwise: T) -> T {
 }
 
 // Puts a message at the end of a text.
-fn put_message(place: usize, text: &mut Vec<u8>) -> Result<(), AllocError> {
+fn put_message(rt: &impl Abort, place: usize, text: &mut Vec<u8>) {
     let (head, body) = MESSAGES.get(place).copied().unwrap_or((b"", b""));
-    text.extend_from_slice(head)?;
-    text.extend_from_slice(b"\r\n")?;
-    text.extend_from_slice(body)?;
-    Ok(())
+    put(rt, text, head);
+    put(rt, text, b"\r\n");
+    put(rt, text, body);
 }
 
 // Puts a message at the end of a text, with up to two lines more than it should have.
-fn put_hostile(dice: &mut Dice, text: &mut Vec<u8>) -> Result<(), AllocError> {
+fn put_hostile(rt: &impl Abort, dice: &mut Dice, text: &mut Vec<u8>) {
     let (head, body) = pick(dice, &MESSAGES, (b"", b""));
-    text.extend_from_slice(pick(dice, &BEFORE, b""))?;
-    text.extend_from_slice(head)?;
+    put(rt, text, pick(dice, &BEFORE, b""));
+    put(rt, text, head);
     for _ in 0..dice.roll(3) {
-        text.extend_from_slice(pick(dice, &LINES, b""))?;
+        put(rt, text, pick(dice, &LINES, b""));
     }
-    text.extend_from_slice(pick(dice, &ENDS, b""))?;
-    text.extend_from_slice(body)?;
-    Ok(())
+    put(rt, text, pick(dice, &ENDS, b""));
+    put(rt, text, body);
 }
 
 // A text of some messages, which may be cut, or have one byte more or another.
-fn text_of(alloc: Global, dice: &mut Dice) -> Result<Vec<u8>, AllocError> {
+fn text_of(rt: &impl Abort, alloc: Global, dice: &mut Dice) -> Vec<u8> {
     let mut text = Vec::new(alloc);
     for place in pick(dice, &BEGINNINGS, &[]) {
-        put_message(*place, &mut text)?;
+        put_message(rt, *place, &mut text);
     }
     for _ in 0..=dice.roll(4) {
-        put_hostile(dice, &mut text)?;
+        put_hostile(rt, dice, &mut text);
     }
+    spoil(rt, dice, &mut text);
+    text
+}
+
+// Cuts a text, puts one byte more at its end, changes one, or leaves it.
+fn spoil(rt: &impl Abort, dice: &mut Dice, text: &mut Vec<u8>) {
     let place = dice.roll(text.len());
     match dice.roll(6) {
         0 => text.truncate(place),
@@ -255,10 +258,9 @@ fn text_of(alloc: Global, dice: &mut Dice) -> Result<Vec<u8>, AllocError> {
                 *old = byte;
             }
         }
-        2 => text.push(pick(dice, &BYTES, 0))?,
+        2 => put(rt, text, &[pick(dice, &BYTES, 0)]),
         _ => {}
     }
-    Ok(text)
 }
 
 /// The moments of a conversation's messages: later ones, the same, earlier ones, and some after expiries.
@@ -276,38 +278,37 @@ fn moments() -> [Moment; 8] {
 }
 
 /// The statuses that all conversations together have to get.
-const STATUSES: [&[u8]; 16] = [
-    b" 100 ", b" 200 ", b" 201 ", b" 204 ", b" 400 ", b" 403 ", b" 404 ", b" 405 ", b" 409 ",
-    b" 410 ", b" 411 ", b" 412 ", b" 413 ", b" 415 ", b" 460 ", b" 507 ",
+static STATUSES: [&str; 16] = [
+    " 100 ", " 200 ", " 201 ", " 204 ", " 400 ", " 403 ", " 404 ", " 405 ", " 409 ", " 410 ",
+    " 411 ", " 412 ", " 413 ", " 415 ", " 460 ", " 507 ",
 ];
 
-fn is_in(text: &[u8], status: &[u8]) -> bool {
-    text.windows(status.len().max(1))
-        .any(|window| window == status)
+// Notes which of the statuses are in the replies of a conversation.
+fn note_statuses(text: &[u8], seen: &mut [bool; 16]) {
+    for (seen, status) in seen.iter_mut().zip(&STATUSES) {
+        *seen = *seen || is_in(status.as_bytes(), text);
+    }
+}
+
+// Asserts that the conversation of a seed is the plain program's, and notes its statuses.
+fn check_conversation(rt: &impl Abort, alloc: Global, seed: u64, seen: &mut [bool; 16]) {
+    let what = format!(in alloc; "conversation {seed}").expect(rt, "memory");
+    let mut dice = Dice::new(seed);
+    let text = text_of(rt, alloc, &mut dice);
+    let plain = plain_talk(rt, alloc, NUMBERS, &text, &moments());
+    note_statuses(&plain.text, seen);
+    let input = Input::new(&text, dice.roll(40).max(1));
+    let expected = plain.as_expected();
+    assert_talk_with(rt, alloc, NUMBERS, &what, input, &moments(), &expected);
 }
 
 #[test]
-fn hostile_conversations(rt: HostRuntime) -> Result<(), Fail> {
-    let alloc = rt.alloc();
+fn hostile_conversations(rt: HostRuntime) {
     let mut seen = [false; 16];
     for seed in 1..=CONVERSATIONS {
-        let mut dice = Dice::new(seed);
-        let text = text_of(alloc, &mut dice)?;
-        let plain = plain_talk(&rt, alloc, NUMBERS, text.as_slice(), &moments())?;
-        let expected = Expected {
-            text: plain.text.as_slice(),
-            ended: plain.ended,
-            offset: plain.offset,
-        };
-        let mut book = book_with(alloc, NUMBERS)?;
-        let input = Input::new(text.as_slice(), dice.roll(40).max(1));
-        let spoken = talk(alloc, &mut book, input, Output::new(alloc), &moments());
-        let what = format!(in alloc; "conversation {seed}")?;
-        assert_spoken(&rt, &what, &spoken, &expected);
-        for (place, status) in STATUSES.iter().enumerate() {
-            seen[place] = seen[place] || is_in(plain.text.as_slice(), status);
-        }
+        check_conversation(&rt, rt.alloc(), seed, &mut seen);
     }
-    assert!(rt; seen == [true; 16], "{seen:?}");
-    Ok(())
+    for (seen, status) in seen.iter().zip(&STATUSES) {
+        assert!(rt; *seen, "status{status}was never told");
+    }
 }

@@ -2,25 +2,25 @@ use crate::conversations::{
     CREATED, HEAD, LOOKED, PATCH, PATCHED, POST, Row, assert_looked, check_row,
 };
 use crate::memory::{Input, Output};
-use crate::spoken::joined;
+use crate::spoken::{joined, put};
+use crate::wires::MemoryWire;
 use http_wire::{Ended, Incoming, Tapped, Wire};
-use std::alloc::{AllocError, Global};
-use std::test::Fail;
+use std::alloc::Global;
+use std::process::Abort;
 
 /// The HEAD of the first upload with a field beside Host and Tus-Resumable for each pair of letters, whose
 /// name no other has.
-fn with_names(alloc: Global, firsts: &[u8], seconds: &[u8]) -> Result<Vec<u8>, AllocError> {
-    let mut text = Vec::from_slice(alloc, b"HEAD /files/acme/1 HTTP/1.1\r\nHost: x\r\n")?;
+fn with_names(rt: &impl Abort, alloc: Global, firsts: &[u8], seconds: &[u8]) -> Vec<u8> {
+    let mut text = joined(rt, alloc, &[b"HEAD /files/acme/1 HTTP/1.1\r\nHost: x\r\n"]);
     for first in firsts {
         for second in seconds {
-            text.extend_from_slice(b"Name-")?;
-            text.push(*first)?;
-            text.push(*second)?;
-            text.extend_from_slice(b": y\r\n")?;
+            put(rt, &mut text, b"Name-");
+            put(rt, &mut text, &[*first, *second]);
+            put(rt, &mut text, b": y\r\n");
         }
     }
-    text.extend_from_slice(b"Tus-Resumable: 1.0.0\r\n\r\n")?;
-    Ok(text)
+    put(rt, &mut text, b"Tus-Resumable: 1.0.0\r\n\r\n");
+    text
 }
 
 static NAMES: [(&[u8], &[u8], &str); 3] = [
@@ -30,12 +30,11 @@ static NAMES: [(&[u8], &[u8], &str); 3] = [
 ];
 
 #[test]
-fn fields_of_many_names(rt: HostRuntime) -> Result<(), Fail> {
+fn fields_of_many_names(rt: HostRuntime) {
     for (firsts, seconds, what) in &NAMES {
-        let head = with_names(rt.alloc(), firsts, seconds)?;
-        assert_looked(&rt, rt.alloc(), what, &head)?;
+        let head = with_names(&rt, rt.alloc(), firsts, seconds);
+        assert_looked(&rt, rt.alloc(), what, &head);
     }
-    Ok(())
 }
 
 /// A PATCH of an upload that is not there, with the greatest body of the tests' settings.
@@ -55,23 +54,32 @@ static GREATEST: Row = Row {
 };
 
 #[test]
-fn the_greatest_body(rt: HostRuntime) -> Result<(), Fail> {
-    check_row(&rt, rt.alloc(), &GREATEST)
+fn the_greatest_body(rt: HostRuntime) {
+    check_row(&rt, rt.alloc(), &GREATEST);
 }
 
 const LARGE: &[u8] = b"PATCH / HTTP/1.1\r\nHost: x\r\nContent-Length: ";
 
-/// How long a body is that a wire reads, where its head has these digits as its length, and head and body
-/// have `all` bytes.
-fn read_body_len(alloc: Global, digits: &[u8], all: usize) -> Result<usize, Fail> {
-    let mut sent = joined(alloc, &[LARGE, digits, b"\r\n\r\n"])?;
-    sent.resize(all, b'a')?;
-    let reader = Tapped::new(Input::new(&sent, usize::MAX));
-    let mut wire = Wire::new(alloc, reader, Tapped::new(Output::new(alloc)), 300_000)?;
-    match wire.read_request()? {
-        Incoming::Message(message) => Ok(message.request().body.len()),
-        _ => Err(Fail::from("a whole message was sent")),
+/// How long the body of the next message on a wire is.
+fn read_body_len(rt: &impl Abort, wire: &mut MemoryWire<'_>) -> usize {
+    match wire.read_request().expect(rt, "a read") {
+        Incoming::Message(message) => message.request().body.len(),
+        _ => panic!(rt; "a whole message was sent"),
     }
+}
+
+/// Asserts that a wire reads a body of `len` bytes, where its head has these digits as its length, and head and body
+/// have `all` bytes.
+fn assert_body_len(rt: &impl Abort, alloc: Global, digits: &[u8], len: usize, all: usize) {
+    let mut sent = joined(rt, alloc, &[LARGE, digits, b"\r\n\r\n"]);
+    sent.resize(all, b'a').expect(rt, "memory");
+    let reader = Tapped::new(Input::new(&sent, usize::MAX));
+    let wire = Wire::new(alloc, reader, Tapped::new(Output::new(alloc)), 300_000);
+    let mut wire = wire.expect(rt, "memory");
+    assert!(rt;
+        read_body_len(rt, &mut wire) == len,
+        "a body of {len} bytes"
+    );
 }
 
 /// Head and body have 49,152 bytes together, 49,153, and more than there is room for at the start.
@@ -82,10 +90,8 @@ static BODIES: [(&[u8], usize, usize); 3] = [
 ];
 
 #[test]
-fn bodies_that_fit_and_outgrow_the_room(rt: HostRuntime) -> Result<(), Fail> {
+fn bodies_that_fit_and_outgrow_the_room(rt: HostRuntime) {
     for (digits, len, all) in &BODIES {
-        let read = read_body_len(rt.alloc(), digits, *all)?;
-        assert!(rt; read == *len, "a body of {len} bytes");
+        assert_body_len(&rt, rt.alloc(), digits, *len, *all);
     }
-    Ok(())
 }

@@ -10,11 +10,10 @@ use crate::conversations::{
 };
 use crate::creations::FIELD;
 use crate::methods::MEDIA;
-use crate::spoken::{Expected, NUMBERS, assert_both, assert_both_with, at, at_1000, joined};
+use crate::spoken::{Expected, NUMBERS, assert_both, assert_both_with, at_1000, joined, put};
 use http_wire::Ended;
 use std::alloc::Global;
 use std::process::Abort;
-use std::test::Fail;
 use upload_book::{Moment, Numbers};
 
 /// What a client sends to a new book and what is written for it, how the conversation ends, and how many bytes the first
@@ -375,14 +374,19 @@ fn moments_of(row: &Row) -> [Moment; 8] {
     moments
 }
 
-/// Asserts that a conversation is as its row says.
-fn check_row(rt: &impl Abort, alloc: Global, row: &Row) -> Result<(), Fail> {
-    let once = joined(alloc, row.sent)?;
-    let mut sent = Vec::new(alloc);
-    for _ in 0..row.times {
-        sent.extend_from_slice(&once)?;
+/// A text so many times.
+fn repeated(rt: &impl Abort, alloc: Global, text: &[u8], times: usize) -> Vec<u8> {
+    let mut all = Vec::new(alloc);
+    for _ in 0..times {
+        put(rt, &mut all, text);
     }
-    let written = joined(alloc, row.written)?;
+    all
+}
+
+/// Asserts that a conversation is as its row says.
+fn check_row(rt: &impl Abort, alloc: Global, row: &Row) {
+    let sent = repeated(rt, alloc, &joined(rt, alloc, row.sent), row.times);
+    let written = joined(rt, alloc, row.written);
     let expected = Expected {
         text: &written,
         ended: Ok(row.ended),
@@ -392,37 +396,41 @@ fn check_row(rt: &impl Abort, alloc: Global, row: &Row) -> Result<(), Fail> {
     assert_both_with(rt, alloc, row.numbers, row.name, &sent, &moments, &expected)
 }
 
-#[test]
-fn malformed_messages(rt: HostRuntime) -> Result<(), Fail> {
-    for row in MALFORMED_ROWS.iter().chain(&LIMIT_ROWS) {
-        check_row(&rt, rt.alloc(), row)?;
+/// Asserts it for each of these rows.
+fn check_rows(rt: &impl Abort, alloc: Global, rows: &[Row]) {
+    for row in rows {
+        check_row(rt, alloc, row);
     }
-    Ok(())
+}
+
+#[test]
+fn malformed_messages(rt: HostRuntime) {
+    check_rows(&rt, rt.alloc(), &MALFORMED_ROWS);
+    check_rows(&rt, rt.alloc(), &LIMIT_ROWS);
 }
 
 /// Asserts that the conversation of the first bytes of the first upload is cut where they end.
-fn assert_cut(rt: &impl Abort, alloc: Global, input: &[u8]) -> Result<(), Fail> {
+fn assert_cut(rt: &impl Abort, alloc: Global, input: &[u8]) {
     let len = input.len();
     let (whole, is_cut, offset) = cut_at(len);
-    let written = joined(alloc, &REPLIES[..whole])?;
+    let written = joined(rt, alloc, &REPLIES[..whole]);
     let ended = if is_cut { Ended::Cut } else { Ended::Input };
     let expected = Expected {
         text: &written,
         ended: Ok(ended),
         offset,
     };
-    let what = format!(in alloc; "{len} bytes")?;
+    let what = format!(in alloc; "{len} bytes").expect(rt, "memory");
     assert_both(rt, alloc, &what, input, &at_1000(), &expected)
 }
 
 /// Each beginning of the first upload's conversation.
 #[test]
-fn cut_messages(rt: HostRuntime) -> Result<(), Fail> {
-    let all = joined(rt.alloc(), &FIRST_UPLOAD)?;
+fn cut_messages(rt: HostRuntime) {
+    let all = joined(&rt, rt.alloc(), &FIRST_UPLOAD);
     for len in 0..=all.len() {
-        assert_cut(&rt, rt.alloc(), &all[..len])?;
+        assert_cut(&rt, rt.alloc(), &all[..len]);
     }
-    Ok(())
 }
 
 /// How many messages of the first upload are whole in its first `len` bytes, whether the next is cut, and how many bytes

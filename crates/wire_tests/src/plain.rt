@@ -174,52 +174,64 @@ fn body_len(headers: &[Header<'_>], minor: u8, max_size: u64) -> Result<usize, W
     }
 }
 
+// What the fields of tus have in a head.
+fn tus_fields<'a>(headers: &[Header<'a>]) -> TusFields<Field<'a>> {
+    TusFields {
+        version: named(headers, "tus-resumable"),
+        length: named(headers, "upload-length"),
+        defer: named(headers, "upload-defer-length"),
+        offset: named(headers, "upload-offset"),
+        metadata: named(headers, "upload-metadata"),
+        concat: named(headers, "upload-concat"),
+        checksum: named(headers, "upload-checksum"),
+        media: named(headers, "content-type"),
+    }
+}
+
+// The method that a request of this method asks for, which may stand for another.
+fn asked_method(headers: &[Header<'_>], own: Method) -> Method {
+    match named(headers, "x-http-method-override") {
+        Field::Absent => own,
+        Field::One(name) => method_of(name),
+        Field::Many => Method::Other,
+    }
+}
+
+// Whether a head says that its client waits for `100 Continue` before it sends the body.
+fn expects_continue(headers: &[Header<'_>]) -> bool {
+    match named(headers, "expect") {
+        Field::One(text) => text.eq_ignore_ascii_case(b"100-continue"),
+        _ => false,
+    }
+}
+
+// A body of this length, and what follows it; or what there is of it, and nothing.
+fn body_and_rest(text: &[u8], len: usize) -> (&[u8], Option<&[u8]>) {
+    match text.split_at_checked(len) {
+        Some((body, after)) => (body, Some(after)),
+        None => (text, None),
+    }
+}
+
 // What a head that was parsed begins, with the bytes that follow it.
 fn with_head<'a>(head: &Head<'_, 'a>, rest: &'a [u8], max_size: u64) -> Front<'a> {
     let headers = &*head.headers;
     let minor = head.version.unwrap_or(1);
     let own = method_of(head.method.unwrap_or("").as_bytes());
-    let framing = Framing {
-        bare: matches!(own, Method::Head),
-        close: minor == 0 || closes(headers),
-    };
-    let len = match body_len(headers, minor, max_size) {
-        Ok(len) => len,
-        Err(refusal) => {
-            let closing = Framing {
-                bare: framing.bare,
-                close: true,
+    let bare = matches!(own, Method::Head);
+    match body_len(headers, minor, max_size) {
+        Ok(len) => {
+            let close = minor == 0 || closes(headers);
+            let is_waiting = minor == 1 && expects_continue(headers) && len > 0;
+            let (body, after) = body_and_rest(rest, len);
+            let request = Request {
+                method: asked_method(headers, own),
+                path: read_path(head.path.unwrap_or("").as_bytes()),
+                fields: tus_fields(headers),
+                body,
             };
-            return Front::Refused(refusal, closing);
+            Front::Request(request, Framing { bare, close }, is_waiting, after)
         }
-    };
-    let method = match named(headers, "x-http-method-override") {
-        Field::Absent => own,
-        Field::One(name) => method_of(name),
-        Field::Many => Method::Other,
-    };
-    let expects = match named(headers, "expect") {
-        Field::One(text) => text.eq_ignore_ascii_case(b"100-continue"),
-        _ => false,
-    };
-    let (body, after) = match rest.split_at_checked(len) {
-        Some((body, after)) => (body, Some(after)),
-        None => (rest, None),
-    };
-    let request = Request {
-        method,
-        path: read_path(head.path.unwrap_or("").as_bytes()),
-        fields: TusFields {
-            version: named(headers, "tus-resumable"),
-            length: named(headers, "upload-length"),
-            defer: named(headers, "upload-defer-length"),
-            offset: named(headers, "upload-offset"),
-            metadata: named(headers, "upload-metadata"),
-            concat: named(headers, "upload-concat"),
-            checksum: named(headers, "upload-checksum"),
-            media: named(headers, "content-type"),
-        },
-        body,
-    };
-    Front::Request(request, framing, minor == 1 && expects && len > 0, after)
+        Err(refusal) => Front::Refused(refusal, Framing { bare, close: true }),
+    }
 }

@@ -10,13 +10,12 @@ use crate::concatenations::{
 };
 use crate::conversations::{CREATED, DELETE, DELETED, NONE, PATCHED};
 use crate::plain::plain_conversation;
-use crate::spoken::{NUMBERS, at, new_book};
-use http_wire::{Ended, Incoming, Tapped, Wire, WireFault, WireRefusal, converse};
-use std::alloc::{AllocError, Global};
+use crate::spoken::{NUMBERS, at, charge_of, new_book, put};
+use http_wire::{Ended, Framing, Incoming, Tapped, Wire, WireFault, WireRefusal, converse};
+use std::alloc::Global;
 use std::io;
 use std::io::{Print, Read, Write};
 use std::process::Abort;
-use std::test::Fail;
 use tus_steps::{Reply, answer};
 use upload_book::{Book, Moment, Name, Refusal, Settings};
 
@@ -181,50 +180,65 @@ fn moments() -> [Moment; 16] {
 /// What a HEAD tells of an upload's bytes and expiry.
 type Row = Result<(u64, Option<u64>, Option<Moment>), Refusal>;
 
-/// What a book tells of acme's first uploads, how many blocks acme and beta pay and how many are free, the two totals,
-/// and how many hold the blocks of those uploads.
-type Seen = ([Row; 4], [u64; 5], [Option<u64>; 7]);
+/// What a HEAD of acme's upload of this id tells.
+fn row_of(book: &Book, id: u64) -> Row {
+    let row = book.look(&Name { tenant: 0, id }, at(1000))?;
+    Ok((row.offset, row.declared, row.expires))
+}
 
-fn seen(rt: &impl Abort, book: &Book) -> Seen {
-    let rows = [1, 2, 3, 4].map(|id| {
-        let row = book.look(&Name { tenant: 0, id }, at(1000));
-        row.map(|row| (row.offset, row.declared, row.expires))
-    });
-    let acme = book.settings().tenant(b"acme").expect(rt, "acme");
-    let beta = book.settings().tenant(b"beta").expect(rt, "beta");
-    let blocks = [
-        book.charge(acme),
-        book.charge(beta),
-        book.free_blocks(),
-        book.charged_total(),
-        book.released_total(),
-    ];
-    let places = [
-        (1, 0, 0),
-        (1, 0, 1),
-        (2, 0, 0),
-        (3, 0, 0),
-        (3, 0, 1),
-        (3, 1, 0),
-        (4, 0, 0),
-    ];
-    let holders = places.map(|(id, segment, place)| book.holders(
-        &Name { tenant: 0, id },
-        segment,
-        place,
-    ));
-    (rows, blocks, holders)
+/// A block of one of acme's uploads: the upload's id, a segment, and a place in that.
+type Place = (u64, usize, u64);
+
+static PLACES: [Place; 7] = [
+    (1, 0, 0),
+    (1, 0, 1),
+    (2, 0, 0),
+    (3, 0, 0),
+    (3, 0, 1),
+    (3, 1, 0),
+    (4, 0, 0),
+];
+
+/// How many hold a block.
+fn holders_of(book: &Book, place: &Place) -> Option<u64> {
+    let (id, segment, place) = *place;
+    book.holders(&Name { tenant: 0, id }, segment, place)
+}
+
+/// Asserts that acme and beta pay as many blocks in two books, that as many are free, and that the two totals are the
+/// same.
+fn assert_same_blocks(rt: &impl Abort, book: &Book, plain: &Book) {
+    assert!(rt; charge_of(rt, book, b"acme") == charge_of(rt, plain, b"acme"));
+    assert!(rt; charge_of(rt, book, b"beta") == charge_of(rt, plain, b"beta"));
+    assert!(rt; book.free_blocks() == plain.free_blocks());
+    assert!(rt; book.charged_total() == plain.charged_total());
+    assert!(rt; book.released_total() == plain.released_total());
+}
+
+/// Asserts that two books tell the same of acme's first uploads, of blocks, and of how many hold the blocks of those
+/// uploads.
+fn assert_alike(rt: &impl Abort, book: &Book, plain: &Book) {
+    for id in 1..=4 {
+        assert!(rt; row_of(book, id) == row_of(plain, id), "upload {id}");
+    }
+    assert_same_blocks(rt, book, plain);
+    for place in &PLACES {
+        assert!(rt;
+            holders_of(book, place) == holders_of(plain, place),
+            "block {place:?}"
+        );
+    }
 }
 
 /// The messages of some turns, and their replies.
-fn told_by(alloc: Global, turns: &[Turn]) -> Result<(Vec<u8>, Vec<u8>), AllocError> {
+fn told_by(rt: &impl Abort, alloc: Global, turns: &[Turn]) -> (Vec<u8>, Vec<u8>) {
     let mut sent = Vec::new(alloc);
     let mut written = Vec::new(alloc);
     for turn in turns {
-        sent.extend_from_slice(turn.sent)?;
-        written.extend_from_slice(turn.written)?;
+        put(rt, &mut sent, turn.sent);
+        put(rt, &mut written, turn.written);
     }
-    Ok((sent, written))
+    (sent, written)
 }
 
 /// What a conversation wrote: how many turns have their replies at its front, and what follows these.
@@ -240,16 +254,11 @@ fn whole_turns<'a>(turns: &[Turn], text: &'a [u8]) -> (usize, &'a [u8]) {
 }
 
 /// Speaks these turns with a book by the plain program, and gives what that wrote.
-fn speak_plainly(
-    rt: &impl Abort,
-    alloc: Global,
-    book: &mut Book,
-    turns: &[Turn],
-) -> Result<Vec<u8>, Fail> {
-    let (sent, _) = told_by(alloc, turns)?;
+fn speak_plainly(rt: &impl Abort, alloc: Global, book: &mut Book, turns: &[Turn]) -> Vec<u8> {
+    let (sent, _) = told_by(rt, alloc, turns);
     let (text, ended) = plain_conversation(rt, alloc, &sent, book, &moments());
-    assert_eq!(rt; ended, Ended::Input);
-    Ok(text)
+    assert!(rt; ended == Ended::Input);
+    text
 }
 
 /// What is written where memory is lacking for the fields of a turn's message.
@@ -261,43 +270,68 @@ fn lacking_for_fields(turn: &Turn) -> &'static [u8] {
     }
 }
 
-/// Answers the next message on a wire, and says whether memory was lacking for it.
-fn answer_next(
-    wire: &mut Wire<Tapped<Messages>, Tapped<Sheet>>,
-    book: &mut Book,
-) -> Result<bool, WireFault> {
-    let answered = match wire.read_request()? {
+/// A wire over the messages of some turns.
+type TurnWire = Wire<Tapped<Messages>, Tapped<Sheet>>;
+
+/// What a message on a wire is answered with, and how that is framed.
+#[derive(Drop)]
+enum Answer {
+    Reply(Reply, Framing),
+    Refusal(WireRefusal, Framing),
+    /// No message came.
+    Nothing,
+}
+
+/// The answer to the next message on a wire.
+fn answer_of(rt: &impl Abort, wire: &mut TurnWire, book: &mut Book) -> Answer {
+    match wire.read_request().expect(rt, "a read") {
         Incoming::Message(message) => {
             let reply = answer(book, &message.request(), at(1000));
-            Ok((reply, message.framing()))
+            Answer::Reply(reply, message.framing())
         }
-        Incoming::Refused(refusal, framing) => Err((refusal, framing)),
-        _ => return Ok(false),
-    };
-    match answered {
-        Ok((reply, framing)) => {
-            wire.write_reply(&reply, at(1000), framing)?;
-            Ok(matches!(
-                &reply,
-                Reply::Refused {
-                    refusal: Refusal::Memory,
-                    ..
-                }
-            ))
-        }
-        Err((refusal, framing)) => {
-            wire.write_refusal(refusal, at(1000), framing)?;
-            Ok(refusal == WireRefusal::Memory)
-        }
+        Incoming::Refused(refusal, framing) => Answer::Refusal(refusal, framing),
+        _ => Answer::Nothing,
     }
 }
 
+/// Writes an answer on a wire.
+fn write_answer(rt: &impl Abort, wire: &mut TurnWire, answer: &Answer) {
+    let written = match answer {
+        Answer::Reply(reply, framing) => wire.write_reply(reply, at(1000), *framing),
+        Answer::Refusal(refusal, framing) => wire.write_refusal(*refusal, at(1000), *framing),
+        Answer::Nothing => Ok(()),
+    };
+    assert!(rt; written.is_ok());
+}
+
+/// Whether an answer says that memory is lacking.
+fn is_of_memory(answer: &Answer) -> bool {
+    match answer {
+        Answer::Reply(Reply::Refused { refusal, .. }, _) => *refusal == Refusal::Memory,
+        Answer::Refusal(refusal, _) => *refusal == WireRefusal::Memory,
+        _ => false,
+    }
+}
+
+/// Answers the next message on a wire, and says whether memory was lacking for it.
+fn answer_next(rt: &impl Abort, wire: &mut TurnWire, book: &mut Book) -> bool {
+    let answer = answer_of(rt, wire, book);
+    write_answer(rt, wire, &answer);
+    is_of_memory(&answer)
+}
+
 /// Answers the messages of the turns on a wire, up to the first for which memory is lacking, and gives what was written.
-fn answer_each(alloc: Global, turns: &'static [Turn], book: &mut Book) -> Result<Sheet, WireFault> {
+/// The error is that of a wire's start.
+fn answer_each(
+    rt: &impl Abort,
+    alloc: Global,
+    turns: &'static [Turn],
+    book: &mut Book,
+) -> Result<Sheet, WireFault> {
     let reader = Tapped::new(Messages::new(turns));
     let mut wire = Wire::new(alloc, reader, Tapped::new(Sheet::new()), 64)?;
     for _ in turns {
-        if answer_next(&mut wire, book)? {
+        if answer_next(rt, &mut wire, book) {
             break;
         }
     }
@@ -307,10 +341,8 @@ fn answer_each(alloc: Global, turns: &'static [Turn], book: &mut Book) -> Result
 
 /// Asserts that a reply says that memory is lacking, for a turn's step or for the fields of its message.
 fn assert_lacking(rt: &impl Abort, count: usize, turn: &Turn, reply: &[u8]) {
-    if reply != turn.lacking {
-        assert_eq!(rt; reply, lacking_for_fields(turn), "turn {count}");
-    }
-    assert!(rt; !reply.is_empty(), "turn {count}");
+    let is_lacking = reply == turn.lacking || reply == lacking_for_fields(turn);
+    assert!(rt; is_lacking && !reply.is_empty(), "turn {count}");
 }
 
 /// Speaks the turns on a wire, and asserts what is written. Gives how many were answered before the first for which
@@ -321,14 +353,19 @@ fn answered_on_a_wire(
     turns: &'static [Turn],
     book: &mut Book,
 ) -> Option<usize> {
-    let sheet = match answer_each(alloc, turns, book) {
-        Ok(sheet) => sheet,
+    match answer_each(rt, alloc, turns, book) {
+        Ok(sheet) => answered_before(rt, turns, sheet.text()),
         Err(fault) => {
-            assert_eq!(rt; fault, WireFault::Memory);
-            return Some(0);
+            assert!(rt; fault == WireFault::Memory);
+            Some(0)
         }
-    };
-    let (count, rest) = whole_turns(turns, sheet.text());
+    }
+}
+
+/// How many turns were answered before the first whose answer says that memory is lacking, with which a text ends, or
+/// none where each was answered as ever.
+fn answered_before(rt: &impl Abort, turns: &[Turn], text: &[u8]) -> Option<usize> {
+    let (count, rest) = whole_turns(turns, text);
     match turns.get(count) {
         Some(turn) => {
             assert_lacking(rt, count, turn, rest);
@@ -342,49 +379,38 @@ fn answered_on_a_wire(
 }
 
 /// A book with which these turns were spoken by the plain program.
-fn plain_book(rt: &impl Abort, alloc: Global, turns: &[Turn]) -> Result<Book, Fail> {
-    let mut book = new_book(alloc)?;
-    speak_plainly(rt, alloc, &mut book, turns)?;
-    Ok(book)
+fn plain_book(rt: &impl Abort, alloc: Global, turns: &[Turn]) -> Book {
+    let mut book = new_book(rt, alloc);
+    speak_plainly(rt, alloc, &mut book, turns);
+    book
 }
 
-/// Asserts that two books tell the same.
-fn assert_alike(rt: &impl Abort, book: &Book, plain: &Book) {
-    assert_eq!(rt; seen(rt, book), seen(rt, plain));
+/// Asserts that a book tells the same as one with which these turns were spoken by the plain program.
+fn assert_as_after(rt: &impl Abort, alloc: Global, book: &Book, turns: &[Turn]) {
+    assert_alike(rt, book, &plain_book(rt, alloc, turns));
 }
 
 /// Asserts that turns are spoken as ever in a conversation.
-fn assert_spoken_as_ever(
-    rt: &impl Abort,
-    alloc: Global,
-    turns: &'static [Turn],
-    book: &mut Book,
-) -> Result<(), Fail> {
-    let (_, written) = told_by(alloc, turns)?;
+fn assert_spoken_as_ever(rt: &impl Abort, alloc: Global, turns: &'static [Turn], book: &mut Book) {
+    let (_, written) = told_by(rt, alloc, turns);
     let mut reader = Tapped::new(Messages::new(turns));
     let mut writer = Tapped::new(Sheet::new());
     let ended = converse(alloc, &mut reader, &mut writer, book, &moments());
-    assert_eq!(rt; ended, Ok(Ended::Input));
-    assert_eq!(rt; writer.inner.text(), written.as_slice());
-    Ok(())
+    assert!(rt; ended == Ok(Ended::Input));
+    assert!(rt; writer.inner.text() == written.as_slice());
 }
 
 /// The turns on a wire. The first for which memory is lacking is answered so, and nothing is changed; on a new wire
 /// that turn and those after it go as ever. Says whether memory was lacking.
-fn on_a_wire(
-    rt: &impl Abort,
-    alloc: Global,
-    turns: &'static [Turn],
-    book: &mut Book,
-) -> Result<bool, Fail> {
+fn on_a_wire(rt: &impl Abort, alloc: Global, turns: &'static [Turn], book: &mut Book) -> bool {
     let Some(count) = answered_on_a_wire(rt, alloc, turns, book) else {
-        return Ok(false);
+        return false;
     };
-    let (before, after) = turns.split_at_checked(count).ok_or("turns")?;
-    assert_alike(rt, book, &plain_book(rt, alloc, before)?);
-    assert_spoken_as_ever(rt, alloc, after, book)?;
-    assert_alike(rt, book, &plain_book(rt, alloc, turns)?);
-    Ok(true)
+    let (before, after) = turns.split_at_checked(count).expect(rt, "turns");
+    assert_as_after(rt, alloc, book, before);
+    assert_spoken_as_ever(rt, alloc, after, book);
+    assert_as_after(rt, alloc, book, turns);
+    true
 }
 
 /// Asserts what a conversation wrote after whole turns, the next of which met a lack of memory: nothing, where that was
@@ -397,23 +423,23 @@ fn assert_lacked(
     ended: Result<Ended, WireFault>,
     rest: &[u8],
     plain: &mut Book,
-) -> Result<(), Fail> {
-    let (turn, others) = turns.split_first().ok_or("a turn")?;
+) {
+    let (turn, others) = turns.split_first().expect(rt, "a turn");
     match ended {
-        Err(fault) => {
-            assert_eq!(rt; fault, WireFault::Memory);
-            assert_eq!(rt; rest, NONE);
-        }
-        Ok(Ended::Closed) => assert_eq!(rt; rest, lacking_for_fields(turn)),
+        Err(fault) => assert!(rt; fault == WireFault::Memory && rest.is_empty()),
+        Ok(Ended::Closed) => assert!(rt; rest == lacking_for_fields(turn)),
         Ok(ended) => {
-            assert_eq!(rt; ended, Ended::Input);
-            assert!(rt; !turn.lacking.is_empty());
-            let after = rest.strip_prefix(turn.lacking).ok_or("a reply of 503")?;
-            let others = speak_plainly(rt, alloc, plain, others)?;
-            assert_eq!(rt; after, others.as_slice());
+            assert!(rt; ended == Ended::Input && !turn.lacking.is_empty());
+            let after = rest.strip_prefix(turn.lacking).expect(rt, "a reply of 503");
+            assert_goes_on(rt, alloc, others, after, plain);
         }
     }
-    Ok(())
+}
+
+/// Asserts that a text is what the plain program writes for these turns.
+fn assert_goes_on(rt: &impl Abort, alloc: Global, turns: &[Turn], text: &[u8], plain: &mut Book) {
+    let written = speak_plainly(rt, alloc, plain, turns);
+    assert!(rt; text == written.as_slice());
 }
 
 /// The turns in one conversation. Where memory is lacking for the fields of a message it ends, and where it is lacking
@@ -423,22 +449,21 @@ fn in_a_conversation(
     alloc: Global,
     turns: &'static [Turn],
     book: &mut Book,
-) -> Result<bool, Fail> {
+) -> bool {
     let mut reader = Tapped::new(Messages::new(turns));
     let mut writer = Tapped::new(Sheet::new());
     let ended = converse(alloc, &mut reader, &mut writer, book, &moments());
     let (count, rest) = whole_turns(turns, writer.inner.text());
-    let (before, after) = turns.split_at_checked(count).ok_or("turns")?;
+    let (before, after) = turns.split_at_checked(count).expect(rt, "turns");
     if after.is_empty() {
-        assert_eq!(rt; ended, Ok(Ended::Input));
-        assert!(rt; rest.is_empty());
-        return Ok(false);
+        assert!(rt; ended == Ok(Ended::Input) && rest.is_empty());
+        return false;
     }
     assert!(rt; ended.is_ok() || count == 0);
-    let mut plain = plain_book(rt, alloc, before)?;
-    assert_lacked(rt, alloc, after, ended, rest, &mut plain)?;
+    let mut plain = plain_book(rt, alloc, before);
+    assert_lacked(rt, alloc, after, ended, rest, &mut plain);
     assert_alike(rt, book, &plain);
-    Ok(true)
+    true
 }
 
 /// How the turns are spoken.
@@ -449,187 +474,182 @@ enum Way {
 }
 
 /// Speaks the turns with a new book after so many allocations, and prints whether memory was lacking.
-fn speak_after<W: Abort + Print>(
-    rt: &W,
-    alloc: Global,
-    spent: usize,
-    way: Way,
-) -> Result<(), Fail> {
+fn speak_after<W: Abort + Print>(rt: &W, alloc: Global, spent: usize, way: Way) {
     for _ in 0..spent {
         let _ = Vec::<u8>::with_capacity(alloc, 1);
     }
-    let settings = Settings::new(NUMBERS, &[(b"acme", 8), (b"beta", 4)])?;
-    let is_lacking = match Book::new(alloc, settings) {
+    let settings = Settings::new(NUMBERS, &[(b"acme", 8), (b"beta", 4)]);
+    let is_lacking = match Book::new(alloc, settings.expect(rt, "settings")) {
         Ok(mut book) => match way {
-            Way::Wire => on_a_wire(rt, alloc, &TURNS, &mut book)?,
-            Way::Conversation => in_a_conversation(rt, alloc, &TURNS, &mut book)?,
+            Way::Wire => on_a_wire(rt, alloc, &TURNS, &mut book),
+            Way::Conversation => in_a_conversation(rt, alloc, &TURNS, &mut book),
         },
         Err(_) => true,
     };
-    if is_lacking {
-        rt.println("memory was lacking")?;
+    let line = if is_lacking {
+        "memory was lacking"
     } else {
-        rt.println("memory was not lacking")?;
-    }
-    Ok(())
+        "memory was not lacking"
+    };
+    rt.println(line).expect(rt, "printed");
 }
 
 #[test]
-fn lacking_memory_on_a_wire_0(rt: HostRuntime) -> Result<(), Fail> {
-    speak_after(&rt, rt.alloc(), 0, Way::Wire)
+fn lacking_memory_on_a_wire_0(rt: HostRuntime) {
+    speak_after(&rt, rt.alloc(), 0, Way::Wire);
 }
 
 #[test]
-fn lacking_memory_on_a_wire_1(rt: HostRuntime) -> Result<(), Fail> {
-    speak_after(&rt, rt.alloc(), 1, Way::Wire)
+fn lacking_memory_on_a_wire_1(rt: HostRuntime) {
+    speak_after(&rt, rt.alloc(), 1, Way::Wire);
 }
 
 #[test]
-fn lacking_memory_on_a_wire_2(rt: HostRuntime) -> Result<(), Fail> {
-    speak_after(&rt, rt.alloc(), 2, Way::Wire)
+fn lacking_memory_on_a_wire_2(rt: HostRuntime) {
+    speak_after(&rt, rt.alloc(), 2, Way::Wire);
 }
 
 #[test]
-fn lacking_memory_on_a_wire_3(rt: HostRuntime) -> Result<(), Fail> {
-    speak_after(&rt, rt.alloc(), 3, Way::Wire)
+fn lacking_memory_on_a_wire_3(rt: HostRuntime) {
+    speak_after(&rt, rt.alloc(), 3, Way::Wire);
 }
 
 #[test]
-fn lacking_memory_on_a_wire_4(rt: HostRuntime) -> Result<(), Fail> {
-    speak_after(&rt, rt.alloc(), 4, Way::Wire)
+fn lacking_memory_on_a_wire_4(rt: HostRuntime) {
+    speak_after(&rt, rt.alloc(), 4, Way::Wire);
 }
 
 #[test]
-fn lacking_memory_on_a_wire_5(rt: HostRuntime) -> Result<(), Fail> {
-    speak_after(&rt, rt.alloc(), 5, Way::Wire)
+fn lacking_memory_on_a_wire_5(rt: HostRuntime) {
+    speak_after(&rt, rt.alloc(), 5, Way::Wire);
 }
 
 #[test]
-fn lacking_memory_on_a_wire_6(rt: HostRuntime) -> Result<(), Fail> {
-    speak_after(&rt, rt.alloc(), 6, Way::Wire)
+fn lacking_memory_on_a_wire_6(rt: HostRuntime) {
+    speak_after(&rt, rt.alloc(), 6, Way::Wire);
 }
 
 #[test]
-fn lacking_memory_on_a_wire_7(rt: HostRuntime) -> Result<(), Fail> {
-    speak_after(&rt, rt.alloc(), 7, Way::Wire)
+fn lacking_memory_on_a_wire_7(rt: HostRuntime) {
+    speak_after(&rt, rt.alloc(), 7, Way::Wire);
 }
 
 #[test]
-fn lacking_memory_on_a_wire_8(rt: HostRuntime) -> Result<(), Fail> {
-    speak_after(&rt, rt.alloc(), 8, Way::Wire)
+fn lacking_memory_on_a_wire_8(rt: HostRuntime) {
+    speak_after(&rt, rt.alloc(), 8, Way::Wire);
 }
 
 #[test]
-fn lacking_memory_on_a_wire_9(rt: HostRuntime) -> Result<(), Fail> {
-    speak_after(&rt, rt.alloc(), 9, Way::Wire)
+fn lacking_memory_on_a_wire_9(rt: HostRuntime) {
+    speak_after(&rt, rt.alloc(), 9, Way::Wire);
 }
 
 #[test]
-fn lacking_memory_on_a_wire_10(rt: HostRuntime) -> Result<(), Fail> {
-    speak_after(&rt, rt.alloc(), 10, Way::Wire)
+fn lacking_memory_on_a_wire_10(rt: HostRuntime) {
+    speak_after(&rt, rt.alloc(), 10, Way::Wire);
 }
 
 #[test]
-fn lacking_memory_on_a_wire_11(rt: HostRuntime) -> Result<(), Fail> {
-    speak_after(&rt, rt.alloc(), 11, Way::Wire)
+fn lacking_memory_on_a_wire_11(rt: HostRuntime) {
+    speak_after(&rt, rt.alloc(), 11, Way::Wire);
 }
 
 #[test]
-fn lacking_memory_on_a_wire_12(rt: HostRuntime) -> Result<(), Fail> {
-    speak_after(&rt, rt.alloc(), 12, Way::Wire)
+fn lacking_memory_on_a_wire_12(rt: HostRuntime) {
+    speak_after(&rt, rt.alloc(), 12, Way::Wire);
 }
 
 #[test]
-fn lacking_memory_on_a_wire_13(rt: HostRuntime) -> Result<(), Fail> {
-    speak_after(&rt, rt.alloc(), 13, Way::Wire)
+fn lacking_memory_on_a_wire_13(rt: HostRuntime) {
+    speak_after(&rt, rt.alloc(), 13, Way::Wire);
 }
 
 #[test]
-fn lacking_memory_on_a_wire_14(rt: HostRuntime) -> Result<(), Fail> {
-    speak_after(&rt, rt.alloc(), 14, Way::Wire)
+fn lacking_memory_on_a_wire_14(rt: HostRuntime) {
+    speak_after(&rt, rt.alloc(), 14, Way::Wire);
 }
 
 #[test]
-fn lacking_memory_on_a_wire_15(rt: HostRuntime) -> Result<(), Fail> {
-    speak_after(&rt, rt.alloc(), 15, Way::Wire)
+fn lacking_memory_on_a_wire_15(rt: HostRuntime) {
+    speak_after(&rt, rt.alloc(), 15, Way::Wire);
 }
 
 #[test]
-fn lacking_memory_in_a_conversation_0(rt: HostRuntime) -> Result<(), Fail> {
-    speak_after(&rt, rt.alloc(), 0, Way::Conversation)
+fn lacking_memory_in_a_conversation_0(rt: HostRuntime) {
+    speak_after(&rt, rt.alloc(), 0, Way::Conversation);
 }
 
 #[test]
-fn lacking_memory_in_a_conversation_1(rt: HostRuntime) -> Result<(), Fail> {
-    speak_after(&rt, rt.alloc(), 1, Way::Conversation)
+fn lacking_memory_in_a_conversation_1(rt: HostRuntime) {
+    speak_after(&rt, rt.alloc(), 1, Way::Conversation);
 }
 
 #[test]
-fn lacking_memory_in_a_conversation_2(rt: HostRuntime) -> Result<(), Fail> {
-    speak_after(&rt, rt.alloc(), 2, Way::Conversation)
+fn lacking_memory_in_a_conversation_2(rt: HostRuntime) {
+    speak_after(&rt, rt.alloc(), 2, Way::Conversation);
 }
 
 #[test]
-fn lacking_memory_in_a_conversation_3(rt: HostRuntime) -> Result<(), Fail> {
-    speak_after(&rt, rt.alloc(), 3, Way::Conversation)
+fn lacking_memory_in_a_conversation_3(rt: HostRuntime) {
+    speak_after(&rt, rt.alloc(), 3, Way::Conversation);
 }
 
 #[test]
-fn lacking_memory_in_a_conversation_4(rt: HostRuntime) -> Result<(), Fail> {
-    speak_after(&rt, rt.alloc(), 4, Way::Conversation)
+fn lacking_memory_in_a_conversation_4(rt: HostRuntime) {
+    speak_after(&rt, rt.alloc(), 4, Way::Conversation);
 }
 
 #[test]
-fn lacking_memory_in_a_conversation_5(rt: HostRuntime) -> Result<(), Fail> {
-    speak_after(&rt, rt.alloc(), 5, Way::Conversation)
+fn lacking_memory_in_a_conversation_5(rt: HostRuntime) {
+    speak_after(&rt, rt.alloc(), 5, Way::Conversation);
 }
 
 #[test]
-fn lacking_memory_in_a_conversation_6(rt: HostRuntime) -> Result<(), Fail> {
-    speak_after(&rt, rt.alloc(), 6, Way::Conversation)
+fn lacking_memory_in_a_conversation_6(rt: HostRuntime) {
+    speak_after(&rt, rt.alloc(), 6, Way::Conversation);
 }
 
 #[test]
-fn lacking_memory_in_a_conversation_7(rt: HostRuntime) -> Result<(), Fail> {
-    speak_after(&rt, rt.alloc(), 7, Way::Conversation)
+fn lacking_memory_in_a_conversation_7(rt: HostRuntime) {
+    speak_after(&rt, rt.alloc(), 7, Way::Conversation);
 }
 
 #[test]
-fn lacking_memory_in_a_conversation_8(rt: HostRuntime) -> Result<(), Fail> {
-    speak_after(&rt, rt.alloc(), 8, Way::Conversation)
+fn lacking_memory_in_a_conversation_8(rt: HostRuntime) {
+    speak_after(&rt, rt.alloc(), 8, Way::Conversation);
 }
 
 #[test]
-fn lacking_memory_in_a_conversation_9(rt: HostRuntime) -> Result<(), Fail> {
-    speak_after(&rt, rt.alloc(), 9, Way::Conversation)
+fn lacking_memory_in_a_conversation_9(rt: HostRuntime) {
+    speak_after(&rt, rt.alloc(), 9, Way::Conversation);
 }
 
 #[test]
-fn lacking_memory_in_a_conversation_10(rt: HostRuntime) -> Result<(), Fail> {
-    speak_after(&rt, rt.alloc(), 10, Way::Conversation)
+fn lacking_memory_in_a_conversation_10(rt: HostRuntime) {
+    speak_after(&rt, rt.alloc(), 10, Way::Conversation);
 }
 
 #[test]
-fn lacking_memory_in_a_conversation_11(rt: HostRuntime) -> Result<(), Fail> {
-    speak_after(&rt, rt.alloc(), 11, Way::Conversation)
+fn lacking_memory_in_a_conversation_11(rt: HostRuntime) {
+    speak_after(&rt, rt.alloc(), 11, Way::Conversation);
 }
 
 #[test]
-fn lacking_memory_in_a_conversation_12(rt: HostRuntime) -> Result<(), Fail> {
-    speak_after(&rt, rt.alloc(), 12, Way::Conversation)
+fn lacking_memory_in_a_conversation_12(rt: HostRuntime) {
+    speak_after(&rt, rt.alloc(), 12, Way::Conversation);
 }
 
 #[test]
-fn lacking_memory_in_a_conversation_13(rt: HostRuntime) -> Result<(), Fail> {
-    speak_after(&rt, rt.alloc(), 13, Way::Conversation)
+fn lacking_memory_in_a_conversation_13(rt: HostRuntime) {
+    speak_after(&rt, rt.alloc(), 13, Way::Conversation);
 }
 
 #[test]
-fn lacking_memory_in_a_conversation_14(rt: HostRuntime) -> Result<(), Fail> {
-    speak_after(&rt, rt.alloc(), 14, Way::Conversation)
+fn lacking_memory_in_a_conversation_14(rt: HostRuntime) {
+    speak_after(&rt, rt.alloc(), 14, Way::Conversation);
 }
 
 #[test]
-fn lacking_memory_in_a_conversation_15(rt: HostRuntime) -> Result<(), Fail> {
-    speak_after(&rt, rt.alloc(), 15, Way::Conversation)
+fn lacking_memory_in_a_conversation_15(rt: HostRuntime) {
+    speak_after(&rt, rt.alloc(), 15, Way::Conversation);
 }

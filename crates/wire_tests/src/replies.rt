@@ -1,5 +1,6 @@
 //! Replies as the plain program writes them: line by line, each text anew.
 
+use crate::spoken::put;
 use http_wire::{Framing, WireRefusal};
 use std::alloc::Global;
 use std::process::Abort;
@@ -48,29 +49,14 @@ impl Replied {
     /// What a reply of the steps tells.
     pub fn of(rt: &impl Abort, alloc: Global, reply: &Reply) -> Replied {
         match reply {
-            Reply::Options { max_size } => {
-                let mut told = Replied::new(alloc, 204);
-                told.line(rt, alloc, "Tus-Version", b"1.0.0");
-                let extensions = b"creation,creation-defer-length,expiration,termination,\
-concatenation,checksum,creation-with-upload";
-                told.line(rt, alloc, "Tus-Extension", extensions);
-                told.number(rt, alloc, "Tus-Max-Size", *max_size);
-                told.line(rt, alloc, "Tus-Checksum-Algorithm", b"sha1");
-                told
-            }
+            Reply::Options { max_size } => Replied::of_options(rt, alloc, *max_size),
             Reply::Created {
                 tenant,
                 id,
                 offset,
                 expires,
             } => {
-                let mut told = Replied::new(alloc, 201);
-                let mut path = Vec::from_slice(alloc, b"/files/").expect(rt, "memory");
-                path.extend_from_slice(tenant.as_slice())
-                    .expect(rt, "memory");
-                let id = format!(in alloc; "/{id}").expect(rt, "memory");
-                path.extend_from_slice(id.as_bytes()).expect(rt, "memory");
-                told.line(rt, alloc, "Location", &path);
+                let mut told = Replied::of_creation(rt, alloc, tenant.as_slice(), *id);
                 if let Some(offset) = offset {
                     told.number(rt, alloc, "Upload-Offset", *offset);
                 }
@@ -105,6 +91,28 @@ concatenation,checksum,creation-with-upload";
                 told
             }
         }
+    }
+
+    fn of_options(rt: &impl Abort, alloc: Global, max_size: u64) -> Replied {
+        let mut told = Replied::new(alloc, 204);
+        told.line(rt, alloc, "Tus-Version", b"1.0.0");
+        let extensions = b"creation,creation-defer-length,expiration,termination,\
+concatenation,checksum,creation-with-upload";
+        told.line(rt, alloc, "Tus-Extension", extensions);
+        told.number(rt, alloc, "Tus-Max-Size", max_size);
+        told.line(rt, alloc, "Tus-Checksum-Algorithm", b"sha1");
+        told
+    }
+
+    // What the reply to a creation tells first: the place of the upload of this id.
+    fn of_creation(rt: &impl Abort, alloc: Global, tenant: &[u8], id: u64) -> Replied {
+        let mut path = Vec::from_slice(alloc, b"/files/").expect(rt, "memory");
+        put(rt, &mut path, tenant);
+        let id = format!(in alloc; "/{id}").expect(rt, "memory");
+        put(rt, &mut path, id.as_bytes());
+        let mut told = Replied::new(alloc, 201);
+        told.line(rt, alloc, "Location", &path);
+        told
     }
 
     fn of_head(rt: &impl Abort, alloc: Global, row: &HeadRow) -> Replied {
@@ -200,25 +208,35 @@ impl Page {
         self.put(rt, b"\r\n");
     }
 
-    pub fn put_reply(&mut self, rt: &impl Abort, told: &Replied, now: Moment, framing: Framing) {
+    // The first line of a reply.
+    fn put_status(&mut self, rt: &impl Abort, status: u16) {
         let alloc = self.alloc;
-        let status = told.status;
         let first = format!(in alloc; "HTTP/1.1 {status} {}\r\n", reason(status)).expect(
             rt, "memory",
         );
         self.put(rt, first.as_bytes());
+    }
+
+    // The fields of a reply's body.
+    fn put_body_fields(&mut self, rt: &impl Abort, told: &Replied) {
+        if !told.media.is_empty() {
+            self.put_line(rt, "Content-Type", told.media.as_bytes());
+        }
+        let alloc = self.alloc;
+        let len = format!(in alloc; "{}", told.body.len()).expect(rt, "memory");
+        self.put_line(rt, "Content-Length", len.as_bytes());
+    }
+
+    pub fn put_reply(&mut self, rt: &impl Abort, told: &Replied, now: Moment, framing: Framing) {
+        self.put_status(rt, told.status);
         self.put_line(rt, "Date", &write_expires(now.secs()));
         self.put_line(rt, "Tus-Resumable", b"1.0.0");
         for line in &told.lines {
             self.put_line(rt, line.0, &line.1);
         }
-        let is_bare = framing.bare || status == 204;
+        let is_bare = framing.bare || told.status == 204;
         if !is_bare {
-            if !told.media.is_empty() {
-                self.put_line(rt, "Content-Type", told.media.as_bytes());
-            }
-            let len = format!(in alloc; "{}", told.body.len()).expect(rt, "memory");
-            self.put_line(rt, "Content-Length", len.as_bytes());
+            self.put_body_fields(rt, told);
         }
         if framing.close {
             self.put_line(rt, "Connection", b"close");

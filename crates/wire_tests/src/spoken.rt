@@ -5,9 +5,8 @@ ghost use Rattle.std.specs.Prelude.{◌≤◌};
 use crate::memory::{Input, Output};
 use crate::plain::plain_conversation;
 use http_wire::{Ended, Tapped, WireFault, conversation_of, converse};
-use std::alloc::{AllocError, Global};
+use std::alloc::Global;
 use std::process::Abort;
-use std::test::Fail;
 use upload_book::{Book, Moment, Name, Numbers, Settings};
 
 /// What a conversation wrote, how it ended, how many bytes the first upload of acme has then, where
@@ -18,6 +17,17 @@ pub struct Spoken<'a> {
     pub ended: Result<Ended, WireFault>,
     pub offset: Option<u64>,
     pub rest: &'a [u8],
+}
+
+impl Spoken<'_> {
+    /// The same as what another conversation has to write, and how that has to end.
+    pub fn as_expected(&self) -> Expected<'_> {
+        Expected {
+            text: self.text.as_slice(),
+            ended: self.ended,
+            offset: self.offset,
+        }
+    }
 }
 
 /// What a conversation has to write, how it has to end, and how many bytes the first upload of acme
@@ -40,12 +50,24 @@ pub fn at(secs: u64) -> Moment
     Moment::new(secs).unwrap()
 }
 
-pub fn joined(alloc: Global, parts: &[&[u8]]) -> Result<Vec<u8>, AllocError> {
+/// One text of these parts.
+pub fn joined(rt: &impl Abort, alloc: Global, parts: &[&[u8]]) -> Vec<u8> {
     let mut all = Vec::new(alloc);
     for part in parts {
-        all.extend_from_slice(part)?;
+        put(rt, &mut all, part);
     }
-    Ok(all)
+    all
+}
+
+/// Puts bytes at the end of a text.
+pub fn put(rt: &impl Abort, text: &mut Vec<u8>, bytes: &[u8]) {
+    text.extend_from_slice(bytes).expect(rt, "memory");
+}
+
+/// Whether some bytes, of which there is one at least, stand somewhere in a text.
+pub fn is_in(bytes: &[u8], text: &[u8]) -> bool {
+    text.windows(bytes.len().max(1))
+        .any(|window| window == bytes)
 }
 
 /// The numbers of a book, unless a test says others.
@@ -60,14 +82,20 @@ pub const NUMBERS: Numbers = Numbers {
 };
 
 /// A book with no upload.
-pub fn new_book(alloc: Global) -> Result<Book, Fail> {
-    book_with(alloc, NUMBERS)
+pub fn new_book(rt: &impl Abort, alloc: Global) -> Book {
+    book_with(rt, alloc, NUMBERS)
 }
 
 /// A book of these numbers with no upload.
-pub fn book_with(alloc: Global, numbers: Numbers) -> Result<Book, Fail> {
-    let settings = Settings::new(numbers, &[(b"acme", 8), (b"beta", 4)])?;
-    Ok(Book::new(alloc, settings)?)
+pub fn book_with(rt: &impl Abort, alloc: Global, numbers: Numbers) -> Book {
+    let settings = Settings::new(numbers, &[(b"acme", 8), (b"beta", 4)]);
+    Book::new(alloc, settings.expect(rt, "settings")).expect(rt, "memory")
+}
+
+/// How many blocks a tenant pays.
+pub fn charge_of(rt: &impl Abort, book: &Book, tenant: &[u8]) -> u64 {
+    let tenant = book.settings().tenant(tenant).expect(rt, "a tenant");
+    book.charge(tenant)
 }
 
 /// How many bytes the first upload of acme has, where there is one.
@@ -90,23 +118,25 @@ pub fn talk<'a>(
     let mut reader = Tapped::new(input);
     let mut writer = Tapped::new(output);
     let ended = converse(alloc, &mut reader, &mut writer, book, moments);
+    let offset = offset_of(book);
     Spoken {
         text: writer.inner.written,
         ended,
-        offset: offset_of(book),
+        offset,
         rest: reader.inner.rest,
     }
 }
 
 /// A conversation with a new book.
 pub fn talk_of<'a>(
+    rt: &impl Abort,
     alloc: Global,
     input: Input<'a>,
     output: Output,
     moments: &[Moment],
-) -> Result<Spoken<'a>, Fail> {
-    let mut book = new_book(alloc)?;
-    Ok(talk(alloc, &mut book, input, output, moments))
+) -> Spoken<'a> {
+    let mut book = new_book(rt, alloc);
+    talk(alloc, &mut book, input, output, moments)
 }
 
 /// The conversation of some bytes with a new book of these numbers by the plain program.
@@ -116,34 +146,42 @@ pub fn plain_talk(
     numbers: Numbers,
     input: &[u8],
     moments: &[Moment],
-) -> Result<Spoken<'static>, Fail> {
-    let mut book = book_with(alloc, numbers)?;
+) -> Spoken<'static> {
+    let mut book = book_with(rt, alloc, numbers);
     let (text, ended) = plain_conversation(rt, alloc, input, &mut book, moments);
-    Ok(Spoken {
+    Spoken {
         text,
         ended: Ok(ended),
         offset: offset_of(&book),
         rest: b"",
-    })
+    }
 }
 
 /// The conversation of known bytes with a new book, all of whose messages come at moment 1000.
-pub fn known_talk(alloc: Global, input: &[u8]) -> Result<Spoken<'static>, Fail> {
-    let mut book = new_book(alloc)?;
-    let (text, ended) = conversation_of(alloc, input, &mut book, &at_1000())?;
-    Ok(Spoken {
+pub fn known_talk(rt: &impl Abort, alloc: Global, input: &[u8]) -> Spoken<'static> {
+    let mut book = new_book(rt, alloc);
+    let (text, ended) = conversation_of(alloc, input, &mut book, &at_1000()).expect(
+        rt,
+        "known bytes",
+    );
+    Spoken {
         text,
         ended: Ok(ended),
         offset: offset_of(&book),
         rest: b"",
-    })
+    }
 }
 
 /// Asserts that a conversation, which `what` names, was as expected.
 pub fn assert_spoken(rt: &impl Abort, what: &str, spoken: &Spoken<'_>, expected: &Expected<'_>) {
-    assert_eq!(rt; spoken.text.as_slice(), expected.text, "{what}: text");
-    assert_eq!(rt; spoken.ended, expected.ended, "{what}: end");
-    assert_eq!(rt; spoken.offset, expected.offset, "{what}: offset");
+    assert_text(rt, what, spoken.text.as_slice(), expected.text);
+    assert!(rt; spoken.ended == expected.ended, "{what}: end");
+    assert!(rt; spoken.offset == expected.offset, "{what}: offset");
+}
+
+/// Asserts that a conversation, which `what` names, wrote this text.
+fn assert_text(rt: &impl Abort, what: &str, text: &[u8], expected: &[u8]) {
+    assert_eq!(rt; text, expected, "{what}: text");
 }
 
 /// Asserts that the conversation of some bytes with a new book is as expected, however many bytes a read
@@ -155,7 +193,7 @@ pub fn assert_both(
     input: &[u8],
     moments: &[Moment],
     expected: &Expected<'_>,
-) -> Result<(), Fail> {
+) {
     assert_both_with(rt, alloc, NUMBERS, what, input, moments, expected)
 }
 
@@ -168,15 +206,30 @@ pub fn assert_both_with(
     input: &[u8],
     moments: &[Moment],
     expected: &Expected<'_>,
-) -> Result<(), Fail> {
-    let plain = plain_talk(rt, alloc, numbers, input, moments)?;
-    let plain_what = format!(in alloc; "{what}, plain program")?;
+) {
+    let plain_what = format!(in alloc; "{what}, plain program").expect(rt, "memory");
+    let plain = plain_talk(rt, alloc, numbers, input, moments);
     assert_spoken(rt, &plain_what, &plain, expected);
-    for piece in [1, 7, usize::MAX] {
-        let mut book = book_with(alloc, numbers)?;
-        let output = Output::new(alloc);
-        let spoken = talk(alloc, &mut book, Input::new(input, piece), output, moments);
-        assert_spoken(rt, what, &spoken, expected);
+    for piece in &PIECES {
+        let input = Input::new(input, *piece);
+        assert_talk_with(rt, alloc, numbers, what, input, moments, expected);
     }
-    Ok(())
+}
+
+/// How many bytes a read gives at most.
+static PIECES: [usize; 3] = [1, 7, usize::MAX];
+
+/// Asserts that the conversation of an input with a new book of these numbers is as expected.
+pub fn assert_talk_with(
+    rt: &impl Abort,
+    alloc: Global,
+    numbers: Numbers,
+    what: &str,
+    input: Input<'_>,
+    moments: &[Moment],
+    expected: &Expected<'_>,
+) {
+    let mut book = book_with(rt, alloc, numbers);
+    let spoken = talk(alloc, &mut book, input, Output::new(alloc), moments);
+    assert_spoken(rt, what, &spoken, expected);
 }
