@@ -74,31 +74,36 @@ talk_command =
     (with_sizes (with_rule (new_app (codes "talk")) (option_rule (codes "moment") (codes "0") 253402300799)))
     tenant_rule
 
--- the command `serve`: its options with their defaults, and the tenants
-abbrev pub serve_command : App
-serve_command =
+-- the options that tell how connections are served
+abbrev pub with_service : App → App
+with_service command =
     with_rule
-    (with_sizes
     (with_rule
     (with_rule
     (with_rule
-    (with_rule
-    (with_rule
-    (with_rule (new_app (codes "serve"))
+    (with_rule command
     (option_between (codes "port") (codes "0") 0 65535))
     (option_between (codes "workers") (codes "2") 1 16))
     (option_between (codes "connections") (codes "1") 1 4096))
     (flag_rule (codes "forever")))
-    (option_between (codes "idle") (codes "60") 0 86400))
-    moment_rule))
+    (option_between (codes "idle") (codes "60") 0 86400)
+
+-- the command `serve`: its options with their defaults, and the tenants
+abbrev pub serve_command : App
+serve_command =
+    with_rule
+    (with_sizes (with_rule (with_service (new_app (codes "serve"))) moment_rule))
     tenant_rule
 
--- the program: it has the commands `talk` and `serve`, and does nothing without a command
-abbrev pub program : App
-program =
+-- the program without its commands, which does nothing without one
+abbrev pub program_alone : App
+program_alone =
     let bare = new_app (codes "tus-server") in
-    let asks = record bare { top = record bare.top { subcommand_required = true; arg_required_else_help = true } } in
-    with_subcommand (with_subcommand asks talk_command.top) serve_command.top
+    record bare { top = record bare.top { subcommand_required = true; arg_required_else_help = true } }
+
+-- the program: it has the commands `talk` and `serve`
+abbrev pub program : App
+program = with_subcommand (with_subcommand program_alone talk_command.top) serve_command.top
 
 -- the text is a decimal number below 2^64, perhaps after a plus
 abbrev pub is_number : Text → Bool

@@ -1,7 +1,7 @@
 ghost use Rattle.std.specs.Prelude.{◌≡◌, IfOk, IfSome, codes, false, map, option_map};
 ghost use Rattle.clap.specs.Walk.{rows_of, texts};
-ghost use Rattle.clap.specs.Words.{FailsBy, app_of, found_of, rule_of, subcommand_of, subcommand_rows_of};
-ghost use Rattle.tus_server.specs.CommandLine.{connections_told, faults_in, flag_rule, is_set, moment_rule, moment_set, number_told, number_under, numbers_told, option_between, option_rule, port_told, program, serve_command, serve_told, serve_told_by, served_of, talk_command, talk_told, tenant_rule, told_by, told_of, with_sizes, work_told, workers_told};
+ghost use Rattle.clap.specs.Words.{FailsBy, app_of, found_of, new_app, rule_of, subcommand_of, subcommand_rows_of};
+ghost use Rattle.tus_server.specs.CommandLine.{connections_told, faults_in, flag_rule, is_set, moment_rule, moment_set, number_told, number_under, numbers_told, option_between, option_rule, port_told, program, program_alone, serve_command, serve_told, serve_told_by, served_of, talk_command, talk_told, tenant_rule, told_by, told_of, with_service, with_sizes, work_told, workers_told};
 ghost use Rattle.upload_book.specs.Settings.{is_outside};
 
 use crate::serve_options::{ServeOptions, WorkOptions};
@@ -54,40 +54,66 @@ pub fn parsed<'a, S: AsStr>(alloc: Global, words: &'a [S]) -> Result<ArgMatches<
 fn command<'a>(alloc: Global) -> Result<Command<'a>, AllocError>
     ensures { IfOk result (λ c. app_of c ≡ program) }
 {
-    let command = Command::new(alloc, "tus-server")
-        .bin_name("tus-server")?
+    let command = program_alone(alloc)?;
+    command.subcommand(talk(alloc)?)?.subcommand(serve(alloc)?)
+}
+
+/// The program, without its commands.
+fn program_alone<'a>(alloc: Global) -> Result<Command<'a>, AllocError>
+    ensures { IfOk result (λ c. app_of c ≡ program_alone) }
+{
+    Command::new(alloc, "tus-server")
         .about("An upload server for tus 1.0.0, the open protocol for resumable uploads")
         .after_help(PROGRAM_HELP)
         .subcommand_required(true)
-        .arg_required_else_help(true);
-    command.subcommand(talk(alloc)?)?.subcommand(serve(alloc)?)
+        .arg_required_else_help(true)
+        .bin_name("tus-server")
 }
 
 /// The command `talk`.
 fn talk<'a>(alloc: Global) -> Result<Command<'a>, AllocError>
     ensures { IfOk result (λ c. app_of c ≡ talk_command) }
 {
-    let command = Command::new(alloc, "talk")
+    let command = talk_alone(alloc).arg(moment(alloc))?;
+    sizes(alloc, command)?.arg(tenants(alloc))
+}
+
+/// The command `talk`, without its arguments.
+fn talk_alone<'a>(alloc: Global) -> Command<'a>
+    ensures { app_of result ≡ new_app (codes "talk") }
+{
+    Command::new(alloc, "talk")
         .about("Answers the HTTP/1.1 requests on standard input on standard output")
         .after_help(TALK_HELP)
-        .arg(moment(alloc))?;
-    sizes(alloc, command)?.arg(tenants(alloc))
 }
 
 /// The command `serve`.
 fn serve<'a>(alloc: Global) -> Result<Command<'a>, AllocError>
     ensures { IfOk result (λ c. app_of c ≡ serve_command) }
 {
-    let command = Command::new(alloc, "serve")
+    let command = service(alloc, serve_alone(alloc))?.arg(set_moment(alloc))?;
+    sizes(alloc, command)?.arg(tenants(alloc))
+}
+
+/// The command `serve`, without its arguments.
+fn serve_alone<'a>(alloc: Global) -> Command<'a>
+    ensures { app_of result ≡ new_app (codes "serve") }
+{
+    Command::new(alloc, "serve")
         .about("Answers HTTP/1.1 requests on connections to 127.0.0.1")
         .after_help(SERVE_HELP)
+}
+
+/// The options that tell how connections are served.
+fn service<'a>(alloc: Global, command: Command<'a>) -> Result<Command<'a>, AllocError>
+    ensures { IfOk result (λ c. app_of c ≡ with_service (app_of command.entry)) }
+{
+    command
         .arg(port(alloc))?
         .arg(workers(alloc))?
         .arg(connections(alloc))?
         .arg(forever(alloc))?
-        .arg(idle(alloc))?
-        .arg(set_moment(alloc))?;
-    sizes(alloc, command)?.arg(tenants(alloc))
+        .arg(idle(alloc))
 }
 
 /// The option that names the port.

@@ -1,17 +1,13 @@
-use Rattle.std.proofs.Common.{◌≡◌, ◌∙◌, ap, ap₂, rules, codes, true}
+use Rattle.std.proofs.Common.{◌≡◌, ◌∙◌, ap, ap₂}
 use Rattle.std.proofs.lemmas.Result.{IfOk-weaker}
-use Rattle.clap.specs.Words.{App, app_of, new_app, with_subcommand}
+use Rattle.clap.specs.Words.{App, app_of, with_subcommand}
 use Rattle.tus_server.specs.CommandLine.{serve_command, talk_command}
 use Rattle.tus_server.proofs.CommandLineLemmas.{third}
 use Rattle.tus_server.proofs.command_line.command.Goals as goal
 
-abbrev bare : App
-bare = new_app (codes "tus-server")
-
 pub returns : goal.returns
 returns c =
-    let asks : app_of c.arg_required_else_help-command.result ≡ record bare { top = record bare.top { subcommand_required = true; arg_required_else_help = true } } = search rules in
     let talk : app_of c.in_ok-talk.field-0 ≡ talk_command = c.in_ok-talk.ensures in
     let serve : app_of c.in_ok-serve.field-0 ≡ serve_command = c.in_ok-serve.ensures in
-    let talks = c.in_ok-subcommand.ensures.shape (third _ _ _ _ (ap (λ (a : App). a.top.is_plain) talk)) ∙ ap₂ with_subcommand asks (ap (λ (a : App). a.top) talk) in
+    let talks = c.in_ok-subcommand.ensures.shape (third _ _ _ _ (ap (λ (a : App). a.top.is_plain) talk)) ∙ ap₂ with_subcommand c.in_ok-command.ensures (ap (λ (a : App). a.top) talk) in
     IfOk-weaker c.subcommand-2.result _ _ (λ r h. h.shape (third _ _ _ _ (ap (λ (a : App). a.top.is_plain) serve)) ∙ ap₂ with_subcommand talks (ap (λ (a : App). a.top) serve)) c.subcommand-2.ensures

@@ -1,6 +1,6 @@
-use Rattle.std.proofs.Common.{◌≡◌, ◌∙◌, ap, rules, codes}
+use Rattle.std.proofs.Common.{◌∙◌, ap, codes}
 use Rattle.std.proofs.lemmas.Result.{IfOk-weaker}
-use Rattle.clap.specs.Words.{App, Rule, app_of, new_app, with_rule}
+use Rattle.clap.specs.Words.{App, Rule, with_rule}
 use Rattle.tus_server.specs.CommandLine.{option_rule, tenant_rule, with_sizes}
 use Rattle.tus_server.proofs.CommandLineLemmas.{added}
 use Rattle.tus_server.proofs.command_line.talk.Goals as goal
@@ -10,7 +10,6 @@ moment = option_rule (codes "moment") (codes "0") 253402300799
 
 pub returns : goal.returns
 returns c =
-    let bare : app_of c.after_help.result ≡ new_app (codes "talk") = search rules in
-    let one = added _ _ _ moment c.in_ok-command.ensures (search rules) (search rules) ∙ ap (λ (a : App). with_rule a moment) bare in
+    let one = added _ _ _ moment c.in_ok-command.ensures c.moment.ensures.local c.moment.ensures.rule ∙ ap (λ (a : App). with_rule a moment) c.talk_alone.ensures in
     let sizes = c.in_ok-sizes.ensures ∙ ap with_sizes one in
-    IfOk-weaker c.arg-2.result _ _ (λ r h. added _ _ r tenant_rule h (search rules) (search rules) ∙ ap (λ (a : App). with_rule a tenant_rule) sizes) c.arg-2.ensures
+    IfOk-weaker c.arg-2.result _ _ (λ r h. added _ _ r tenant_rule h c.tenants.ensures.local c.tenants.ensures.rule ∙ ap (λ (a : App). with_rule a tenant_rule) sizes) c.arg-2.ensures
