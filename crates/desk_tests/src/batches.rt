@@ -39,6 +39,16 @@ struct Meeting {
     missed: AtomicU64,
 }
 
+impl Meeting {
+    fn new() -> Meeting {
+        Meeting {
+            locked: AtomicU64::new(0),
+            answered: AtomicU64::new(0),
+            missed: AtomicU64::new(0),
+        }
+    }
+}
+
 impl Gate for Meeting {
     fn pass(&self, desk: usize, turn: usize, stop: Stop) {
         match (desk, turn, stop) {
@@ -56,14 +66,15 @@ impl Gate for Meeting {
 /// Asserts what the replies at a desk tell.
 pub fn assert_told(rt: &impl Abort, replies: Option<&Vec<Reply>>, told: &[Told]) {
     let replies = replies.expect(rt, "a list");
-    assert_eq!(rt; replies.len(), told.len());
-    for (reply, expected) in replies.iter().zip(told) {
-        assert_eq!(rt; &told_by(reply), expected);
+    assert!(rt; replies.len() == told.len());
+    for (turn, expected) in told.iter().enumerate() {
+        let reply = replies.get(turn).expect(rt, "a reply");
+        assert!(rt; told_by(reply).is(*expected), "turn {turn}");
     }
 }
 
-// A desk makes an upload of this length.
-fn create<C: Charges, R: Ledger, W: Wait + Abort>(
+/// A desk makes an upload of this length.
+pub fn create<C: Charges, R: Ledger, W: Wait + Abort>(
     rt: &W,
     shared: &Shared<C, R, &W>,
     desk: &mut Desk<C, R>,
@@ -83,37 +94,43 @@ fn meet<C: Charges + Send + Sync, R: Ledger + Send + Sync, W: Threads + Wait + A
     alloc: Global,
     shared: &Shared<C, R, &W>,
     desks: &mut Vec<Desk<C, R>>,
-) -> Result<(), Fail>
+)
     requires { vec_len desks.old ≡ 2 }
     ensures { vec_len desks.new ≡ 2 }
 {
-    let meeting = Meeting {
-        locked: AtomicU64::new(0),
-        answered: AtomicU64::new(0),
-        missed: AtomicU64::new(0),
-    };
+    let meeting = Meeting::new();
     let first = [
         turn(rt, Patch(FIRST, b"0", b"hello")),
         turn(rt, Head(FIRST)),
     ];
     let second = [turn(rt, Head(FIRST))];
     let batches = [&first[..], &second[..]];
-    let replies = work_all(rt, alloc, shared, desks, &batches, &meeting)?;
-    assert!(rt;
-        meeting.missed.load(Ordering::SeqCst) == 0,
-        "each desk was met"
-    );
+    let replies = work_all(rt, alloc, shared, desks, &batches, &meeting);
+    assert_met(rt, &meeting.missed);
+    assert_replies(rt, &replies.expect(rt, "room for the replies"));
+}
+
+// Each desk was met, in time.
+fn assert_met(rt: &impl Abort, missed: &AtomicU64) {
+    assert!(rt; missed.load(Ordering::SeqCst) == 0, "each desk was met");
+}
+
+// The first desk tells of the upload as it has grown, and the second as it was before.
+fn assert_replies(rt: &impl Abort, replies: &[Vec<Reply>]) {
     assert_told(rt, replies.get(0), &[Told::Patched(5, Some(4600)), GROWN]);
     assert_told(rt, replies.get(1), &[BEGUN]);
-    Ok(())
+}
+
+// The book tells this of an upload of acme.
+fn assert_row(rt: &impl Abort, book: &Book, id: u64, expected: Told) {
+    let row = book.look(&Name { tenant: 0, id }, moment(rt, 1000));
+    assert!(rt; told_of(&row).is(expected), "upload {id}");
 }
 
 // The book has one upload, which has grown.
 fn assert_grown(rt: &impl Abort, book: &Book) {
-    let row = book.look(&Name { tenant: 0, id: 1 }, moment(rt, 1000));
-    assert!(rt; told_of(&row) == GROWN);
-    let none = book.look(&Name { tenant: 0, id: 2 }, moment(rt, 1000));
-    assert!(rt; told_of(&none) == Told::Refused(Refusal::Unknown, None));
+    assert_row(rt, book, 1, GROWN);
+    assert_row(rt, book, 2, Told::Refused(Refusal::Unknown, None));
 }
 
 // Both desks answer a batch at once: one is held in its first turn, with the lock, until the other has answered a HEAD.
@@ -139,7 +156,7 @@ fn work_at_once<
         rt, alloc, settings, 2, charged, released, lines,
     )?;
     create(rt, &shared, &mut desks[0], b"10");
-    meet(rt, alloc, &shared, &mut desks)?;
+    meet(rt, alloc, &shared, &mut desks);
     let (book, balance) = settle(shared, desks);
     assert_grown(rt, &book);
     assert_balance(rt, balance, [2, 0, 2]);
@@ -173,6 +190,15 @@ fn two_desks_work_at_once(rt: HostRuntime) -> Result<(), Fail> {
 struct Together {
     begun: AtomicU64,
     missed: AtomicU64,
+}
+
+impl Together {
+    fn new() -> Together {
+        Together {
+            begun: AtomicU64::new(0),
+            missed: AtomicU64::new(0),
+        }
+    }
 }
 
 impl Gate for Together {
@@ -248,13 +274,43 @@ fn assert_race(rt: &impl Abort, replies: &[Vec<Reply>], turn: usize, first: Told
     let mut is_open = true;
     for told in replies {
         let told = told_by(told.get(turn).expect(rt, "a reply"));
-        if is_open && told == first {
+        if is_open && told.is(first) {
             is_open = false;
         } else {
-            assert_eq!(rt; told, late, "turn {turn}");
+            assert!(rt; told.is(late), "turn {turn}");
         }
     }
     assert!(rt; !is_open, "turn {turn}");
+}
+
+// The turns of these races.
+fn race_turns(rt: &impl Abort, alloc: Global, races: &[Race]) -> Vec<Turn<'static>> {
+    let mut turns = Vec::new(alloc);
+    for (asked, _, _) in races {
+        turns.push(turn(rt, *asked)).expect(rt, "room for a turn");
+    }
+    turns
+}
+
+// Sixteen desks answer the same batch at once.
+fn answer_at_each<
+    C: Charges + Send + Sync,
+    R: Ledger + Send + Sync,
+    W: Threads + Wait + Abort + Sync,
+>(
+    rt: &W,
+    alloc: Global,
+    shared: &Shared<C, R, &W>,
+    desks: &mut Vec<Desk<C, R>>,
+    batch: &[Turn],
+    together: &Together,
+) -> Vec<Vec<Reply>>
+    requires { vec_len desks.old ≡ 16 }
+    ensures { vec_len desks.new ≡ 16 }
+{
+    let batches = [&batch[..]; 16];
+    let replies = work_all(rt, alloc, shared, desks, &batches, together);
+    replies.expect(rt, "room for the replies")
 }
 
 // Sixteen desks answer the same batch, and come to each of its turns together.
@@ -262,29 +318,21 @@ fn meet_each_turn<
     C: Charges + Send + Sync,
     R: Ledger + Send + Sync,
     W: Threads + Wait + Abort + Sync,
->(rt: &W, alloc: Global, shared: &Shared<C, R, &W>, desks: &mut Vec<Desk<C, R>>) -> Result<(), Fail>
+>(rt: &W, alloc: Global, shared: &Shared<C, R, &W>, desks: &mut Vec<Desk<C, R>>)
     requires { vec_len desks.old ≡ 16 }
     ensures { vec_len desks.new ≡ 16 }
 {
-    let together = Together {
-        begun: AtomicU64::new(0),
-        missed: AtomicU64::new(0),
-    };
-    let batch = RACES.map(|(asked, _, _)| turn(rt, asked));
-    let batches = [&batch[..]; 16];
-    let replies = work_all(rt, alloc, shared, desks, &batches, &together)?;
-    assert!(rt;
-        together.missed.load(Ordering::SeqCst) == 0,
-        "each desk was met"
-    );
-    assert_races(rt, &replies);
-    Ok(())
+    let together = Together::new();
+    let batch = race_turns(rt, alloc, &RACES);
+    let replies = answer_at_each(rt, alloc, shared, desks, &batch, &together);
+    assert_met(rt, &together.missed);
+    assert_races(rt, &replies, &RACES);
 }
 
 // Asserts what the desks' replies tell, turn by turn.
-fn assert_races(rt: &impl Abort, replies: &[Vec<Reply>]) {
+fn assert_races(rt: &impl Abort, replies: &[Vec<Reply>], races: &[Race]) {
     assert!(rt; replies.len() == 16);
-    for (turn, (_, first, late)) in RACES.iter().enumerate() {
+    for (turn, (_, first, late)) in races.iter().enumerate() {
         assert_race(rt, replies, turn, *first, *late);
     }
 }
@@ -308,11 +356,10 @@ fn race<C: Charges + Send + Sync, R: Ledger + Send + Sync, W: Threads + Wait + A
         rt, alloc, settings, 16, charged, released, lines,
     )?;
     create(rt, &shared, &mut desks[0], b"32");
-    meet_each_turn(rt, alloc, &shared, &mut desks)?;
+    meet_each_turn(rt, alloc, &shared, &mut desks);
     let (book, balance) = settle(shared, desks);
-    let free = book.free_blocks();
     assert_balance(rt, balance, [8, 8, 0]);
-    assert!(rt; free == 12);
+    assert!(rt; book.free_blocks() == 12);
     Ok(())
 }
 

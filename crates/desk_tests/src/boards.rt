@@ -1,11 +1,33 @@
 //! A board and its windows.
 
+ghost use Rattle.std.specs.Prelude.{◌≡◌, []};
+
 use crate::requests::{moment, settings};
 use crate::tables::{assert_shown, line, name, row};
+use std::process::Abort;
+use std::sync::Wait;
 use std::test::Fail;
-use tus_shared::{Board, Opened};
+use tus_shared::{Board, Opened, Window};
 use upload_book::HeadChange::Put;
-use upload_book::Refusal;
+use upload_book::{Refusal, Settings};
+
+// A window tells the offset and the metadata of acme's first upload, or why none are.
+fn assert_seen(rt: &impl Abort, window: &mut Window, expected: Result<(u64, &[u8]), Refusal>) {
+    let seen = window.look(&name(0, 1), moment(rt, 1000));
+    assert_shown(rt, &seen.expect(rt, "entered"), expected);
+}
+
+// A new board shows acme's first upload.
+fn show_first<W: Wait + Drop>(rt: &impl Abort, board: &mut Board<W>, settings: &Settings)
+    requires settings { board.old.settings ≡ settings.now }
+    requires new { board.old.lines ≡ [] }
+{
+    let numbers = settings.numbers();
+    assert!(rt; numbers.uploads >= 1);
+    assert!(rt; numbers.last_id >= 1);
+    let first = line(Put(name(0, 1), row(5, b"key QQ", None)), 2);
+    assert!(rt; board.show(first));
+}
 
 #[test]
 fn windows_see_what_is_shown(rt: HostRuntime) -> Result<(), Fail> {
@@ -13,28 +35,26 @@ fn windows_see_what_is_shown(rt: HostRuntime) -> Result<(), Fail> {
     let mut board = Board::new(rt.alloc(), &rt, &settings, 2, Opened::new())?;
     let mut one = board.window()?;
     let mut other = board.window()?;
-    let (first, now) = (name(0, 1), moment(&rt, 1000));
-    let seen = one.look(&first, now).ok_or("entered")?;
-    assert_shown(&rt, seen, Err(Refusal::Unknown));
-    let numbers = settings.numbers();
-    assert!(rt; numbers.uploads >= 1);
-    assert!(rt; numbers.last_id >= 1);
-    assert!(rt; board.show(line(Put(first, row(5, b"key QQ", None)), 2)));
-    let seen = one.look(&first, now).ok_or("entered")?;
-    assert_shown(&rt, seen, Ok((5, b"key QQ")));
-    let seen = other.look(&first, now).ok_or("entered")?;
-    assert_shown(&rt, seen, Ok((5, b"key QQ")));
+    assert_seen(&rt, &mut one, Err(Refusal::Unknown));
+    show_first(&rt, &mut board, &settings);
+    assert_seen(&rt, &mut one, Ok((5, b"key QQ")));
+    assert_seen(&rt, &mut other, Ok((5, b"key QQ")));
     drop(board);
-    assert!(rt; one.look(&first, now).is_none());
+    assert!(rt; one.look(&name(0, 1), moment(&rt, 1000)).is_none());
     Ok(())
+}
+
+// There is room for one more window on a board.
+fn has_room<W: Wait + Drop>(board: &mut Board<W>) -> bool {
+    board.window().is_ok()
 }
 
 #[test]
 fn a_board_has_room_for_its_windows(rt: HostRuntime) -> Result<(), Fail> {
     let mut board = Board::new(rt.alloc(), &rt, &settings()?, 1, Opened::new())?;
     let window = board.window()?;
-    assert!(rt; board.window().is_err());
+    assert!(rt; !has_room(&mut board));
     drop(window);
-    assert!(rt; board.window().is_ok());
+    assert!(rt; has_room(&mut board));
     Ok(())
 }

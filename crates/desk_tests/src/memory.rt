@@ -24,20 +24,45 @@ fn create<C: Charges, R: Ledger, W: Wait + Abort>(
 ) {
     let creation = turn(rt, Post(b"10"));
     let reply = desk.call(rt, shared, &creation.request, creation.now);
-    assert!(rt; told_by(&reply) == Told::Created(id, None, Some(4600)));
+    assert!(rt; told_by(&reply).is(Told::Created(id, None, Some(4600))));
 }
 
-// A desk answers 500 HEADs of an upload without bytes.
+const EMPTY: Told<'static> = Told::Row(0, Some(10), b"", Some(4600));
+
+// A desk answers a HEAD of an upload without bytes.
 fn look<C: Charges, R: Ledger>(rt: &impl Abort, desk: &mut Desk<C, R>, id: u64) {
-    let empty = Told::Row(0, Some(10), b"", Some(4600));
+    let row = desk.head(&Name { tenant: 0, id }, moment(rt, 1000));
+    assert!(rt; told_of(&row).is(EMPTY), "upload {id}");
+}
+
+// A sweep at a desk ends one upload.
+fn sweep<C: Charges, R: Ledger, W: Wait + Abort>(
+    rt: &W,
+    shared: &Shared<C, R, &W>,
+    desk: &mut Desk<C, R>,
+) {
+    let swept = desk
+        .sweep(rt, shared, moment(rt, 4600))
+        .expect(rt, "a sweep");
+    assert!(rt; swept.uploads == 1);
+}
+
+// A desk makes an upload, answers 500 HEADs of it, and ends it by a sweep.
+fn create_look_and_sweep<C: Charges, R: Ledger, W: Wait + Abort>(
+    rt: &W,
+    shared: &Shared<C, R, &W>,
+    desk: &mut Desk<C, R>,
+    id: u64,
+) {
+    create(rt, shared, desk, id);
     for _ in 0..500u64 {
-        let row = desk.head(&Name { tenant: 0, id }, moment(rt, 1000));
-        assert!(rt; told_of(&row) == empty, "upload {id}");
+        look(rt, desk, id);
     }
+    sweep(rt, shared, desk);
 }
 
 // Twenty creations and twenty sweeps, and 500 HEADs after each creation.
-fn create_look_and_sweep<C: Charges, R: Ledger, W: Wait + Abort>(
+fn serve_twenty<C: Charges, R: Ledger, W: Wait + Abort>(
     rt: &W,
     alloc: Global,
     settings: Settings,
@@ -56,10 +81,7 @@ fn create_look_and_sweep<C: Charges, R: Ledger, W: Wait + Abort>(
     )?;
     let mut desk = desks.pop().ok_or("a desk")?;
     for id in 1..21u64 {
-        create(rt, &shared, &mut desk, id);
-        look(rt, &mut desk, id);
-        let swept = desk.sweep(rt, &shared, moment(rt, 4600))?;
-        assert!(rt; swept.uploads == 1);
+        create_look_and_sweep(rt, &shared, &mut desk, id);
     }
     Ok(())
 }
@@ -70,7 +92,7 @@ fn takes_no_memory_after_the_opening(rt: HostRuntime) -> Result<(), Fail> {
         uploads: 1,
         ..NUMBERS
     };
-    create_look_and_sweep::<Brand, Brand, HostRuntime>(
+    serve_twenty::<Brand, Brand, HostRuntime>(
         &rt,
         rt.alloc(),
         settings_of(numbers)?,

@@ -62,9 +62,9 @@ fn one_to_sixteen_desks(rt: HostRuntime) -> Result<(), Fail> {
 
 #[test]
 fn faults_are_told_by_their_words(rt: HostRuntime) -> Result<(), Fail> {
-    assert_eq!(rt; OpenFault::Desks.word(), "desks");
-    assert_eq!(rt; OpenFault::Memory.word(), "memory");
-    assert_eq!(rt; OpenFault::Board.word(), "board");
-    assert_eq!(rt; WorkFault::Memory.word(), "memory");
+    assert!(rt; OpenFault::Desks.word() == "desks");
+    assert!(rt; OpenFault::Memory.word() == "memory");
+    assert!(rt; OpenFault::Board.word() == "board");
+    assert!(rt; WorkFault::Memory.word() == "memory");
     Ok(())
 }

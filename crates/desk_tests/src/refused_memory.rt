@@ -7,7 +7,7 @@ ghost use Rattle.std.specs.Prelude.{◌≡◌};
 
 use crate::requests::Asked::{Delete, Get, Head, Join, Partial, Patch, Upload};
 use crate::requests::Told::{Bytes, Created, Deleted, Patched, Row};
-use crate::requests::{Asked, NUMBERS, Told, moment, settings_of, told_by};
+use crate::requests::{Asked, NUMBERS, Told, moment, secs, settings_of, told_by};
 use std::alloc::Global;
 use std::io::Print;
 use std::marker::Brand;
@@ -47,7 +47,7 @@ type Seen = Result<(u64, Option<u64>, Option<u64>), Refusal>;
 /// How many requests were answered before one that was refused since memory was lacking, or all of them; what HEADs tell
 /// then of acme's first four uploads; and what is settled: how many blocks were charged, released, and are held, and how
 /// many are free.
-#[derive(Clone, Copy, Debug, PartialEq, Eq)]
+#[derive(Clone, Copy, PartialEq, Eq)]
 struct Outcome {
     answered: usize,
     heads: [Seen; 4],
@@ -57,7 +57,43 @@ struct Outcome {
 // What a desk tells of an upload of acme.
 fn seen_at<C: Charges, R: Ledger>(rt: &impl Abort, desk: &mut Desk<C, R>, id: u64) -> Seen {
     let row = desk.head(&Name { tenant: 0, id }, moment(rt, 1000))?;
-    Ok((row.offset, row.declared, row.expires.map(|end| end.secs())))
+    Ok((row.offset, row.declared, secs(row.expires)))
+}
+
+// What a desk tells of acme's first four uploads.
+fn seen_by<C: Charges, R: Ledger>(rt: &impl Abort, desk: &mut Desk<C, R>) -> [Seen; 4] {
+    [
+        seen_at(rt, desk, 1),
+        seen_at(rt, desk, 2),
+        seen_at(rt, desk, 3),
+        seen_at(rt, desk, 4),
+    ]
+}
+
+// Asks a desk the turn at a place, and says whether it was answered: it tells what it should, or is refused since memory
+// is lacking.
+fn is_answered<C: Charges, R: Ledger, W: Wait + Abort>(
+    rt: &W,
+    shared: &Shared<C, R, &W>,
+    desk: &mut Desk<C, R>,
+    place: usize,
+    asked: Asked,
+    told: Told,
+) -> bool {
+    let reply = desk.answer(
+        rt,
+        shared,
+        &asked.request(),
+        moment(rt, 1000),
+        place,
+        &NoGate,
+    );
+    let tells = told_by(&reply);
+    if let Told::Refused(Refusal::Memory, _) = tells {
+        return false;
+    }
+    assert!(rt; tells.is(told), "request {place}");
+    true
 }
 
 // Asks a desk so many of the turns, but none after one that is refused since memory is lacking, and gives how many were
@@ -69,13 +105,9 @@ fn answered_by<C: Charges, R: Ledger, W: Wait + Abort>(
     count: usize,
 ) -> usize {
     for (place, (asked, told)) in TURNS.iter().take(count).enumerate() {
-        let now = moment(rt, 1000);
-        let reply = desk.answer(rt, shared, &asked.request(), now, place, &NoGate);
-        let tells = told_by(&reply);
-        if let Told::Refused(Refusal::Memory, _) = tells {
+        if !is_answered(rt, shared, desk, place, *asked, *told) {
             return place;
         }
-        assert_eq!(rt; &tells, told, "request {place}");
     }
     count
 }
@@ -100,12 +132,7 @@ fn ask_at<C: Charges, R: Ledger, W: Wait + Abort>(
         rt, alloc, settings, 1, charged, released, lines,
     )?;
     let answered = answered_by(rt, &shared, &mut desks[0], count);
-    let heads = [
-        seen_at(rt, &mut desks[0], 1),
-        seen_at(rt, &mut desks[0], 2),
-        seen_at(rt, &mut desks[0], 3),
-        seen_at(rt, &mut desks[0], 4),
-    ];
+    let heads = seen_by(rt, &mut desks[0]);
     let (book, balance) = settle(shared, desks);
     let Balance {
         charged,
@@ -145,7 +172,7 @@ fn ask_after<W: Wait + Abort + Print>(rt: &W, alloc: Global, spent: usize) -> Re
             let is_lacking = outcome.answered < TURNS.len();
             if is_lacking {
                 let ample = ask(rt, alloc, outcome.answered)?;
-                assert_eq!(rt; Ok(outcome), ample);
+                assert!(rt; ample == Ok(outcome), "request {}", outcome.answered);
             }
             is_lacking
         }

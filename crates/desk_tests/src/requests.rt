@@ -33,7 +33,7 @@ pub fn moment(rt: &impl Abort, secs: u64) -> Moment {
 }
 
 /// What a client asks for.
-#[derive(Clone, Copy, Debug)]
+#[derive(Clone, Copy)]
 pub enum Asked {
     /// A creation of an upload of its own for acme, of this length.
     Post(&'static [u8]),
@@ -59,30 +59,13 @@ impl Asked {
     /// The request that asks this.
     pub fn request(self) -> Request<'static> {
         match self {
-            Asked::Post(length) => creation(TusFields {
-                length: Field::One(length),
-                ..fields()
-            }),
+            Asked::Post(length) => creation(Field::One(length), Field::Absent),
             Asked::Upload(length, body) => upload(length, body),
-            Asked::Partial(length) => creation(TusFields {
-                length: Field::One(length),
-                concat: Field::One(b"partial"),
-                ..fields()
-            }),
-            Asked::Join(concat) => creation(TusFields {
-                concat: Field::One(concat),
-                ..fields()
-            }),
-            Asked::Patch(target, offset, body) => patch(target, offset, body),
+            Asked::Partial(length) => creation(Field::One(length), Field::One(b"partial")),
+            Asked::Join(concat) => creation(Field::Absent, Field::One(concat)),
+            Asked::Patch(target, offset, body) => patch(target, offset, Field::Absent, body),
             Asked::Checked(target, offset, checksum, body) => {
-                let unchecked = patch(target, offset, body);
-                Request {
-                    fields: TusFields {
-                        checksum: Field::One(checksum),
-                        ..unchecked.fields
-                    },
-                    ..unchecked
-                }
+                patch(target, offset, Field::One(checksum), body)
             }
             Asked::Head(target) => bare(Method::Head, target),
             Asked::Get(target) => bare(Method::Get, target),
@@ -105,32 +88,44 @@ fn fields() -> TusFields<Field<'static>> {
     }
 }
 
-fn creation(fields: TusFields<Field<'static>>) -> Request<'static> {
+fn creation(length: Field<'static>, concat: Field<'static>) -> Request<'static> {
     Request {
         method: Method::Post,
         path: read_path(b"/files/acme"),
-        fields,
+        fields: TusFields {
+            length,
+            concat,
+            ..fields()
+        },
         body: b"",
     }
 }
 
 fn upload(length: &'static [u8], body: &'static [u8]) -> Request<'static> {
     Request {
-        body,
-        ..creation(TusFields {
+        method: Method::Post,
+        path: read_path(b"/files/acme"),
+        fields: TusFields {
             length: Field::One(length),
             media: Field::One(b"application/offset+octet-stream"),
             ..fields()
-        })
+        },
+        body,
     }
 }
 
-fn patch(target: &[u8], offset: &'static [u8], body: &'static [u8]) -> Request<'static> {
+fn patch(
+    target: &[u8],
+    offset: &'static [u8],
+    checksum: Field<'static>,
+    body: &'static [u8],
+) -> Request<'static> {
     Request {
         method: Method::Patch,
         path: read_path(target),
         fields: TusFields {
             offset: Field::One(offset),
+            checksum,
             media: Field::One(b"application/offset+octet-stream"),
             ..fields()
         },
@@ -156,7 +151,7 @@ pub fn turn(rt: &impl Abort, asked: Asked) -> Turn<'static> {
 }
 
 /// What a desk tells.
-#[derive(Clone, Copy, Debug, PartialEq, Eq)]
+#[derive(Clone, Copy, PartialEq, Eq)]
 pub enum Told<'a> {
     /// An id, the offset if it is told, and when the upload expires.
     Created(u64, Option<u64>, Option<u64>),
@@ -174,8 +169,16 @@ pub enum Told<'a> {
     Options,
 }
 
-fn secs(expires: Option<Moment>) -> Option<u64> {
+/// The second of an expiry.
+pub fn secs(expires: Option<Moment>) -> Option<u64> {
     expires.map(|end| end.secs())
+}
+
+impl<'a> Told<'a> {
+    /// Whether another tells the same, however long either lives.
+    pub fn is(self, other: Told) -> bool {
+        self == other
+    }
 }
 
 fn row(row: &HeadRow) -> Told<'_> {

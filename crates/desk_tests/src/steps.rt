@@ -11,11 +11,11 @@ use std::sync::ledger::{Blank, Ledger};
 use std::test::Fail;
 use std::thread::Threads;
 use tus_shared::{Balance, Charges, Desk, NoGate, Opened, Shared, Turn, settle, work_all};
-use tus_steps::Reply;
-use upload_book::{Name, Numbers, Settings};
+use tus_steps::{Reply, Request};
+use upload_book::{Moment, Name, Numbers, Settings};
 
 /// A call at a desk.
-#[derive(Clone, Copy, Debug)]
+#[derive(Clone, Copy)]
 pub enum Call {
     /// A request, in each of the ways in which a desk answers one.
     Ask(Asked),
@@ -25,7 +25,7 @@ pub enum Call {
 }
 
 /// A call at a desk at a moment, what it tells, and what is settled after it.
-#[derive(Clone, Copy, Debug)]
+#[derive(Clone, Copy)]
 pub struct Step {
     pub desk: usize,
     pub secs: u64,
@@ -58,7 +58,7 @@ enum Way {
     Batch,
 }
 
-// The reply of one of two desks to a turn.
+// The reply of one of two desks to a request at a moment.
 fn reply_to<C: Charges + Send + Sync, R: Ledger + Send + Sync, W: Threads + Wait + Abort + Sync>(
     rt: &W,
     alloc: Global,
@@ -66,33 +66,69 @@ fn reply_to<C: Charges + Send + Sync, R: Ledger + Send + Sync, W: Threads + Wait
     desks: &mut Vec<Desk<C, R>>,
     desk: usize,
     way: Way,
-    turn: Turn,
-) -> Result<Reply, Fail>
+    request: Request,
+    now: Moment,
+) -> Reply
     requires two { vec_len desks.old ≡ 2 }
     requires desk { desk < 2 }
     ensures { vec_len desks.new ≡ 2 }
 {
     match way {
-        Way::Call => Ok(desks[desk].call(rt, shared, &turn.request, turn.now)),
-        Way::Answer => Ok(desks[desk].answer(rt, shared, &turn.request, turn.now, 0, &NoGate)),
+        Way::Call => desks[desk].call(rt, shared, &request, now),
+        Way::Answer => desks[desk].answer(rt, shared, &request, now, 0, &NoGate),
         Way::Batch => {
-            let none: [Turn; 0] = [];
-            let batch = [turn];
-            let batches = if desk == 0 {
-                [&batch[..], &none[..]]
-            } else {
-                [&none[..], &batch[..]]
-            };
-            let mut replies = work_all(rt, alloc, shared, desks, &batches, &NoGate)?;
-            let told = replies.get_mut(desk).expect(rt, "a list");
-            Ok(told.pop().expect(rt, "a reply"))
+            let batch = [Turn { request, now }];
+            reply_in_batch(rt, alloc, shared, desks, desk, &batch)
         }
     }
 }
 
+// The reply of one of two desks to a batch of one turn, beside a batch of none at the other.
+fn reply_in_batch<
+    C: Charges + Send + Sync,
+    R: Ledger + Send + Sync,
+    W: Threads + Wait + Abort + Sync,
+>(
+    rt: &W,
+    alloc: Global,
+    shared: &Shared<C, R, &W>,
+    desks: &mut Vec<Desk<C, R>>,
+    desk: usize,
+    batch: &[Turn],
+) -> Reply
+    requires { vec_len desks.old ≡ 2 }
+    ensures { vec_len desks.new ≡ 2 }
+{
+    let none: [Turn; 0] = [];
+    let batches = if desk == 0 {
+        [&batch[..], &none[..]]
+    } else {
+        [&none[..], &batch[..]]
+    };
+    let replies = work_all(rt, alloc, shared, desks, &batches, &NoGate);
+    only_reply(rt, replies.expect(rt, "room for the replies"), desk)
+}
+
+// The one reply at a desk.
+fn only_reply(rt: &impl Abort, mut replies: Vec<Vec<Reply>>, desk: usize) -> Reply {
+    let told = replies.get_mut(desk).expect(rt, "a list");
+    told.pop().expect(rt, "a reply")
+}
+
 // What a desk tells is what the step at a place says, by each way in which it is asked.
 fn assert_tells(rt: &impl Abort, told: Told, expected: Told, place: usize, way: Way) {
-    assert_eq!(rt; told, expected, "step {place}, by {way:?}");
+    assert!(rt; told == expected, "step {place}, by {way:?}");
+}
+
+// What a desk's sweep tells.
+fn swept_by<C: Charges, R: Ledger, W: Wait + Abort>(
+    rt: &W,
+    shared: &Shared<C, R, &W>,
+    desk: &mut Desk<C, R>,
+    now: Moment,
+) -> Told<'static> {
+    let swept = desk.sweep(rt, shared, now).expect(rt, "a sweep");
+    Told::Swept(swept.uploads, swept.blocks, swept.released)
 }
 
 // Takes two desks through one step.
@@ -104,37 +140,28 @@ fn take<C: Charges + Send + Sync, R: Ledger + Send + Sync, W: Threads + Wait + A
     way: Way,
     place: usize,
     step: &Step,
-) -> Result<(), Fail>
+)
     requires { vec_len desks.old ≡ 2 }
     ensures { vec_len desks.new ≡ 2 }
 {
-    let Step {
-        desk,
-        secs,
-        call,
-        told,
-        settled: _,
-    } = *step;
+    let desk = step.desk;
     assert!(rt; desk < desks.len(), "a desk");
-    let now = moment(rt, secs);
-    match call {
+    let now = moment(rt, step.secs);
+    match step.call {
         Call::Ask(asked) => {
             let request = asked.request();
-            let turn = Turn { request, now };
-            let reply = reply_to(rt, alloc, shared, desks, desk, way, turn)?;
-            assert_tells(rt, told_by(&reply), told, place, way);
+            let reply = reply_to(rt, alloc, shared, desks, desk, way, request, now);
+            assert_tells(rt, told_by(&reply), step.told, place, way);
         }
         Call::Look(tenant, id) => {
             let answer = desks[desk].head(&Name { tenant, id }, now);
-            assert_tells(rt, told_of(&answer), told, place, way);
+            assert_tells(rt, told_of(&answer), step.told, place, way);
         }
         Call::Sweep => {
-            let swept = desks[desk].sweep(rt, shared, now)?;
-            let ended = Told::Swept(swept.uploads, swept.blocks, swept.released);
-            assert_tells(rt, ended, told, place, way);
+            let swept = swept_by(rt, shared, &mut desks[desk], now);
+            assert_tells(rt, swept, step.told, place, way);
         }
     }
-    Ok(())
 }
 
 // Takes two new desks through these steps, and settles them.
@@ -162,7 +189,7 @@ fn settle_after<
         rt, alloc, settings, 2, charged, released, lines,
     )?;
     for (place, step) in steps.iter().enumerate() {
-        take(rt, alloc, &shared, &mut desks, way, place, step)?;
+        take(rt, alloc, &shared, &mut desks, way, place, step);
     }
     let (book, balance) = settle(shared, desks);
     let Balance {
@@ -202,7 +229,7 @@ pub fn run_with<W: Threads + Wait + Abort + Sync>(
                 way,
                 &steps[..place + 1],
             )?;
-            assert_eq!(rt; settled, step.settled, "after step {place}, by {way:?}");
+            assert!(rt; settled == step.settled, "after step {place}, by {way:?}");
         }
     }
     Ok(())

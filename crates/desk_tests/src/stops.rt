@@ -3,8 +3,8 @@
 
 ghost use Rattle.std.specs.Prelude.{◌≡◌, vec_len};
 
-use crate::batches::{assert_told, wait_for};
-use crate::requests::Asked::{Patch, Post};
+use crate::batches::{assert_told, create, wait_for};
+use crate::requests::Asked::Patch;
 use crate::requests::{Told, moment, settings, turn};
 use std::alloc::Global;
 use std::marker::Brand;
@@ -16,7 +16,8 @@ use std::test::Fail;
 use std::thread;
 use std::thread::Threads;
 use tus_shared::{Charges, Desk, Gate, Opened, Shared, Stop, settle, work_all};
-use upload_book::{Name, Settings};
+use tus_steps::Reply;
+use upload_book::{Book, Name, Settings};
 
 // Notes the stops of two desks, a digit each: 1, 2 and 3 in a desk's first turn, 4, 5 and 6 in its second. Desk 1
 // waits until the other has the lock. That one then gives it time to come to the lock too, notes if it got it, and
@@ -30,6 +31,15 @@ struct Notes {
 }
 
 impl Notes {
+    fn new() -> Notes {
+        Notes {
+            first: AtomicU64::new(0),
+            second: AtomicU64::new(0),
+            intruded: AtomicU64::new(0),
+            missed: AtomicU64::new(0),
+        }
+    }
+
     fn note(&self, desk: usize, digit: u64) {
         let word = if desk == 0 { &self.first } else { &self.second };
         let noted = word.load(Ordering::SeqCst);
@@ -67,6 +77,23 @@ impl Gate for Notes {
     }
 }
 
+// One desk passed the three stops of its turn, and the other those of both of its turns, each in order; no desk had the
+// lock beside the other, and none was missed.
+fn assert_noted(rt: &impl Abort, notes: &Notes) {
+    assert!(rt; notes.first.load(Ordering::SeqCst) == 123);
+    assert!(rt; notes.second.load(Ordering::SeqCst) == 123456);
+    assert!(rt; notes.intruded.load(Ordering::SeqCst) == 0);
+    assert!(rt; notes.missed.load(Ordering::SeqCst) == 0);
+}
+
+// The first desk's batch begins the upload, and the second's ends it.
+fn assert_replies(rt: &impl Abort, replies: &[Vec<Reply>]) {
+    let begun = Told::Patched(5, Some(4600));
+    let grown = Told::Patched(8, Some(4600));
+    assert_told(rt, replies.get(0), &[begun]);
+    assert_told(rt, replies.get(1), &[grown, Told::Patched(10, None)]);
+}
+
 // Both desks answer batches at once, of one turn and of two, which fill a new upload at this path. The stops are noted
 // by the number of the desk, so a batch that comes to another desk than the one in its place is seen.
 fn fill<C: Charges + Send + Sync, R: Ledger + Send + Sync, W: Threads + Wait + Abort + Sync>(
@@ -75,33 +102,31 @@ fn fill<C: Charges + Send + Sync, R: Ledger + Send + Sync, W: Threads + Wait + A
     shared: &Shared<C, R, &W>,
     desks: &mut Vec<Desk<C, R>>,
     path: &'static [u8],
-) -> Result<(), Fail>
+)
     requires { vec_len desks.old ≡ 2 }
     ensures { vec_len desks.new ≡ 2 }
 {
-    let created = turn(rt, Post(b"10"));
-    let _ = desks[1].call(rt, shared, &created.request, created.now);
-    let notes = Notes {
-        first: AtomicU64::new(0),
-        second: AtomicU64::new(0),
-        intruded: AtomicU64::new(0),
-        missed: AtomicU64::new(0),
-    };
+    create(rt, shared, &mut desks[1], b"10");
+    let notes = Notes::new();
     let first = [turn(rt, Patch(path, b"0", b"hello"))];
     let second = [
         turn(rt, Patch(path, b"5", b"wor")),
         turn(rt, Patch(path, b"8", b"ld")),
     ];
     let batches = [&first[..], &second[..]];
-    let replies = work_all(rt, alloc, shared, desks, &batches, &notes)?;
-    assert_told(rt, replies.get(0), &[Told::Patched(5, Some(4600))]);
-    let grown = Told::Patched(8, Some(4600));
-    assert_told(rt, replies.get(1), &[grown, Told::Patched(10, None)]);
-    assert_eq!(rt; notes.first.load(Ordering::SeqCst), 123);
-    assert_eq!(rt; notes.second.load(Ordering::SeqCst), 123456);
-    assert_eq!(rt; notes.intruded.load(Ordering::SeqCst), 0);
-    assert_eq!(rt; notes.missed.load(Ordering::SeqCst), 0);
-    Ok(())
+    let replies = work_all(rt, alloc, shared, desks, &batches, &notes);
+    assert_replies(rt, &replies.expect(rt, "room for the replies"));
+    assert_noted(rt, &notes);
+}
+
+// The book has all bytes of an upload of acme.
+fn assert_full(rt: &impl Abort, book: &Book, id: u64) {
+    let content = book.content(&Name { tenant: 0, id }, moment(rt, 1000));
+    let content = content.expect(rt, "a content");
+    assert!(rt;
+        content.as_slice() == b"helloworld".as_slice(),
+        "upload {id}"
+    );
 }
 
 // Two desks fill an upload, and once more, as they came back from the first batches, another one.
@@ -122,13 +147,11 @@ fn note_stops<C: Charges + Send + Sync, R: Ledger + Send + Sync, W: Threads + Wa
     let (shared, mut desks) = Shared::<C, R, &W>::open(
         rt, alloc, settings, 2, charged, released, lines,
     )?;
-    fill(rt, alloc, &shared, &mut desks, b"/files/acme/1")?;
-    fill(rt, alloc, &shared, &mut desks, b"/files/acme/2")?;
+    fill(rt, alloc, &shared, &mut desks, b"/files/acme/1");
+    fill(rt, alloc, &shared, &mut desks, b"/files/acme/2");
     let (book, _) = settle(shared, desks);
-    for id in [1, 2] {
-        let content = book.content(&Name { tenant: 0, id }, moment(rt, 1000))?;
-        assert!(rt; content.as_slice() == b"helloworld".as_slice());
-    }
+    assert_full(rt, &book, 1);
+    assert_full(rt, &book, 2);
     Ok(())
 }
 

@@ -48,18 +48,21 @@ pub fn row(offset: u64, metadata: &'static [u8; 6], expires: Option<Moment>) -> 
 /// Asserts the offset and the metadata that are told of an upload at a moment, or why none are.
 pub fn assert_shown(
     rt: &impl Abort,
-    told: Result<HeadRow, Refusal>,
+    told: &Result<HeadRow, Refusal>,
     expected: Result<(u64, &[u8]), Refusal>,
 ) {
     match (told, expected) {
-        (Ok(told), Ok((offset, metadata))) => {
-            assert_eq!(rt; told.offset, offset);
-            assert_eq!(rt; told.declared, Some(10));
-            assert!(rt; told.metadata.as_slice() == metadata);
-        }
-        (Err(told), Err(refusal)) => assert_eq!(rt; told, refusal),
+        (Ok(row), Ok((offset, metadata))) => assert_row(rt, row, offset, metadata),
+        (Err(told), Err(refusal)) => assert!(rt; *told == refusal),
         _ => assert!(rt; false, "a row, or none"),
     }
+}
+
+// A row of so many bytes of ten has this metadata.
+fn assert_row(rt: &impl Abort, row: &HeadRow, offset: u64, metadata: &[u8]) {
+    assert!(rt; row.offset == offset);
+    assert!(rt; row.declared == Some(10));
+    assert!(rt; row.metadata.as_slice() == metadata);
 }
 
 // The tenant and the id of an upload.
@@ -102,7 +105,7 @@ fn assert_shows(
     secs: u64,
     expected: Result<(u64, &[u8]), Refusal>,
 ) {
-    assert_shown(rt, table.look(&name, moment(rt, secs)), expected);
+    assert_shown(rt, &table.look(&name, moment(rt, secs)), expected);
 }
 
 // Applies a line to a table, which then has what was charged after it.
@@ -152,30 +155,43 @@ fn narrow(uploads: u64, last_id: u64) -> Result<Settings, Fail> {
     Ok(Settings::new(numbers, &[(b"acme", 8)])?)
 }
 
+// A new upload of acme has so many bytes, and so many blocks were charged.
+fn put(table: &mut Table, id: u64, metadata: &'static [u8; 6]) {
+    table.apply(&line(Put(name(0, id), row(id, metadata, None)), id));
+}
+
+// Of three new uploads a table has room for two: after the third it is as after the second.
+fn assert_two_fit(rt: &impl Abort, table: &mut Table) {
+    put(table, 1, b"key QQ");
+    put(table, 2, b"key Qg");
+    put(table, 3, b"key Qw");
+    assert_shows(rt, table, name(0, 3), 1000, Err(Refusal::Unknown));
+    assert_shows(rt, table, name(0, 2), 1000, Ok((2, b"key Qg")));
+    assert!(rt; table.accounts().charged == 2);
+}
+
 #[test]
 fn a_line_without_room_changes_nothing(rt: HostRuntime) -> Result<(), Fail> {
-    let now = moment(&rt, 1000);
-    for (uploads, last_id) in [(2, 9), (9, 2)] {
-        let mut table = Table::new(rt.alloc(), &narrow(uploads, last_id)?)?;
-        table.apply(&line(Put(name(0, 1), row(1, b"key QQ", None)), 1));
-        table.apply(&line(Put(name(0, 2), row(2, b"key Qg", None)), 2));
-        table.apply(&line(Put(name(0, 3), row(3, b"key Qw", None)), 3));
-        assert_shown(&rt, table.look(&name(0, 3), now), Err(Refusal::Unknown));
-        assert_shown(&rt, table.look(&name(0, 2), now), Ok((2, b"key Qg")));
-        assert_eq!(rt; table.accounts().charged, 2);
-    }
+    let mut table = Table::new(rt.alloc(), &narrow(2, 9)?)?;
+    assert_two_fit(&rt, &mut table);
+    let mut table = Table::new(rt.alloc(), &narrow(9, 2)?)?;
+    assert_two_fit(&rt, &mut table);
     Ok(())
+}
+
+// A new upload of acme is shown, and is gone once it ends.
+fn put_and_end(rt: &impl Abort, table: &mut Table, id: u64) {
+    put(table, id, b"key QQ");
+    assert_shows(rt, table, name(0, id), 1000, Ok((id, b"key QQ")));
+    table.apply(&line(Gone(name(0, id)), id));
+    assert_shows(rt, table, name(0, id), 1000, Err(Refusal::Gone));
 }
 
 #[test]
 fn a_box_serves_the_next_upload(rt: HostRuntime) -> Result<(), Fail> {
-    let now = moment(&rt, 1000);
     let mut table = Table::new(rt.alloc(), &narrow(1, 9)?)?;
     for id in 1..6 {
-        table.apply(&line(Put(name(0, id), row(id, b"key QQ", None)), id));
-        assert_shown(&rt, table.look(&name(0, id), now), Ok((id, b"key QQ")));
-        table.apply(&line(Gone(name(0, id)), id));
-        assert_shown(&rt, table.look(&name(0, id), now), Err(Refusal::Gone));
+        put_and_end(&rt, &mut table, id);
     }
     Ok(())
 }
