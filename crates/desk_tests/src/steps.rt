@@ -115,20 +115,63 @@ fn only_reply(rt: &impl Abort, mut replies: Vec<Vec<Reply>>, desk: usize) -> Rep
     told.pop().expect(rt, "a reply")
 }
 
-// What a desk tells is what the step at a place says, by each way in which it is asked.
-fn assert_tells(rt: &impl Abort, told: Told, expected: Told, place: usize, way: Way) {
+// Where a step stands: its place in the table, and the way in which its request is asked.
+#[derive(Clone, Copy)]
+struct At {
+    place: usize,
+    way: Way,
+}
+
+// What a desk tells is what the step here says, by each way in which it is asked.
+fn assert_tells(rt: &impl Abort, told: Told, expected: Told, at: At) {
+    let At { place, way } = at;
     assert!(rt; told == expected, "step {place}, by {way:?}");
 }
 
-// What a desk's sweep tells.
-fn swept_by<C: Charges, R: Ledger, W: Wait + Abort>(
+// The reply of one of two desks to a request tells what the step says.
+fn ask<C: Charges + Send + Sync, R: Ledger + Send + Sync, W: Threads + Wait + Abort + Sync>(
+    rt: &W,
+    alloc: Global,
+    shared: &Shared<C, R, &W>,
+    desks: &mut Vec<Desk<C, R>>,
+    desk: usize,
+    asked: Asked,
+    step: &Step,
+    at: At,
+)
+    requires two { vec_len desks.old ≡ 2 }
+    requires desk { desk < 2 }
+    ensures { vec_len desks.new ≡ 2 }
+{
+    let (request, now) = (asked.request(), moment(rt, step.secs));
+    let reply = reply_to(rt, alloc, shared, desks, desk, at.way, request, now);
+    assert_tells(rt, told_by(&reply), step.told, at);
+}
+
+// A desk's HEAD of an upload tells what the step says.
+fn look<C: Charges, R: Ledger>(
+    rt: &impl Abort,
+    desk: &mut Desk<C, R>,
+    name: &Name,
+    step: &Step,
+    at: At,
+) {
+    let answer = desk.head(name, moment(rt, step.secs));
+    assert_tells(rt, told_of(&answer), step.told, at);
+}
+
+// A sweep at a desk tells what the step says.
+fn sweep<C: Charges, R: Ledger, W: Wait + Abort>(
     rt: &W,
     shared: &Shared<C, R, &W>,
     desk: &mut Desk<C, R>,
-    now: Moment,
-) -> Told<'static> {
-    let swept = desk.sweep(rt, shared, now).expect(rt, "a sweep");
-    Told::Swept(swept.uploads, swept.blocks, swept.released)
+    step: &Step,
+    at: At,
+) {
+    let swept = desk.sweep(rt, shared, moment(rt, step.secs));
+    let swept = swept.expect(rt, "a sweep");
+    let told = Told::Swept(swept.uploads, swept.blocks, swept.released);
+    assert_tells(rt, told, step.told, at);
 }
 
 // Takes two desks through one step.
@@ -137,30 +180,18 @@ fn take<C: Charges + Send + Sync, R: Ledger + Send + Sync, W: Threads + Wait + A
     alloc: Global,
     shared: &Shared<C, R, &W>,
     desks: &mut Vec<Desk<C, R>>,
-    way: Way,
-    place: usize,
     step: &Step,
+    at: At,
 )
     requires { vec_len desks.old ≡ 2 }
     ensures { vec_len desks.new ≡ 2 }
 {
     let desk = step.desk;
     assert!(rt; desk < desks.len(), "a desk");
-    let now = moment(rt, step.secs);
     match step.call {
-        Call::Ask(asked) => {
-            let request = asked.request();
-            let reply = reply_to(rt, alloc, shared, desks, desk, way, request, now);
-            assert_tells(rt, told_by(&reply), step.told, place, way);
-        }
-        Call::Look(tenant, id) => {
-            let answer = desks[desk].head(&Name { tenant, id }, now);
-            assert_tells(rt, told_of(&answer), step.told, place, way);
-        }
-        Call::Sweep => {
-            let swept = swept_by(rt, shared, &mut desks[desk], now);
-            assert_tells(rt, swept, step.told, place, way);
-        }
+        Call::Ask(asked) => ask(rt, alloc, shared, desks, desk, asked, step, at),
+        Call::Look(tenant, id) => look(rt, &mut desks[desk], &Name { tenant, id }, step, at),
+        Call::Sweep => sweep(rt, shared, &mut desks[desk], step, at),
     }
 }
 
@@ -189,7 +220,7 @@ fn settle_after<
         rt, alloc, settings, 2, charged, released, lines,
     )?;
     for (place, step) in steps.iter().enumerate() {
-        take(rt, alloc, &shared, &mut desks, way, place, step);
+        take(rt, alloc, &shared, &mut desks, step, At { place, way });
     }
     let (book, balance) = settle(shared, desks);
     let Balance {
