@@ -187,10 +187,12 @@ static TWO_IDS: [Step; 4] = steps! {
     1000 ACME Post(Some(1)) => Refused(Refusal::Spent), [0, 0, 12, 0, 0];
 };
 
-// An expired upload counts until a sweep ends it, and one that was ended does not.
-static ONE_UPLOAD: [Step; 6] = steps! {
+// An expired upload counts until a sweep ends it, and one that was ended does not. Damaged bytes are told as such first.
+static ONE_UPLOAD: [Step; 8] = steps! {
     1000 ACME Post(Some(1)) => Created(1, Some(4600)), [0, 0, 12, 0, 0];
     4600 ACME Post(Some(1)) => Refused(Refusal::Uploads), [0, 0, 12, 0, 0];
+    4600 ACME PostChecked(Some(5), Checksum::Other, b"hello") => Refused(Refusal::Algorithm), [0, 0, 12, 0, 0];
+    4600 ACME PostChecked(Some(5), HELLO, b"hellp") => Refused(Refusal::Mismatch), [0, 0, 12, 0, 0];
     4600 ACME Sweep => Swept(1, 0, 0), [0, 0, 12, 0, 0];
     4600 ACME Post(Some(1)) => Created(2, Some(8200)), [0, 0, 12, 0, 0];
     4600 ACME Delete(2) => Removed(0, 0), [0, 0, 12, 0, 0];

@@ -120,9 +120,11 @@ fn heads_beside_the_lock(rt: HostRuntime) -> Result<(), Fail> {
     run(&rt, rt.alloc(), &HEADS_BESIDE_THE_LOCK)
 }
 
-// HEADs that are refused by their path, before any upload is looked at; the id of an upload that ended is not given again.
-static HEADS_OF_NO_UPLOAD: [Step; 8] = steps! {
+// HEADs that are refused by their path, before any upload is looked at, and of an id that a neighbour has; the id of an
+// upload that ended is not given again.
+static HEADS_OF_NO_UPLOAD: [Step; 9] = steps! {
     0 1000 Ask(Post(b"10")) => Created(1, None, Some(4600)), [0, 0, 0, 12];
+    0 1000 Look(1, 1) => Refused(Refusal::Unknown, None), [0, 0, 0, 12];
     1 1000 Ask(Delete(FIRST)) => Deleted, [0, 0, 0, 12];
     0 1000 Ask(Head(FIRST)) => Refused(Refusal::Gone, None), [0, 0, 0, 12];
     0 1000 Ask(Head(b"/files/acme/9")) => Refused(Refusal::Unknown, None), [0, 0, 0, 12];

@@ -26,8 +26,8 @@ fn check_run(rt: &impl Abort, alloc: Global, book: &mut Book, rows: &[Row]) -> R
 // The replies tell what the rows say, one after another.
 fn assert_told(rt: &impl Abort, replies: &[Reply], rows: &[Row]) {
     assert!(rt; replies.len() == rows.len());
-    for (reply, row) in replies.iter().zip(rows) {
-        assert!(rt; told_by(reply) == row.told);
+    for (place, (reply, row)) in replies.iter().zip(rows).enumerate() {
+        assert!(rt; told_by(reply) == row.told, "row {place}");
     }
 }
 
@@ -65,7 +65,7 @@ fn run_again<W: Abort + Print>(rt: &W, alloc: Global, book: &mut Book) -> Result
 }
 
 /// `rt try --test --fail-alloc 9 -- lacking_memory_runs_nothing` refuses the first allocation after those of the book:
-/// that of the room for replies. It prints that, and the book is as it was.
+/// that of the room for replies, since a run of no requests takes none. It prints that, and the book is as it was.
 #[test]
 fn lacking_memory_runs_nothing(rt: HostRuntime) -> Result<(), Fail> {
     let one_upload = Numbers {
@@ -76,6 +76,7 @@ fn lacking_memory_runs_nothing(rt: HostRuntime) -> Result<(), Fail> {
     let Ok(mut book) = Book::new(rt.alloc(), settings) else {
         return Ok(());
     };
+    check_run(&rt, rt.alloc(), &mut book, &[])?;
     run_again(&rt, rt.alloc(), &mut book)
 }
 

@@ -253,8 +253,16 @@ fn buffers_pass_on(rt: HostRuntime) {
     let reader = Tapped::new(Input::new(POST, usize::MAX));
     let mut wire = Wire::over(buffers, reader, Tapped::new(Output::new(alloc)), 64);
     let mut book = new_book(&rt, alloc);
-    assert_turn(&rt, "the next connection", &mut wire, &mut book, Ok(None));
-    assert_end(&rt, "its end", &mut wire, Ok(true));
+    let ended = Ok(Ended::Input);
+    assert_served(
+        &rt,
+        "the next connection",
+        &mut wire,
+        &mut book,
+        &mut at(1000),
+        2,
+        ended,
+    );
     assert_written(&rt, wire, CREATED);
 }
 
