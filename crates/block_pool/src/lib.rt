@@ -9,6 +9,3 @@ mod pool;
 pub use block_id::BlockId;
 pub use laws::blocks_in_use;
 pub use pool::{BLOCK_SIZE_MAX, BLOCKS_MAX, POOL_BYTES_MAX, Pool};
-
-#[cfg(test)]
-mod tests;

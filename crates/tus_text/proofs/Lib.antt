@@ -5,12 +5,5 @@ pub mod DistinctLemmas
 pub mod MetadataLemmas
 pub mod NumberLemmas
 pub mod PathLemmas
-pub mod PlainConcatLemmas
-pub mod PlainCutLemmas
-pub mod PlainDateLemmas
-pub mod PlainGroupLemmas
-pub mod PlainLemmas
-pub mod PlainMetadataLemmas
-pub mod PlainValueLemmas
 pub mod PositionLemmas
 pub mod WorkedRows

@@ -36,13 +36,6 @@ number_of-some text n is =
     let numeral = and_parts _ _ tests.0 in
     record { some = ltb-true _ _ numeral.0; digits = numeral.1; fits = ltb-true _ _ tests.1 }
 
-pub number_of-none : (text : List ℕ) → (IsNumber text → ⊥) → number_of text ≡ None
-unfolding number_of
-number_of-none text never =
-    let not_one : 0 < length text → all_ascii_digits text ≡ true → digits_value 10 text < 2 ^ 64 → ⊥
-    = λ some digits fits. never (record { some = some; digits = digits; fits = fits }) in
-    grind (arith, nat_tests)
-
 pub number_of-other_byte : (text : List ℕ) (i : ℕ) → i < length text → (IsInRange 48 57 (get_or text i 0) → ⊥) → number_of text ≡ None
 unfolding number_of
 number_of-other_byte text i within other =

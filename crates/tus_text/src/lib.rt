@@ -9,11 +9,7 @@ mod date;
 mod metadata;
 mod number;
 mod path;
-#[cfg(test)]
-mod plain;
 mod tenant;
-#[cfg(test)]
-mod tests;
 mod text;
 
 pub use checksum::{Checksum, DIGEST_LEN, read_checksum};

@@ -1,0 +1,7 @@
+mod PlainConcatLemmas
+mod PlainCutLemmas
+mod PlainDateLemmas
+mod PlainGroupLemmas
+mod PlainLemmas
+mod PlainMetadataLemmas
+mod PlainValueLemmas

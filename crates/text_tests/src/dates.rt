@@ -1,0 +1,48 @@
+//! Dates: as they are written, as the plain program writes them, and as they are read.
+use crate::plain::plain_expires;
+use std::process::Abort;
+use tus_text::{read_expires, write_expires};
+
+static DATES: [(u64, &[u8]); 4] = [
+    (1000, b"Thu, 01 Jan 1970 00:16:40 GMT"),
+    (4600, b"Thu, 01 Jan 1970 01:16:40 GMT"),
+    (784_111_777, b"Sun, 06 Nov 1994 08:49:37 GMT"),
+    (253_402_300_799, b"Fri, 31 Dec 9999 23:59:59 GMT"),
+];
+
+fn assert_read(rt: &impl Abort, text: &[u8], secs: Option<u64>, row: usize) {
+    assert!(rt; read_expires(text) == secs, "row {row}");
+}
+
+fn assert_written(rt: &impl Abort, secs: u64, text: &[u8], row: usize) {
+    assert!(rt; secs <= 253_402_300_799);
+    assert!(rt; write_expires(secs).as_slice() == text, "row {row}");
+    assert!(rt; plain_expires(secs).as_slice() == text, "row {row}");
+}
+
+#[test]
+fn dates(rt: HostRuntime) {
+    for (row, (secs, text)) in DATES.iter().enumerate() {
+        assert_written(&rt, *secs, text, row);
+        assert_read(&rt, text, Some(*secs), row);
+    }
+}
+
+static OTHER_FORMATS: [(&[u8], Option<u64>); 9] = [
+    (b"Sunday, 06-Nov-94 08:49:37 GMT", Some(784_111_777)),
+    (b"Sun Nov  6 08:49:37 1994", Some(784_111_777)),
+    (b"", None),
+    (b"1000", None),
+    (b"Sun, 06 Nov 1994 08:49:37 GMT ", None),
+    (b"Mon, 06 Nov 1994 08:49:37 GMT", None),
+    (b"Thu, 30 Feb 1995 08:49:37 GMT", None),
+    (b"Wed, 31 Dec 1969 23:59:59 GMT", None),
+    (b"Sat, 01 Jan 10000 00:00:00 GMT", None),
+];
+
+#[test]
+fn dates_of_other_formats(rt: HostRuntime) {
+    for (row, (text, secs)) in OTHER_FORMATS.iter().enumerate() {
+        assert_read(&rt, text, *secs, row);
+    }
+}

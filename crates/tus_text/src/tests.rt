@@ -1,8 +1,0 @@
-mod checksum;
-mod concat;
-mod date;
-mod limits;
-mod metadata;
-mod number;
-mod path;
-mod tenant;
