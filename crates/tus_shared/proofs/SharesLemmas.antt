@@ -21,12 +21,6 @@ IsLeft-next {D = D} amount_of from worth all left rest d from_now worth_now from
       amount = omega (arith, sum, amount, i.amount);
     }
 
--- of sixteen parts the desks below a number were given one each, and nothing is counted
-pub record IsHandedOut (number sum left worth : ℕ) : Type 0 where
-  pub parts : left + number ≡ 16
-  pub amount : worth ≡ 0
-  pub total : sum ≡ 0
-
 -- the desks with one more that has made no step
 pub new_desks-next : (n : ℕ) (desks more : List Desk) (charged released : ℕ) (told : List BoardLine)
     → more ≡ desks ++ record { number = n; charged = charged; released = released; told = told } ∷ [] → desks ≡ new_desks n → charged ≡ 0 → released ≡ 0 → told ≡ [] → more ≡ new_desks (n + 1)

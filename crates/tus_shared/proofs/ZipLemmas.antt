@@ -57,3 +57,12 @@ AllFour-long P (x ∷ xs) [] zs ws all = absurd all
 AllFour-long P (x ∷ xs) (y ∷ ys) [] ws all = absurd all
 AllFour-long P (x ∷ xs) (y ∷ ys) (z ∷ zs) [] all = absurd all
 AllFour-long P (x ∷ xs) (y ∷ ys) (z ∷ zs) (w ∷ ws) all = let rest = AllFour-long P xs ys zs ws all.1 in (ap suc rest.0, ap suc rest.1)
+
+-- four lists with no element
+pub AllFour-none : {A B C D : Type 0} (P : A → B → C → D → Type 0) (xs : List A) (ys : List B) (zs : List C) (ws : List D) → length xs ≡ 0 → length ys ≡ 0 → length zs ≡ 0 → length ws ≡ 0
+    → AllFour P xs ys zs ws
+AllFour-none P [] [] [] [] x y z w = tt
+AllFour-none P (v ∷ xs) ys zs ws x y z w = absurd (cc)
+AllFour-none P [] (v ∷ ys) zs ws x y z w = absurd (cc)
+AllFour-none P [] [] (v ∷ zs) ws x y z w = absurd (cc)
+AllFour-none P [] [] [] (v ∷ ws) x y z w = absurd (cc)

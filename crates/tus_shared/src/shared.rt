@@ -1,5 +1,6 @@
-ghost use Rattle.std.specs.Prelude.{◌≡◌, ◌↔◌, Err, IfOk, IsTrue};
+ghost use Rattle.std.specs.Prelude.{◌≡◌, ◌<◌, ◌≤◌, ◌↔◌, [], Err, IfOk, IsTrue};
 ghost use Rattle.tus_shared.specs.Desk.{new_desks};
+ghost use Rattle.tus_shared.specs.Store.{IsCounted};
 ghost use Rattle.upload_book.specs.Settings.{is_outside};
 
 use crate::board::Board;
@@ -55,32 +56,101 @@ impl<C: Charges, R: Ledger, B: Wait + Drop> Shared<C, R, B> {
         let Ok(book) = Book::new(alloc, settings.copied()) else {
             return Err(OpenFault::Memory);
         };
-        let Ok(mut board) = Board::new(alloc, rt, &settings, desks, opened) else {
-            return Err(OpenFault::Board);
-        };
-        let Ok(mut opened) = Vec::with_capacity(alloc, desks) else {
-            return Err(OpenFault::Memory);
-        };
         let mut charged = Column::open(charged);
         let mut released = Column::open(released);
-        for number in 0..desks {
-            let Ok(window) = board.window() else {
-                return Err(OpenFault::Board);
-            };
-            opened.push_reserved(Desk {
-                settings: settings.copied(),
-                number,
-                charged: charged.part(),
-                released: released.part(),
-                window,
-            });
-        }
+        let opened = open_board(
+            rt,
+            alloc,
+            &settings,
+            desks,
+            opened,
+            &mut charged,
+            &mut released,
+        );
+        let (board, desks) = match opened {
+            Ok(opened) => opened,
+            Err(fault) => {
+                // one call, so that the code that drops its parts is proved by itself
+                drop(book);
+                return Err(fault);
+            }
+        };
         let store = Mutex::new(Store {
             book,
             board,
             charged,
             released,
         });
-        Ok((Shared { store }, opened))
+        Ok((Shared { store }, desks))
     }
+}
+
+// The board of a new store, and so many desks, each with a part of both ledgers and a window on that board.
+fn open_board<C: Charges, R: Ledger, B: Wait + Drop>(
+    rt: B,
+    alloc: Global,
+    settings: &Settings,
+    count: usize,
+    opened: Opened,
+    charged: &mut Column<C>,
+    released: &mut Column<R>,
+) -> Result<(Board<B>, Vec<Desk<C, R>>), OpenFault>
+    requires count { (0 < count) × (count ≤ 16) }
+    requires settings { settings.now ≡ C.settings }
+    requires log { opened.front.book ≡ C.log }
+    requires charged { IsCounted 0 0 (record { total = charged.old.book.total; parts = charged.old.rest.parts; rest = charged.old.rest.amount }) }
+    requires released { IsCounted 0 0 (record { total = released.old.book.total; parts = released.old.rest.parts; rest = released.old.rest.amount }) }
+    ensures board { IfOk result (λ opened. opened.0 ≡ record { settings = C.settings; log = C.log; lines = [] }) }
+    ensures desks { IfOk result (λ opened. opened.1.items ≡ new_desks count) }
+    ensures charged { IfOk result (λ opened. IsCounted count 0
+        (record { total = charged.new.book.total; parts = charged.new.rest.parts; rest = charged.new.rest.amount })) }
+    ensures released { IfOk result (λ opened. IsCounted count 0
+        (record { total = released.new.book.total; parts = released.new.rest.parts; rest = released.new.rest.amount })) }
+    ensures fault { result ≡ Err OpenFault.Desks → ⊥ }
+{
+    let Ok(mut board) = Board::new(alloc, rt, settings, count, opened) else {
+        return Err(OpenFault::Board);
+    };
+    let desks = open_desks(alloc, settings, count, &mut board, charged, released)?;
+    Ok((board, desks))
+}
+
+// So many desks of a new store, each with a part of both ledgers and a window on the board.
+fn open_desks<C: Charges, R: Ledger, B: Wait + Drop>(
+    alloc: Global,
+    settings: &Settings,
+    count: usize,
+    board: &mut Board<B>,
+    charged: &mut Column<C>,
+    released: &mut Column<R>,
+) -> Result<Vec<Desk<C, R>>, OpenFault>
+    requires count { count ≤ 16 }
+    requires settings { settings.now ≡ C.settings }
+    requires board { board.old ≡ record { settings = C.settings; log = C.log; lines = [] } }
+    requires charged { IsCounted 0 0 (record { total = charged.old.book.total; parts = charged.old.rest.parts; rest = charged.old.rest.amount }) }
+    requires released { IsCounted 0 0 (record { total = released.old.book.total; parts = released.old.rest.parts; rest = released.old.rest.amount }) }
+    ensures desks { IfOk result (λ desks. desks.items ≡ new_desks count) }
+    ensures board { board.new ≡ board.old }
+    ensures charged { IfOk result (λ desks. IsCounted count 0
+        (record { total = charged.new.book.total; parts = charged.new.rest.parts; rest = charged.new.rest.amount })) }
+    ensures released { IfOk result (λ desks. IsCounted count 0
+        (record { total = released.new.book.total; parts = released.new.rest.parts; rest = released.new.rest.amount })) }
+    ensures fault { result ≡ Err OpenFault.Desks → ⊥ }
+{
+    let Ok(mut desks) = Vec::with_capacity(alloc, count) else {
+        return Err(OpenFault::Memory);
+    };
+    for number in 0..count {
+        let Ok(window) = board.window() else {
+            return Err(OpenFault::Board);
+        };
+        desks.push_reserved(Desk {
+            settings: settings.copied(),
+            number,
+            charged: charged.part(),
+            released: released.part(),
+            window,
+        });
+    }
+    Ok(desks)
 }

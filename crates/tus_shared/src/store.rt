@@ -131,6 +131,8 @@ impl<C: Charges, R: Ledger, B: Wait + Drop> Store<C, R, B> {
             Err(refused) => return Err(refused),
         };
         if !show_line(&mut self.board, &self.book, &ready) {
+            // one call, so that the code that drops its parts is proved by itself
+            drop(ready);
             return Err(self.unshown(patched, now));
         }
         let charged = self.book.charged_total();

@@ -96,12 +96,8 @@ fn work<
     let Some((batch, others)) = batches.split_last() else {
         return (desks, rooms);
     };
-    let Some(desk) = desks.pop() else {
-        return (desks, rooms);
-    };
-    let Some(room) = rooms.pop() else {
-        return (desks, rooms);
-    };
+    let desk = desks.pop().unwrap();
+    let room = rooms.pop().unwrap();
     let ((mut after, mut told), (moved, last)) = join(
         rt,
         || -> (Vec<Desk<C, R>>, Vec<Vec<Reply>>)

@@ -1,5 +1,6 @@
-use Rattle.std.proofs.Common.{◌≡◌, ap, refl, sym, ◌∙◌, arith}
+use Rattle.std.proofs.Common.{rules, ◌≡◌, ◌+◌, ap, length, refl, sym, subst, ◌∙◌, arith}
 use Rattle.upload_book.specs.Book.{plain_of}
+use Rattle.upload_book.specs.Change.{CanBeMade}
 use Rattle.upload_book.specs.Heads.{heads_after, heads_of}
 use Rattle.upload_book.specs.PlainBook.{PlainBook}
 use Rattle.upload_book.specs.Settings.{Settings}
@@ -66,3 +67,141 @@ pub returns-clause-done : goal.returns-clause-done
 returns-clause-done g c =
     rw (← c.self.view_is) (done-made (plain_of c.self.inside.book) c.self.inside.board.lines _ _ _ _ c.args.change _ c.args.now _ _
     c.prepare.ensures.plain refl c.in-Ok.ensures.change c.in-Ok.ensures.now c.if-not-show_line.ensures.shown c.commit-outcome.ensures.answer c.commit-outcome.ensures.after)
+
+pub tell-requires : goal.tell-requires
+tell-requires g c = c.desk.invariant.4 ∙ sym c.self.invariant.board_log
+
+pub prepare-requires : goal.prepare-requires
+prepare-requires g c = subst (λ (s : Settings). CanBeMade (length s.tenants) c.args.change) (sym c.self.invariant.settings) c.requires
+
+pub invariant_of-self : goal.invariant_of-self
+invariant_of-self g c = rw c.prepare.ensures.plain c.self.invariant
+
+pub returns-in-Err-clause-after : goal.returns-in-Err-clause-after
+returns-in-Err-clause-after g c = rw c.prepare.ensures.plain c.self.invariant.shown
+
+pub invariant_of-desk : goal.invariant_of-desk
+invariant_of-desk g c =
+    let i = c.desk.invariant in
+    (i.0, i.1, i.2, ap (λ (v : BoardView). v.settings) c.tell.ensures.told ∙ i.3, ap (λ (v : BoardView). v.log) c.tell.ensures.told ∙ i.4)
+
+pub returns-in-Err-clause-settings : goal.returns-in-Err-clause-settings
+returns-in-Err-clause-settings g c = rw (← c.self.view_is) c.self.invariant.settings
+
+pub returns-in-Err-clause-lawful : goal.returns-in-Err-clause-lawful
+returns-in-Err-clause-lawful g c = rw (← c.self.view_is) c.settings.ensures.lawful
+
+pub returns-in-Err-clause-begins : goal.returns-in-Err-clause-begins
+returns-in-Err-clause-begins g c = rw (← c.self.view_is, ← c.desk.view_is) c.tell.ensures.begins
+
+pub returns-in-Err-clause-told : goal.returns-in-Err-clause-told
+returns-in-Err-clause-told g c = ap (λ (v : BoardView). v.lines) c.tell.ensures.told
+
+pub returns-in-Err-clause-stays_lawful : goal.returns-in-Err-clause-stays_lawful
+returns-in-Err-clause-stays_lawful g c = rw c.prepare.ensures.plain c.settings.ensures.lawful
+
+pub returns-in-Err-clause-moves : goal.returns-in-Err-clause-moves
+returns-in-Err-clause-moves g c =
+    rw (← c.self.view_is, ← c.desk.view_is) (record {
+      number = refl;
+      charged = ap (λ (b : PlainBook). c.desk.inside.charged.amount + b.charged) (sym c.prepare.ensures.plain);
+      released = ap (λ (b : PlainBook). c.desk.inside.released.amount + b.released) (sym c.prepare.ensures.plain);
+    })
+
+pub invariant_of-self-then-not-show_line : goal.invariant_of-self-then-not-show_line
+invariant_of-self-then-not-show_line g c = rw (c.prepare.ensures.plain, c.if-not-show_line.ensures.shown) c.self.invariant
+
+pub invariant_of-desk-then-not-show_line : goal.invariant_of-desk-then-not-show_line
+invariant_of-desk-then-not-show_line g c =
+    let i = c.desk.invariant in
+    (i.0, i.1, i.2, ap (λ (v : BoardView). v.settings) c.tell.ensures.told ∙ i.3, ap (λ (v : BoardView). v.log) c.tell.ensures.told ∙ i.4)
+
+pub returns-then-not-show_line-clause-settings : goal.returns-then-not-show_line-clause-settings
+returns-then-not-show_line-clause-settings g c = rw (← c.self.view_is) c.self.invariant.settings
+
+pub returns-then-not-show_line-clause-lawful : goal.returns-then-not-show_line-clause-lawful
+returns-then-not-show_line-clause-lawful g c = rw (← c.self.view_is) c.settings.ensures.lawful
+
+pub returns-then-not-show_line-clause-begins : goal.returns-then-not-show_line-clause-begins
+returns-then-not-show_line-clause-begins g c = rw (← c.self.view_is, ← c.desk.view_is) c.tell.ensures.begins
+
+pub returns-then-not-show_line-clause-told : goal.returns-then-not-show_line-clause-told
+returns-then-not-show_line-clause-told g c = ap (λ (v : BoardView). v.lines) (c.tell.ensures.told) ∙ sym (ap (λ (v : BoardView). v.lines) c.if-not-show_line.ensures.shown)
+
+pub returns-then-not-show_line-clause-stays_lawful : goal.returns-then-not-show_line-clause-stays_lawful
+returns-then-not-show_line-clause-stays_lawful g c = rw c.prepare.ensures.plain c.settings.ensures.lawful
+
+pub returns-then-not-show_line-clause-moves : goal.returns-then-not-show_line-clause-moves
+returns-then-not-show_line-clause-moves g c =
+    rw (← c.self.view_is, ← c.desk.view_is) (record {
+      number = refl;
+      charged = ap (λ (b : PlainBook). c.desk.inside.charged.amount + b.charged) (sym c.prepare.ensures.plain);
+      released = ap (λ (b : PlainBook). c.desk.inside.released.amount + b.released) (sym c.prepare.ensures.plain);
+    })
+
+pub show_line-requires-clause-ready : goal.show_line-requires-clause-ready
+show_line-requires-clause-ready g c = c.in-Ok.ensures.ready
+
+pub commit-outcome-requires : goal.commit-outcome-requires
+commit-outcome-requires g c = c.in-Ok.ensures.ready
+
+pub overflow_sub-cost : goal.overflow_sub-cost
+overflow_sub-cost g c =
+    let n = no-less _ _ _ _ _ _ c.if-not-show_line.ensures.shown c.commit-outcome.ensures.after in
+    omega (arith, n.charged, c.charged_total-charged.ensures.value, c.charged_total.ensures.value)
+
+pub overflow_sub-given_back : goal.overflow_sub-given_back
+overflow_sub-given_back g c =
+    let n = no-less _ _ _ _ _ _ c.if-not-show_line.ensures.shown c.commit-outcome.ensures.after in
+    omega (arith, n.released, c.released_total-released.ensures, c.released_total.ensures)
+
+pub returns-clause-stays_lawful : goal.returns-clause-stays_lawful
+returns-clause-stays_lawful g c = c.charged_total.ensures.lawful
+
+pub returns-clause-settings : goal.returns-clause-settings
+returns-clause-settings g c = rw (← c.self.view_is) c.self.invariant.settings
+
+pub returns-clause-lawful : goal.returns-clause-lawful
+returns-clause-lawful g c = rw (← c.self.view_is) c.settings.ensures.lawful
+
+pub returns-clause-begins : goal.returns-clause-begins
+returns-clause-begins g c = rw (← c.self.view_is, ← c.desk.view_is) c.tell.ensures.begins
+
+pub returns-clause-told : goal.returns-clause-told
+returns-clause-told g c = ap (λ (v : BoardView). v.lines) c.tell-2.ensures.told
+
+pub settings-requires : goal.settings-requires
+settings-requires g c = search rules
+
+pub patched_by-patched-requires : goal.patched_by-patched-requires
+patched_by-patched-requires g c = search rules
+
+pub unshown-requires : goal.unshown-requires
+unshown-requires g c κs = search rules
+
+pub charged_total-charged-requires : goal.charged_total-charged-requires
+charged_total-charged-requires g c = search rules
+
+pub released_total-released-requires : goal.released_total-released-requires
+released_total-released-requires g c = search rules
+
+pub charged_total-requires : goal.charged_total-requires
+charged_total-requires g c = search rules
+
+pub released_total-requires : goal.released_total-requires
+released_total-requires g c = search rules
+
+pub add-requires : goal.add-requires
+add-requires g c = search rules
+
+pub add-requires-2 : goal.add-requires-2
+add-requires-2 g c = search rules
+
+pub tell-requires-2 : goal.tell-requires-2
+tell-requires-2 g c = search rules
+
+pub invariant_of-desk-2 : goal.invariant_of-desk-2
+invariant_of-desk-2 g c = search rules
+
+pub returns-clause-moves : goal.returns-clause-moves
+returns-clause-moves g c = search rules

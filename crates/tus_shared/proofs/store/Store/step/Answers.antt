@@ -3,6 +3,7 @@ use Rattle.tus_steps.specs.Changing.{change_found}
 use Rattle.upload_book.specs.Book.{plain_of}
 use Rattle.upload_book.specs.PlainBook.{PlainBook}
 use Rattle.upload_book.specs.Settings.{Settings}
+use Rattle.tus_shared.specs.Board.{BoardView}
 use Rattle.tus_shared.specs.Store.{IsShown}
 use Rattle.tus_shared.proofs.ChangeLemmas.{done-step}
 use Rattle.tus_shared.proofs.store.Store.step.Goals as goal
@@ -41,3 +42,47 @@ returns-in-None-clause-moves g c =
       charged = ap (λ (b : PlainBook). c.desk.inside.charged.amount + b.charged) (sym stays);
       released = ap (λ (b : PlainBook). c.desk.inside.released.amount + b.released) (sym stays);
     })
+
+pub returns-in-Some-clause-settings : goal.returns-in-Some-clause-settings
+returns-in-Some-clause-settings g c = c.make-outcome.ensures.settings
+
+pub returns-in-Some-clause-lawful : goal.returns-in-Some-clause-lawful
+returns-in-Some-clause-lawful g c = c.make-outcome.ensures.lawful
+
+pub returns-in-Some-clause-stays_lawful : goal.returns-in-Some-clause-stays_lawful
+returns-in-Some-clause-stays_lawful g c = c.make-outcome.ensures.stays_lawful
+
+pub returns-in-Some-clause-begins : goal.returns-in-Some-clause-begins
+returns-in-Some-clause-begins g c = c.make-outcome.ensures.begins
+
+pub returns-in-Some-clause-before : goal.returns-in-Some-clause-before
+returns-in-Some-clause-before g c = c.make-outcome.ensures.before
+
+pub returns-in-Some-clause-after : goal.returns-in-Some-clause-after
+returns-in-Some-clause-after g c = c.make-outcome.ensures.after
+
+pub returns-in-Some-clause-moves : goal.returns-in-Some-clause-moves
+returns-in-Some-clause-moves g c = c.make-outcome.ensures.moves
+
+pub returns-in-Some-clause-told : goal.returns-in-Some-clause-told
+returns-in-Some-clause-told g c = c.make-outcome.ensures.told
+
+pub returns-in-None-clause-settings : goal.returns-in-None-clause-settings
+returns-in-None-clause-settings g c = rw (← c.self.view_is) c.self.invariant.settings
+
+pub returns-in-None-clause-lawful : goal.returns-in-None-clause-lawful
+returns-in-None-clause-lawful g c = rw (← c.self.view_is) c.settings.ensures.lawful
+
+pub returns-in-None-clause-begins : goal.returns-in-None-clause-begins
+returns-in-None-clause-begins g c = rw (← c.self.view_is, ← c.desk.view_is) c.tell.ensures.begins
+
+pub returns-in-None-clause-told : goal.returns-in-None-clause-told
+returns-in-None-clause-told g c = ap (λ (v : BoardView). v.lines) c.tell.ensures.told
+
+pub tell-requires : goal.tell-requires
+tell-requires g c = c.desk.invariant.4 ∙ sym c.self.invariant.board_log
+
+pub invariant_of-desk : goal.invariant_of-desk
+invariant_of-desk g c =
+    let i = c.desk.invariant in
+    (i.0, i.1, i.2, ap (λ (v : BoardView). v.settings) c.tell.ensures.told ∙ i.3, ap (λ (v : BoardView). v.log) c.tell.ensures.told ∙ i.4)

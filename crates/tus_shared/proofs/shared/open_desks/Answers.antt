@@ -1,23 +1,24 @@
 use Rattle.std.proofs.Common.{ap, ◌∙◌, arith}
 use Rattle.tus_shared.specs.Board.{BoardView}
 use Rattle.tus_shared.proofs.SharesLemmas.{new_desks-next}
-use Rattle.tus_shared.proofs.shared.Shared.open.Goals as goal
+use Rattle.tus_shared.proofs.shared.open_desks.Goals as goal
 
 pub loop-number-preserved : goal.loop-number-preserved
 loop-number-preserved g c =
     let i = c.loop-number.invariant in (
       record {
-        parts = omega (arith, c.part.ensures.left, i.0.parts);
-        amount = c.part.ensures.none_left;
         total = c.part.ensures.total ∙ i.0.total;
+        parts = omega (arith, c.part.ensures.left, i.0.parts);
+        rest = c.part.ensures.none_left;
       },
       record {
-        parts = omega (arith, c.part-in-loop-number.ensures.left, i.1.parts);
-        amount = c.part-in-loop-number.ensures.none_left;
         total = c.part-in-loop-number.ensures.total ∙ i.1.total;
+        parts = omega (arith, c.part-in-loop-number.ensures.left, i.1.parts);
+        rest = c.part-in-loop-number.ensures.none_left;
       },
       c.in-Ok-window.ensures.board ∙ i.2,
-      new_desks-next _ _ _ _ _ _ c.push_reserved.ensures.items i.3 c.part.ensures.amount c.part-in-loop-number.ensures.amount (ap (λ (b : BoardView). b.lines) (c.in-Ok-window.ensures.window ∙ i.2)),
+      new_desks-next _ _ _ _ _ _ c.push_reserved.ensures.items i.3 c.part.ensures.amount c.part-in-loop-number.ensures.amount
+          (ap (λ (b : BoardView). b.lines) (c.in-Ok-window.ensures.window ∙ i.2 ∙ c.requires.board)),
       omega (arith, c.push_reserved.ensures.len, i.4),
       omega (arith, c.push_reserved.ensures.capacity, i.5),
     )
