@@ -1,6 +1,7 @@
 pub mod AheadLemmas
 pub mod FieldsLemmas
 pub mod FindLemmas
+pub mod Finished
 pub mod FrontLemmas
 pub mod HeadLemmas
 pub mod HeadTextLemmas

@@ -25,6 +25,7 @@ pub mod ReplyText
 pub mod Scan
 pub mod Streams
 pub mod Shown
+pub mod TurnFinish
 pub mod TurnOnWire
 pub mod Turns
 pub mod WireState

@@ -1,12 +1,15 @@
-ghost use Rattle.std.specs.Prelude.{◌≡◌, ◌<◌, ◌^◌, ◌++◌, ℕ, List, Some, false, IfOk, IfErr, IsErr, OnOk};
+ghost use Rattle.std.specs.Prelude.{◌≡◌, ◌<◌, ◌^◌, ◌++◌, ℕ, List, [], Some, false, IfOk, IfErr, IsErr, OnOk};
 ghost use Rattle.std.specs.Io.KnownBytes.{Appends, Consumes};
 ghost use Rattle.http_wire.specs.Ahead.{SeesEnd, StopsAtEnd};
 ghost use Rattle.http_wire.specs.Clock.{IsTimed};
 ghost use Rattle.http_wire.specs.Conversation.{Conversation};
 ghost use Rattle.http_wire.specs.Turns.{Breaks, Converses, EndsByTurn, EndsTurnAtEnd, IsReadWhen, TakesTurn};
+ghost use Rattle.http_wire.specs.Next.{next_in};
+ghost use Rattle.http_wire.specs.Parts.{request_at};
 ghost use Rattle.http_wire.specs.ReplyText.{reply_text};
+ghost use Rattle.http_wire.specs.TurnFinish.{FinishesTurn, turn_after, turn_cut};
 ghost use Rattle.tus_steps.specs.declared.reply.Reply.{Reply};
-ghost use Rattle.http_wire.specs.Lent.{Names, NamesOrMemory};
+ghost use Rattle.http_wire.specs.Lent.{IsLent, IsMessage, Names, NamesOrMemory};
 ghost use Rattle.http_wire.specs.Writes.{Writes};
 
 use crate::answer::Answer;
@@ -16,6 +19,7 @@ use crate::fault::WireFault;
 use crate::framing::Framing;
 use crate::message::request_in;
 use crate::page::Page;
+use crate::parts::Parts;
 use crate::read::{Cut, Front, read_front};
 use crate::source::{Sink, Source};
 use crate::write::{write_refusal, write_reply};
@@ -72,9 +76,47 @@ pub fn converse<R: Source, W: Sink, A: Answer>(
 {
     let mut buffers = Buffers::new(alloc)?;
     let max_size = answerer.max_size();
+    take_turns(reader, writer, &mut buffers, max_size, answerer, moments)
+}
+
+// The same over buffers that hold nothing, which are lent: so none of the ways out of the loop lets them go.
+fn take_turns<R: Source, W: Sink, A: Answer>(
+    reader: &mut R,
+    writer: &mut W,
+    buffers: &mut Buffers,
+    max_size: u64,
+    answerer: &mut A,
+    moments: &[Moment],
+) -> Result<Ended, WireFault>
+    requires reader { R.has_failed reader.old ≡ false }
+    requires writer { W.has_failed writer.old ≡ false }
+    requires held { buffers.old.inbox.held ≡ [] }
+    requires ended { buffers.old.inbox.ended ≡ false }
+    requires max_size { max_size < 2 ^ 31 }
+    requires same { max_size ≡ A.max_size answerer.old }
+    ensures known { (input before : List ℕ) → R.remaining reader.old ≡ Some input
+        → W.contents writer.old ≡ Some before
+        → IfOk result (λ e. (text : List ℕ) × (W.contents writer.new ≡ Some (before ++ text))
+        × Conversation A.steps (A.max_size answerer.old) moments.now
+        (record { input = input; text = text; before = answerer.old; after = answerer.new }) e) }
+    ensures converses { IfOk result (λ e. (got text : List ℕ)
+        × Consumes (R.remaining reader.old) (R.remaining reader.new) got
+        × Appends (W.contents writer.old) (W.contents writer.new) text
+        × Converses A.steps (A.max_size answerer.old) moments.now
+        (record { input = got; text = text; before = answerer.old; after = answerer.new }) e) }
+    ensures read { IfOk result (λ e. IsReadWhen e (R.remaining reader.new)) }
+    ensures breaks { IfErr result (λ f. (got text : List ℕ)
+        × Consumes (R.remaining reader.old) (R.remaining reader.new) got
+        × Appends (W.contents writer.old) (W.contents writer.new) text
+        × Breaks A.steps (A.max_size answerer.old) moments.now
+        (record { input = got; text = text; before = answerer.old; after = answerer.new }) f) }
+    ensures reader { OnOk result (R.has_failed reader.new ≡ false) }
+    ensures writer { OnOk result (W.has_failed writer.new ≡ false) }
+    ensures fault { IfErr result (NamesOrMemory (R.has_failed reader.new) (W.has_failed writer.new)) }
+{
     for moment in moments {
         let mut now = *moment;
-        let turn = take_turn(reader, writer, &mut buffers, max_size, answerer, &mut now)?;
+        let turn = take_turn(reader, writer, buffers, max_size, answerer, &mut now)?;
         if let Some(ended) = turn {
             return Ok(ended);
         }
@@ -119,37 +161,98 @@ pub fn take_turn<R: Source, W: Sink, A: Answer, C: Clock>(
         max_size,
     )?;
     let now = clock.moment();
+    finish_turn(writer, buffers, answerer, front, now)
+}
+
+// Lets what was read into the buffers be answered, and writes the reply. A front is large: inlined, it is not moved
+// once more.
+#[inline(always)]
+fn finish_turn<W: Sink, A: Answer>(
+    writer: &mut W,
+    buffers: &mut Buffers,
+    answerer: &mut A,
+    front: Front,
+    now: Moment,
+) -> Result<Option<Ended>, WireFault>
+    requires writer { W.has_failed writer.old ≡ false }
+    requires lent { IsLent buffers.old.inbox.lent front }
+    ensures inbox { buffers.new.inbox ≡ buffers.old.inbox }
+    ensures finishes { FinishesTurn A.steps now buffers.old.inbox (next_in buffers.old.inbox front)
+        (W.contents writer.old) (W.contents writer.new) (W.has_failed writer.new)
+        answerer.old answerer.new result }
+{
     match front {
         Front::Message(parts) => {
-            let request = request_in(&parts, buffers.inbox.lent());
-            reply_to(
-                writer,
-                &mut buffers.page,
-                answerer,
-                &request,
-                now,
-                parts.framing,
-            )?;
-            Ok(if parts.framing.close {
-                Some(Ended::Closed)
-            } else {
-                None
-            })
+            let written = answer_message(writer, buffers, answerer, &parts, now);
+            turn_after(written, parts.framing.close)
         }
         Front::Refused(refusal, framing) => {
-            write_refusal(writer, &mut buffers.page, refusal, now, framing)?;
-            Ok(Some(Ended::Closed))
+            let written = write_refusal(writer, &mut buffers.page, refusal, now, framing);
+            turn_after(written, true)
         }
         Front::CutPatch(parts, why) => {
-            let _ = answerer.answer(&request_in(&parts, buffers.inbox.lent()), now);
-            match why {
-                Cut::Ended => Ok(Some(Ended::Cut)),
-                Cut::Fault => Err(WireFault::Read),
-            }
+            apply_cut(buffers, answerer, parts, now);
+            turn_cut(why)
         }
         Front::CutOther => Ok(Some(Ended::Cut)),
         Front::End => Ok(Some(Ended::Input)),
     }
+}
+
+// How a turn ends after its reply: with the connection, where that closes.
+fn turn_after(written: Result<(), WireFault>, close: bool) -> Result<Option<Ended>, WireFault>
+    ensures { result ≡ turn_after written close }
+{
+    match written {
+        Ok(()) => Ok(if close { Some(Ended::Closed) } else { None }),
+        Err(fault) => Err(fault),
+    }
+}
+
+// How a turn ends whose body was cut.
+fn turn_cut(why: Cut) -> Result<Option<Ended>, WireFault>
+    ensures { result ≡ turn_cut why }
+{
+    match why {
+        Cut::Ended => Ok(Some(Ended::Cut)),
+        Cut::Fault => Err(WireFault::Read),
+    }
+}
+
+// Makes the step of a message that the buffers lend and writes its reply.
+fn answer_message<W: Sink, A: Answer>(
+    writer: &mut W,
+    buffers: &mut Buffers,
+    answerer: &mut A,
+    parts: &Parts,
+    now: Moment,
+) -> Result<(), WireFault>
+    requires writer { W.has_failed writer.old ≡ false }
+    requires lent { IsMessage parts.now buffers.old.inbox.lent }
+    ensures inbox { buffers.new.inbox ≡ buffers.old.inbox }
+    ensures answers { (reply : Reply)
+        × A.steps answerer.old (request_at parts.now buffers.old.inbox.lent) now reply answerer.new
+        × Writes (W.contents writer.old) (W.contents writer.new) (W.has_failed writer.new)
+        (reply_text reply now parts.now.framing) result }
+{
+    let request = request_in(parts, buffers.inbox.lent());
+    reply_to(
+        writer,
+        &mut buffers.page,
+        answerer,
+        &request,
+        now,
+        parts.framing,
+    )
+}
+
+// Makes the step of a PATCH whose body was cut, with the bytes that came. It gets no reply.
+fn apply_cut<A: Answer>(buffers: &Buffers, answerer: &mut A, parts: Parts, now: Moment)
+    requires { IsMessage parts buffers.now.inbox.lent }
+    ensures { (reply : Reply)
+        × A.steps answerer.old (request_at parts buffers.now.inbox.lent) now reply answerer.new }
+{
+    let _ = answerer.answer(&request_in(&parts, buffers.inbox.lent()), now);
 }
 
 // Makes the step of a request and writes its reply. The step stays where the reply could not be written.

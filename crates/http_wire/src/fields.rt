@@ -11,7 +11,7 @@ use std::alloc::{AllocError, Global};
 use tus_steps::Field;
 
 /// Where the value of a field stands in a head.
-#[derive(Clone, Copy, Debug, PartialEq, Eq)]
+#[derive(Clone, Copy)]
 pub enum FieldSpan {
     /// No field has the name.
     Absent,

@@ -6,7 +6,7 @@ use httparse::spans::Span;
 use tus_steps::{Method, TusFields};
 
 /// Where the parts of a message stand in its bytes, a head and a body, and what its head says of it.
-#[derive(Clone, Copy, Debug)]
+#[derive(Clone, Copy)]
 pub struct Parts {
     pub method: Method,
     pub framing: Framing,

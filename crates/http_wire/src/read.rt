@@ -27,7 +27,7 @@ use std::alloc::Global;
 const CONTINUE: &[u8] = b"HTTP/1.1 100 Continue\r\n\r\n";
 
 /// What the input begins with. The bytes of a message are then lent by the inbox.
-#[derive(Clone, Copy, Debug)]
+#[derive(Clone, Copy)]
 pub enum Front {
     /// A whole message.
     Message(Parts),
@@ -51,7 +51,7 @@ pub enum Cut {
 }
 
 /// The head that the input begins with.
-#[derive(Clone, Copy, Debug)]
+#[derive(Clone, Copy)]
 pub enum HeadFound {
     Whole(usize),
     TooLong,

@@ -29,7 +29,7 @@ use tus_steps::Reply;
 use upload_book::Moment;
 
 /// What a wire still does.
-#[derive(Clone, Copy, Debug, PartialEq, Eq)]
+#[derive(Clone, Copy, PartialEq, Eq)]
 enum State {
     /// It reads and writes.
     Open,

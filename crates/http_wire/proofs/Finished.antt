@@ -1,0 +1,174 @@
+-- The second half of a turn: each front, and what is done for it.
+use Rattle.std.proofs.Common.{◌≡◌, ℕ, Bool, true, false, List, [], ◌++◌, Option, Some, Result, Ok, Err, IfOk, take, refl, sym, subst, append-nil}
+use Rattle.tus_steps.specs.Request.{Request}
+use Rattle.tus_steps.specs.declared.reply.Reply.{Reply}
+use Rattle.http_wire.specs.Ahead.{Ahead}
+use Rattle.http_wire.specs.Exchange.{Exchange}
+use Rattle.http_wire.specs.Lent.{Names}
+use Rattle.http_wire.specs.Next as next
+use Rattle.http_wire.specs.Parts.{request_at}
+use Rattle.http_wire.specs.ReplyText.{reply_text, refusal_text}
+use Rattle.http_wire.specs.TurnFinish.{FinishesTurn, turn_after, turn_cut}
+use Rattle.http_wire.specs.Turns.{LastTurn, BreaksTurn}
+use Rattle.http_wire.specs.Writes.{Writes}
+use Rattle.http_wire.specs.declared.conversation.Ended.{Ended}
+use Rattle.http_wire.specs.declared.conversation.Ended.TheVariants as ended
+use Rattle.http_wire.specs.declared.fault.WireFault.{WireFault}
+use Rattle.http_wire.specs.declared.framing.Framing.{Framing}
+use Rattle.http_wire.specs.declared.parts.Parts.{Parts}
+use Rattle.http_wire.specs.declared.read.Cut.{Cut}
+use Rattle.http_wire.specs.declared.read.Cut.TheVariants as cut
+use Rattle.http_wire.specs.declared.refusal.WireRefusal.{WireRefusal}
+use Rattle.http_wire.proofs.AheadLemmas.{Appends-none}
+use Rattle.http_wire.proofs.Served.{Served-stays, Served-closed, Served-refused, Served-cut_patch, Served-cut_other, Served-end, LastTurn-alone, BreaksTurn-reply, BreaksTurn-refusal}
+
+-- what holds of a value under a premise that does not name it
+pub IfOk-when : {T E P : Type 0} (Q : T → Type 0) (r : Result T E) → (P → IfOk r Q) → IfOk r (λ x. P → Q x)
+IfOk-when Q (Ok x) h = h
+IfOk-when Q (Err e) h = tt
+
+module _ {A : Type 0} (steps : A → Request → ℕ → Reply → A → Type 0) where
+  -- nothing is written after what was written while the message came in
+  quiet : (max now : ℕ) (x : Exchange A) (e : Ended) → LastTurn steps max now x e → LastTurn steps max now (record x { text = x.text ++ [] }) e
+  quiet max now x e h =
+      subst (λ (t : List ℕ). LastTurn steps max now (record x { text = t }) e) (sym (append-nil x.text)) h
+
+  -- a message was answered, and its reply was written, or a front of it
+  pub Finishes-message : {T : Type 0} (now : ℕ) (a : Ahead) (p : Parts) (reply : Reply) (w0 w1 : Option (List ℕ)) (failed : Bool) (before after : A) (written : Result T WireFault) (close : Bool)
+      → p.framing.close ≡ close → steps before (request_at p a.lent) now reply after → Writes w0 w1 failed (reply_text reply now p.framing) written
+      → FinishesTurn steps now a (next.message (request_at p a.lent) p.framing) w0 w1 failed before after (turn_after written close)
+  Finishes-message now a p reply w0 w1 failed before after (Ok done) true is step w = record {
+    turn = λ max input said f. (
+      reply_text reply now p.framing,
+      w.all,
+      λ rest _. Served-closed steps max now (record { input = input; text = said; before = before; after = after }) a p reply f step is rest,
+    );
+    end = λ remaining sees told. tt;
+    ends = tt;
+    reader = refl;
+    writer = w.failed;
+    fault = tt;
+  }
+  Finishes-message now a p reply w0 w1 failed before after (Ok done) false is step w = record {
+    turn = λ max input said f. (
+      reply_text reply now p.framing,
+      w.all,
+      Served-stays steps max now (record { input = input; text = said; before = before; after = after }) a p reply f step is,
+    );
+    end = λ remaining sees told. sees;
+    ends = tt;
+    reader = refl;
+    writer = w.failed;
+    fault = tt;
+  }
+  Finishes-message now a p reply w0 w1 failed before after (Err e) close is step w = record {
+    turn = λ max input said f. (
+      take w.part.0 (reply_text reply now p.framing),
+      w.part.2,
+      subst (BreaksTurn steps max now (record { input = input; text = said ++ take w.part.0 (reply_text reply now p.framing); before = before; after = after })) (sym w.fault)
+          (BreaksTurn-reply steps max now w.part.0 (record { input = input; text = said; before = before; after = after }) a p reply f step),
+    );
+    end = λ remaining sees told. tt;
+    ends = tt;
+    reader = tt;
+    writer = tt;
+    fault = subst (Names false failed) (sym w.fault) (refl, w.failed);
+  }
+
+  -- a request was refused
+  pub Finishes-refused : {T : Type 0} (now : ℕ) (a : Ahead) (why : WireRefusal) (framing : Framing) (w0 w1 : Option (List ℕ)) (failed : Bool) (same : A) (written : Result T WireFault)
+      → Writes w0 w1 failed (refusal_text why now framing) written → FinishesTurn steps now a (next.refused why framing) w0 w1 failed same same (turn_after written true)
+  Finishes-refused now a why framing w0 w1 failed same (Ok done) w = record {
+    turn = λ max input said f. (
+      refusal_text why now framing,
+      w.all,
+      λ rest _. Served-refused steps max now (record { input = input; text = said; before = same; after = same }) a why framing f refl rest,
+    );
+    end = λ remaining sees told. tt;
+    ends = tt;
+    reader = refl;
+    writer = w.failed;
+    fault = tt;
+  }
+  Finishes-refused now a why framing w0 w1 failed same (Err e) w = record {
+    turn = λ max input said f. (
+      take w.part.0 (refusal_text why now framing),
+      w.part.2,
+      subst (BreaksTurn steps max now (record { input = input; text = said ++ take w.part.0 (refusal_text why now framing); before = same; after = same })) (sym w.fault)
+          (BreaksTurn-refusal steps max now w.part.0 (record { input = input; text = said; before = same; after = same }) a why framing f refl),
+    );
+    end = λ remaining sees told. tt;
+    ends = tt;
+    reader = tt;
+    writer = tt;
+    fault = subst (Names false failed) (sym w.fault) (refl, w.failed);
+  }
+
+  -- a PATCH was cut, and was applied with the bytes that came
+  pub Finishes-cut_patch : (now : ℕ) (a : Ahead) (p : Parts) (why : Cut) (reply : Reply) (w : Option (List ℕ)) (failed : Bool) (before after : A)
+      → steps before (request_at p a.lent) now reply after → failed ≡ false → FinishesTurn steps now a (next.cut_patch (request_at p a.lent) p.framing why) w w failed before after (turn_cut why)
+  Finishes-cut_patch now a p cut.Ended reply w failed before after step alive = record {
+    turn = λ max input said f. (
+      [],
+      Appends-none w,
+      λ rest none. LastTurn-alone steps max now (record { input = input; text = said ++ []; before = before; after = after }) rest ended.Cut
+          (quiet max now (record { input = input; text = said; before = before; after = after }) ended.Cut
+          (Served-cut_patch steps max now (record { input = input; text = said; before = before; after = after }) a p cut.Ended reply f step)) none,
+    );
+    end = λ remaining sees told. sees told;
+    ends = tt;
+    reader = refl;
+    writer = alive;
+    fault = tt;
+  }
+  Finishes-cut_patch now a p cut.Fault reply w failed before after step alive = record {
+    turn = λ max input said f. (
+      [],
+      Appends-none w,
+      (
+        ended.Cut,
+        tt,
+        quiet max now (record { input = input; text = said; before = before; after = after }) ended.Cut
+            (Served-cut_patch steps max now (record { input = input; text = said; before = before; after = after }) a p cut.Fault reply f step),
+      ),
+    );
+    end = λ remaining sees told. tt;
+    ends = tt;
+    reader = tt;
+    writer = tt;
+    fault = (refl, alive);
+  }
+
+  -- another message was cut
+  pub Finishes-cut_other : (now : ℕ) (a : Ahead) (w : Option (List ℕ)) (failed : Bool) (same : A) → failed ≡ false → FinishesTurn steps now a next.cut_other w w failed same same (Ok (Some ended.Cut))
+  Finishes-cut_other now a w failed same alive = record {
+    turn = λ max input said f. (
+      [],
+      Appends-none w,
+      λ rest none. LastTurn-alone steps max now (record { input = input; text = said ++ []; before = same; after = same }) rest ended.Cut
+          (quiet max now (record { input = input; text = said; before = same; after = same }) ended.Cut
+          (Served-cut_other steps max now (record { input = input; text = said; before = same; after = same }) a f refl)) none,
+    );
+    end = λ remaining sees told. sees told;
+    ends = tt;
+    reader = refl;
+    writer = alive;
+    fault = tt;
+  }
+
+  -- the input ended between two messages
+  pub Finishes-end : (now : ℕ) (a : Ahead) (w : Option (List ℕ)) (failed : Bool) (same : A) → failed ≡ false → FinishesTurn steps now a next.ending w w failed same same (Ok (Some ended.Input))
+  Finishes-end now a w failed same alive = record {
+    turn = λ max input said f. (
+      [],
+      Appends-none w,
+      λ rest none. LastTurn-alone steps max now (record { input = input; text = said ++ []; before = same; after = same }) rest ended.Input
+          (quiet max now (record { input = input; text = said; before = same; after = same }) ended.Input
+          (Served-end steps max now (record { input = input; text = said; before = same; after = same }) f refl)) none,
+    );
+    end = λ remaining sees told. sees told;
+    ends = tt;
+    reader = refl;
+    writer = alive;
+    fault = tt;
+  }
