@@ -8,7 +8,7 @@ use tus_steps::{HeadOf, Method, TusFields, answer, head_of, head_reply};
 use upload_book::{Book, Moment, Name, Refusal, Settings};
 
 /// What `head_of` finds, with a reply as what it tells.
-#[derive(Clone, Copy, Debug, PartialEq, Eq)]
+#[derive(Clone, Copy, PartialEq, Eq)]
 enum Found<'a> {
     NotHead,
     Refused(Told<'a>),

@@ -40,7 +40,7 @@ static IN_ORDER: [Row; 4] = rows! {
 
 #[test]
 fn a_run_answers_in_order(rt: HostRuntime) -> Result<(), Fail> {
-    assert_eq!(rt; RunFault::Memory.word(), "memory");
+    assert!(rt; RunFault::Memory.word() == "memory");
     let mut book = book(rt.alloc())?;
     check_run(&rt, rt.alloc(), &mut book, &[])?;
     check_run(&rt, rt.alloc(), &mut book, &IN_ORDER)
@@ -93,7 +93,7 @@ static FULL: [Row; 6] = rows! {
 fn a_full_tenant_leaves_room_for_its_neighbour(rt: HostRuntime) -> Result<(), Fail> {
     let mut book = book(rt.alloc())?;
     check_run(&rt, rt.alloc(), &mut book, &FULL)?;
-    assert_eq!(rt; book.free_blocks(), 0);
+    assert!(rt; book.free_blocks() == 0);
     Ok(())
 }
 

@@ -3,7 +3,7 @@ use tus_steps::Reply;
 use upload_book::{Moment, Refusal};
 
 /// What a reply tells, as numbers and bytes.
-#[derive(Clone, Copy, Debug, PartialEq, Eq)]
+#[derive(Clone, Copy, PartialEq, Eq)]
 pub(crate) enum Told<'a> {
     /// The greatest size.
     Options(u64),
