@@ -1,4 +1,4 @@
-use Rattle.std.proofs.Common.{rules, ◌+◌, ap, refl, ◌∙◌}
+use Rattle.std.proofs.Common.{◌+◌, ap, refl, ◌∙◌}
 use Rattle.std.proofs.lemmas.List.Elements.{All-cons}
 use mathlib.Core.List.{IsPrefix}
 use Rattle.tus_shared.specs.Desk.{Desk}
@@ -21,33 +21,3 @@ loop-desk-preserved g c =
           (c.merge-in-loop-desk.ensures.parts ∙ ap (λ n. c.loop-desk.released.parts + n) c.desk.invariant.2)
           (c.merge-in-loop-desk.ensures.amount ∙ ap (λ n. c.loop-desk.released.amount + n) (ap (λ (d : Desk). d.released) c.desk.view_is)) i.2,
     )
-
-pub next-requires : goal.next-requires
-next-requires g c = search rules
-
-pub tell-requires : goal.tell-requires
-tell-requires g c = search rules
-
-pub merge-requires : goal.merge-requires
-merge-requires g c κs = search rules
-
-pub merge-requires-in-loop-desk : goal.merge-requires-in-loop-desk
-merge-requires-in-loop-desk g c κs = search rules
-
-pub drop-window-inside-requires : goal.drop-window-inside-requires
-drop-window-inside-requires g c κs = search rules
-
-pub drop-window-inside-requires-in-loop-desk : goal.drop-window-inside-requires-in-loop-desk
-drop-window-inside-requires-in-loop-desk g c κs = search rules
-
-pub loop-desk-smaller : goal.loop-desk-smaller
-loop-desk-smaller g c = search rules
-
-pub returns-clause-told : goal.returns-clause-told
-returns-clause-told g c = search rules
-
-pub returns-clause-charged_parts : goal.returns-clause-charged_parts
-returns-clause-charged_parts g c = search rules
-
-pub returns-clause-released_parts : goal.returns-clause-released_parts
-returns-clause-released_parts g c = search rules
