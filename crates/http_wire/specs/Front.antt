@@ -29,19 +29,15 @@ pub data Front : Type 0 where
   cut_other : Bool → Front
   clean_end : Front
 
--- the methods that need not be there for an upload to be sent and resumed, by their names
-abbrev pub other_method_of : List ℕ → Method
-other_method_of name =
-    if bytes_eq name (codes "GET") then method.Get
-    else (if bytes_eq name (codes "DELETE") then method.Delete
-    else (if bytes_eq name (codes "OPTIONS") then method.Options else method.Other))
-
 -- the method that a name stands for, which is told by exact case
 abbrev pub method_of : List ℕ → Method
 method_of name =
     if bytes_eq name (codes "POST") then method.Post
     else (if bytes_eq name (codes "HEAD") then method.Head
-    else (if bytes_eq name (codes "PATCH") then method.Patch else other_method_of name))
+    else (if bytes_eq name (codes "PATCH") then method.Patch
+    else (if bytes_eq name (codes "GET") then method.Get
+    else (if bytes_eq name (codes "DELETE") then method.Delete
+    else (if bytes_eq name (codes "OPTIONS") then method.Options else method.Other)))))
 
 -- the method that one X-HTTP-Method-Override names stands in place of the request's own, and two or more
 -- name none (tus 1.0.0, Core Protocol, X-HTTP-Method-Override)

@@ -8,7 +8,7 @@ ghost use Rattle.tus_steps.specs.Field.{text_of};
 ghost use Rattle.http_wire.specs.Fields.{told_at, told_by};
 ghost use Rattle.tus_steps.specs.TusFields.{EachField, fields_by, map_fields};
 ghost use Rattle.http_wire.specs.Connection.{closes};
-ghost use Rattle.http_wire.specs.Front.{Parses, method_of, other_method_of, method_by, closing, unknown_framing};
+ghost use Rattle.http_wire.specs.Front.{Parses, method_of, method_by, closing, unknown_framing};
 ghost use Rattle.http_wire.specs.Shown.{Gives, Shows};
 ghost use Rattle.http_wire.specs.Parts.{HasFields, HasLine, IsLine, IsPartsWithin};
 
@@ -194,16 +194,7 @@ fn method_of(name: &[u8]) -> Method
         Method::Head
     } else if name == PATCH {
         Method::Patch
-    } else {
-        other_method_of(name)
-    }
-}
-
-// The same of the methods that need not be there for an upload to be sent and resumed.
-fn other_method_of(name: &[u8]) -> Method
-    ensures { result ≡ other_method_of name.now }
-{
-    if name == GET {
+    } else if name == GET {
         Method::Get
     } else if name == DELETE {
         Method::Delete

@@ -169,39 +169,3 @@ returns-clause-begins g c = rw (← c.self.view_is, ← c.desk.view_is) c.tell.e
 
 pub returns-clause-told : goal.returns-clause-told
 returns-clause-told g c = ap (λ (v : BoardView). v.lines) c.tell-2.ensures.told
-
-pub settings-requires : goal.settings-requires
-settings-requires g c = search rules
-
-pub patched_by-patched-requires : goal.patched_by-patched-requires
-patched_by-patched-requires g c = search rules
-
-pub unshown-requires : goal.unshown-requires
-unshown-requires g c κs = search rules
-
-pub charged_total-charged-requires : goal.charged_total-charged-requires
-charged_total-charged-requires g c = search rules
-
-pub released_total-released-requires : goal.released_total-released-requires
-released_total-released-requires g c = search rules
-
-pub charged_total-requires : goal.charged_total-requires
-charged_total-requires g c = search rules
-
-pub released_total-requires : goal.released_total-requires
-released_total-requires g c = search rules
-
-pub add-requires : goal.add-requires
-add-requires g c = search rules
-
-pub add-requires-2 : goal.add-requires-2
-add-requires-2 g c = search rules
-
-pub tell-requires-2 : goal.tell-requires-2
-tell-requires-2 g c = search rules
-
-pub invariant_of-desk-2 : goal.invariant_of-desk-2
-invariant_of-desk-2 g c = search rules
-
-pub returns-clause-moves : goal.returns-clause-moves
-returns-clause-moves g c = search rules

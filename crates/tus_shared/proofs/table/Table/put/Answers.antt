@@ -15,18 +15,3 @@ invariant_of-self c =
       room = room-put c.self.inside.settings.numbers.uploads c.self.inside.parts.items c.from-tenant.result c.index_mut.result.now c.put.new.self f c.put.result
           (search rules) c.index_mut.ensures.value c.put.ensures.after c.self.invariant.room;
     }
-
-pub from-tenant-requires : goal.from-tenant-requires
-from-tenant-requires c = search rules
-
-pub len-requires : goal.len-requires
-len-requires c κs = search rules
-
-pub numbers-requires : goal.numbers-requires
-numbers-requires c = search rules
-
-pub index_mut-requires : goal.index_mut-requires
-index_mut-requires c = search rules
-
-pub put-requires : goal.put-requires
-put-requires c = search rules

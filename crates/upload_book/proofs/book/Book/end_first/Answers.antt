@@ -1,4 +1,4 @@
-use Rattle.std.proofs.Common.{◌≡◌, ◌≤◌, slice_get, Some, sym, subst, ◌∙◌}
+use Rattle.std.proofs.Common.{◌≡◌, slice_get, Some, sym, subst, ◌∙◌}
 use Rattle.std.proofs.lemmas.Option.{none-some}
 use Rattle.upload_book.specs.Book.{StoredBook, plain_of}
 use Rattle.upload_book.specs.contracts.book.Book.{the_view}

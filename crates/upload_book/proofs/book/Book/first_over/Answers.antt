@@ -1,4 +1,4 @@
-use Rattle.std.proofs.Common.{◌≡◌, ◌<◌, Option, None, IfNone, sym, subst, ◌∙◌, arith}
+use Rattle.std.proofs.Common.{Option, IfNone, sym, subst, ◌∙◌, arith}
 use Rattle.std.proofs.lemmas.Bool.Decides.{nat_tests}
 use Rattle.upload_book.specs.Book.{plain_of}
 use Rattle.upload_book.specs.contracts.book.Book.{the_view}

@@ -17,6 +17,9 @@ use Rattle.upload_book.proofs.CreateSteps.{IsCreation, create-blocks, create-lac
 use Rattle.upload_book.proofs.LawfulCreate.{HasLawfulTexts}
 use Rattle.upload_book.proofs.Outcomes.{create_answer-refused}
 use Rattle.upload_book.proofs.PatchSteps.{account_at}
+use Rattle.upload_book.proofs.BookSteps.{part-within}
+use Rattle.upload_book.proofs.LawfulSteps.{charge-within}
+use Rattle.upload_book.proofs.SettingsLemmas.{block_size-some}
 use Rattle.upload_book.proofs.book.Book.ready_for_upload.Goals as goal
 
 -- what was read where a creation is tested
@@ -96,3 +99,23 @@ returns-in-Err-clause-refused c =
     let is = creation r c.in_default.is in
     let some = subst (λ n. 0 < n) (create-taken b c.args.tenant c.args.new c.args.first c.args.now is _ refl) (rw bytes at c.in-Err.ensures.memory) in
     inr (rw (← c.self.view_is) (create-lacks b c.args.tenant c.args.new c.args.first c.args.now is some, refl))
+
+pub account-account-requires : goal.account-account-requires
+account-account-requires c = c.requires.tenant_there
+
+pub creation_refusal-requires-clause-tenant : goal.creation_refusal-requires-clause-tenant
+creation_refusal-requires-clause-tenant c =
+    rw c.from-place.ensures (omega (arith, c.requires.tenant_there, shelves-settings (the_view c.self.inside) c.self.invariant, ap (λ (b : StoredBook). length b.settings.tenants) c.self.view_is))
+
+pub creation_refusal-requires-clause-blocks : goal.creation_refusal-requires-clause-blocks
+creation_refusal-requires-clause-blocks c = rw c.numbers-numbers.ensures.value (block_size-some c.self.inside.settings c.self.invariant.lawful.settings)
+
+pub creation_refusal-requires-clause-quota : goal.creation_refusal-requires-clause-quota
+creation_refusal-requires-clause-quota c =
+    let b = the_view c.self.inside in
+    let within : c.args.tenant < length b.store.shelves = omega (arith, c.requires.tenant_there, shelves-settings b c.self.invariant, ap (λ (b : StoredBook). length b.settings.tenants) c.self.view_is) in
+    rw (c.account-account.ensures, ← c.self.view_is) (charge-within (plain_of b) c.args.tenant c.self.invariant.lawful (part-within b c.args.tenant within))
+
+pub creation_refusal-requires-clause-charged : goal.creation_refusal-requires-clause-charged
+creation_refusal-requires-clause-charged c =
+    rw (c.account-account.ensures, c.numbers-numbers.ensures.value, ← c.self.view_is) c.self.invariant.lawful.last

@@ -1,7 +1,7 @@
-use Rattle.std.proofs.Common.{◌≡◌, ℕ, ◌+◌, List, set, length, ◌≢◌, refl, ap, ap₂, ◌∙◌, arith}
+use Rattle.std.proofs.Common.{◌≡◌, ℕ, ◌+◌, ◌<◌, List, set, length, ◌≢◌, refl, sym, ap, ap₂, subst, ◌∙◌, arith}
 use Rattle.std.specs.Vec.{with_item}
 use Rattle.block_pool.specs.Blocks.{Blocks}
-use Rattle.block_bodies.specs.Bodies.{Chain, blocks_for, blocks_with}
+use Rattle.block_bodies.specs.Bodies.{Chain, HasRoom, blocks_for, blocks_with}
 use Rattle.block_bodies.specs.Changes.{Puts}
 use Rattle.upload_book.specs.declared.head_row.Kind.TheVariants.{Final}
 use Rattle.upload_book.specs.declared.store.Store.TheInside.{Inside}
@@ -9,12 +9,12 @@ use Rattle.upload_book.specs.Account.{blocks_between}
 use Rattle.upload_book.specs.declared.shelf.Shelf.{Shelf as KeptShelf}
 use Rattle.upload_book.specs.Kept.{shelf_of, store_of, IsKept}
 use Rattle.upload_book.proofs.Pieces.{IsEntry}
-use Rattle.upload_book.specs.Store.{plain_in, part_at, upload_at, with_head, with_upload, with_bytes}
-use Rattle.upload_book.specs.Stored.{StoredUpload, own_chain}
+use Rattle.upload_book.specs.Store.{Store, plain_in, part_at, shelf_at, upload_at, with_head, with_upload, with_bytes}
+use Rattle.upload_book.specs.Stored.{Shelf, StoredUpload, own_chain}
 use Rattle.upload_book.specs.TenantBook.{TenantBook, Entry}
 use Rattle.upload_book.specs.Upload.{Upload, offset_of}
 use Rattle.upload_book.proofs.StoreAppend.{PutsIn, IsPutIn, alone-read, body-read, last-read, needs-read, charge-few, IsKept-put, plain-put, charge-put}
-use Rattle.upload_book.proofs.StoreLemmas.{IsPart, IsPart-read, IsEntry-read, own-kind, at-place, room-part, room-changed}
+use Rattle.upload_book.proofs.StoreLemmas.{IsPart, IsPart-read, IsEntry-read, entry_at-read, own-kind, at-place, part_within, room-part, room-changed, shelf_at-part}
 use Rattle.upload_book.proofs.store.Store.put.Goals as goal
 
 pub put-taken-requires-clause-body : goal.put-taken-requires-clause-body
@@ -104,3 +104,33 @@ pub returns-clause-charge : goal.returns-clause-charge
 unfolding after
 returns-clause-charge c =
     rw (← c.self.view_is) (charge-put c.self.inside c.args.tenant c.args.place c.index_mut-shelf.result.now (after c) c.index_mut-upload.result.now c.args.bytes.now c.put-taken.new.pool (own_chain c.put-taken.new.self.kept.pieces) c.args.declared c.args.expires c.put-taken.result c.self.invariant (puts c) (is_put c))
+
+pub index_mut-shelf-requires : goal.index_mut-shelf-requires
+index_mut-shelf-requires c =
+    omega (arith, part_within c.self.inside c.args.self.now c.args.tenant c.self.view_is c.requires.tenant, c.self.inside.shelves.ok.0)
+
+pub index_mut-upload-requires : goal.index_mut-upload-requires
+index_mut-upload-requires c =
+    let part = IsPart-read c.self.inside c.args.self.now c.args.tenant c.index_mut-shelf.result.now c.self.view_is c.requires.tenant c.index_mut-shelf.ensures.value in
+    let within : c.args.place < length c.index_mut-shelf.result.now.uploads.items = subst (λ (s : Shelf). c.args.place < length s.uploads) (ap (λ (s : Store). shelf_at s c.args.tenant) (sym c.self.view_is) ∙ shelf_at-part c.self.inside c.args.tenant c.index_mut-shelf.result.now part) c.requires.place in
+    omega (arith, within, c.index_mut-shelf.result.now.uploads.ok.0)
+
+pub put-taken-requires-clause-own : goal.put-taken-requires-clause-own
+put-taken-requires-clause-own c =
+    let part = IsPart-read c.self.inside c.args.self.now c.args.tenant c.index_mut-shelf.result.now c.self.view_is c.requires.tenant c.index_mut-shelf.ensures.value in
+    let entry = IsEntry-read c.self.inside c.args.self.now c.args.tenant c.args.place c.index_mut-shelf.result.now c.index_mut-upload.result.now c.self.view_is part c.requires.place c.index_mut-upload.ensures.value in
+    own-kind c.self.inside c.args.self.now c.args.tenant c.args.place c.index_mut-shelf.result.now c.index_mut-upload.result.now c.self.view_is part entry c.requires.alone.own
+
+pub put-taken-requires-clause-room : goal.put-taken-requires-clause-room
+put-taken-requires-clause-room c =
+    let part = IsPart-read c.self.inside c.args.self.now c.args.tenant c.index_mut-shelf.result.now c.self.view_is c.requires.tenant c.index_mut-shelf.ensures.value in
+    let entry = IsEntry-read c.self.inside c.args.self.now c.args.tenant c.args.place c.index_mut-shelf.result.now c.index_mut-upload.result.now c.self.view_is part c.requires.place c.index_mut-upload.ensures.value in
+    let read = entry_at-read c.self.inside c.args.self.now c.args.tenant c.args.place c.index_mut-shelf.result.now c.index_mut-upload.result.now c.self.view_is part entry in
+    let pool : c.self.inside.pool ≡ c.args.self.now.pool = ap (λ (s : Store). s.pool) c.self.view_is in
+    rw pool (subst (λ (e : Entry StoredUpload). HasRoom c.args.self.now.pool (own_chain e.kept.pieces) (length c.args.bytes.now)) read c.requires.listed)
+
+pub returns-clause-sizes : goal.returns-clause-sizes
+returns-clause-sizes c = rw (← c.self.view_is) c.put-taken.ensures.puts.sizes
+
+pub returns-clause-room_stays : goal.returns-clause-room_stays
+returns-clause-room_stays c = ap (λ (s : Store). s.room) c.self.view_is
