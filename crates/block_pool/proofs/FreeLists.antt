@@ -159,3 +159,16 @@ stored_after size counts bytes free free' room room' b c s more f =
 
 pub IsStored-held : (size : ℕ) (counts bytes free : List ℕ) (room b c : ℕ) → IsStored size counts bytes free room → 0 < get_or counts b 0 → 0 < c → IsStored size (set counts b c) bytes free room
 IsStored-held size counts bytes free room b c s h new = stored_after size counts bytes free free room room b c s (omega arith) (IsFreeList-held counts free b c s.free_list h new)
+
+-- the lists of a pool in which every block is free
+pub IsStored-free : (blocks size : ℕ) (counts bytes free : List ℕ) (room : ℕ) → IsWithinLimits blocks size → counts ≡ replicate blocks 0 → bytes ≡ replicate (blocks * size) 0
+    → IsFreeList (replicate blocks 0) free → blocks ≤ room → IsStored size counts bytes free room
+IsStored-free blocks size counts bytes free room limits no_counts no_bytes listed more =
+    let many : length (replicate {A = ℕ} blocks 0) ≡ blocks = length-replicate {A = ℕ} blocks 0 in
+    let P : ℕ → Type 0 = λ n. IsWithinLimits n size in
+    rw (no_counts, no_bytes) (record {
+      limits = subst P (sym many) limits;
+      every_byte = length-replicate {A = ℕ} (blocks * size) 0 ∙ ap (λ n. n * size) (sym many);
+      free_list = listed;
+      free_room = omega (arith, many);
+    })

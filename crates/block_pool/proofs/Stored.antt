@@ -4,7 +4,7 @@ use Rattle.std.proofs.lemmas.List.{drop-drop, get_or-set_same, get_or_past, get_
 use Rattle.std.proofs.lemmas.Grind.{common_steps}
 use Rattle.std.proofs.lemmas.List.Sums.{sum_by-cons}
 use Rattle.std.proofs.lemmas.Bool.{cases_lt, cases_eq, ne_eqb}
-use Rattle.block_pool.specs.Blocks.{Block, Blocks, free_block, over, count_at, bytes_at, with_block, held, released, written, Takes, IsPool, IsWithinLimits}
+use Rattle.block_pool.specs.Blocks.{Block, Blocks, free_block, over, size_of, count_at, bytes_at, with_block, held, released, written, Takes, IsPool, IsWithinLimits}
 use Rattle.block_pool.specs.FreeList.{block_of, blocks_of, IsStored}
 
 pub count-block_of : (size count : ℕ) (bytes : List ℕ) → (block_of size count bytes).count ≡ count
@@ -127,6 +127,12 @@ shown-set size counts bytes b c pos new =
 pub shown-read : (size : ℕ) (counts bytes : List ℕ) (p : Blocks) (b x : ℕ) → shown size counts bytes ≡ p → 0 < count_at p b → x ≡ get_or counts b x → x ≡ count_at p b
 shown-read size counts bytes p b x e h r =
     get_or_read counts b x (shown-below size counts bytes p b e h) r 0 ∙ shown-count size counts bytes p b e
+
+-- a count that was read at the place of a block of the pool
+pub shown-read_at : (size : ℕ) (counts bytes : List ℕ) (p : Blocks) (b place x : ℕ) → shown size counts bytes ≡ p → b < size_of p → x ≡ get_or counts place x → place ≡ b → x ≡ count_at p b
+shown-read_at size counts bytes p b place x e l r same =
+    let long : size_of p ≡ length counts = sym (ap (λ (q : Blocks). size_of q) e) ∙ length-blocks_of size counts bytes in
+    get_or_read counts b x (omega (arith, long)) (r ∙ ap (λ i. get_or counts i x) same) 0 ∙ shown-count size counts bytes p b e
 
 pub shown-hold : (size : ℕ) (counts bytes : List ℕ) (p : Blocks) (b x : ℕ) → shown size counts bytes ≡ p → 0 < count_at p b → x ≡ get_or counts b x → shown size (set counts b (x + 1)) bytes ≡ held p b
 shown-hold size counts bytes p b x e h r =
