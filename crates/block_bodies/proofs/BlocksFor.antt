@@ -63,6 +63,16 @@ end_whole size len blocks h e whole =
     let k : len / size ≡ blocks_for size len = blocks_for-is size len (len / size) h (omega arith) (omega arith) in
     rw (e, ← k) (omega arith)
 
+-- bytes beyond full blocks take one block at least
+pub more_blocks : (size len blocks more : ℕ) → 0 < size → blocks ≡ blocks_for size len → len % size ≡ 0 → 0 < more → blocks < blocks_for size (len + more)
+more_blocks size len blocks more h e whole some =
+    let full : len ≡ blocks * size = end_whole size len blocks h e whole in
+    ⊎_elim
+    (λ (l : blocks < blocks_for size (len + more)). l)
+    (λ (l : blocks_for size (len + more) ≤ blocks).
+    absurd (omega (arith, times_le size (blocks_for size (len + more)) blocks l, blocks_for-suffice size (len + more) h)))
+    (cases_lt blocks (blocks_for size (len + more)))
+
 pub end_partial : (size len blocks : ℕ) → 0 < size → blocks ≡ blocks_for size len → 0 < len % size → len + size ≡ blocks * size + len % size
 end_partial size len blocks h e partial =
     let d : size * (len / size) + len % size ≡ len = omega arith in

@@ -1,11 +1,11 @@
 -- Bytes end a body: in a new block, in the last block, and piece by piece.
-use Rattle.std.proofs.Common.{◌≡◌, ℕ, ◌+◌, ◌*◌, ◌-◌, ◌<◌, ◌≤◌, List, [], ◌∷◌, ◌++◌, length, get_or, take, drop, refl, ap, sym, ◌∙◌, ⊎_elim, arith, rules, append_assoc, append-nil, length-append, length-take, length-set}
-use Rattle.std.proofs.lemmas.List.{same_lists, places, take_at, take-take, take_all, take_more, length_push, get_or_push}
+use Rattle.std.proofs.Common.{◌≡◌, ℕ, ◌+◌, ◌*◌, ◌-◌, ◌<◌, ◌≤◌, List, [], ◌∷◌, ◌++◌, length, get_or, take, drop, refl, ap, sym, ◌∙◌, ⊎_elim, arith, rules, append_assoc, append-nil, length-append, length-take, length-drop, length-set}
+use Rattle.std.proofs.lemmas.List.{same_lists, places, take_at, take-take, take_all, take_more, length_push, get_or_push, get_or_read}
 use Rattle.std.proofs.lemmas.List.Concat.{flat_map-cons}
 use Rattle.std.proofs.lemmas.Bool.{cases_eq, cases_lt}
 use Rattle.block_pool.specs.Blocks.{Blocks, IsPool, Takes, size_of, count_at, bytes_at, free_in, places_of, bytes_of, over, written}
 use Rattle.block_pool.proofs.BlocksLaws.{count_at-taken, bytes_at-taken, free_in-taken, size_of-taken, block_size-taken, count_at-written, bytes_at-written_other, free_in-written, places_of-one_same, places_of-one_other, places_of-append, places_of-take, places_of-at, bytes_of-append, bytes_of-same, bytes_of-written, length-bytes_of, length-once}
-use Rattle.block_bodies.specs.Bodies.{Chain, IsBodyOf, IsLastOwn, StandsOnce, content_of}
+use Rattle.block_bodies.specs.Bodies.{Chain, HasRoom, IsBodyOf, IsLastOwn, StandsOnce, blocks_with, content_of}
 use Rattle.block_bodies.specs.Changes.{Puts}
 use Rattle.block_bodies.proofs.BlocksFor.{blocks_for-is, blocks_for-suffice, times_le}
 
@@ -20,6 +20,10 @@ take-front front rest m e = take_at front (rest ++ []) (m + 0) (omega arith)
 -- one piece more of the bytes
 pub take-piece : (bytes : List ℕ) (done n : ℕ) → done + n ≤ length bytes → take done bytes ++ take n (take (length bytes - done) (drop done bytes)) ≡ take (done + n) bytes
 take-piece bytes done n h = same_lists _ _ (search (rules, places)) (λ i d l. grind (arith, places))
+
+-- how many bytes are left after the first
+pub length-rest : (bytes : List ℕ) (done : ℕ) → length (take (length bytes - done) (drop done bytes)) ≡ length bytes - done
+length-rest bytes done = omega (arith, length-take (length bytes - done) (drop done bytes), length-drop done bytes)
 
 -- after a block is taken and written
 pub Puts-start : (p p' : Blocks) (x : Chain) (b : ℕ) (new : List ℕ) → IsPool p → IsBodyOf p x → x.len ≡ length x.blocks * p.block_size → 0 < length new → length new ≤ p.block_size → Takes p p' b
@@ -129,9 +133,32 @@ Puts-none p x body = record {
   last = λ own. own;
 }
 
+-- a body has as many blocks as before, or more
+pub Puts-longer : {p q : Blocks} {x y : Chain} {a : List ℕ} → Puts p x a q y → length x.blocks ≤ length y.blocks
+Puts-longer {x = x} {y} f = omega (arith, length-take (length x.blocks) y.blocks, ap (λ (list : List ℕ). length list) f.front)
+
+-- the block that was read last of the list is held once, where it is not full
+pub own-at : (p : Blocks) (x : Chain) (list : List ℕ) (i b at : ℕ) → IsLastOwn p x → x.len + p.block_size ≡ length x.blocks * p.block_size + at → at < p.block_size → list ≡ x.blocks → b ≡ get_or list i b → i + 1 ≡ length list
+    → count_at p b ≡ 1
+own-at p x list i b at own end small same read last =
+    let place : length x.blocks - 1 ≡ i = omega (arith, ap (λ (bs : List ℕ). length bs) same) in
+    rw (get_or_read list i b (omega arith) read 0, same, ← place) (own.own (omega arith))
+
+-- room for the blocks that more bytes need
+pub HasRoom-made : (p : Blocks) (x y : Chain) (more needed : ℕ) → blocks_with p x more ≡ length x.blocks + needed → y.len ≡ x.len → length y.blocks ≡ length x.blocks → length y.blocks + needed ≤ y.room → needed ≤ free_in p
+    → HasRoom p y more
+HasRoom-made p x y more needed e len same listed free = record { listed = rw len (omega (arith, e, same)); free = rw len (omega (arith, e, same)) }
+
+-- after the first bytes are put there is room for the rest
+pub HasRoom-rest : (p q : Blocks) (x y : Chain) (bytes : List ℕ) (done : ℕ) → Puts p x (take done bytes) q y → y.room ≡ x.room → done ≤ length bytes → HasRoom p x (length bytes)
+    → HasRoom q y (length (take (length bytes - done) (drop done bytes)))
+HasRoom-rest p q x y bytes done f same within h =
+    let len : y.len + length (take (length bytes - done) (drop done bytes)) ≡ x.len + length bytes = omega (arith, f.len, length-take done bytes, length-rest bytes done) in
+    record { listed = rw (f.sizes.bytes, len, same) h.listed; free = rw (f.sizes.bytes, len) (omega (arith, h.free, f.free)) }
+
 pub Puts-then : (p q r : Blocks) (x y z : Chain) (a b : List ℕ) → Puts p x a q y → Puts q y b r z → Puts p x (a ++ b) r z
 Puts-then p q r x y z a b f g =
-    let longer : length x.blocks ≤ length y.blocks = omega (arith, length-take (length x.blocks) y.blocks, ap (λ (list : List ℕ). length list) f.front) in
+    let longer : length x.blocks ≤ length y.blocks = Puts-longer f in
     record {
       sizes = record { blocks = g.sizes.blocks ∙ f.sizes.blocks; bytes = g.sizes.bytes ∙ f.sizes.bytes };
       body = g.body;
