@@ -1,5 +1,5 @@
 -- A store in which one tenant's part changed, as it is kept.
-use Rattle.std.proofs.Common.{◌≡◌, ◌≢◌, ℕ, ◌+◌, ◌<◌, List, [], ◌∷◌, map, length, get_or, set, vec_len, Result, Ok, Err, OnErr, refl, sym, ap, ◌∙◌, ap₂, subst, inl, inr, arith}
+use Rattle.std.proofs.Common.{◌≡◌, ◌≢◌, ℕ, ◌+◌, ◌<◌, List, [], ◌∷◌, map, length, get_or, set, vec_len, vec_capacity, Result, Ok, Err, OnErr, refl, sym, ap, ◌∙◌, ap₂, subst, inl, inr, arith}
 use Rattle.std.specs.List.{All, sum_by}
 use Rattle.std.specs.Vec.{with_item}
 use Rattle.std.proofs.Math.ListN.{length-map, length-set}
@@ -89,6 +89,19 @@ spare-some v s t old kept is part less =
     let room = room-part v t old kept part in
     let same : length (shelf_at s t).uploads ≡ length old.uploads.items = ap (λ (s : Store). length (shelf_at s t).uploads) (sym is) ∙ ap (λ (shelf : Shelf). length shelf.uploads) (shelf_at-part v t old part) in
     omega (arith, less, same, room.boxes, old.uploads.ok.0, ap (λ (s : Store). s.room) is)
+
+-- and there is room in the list for it.
+pub uploads-fit : (v : Inside) (s : Store) (t : ℕ) (old : KeptShelf) → IsKept v → store_of v ≡ s → IsPart v t old → length (shelf_at s t).uploads < s.room → vec_len old.uploads < vec_capacity old.uploads
+uploads-fit v s t old kept is part less =
+    let room = room-part v t old kept part in
+    let same : length (shelf_at s t).uploads ≡ length old.uploads.items = ap (λ (s : Store). length (shelf_at s t).uploads) (sym is) ∙ ap (λ (shelf : Shelf). length shelf.uploads) (shelf_at-part v t old part) in
+    omega (arith, less, same, room.uploads, old.uploads.ok.0, ap (λ (s : Store). s.room) is)
+
+-- An upload of the part has a place in its list.
+pub place-within : (v : Inside) (s : Store) (t i : ℕ) (old : KeptShelf) → store_of v ≡ s → IsPart v t old → i < length (shelf_at s t).uploads → i < vec_len old.uploads
+place-within v s t i old is part within =
+    let same : length (shelf_at s t).uploads ≡ length old.uploads.items = ap (λ (s : Store). length (shelf_at s t).uploads) (sym is) ∙ ap (λ (shelf : Shelf). length shelf.uploads) (shelf_at-part v t old part) in
+    omega (arith, within, same, old.uploads.ok.0)
 
 -- the shelves with one changed
 pub shelves-with_shelf : (v : Inside) (q : Blocks) (t : ℕ) (changed : KeptShelf) → (store_of (with_shelf v q t changed)).shelves ≡ set (store_of v).shelves t (shelf_of changed)

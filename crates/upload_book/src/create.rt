@@ -256,9 +256,8 @@ fn creation_refusal(
     requires blocks { 0 < numbers.now.block_size }
     requires quota { account.now.charge ≤ account.now.quota }
     requires charged { account.now.charged ≤ numbers.now.last_total }
-    ensures value { result
+    ensures { result
         ≡ creation_refusal numbers.now account.now (part_at store.now tenant) new.now first.now }
-    ensures last { numbers.now.last_total < 2 ^ 64 }
 {
     let most = new.length.unwrap_or(numbers.max_size);
     let len = first.bytes.len() as u64;

@@ -57,8 +57,7 @@ pub(crate) fn append_refusal(
     requires blocks { 0 < numbers.now.block_size }
     requires quota { account.now.charge ≤ account.now.quota }
     requires charged { account.now.charged ≤ numbers.now.last_total }
-    ensures value { result ≡ append_refusal numbers.now account.now (row_at standing.now) chunk.now }
-    ensures last { numbers.now.last_total < 2 ^ 64 }
+    ensures { result ≡ append_refusal numbers.now account.now (row_at standing.now) chunk.now }
 {
     let max_size = numbers.max_size;
     let last_total = numbers.last_total;

@@ -9,3 +9,13 @@ pub returns-in_err-place : goal.returns-in_err-place
 returns-in_err-place c =
     let p = err_from_is_err_and c.from_residual.result c.from_residual.ensures.1 in
     rw (p.1, p.2, ← c.self.view_is) (sym (answer-plain (the_view c.self.inside) c.args.name.now.tenant (look_answer c.args.name.now.id c.args.now) ∙ ap row_of c.in_err-place.ensures.refused))
+
+pub head_row-requires-clause-tenant : goal.head_row-requires-clause-tenant
+head_row-requires-clause-tenant c = rw c.from.ensures c.in_ok-place.ensures.there
+
+pub head_row-requires-clause-place : goal.head_row-requires-clause-place
+head_row-requires-clause-place c = rw c.from.ensures c.in_ok-place.ensures.visible.there
+
+pub returns : goal.returns
+returns c =
+    rw (c.head_row.ensures, c.from.ensures, ← c.self.view_is) (sym (answer-plain (the_view c.self.inside) c.args.name.now.tenant (look_answer c.args.name.now.id c.args.now) ∙ ap row_of c.in_ok-place.ensures.visible.visible))

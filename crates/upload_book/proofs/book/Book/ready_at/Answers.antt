@@ -73,7 +73,7 @@ returns-in-Some-clause-refused c =
     let r : IsRead b c.args.self.now name.tenant name.id c.args.place c.args.now c.args.chunk c.from-tenant.result c.numbers-numbers.result.now c.account-account.result c.standing-standing.result =
     record { kept = c.self.invariant; is = c.self.view_is; there = c.requires.tenant; seen = c.requires.visible; at = c.from-tenant.ensures; numbers_read = c.numbers-numbers.ensures.value; account_read = c.account-account.ensures; standing_read = c.standing-standing.ensures } in
     let refused : Standing → Refused = λ s. record { refusal = c.in-Some.refusal; expires = s.expires } in
-    inl (rw (← c.self.view_is) (ap (λ s. Err (refused s)) (read-standing r) ∙ sym (patch-refused b name.tenant name.id c.args.place c.args.now c.args.chunk c.self.invariant (read-within r) (read-seen r) c.in-Some.refusal (read-refusal r c.append_refusal.result _ c.append_refusal.ensures.value c.in-Some.is))))
+    inl (rw (← c.self.view_is) (ap (λ s. Err (refused s)) (read-standing r) ∙ sym (patch-refused b name.tenant name.id c.args.place c.args.now c.args.chunk c.self.invariant (read-within r) (read-seen r) c.in-Some.refusal (read-refusal r c.append_refusal.result _ c.append_refusal.ensures c.in-Some.is))))
 
 pub returns-in-Some-clause-plain : goal.returns-in-Some-clause-plain
 returns-in-Some-clause-plain c = refl
@@ -107,7 +107,7 @@ reserve-requires-clause-alone c =
     let name = c.args.name in
     let r : IsRead b c.args.self.now name.tenant name.id c.args.place c.args.now c.args.chunk c.from-tenant.result c.numbers-numbers.result.now c.account-account.result c.standing-standing.result =
     record { kept = c.self.invariant; is = c.self.view_is; there = c.requires.tenant; seen = c.requires.visible; at = c.from-tenant.ensures; numbers_read = c.numbers-numbers.ensures.value; account_read = c.account-account.ensures; standing_read = c.standing-standing.ensures } in
-    let none = read-refusal r c.append_refusal.result None c.append_refusal.ensures.value c.in_default.is in
+    let none = read-refusal r c.append_refusal.result None c.append_refusal.ensures c.in_default.is in
     let bytes : c.chunk.inside.bytes.now ≡ c.args.chunk.bytes = ap (λ (chunk : Chunk). chunk.bytes) c.chunk.view_is in
     let some : 0 < length c.args.chunk.bytes = subst (λ (bytes : List ℕ). 0 < length bytes) bytes c.if-more-gt0.true in
     rw c.from-tenant.ensures (patch-alone b name.tenant name.id c.args.place c.args.now c.args.chunk c.self.invariant (read-within r) (read-seen r) none some)
@@ -118,7 +118,7 @@ reserve-requires-clause-room c =
     let name = c.args.name in
     let r : IsRead b c.args.self.now name.tenant name.id c.args.place c.args.now c.args.chunk c.from-tenant.result c.numbers-numbers.result.now c.account-account.result c.standing-standing.result =
     record { kept = c.self.invariant; is = c.self.view_is; there = c.requires.tenant; seen = c.requires.visible; at = c.from-tenant.ensures; numbers_read = c.numbers-numbers.ensures.value; account_read = c.account-account.ensures; standing_read = c.standing-standing.ensures } in
-    let none = read-refusal r c.append_refusal.result None c.append_refusal.ensures.value c.in_default.is in
+    let none = read-refusal r c.append_refusal.result None c.append_refusal.ensures c.in_default.is in
     let bytes : c.chunk.inside.bytes.now ≡ c.args.chunk.bytes = ap (λ (chunk : Chunk). chunk.bytes) c.chunk.view_is in
     rw (c.from-tenant.ensures, bytes) (patch-room b name.tenant name.id c.args.place c.args.now c.args.chunk c.self.invariant (read-within r) (read-seen r) none)
 
@@ -132,7 +132,7 @@ returns-then-is_err-clause-refused c =
     let name = c.args.name in
     let r : IsRead b c.args.self.now name.tenant name.id c.args.place c.args.now c.args.chunk c.from-tenant.result c.numbers-numbers.result.now c.account-account.result c.standing-standing.result =
     record { kept = c.self.invariant; is = c.self.view_is; there = c.requires.tenant; seen = c.requires.visible; at = c.from-tenant.ensures; numbers_read = c.numbers-numbers.ensures.value; account_read = c.account-account.ensures; standing_read = c.standing-standing.ensures } in
-    let none = read-refusal r c.append_refusal.result None c.append_refusal.ensures.value c.in_default.is in
+    let none = read-refusal r c.append_refusal.result None c.append_refusal.ensures c.in_default.is in
     let after = read-after r c.with-after.result c.with-after.ensures in
     let bytes : c.chunk.inside.bytes.now ≡ c.args.chunk.bytes = ap (λ (chunk : Chunk). chunk.bytes) c.chunk.view_is in
     let lacks = of_err c.reserve.result c.is_err.result c.is_err.ensures.value c.if-is_err.true c.reserve.ensures.memory in
@@ -171,7 +171,7 @@ returns-clause-ready c =
     let name = c.args.name in
     let r : IsRead b c.args.self.now name.tenant name.id c.args.place c.args.now c.args.chunk c.from-tenant.result c.numbers-numbers.result.now c.account-account.result c.standing-standing.result =
     record { kept = c.self.invariant; is = c.self.view_is; there = c.requires.tenant; seen = c.requires.visible; at = c.from-tenant.ensures; numbers_read = c.numbers-numbers.ensures.value; account_read = c.account-account.ensures; standing_read = c.standing-standing.ensures } in
-    let none = read-refusal r c.append_refusal.result None c.append_refusal.ensures.value c.in_default.is in
+    let none = read-refusal r c.append_refusal.result None c.append_refusal.ensures c.in_default.is in
     let after = read-after r c.with-after.result c.with-after.ensures in
     let bytes : c.chunk.inside.bytes.now ≡ c.args.chunk.bytes = ap (λ (chunk : Chunk). chunk.bytes) c.chunk.view_is in
     let ready : ReadyChunk = record { name = name; chunk = c.args.chunk; now = c.args.now; place = c.args.place; after = c.with-after.result } in

@@ -60,14 +60,14 @@ pub returns-in-Some-clause-refused : goal.returns-in-Some-clause-refused
 returns-in-Some-clause-refused c =
     let b = the_view c.self.inside in
     let r : IsRead b c.args.self.now c.args.tenant c.from-place.result c.numbers-numbers.result.now c.account-account.result c.args.new c.args.first c.creation_refusal.result =
-    record { kept = c.self.invariant; is = c.self.view_is; tenant = c.requires.tenant_there; texts = record { metadata = c.requires.metadata; concat = c.requires.concat }; at = c.from-place.ensures; numbers_read = c.numbers-numbers.ensures.value; account_read = c.account-account.ensures; found_is = c.creation_refusal.ensures.value } in
+    record { kept = c.self.invariant; is = c.self.view_is; tenant = c.requires.tenant_there; texts = record { metadata = c.requires.metadata; concat = c.requires.concat }; at = c.from-place.ensures; numbers_read = c.numbers-numbers.ensures.value; account_read = c.account-account.ensures; found_is = c.creation_refusal.ensures } in
     inl (rw (← c.self.view_is) (sym (create_answer-refused c.args.tenant b.settings.numbers (tenant_book (plain_of b) c.args.tenant) c.args.new c.args.first c.args.now b.charged c.in-Some.refusal (told r (Some c.in-Some.refusal) c.in-Some.is))))
 
 pub body_for-requires : goal.body_for-requires
 body_for-requires c =
     let b = the_view c.self.inside in
     let r : IsRead b c.args.self.now c.args.tenant c.from-place.result c.numbers-numbers.result.now c.account-account.result c.args.new c.args.first c.creation_refusal.result =
-    record { kept = c.self.invariant; is = c.self.view_is; tenant = c.requires.tenant_there; texts = record { metadata = c.requires.metadata; concat = c.requires.concat }; at = c.from-place.ensures; numbers_read = c.numbers-numbers.ensures.value; account_read = c.account-account.ensures; found_is = c.creation_refusal.ensures.value } in
+    record { kept = c.self.invariant; is = c.self.view_is; tenant = c.requires.tenant_there; texts = record { metadata = c.requires.metadata; concat = c.requires.concat }; at = c.from-place.ensures; numbers_read = c.numbers-numbers.ensures.value; account_read = c.account-account.ensures; found_is = c.creation_refusal.ensures } in
     let bytes : c.first.inside.bytes.now ≡ c.args.first.bytes = ap (λ (first : FirstChunk). first.bytes) c.first.view_is in
     let is = creation r c.in_default.is in
     record { blocks = rw bytes (create-blocks b c.args.tenant c.args.new c.args.first c.args.now is) }
@@ -76,7 +76,7 @@ pub returns-in-Ok-clause-ready : goal.returns-in-Ok-clause-ready
 returns-in-Ok-clause-ready c =
     let b = the_view c.self.inside in
     let r : IsRead b c.args.self.now c.args.tenant c.from-place.result c.numbers-numbers.result.now c.account-account.result c.args.new c.args.first c.creation_refusal.result =
-    record { kept = c.self.invariant; is = c.self.view_is; tenant = c.requires.tenant_there; texts = record { metadata = c.requires.metadata; concat = c.requires.concat }; at = c.from-place.ensures; numbers_read = c.numbers-numbers.ensures.value; account_read = c.account-account.ensures; found_is = c.creation_refusal.ensures.value } in
+    record { kept = c.self.invariant; is = c.self.view_is; tenant = c.requires.tenant_there; texts = record { metadata = c.requires.metadata; concat = c.requires.concat }; at = c.from-place.ensures; numbers_read = c.numbers-numbers.ensures.value; account_read = c.account-account.ensures; found_is = c.creation_refusal.ensures } in
     let bytes : c.first.inside.bytes.now ≡ c.args.first.bytes = ap (λ (first : FirstChunk). first.bytes) c.first.view_is in
     let is = creation r c.in_default.is in
     let ready : ReadyUpload = record { tenant = c.args.tenant; new = c.args.new; first = c.args.first; now = c.args.now; expires = c.first_end-expires.result; body = c.in-Ok.body } in
@@ -94,7 +94,7 @@ pub returns-in-Err-clause-refused : goal.returns-in-Err-clause-refused
 returns-in-Err-clause-refused c =
     let b = the_view c.self.inside in
     let r : IsRead b c.args.self.now c.args.tenant c.from-place.result c.numbers-numbers.result.now c.account-account.result c.args.new c.args.first c.creation_refusal.result =
-    record { kept = c.self.invariant; is = c.self.view_is; tenant = c.requires.tenant_there; texts = record { metadata = c.requires.metadata; concat = c.requires.concat }; at = c.from-place.ensures; numbers_read = c.numbers-numbers.ensures.value; account_read = c.account-account.ensures; found_is = c.creation_refusal.ensures.value } in
+    record { kept = c.self.invariant; is = c.self.view_is; tenant = c.requires.tenant_there; texts = record { metadata = c.requires.metadata; concat = c.requires.concat }; at = c.from-place.ensures; numbers_read = c.numbers-numbers.ensures.value; account_read = c.account-account.ensures; found_is = c.creation_refusal.ensures } in
     let bytes : c.first.inside.bytes.now ≡ c.args.first.bytes = ap (λ (first : FirstChunk). first.bytes) c.first.view_is in
     let is = creation r c.in_default.is in
     let some = subst (λ n. 0 < n) (create-taken b c.args.tenant c.args.new c.args.first c.args.now is _ refl) (rw bytes at c.in-Err.ensures.memory) in

@@ -1,4 +1,4 @@
-use Rattle.std.proofs.Common.{◌+◌, List, [], ◌∷◌, ◌++◌, map, refl, sym, ap, ◌∙◌, subst, arith}
+use Rattle.std.proofs.Common.{◌+◌, List, [], ◌∷◌, ◌++◌, length, map, refl, sym, ap, ◌∙◌, subst, arith}
 use Rattle.std.proofs.Math.ListN.{length-map}
 use Rattle.upload_book.specs.Concat.{joined_len}
 use Rattle.upload_book.specs.declared.piece.Piece.{Piece}
@@ -7,7 +7,7 @@ use Rattle.upload_book.specs.Store.{Store, AreFew, rows_at}
 use Rattle.upload_book.specs.Stored.{StoredUpload, as_piece}
 use Rattle.upload_book.specs.TenantBook.{Entry}
 use Rattle.upload_book.proofs.StoreJoin.{JoinsIn, JoinsIn-held, IsJoined, joined-held, joined-len, listed-read, part-there, IsKept-joined, plain-joined, charge-joined, Joins-joined}
-use Rattle.upload_book.proofs.StoreLemmas.{IsPart-read, room-part, spare-some}
+use Rattle.upload_book.proofs.StoreLemmas.{IsPart-read, part_within, room-part, spare-some, uploads-fit}
 use Rattle.upload_book.proofs.store.Store.join.Goals as goal
 
 pub hold_each-requires-clause-held : goal.hold_each-requires-clause-held
@@ -83,3 +83,17 @@ pub returns-clause-charge : goal.returns-clause-charge
 unfolding after
 returns-clause-charge c =
     rw (← c.self.view_is) (charge-joined c.self.inside c.args.tenant c.index_mut-shelf.result.now (after c) c.args.ready.new c.args.ready.now c.hold_each.new.pieces.items c.hold_each.new.pool c.self.invariant (joins c) (joined c))
+
+pub hold_each-requires-clause-room : goal.hold_each-requires-clause-room
+hold_each-requires-clause-room c = omega (arith, c.requires.listed.room, ap (length {A = Piece}) c.requires.listed.empty, c.args.ready.pieces.ok.0)
+
+pub index_mut-shelf-requires : goal.index_mut-shelf-requires
+index_mut-shelf-requires c = omega (arith, part_within c.self.inside c.args.self.now c.args.tenant c.self.view_is c.requires.tenant, c.self.inside.shelves.ok.0)
+
+pub joined-upload-requires-clause-concat : goal.joined-upload-requires-clause-concat
+joined-upload-requires-clause-concat c = c.requires.concat
+
+pub push_reserved-requires : goal.push_reserved-requires
+push_reserved-requires c =
+    let part = IsPart-read c.self.inside c.args.self.now c.args.tenant c.index_mut-shelf.result.now c.self.view_is c.requires.tenant c.index_mut-shelf.ensures.value in
+    uploads-fit c.self.inside c.args.self.now c.args.tenant c.index_mut-shelf.result.now c.self.invariant c.self.view_is part c.requires.room

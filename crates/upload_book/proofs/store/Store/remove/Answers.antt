@@ -1,6 +1,6 @@
 use Rattle.std.proofs.Common.{◌-◌, refl, arith}
 use Rattle.upload_book.specs.declared.shelf.Shelf.{Shelf as KeptShelf}
-use Rattle.upload_book.proofs.StoreLemmas.{IsPart-read, IsEntry-read, room-part}
+use Rattle.upload_book.proofs.StoreLemmas.{IsPart-read, IsEntry-read, part_within, place-within, room-part}
 use Rattle.upload_book.proofs.StoreGone.{GivesUp, IsGivenUp, given-held, given-within, IsKept-given, plain-given, charge-given}
 use Rattle.upload_book.proofs.store.Store.remove.Goals as goal
 
@@ -62,3 +62,17 @@ pub returns-clause-charge : goal.returns-clause-charge
 unfolding after
 returns-clause-charge c =
     rw (← c.self.view_is) (charge-given c.self.inside c.args.tenant c.args.place c.index_mut-shelf.result.now (after c) c.remove-upload.result c.give_back-freed.result.0 c.give_back-freed.new.pool c.self.invariant (gave c) (given c))
+
+pub index_mut-shelf-requires : goal.index_mut-shelf-requires
+index_mut-shelf-requires c = omega (arith, part_within c.self.inside c.args.self.now c.args.tenant c.self.view_is c.requires.tenant, c.self.inside.shelves.ok.0)
+
+pub remove-upload-requires : goal.remove-upload-requires
+remove-upload-requires c =
+    let part = IsPart-read c.self.inside c.args.self.now c.args.tenant c.index_mut-shelf.result.now c.self.view_is c.requires.tenant c.index_mut-shelf.ensures.value in
+    place-within c.self.inside c.args.self.now c.args.tenant c.args.place c.index_mut-shelf.result.now c.self.view_is part c.requires.place
+
+pub push_reserved-requires : goal.push_reserved-requires
+push_reserved-requires c =
+    let part = IsPart-read c.self.inside c.args.self.now c.args.tenant c.index_mut-shelf.result.now c.self.view_is c.requires.tenant c.index_mut-shelf.ensures.value in
+    let room = room-part c.self.inside c.args.tenant c.index_mut-shelf.result.now c.self.invariant part in
+    omega (arith, room.spare, room.boxes, c.remove-upload.ensures.len)

@@ -5,11 +5,11 @@ use Rattle.block_bodies.specs.Bodies.{HasRoom as HasRoomFor, Chain}
 use Rattle.upload_book.specs.Account.{blocks_between}
 use Rattle.upload_book.specs.declared.shelf.Shelf.{Shelf as KeptShelf}
 use Rattle.upload_book.specs.Kept.{store_of}
-use Rattle.upload_book.specs.Store.{upload_at}
+use Rattle.upload_book.specs.Store.{Store, upload_at}
 use Rattle.upload_book.specs.Stored.{own_chain}
 use Rattle.upload_book.specs.Upload.{offset_of}
 use Rattle.upload_book.proofs.StoreAppend.{alone-read, body-read, needs-read, free-read}
-use Rattle.upload_book.proofs.StoreLemmas.{OnErr-of, IsPart-read, IsEntry-read, own-kind, at-place, room-part, room-changed, store_of-same}
+use Rattle.upload_book.proofs.StoreLemmas.{OnErr-of, IsPart-read, IsEntry-read, part_within, place-within, own-kind, at-place, room-part, room-changed, store_of-same}
 use Rattle.upload_book.proofs.StoreReserve.{IsReserved, IsKept-reserved, chain-reserved, plain-reserved}
 use Rattle.upload_book.proofs.StoreRenew.{IsRenewed, IsKept-renewed}
 use Rattle.upload_book.proofs.store.Store.reserve.Goals.{In_ok-reserve}
@@ -116,3 +116,29 @@ returns-clause-listed c =
     subst (λ (x : Chain). HasRoomFor c.self.inside.pool x c.args.more)
     (sym (chain-reserved c.self.inside c.args.tenant c.args.place c.index_mut-shelf.result.now (after c) c.index_mut-upload.result.now (own_chain c.reserve.new.self.kept.pieces) c.self.invariant (reserved c)))
     c.in_ok-reserve.ensures.room
+
+pub index_mut-shelf-requires : goal.index_mut-shelf-requires
+index_mut-shelf-requires c = omega (arith, part_within c.self.inside c.args.self.now c.args.tenant c.self.view_is c.requires.tenant, c.self.inside.shelves.ok.0)
+
+pub index_mut-upload-requires : goal.index_mut-upload-requires
+index_mut-upload-requires c =
+    let part = IsPart-read c.self.inside c.args.self.now c.args.tenant c.index_mut-shelf.result.now c.self.view_is c.requires.tenant c.index_mut-shelf.ensures.value in
+    place-within c.self.inside c.args.self.now c.args.tenant c.args.place c.index_mut-shelf.result.now c.self.view_is part c.requires.place
+
+pub reserve-requires-clause-own : goal.reserve-requires-clause-own
+reserve-requires-clause-own c =
+    let part = IsPart-read c.self.inside c.args.self.now c.args.tenant c.index_mut-shelf.result.now c.self.view_is c.requires.tenant c.index_mut-shelf.ensures.value in
+    let entry = IsEntry-read c.self.inside c.args.self.now c.args.tenant c.args.place c.index_mut-shelf.result.now c.index_mut-upload.result.now c.self.view_is part c.requires.place c.index_mut-upload.ensures.value in
+    own-kind c.self.inside c.args.self.now c.args.tenant c.args.place c.index_mut-shelf.result.now c.index_mut-upload.result.now c.self.view_is part entry c.requires.alone.own
+
+pub returns-in_err-reserve-clause-pool : goal.returns-in_err-reserve-clause-pool
+returns-in_err-reserve-clause-pool c = ap (λ (s : Store). s.pool) c.self.view_is
+
+pub returns-in_err-reserve-clause-room_stays : goal.returns-in_err-reserve-clause-room_stays
+returns-in_err-reserve-clause-room_stays c = ap (λ (s : Store). s.room) c.self.view_is
+
+pub returns-clause-pool : goal.returns-clause-pool
+returns-clause-pool c = ap (λ (s : Store). s.pool) c.self.view_is
+
+pub returns-clause-room_stays : goal.returns-clause-room_stays
+returns-clause-room_stays c = ap (λ (s : Store). s.room) c.self.view_is
