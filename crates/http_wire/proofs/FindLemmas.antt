@@ -1,5 +1,5 @@
 -- The search for a head, one read after another.
-use Rattle.std.proofs.Common.{◌≡◌, ◌⊎◌, ◌≢◌, Bool, ◌==◌, ℕ, suc, ◌+◌, ◌-◌, ◌<◌, ◌≤◌, min, nat_le, if◌then◌else◌, true, false, List, [], ◌∷◌, ◌++◌, Result, Ok, Err, OnErr, length, take, drop, Option, None, Some, option_map, refl, sym, ap, ◌∙◌, arith, inl, inr, true≢false, ne_eqb, le-leb, length-append, append-nil, append_assoc, take-append-drop, length-drop, length-take-le, add-zero, zero-add, take_all}
+use Rattle.std.proofs.Common.{◌≡◌, ◌⊎◌, ◌≢◌, Bool, ◌==◌, ℕ, suc, ◌+◌, ◌-◌, ◌<◌, ◌≤◌, min, nat_le, if◌then◌else◌, true, false, List, [], ◌∷◌, ◌++◌, length, take, drop, Option, None, Some, option_map, refl, sym, ap, ◌∙◌, arith, inl, inr, true≢false, ne_eqb, le-leb, length-append, append-nil, append_assoc, take-append-drop, length-drop, length-take-le, add-zero, zero-add, take_all}
 use Rattle.std.proofs.lemmas.Bool.{cases_lt, lt-leb}
 use Rattle.std.proofs.lemmas.List.{take-append-le, drop-append-le}
 use Rattle.http_wire.specs.Ahead.{Ahead}
@@ -131,11 +131,6 @@ none_held r (b ∷ all) held e same t = absurd (true≢false (sym t ∙ e ∙ ne
 pub some_held : (r : Bool) (all held : List ℕ) → r ≡ (length all == 0) → all ≡ held → r ≡ false → held ≢ []
 some_held r [] held e same f none = true≢false (sym e ∙ f)
 some_held r (b ∷ all) held e same f none = absurd cc
-
--- what holds is so at an error
-pub OnErr-from : {T E : Type 0} (r : Result T E) (P : Type 0) → P → OnErr r P
-OnErr-from (Ok x) P p = tt
-OnErr-from (Err e) P p = p
 
 abbrev pub scan_start : Scan
 scan_start = record { before = 0; last = 0 }

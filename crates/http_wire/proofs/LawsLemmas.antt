@@ -93,7 +93,7 @@ sized-bound max (Some k) n is =
     same : (r : Result ℕ WireRefusal) → r ≡ Ok k → r ≡ Ok n → k ≡ n
     same r x y = cc
 
-judge-bound : (max minor : ℕ) (host coding told : FieldText) (n : ℕ) → judge max minor host coding told ≡ Ok n → n ≤ max
+pub judge-bound : (max minor : ℕ) (host coding told : FieldText) (n : ℕ) → judge max minor host coding told ≡ Ok n → n ≤ max
 judge-bound max minor host coding told n is =
     elim (cases_Bool (is_host_wrong minor host)) [
       | inl wrong ↦ absurd (no_length Host (rw wrong at is))

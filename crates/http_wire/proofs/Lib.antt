@@ -8,6 +8,7 @@ pub mod HeadTextLemmas
 pub mod LawsLemmas
 pub mod NameLemmas
 pub mod PageLemmas
+pub mod PassedUp
 pub mod RangeLemmas
 pub mod ReplyLemmas
 pub mod Served

@@ -4,6 +4,7 @@ use Rattle.http_wire.specs.Clock.{asked, unasked}
 use Rattle.http_wire.specs.Exchange.{Exchange}
 use Rattle.http_wire.proofs.AheadLemmas.{Appends-more}
 use Rattle.http_wire.proofs.Finished.{IfOk-when}
+use Rattle.http_wire.proofs.PassedUp.{passed_no, passed}
 use Rattle.http_wire.proofs.Served.{BreaksTurn-front, TakesTurn-broken}
 use Rattle.http_wire.proofs.conversation.take_turn.Goals as goal
 
@@ -45,3 +46,36 @@ returns-clause-writer g c = c.finish_turn.ensures.finishes.writer
 
 pub returns-clause-fault : goal.returns-clause-fault
 returns-clause-fault g c = rw c.in_ok-front.ensures.reader c.finish_turn.ensures.finishes.fault
+
+pub read_front-requires-clause-reader : goal.read_front-requires-clause-reader
+read_front-requires-clause-reader g c = c.requires.reader
+
+pub read_front-requires-clause-writer : goal.read_front-requires-clause-writer
+read_front-requires-clause-writer g c = c.requires.writer
+
+pub read_front-requires-clause-max_size : goal.read_front-requires-clause-max_size
+read_front-requires-clause-max_size g c = c.requires.max_size
+
+pub returns-in_err-front-clause-end : goal.returns-in_err-front-clause-end
+returns-in_err-front-clause-end g c = passed_no c.from_residual.result _ _ c.from_residual.ensures.1
+
+pub returns-in_err-front-clause-ends : goal.returns-in_err-front-clause-ends
+returns-in_err-front-clause-ends g c = passed_no c.from_residual.result _ _ c.from_residual.ensures.1
+
+pub returns-in_err-front-clause-stops : goal.returns-in_err-front-clause-stops
+returns-in_err-front-clause-stops g c = c.read_front.ensures.stops
+
+pub returns-in_err-front-clause-reader : goal.returns-in_err-front-clause-reader
+returns-in_err-front-clause-reader g c = passed_no c.from_residual.result _ _ c.from_residual.ensures.1
+
+pub returns-in_err-front-clause-writer : goal.returns-in_err-front-clause-writer
+returns-in_err-front-clause-writer g c = passed_no c.from_residual.result _ _ c.from_residual.ensures.1
+
+pub returns-in_err-front-clause-fault : goal.returns-in_err-front-clause-fault
+returns-in_err-front-clause-fault g c = passed c.from_residual.result _ c.from_residual.ensures.1 (λ e is. rw is c.in_err-front.ensures.fault)
+
+pub finish_turn-requires-clause-writer : goal.finish_turn-requires-clause-writer
+finish_turn-requires-clause-writer g c = c.in_ok-front.ensures.writer
+
+pub finish_turn-requires-clause-lent : goal.finish_turn-requires-clause-lent
+finish_turn-requires-clause-lent g c = c.in_ok-front.ensures.lent

@@ -1,12 +1,12 @@
-use Rattle.std.proofs.Common.{arith, ◌≡◌, ◌<◌, ◌+◌, ◌-◌, ◌++◌, ℕ, Bool, true, false, true≢false, None, Result, Ok, Err, IfOk, IfErr, IsErrAnd, length, refl, ap, ap₂, sym, ◌∙◌, inl, inr}
+use Rattle.std.proofs.Common.{arith, ◌≡◌, ◌<◌, ◌+◌, ◌-◌, ◌++◌, ℕ, Bool, true, false, true≢false, None, length, refl, ap, ap₂, sym, ◌∙◌, inl, inr}
 use Rattle.std.specs.Prelude.{if◌then◌else◌}
 use Rattle.std.proofs.lemmas.Bool.{lt-leb}
 use Rattle.http_wire.specs.HeadFound.{BreaksHead}
 use Rattle.http_wire.specs.HeadText.{head_len_after, head_len, head_limit}
-use Rattle.http_wire.specs.declared.fault.WireFault.{WireFault}
 use Rattle.http_wire.specs.declared.head_text.Scan.{Scan}
 use Rattle.http_wire.proofs.AheadLemmas.{StopsAtEnd-open, Consumes-more, Consumes-kept}
-use Rattle.http_wire.proofs.FindLemmas.{FindsSoFar-more, head_len-found, Searched-all, Searched-more, IsFound-whole, IsFound-longer, IsFound-endless, IsFound-cut, OnErr-from, none_held, some_held, unseen, unseen_within, some_grown, all_none}
+use Rattle.http_wire.proofs.FindLemmas.{FindsSoFar-more, head_len-found, Searched-all, Searched-more, IsFound-whole, IsFound-longer, IsFound-endless, IsFound-cut, none_held, some_held, unseen, unseen_within, some_grown, all_none}
+use Rattle.http_wire.proofs.PassedUp.{passed_no, passed, OnErr-from}
 use Rattle.http_wire.proofs.read.find_head.Goals as goal
 
 pub returns-then-skipped-ge-HEAD_LIMIT-clause-found : goal.returns-then-skipped-ge-HEAD_LIMIT-clause-found
@@ -101,16 +101,6 @@ returns-in_err-fill-clause-unfinished g c =
     let short = rw c.held-held.ensures.bytes at c.if-skipped-seen-ge-HEAD_LIMIT.false in
     OnErr-from c.from_residual-in_err-fill.result (BreaksHead (g.R.Source.remaining c.args.reader.now) (g.R.Source.remaining c.fill.new.reader) c.args.inbox.now.held)
     (loop.finds.0, Consumes-kept _ _ _ loop.finds.0 loop.finds.1 c.in_err-fill.ensures.unread.2, inl (IsFound-cut (c.args.inbox.now.held ++ loop.finds.0) held c.in_ok-skipped.skipped loop.finds.2 none short loop.held))
-
--- an error that was passed up is no success
-passed_no : {T : Type 0} (r : Result T WireFault) (Q : WireFault → Type 0) (P : T → Type 0) → IsErrAnd r Q → IfOk r P
-passed_no (Ok x) Q P h = absurd h
-passed_no (Err e) Q P h = tt
-
--- what holds of it
-passed : {T : Type 0} {Q : WireFault → Type 0} (r : Result T WireFault) (P : WireFault → Type 0) → IsErrAnd r Q → ((e : WireFault) → Q e → P e) → IfErr r P
-passed (Ok x) P h f = absurd h
-passed (Err e) P h f = f e h
 
 -- a scan that begins
 begun : (s : Scan) → s.before ≡ 0 → s.last ≡ 0 → s ≡ record { before = 0; last = 0 }

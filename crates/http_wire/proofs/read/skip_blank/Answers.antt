@@ -3,7 +3,8 @@ use Rattle.http_wire.specs.Ahead.{Ahead}
 use Rattle.http_wire.specs.HeadText.{blank_len, head_limit}
 use Rattle.http_wire.specs.HeadFound.{BreaksHead}
 use Rattle.http_wire.proofs.AheadLemmas.{StopsAtEnd-open, Consumes-none, Consumes-more, Consumes-kept}
-use Rattle.http_wire.proofs.FindLemmas.{Skips-from, SkipsSoFar-start, SkipsSoFar-skipped, SkipsSoFar-more, IsUnfinished-blank, none_held, some_held, OnErr-from}
+use Rattle.http_wire.proofs.FindLemmas.{Skips-from, SkipsSoFar-start, SkipsSoFar-skipped, SkipsSoFar-more, IsUnfinished-blank, none_held, some_held}
+use Rattle.http_wire.proofs.PassedUp.{OnErr-from}
 use Rattle.http_wire.proofs.read.skip_blank.Goals as goal
 use Rattle.http_wire.proofs.read.skip_blank.Goals.{then-not-is_empty-via-then-not-is_empty, then-not-is_empty-via-else-not-is_empty+then-is_ended, then-not-is_empty-via-else-not-is_empty+else-is_ended+then-skipped-ge-HEAD_LIMIT}
 
