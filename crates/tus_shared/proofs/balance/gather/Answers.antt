@@ -1,8 +1,8 @@
-use Rattle.std.proofs.Common.{◌+◌, ap, refl, ◌∙◌}
+use Rattle.std.proofs.Common.{◌+◌, ap, refl, sym, ◌∙◌, arith}
 use Rattle.std.proofs.lemmas.List.Elements.{All-cons}
 use mathlib.Core.List.{IsPrefix}
 use Rattle.tus_shared.specs.Desk.{Desk}
-use Rattle.tus_shared.proofs.SharesLemmas.{IsLeft-next}
+use Rattle.tus_shared.proofs.SharesLemmas.{IsLeft-done, IsLeft-next}
 use Rattle.tus_shared.proofs.balance.gather.Goals as goal
 
 pub loop-desk-init : goal.loop-desk-init
@@ -21,3 +21,35 @@ loop-desk-preserved g c =
           (c.merge-in-loop-desk.ensures.parts ∙ ap (λ n. c.loop-desk.released.parts + n) c.desk.invariant.2)
           (c.merge-in-loop-desk.ensures.amount ∙ ap (λ n. c.loop-desk.released.amount + n) (ap (λ (d : Desk). d.released) c.desk.view_is)) i.2,
     )
+
+pub next-requires : goal.next-requires
+next-requires g c = tt
+
+pub tell-requires : goal.tell-requires
+tell-requires g c = c.desk.invariant.4 ∙ sym c.requires.log
+
+pub merge-requires : goal.merge-requires
+merge-requires g c κs within = within
+
+pub merge-requires-in-loop-desk : goal.merge-requires-in-loop-desk
+merge-requires-in-loop-desk g c κs within = within
+
+pub loop-desk-smaller : goal.loop-desk-smaller
+loop-desk-smaller g c = omega (arith, c.in-Some.ensures.steps.1)
+
+pub returns-clause-told : goal.returns-clause-told
+returns-clause-told g c = c.loop-desk.invariant.0 (λ k d within. absurd (omega (arith, within, c.in-None.ensures.steps.0, c.loop-desk.desk-iterator.rest.ok.0)))
+
+pub returns-clause-charged_parts : goal.returns-clause-charged_parts
+returns-clause-charged_parts g c = omega (arith, c.loop-desk.invariant.1.parts, c.in-None.ensures.steps.0, c.loop-desk.desk-iterator.rest.ok.0, c.args.desks.ok.0)
+
+pub returns-clause-released_parts : goal.returns-clause-released_parts
+returns-clause-released_parts g c = omega (arith, c.loop-desk.invariant.2.parts, c.in-None.ensures.steps.0, c.loop-desk.desk-iterator.rest.ok.0, c.args.desks.ok.0)
+
+pub returns-clause-charged : goal.returns-clause-charged
+returns-clause-charged g c =
+    IsLeft-done (λ (d : Desk). d.charged) _ _ _ _ _ _ (omega (arith, c.in-None.ensures.steps.0, c.loop-desk.desk-iterator.rest.ok.0)) c.loop-desk.invariant.1
+
+pub returns-clause-released : goal.returns-clause-released
+returns-clause-released g c =
+    IsLeft-done (λ (d : Desk). d.released) _ _ _ _ _ _ (omega (arith, c.in-None.ensures.steps.0, c.loop-desk.desk-iterator.rest.ok.0)) c.loop-desk.invariant.2
