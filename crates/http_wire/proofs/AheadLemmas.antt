@@ -3,7 +3,7 @@ use Rattle.std.proofs.Common.{◌≡◌, Bool, subst, ℕ, refl, ◌+◌, ◌≤
 use Rattle.std.proofs.Math.Seq.{take-add, take-append-add}
 use Rattle.std.proofs.lemmas.List.{take-append-le}
 use Rattle.std.specs.Io.KnownBytes.{Appends, Consumes, Keeps}
-use Rattle.http_wire.specs.Ahead.{Ahead, StopsAtEnd}
+use Rattle.http_wire.specs.inside.Ahead.{Ahead, StopsAtEnd}
 use Rattle.http_wire.specs.Writes.{Writes}
 use Rattle.http_wire.specs.declared.fault.WireFault.{WireFault}
 
@@ -35,14 +35,14 @@ Appends-both : {T : Type 0} (r : Result T WireFault) (x y z : Option (List ℕ))
 Appends-both (Ok done) x y z first rest h k = Appends-more x y z first rest h k
 Appends-both (Err e) x y z first rest h k = tt
 
--- the first piece was written, and a front of the rest
+-- the first piece was written, and a prefix of the rest
 Appends-rest : {T : Type 0} (r : Result T WireFault) (x y z : Option (List ℕ)) (first rest : List ℕ) → Appends x y first
     → OnErr r ((n : ℕ) × (n ≤ length rest) × Appends y z (take n rest)) → OnErr r ((n : ℕ) × (n ≤ length (first ++ rest)) × Appends x z (take n (first ++ rest)))
 Appends-rest (Ok done) x y z first rest h k = tt
 Appends-rest (Err e) x y z first rest h k =
     (length first + k.0, omega (arith, length-append first rest, k.1), rw (take-append-add first rest k.0) (Appends-more x y z first (take k.0 rest) h k.2))
 
--- a write of a front of what was left of some bytes
+-- a write of a prefix of what was left of some bytes
 pub Appends-step : (x y z : Option (List ℕ)) (bytes : List ℕ) (done n : ℕ) → Appends x y (take done bytes) → Appends y z (take n (drop done bytes))
     → Appends x z (take (done + n) bytes)
 Appends-step x y z bytes done n h k = rw take-add (Appends-more x y z (take done bytes) (take n (drop done bytes)) h k)
@@ -74,10 +74,10 @@ StopsAtEnd-open before here after old held new stops unended seen = absurd (true
 pub Writes-first : {T U : Type 0} (r : Result U WireFault) (e given : WireFault) (x y : Option (List ℕ)) (failed : Bool) (first rest : List ℕ) → r ≡ Err e → e ≡ given
     → Writes {T = T} x y failed first (Err given) → Writes x y failed (first ++ rest) r
 Writes-first r e given x y failed first rest is same w =
-    let part = w.part in
+    let written = w.prefix in
     subst (λ (s : Result _ WireFault). Writes x y failed (first ++ rest) s) (sym is) (record {
       all = tt;
-      part = (part.0, omega (arith, length-append first rest, part.1), rw (take-append-le part.0 first rest part.1) part.2);
+      prefix = (written.0, omega (arith, length-append first rest, written.1), rw (take-append-le written.0 first rest written.1) written.2);
       failed = w.failed;
       fault = same ∙ w.fault;
     })
@@ -87,7 +87,7 @@ pub Writes-rest : {T : Type 0} (r : Result T WireFault) (x y z : Option (List �
     → Writes x z failed (first ++ rest) r
 Writes-rest r x y z failed first rest h w = record {
   all = Appends-both r x y z first rest h w.all;
-  part = Appends-rest r x y z first rest h w.part;
+  prefix = Appends-rest r x y z first rest h w.prefix;
   failed = w.failed;
   fault = w.fault;
 }

@@ -1,15 +1,15 @@
 -- The values of a name, one field after another.
-use Rattle.std.proofs.Common.{◌≡◌, ◌≢◌, ℕ, ◌+◌, ◌<◌, List, [], ◌∷◌, ◌++◌, length, take, get_or, map, All, arith, bytes_eq, false, refl, sym, ap, ◌∙◌, inl, inr, append-nil}
+use Rattle.std.proofs.Common.{◌≡◌, ◌≢◌, ℕ, ◌+◌, ◌<◌, List, [], ◌∷◌, ◌++◌, length, take, get_or, bytes_eq, false, refl, sym, ap, ◌∙◌, inl, inr, append-nil}
 use Rattle.std.proofs.lemmas.Bool.{cases_Bool}
 use Rattle.std.proofs.lemmas.List.{take_more}
 use Rattle.std.proofs.lemmas.Slice.Eq.{bytes_eq-Decides}
 use Rattle.http_header.specs.HeaderMap.{Entries, get_all, append}
 use Rattle.http_header.specs.Token.{lowercase}
 use Rattle.http_header.proofs.HeaderMapLemmas.{get_all-append_same, get_all-append_other}
-use Rattle.httparse.specs.Spans.{IsWithin, span_bytes}
+use Rattle.httparse.specs.Spans.{span_bytes}
 use Rattle.httparse.specs.declared.spans.Span.{Span}
 use Rattle.httparse.specs.declared.spans.HeaderSpan.{HeaderSpan}
-use Rattle.http_wire.specs.Fields.{IsInside, span_of, spans_named, told_at, told_by}
+use Rattle.http_wire.specs.inside.FieldSpans.{spans_named}
 
 pub spans_named-append : (head name : List ℕ) (xs ys : List HeaderSpan)
     → spans_named head name (xs ++ ys) ≡ spans_named head name xs ++ spans_named head name ys
@@ -48,15 +48,3 @@ pub found_more : (head name : List ℕ) (xs : List HeaderSpan) (i : ℕ) (d : He
     → after ≡ spans_named head name (take (i + 1) xs)
 found_more head name xs i d before after h step so_far =
     step ∙ ap (λ l. l ++ spans_named head name (get_or xs i d ∷ [])) so_far ∙ sym (spans_named_more head name xs i d h)
-
--- the place of values that lie in the head lies in it
-pub IsInside-span_of : (n : ℕ) (spans : List Span) → All (IsWithin n) spans → IsInside n (span_of spans)
-IsInside-span_of n [] h = (omega arith, omega arith)
-IsInside-span_of n (s ∷ []) h = h 0 s (omega arith)
-IsInside-span_of n (s ∷ t ∷ spans) h = (omega arith, omega arith)
-
--- what stands in the place of some values
-pub told_at-span_of : (head : List ℕ) (spans : List Span) → told_at head (span_of spans) ≡ told_by (map (span_bytes head) spans)
-told_at-span_of head [] = refl
-told_at-span_of head (s ∷ []) = refl
-told_at-span_of head (s ∷ t ∷ spans) = refl

@@ -1,15 +1,15 @@
 -- The search for a head, one read after another.
-use Rattle.std.proofs.Common.{◌≡◌, ◌⊎◌, ◌≢◌, Bool, ◌==◌, ℕ, suc, ◌+◌, ◌-◌, ◌<◌, ◌≤◌, min, nat_le, if◌then◌else◌, true, false, List, [], ◌∷◌, ◌++◌, length, take, drop, Option, None, Some, option_map, refl, sym, ap, ◌∙◌, arith, inl, inr, true≢false, ne_eqb, le-leb, length-append, append-nil, append_assoc, take-append-drop, length-drop, length-take-le, add-zero, zero-add, take_all}
+use Rattle.std.proofs.Common.{◌≡◌, ◌⊎◌, ◌≢◌, Bool, ◌==◌, ℕ, suc, ◌+◌, ◌-◌, ◌<◌, ◌≤◌, min, nat_le, if◌then◌else◌, true, false, List, [], ◌∷◌, ◌++◌, Result, Ok, Err, OnErr, length, take, drop, Option, None, Some, option_map, refl, sym, ap, ◌∙◌, arith, inl, inr, true≢false, ne_eqb, le-leb, length-append, append-nil, append_assoc, take-append-drop, length-drop, length-take-le, add-zero, zero-add, take_all}
 use Rattle.std.proofs.lemmas.Bool.{cases_lt, lt-leb}
 use Rattle.std.proofs.lemmas.List.{take-append-le, drop-append-le}
-use Rattle.http_wire.specs.Ahead.{Ahead}
-use Rattle.http_wire.specs.HeadFound.{Skips, IsUnfinished}
+use Rattle.http_wire.specs.inside.Ahead.{Ahead}
+use Rattle.http_wire.specs.inside.HeadSearch.{Skips, IsUnfinished}
 use Rattle.http_wire.specs.HeadText.{HeadText, whole, too_long, cut, nothing, head_limit, head_len_after, head_len, text_at, blank_len, head_text}
-use Rattle.http_wire.specs.Scan.{scanned}
-use Rattle.http_wire.specs.declared.head_text.Scan.{Scan}
+use Rattle.http_wire.specs.inside.Scan.{scanned}
+use Rattle.http_wire.specs.declared.read.head_text.Scan.{Scan}
 use Rattle.http_wire.proofs.HeadTextLemmas.{head_len_after-append, head_len_after-pos, head_len_after-within, head_len_after-later, text_at-long, text_at-min, blank_len-all, blank_len-some}
 
--- the head at the front of bytes before which some line ends were skipped
+-- the head at the start of bytes before which some line ends were skipped
 abbrev pub head_from : ℕ → List ℕ → HeadText
 head_from skipped input = let text = drop (blank_len input) input in text_at (skipped + blank_len input) text (head_len text)
 
@@ -132,6 +132,11 @@ pub some_held : (r : Bool) (all held : List ℕ) → r ≡ (length all == 0) →
 some_held r [] held e same f none = true≢false (sym e ∙ f)
 some_held r (b ∷ all) held e same f none = absurd cc
 
+-- what holds is so at an error
+pub OnErr-from : {T E : Type 0} (r : Result T E) (P : Type 0) → P → OnErr r P
+OnErr-from (Ok x) P p = tt
+OnErr-from (Err e) P p = p
+
 abbrev pub scan_start : Scan
 scan_start = record { before = 0; last = 0 }
 
@@ -179,30 +184,30 @@ Searched-more s held got all h e =
     }
 
 -- a head that is no longer than a head may be
-pub IsFound-whole : (bytes held : List ℕ) (skipped n : ℕ) → FindsSoFar bytes held skipped → head_len held ≡ Some n → n ≤ length held → skipped + n ≤ head_limit
+pub IsHeadFound-whole : (bytes held : List ℕ) (skipped n : ℕ) → FindsSoFar bytes held skipped → head_len held ≡ Some n → n ≤ length held → skipped + n ≤ head_limit
     → (rest : List ℕ) → head_text (bytes ++ rest) ≡ whole (take n held) (drop n held ++ rest)
-IsFound-whole bytes held skipped n h is within short rest =
+IsHeadFound-whole bytes held skipped n h is within short rest =
     let len = head_len_after-append 0 0 held rest n is in
     h rest ∙ ap (text_at skipped (held ++ rest)) len
     ∙ rw (le-leb (skipped + n) head_limit short, take-append-le n held rest within, drop-append-le n held rest within) refl
 
 -- one that is longer
-pub IsFound-longer : (bytes held : List ℕ) (skipped n : ℕ) → FindsSoFar bytes held skipped → head_len held ≡ Some n → head_limit < skipped + n
+pub IsHeadFound-longer : (bytes held : List ℕ) (skipped n : ℕ) → FindsSoFar bytes held skipped → head_len held ≡ Some n → head_limit < skipped + n
     → (rest : List ℕ) → head_text (bytes ++ rest) ≡ too_long
-IsFound-longer bytes held skipped n h is long rest =
+IsHeadFound-longer bytes held skipped n h is long rest =
     let len = head_len_after-append 0 0 held rest n is in
     h rest ∙ ap (text_at skipped (held ++ rest)) len ∙ rw (lt-leb (skipped + n) head_limit long) refl
 
 -- more bytes than a head may have, and no end
-pub IsFound-endless : (bytes held : List ℕ) (skipped : ℕ) → FindsSoFar bytes held skipped → head_len held ≡ None → head_limit ≤ skipped + length held
+pub IsHeadFound-endless : (bytes held : List ℕ) (skipped : ℕ) → FindsSoFar bytes held skipped → head_len held ≡ None → head_limit ≤ skipped + length held
     → (rest : List ℕ) → head_text (bytes ++ rest) ≡ too_long
-IsFound-endless bytes held skipped h none long rest = h rest ∙ text_at-long skipped held rest none long
+IsHeadFound-endless bytes held skipped h none long rest = h rest ∙ text_at-long skipped held rest none long
 
 -- the end of the input inside a head
-pub IsFound-cut : (bytes held : List ℕ) (skipped : ℕ) → FindsSoFar bytes held skipped → head_len held ≡ None → skipped + length held < head_limit → held ≢ []
+pub IsHeadFound-cut : (bytes held : List ℕ) (skipped : ℕ) → FindsSoFar bytes held skipped → head_len held ≡ None → skipped + length held < head_limit → held ≢ []
     → head_text bytes ≡ cut
-IsFound-cut bytes [] skipped h none short some = absurd (some refl)
-IsFound-cut bytes (b ∷ held) skipped h none short some =
+IsHeadFound-cut bytes [] skipped h none short some = absurd (some refl)
+IsHeadFound-cut bytes (b ∷ held) skipped h none short some =
     alone bytes (b ∷ held) skipped h ∙ ap (text_at skipped (b ∷ held)) none ∙ rw (lt-leb head_limit (skipped + length (b ∷ held)) short) refl
 
 -- the bytes that were not seen yet
@@ -280,7 +285,7 @@ head_text-append input more text rest is =
         let some = head_len_after-pos 0 0 held n len in
         let within = head_len_after-within 0 0 held n len in
         let found = FindsSoFar-found (input ++ []) input 0 (SkipsSoFar-start input) (omega (arith, some, within)) in
-        let stays = IsFound-whole (input ++ []) held (0 + blank_len input) n found len within (omega (arith, short)) more in
+        let stays = IsHeadFound-whole (input ++ []) held (0 + blank_len input) n found len within (omega (arith, short)) more in
         ap (λ l. head_text (l ++ more)) (sym (append-nil input)) ∙ stays ∙ ap (followed_text more) same
 
 -- so the bytes are at most those of a head and what follows it

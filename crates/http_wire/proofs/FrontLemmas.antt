@@ -7,27 +7,26 @@ use Rattle.tus_steps.specs.declared.tus_fields.TusFields.{TusFields}
 use Rattle.tus_steps.specs.Field.{FieldText}
 use Rattle.tus_steps.specs.Method.{is_applied_when_cut}
 use Rattle.tus_steps.specs.Request.{Request}
-use Rattle.http_wire.specs.Ahead.{Ahead}
+use Rattle.http_wire.specs.inside.Ahead.{Ahead}
 use Rattle.http_wire.specs.Conversation.{continue_text}
 use Rattle.http_wire.specs.Front.{Front, Begins, BeginsWhole, IsFront, LacksMemory, message, refused, cut_patch, cut_other, clean_end, closing, framing_of, unknown_framing, sure_room, method_in, is_waiting, request_of, tus_fields, with_body, judged, judged_front, parsed_front}
-use Rattle.http_wire.specs.Fields.{told_at}
-use Rattle.http_wire.specs.FrontRead.{BeginsHead, ReadsFront}
-use Rattle.http_wire.specs.NextRead.{waits}
-use Rattle.http_wire.specs.HeadFound.{IsUnfinished}
-use Rattle.http_wire.specs.Shown.{Gives}
+use Rattle.http_wire.specs.Layout.{field_at, request_at}
+use Rattle.http_wire.specs.inside.HeadLayout.{ShowsHead, BeginsHead, ReadsHead}
+use Rattle.http_wire.specs.inside.IncomingLayout.{ReadsIncoming}
+use Rattle.http_wire.specs.ReadOnWire.{waits}
+use Rattle.http_wire.specs.inside.HeadSearch.{IsUnfinished}
 use Rattle.http_wire.specs.HeadText.{HeadText, whole, too_long, cut, nothing, head_text, has_many_lines}
-use Rattle.http_wire.specs.Parts.{request_at, ShowsHead}
-use Rattle.http_wire.specs.declared.parts.Parts.{Parts}
+use Rattle.http_wire.specs.declared.read.layout.Layout.{Layout}
 use Rattle.http_wire.specs.declared.refusal.WireRefusal.{WireRefusal}
 use Rattle.http_wire.specs.declared.refusal.WireRefusal.TheVariants.{Memory, HeadSize}
 use Rattle.http_wire.specs.declared.framing.Framing.{Framing}
-use Rattle.http_wire.specs.declared.read.Front as read
+use Rattle.http_wire.specs.declared.incoming.Incoming.{Incoming}
 use Rattle.http_wire.specs.declared.fault.WireFault.{WireFault}
 use Rattle.http_wire.specs.declared.fault.WireFault.TheVariants.{Read, Write}
 use Rattle.http_wire.proofs.FindLemmas.{head_text-append}
 
 -- more bytes came
-pub BeginsHead-more : (max : ℕ) (bytes : List ℕ) (p : Parts) (held got all : List ℕ) → BeginsHead max bytes p held → p.head_len ≤ length held → all ≡ held ++ got
+pub BeginsHead-more : (max : ℕ) (bytes : List ℕ) (p : Layout) (held got all : List ℕ) → BeginsHead max bytes p held → p.head_len ≤ length held → all ≡ held ++ got
     → BeginsHead max (bytes ++ got) p all
 BeginsHead-more max bytes p held got all b within e =
     let head : take p.head_len all ≡ take p.head_len held = ap (take p.head_len) e ∙ take-append-le p.head_len held got within in
@@ -42,7 +41,7 @@ BeginsHead-more max bytes p held got all b within e =
     }
 
 -- the front, by the length of the body
-pub IsFront-with_body : (max : ℕ) (bytes : List ℕ) (p : Parts) (held : List ℕ) (b : BeginsHead max bytes p held) (rest : List ℕ)
+pub IsFront-with_body : (max : ℕ) (bytes : List ℕ) (p : Layout) (held : List ℕ) (b : BeginsHead max bytes p held) (rest : List ℕ)
     → IsFront max (bytes ++ rest) (with_body b.head p.body_len (drop p.head_len held ++ rest))
 IsFront-with_body max bytes p held b rest =
     let f = with_body b.head p.body_len (drop p.head_len held ++ rest) in
@@ -50,21 +49,21 @@ IsFront-with_body max bytes p held b rest =
     subst (λ t. Begins max t f) (sym (b.begins rest)) (rw b.few (Some b.head, b.parses, inl same))
 
 -- the body found no memory
-pub IsFront-memory : (max : ℕ) (bytes : List ℕ) (p : Parts) (held : List ℕ) (b : BeginsHead max bytes p held) (rest : List ℕ) → p.head_len ≤ length held
+pub IsFront-memory : (max : ℕ) (bytes : List ℕ) (p : Layout) (held : List ℕ) (b : BeginsHead max bytes p held) (rest : List ℕ) → p.head_len ≤ length held
     → 0 < p.body_len → sure_room < p.head_len + p.body_len → IsFront max (bytes ++ rest) (refused Memory (closing p.framing))
 IsFront-memory max bytes p held b rest within some large =
     let f = refused Memory (closing p.framing) in
     let same : f ≡ refused Memory (closing (framing_of b.head)) = ap (λ x. refused Memory (closing x)) b.shows.framing in
     subst (λ t. Begins max t f) (sym (b.begins rest)) (rw b.few (Some b.head, b.parses, inr (inr (p.body_len, b.shows.body_len, some, rw (length-take-le p.head_len held within) large), same)))
 
--- the request of the parts is that of the head
-pub request_at-shows : (max : ℕ) (text head body : List ℕ) (h : RequestHead) (p : Parts) → ShowsHead max head h p → take p.head_len text ≡ head → drop p.head_len text ≡ body
+-- the request of the layout is that of the head
+pub request_at-shows : (max : ℕ) (text head body : List ℕ) (h : RequestHead) (p : Layout) → ShowsHead max head h p → take p.head_len text ≡ head → drop p.head_len text ≡ body
     → request_at p text ≡ request_of h body
 request_at-shows max text head body h p s front rest =
     rw (front, rest, s.method, s.target, s.fields) refl
 
 -- all of the body is held
-pub IsFront-message : (max : ℕ) (bytes : List ℕ) (p : Parts) (held : List ℕ) (b : BeginsHead max bytes p held) (a : Ahead) → p.head_len + p.body_len ≤ length held
+pub IsFront-message : (max : ℕ) (bytes : List ℕ) (p : Layout) (held : List ℕ) (b : BeginsHead max bytes p held) (a : Ahead) → p.head_len + p.body_len ≤ length held
     → a.lent ≡ take (p.head_len + p.body_len) held → a.held ≡ drop (p.head_len + p.body_len) held
     → (rest : List ℕ) → IsFront max (bytes ++ rest) (message (request_at p a.lent) p.framing p.is_waiting (a.held ++ rest))
 IsFront-message max bytes p held b a whole_body lent left rest =
@@ -88,7 +87,7 @@ IsFront-message max bytes p held b a whole_body lent left rest =
         let request = request_at-shows max a.lent (take p.head_len held) (take p.body_len (drop p.head_len held)) b.head p b.shows head text in
         rw (le-leb p.body_len (length (drop p.head_len held ++ rest)) long, first, later, request, b.shows.framing, b.shows.is_waiting) refl
 
-alone : (max : ℕ) (bytes : List ℕ) (p : Parts) (held : List ℕ) (b : BeginsHead max bytes p held) → IsFront max bytes (with_body b.head p.body_len (drop p.head_len held))
+alone : (max : ℕ) (bytes : List ℕ) (p : Layout) (held : List ℕ) (b : BeginsHead max bytes p held) → IsFront max bytes (with_body b.head p.body_len (drop p.head_len held))
 alone max bytes p held b =
     subst₂ (λ i f. IsFront max i f) (append-nil bytes) (ap (with_body b.head p.body_len) (append-nil (drop p.head_len held))) (IsFront-with_body max bytes p held b [])
 
@@ -97,21 +96,21 @@ short_body : (h : RequestHead) (n : ℕ) (rest : List ℕ) → length rest < n
     → with_body h n rest ≡ (if is_applied_when_cut (method_in h) (tus_fields h).checksum then cut_patch (request_of h rest) (framing_of h) (is_waiting h n) else cut_other (is_waiting h n))
 short_body h n rest short = rw (lt-leb n (length rest) short) refl
 
--- what a cut body does is told by the parts of the head
-cut-shows : (max : ℕ) (text : List ℕ) (h : RequestHead) (p : Parts) → ShowsHead max text h p → (applied : Bool) → is_applied_when_cut p.method (told_at text p.fields.checksum) ≡ applied → is_applied_when_cut (method_in h) (tus_fields h).checksum ≡ applied
+-- what a cut body does follows from the layout of the head
+cut-shows : (max : ℕ) (text : List ℕ) (h : RequestHead) (p : Layout) → ShowsHead max text h p → (applied : Bool) → is_applied_when_cut p.method (field_at text p.fields.checksum) ≡ applied → is_applied_when_cut (method_in h) (tus_fields h).checksum ≡ applied
 cut-shows max text h p shows applied is =
     ap (λ m. is_applied_when_cut m (tus_fields h).checksum) (sym shows.method) ∙ ap (λ (f : TusFields FieldText). is_applied_when_cut p.method f.checksum) (sym shows.fields) ∙ is
 
-pub IsFront-cut_patch : (max : ℕ) (bytes : List ℕ) (p : Parts) (held : List ℕ) (b : BeginsHead max bytes p held) (a : Ahead) → length held < p.head_len + p.body_len
-    → p.head_len ≤ length held → ((head : List ℕ) → is_applied_when_cut p.method (told_at head p.fields.checksum) ≡ true) → a.lent ≡ held → IsFront max bytes (cut_patch (request_at p a.lent) p.framing p.is_waiting)
+pub IsFront-cut_patch : (max : ℕ) (bytes : List ℕ) (p : Layout) (held : List ℕ) (b : BeginsHead max bytes p held) (a : Ahead) → length held < p.head_len + p.body_len
+    → p.head_len ≤ length held → ((head : List ℕ) → is_applied_when_cut p.method (field_at head p.fields.checksum) ≡ true) → a.lent ≡ held → IsFront max bytes (cut_patch (request_at p a.lent) p.framing p.is_waiting)
 IsFront-cut_patch max bytes p held b a short within patch lent =
     let few : length (drop p.head_len held) < p.body_len = omega (arith, length-drop p.head_len held) in
     let request = request_at-shows max a.lent (take p.head_len held) (drop p.head_len held) b.head p b.shows (ap (take p.head_len) lent) (ap (drop p.head_len) lent) in
     let is = cut-shows max (take p.head_len held) b.head p b.shows _ (patch (take p.head_len held)) in
     subst (λ f. IsFront max bytes f) (short_body b.head p.body_len (drop p.head_len held) few ∙ rw (is, request, b.shows.framing, b.shows.is_waiting) refl) (alone max bytes p held b)
 
-pub IsFront-cut_other : (max : ℕ) (bytes : List ℕ) (p : Parts) (held : List ℕ) (b : BeginsHead max bytes p held) → length held < p.head_len + p.body_len
-    → p.head_len ≤ length held → ((head : List ℕ) → is_applied_when_cut p.method (told_at head p.fields.checksum) ≡ false) → IsFront max bytes (cut_other p.is_waiting)
+pub IsFront-cut_other : (max : ℕ) (bytes : List ℕ) (p : Layout) (held : List ℕ) (b : BeginsHead max bytes p held) → length held < p.head_len + p.body_len
+    → p.head_len ≤ length held → ((head : List ℕ) → is_applied_when_cut p.method (field_at head p.fields.checksum) ≡ false) → IsFront max bytes (cut_other p.is_waiting)
 IsFront-cut_other max bytes p held b short within patch =
     let few : length (drop p.head_len held) < p.body_len = omega (arith, length-drop p.head_len held) in
     let is = cut-shows max (take p.head_len held) b.head p b.shows _ (patch (take p.head_len held)) in
@@ -128,7 +127,7 @@ waits-with_body h n rest w =
       ])
     ]
 
-pub IsFront-waits : (max : ℕ) (bytes : List ℕ) (p : Parts) (held : List ℕ) (b : BeginsHead max bytes p held) → p.is_waiting ≡ true
+pub IsFront-waits : (max : ℕ) (bytes : List ℕ) (p : Layout) (held : List ℕ) (b : BeginsHead max bytes p held) → p.is_waiting ≡ true
     → (f : Front) × IsFront max bytes f × (waits f ≡ true)
 IsFront-waits max bytes p held b w =
     (with_body b.head p.body_len (drop p.head_len held), alone max bytes p held b, waits-with_body b.head p.body_len (drop p.head_len held) (sym b.shows.is_waiting ∙ w))
@@ -137,13 +136,13 @@ pub held_in : (n : ℕ) (held got all : List ℕ) → n ≤ length held → all 
 held_in n held got all h e = rw e (omega (arith, length-append held got, h))
 
 -- the write of `100 Continue` failed
-pub ReadsFront-unwritten : (max : ℕ) (bytes : List ℕ) (a : Ahead) (r : Result read.Front WireFault) (e : WireFault) (n : ℕ) → r ≡ Err e → e ≡ Write
-    → (f : Front) → IsFront max bytes f → waits f ≡ true → ReadsFront max (record { input = bytes; text = take n (continue_text true) }) a r
-ReadsFront-unwritten max bytes a r e n is is_write f front w = rw (is, is_write) (f, front, w, (n, refl))
+pub ReadsIncoming-unwritten : (max : ℕ) (bytes : List ℕ) (a : Ahead) (r : Result (Incoming Layout) WireFault) (e : WireFault) (n : ℕ) → r ≡ Err e → e ≡ Write
+    → (f : Front) → IsFront max bytes f → waits f ≡ true → ReadsIncoming max (record { input = bytes; text = take n (continue_text true) }) a r
+ReadsIncoming-unwritten max bytes a r e n is is_write f front w = rw (is, is_write) (f, front, w, (n, refl))
 
 -- a head that was found and read
-pub BeginsHead-found : (max : ℕ) (bytes held found : List ℕ) (len : ℕ) (p : Parts) → found ≡ held → len ≤ length held → p.head_len ≡ length (take len found)
-    → Gives max (take len found) (Ok p) → ((rest : List ℕ) → head_text (bytes ++ rest) ≡ whole (take len held) (drop len held ++ rest)) → BeginsHead max bytes p held
+pub BeginsHead-found : (max : ℕ) (bytes held found : List ℕ) (len : ℕ) (p : Layout) → found ≡ held → len ≤ length held → p.head_len ≡ length (take len found)
+    → ReadsHead max (take len found) (Ok p) → ((rest : List ℕ) → head_text (bytes ++ rest) ≡ whole (take len held) (drop len held ++ rest)) → BeginsHead max bytes p held
 BeginsHead-found max bytes held found len p e within is gives begins =
     let count : length (take len found) ≡ len = rw e (omega (arith, length-take-le len held within)) in
     let n : p.head_len ≡ len = is ∙ count in
@@ -167,10 +166,10 @@ pub IsFront-cut : (max : ℕ) (bytes : List ℕ) → head_text bytes ≡ cut →
 IsFront-cut max bytes e = subst (λ t. Begins max t (cut_other false)) (sym e) refl
 
 -- a read failed before a whole head came
-pub ReadsFront-unfinished : (max : ℕ) (bytes : List ℕ) (a : Ahead) (r : Result read.Front WireFault) (e : WireFault) → r ≡ Err e → e ≡ Read
-    → IsUnfinished bytes → ReadsFront max (record { input = bytes; text = [] }) a r
-ReadsFront-unfinished max bytes a r e is is_read (inl c) = rw (is, is_read) (inl (false, refl, IsFront-cut max bytes c))
-ReadsFront-unfinished max bytes a r e is is_read (inr n) = rw (is, is_read) (inr (refl, subst (λ t. Begins max t clean_end) (sym n) refl))
+pub ReadsIncoming-unfinished : (max : ℕ) (bytes : List ℕ) (a : Ahead) (r : Result (Incoming Layout) WireFault) (e : WireFault) → r ≡ Err e → e ≡ Read
+    → IsUnfinished bytes → ReadsIncoming max (record { input = bytes; text = [] }) a r
+ReadsIncoming-unfinished max bytes a r e is is_read (inl c) = rw (is, is_read) (inl (false, refl, IsFront-cut max bytes c))
+ReadsIncoming-unfinished max bytes a r e is is_read (inr n) = rw (is, is_read) (inr (refl, subst (λ t. Begins max t clean_end) (sym n) refl))
 
 -- what an input begins with, where more bytes follow a message
 abbrev pub followed : List ℕ → Front → Front

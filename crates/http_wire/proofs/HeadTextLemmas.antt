@@ -2,8 +2,8 @@
 use Rattle.std.proofs.Common.{◌≡◌, ℕ, suc, ◌+◌, ◌<◌, ◌≤◌, min, List, [], ◌∷◌, ◌++◌, length, drop, Option, None, Some, option_map, refl, sym, ap, ◌∙◌, arith, inl, inr, one-add, le-leb, length-append, zero-add}
 use Rattle.std.proofs.lemmas.Bool.{cases_Bool, cases_lt, lt-leb}
 use Rattle.http_wire.specs.HeadText.{too_long, head_limit, is_line_end, ends_empty_line, head_len_after, head_len, text_at, blank_len}
-use Rattle.http_wire.specs.Scan.{scanned}
-use Rattle.http_wire.specs.declared.head_text.Scan.{Scan}
+use Rattle.http_wire.specs.inside.Scan.{scanned}
+use Rattle.http_wire.specs.declared.read.head_text.Scan.{Scan}
 
 none_from_suc : (r : Option ℕ) → option_map suc r ≡ None → r ≡ None
 none_from_suc None e = refl
@@ -122,7 +122,7 @@ text_at-min skipped text =
     same : skipped < head_limit → skipped ≡ min skipped head_limit
     same h = omega arith
 
--- the line ends at the front, where all bytes so far are line ends
+-- the line ends at the start, where all bytes so far are line ends
 pub blank_len-all : (xs ys : List ℕ) → drop (blank_len xs) xs ≡ [] → (blank_len xs ≡ length xs) × (blank_len (xs ++ ys) ≡ length xs + blank_len ys)
 blank_len-all [] ys e = (refl, sym (zero-add (blank_len ys)))
 blank_len-all (b ∷ xs) ys e =

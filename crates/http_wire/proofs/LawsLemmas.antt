@@ -19,7 +19,7 @@ use Rattle.http_wire.specs.declared.refusal.WireRefusal.{WireRefusal}
 use Rattle.http_wire.specs.declared.refusal.WireRefusal.TheVariants.{Host, Coding, BodySize, Head, HeadSize}
 use Rattle.http_wire.proofs.FindLemmas.{whole_short}
 use Rattle.http_wire.proofs.FrontLemmas.{is_message, no_message, lacks_none}
-use Rattle.http_wire.proofs.Talk.{Turns-Conversation, Turns-followed, Turns-join}
+use Rattle.http_wire.proofs.ConversationLemmas.{Turns-Conversation, Turns-followed, Turns-join}
 
 module _ {A : Type 0} (steps : A → Request → ℕ → Reply → A → Type 0) where
   pub inputs_join : InputsJoin steps
@@ -79,7 +79,7 @@ rest_of (cut_other waiting) = []
 rest_of clean_end = []
 
 -- a body that is accepted is no longer than the greatest
-sized-bound : (max : ℕ) (told : Option ℕ) (n : ℕ) → sized max told ≡ Ok n → n ≤ max
+sized-bound : (max : ℕ) (len : Option ℕ) (n : ℕ) → sized max len ≡ Ok n → n ≤ max
 sized-bound max None n is = absurd cc
 sized-bound max (Some k) n is =
     elim (cases_lt max k) [
@@ -93,12 +93,12 @@ sized-bound max (Some k) n is =
     same : (r : Result ℕ WireRefusal) → r ≡ Ok k → r ≡ Ok n → k ≡ n
     same r x y = cc
 
-pub judge-bound : (max minor : ℕ) (host coding told : FieldText) (n : ℕ) → judge max minor host coding told ≡ Ok n → n ≤ max
-judge-bound max minor host coding told n is =
+judge-bound : (max minor : ℕ) (host coding len : FieldText) (n : ℕ) → judge max minor host coding len ≡ Ok n → n ≤ max
+judge-bound max minor host coding len n is =
     elim (cases_Bool (is_host_wrong minor host)) [
       | inl wrong ↦ absurd (no_length Host (rw wrong at is))
       | inr right ↦ elim (cases_Bool (is_absent coding)) [
-        | inl none ↦ sized-bound max (body_len told) n (rw none at rw right at is)
+        | inl none ↦ sized-bound max (body_len len) n (rw none at rw right at is)
         | inr some ↦ absurd (no_length Coding (rw some at rw right at is))
       ]
     ]

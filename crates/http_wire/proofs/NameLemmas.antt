@@ -10,8 +10,8 @@ use Rattle.httparse.specs.Spans.{IsWithin, IsHeaderWithin, span_bytes, header_by
 use Rattle.httparse.specs.declared.spans.Span.{Span}
 use Rattle.httparse.specs.declared.spans.HeaderSpan.{HeaderSpan}
 use Rattle.http_header.specs.HeaderMap.{Entries, get_all}
-use Rattle.http_wire.specs.Fields.{spans_named, values_named}
-use Rattle.http_wire.specs.Parts.{HasFields}
+use Rattle.http_wire.specs.inside.FieldSpans.{spans_named, HasFields}
+use Rattle.http_wire.specs.Fields.{values_named}
 
 -- the values of a name lie where all headers lie
 pub All-spans_named : (n : ℕ) (head name : List ℕ) (spans : List HeaderSpan) → All (IsHeaderWithin n) spans → All (IsWithin n) (spans_named head name spans)

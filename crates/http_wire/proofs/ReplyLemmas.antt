@@ -3,7 +3,7 @@ use Rattle.std.proofs.Common.{◌≡◌, ℕ, ◌++◌, Bool, true, false, refl,
 use Rattle.std.specs.Prelude.{◌||◌, ◌==◌}
 use Rattle.tus_steps.specs.declared.reply.Reply.{Reply}
 use Rattle.tus_steps.specs.declared.reply.Reply.TheVariants.{Options, Created, Head, Content, Patched, Deleted, Refused}
-use Rattle.http_wire.specs.ReplyParts.{word_in, content_in, page_text, content_sent}
+use Rattle.http_wire.specs.inside.ReplyPage.{word_in, content_in, page_text, content_sent}
 use Rattle.http_wire.specs.ReplyText.{reply_head, reply_text, reply_status, body_in, body_sent, is_bare}
 use Rattle.http_wire.specs.declared.framing.Framing.{Framing}
 
@@ -17,8 +17,8 @@ body_parts false (Patched offset expires) = sym (append-nil _)
 body_parts false Deleted = sym (append-nil _)
 body_parts false (Refused why head at expires) = sym (append-nil _)
 
-pub reply_text-parts : (r : Reply) (now : ℕ) (framing : Framing) → reply_text r now framing ≡ page_text r now framing ++ content_sent r framing
+pub reply_text-sent : (r : Reply) (now : ℕ) (framing : Framing) → reply_text r now framing ≡ page_text r now framing ++ content_sent r framing
 unfolding reply_text
-reply_text-parts r now framing =
+reply_text-sent r now framing =
     ap (λ l. reply_head r now framing ++ l) (body_parts framing.bare r)
     ∙ sym (append_assoc (reply_head r now framing) (body_sent (is_bare framing (reply_status r)) (word_in r)) (content_sent r framing))

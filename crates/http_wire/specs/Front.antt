@@ -21,7 +21,8 @@ use Rattle.http_wire.specs.declared.refusal.WireRefusal.TheVariants.{Memory, Hea
 -- What an input begins with. A message, with its framing, whether `100 Continue` is due before its body,
 -- and what follows it; a request that the wire refuses; the end of the input inside a body, that of a
 -- PATCH that is applied when it is cut, with the bytes that came; the end anywhere else inside a message; or
--- the end between two.
+-- the end between two. This speaks of bytes alone, and cites no code: what a wire gives of it (`Incoming`) leaves out
+-- what follows a message and whether `100 Continue` is due.
 pub data Front : Type 0 where
   message : Request → Framing → Bool → List ℕ → Front
   refused : WireRefusal → Framing → Front
@@ -29,7 +30,7 @@ pub data Front : Type 0 where
   cut_other : Bool → Front
   clean_end : Front
 
--- the method that a name stands for, which is told by exact case
+-- the method that a name stands for, which is compared by exact case
 abbrev pub method_of : List ℕ → Method
 method_of name =
     if bytes_eq name (codes "POST") then method.Post

@@ -24,7 +24,7 @@ head_len_after before last [] = None
 head_len_after before last (b ∷ bytes) =
     if ends_empty_line before last b then Some 1 else option_map suc (head_len_after last b bytes)
 
--- the length of the head at the front: the shortest prefix that ends in LF LF or in LF CR LF
+-- the length of the head at the start: the shortest prefix that ends in LF LF or in LF CR LF
 abbrev pub head_len : List ℕ → Option ℕ
 head_len bytes = head_len_after 0 0 bytes
 
@@ -33,18 +33,18 @@ pub data HeadText : Type 0 where
   whole : List ℕ → List ℕ → HeadText
   too_long cut nothing : HeadText
 
--- the head at the front of a text before which some line ends were skipped
+-- the head at the start of a text before which some line ends were skipped
 abbrev pub text_at : ℕ → List ℕ → Option ℕ → HeadText
 text_at skipped text (Some n) =
     if nat_le (skipped + n) head_limit then whole (take n text) (drop n text) else too_long
 text_at skipped [] None = if nat_le head_limit skipped then too_long else nothing
 text_at skipped (b ∷ text) None = if nat_le head_limit (skipped + length (b ∷ text)) then too_long else cut
 
--- the line ends at the front
+-- the line ends at the start
 abbrev pub blank_len : List ℕ → ℕ
 blank_len bytes = prefix_len is_line_end bytes
 
--- the head at the front of all bytes of an input
+-- the head at the start of all bytes of an input
 abbrev pub head_text : List ℕ → HeadText
 head_text input = let text = drop (blank_len input) input in text_at (blank_len input) text (head_len text)
 

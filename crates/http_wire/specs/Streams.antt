@@ -1,5 +1,5 @@
--- How the reader and the writer of a connection are seen.
-use Rattle.std.specs.Prelude.{ℕ, Bool, List, Option}
+-- How the reader and the writer of a connection are seen, and when a write has failed.
+use Rattle.std.specs.Prelude.{ℕ, Bool, List, Option, true, ◌&&◌, ◌==◌, nat_lt, length, Result, Ok, Err}
 
 -- What is left to read of a reader, and whether a read of it failed; what is written to a writer, and whether a write to it
 -- failed. The bytes of some readers and writers are not known.
@@ -17,3 +17,8 @@ module _ {R W : Type 0} where
     contents = contents;
     write_failed = write_failed;
   }
+
+-- a write failed: it gave an error, or took nothing of some bytes
+abbrev pub took_nothing : {E : Type 0} → Result ℕ E → List ℕ → Bool
+took_nothing (Ok n) bytes = (n == 0) && nat_lt 0 (length bytes)
+took_nothing (Err e) bytes = true

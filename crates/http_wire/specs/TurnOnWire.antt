@@ -4,7 +4,7 @@ use Rattle.std.specs.Io.KnownBytes.{Appends, Consumes}
 use Rattle.tus_steps.specs.Request.{Request}
 use Rattle.tus_steps.specs.declared.reply.Reply.{Reply}
 use Rattle.http_wire.specs.Clock.{IsTimed}
-use Rattle.http_wire.specs.Lent.{Names}
+use Rattle.http_wire.specs.Fault.{Names}
 use Rattle.http_wire.specs.OnWire.{OnWire}
 use Rattle.http_wire.specs.Streams.{Streams}
 use Rattle.http_wire.specs.Turns.{EndsByTurn, IsReadWhen, TakesTurn}
@@ -25,7 +25,7 @@ EndsAtEnd remaining None = ⊤
 EndsAtEnd remaining (Some e) = IsReadWhen e remaining
 
 -- a wire, what answers on it, and the clock of its turns
-pub record Served (R W A C : Type 0) : Type 0 where
+pub record ServedWire (R W A C : Type 0) : Type 0 where
   pub wire : OnWire R W
   pub state : A
   pub clock : C
@@ -34,7 +34,7 @@ module _ {R W A C : Type 0} (s : Streams R W) (steps : A → Request → ℕ →
   -- A turn on a wire that reads: some bytes were read and this text was written, and it is the turn of what they begin with,
   -- at a moment that the clock told. Nothing had failed before; where something did now, the fault names which. Nothing is
   -- read after the reader's end. Then the wire reads on where the conversation goes on, and writes on unless something failed.
-  pub record TakesTurnOn (old new : Served R W A C) (r : Result (Option Ended) WireFault) : Type 0 where
+  pub record TakesTurnOn (old new : ServedWire R W A C) (r : Result (Option Ended) WireFault) : Type 0 where
     pub turn : IsTimed tells old.clock new.clock (IsErr r) (λ now. (got text : List ℕ) × Consumes (s.remaining old.wire.reader) (s.remaining new.wire.reader) got
         × Appends (s.contents old.wire.writer) (s.contents new.wire.writer) text
         × TakesTurn steps old.wire.max_size now (record { input = old.wire.held ++ got; text = text; before = old.state; after = new.state }) new.wire.held r)
@@ -51,7 +51,7 @@ module _ {R W A C : Type 0} (s : Streams R W) (steps : A → Request → ℕ →
 
   -- What a call of `take_turn` did: where the wire reads no more, it gives the end of the input, or that the wire failed
   -- before, and nothing changes.
-  pub record TurnOn (old new : Served R W A C) (r : Result (Option Ended) WireFault) : Type 0 where
+  pub record TurnOn (old new : ServedWire R W A C) (r : Result (Option Ended) WireFault) : Type 0 where
     pub reading : old.wire.reads ≡ true → TakesTurnOn old new r
     pub ended : old.wire.reads ≡ false → old.wire.writes ≡ true → (r ≡ Ok (Some Input)) × (new ≡ old)
     pub failed : old.wire.reads ≡ false → old.wire.writes ≡ false → (r ≡ Err Failed) × (new ≡ old)

@@ -3,7 +3,6 @@ use Rattle.std.specs.Prelude.{◌≡◌, ◌⊎◌, ℕ, Bool, true, false, List
 use Rattle.std.specs.Io.KnownBytes.{IsAtEnd}
 use Rattle.tus_steps.specs.Request.{Request}
 use Rattle.tus_steps.specs.declared.reply.Reply.{Reply}
-use Rattle.http_wire.specs.Ahead.{Ahead, SeesEnd}
 use Rattle.http_wire.specs.Conversation.{continue_text, Conversation}
 use Rattle.http_wire.specs.Exchange.{Exchange, first_part, last_part, followed}
 use Rattle.http_wire.specs.Front.{Front, message, refused, cut_patch, cut_other, clean_end, IsFront}
@@ -15,11 +14,11 @@ use Rattle.http_wire.specs.declared.fault.WireFault.TheVariants as fault
 use Rattle.http_wire.specs.declared.framing.Framing.{Framing}
 
 -- what may follow the bytes that were read: nothing, where the input ended
-abbrev pub MayFollow : Ended → List ℕ → Type 0
-MayFollow ended.Input rest = rest ≡ []
-MayFollow ended.Closed rest = ⊤
-MayFollow ended.Cut rest = rest ≡ []
-MayFollow ended.Moments rest = ⊤
+abbrev pub MayRemain : Ended → List ℕ → Type 0
+MayRemain ended.Input rest = rest ≡ []
+MayRemain ended.Closed rest = ⊤
+MayRemain ended.Cut rest = rest ≡ []
+MayRemain ended.Moments rest = ⊤
 
 -- the input ended only where no byte of it is left
 abbrev pub IsReadWhen : Ended → Option (List ℕ) → Type 0
@@ -34,11 +33,6 @@ EndsWithInput ended.Input = ⊤
 EndsWithInput ended.Closed = ⊥
 EndsWithInput ended.Cut = ⊤
 EndsWithInput ended.Moments = ⊥
-
--- the input ended only where no byte of it is left
-abbrev pub EndsTurnAtEnd : Option (List ℕ) → Ahead → Option Ended → Type 0
-EndsTurnAtEnd remaining a None = SeesEnd remaining a
-EndsTurnAtEnd remaining a (Some e) = IsReadWhen e remaining
 
 -- how a turn may end the conversation: not for want of a moment, since it had one
 abbrev pub EndsByTurn : Option Ended → Type 0
@@ -69,12 +63,12 @@ module _ {A : Type 0} (steps : A → Request → ℕ → Reply → A → Type 0)
       (text later middle : List ℕ) × (b : A) × Answered now (first_part x text b) middle
       × Turns moments (last_part x middle b later) rest × (x.text ≡ text ++ later)
 
-  -- `100 Continue` was due, and a front of it was written, before any step
+  -- `100 Continue` was due, and a prefix of it was written, before any step
   abbrev pub FailsToContinue : Bool → Exchange A → Type 0
   FailsToContinue waiting x =
       (waiting ≡ true) × (x.after ≡ x.before) × ((n : ℕ) × (x.text ≡ take n (continue_text true)))
 
-  -- The turn of a front was broken off by a write that failed: a part of its text was written. A step that
+  -- The turn of a front was broken off by a write that failed: a prefix of its text was written. A step that
   -- was made before its reply could not be written stays.
   abbrev pub FailsIn : ℕ → Front → Exchange A → Type 0
   FailsIn now (message request framing waiting rest) x =
@@ -98,11 +92,11 @@ module _ {A : Type 0} (steps : A → Request → ℕ → Reply → A → Type 0)
   -- The conversation ended so, after this input was read, whatever bytes may follow it: so the cuts that a
   -- reader makes between its bytes change nothing.
   abbrev pub Converses : List ℕ → Exchange A → Ended → Type 0
-  Converses moments x e = (rest : List ℕ) → MayFollow e rest → Conversation steps max moments (followed x rest) e
+  Converses moments x e = (rest : List ℕ) → MayRemain e rest → Conversation steps max moments (followed x rest) e
 
   -- A fault broke the conversation off. After a read that failed it is the conversation of the bytes that were
   -- read, as a whole input, and ends with that; after a write that failed, every text before the last is written
-  -- whole, and a front of the last. Memory is lacking only before anything is read.
+  -- whole, and a prefix of the last. Memory is lacking only before anything is read.
   abbrev pub Breaks : List ℕ → Exchange A → WireFault → Type 0
   Breaks moments x fault.Read = (e : Ended) × EndsWithInput e × Conversation steps max moments x e
   Breaks moments x fault.Write = BreaksOff moments x
@@ -124,5 +118,5 @@ module _ {A : Type 0} (steps : A → Request → ℕ → Reply → A → Type 0)
   -- message is in what is held and what follows it, or the conversation ends.
   abbrev pub TakesTurn : ℕ → Exchange A → List ℕ → Result (Option Ended) WireFault → Type 0
   TakesTurn now x held (Ok None) = (rest : List ℕ) → Answered now (followed x rest) (held ++ rest)
-  TakesTurn now x held (Ok (Some e)) = (rest : List ℕ) → MayFollow e rest → LastTurn now (followed x rest) e
+  TakesTurn now x held (Ok (Some e)) = (rest : List ℕ) → MayRemain e rest → LastTurn now (followed x rest) e
   TakesTurn now x held (Err e) = BreaksTurn now x e

@@ -5,9 +5,9 @@ use Rattle.http_wire.specs.declared.fault.WireFault.{WireFault}
 use Rattle.http_wire.specs.declared.fault.WireFault.TheVariants.{Write}
 
 -- All of the text was written, after what the writer contained, and the writer has not failed; or it has, and
--- then the fault says so, and a front of the text was written.
+-- then the fault says so, and a prefix of the text was written.
 pub record Writes {T : Type 0} (before after : Option (List ℕ)) (has_failed : Bool) (text : List ℕ) (r : Result T WireFault) : Type 0 where
   pub all : OnOk r (Appends before after text)
-  pub part : OnErr r ((n : ℕ) × (n ≤ length text) × Appends before after (take n text))
+  pub prefix : OnErr r ((n : ℕ) × (n ≤ length text) × Appends before after (take n text))
   pub failed : has_failed ≡ is_err r
   pub fault : IfErr r (λ e. e ≡ Write)

@@ -1,14 +1,14 @@
 ghost use Rattle.std.specs.Prelude.{◌≡◌, [], false, IfOk};
 
-use crate::inbox::Inbox;
-use crate::page::Page;
+use crate::read::inbox::Inbox;
+use crate::write::page::Page;
 use http_header::HeaderMap;
 use httparse::spans::Span;
 use std::alloc::{AllocError, Global};
 
 /// The memory that the messages of a connection share: what was read ahead, the fields of the message
 /// that was read last, and the page of the reply that is written; and where more of it is taken. After a
-/// connection they serve another ([`Wire::over`](crate::Wire::over)).
+/// connection they serve another ([`Wire::with_buffers`](crate::Wire::with_buffers)).
 #[derive(Drop)]
 pub struct Buffers {
     pub(crate) alloc: Global,

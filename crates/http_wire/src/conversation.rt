@@ -1,30 +1,29 @@
 ghost use Rattle.std.specs.Prelude.{◌≡◌, ◌<◌, ◌^◌, ◌++◌, ℕ, List, [], Some, false, IfOk, IfErr, IsErr, OnOk};
 ghost use Rattle.std.specs.Io.KnownBytes.{Appends, Consumes};
-ghost use Rattle.http_wire.specs.Ahead.{SeesEnd, StopsAtEnd};
+ghost use Rattle.http_wire.specs.inside.Ahead.{SeesEnd, StopsAtEnd};
 ghost use Rattle.http_wire.specs.Clock.{IsTimed};
 ghost use Rattle.http_wire.specs.Conversation.{Conversation};
-ghost use Rattle.http_wire.specs.Turns.{Breaks, Converses, EndsByTurn, EndsTurnAtEnd, IsReadWhen, TakesTurn};
-ghost use Rattle.http_wire.specs.Next.{next_in};
-ghost use Rattle.http_wire.specs.Parts.{request_at};
+ghost use Rattle.http_wire.specs.Turns.{Breaks, Converses, EndsByTurn, IsReadWhen, TakesTurn};
+ghost use Rattle.http_wire.specs.inside.TurnFinish.{EndsTurnAtEnd, FinishesTurn, turn_after, turn_cut};
+ghost use Rattle.http_wire.specs.Incoming.{map_incoming};
+ghost use Rattle.http_wire.specs.Layout.{IsMessage, framed_at, request_at};
+ghost use Rattle.http_wire.specs.inside.IncomingLayout.{IsLent};
 ghost use Rattle.http_wire.specs.ReplyText.{reply_text};
-ghost use Rattle.http_wire.specs.TurnFinish.{FinishesTurn, turn_after, turn_cut};
 ghost use Rattle.tus_steps.specs.declared.reply.Reply.{Reply};
-ghost use Rattle.http_wire.specs.Lent.{IsLent, IsMessage, Names, NamesOrMemory};
+ghost use Rattle.http_wire.specs.Fault.{Names, NamesOrMemory};
 ghost use Rattle.http_wire.specs.Writes.{Writes};
 
 use crate::answer::Answer;
 use crate::buffers::Buffers;
 use crate::clock::Clock;
 use crate::fault::WireFault;
-use crate::framing::Framing;
-use crate::message::request_in;
-use crate::page::Page;
-use crate::parts::Parts;
-use crate::read::{Cut, Front, read_front};
+use crate::incoming::{Cut, Incoming};
+use crate::read::layout::Layout;
+use crate::read::read_incoming;
+use crate::read::request::request_in;
 use crate::source::{Sink, Source};
 use crate::write::{write_refusal, write_reply};
 use std::alloc::Global;
-use tus_steps::Request;
 use upload_book::Moment;
 
 /// How a conversation ended.
@@ -152,7 +151,7 @@ pub fn take_turn<R: Source, W: Sink, A: Answer, C: Clock>(
     ensures writer { OnOk result (W.has_failed writer.new ≡ false) }
     ensures fault { IfErr result (Names (R.has_failed reader.new) (W.has_failed writer.new)) }
 {
-    let front = read_front(
+    let incoming = read_incoming(
         buffers.alloc,
         reader,
         writer,
@@ -161,41 +160,41 @@ pub fn take_turn<R: Source, W: Sink, A: Answer, C: Clock>(
         max_size,
     )?;
     let now = clock.moment();
-    finish_turn(writer, buffers, answerer, front, now)
+    finish_turn(writer, buffers, answerer, incoming, now)
 }
 
-// Lets what was read into the buffers be answered, and writes the reply. A front is large: inlined, it is not moved
+// Lets what was read into the buffers be answered, and writes the reply. A layout is large: inlined, it is not moved
 // once more.
 #[inline(always)]
 fn finish_turn<W: Sink, A: Answer>(
     writer: &mut W,
     buffers: &mut Buffers,
     answerer: &mut A,
-    front: Front,
+    incoming: Incoming<Layout>,
     now: Moment,
 ) -> Result<Option<Ended>, WireFault>
     requires writer { W.has_failed writer.old ≡ false }
-    requires lent { IsLent buffers.old.inbox.lent front }
+    requires lent { IsLent buffers.old.inbox.lent incoming }
     ensures inbox { buffers.new.inbox ≡ buffers.old.inbox }
-    ensures finishes { FinishesTurn A.steps now buffers.old.inbox (next_in buffers.old.inbox front)
+    ensures finishes { FinishesTurn A.steps now buffers.old.inbox (map_incoming (framed_at buffers.old.inbox.lent) incoming)
         (W.contents writer.old) (W.contents writer.new) (W.has_failed writer.new)
         answerer.old answerer.new result }
 {
-    match front {
-        Front::Message(parts) => {
-            let written = answer_message(writer, buffers, answerer, &parts, now);
-            turn_after(written, parts.framing.close)
+    match incoming {
+        Incoming::Message(layout) => {
+            let written = answer_message(writer, buffers, answerer, &layout, now);
+            turn_after(written, layout.framing.close)
         }
-        Front::Refused(refusal, framing) => {
+        Incoming::Refused(refusal, framing) => {
             let written = write_refusal(writer, &mut buffers.page, refusal, now, framing);
             turn_after(written, true)
         }
-        Front::CutPatch(parts, why) => {
-            apply_cut(buffers, answerer, parts, now);
+        Incoming::CutPatch(layout, why) => {
+            apply_cut(buffers, answerer, layout, now);
             turn_cut(why)
         }
-        Front::CutOther => Ok(Some(Ended::Cut)),
-        Front::End => Ok(Some(Ended::Input)),
+        Incoming::CutOther => Ok(Some(Ended::Cut)),
+        Incoming::End => Ok(Some(Ended::Input)),
     }
 }
 
@@ -219,56 +218,32 @@ fn turn_cut(why: Cut) -> Result<Option<Ended>, WireFault>
     }
 }
 
-// Makes the step of a message that the buffers lend and writes its reply.
+// Makes the step of a message that the buffers lend and writes its reply. The step stays where the reply could not
+// be written.
 fn answer_message<W: Sink, A: Answer>(
     writer: &mut W,
     buffers: &mut Buffers,
     answerer: &mut A,
-    parts: &Parts,
+    layout: &Layout,
     now: Moment,
 ) -> Result<(), WireFault>
     requires writer { W.has_failed writer.old ≡ false }
-    requires lent { IsMessage parts.now buffers.old.inbox.lent }
+    requires lent { IsMessage layout.now buffers.old.inbox.lent }
     ensures inbox { buffers.new.inbox ≡ buffers.old.inbox }
     ensures answers { (reply : Reply)
-        × A.steps answerer.old (request_at parts.now buffers.old.inbox.lent) now reply answerer.new
+        × A.steps answerer.old (request_at layout.now buffers.old.inbox.lent) now reply answerer.new
         × Writes (W.contents writer.old) (W.contents writer.new) (W.has_failed writer.new)
-        (reply_text reply now parts.now.framing) result }
+        (reply_text reply now layout.now.framing) result }
 {
-    let request = request_in(parts, buffers.inbox.lent());
-    reply_to(
-        writer,
-        &mut buffers.page,
-        answerer,
-        &request,
-        now,
-        parts.framing,
-    )
+    let reply = answerer.answer(&request_in(layout, buffers.inbox.lent()), now);
+    write_reply(writer, &mut buffers.page, &reply, now, layout.framing)
 }
 
 // Makes the step of a PATCH whose body was cut, with the bytes that came. It gets no reply.
-fn apply_cut<A: Answer>(buffers: &Buffers, answerer: &mut A, parts: Parts, now: Moment)
-    requires { IsMessage parts buffers.now.inbox.lent }
+fn apply_cut<A: Answer>(buffers: &Buffers, answerer: &mut A, layout: Layout, now: Moment)
+    requires { IsMessage layout buffers.now.inbox.lent }
     ensures { (reply : Reply)
-        × A.steps answerer.old (request_at parts buffers.now.inbox.lent) now reply answerer.new }
+        × A.steps answerer.old (request_at layout buffers.now.inbox.lent) now reply answerer.new }
 {
-    let _ = answerer.answer(&request_in(&parts, buffers.inbox.lent()), now);
-}
-
-// Makes the step of a request and writes its reply. The step stays where the reply could not be written.
-fn reply_to<W: Sink, A: Answer>(
-    writer: &mut W,
-    page: &mut Page,
-    answerer: &mut A,
-    request: &Request,
-    now: Moment,
-    framing: Framing,
-) -> Result<(), WireFault>
-    requires { W.has_failed writer.old ≡ false }
-    ensures { (reply : Reply) × A.steps answerer.old request.now now reply answerer.new
-        × Writes (W.contents writer.old) (W.contents writer.new) (W.has_failed writer.new)
-        (reply_text reply now framing) result }
-{
-    let reply = answerer.answer(request, now);
-    write_reply(writer, page, &reply, now, framing)
+    let _ = answerer.answer(&request_in(&layout, buffers.inbox.lent()), now);
 }

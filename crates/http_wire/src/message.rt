@@ -1,31 +1,33 @@
-ghost use Rattle.std.specs.Prelude.{◌≡◌, ◌≤◌, length};
-ghost use Rattle.http_wire.specs.Parts.{IsPartsWithin, request_at};
+ghost use Rattle.std.specs.Prelude.{◌≡◌};
+ghost use Rattle.http_wire.specs.Layout.{IsMessage};
 
-use crate::parts::Parts;
-use tus_steps::{Request, TusFields};
-use tus_text::read_path;
+use crate::framing::Framing;
+use crate::read::layout::Layout;
+use crate::read::request::request_in;
+use tus_steps::Request;
 
-/// The request of a message with these parts in `text`, its head and then its body. It is lent from
-/// there, and nothing is copied.
-pub fn request_in<'a>(parts: &Parts, text: &'a [u8]) -> Request<'a>
-    requires inside { parts.now.head_len ≤ length text.now }
-    requires within { IsPartsWithin parts.now.head_len parts.now }
-    ensures { result ≡ request_at parts.now text.now }
-{
-    let (head, body) = text.split_at(parts.head_len);
-    Request {
-        method: parts.method,
-        path: read_path(parts.target.of(head)),
-        fields: TusFields {
-            version: parts.fields.version.of(head),
-            length: parts.fields.length.of(head),
-            defer: parts.fields.defer.of(head),
-            offset: parts.fields.offset.of(head),
-            metadata: parts.fields.metadata.of(head),
-            concat: parts.fields.concat.of(head),
-            checksum: parts.fields.checksum.of(head),
-            media: parts.fields.media.of(head),
-        },
-        body,
+/// A message, lent by its wire until the next call on it.
+#[derive(Drop)]
+pub struct Message<'a> {
+    pub(crate) layout: Layout,
+    pub(crate) text: &'a [u8],
+    ghost lent: { IsMessage layout text.now },
+}
+
+impl Message<'_> {
+    ghost use Rattle.http_wire.specs.Message.{request_in};
+
+    /// The request of the message, whose fields and body are lent.
+    pub fn request(&self) -> Request<'_>
+        ensures { result ≡ request_in self.now }
+    {
+        request_in(&self.layout, self.text)
+    }
+
+    /// How the reply is framed.
+    pub fn framing(&self) -> Framing
+        ensures { result ≡ self.now.layout.framing }
+    {
+        self.layout.framing
     }
 }

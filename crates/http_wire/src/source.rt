@@ -1,7 +1,7 @@
 ghost use Rattle.std.specs.Prelude.{◌≡◌, ℕ, List, Option, Bool, false, is_err};
 ghost use Rattle.std.specs.Io.{ReadsAtMost, WritesAtMost};
 ghost use Rattle.std.specs.Io.KnownBytes.{ReadConsumes, WriteAppends};
-ghost use Rattle.http_wire.specs.Outcome.{took_nothing};
+ghost use Rattle.http_wire.specs.Streams.{took_nothing};
 
 use std::io;
 use std::io::{Read, Write};
@@ -14,7 +14,7 @@ pub trait Source {
     // Some call failed.
     ghost has_failed: { Self → Bool };
 
-    /// Reads bytes into the front of `buf` and gives their number, 0 at the end of the input (or of
+    /// Reads bytes into the start of `buf` and gives their number, 0 at the end of the input (or of
     /// no room). An error takes nothing, and `failed` is true from then on. After an error nothing is
     /// read.
     fn read(&mut self, buf: &mut [u8]) -> io::Result<usize>
@@ -36,7 +36,7 @@ pub trait Sink {
     // Some call failed.
     ghost has_failed: { Self → Bool };
 
-    /// Writes bytes from the front of `bytes` and gives their number. An error writes nothing; after
+    /// Writes bytes from the start of `bytes` and gives their number. An error writes nothing; after
     /// an error, or where none of some bytes were taken, `failed` is true, and nothing more is written.
     fn write(&mut self, bytes: &[u8]) -> io::Result<usize>
         requires { has_failed self.old ≡ false }

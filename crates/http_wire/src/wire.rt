@@ -1,15 +1,17 @@
-ghost use Rattle.std.specs.Prelude.{◌≡◌, ◌<◌, ◌^◌, ℕ, [], true, false, IfOk, IfErr};
+ghost use Rattle.std.specs.Prelude.{◌≡◌, ◌<◌, ◌^◌, ℕ, List, false, IfOk, IfErr};
 ghost use Rattle.std.specs.Borrow.{sem};
 ghost use Rattle.std.specs.Io.BufRead.{Rests};
-ghost use Rattle.http_wire.specs.Ahead.{Ahead};
-ghost use Rattle.http_wire.specs.Message.{next_of, told_of};
-ghost use Rattle.http_wire.specs.Lent.{IsLent};
-ghost use Rattle.http_wire.specs.Next.{next_in, told_in};
-ghost use Rattle.http_wire.specs.NextRead.{ReadsOn, WritesOn};
+ghost use Rattle.http_wire.specs.Incoming.{map_incoming, map_read};
+ghost use Rattle.http_wire.specs.Layout.{framed_at};
+ghost use Rattle.http_wire.specs.Message.{framed};
+ghost use Rattle.http_wire.specs.inside.IncomingLayout.{IsLent};
+ghost use Rattle.http_wire.specs.ReadOnWire.{ReadsOn};
+ghost use Rattle.http_wire.specs.WriteOnWire.{WritesOn};
 ghost use Rattle.http_wire.specs.ReplyText.{reply_text, refusal_text};
 ghost use Rattle.http_wire.specs.Streams.{streams};
 ghost use Rattle.http_wire.specs.TurnOnWire.{TurnOn};
-ghost use Rattle.http_wire.specs.WireState.{fresh_wire, state_after, wire_of, IsSound};
+ghost use Rattle.http_wire.specs.WireState.{fresh_wire, state_after};
+ghost use Rattle.http_wire.specs.inside.WireModel.{wire_of, IsSound};
 
 use crate::answer::Answer;
 use crate::buffers::Buffers;
@@ -17,9 +19,11 @@ use crate::clock::Clock;
 use crate::conversation::{Ended, take_turn};
 use crate::fault::WireFault;
 use crate::framing::Framing;
-use crate::inbox::Inbox;
-use crate::incoming::{Incoming, Message};
-use crate::read::{Cut, Front, read_front};
+use crate::incoming::{Cut, Incoming};
+use crate::message::Message;
+use crate::read::inbox::Inbox;
+use crate::read::layout::Layout;
+use crate::read::read_incoming;
 use crate::refusal::WireRefusal;
 use crate::source::{Sink, Source};
 use crate::write::{write_refusal, write_reply};
@@ -60,7 +64,7 @@ impl<R: Source + Drop, W: Sink + Drop> Model for Wire<R, W> {
     ghost coded = { wire_code R.code W.code };
 
     ghost use Rattle.http_wire.specs.Streams.{streams};
-    ghost use Rattle.http_wire.specs.WireState.{wire_of, IsSound};
+    ghost use Rattle.http_wire.specs.inside.WireModel.{wire_of, IsSound};
 
     ghost view = { λ w. wire_of w.reader w.writer w.buffers.inbox w.max_size w.state };
 
@@ -81,12 +85,12 @@ impl<R: Source + Drop, W: Sink + Drop> Wire<R, W> {
         ensures memory { IfErr result (λ e. e ≡ WireFault.Memory) }
     {
         let buffers = Buffers::new(alloc)?;
-        Ok(Wire::over(buffers, reader, writer, max_size))
+        Ok(Wire::with_buffers(buffers, reader, writer, max_size))
     }
 
     /// The same over buffers that another connection has left, so that it takes no memory. What they hold
     /// is not read.
-    pub fn over(buffers: Buffers, reader: R, writer: W, max_size: u64) -> Self
+    pub fn with_buffers(buffers: Buffers, reader: R, writer: W, max_size: u64) -> Self
         requires reader { R.has_failed reader ≡ false }
         requires writer { W.has_failed writer ≡ false }
         requires size { max_size < 2 ^ 31 }
@@ -115,19 +119,19 @@ impl<R: Source + Drop, W: Sink + Drop> Wire<R, W> {
     /// `WireFault::Read` where a read failed, `WireFault::Write` where a write did, and then, as after a
     /// body that a failed read cut, every later call gives `WireFault::Failed`. After a message that was
     /// cut or refused, and after the end, it gives `Incoming::End`.
-    pub fn read_request(&mut self) -> Result<Incoming<'_>, WireFault>
+    pub fn read_request(&mut self) -> Result<Incoming<Message<'_>>, WireFault>
         ensures* { sem 𝓛 (Rests (the_row R.row W.row R.Source W.Sink) self.entry
             (λ new. ReadsOn (streams R.remaining R.has_failed W.contents W.has_failed)
-            self.old new (told_of result))) }
+            self.old new (map_read framed result))) }
     {
-        let front = next_front(
+        let incoming = next_incoming(
             &mut self.reader,
             &mut self.writer,
             &mut self.buffers,
             self.max_size,
             &mut self.state,
         )?;
-        Ok(lend_front(front, &self.buffers.inbox))
+        Ok(lend_message(incoming, &self.buffers.inbox))
     }
 
     /// Takes a turn: reads the next message, asks the clock for its moment, lets `answerer` answer it and
@@ -144,19 +148,30 @@ impl<R: Source + Drop, W: Sink + Drop> Wire<R, W> {
             (record { wire = self.old; state = answerer.old; clock = clock.old })
             (record { wire = self.new; state = answerer.new; clock = clock.new }) result }
     {
-        turn_on(
-            &mut self.reader,
-            &mut self.writer,
-            &mut self.buffers,
-            self.max_size,
-            &mut self.state,
-            answerer,
-            clock,
-        )
+        match self.state {
+            State::Open => {
+                let turn = take_turn(
+                    &mut self.reader,
+                    &mut self.writer,
+                    &mut self.buffers,
+                    self.max_size,
+                    answerer,
+                    clock,
+                );
+                self.state = match &turn {
+                    Ok(None) => State::Open,
+                    Ok(Some(_)) => State::Ended,
+                    Err(_) => State::Failed,
+                };
+                turn
+            }
+            State::Ended => Ok(Some(Ended::Input)),
+            State::Failed => Err(WireFault::Failed),
+        }
     }
 
     /// Writes the reply to a message that came at this moment. The error is `WireFault::Write` where a
-    /// write failed, and then a front of it was written and every later call gives
+    /// write failed, and then a prefix of it was written and every later call gives
     /// `WireFault::Failed`.
     pub fn write_reply(
         &mut self,
@@ -210,56 +225,14 @@ impl<R: Source + Drop, W: Sink + Drop> Wire<R, W> {
     }
 }
 
-// Takes a turn on a wire of these parts, where it still reads.
-fn turn_on<R: Source, W: Sink, A: Answer, C: Clock>(
+// Reads the next message of a wire that has these, where it still reads.
+fn next_incoming<R: Source, W: Sink>(
     reader: &mut R,
     writer: &mut W,
     buffers: &mut Buffers,
     max_size: u64,
     state: &mut State,
-    answerer: &mut A,
-    clock: &mut C,
-) -> Result<Option<Ended>, WireFault>
-    requires { IsSound (streams R.remaining R.has_failed W.contents W.has_failed)
-        (wire_of reader.old writer.old buffers.old.inbox max_size state.old) }
-    ensures sound { IsSound (streams R.remaining R.has_failed W.contents W.has_failed)
-        (wire_of reader.new writer.new buffers.new.inbox max_size state.new) }
-    ensures turn { TurnOn (streams R.remaining R.has_failed W.contents W.has_failed) A.steps
-        C.tells
-        (record {
-          wire = wire_of reader.old writer.old buffers.old.inbox max_size state.old;
-          state = answerer.old;
-          clock = clock.old;
-        })
-        (record {
-          wire = wire_of reader.new writer.new buffers.new.inbox max_size state.new;
-          state = answerer.new;
-          clock = clock.new;
-        }) result }
-{
-    match *state {
-        State::Open => {
-            let turn = take_turn(reader, writer, buffers, max_size, answerer, clock);
-            *state = match &turn {
-                Ok(None) => State::Open,
-                Ok(Some(_)) => State::Ended,
-                Err(_) => State::Failed,
-            };
-            turn
-        }
-        State::Ended => Ok(Some(Ended::Input)),
-        State::Failed => Err(WireFault::Failed),
-    }
-}
-
-// Reads the next message of a wire of these parts, where it still reads.
-fn next_front<R: Source, W: Sink>(
-    reader: &mut R,
-    writer: &mut W,
-    buffers: &mut Buffers,
-    max_size: u64,
-    state: &mut State,
-) -> Result<Front, WireFault>
+) -> Result<Incoming<Layout>, WireFault>
     requires { IsSound (streams R.remaining R.has_failed W.contents W.has_failed)
         (wire_of reader.old writer.old buffers.old.inbox max_size state.old) }
     ensures sound { IsSound (streams R.remaining R.has_failed W.contents W.has_failed)
@@ -267,12 +240,12 @@ fn next_front<R: Source, W: Sink>(
     ensures reads { ReadsOn (streams R.remaining R.has_failed W.contents W.has_failed)
         (wire_of reader.old writer.old buffers.old.inbox max_size state.old)
         (wire_of reader.new writer.new buffers.new.inbox max_size state.new)
-        (told_in buffers.new.inbox result) }
+        (map_read (framed_at buffers.new.inbox.lent) result) }
     ensures lent { IfOk result (IsLent buffers.new.inbox.lent) }
 {
     match *state {
         State::Open => {
-            let front = read_front(
+            let incoming = read_incoming(
                 buffers.alloc,
                 reader,
                 writer,
@@ -280,46 +253,49 @@ fn next_front<R: Source, W: Sink>(
                 &mut buffers.found,
                 max_size,
             );
-            *state = state_after(&front);
-            front
+            *state = state_after(&incoming);
+            incoming
         }
-        State::Ended => Ok(Front::End),
+        State::Ended => Ok(Incoming::End),
         State::Failed => Err(WireFault::Failed),
     }
 }
 
 // What a wire still does after it read this.
-fn state_after(front: &Result<Front, WireFault>) -> State
-    ensures { (inbox : Ahead) → result ≡ state_after (told_in inbox front.now) }
+fn state_after(incoming: &Result<Incoming<Layout>, WireFault>) -> State
+    ensures { (text : List ℕ) → result ≡ state_after (map_read (framed_at text) incoming.now) }
 {
-    match front {
-        Ok(Front::Message(_)) => State::Open,
-        Ok(Front::CutPatch(_, Cut::Fault)) | Err(_) => State::Failed,
-        Ok(Front::Refused(..) | Front::CutPatch(_, Cut::Ended) | Front::CutOther | Front::End) => {
-            State::Ended
-        }
+    match incoming {
+        Ok(Incoming::Message(_)) => State::Open,
+        Ok(Incoming::CutPatch(_, Cut::Fault)) | Err(_) => State::Failed,
+        Ok(
+            Incoming::Refused(..)
+            | Incoming::CutPatch(_, Cut::Ended)
+            | Incoming::CutOther
+            | Incoming::End,
+        ) => { State::Ended }
     }
 }
 
 // What was read, with the bytes of a message as the inbox lends them.
-fn lend_front(front: Front, inbox: &Inbox) -> Incoming<'_>
-    requires { IsLent inbox.now.lent front }
-    ensures { next_of result ≡ next_in inbox.now front }
+fn lend_message(incoming: Incoming<Layout>, inbox: &Inbox) -> Incoming<Message<'_>>
+    requires { IsLent inbox.now.lent incoming }
+    ensures { map_incoming framed result ≡ map_incoming (framed_at inbox.now.lent) incoming }
 {
-    match front {
-        Front::Message(parts) => Incoming::Message(Message {
-            parts,
+    match incoming {
+        Incoming::Message(layout) => Incoming::Message(Message {
+            layout,
             text: inbox.lent(),
         }),
-        Front::CutPatch(parts, why) => Incoming::CutPatch(
+        Incoming::CutPatch(layout, why) => Incoming::CutPatch(
             Message {
-                parts,
+                layout,
                 text: inbox.lent(),
             },
             why,
         ),
-        Front::CutOther => Incoming::CutOther,
-        Front::Refused(refusal, framing) => Incoming::Refused(refusal, framing),
-        Front::End => Incoming::End,
+        Incoming::CutOther => Incoming::CutOther,
+        Incoming::Refused(refusal, framing) => Incoming::Refused(refusal, framing),
+        Incoming::End => Incoming::End,
     }
 }

@@ -1,19 +1,25 @@
+//! Replies and refusals, written to a writer.
 ghost use Rattle.std.specs.Prelude.{◌≡◌, ◌++◌, false};
 ghost use Rattle.http_wire.specs.ReplyText.{reply_text, refusal_text};
 ghost use Rattle.http_wire.specs.Writes.{Writes};
 
+pub mod own_fields;
+pub mod page;
+pub mod reply;
+pub mod send;
+
 use crate::fault::WireFault;
 use crate::framing::Framing;
-use crate::page::{PAGE_SIZE, Page};
 use crate::refusal::WireRefusal;
-use crate::reply::{content_of, put_refusal, put_reply};
-use crate::send::{put_all, put_both};
 use crate::source::Sink;
+use page::{PAGE_SIZE, Page};
+use reply::{content_of, put_refusal, put_reply};
+use send::{put_all, put_both};
 use tus_steps::Reply;
 use upload_book::Moment;
 
 /// Writes the reply to a message at the message's moment: one page, and after it the bytes of an upload, from
-/// where they are unless the page has room for them. The error is `WireFault::Write`, and then a front of it was
+/// where they are unless the page has room for them. The error is `WireFault::Write`, and then a prefix of it was
 /// written.
 pub fn write_reply<W: Sink>(
     writer: &mut W,

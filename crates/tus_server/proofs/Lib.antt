@@ -1,5 +1,7 @@
+pub mod ArgumentsLemmas
 pub mod CommandLineLemmas
-pub mod FaultLemmas
-pub mod TalkLemmas
-pub mod WordLemmas
 pub mod DeskLemmas
+pub mod FaultLemmas
+pub mod RunLemmas
+pub mod TalkLemmas
+pub mod TenantLemmas

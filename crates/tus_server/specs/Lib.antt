@@ -1,6 +1,9 @@
+pub mod Arguments
 pub mod CommandLine
 pub mod Fault
-pub mod Talk
-pub mod Words
-pub mod DeskStep
 pub mod Lines
+pub mod Run
+pub mod Serve
+pub mod Settings
+pub mod StreamUse
+pub mod Talk

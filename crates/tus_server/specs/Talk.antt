@@ -1,42 +1,33 @@
--- The settings that the command line tells, and the conversation that it holds.
-use Rattle.std.specs.Prelude.{◌≡◌, ℕ, Bool, List, replicate, Option, Some, None, Result, Ok, Err}
+-- What `talk` does: one conversation over two streams, on a new book.
+use Rattle.std.specs.Prelude.{◌≡◌, ◌++◌, ℕ, Bool, List, replicate, Some, Result, Ok, Err, IsOk, OnErr}
+use Rattle.std.specs.Io.KnownBytes.{Appends, Consumes}
 use Rattle.http_wire.specs.Conversation.{Conversation}
-use Rattle.http_wire.specs.Lent.{Names}
+use Rattle.http_wire.specs.Fault.{Names}
 use Rattle.http_wire.specs.Turns.{Breaks}
 use Rattle.http_wire.specs.declared.conversation.Ended.{Ended}
 use Rattle.http_wire.specs.declared.fault.WireFault.{WireFault}
 use Rattle.tus_steps.specs.Step.{IsStep}
 use Rattle.upload_book.specs.PlainBook.{PlainBook, opening_book}
-use Rattle.upload_book.specs.Settings.{Settings, settings_of}
-use Rattle.upload_book.specs.declared.settings.Numbers.{Numbers}
+use Rattle.upload_book.specs.Settings.{Settings}
 use Rattle.upload_book.specs.declared.settings_fault.SettingsFault.{SettingsFault}
-use Rattle.upload_book.specs.declared.settings_fault.SettingsFault.TheVariants.{TenantName}
-use Rattle.upload_book.specs.declared.settings.TenantQuota.{TenantQuota}
-use Rattle.tus_server.specs.CommandLine.{Told}
-use Rattle.tus_server.specs.Words.{tenants_in}
+use Rattle.tus_server.specs.Arguments.{TalkArguments}
+use Rattle.tus_server.specs.Settings.{settings_given}
+use Rattle.tus_server.specs.StreamUse.{StreamUse, IsAlive, IsUntouched, KeepsBytes}
+use Rattle.tus_server.specs.declared.fault.RunFault.{RunFault}
+use Rattle.tus_server.specs.declared.fault.RunFault.TheVariants as run
 
--- the settings of these numbers and tenants, or their first fault, which is that of a name where one of the
--- words tells no tenant
-abbrev pub settings_with : Numbers → Option (List TenantQuota) → Result Settings SettingsFault
-settings_with numbers None = Err TenantName
-settings_with numbers (Some tenants) = settings_of (record { numbers = numbers; tenants = tenants })
-
--- the settings that numbers and words tell, or their first fault: that of a word comes before every other
-abbrev pub settings_told : Numbers → List (List ℕ) → Result Settings SettingsFault
-settings_told numbers words = settings_with numbers (tenants_in words)
-
--- the settings that the command line tells, or their first fault
-abbrev pub settings_in : Told → Result Settings SettingsFault
-settings_in told = settings_told told.numbers told.tenants
+-- the settings of the arguments, or their first fault
+abbrev pub talk_settings : TalkArguments → Result Settings SettingsFault
+talk_settings arguments = settings_given arguments.numbers arguments.tenants
 
 -- the moments of the messages: one moment, for 4,096 of them
 unfoldable pub moments_at : ℕ → List ℕ
 moments_at now = replicate 4096 now
 
--- the input is answered with this text, in a conversation on a new book with the settings that were told
-pub record Talks (told : Result Settings SettingsFault) (now : ℕ) (input text : List ℕ) : Type 0 where
+-- the input is answered with this text, in a conversation on a new book with the settings that were given
+pub record Talks (given : Result Settings SettingsFault) (now : ℕ) (input text : List ℕ) : Type 0 where
   pub settings : Settings
-  pub given : told ≡ Ok settings
+  pub is_given : given ≡ Ok settings
   pub after : PlainBook
   pub ended : Ended
   pub conversation : Conversation IsStep settings.numbers.max_size (moments_at now)
@@ -44,11 +35,45 @@ pub record Talks (told : Result Settings SettingsFault) (now : ℕ) (input text 
 
 -- These bytes were read and this text was written in such a conversation, until a fault broke it off: a read
 -- that failed, where the reader has failed, or a write, where the writer has.
-pub record BreaksTalk (told : Result Settings SettingsFault) (now : ℕ) (reader writer : Bool) (got text : List ℕ) : Type 0 where
+pub record BreaksTalk (given : Result Settings SettingsFault) (now : ℕ) (reader writer : Bool) (got text : List ℕ) : Type 0 where
   pub settings : Settings
-  pub given : told ≡ Ok settings
+  pub is_given : given ≡ Ok settings
   pub after : PlainBook
   pub fault : WireFault
   pub named : Names reader writer fault
   pub breaks : Breaks IsStep settings.numbers.max_size (moments_at now)
       (record { input = got; text = text; before = opening_book settings; after = after }) fault
+
+-- `talk` was asked for with these arguments, over these streams
+module _ {R W : Type 0} (arguments : TalkArguments) (reader : StreamUse R) (writer : StreamUse W) where
+  -- The conversation ended, in whatever way: where the bytes of both streams are known, what was written is the text of
+  -- the conversation of the whole input. Neither stream has failed.
+  pub record HoldsTalk : Type 0 where
+    pub settings : IsOk (talk_settings arguments)
+    pub talks : (input before : List ℕ) → reader.before ≡ Some input → writer.before ≡ Some before
+        → (text : List ℕ) × (writer.after ≡ Some (before ++ text))
+        × Talks (talk_settings arguments) arguments.moment input text
+    pub reader_alive : IsAlive reader
+    pub writer_alive : IsAlive writer
+
+  -- A stream has failed: what was read and written is such a conversation, broken off.
+  pub record LosesTalk : Type 0 where
+    pub got : List ℕ
+    pub text : List ℕ
+    pub consumes : Consumes reader.before reader.after got
+    pub appends : Appends writer.before writer.after text
+    pub breaks : BreaksTalk (talk_settings arguments) arguments.moment reader.has_failed writer.has_failed got text
+
+  -- nothing was read or written, and where the settings have a fault, neither stream is touched
+  pub record KeepsStreams : Type 0 where
+    pub reader_keeps : KeepsBytes reader
+    pub writer_keeps : KeepsBytes writer
+    pub untouched : OnErr (talk_settings arguments) (IsUntouched reader × IsUntouched writer)
+
+  -- how `talk` ends: it held its conversation, or lost it, or refused the settings, or lacked memory to begin with
+  abbrev pub TalkEnds : {T : Type 0} → Result T RunFault → Type 0
+  TalkEnds (Ok _) = HoldsTalk
+  TalkEnds (Err run.Wire) = LosesTalk
+  TalkEnds (Err (run.Settings why)) = (talk_settings arguments ≡ Err why) × IsUntouched reader × IsUntouched writer
+  TalkEnds (Err run.Memory) = KeepsStreams
+  TalkEnds (Err run.Words) = ⊥

@@ -1,14 +1,11 @@
-ghost use Rattle.std.specs.Prelude.{◌≡◌, IfOk, IfSome, codes, false, map, option_map};
-ghost use Rattle.clap.specs.Walk.{rows_of, texts};
-ghost use Rattle.clap.specs.Words.{FailsBy, app_of, found_of, new_app, rule_of, subcommand_of, subcommand_rows_of};
-ghost use Rattle.tus_server.specs.CommandLine.{connections_told, faults_in, flag_rule, is_set, moment_rule, moment_set, number_told, number_under, numbers_told, option_between, option_rule, port_told, program, program_alone, serve_command, serve_told, serve_told_by, served_of, talk_command, talk_told, tenant_rule, told_by, told_of, with_service, with_sizes, work_told, workers_told};
-ghost use Rattle.upload_book.specs.Settings.{is_outside};
+//! The command line: its options with their help, and how its words are read.
+ghost use Rattle.std.specs.Prelude.{◌≡◌, IfOk, codes, false, map};
+ghost use Rattle.clap.specs.Words.{FailsBy, app_of, new_app, rule_of, subcommand_of, subcommand_rows_of};
+ghost use Rattle.tus_server.specs.CommandLine.{faults_in, flag_rule, moment_rule, option_between, option_rule, program, program_alone, serve_command, talk_command, tenant_rule, with_service, with_sizes};
 
-use crate::serve_options::{ServeOptions, WorkOptions};
 use clap::{Arg, ArgAction, ArgMatches, Command, value_parser};
 use std::alloc::{AllocError, Global};
 use std::convert::AsStr;
-use upload_book::{Moment, Numbers};
 
 const PROGRAM_HELP: &str = "\
 Example, which asks what the server can do:
@@ -40,10 +37,10 @@ messages. Expired uploads are removed whenever a connection is accepted.
 Example, which serves the tenant acme until it is stopped:
   tus-server serve --port 8080 --forever acme:4096";
 
-/// What the words of the command line tell; the first of them is the program's name. The error is why
+/// What is found in the words of the command line; the first of them is the program's name. The error is why
 /// they are not taken, or that they ask for help, or that memory was lacking.
 pub fn parsed<'a, S: AsStr>(alloc: Global, words: &'a [S]) -> Result<ArgMatches<'a>, clap::Error>
-    ensures told { IfOk result (λ m.
+    ensures found { IfOk result (λ m.
         subcommand_rows_of m ≡ subcommand_of program (map S.text words.entry.now)) }
     ensures faults { FailsBy (faults_in (map S.text words.entry.now)) result }
 {
@@ -104,7 +101,7 @@ fn serve_alone<'a>(alloc: Global) -> Command<'a>
         .after_help(SERVE_HELP)
 }
 
-/// The options that tell how connections are served.
+/// The options on how connections are served.
 fn service<'a>(alloc: Global, command: Command<'a>) -> Result<Command<'a>, AllocError>
     ensures { IfOk result (λ c. app_of c ≡ with_service (app_of command.entry)) }
 {
@@ -126,7 +123,7 @@ fn port<'a>(alloc: Global) -> Arg<'a>
         .help("The port to listen at, 0 to 65535; 0 is any that is free")
 }
 
-/// The option that tells how many workers there are.
+/// The option for how many workers there are.
 fn workers<'a>(alloc: Global) -> Arg<'a>
     ensures rule { rule_of result ≡ option_between (codes "workers") (codes "2") 1 16 }
     ensures local { result.global ≡ false }
@@ -136,7 +133,7 @@ fn workers<'a>(alloc: Global) -> Arg<'a>
         .help("How many connections are served at once, 1 to 16")
 }
 
-/// The option that tells how many connections a worker accepts.
+/// The option for how many connections a worker accepts.
 fn connections<'a>(alloc: Global) -> Arg<'a>
     ensures rule { rule_of result ≡ option_between (codes "connections") (codes "1") 1 4096 }
     ensures local { result.global ≡ false }
@@ -157,7 +154,7 @@ fn forever<'a>(alloc: Global) -> Arg<'a>
         .help("Accept connections until the process is stopped, whatever --connections says")
 }
 
-/// The option that tells for how long a silent connection is kept.
+/// The option for how long a silent connection is kept.
 fn idle<'a>(alloc: Global) -> Arg<'a>
     ensures rule { rule_of result ≡ option_between (codes "idle") (codes "60") 0 86400 }
     ensures local { result.global ≡ false }
@@ -241,151 +238,4 @@ fn number<'a>(alloc: Global, name: &'a str, value: &'a str, default: &'a str) ->
         .value_name(value)
         .value_parser(value_parser!(u64))
         .default_value(default)
-}
-
-/// What the command `talk` was asked for.
-#[derive(Clone, Copy)]
-pub struct TalkOptions<'m, 'a> {
-    pub numbers: Numbers,
-    pub moment: Moment,
-    /// Words NAME:QUOTA, as they were given.
-    pub tenants: &'m [&'a str],
-}
-
-/// What the command `talk` was asked for, where that is the command and its moment is not past the year
-/// 9999.
-pub fn talk_options<'m, 'a>(matches: &'m ArgMatches<'a>) -> Option<TalkOptions<'m, 'a>>
-    ensures { option_map told_of result ≡ talk_told (subcommand_rows_of matches.now) }
-{
-    options_of(matches.subcommand_matches("talk")?)
-}
-
-/// What the arguments of the command `talk` tell.
-fn options_of<'m, 'a>(talk: &'m ArgMatches<'a>) -> Option<TalkOptions<'m, 'a>>
-    ensures { option_map told_of result ≡ told_by (rows_of (found_of talk.now)) }
-{
-    Some(TalkOptions {
-        numbers: numbers_of(talk),
-        moment: Moment::new(number_of(talk, "moment"))?,
-        tenants: talk.get_strs("tenant")?,
-    })
-}
-
-/// The numbers that the options tell. Ids and totals are bounded by their type alone.
-fn numbers_of(talk: &ArgMatches) -> Numbers
-    ensures { result ≡ numbers_told (rows_of (found_of talk.now)) }
-{
-    Numbers {
-        blocks: number_of(talk, "blocks"),
-        block_size: number_of(talk, "block-size"),
-        lifetime: number_of(talk, "lifetime"),
-        max_size: number_of(talk, "max-size"),
-        uploads: number_of(talk, "uploads"),
-        last_id: u64::MAX - 1,
-        last_total: u64::MAX,
-    }
-}
-
-/// The number of the option of this name; 0 where it has none, which its default rules out.
-fn number_of(command: &ArgMatches, name: &str) -> u64
-    ensures { result ≡ number_under name.now (rows_of (found_of command.now)) }
-{
-    number_given(command, name).unwrap_or(0)
-}
-
-/// The number of the option of this name, if it has one.
-fn number_given(command: &ArgMatches, name: &str) -> Option<u64>
-    ensures { result ≡ number_told name.now (rows_of (found_of command.now)) }
-{
-    command.get_one::<u64>(name)
-}
-
-/// Whether the flag of this name is set.
-fn is_set(command: &ArgMatches, name: &str) -> bool
-    ensures { result ≡ is_set name.now (rows_of (found_of command.now)) }
-{
-    command.get_one::<bool>(name).unwrap_or(false)
-}
-
-/// What the command `serve` was asked for, where that is the command, its moment is not past the year 9999, its
-/// port is one, and it is to have 1 to 16 workers.
-pub fn serve_options<'m, 'a>(matches: &'m ArgMatches<'a>) -> Option<ServeOptions<'m, 'a>>
-    ensures told { option_map served_of result ≡ serve_told (subcommand_rows_of matches.now) }
-    ensures workers { IfSome result (λ o. is_outside o.workers 16 ≡ false) }
-{
-    options_of_serve(matches.subcommand_matches("serve")?)
-}
-
-/// What the arguments of the command `serve` tell.
-fn options_of_serve<'m, 'a>(serve: &'m ArgMatches<'a>) -> Option<ServeOptions<'m, 'a>>
-    ensures told { option_map served_of result ≡ serve_told_by (rows_of (found_of serve.now)) }
-    ensures workers { IfSome result (λ o. is_outside o.workers 16 ≡ false) }
-{
-    let work = work_of(serve)?;
-    let port = port_of(serve)?;
-    let workers = workers_of(serve)?;
-    Some(ServeOptions {
-        numbers: numbers_of(serve),
-        tenants: serve.get_strs("tenant")?,
-        port,
-        workers,
-        work,
-    })
-}
-
-/// How many workers the option tells; None where the number is not from 1 to 16.
-fn workers_of(serve: &ArgMatches) -> Option<usize>
-    ensures told { result ≡ workers_told (rows_of (found_of serve.now)) }
-    ensures some { IfSome result (λ workers. is_outside workers 16 ≡ false) }
-{
-    let workers = number_of(serve, "workers");
-    if workers == 0 || workers > 16 {
-        None
-    } else {
-        Some(workers as usize)
-    }
-}
-
-/// The port that the option tells; None where the number is none.
-fn port_of(serve: &ArgMatches) -> Option<u16>
-    ensures { result ≡ port_told (rows_of (found_of serve.now)) }
-{
-    let port = number_of(serve, "port");
-    if port <= 65_535 {
-        Some(port as u16)
-    } else {
-        None
-    }
-}
-
-/// What the arguments tell each worker; None where the moment is past the year 9999.
-fn work_of(serve: &ArgMatches) -> Option<WorkOptions>
-    ensures { result ≡ work_told (rows_of (found_of serve.now)) }
-{
-    Some(WorkOptions {
-        moment: moment_of(serve)?,
-        connections: connections_of(serve),
-        idle: number_of(serve, "idle"),
-    })
-}
-
-/// How many connections a worker accepts: without a bound it is the greatest number.
-fn connections_of(serve: &ArgMatches) -> u64
-    ensures { result ≡ connections_told (rows_of (found_of serve.now)) }
-{
-    if is_set(serve, "forever") {
-        u64::MAX
-    } else {
-        number_of(serve, "connections")
-    }
-}
-
-/// The moment that is set, if any; None where it is past the year 9999.
-fn moment_of(serve: &ArgMatches) -> Option<Option<Moment>>
-    ensures { result ≡ moment_set (number_told (codes "moment") (rows_of (found_of serve.now))) }
-{
-    match number_given(serve, "moment") {
-        Some(secs) => Some(Some(Moment::new(secs)?)),
-        None => Some(None),
-    }
 }

@@ -1,6 +1,8 @@
+//! Why a run did not do what it was asked for: its exit status, and the line that it writes.
 ghost use Rattle.std.specs.Prelude.{◌≡◌, false};
-ghost use Rattle.tus_server.specs.Fault.{WritesOrFails, fault_of_opening, fault_of_wire, line_of, status_of};
-ghost use Rattle.tus_server.specs.declared.fault.TalkFault.TheVariants.{Settings, Memory};
+ghost use Rattle.tus_server.specs.Fault.{Reports, WritesLine, WritesOrFails, fault_of_opening, fault_of_wire, line_of, status_of};
+ghost use Rattle.tus_server.specs.StreamUse.{used};
+ghost use Rattle.tus_server.specs.declared.fault.RunFault.TheVariants.{Settings, Memory};
 
 use arrayvec::ArrayString;
 use http_wire::{Sink, WireFault, put_all};
@@ -13,7 +15,7 @@ const LINE_MAX: usize = 64;
 
 /// Why the program did not do what it was asked for.
 #[derive(Clone, Copy, Debug, PartialEq, Eq)]
-pub enum TalkFault {
+pub enum RunFault {
     /// A word of the command line is not UTF-8.
     Words,
     /// The settings have a fault.
@@ -24,16 +26,16 @@ pub enum TalkFault {
     Memory,
 }
 
-impl TalkFault {
+impl RunFault {
     /// The exit status of the program: 2 for the words and the settings, 3 for the connection, 4 for
     /// memory.
     pub fn status(self) -> u8
         ensures { result ≡ status_of self }
     {
         match self {
-            TalkFault::Words | TalkFault::Settings(_) => 2,
-            TalkFault::Wire => 3,
-            TalkFault::Memory => 4,
+            RunFault::Words | RunFault::Settings(_) => 2,
+            RunFault::Wire => 3,
+            RunFault::Memory => 4,
         }
     }
 
@@ -46,33 +48,44 @@ impl TalkFault {
         let mut line = ArrayString::new();
         line.push_str("tus-server: ");
         match self {
-            TalkFault::Words => line.push_str("words"),
-            TalkFault::Settings(fault) => {
+            RunFault::Words => line.push_str("words"),
+            RunFault::Settings(fault) => {
                 line.push_str("settings: ");
                 line.push_str(fault.word());
             }
-            TalkFault::Wire => line.push_str("wire"),
-            TalkFault::Memory => line.push_str("memory"),
+            RunFault::Wire => line.push_str("wire"),
+            RunFault::Memory => line.push_str("memory"),
         }
         line.push_str("\n");
         line
     }
 }
 
+/// Gives the exit status of a command that ended so, and writes the line of its fault, if any, to `errors`, whose own
+/// faults are passed over.
+pub fn report<E: Sink>(outcome: Result<(), RunFault>, errors: &mut E) -> u8
+    requires { E.has_failed errors.old ≡ false }
+    ensures { Reports outcome result (used E.contents E.has_failed errors.old errors.new) }
+{
+    match outcome {
+        Ok(()) => 0,
+        Err(fault) => report_fault(fault, errors),
+    }
+}
+
 /// Writes the line that names the fault to `errors`, whose own faults are passed over, and gives the
 /// exit status.
-pub fn tell<E: Sink>(fault: TalkFault, errors: &mut E) -> u8
+pub fn report_fault<E: Sink>(fault: RunFault, errors: &mut E) -> u8
     requires { E.has_failed errors.old ≡ false }
     ensures status { result ≡ status_of fault }
-    ensures line { WritesOrFails (E.contents errors.old) (E.contents errors.new)
-        (E.has_failed errors.new) (line_of fault) }
+    ensures line { WritesLine (used E.contents E.has_failed errors.old errors.new) fault }
 {
     let line = fault.line();
     put_or_fail(line.as_bytes(), errors);
     fault.status()
 }
 
-/// Writes the text, or a front of it where the stream fails.
+/// Writes the text, or a prefix of it where the stream fails.
 fn put_or_fail<E: Sink>(text: &[u8], errors: &mut E)
     requires { E.has_failed errors.old ≡ false }
     ensures { WritesOrFails (E.contents errors.old) (E.contents errors.new)
@@ -81,40 +94,40 @@ fn put_or_fail<E: Sink>(text: &[u8], errors: &mut E)
     let _ = put_all(errors, text);
 }
 
-impl From<SettingsFault> for TalkFault {
-    ghost from_gives = { λ fault talk. talk ≡ Settings fault };
+impl From<SettingsFault> for RunFault {
+    ghost from_gives = { λ fault run. run ≡ Settings fault };
 
-    fn from(fault: SettingsFault) -> TalkFault {
-        TalkFault::Settings(fault)
+    fn from(fault: SettingsFault) -> RunFault {
+        RunFault::Settings(fault)
     }
 }
 
-impl From<AllocError> for TalkFault {
-    ghost from_gives = { λ _ talk. talk ≡ Memory };
+impl From<AllocError> for RunFault {
+    ghost from_gives = { λ _ run. run ≡ Memory };
 
-    fn from(_: AllocError) -> TalkFault {
-        TalkFault::Memory
+    fn from(_: AllocError) -> RunFault {
+        RunFault::Memory
     }
 }
 
-impl From<OpenFault> for TalkFault {
-    ghost from_gives = { λ fault talk. talk ≡ fault_of_opening fault };
+impl From<OpenFault> for RunFault {
+    ghost from_gives = { λ fault run. run ≡ fault_of_opening fault };
 
-    fn from(fault: OpenFault) -> TalkFault {
+    fn from(fault: OpenFault) -> RunFault {
         match fault {
-            OpenFault::Desks => TalkFault::Words,
-            OpenFault::Memory | OpenFault::Board => TalkFault::Memory,
+            OpenFault::Desks => RunFault::Words,
+            OpenFault::Memory | OpenFault::Board => RunFault::Memory,
         }
     }
 }
 
-impl From<WireFault> for TalkFault {
-    ghost from_gives = { λ fault talk. talk ≡ fault_of_wire fault };
+impl From<WireFault> for RunFault {
+    ghost from_gives = { λ fault run. run ≡ fault_of_wire fault };
 
-    fn from(fault: WireFault) -> TalkFault {
+    fn from(fault: WireFault) -> RunFault {
         match fault {
-            WireFault::Memory => TalkFault::Memory,
-            WireFault::Read | WireFault::Write | WireFault::Failed => TalkFault::Wire,
+            WireFault::Memory => RunFault::Memory,
+            WireFault::Read | WireFault::Write | WireFault::Failed => RunFault::Wire,
         }
     }
 }

@@ -11,7 +11,7 @@ use tus_shared::Balance;
 /// The most bytes of a line: three numbers of 20 digits, and the words between them.
 const LINE_MAX: usize = 96;
 
-/// Prints where the server listens. The error is `WireFault::Write`, and then only a front of the line was written.
+/// Prints where the server listens. The error is `WireFault::Write`, and then only a prefix of the line was written.
 pub fn put_listening<W: Sink>(output: &mut W, port: u16) -> Result<(), WireFault>
     requires { W.has_failed output.old ≡ false }
     ensures { Writes (W.contents output.old) (W.contents output.new) (W.has_failed output.new)
@@ -20,7 +20,7 @@ pub fn put_listening<W: Sink>(output: &mut W, port: u16) -> Result<(), WireFault
     put_all(output, listening_line(port).as_bytes())
 }
 
-/// Prints what was charged and released, and what is held. The error is `WireFault::Write`, and then only a front of
+/// Prints what was charged and released, and what is held. The error is `WireFault::Write`, and then only a prefix of
 /// the line was written.
 pub fn put_balance<W: Sink>(output: &mut W, balance: Balance) -> Result<(), WireFault>
     requires { W.has_failed output.old ≡ false }
@@ -30,7 +30,7 @@ pub fn put_balance<W: Sink>(output: &mut W, balance: Balance) -> Result<(), Wire
     put_all(output, balance_line(balance).as_bytes())
 }
 
-/// The line that tells where the server listens.
+/// The line with the address where the server listens.
 fn listening_line(port: u16) -> ArrayString<LINE_MAX>
     ensures { result.bytes ≡ listening_text port }
 {
@@ -42,7 +42,7 @@ fn listening_line(port: u16) -> ArrayString<LINE_MAX>
     line
 }
 
-/// The line that tells how many blocks were charged and released, and how many the tenants hold.
+/// The line with how many blocks were charged and released, and how many the tenants hold.
 fn balance_line(balance: Balance) -> ArrayString<LINE_MAX>
     ensures { result.bytes ≡ balance_text balance }
 {

@@ -24,14 +24,15 @@ use Rattle.upload_book.specs.Settings.{Settings}
 use Rattle.upload_book.specs.Terminate.{terminate_answer}
 use Rattle.upload_book.specs.Upload.{Upload}
 use Rattle.tus_steps.specs.Changing.{IsStepOf, change_found, change_reply}
-use Rattle.tus_steps.specs.declared.asked.ChangeOf.{ChangeOf}
+use Rattle.tus_steps.specs.declared.requested_change.ChangeOf.{ChangeOf}
 use Rattle.tus_steps.specs.Request.{Request}
 use Rattle.tus_steps.specs.Step.{IsStep}
-use Rattle.tus_shared.specs.Board.{BoardView}
-use Rattle.tus_shared.specs.Steps.{IsDone, IsStoreStep, ShowsLine}
+use Rattle.head_board.specs.Board.{BoardView}
+use Rattle.tus_shared.specs.inside.ShownLine.{ShowsLine}
+use Rattle.tus_shared.specs.Steps.{IsDone, IsStoreStep}
 use Rattle.tus_shared.specs.Store.{IsShown, Store}
-use Rattle.tus_shared.proofs.BoardLemmas.{follow-one}
-use Rattle.tus_shared.proofs.LineLemmas.{apply_lines-append}
+use Rattle.head_board.proofs.BoardLemmas.{follow-one}
+use Rattle.head_board.proofs.LineLemmas.{apply_lines-append}
 
 -- a store of this book and these lines
 abbrev store : PlainBook → List BoardLine → Store
@@ -157,9 +158,9 @@ err-of (Err e) err = (e, refl)
 -- a step with this reply and this book after it, under other names
 step-as : (b : PlainBook) (r : Request) (now : ℕ) (offset : Option ℕ) (answer result : Result Outcome Refused) (made after : PlainBook) → IsStep b r now (change_reply r offset answer) made
     → result ≡ answer → after ≡ made → IsStep b r now (change_reply r offset result) after
-step-as b r now offset answer result made after step told same =
+step-as b r now offset answer result made after step is same =
     subst (λ (x : PlainBook). IsStep b r now (change_reply r offset result) x) (sym same)
-    (subst (λ (o : Result Outcome Refused). IsStep b r now (change_reply r offset o) made) (sym told) step)
+    (subst (λ (o : Result Outcome Refused). IsStep b r now (change_reply r offset o) made) (sym is) step)
 
 -- a refused change leaves the store as the refused request does, or as one for which no memory was found
 left-step : (before after : Store) (r : Request) (now : ℕ) (asked : ChangeOf) (result : Result Outcome Refused) → IsStepOf before.book r now asked → change_found before.book.settings r ≡ Some asked
@@ -173,7 +174,7 @@ left-step before after r now asked result steps found refused same (inr lacks) =
   asked = asked;
   found = found;
   accepted = lacks.0;
-  reply = ap (change_reply r asked.offset) lacks.1;
+  reply_is = ap (change_reply r asked.offset) lacks.1;
   same = ap (λ (s : Store). s.book) same;
 })
 

@@ -1,13 +1,5 @@
 pub mod SharesLemmas
 pub mod TenantLemmas
 pub mod ZipLemmas
-pub mod RowLemmas
-pub mod FreshRows
-pub mod TableLemmas
-pub mod LineLemmas
-pub mod LogLemmas
-pub mod RuleLemmas
-pub mod WindowLemmas
-pub mod BoardLemmas
 pub mod ChangeLemmas
 pub mod BatchLemmas

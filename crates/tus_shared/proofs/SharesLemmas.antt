@@ -21,12 +21,7 @@ IsLeft-next {D = D} amount_of from worth all left rest d from_now worth_now from
       amount = omega (arith, sum, amount, i.amount);
     }
 
--- and where no desk is left, it has the amount of all
-pub IsLeft-done : {D : Type 0} (amount_of : D → ℕ) (from worth : ℕ) (all left : List D) (from_now worth_now : ℕ) → length left ≡ 0 → IsLeft amount_of from worth all left from_now worth_now → worth_now ≡ worth + sum_by amount_of all
-IsLeft-done amount_of from worth all [] from_now worth_now none i = omega (arith, i.amount)
-IsLeft-done amount_of from worth all (d ∷ left) from_now worth_now none i = absurd (omega (arith, none))
-
 -- the desks with one more that has made no step
-pub new_desks-next : (n : ℕ) (desks more : List Desk) (charged released : ℕ) (told : List BoardLine)
-    → more ≡ desks ++ record { number = n; charged = charged; released = released; told = told } ∷ [] → desks ≡ new_desks n → charged ≡ 0 → released ≡ 0 → told ≡ [] → more ≡ new_desks (n + 1)
-new_desks-next n desks more charged released told pushed so_far none spent nothing = rw (add-one, pushed) (simp (so_far, none, spent, nothing))
+pub new_desks-next : (n : ℕ) (desks more : List Desk) (charged released : ℕ) (seen : List BoardLine)
+    → more ≡ desks ++ record { number = n; charged = charged; released = released; seen = seen } ∷ [] → desks ≡ new_desks n → charged ≡ 0 → released ≡ 0 → seen ≡ [] → more ≡ new_desks (n + 1)
+new_desks-next n desks more charged released seen pushed so_far none spent nothing = rw (add-one, pushed) (simp (so_far, none, spent, nothing))

@@ -11,7 +11,7 @@ use Rattle.upload_book.specs.declared.head_row.HeadRow.{HeadRow}
 use Rattle.upload_book.specs.declared.head_row.Name.{Name}
 use Rattle.upload_book.specs.declared.refusal.Refusal.TheVariants.{Unknown}
 use Rattle.upload_book.specs.declared.settings.TenantQuota.{TenantQuota}
-use Rattle.upload_book.specs.Heads.{Heads, apply_line, apply_lines, head_part, heads_after, heads_of, parts_after, shown, without_over}
+use Rattle.upload_book.specs.Heads.{Heads, apply_line, apply_lines, head_part, heads_after, heads_of, parts_after, shown, without_expired}
 use Rattle.upload_book.specs.PlainBook.{opening_book}
 use Rattle.upload_book.specs.Settings.{Settings}
 use Rattle.upload_book.specs.TenantBook.{TenantBook, is_given, opening_part}
@@ -25,7 +25,7 @@ opening-given (suc id) = ap (λ (below : Bool). ltb 0 (suc id) && below) (le-ltb
 change-tenants : (h : Heads) (change : HeadChange) → length (parts_after h change) ≡ length h.tenants
 change-tenants h (Put name row) = length-set h.tenants name.tenant _
 change-tenants h (Gone name) = length-set h.tenants name.tenant _
-change-tenants h (Swept now) = length-map h.tenants (without_over now)
+change-tenants h (Swept now) = length-map h.tenants (without_expired now)
 
 lines-tenants : (h : Heads) (lines : List BoardLine) → length (apply_lines h lines).tenants ≡ length h.tenants
 lines-tenants h [] = refl

@@ -2,7 +2,7 @@
 use Rattle.std.proofs.Common.{◌≡◌, ℕ, suc, ◌+◌, ◌<◌, List, [], ◌∷◌, ◌++◌, length, take, get_or, add-one, refl, ap}
 use Rattle.std.proofs.Math.Seq.{take-suc}
 use Rattle.std.specs.List.{AllZip}
-use Rattle.tus_shared.specs.Served.{AllFour}
+use Rattle.tus_shared.specs.Answers.{AllFour}
 
 -- two such pairs of lists, joined
 pub AllZip-append : {A B : Type 0} (xs more : List A) (ys others : List B) (P : A → B → Type 0) → AllZip P xs ys → AllZip P more others → AllZip P (xs ++ more) (ys ++ others)
@@ -12,17 +12,17 @@ AllZip-append (x ∷ xs) more [] others P all rest = absurd all
 AllZip-append (x ∷ xs) more (y ∷ ys) others P all rest = (all.0, AllZip-append xs more ys others P all.1 rest)
 
 -- two such lists without their last elements; and these
-init : {A B : Type 0} (front : List A) (x : A) (ys : List B) (y : B) (P : A → B → Type 0) → AllZip P (front ++ x ∷ []) (ys ++ y ∷ []) → AllZip P front ys × P x y
+init : {A B : Type 0} (firsts : List A) (x : A) (ys : List B) (y : B) (P : A → B → Type 0) → AllZip P (firsts ++ x ∷ []) (ys ++ y ∷ []) → AllZip P firsts ys × P x y
 init [] x [] y P all = (tt, all.0)
 init [] x (z ∷ []) y P all = absurd all.1
 init [] x (z ∷ w ∷ ys) y P all = absurd all.1
 init (f ∷ []) x [] y P all = absurd all.1
-init (f ∷ g ∷ front) x [] y P all = absurd all.1
-init (f ∷ front) x (z ∷ ys) y P all = let rest = init front x ys y P all.1 in ((all.0, rest.0), rest.1)
+init (f ∷ g ∷ firsts) x [] y P all = absurd all.1
+init (f ∷ firsts) x (z ∷ ys) y P all = let rest = init firsts x ys y P all.1 in ((all.0, rest.0), rest.1)
 
-pub AllZip-init : {A B : Type 0} (xs front : List A) (x : A) (rooms ys : List B) (y : B) (P : A → B → Type 0)
-    → xs ≡ front ++ x ∷ [] → rooms ≡ ys ++ y ∷ [] → AllZip P xs rooms → AllZip P front ys × P x y
-AllZip-init xs front x rooms ys y P whole popped all = init front x ys y P (rw (whole, popped) at all)
+pub AllZip-init : {A B : Type 0} (xs firsts : List A) (x : A) (rooms ys : List B) (y : B) (P : A → B → Type 0)
+    → xs ≡ firsts ++ x ∷ [] → rooms ≡ ys ++ y ∷ [] → AllZip P xs rooms → AllZip P firsts ys × P x y
+AllZip-init xs firsts x rooms ys y P whole popped all = init firsts x ys y P (rw (whole, popped) at all)
 
 -- one more of each
 pub AllZip-next : {A B : Type 0} (xs : List A) (ys more : List B) (P : A → B → Type 0) (n : ℕ) (x : A) (y : B)
@@ -42,10 +42,10 @@ AllFour-push P (q ∷ xs) x (r ∷ ys) y [] z ws w all here = absurd all
 AllFour-push P (q ∷ xs) x (r ∷ ys) y (u ∷ zs) z [] w all here = absurd all
 AllFour-push P (q ∷ xs) x (r ∷ ys) y (u ∷ zs) z (v ∷ ws) w all here = (all.0, AllFour-push P xs x ys y zs z ws w all.1 here)
 
-pub AllFour-last : {A B C D : Type 0} (P : A → B → C → D → Type 0) (xs front : List A) (x : A) (told ys : List B) (y : B) (olds zs : List C) (z : C) (news ws : List D) (w : D)
-    → xs ≡ front ++ x ∷ [] → told ≡ ys ++ y ∷ [] → olds ≡ zs ++ z ∷ [] → news ≡ ws ++ w ∷ [] → AllFour P front ys zs ws → P x y z w → AllFour P xs told olds news
-AllFour-last P xs front x told ys y olds zs z news ws w whole replies before after all here =
-    rw (whole, replies, before, after) (AllFour-push P front x ys y zs z ws w all here)
+pub AllFour-last : {A B C D : Type 0} (P : A → B → C → D → Type 0) (xs firsts : List A) (x : A) (lists ys : List B) (y : B) (olds zs : List C) (z : C) (news ws : List D) (w : D)
+    → xs ≡ firsts ++ x ∷ [] → lists ≡ ys ++ y ∷ [] → olds ≡ zs ++ z ∷ [] → news ≡ ws ++ w ∷ [] → AllFour P firsts ys zs ws → P x y z w → AllFour P xs lists olds news
+AllFour-last P xs firsts x lists ys y olds zs z news ws w whole replies before after all here =
+    rw (whole, replies, before, after) (AllFour-push P firsts x ys y zs z ws w all here)
 
 -- the second and the fourth are as long as the first
 pub AllFour-long : {A B C D : Type 0} (P : A → B → C → D → Type 0) (xs : List A) (ys : List B) (zs : List C) (ws : List D) → AllFour P xs ys zs ws → (length xs ≡ length ys) × (length xs ≡ length ws)

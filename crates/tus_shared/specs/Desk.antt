@@ -3,17 +3,17 @@ use Rattle.std.specs.Prelude.{◌≡◌, ℕ, zero, suc, ◌+◌, List, [], ◌�
 use Rattle.upload_book.specs.declared.board_line.BoardLine.{BoardLine}
 use Rattle.upload_book.specs.PlainBook.{PlainBook}
 
--- its number among the desks of one opening, from 0; its two shares: how many blocks were charged, and how many
--- released, by the steps that it made; and the lines that it was told, on which its answers rest so far
+-- Its number among the desks of one opening, from 0; its two shares: how many blocks the steps that it made charged,
+-- and how many they released; and the lines that it has seen.
 pub record Desk : Type 0 where
   pub number : ℕ
   pub charged : ℕ
   pub released : ℕ
-  pub told : List BoardLine
+  pub seen : List BoardLine
 
 -- a desk that has made no step
 abbrev pub new_desk : ℕ → Desk
-new_desk number = record { number = number; charged = 0; released = 0; told = [] }
+new_desk number = record { number = number; charged = 0; released = 0; seen = [] }
 
 -- the new desks of the numbers below an end, in their order
 abbrev pub new_desks : ℕ → List Desk

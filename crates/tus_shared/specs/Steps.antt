@@ -6,21 +6,17 @@ use Rattle.upload_book.specs.declared.board_line.BoardLine.{BoardLine}
 use Rattle.upload_book.specs.declared.change.Change.{Change}
 use Rattle.upload_book.specs.declared.change.Change.TheVariants as change
 use Rattle.upload_book.specs.declared.change.Outcome.{Outcome}
-use Rattle.upload_book.specs.declared.head_row.Name.{Name}
 use Rattle.upload_book.specs.declared.refusal.Refusal.{Refusal}
 use Rattle.upload_book.specs.declared.refusal.Refusal.TheVariants.{Memory}
 use Rattle.upload_book.specs.declared.sweep.Swept.{Swept}
-use Rattle.upload_book.specs.Heads.{apply_line, heads_of}
-use Rattle.upload_book.specs.HeadSteps.{MayFollow}
 use Rattle.upload_book.specs.PlainBook.{PlainBook}
 use Rattle.upload_book.specs.Refusal.{IsAnswer}
 use Rattle.upload_book.specs.Sweep.{sweep_answer}
 use Rattle.tus_steps.specs.Changing.{change_found, change_reply}
-use Rattle.tus_steps.specs.declared.asked.ChangeOf.{ChangeOf}
+use Rattle.tus_steps.specs.declared.requested_change.ChangeOf.{ChangeOf}
 use Rattle.tus_steps.specs.declared.reply.Reply.{Reply}
 use Rattle.tus_steps.specs.Request.{Request}
 use Rattle.tus_steps.specs.Step.{IsStep}
-use Rattle.tus_shared.specs.Board.{BoardView}
 use Rattle.tus_shared.specs.Store.{Store}
 
 -- the change is made: the book is the one after it, and its line is shown after those before
@@ -29,15 +25,6 @@ pub record IsMade (before : Store) (change : Change) (now : ℕ) (after : Store)
   pub is : line_of before.book change now ≡ Some line
   pub book : after.book ≡ book_after_change before.book change now
   pub lines : after.lines ≡ before.lines ++ line ∷ []
-
--- The line of a change is shown after those before, on the board of a book: it may follow, and the heads after it are
--- those of the book after the change.
-pub record ShowsLine (b : PlainBook) (change : Change) (now : ℕ) (before after : BoardView) : Type 0 where
-  pub line : BoardLine
-  pub is : line_of b change now ≡ Some line
-  pub may : MayFollow (heads_of b) line
-  pub heads : heads_of (book_after_change b change now) ≡ apply_line (heads_of b) line
-  pub shown : after ≡ record before { lines = before.lines ++ line ∷ [] }
 
 -- the change is refused, and the store stays: by the answer of the plain book, or, where that would accept it, since
 -- memory lacks, if only for its line
@@ -54,33 +41,29 @@ IsDone before change now result after =
 -- What a request shows: its change is made, and the line of it shown, or refused, and the reply tells which; where it
 -- asks for none, the store stays.
 abbrev pub ShowsBy : Option ChangeOf → Store → Request → ℕ → Reply → Store → Type 0
-ShowsBy (Some asked) before r now told after =
-    (result : Result Outcome Refused) × (told ≡ change_reply r asked.offset result) × IsDone before asked.change now result after
-ShowsBy None before r now told after = after ≡ before
+ShowsBy (Some asked) before r now reply after =
+    (result : Result Outcome Refused) × (reply ≡ change_reply r asked.offset result) × IsDone before asked.change now result after
+ShowsBy None before r now reply after = after ≡ before
 
-abbrev pub Shows : Store → Request → ℕ → Reply → Store → Type 0
-Shows before r now told after = ShowsBy (change_found before.book.settings r) before r now told after
+-- what the change of a request shows, if it asks for one
+abbrev pub ShowsChange : Store → Request → ℕ → Reply → Store → Type 0
+ShowsChange before r now reply after = ShowsBy (change_found before.book.settings r) before r now reply after
 
--- The change that a request asks for would be accepted, but no memory was found for its line: this is told, and the
+-- The change that a request asks for would be accepted, but no memory was found for its line: the reply says so, and the
 -- book stays.
-pub record IsUnshown (b : PlainBook) (r : Request) (now : ℕ) (told : Reply) (after : PlainBook) : Type 0 where
+pub record IsUnshown (b : PlainBook) (r : Request) (now : ℕ) (reply : Reply) (after : PlainBook) : Type 0 where
   pub asked : ChangeOf
   pub found : change_found b.settings r ≡ Some asked
   pub accepted : IsOk (change_answer b asked.change now)
-  pub reply : told ≡ change_reply r asked.offset (change_lacking b asked.change now)
+  pub reply_is : reply ≡ change_reply r asked.offset (change_lacking b asked.change now)
   pub same : after ≡ b
 
 -- the step of a request at a store: that of the plain book, unless no memory was found for its line
 abbrev pub IsStoreStep : PlainBook → Request → ℕ → Reply → PlainBook → Type 0
-IsStoreStep b r now told after = IsStep b r now told after ⊎ IsUnshown b r now told after
+IsStoreStep b r now reply after = IsStep b r now reply after ⊎ IsUnshown b r now reply after
 
 -- what a sweep does at a store: it is made, or no memory was found for its line, and the store stays
 abbrev pub IsSweep : Store → ℕ → Result Swept Refusal → Store → Type 0
 IsSweep before now swept after =
     IfOk swept (λ s. (s ≡ sweep_answer before.book now) × IsMade before change.Sweep now after)
     × IfErr swept (λ why. (why ≡ Memory) × (after ≡ before))
-
--- the upload to which a change adds bytes, if it is a PATCH
-abbrev pub patched_name : Change → Option Name
-patched_name (change.Append name chunk) = Some name
-patched_name _ = None

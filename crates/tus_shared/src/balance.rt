@@ -8,11 +8,11 @@ ghost use Rattle.upload_book.specs.Charge.{charge_in};
 ghost use Rattle.upload_book.specs.declared.board_line.BoardLine.{BoardLine};
 ghost use Rattle.upload_book.specs.Lawful.{IsLawful};
 
-use crate::board::Board;
 use crate::charges::Charges;
 use crate::desk::Desk;
 use crate::shared::Shared;
 use crate::store::Store;
+use head_board::Board;
 use std::sync::Wait;
 use std::sync::ledger::{Ledger, Share};
 use upload_book::Book;
@@ -30,7 +30,7 @@ pub struct Balance {
 
 /// Ends an opening: takes the book out of the lock, and adds the shares of all of its desks. The sums are
 /// the totals of the book, and what is held is what its tenants pay. The heads of the book are those after the lines
-/// that were shown, which begin with what each desk was told. It may wait for readers, of which none is left.
+/// that were shown, which begin with what each desk has seen. It may wait for readers, of which none is left.
 pub fn settle<C: Charges, R: Ledger, B: Wait + Drop>(
     shared: Shared<C, R, B>,
     desks: Vec<Desk<C, R>>,
@@ -44,9 +44,9 @@ pub fn settle<C: Charges, R: Ledger, B: Wait + Drop>(
     ensures released_sum { result.1.released ≡ sum_by (λ (d : spec.Desk). d.released) desks.items }
     ensures charged { result.1.charged ≡ (plain_of result.0).charged }
     ensures released { result.1.released ≡ (plain_of result.0).released }
-    ensures told { (lines : List BoardLine)
+    ensures seen { (lines : List BoardLine)
         × IsShown C.settings (record { book = plain_of result.0; lines = lines })
-        × All (λ (d : spec.Desk). IsPrefix d.told lines) desks.items }
+        × All (λ (d : spec.Desk). IsPrefix d.seen lines) desks.items }
     ensures held { result.1.held ≡ sum_by (charge_in C.settings.numbers) (plain_of result.0).tenants }
 {
     let Shared { store } = shared;
@@ -67,7 +67,7 @@ pub fn settle<C: Charges, R: Ledger, B: Wait + Drop>(
     (book, balance)
 }
 
-// Takes the shares of these desks in, each of which was told lines of the board.
+// Takes the shares of these desks in, each of which has seen lines of the board.
 fn gather<C: Charges, R: Ledger, B: Wait + Drop>(
     board: &Board<B>,
     charged: &mut Share<C>,
@@ -75,7 +75,7 @@ fn gather<C: Charges, R: Ledger, B: Wait + Drop>(
     desks: Vec<Desk<C, R>>,
 )
     requires log { board.now.log ≡ C.log }
-    ensures told { All (λ (d : spec.Desk). IsPrefix d.told board.now.lines) desks.items }
+    ensures seen { All (λ (d : spec.Desk). IsPrefix d.seen board.now.lines) desks.items }
     ensures charged_parts { charged.new.parts ≡ charged.old.parts + vec_len desks }
     ensures released_parts { released.new.parts ≡ released.old.parts + vec_len desks }
     ensures charged { charged.new.amount ≡ charged.old.amount + sum_by (λ (d : spec.Desk). d.charged) desks.items }
@@ -87,9 +87,9 @@ fn gather<C: Charges, R: Ledger, B: Wait + Drop>(
             number: _,
             charged: its_charged,
             released: its_released,
-            mut window,
+            mut reader,
         } = desk;
-        board.tell(&mut window);
+        board.show_to(&mut reader);
         charged.merge(its_charged);
         released.merge(its_released);
     }

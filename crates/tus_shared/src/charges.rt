@@ -1,6 +1,6 @@
 ghost use Rattle.std.specs.Prelude.{ℕ};
 ghost use Rattle.logbook.specs.Pages.{Book};
-ghost use Rattle.tus_shared.specs.Charges.{no_log, no_settings};
+ghost use Rattle.head_board.specs.NoBoard.{no_log, no_settings};
 ghost use Rattle.upload_book.specs.Settings as spec;
 
 use std::marker::Brand;

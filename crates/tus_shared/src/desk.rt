@@ -2,32 +2,31 @@ ghost use Rattle.std.specs.Prelude.{◌≡◌, ◌⊎◌, ◌≤◌, [], true, E
 ghost use Rattle.tus_steps.specs.Method.{is_head};
 ghost use Rattle.tus_steps.specs.Operation.{operation_of};
 ghost use Rattle.upload_book.specs.declared.operation.Operation.TheVariants as operation;
-ghost use Rattle.tus_shared.specs.Board.{Looks};
-ghost use Rattle.tus_shared.specs.Served.{Answers, IsToldAlone, Sweeps, TakesBatch, TakesTurn, TellsHead};
+ghost use Rattle.head_board.specs.Board.{ReadsHead};
+ghost use Rattle.tus_shared.specs.Answers.{Answers, AnswersBatch, AnswersTurn, OnlySeesMore, SeesHead, Sweeps};
 ghost use Rattle.upload_book.specs.declared.refusal.Refusal.TheVariants.{Board, Unknown};
 
 use crate::charges::Charges;
 use crate::gate::{Gate, Stop};
 use crate::shared::Shared;
 use crate::turn::Turn;
-use crate::window::Window;
+use head_board::HeadReader;
 use std::marker::Model;
 use std::sync::Wait;
 use std::sync::ledger::{Ledger, Share};
 use tus_steps::{HeadOf, Reply, Request, head_of, head_reply};
 use upload_book::{HeadRow, Moment, Name, Refusal, Settings, Swept};
 
-/// One of the desks that an opening gives, at which one thread answers its requests. It counts in two
-/// shares how many blocks its own steps charged, and how many they released, and looks at the board through a window.
-/// A contract sees the desk's number, these two counts, and the lines that it was told: those on which its answers
-/// rest so far.
+/// One of the desks that an opening gives, at which one thread answers its requests. It counts in two shares how many
+/// blocks its own steps charged, and how many they released, and has a reader of the board. A contract sees the desk's
+/// number, these two counts, and the lines that the desk has seen: each later answer is at least as new.
 #[derive(Drop)]
 pub struct Desk<C: Charges, R: Ledger> {
     pub(crate) settings: Settings,
     pub(crate) number: usize,
     pub(crate) charged: Share<C>,
     pub(crate) released: Share<R>,
-    pub(crate) window: Window,
+    pub(crate) reader: HeadReader,
 }
 
 impl<C: Charges, R: Ledger> Model for Desk<C, R> {
@@ -40,11 +39,11 @@ impl<C: Charges, R: Ledger> Model for Desk<C, R> {
       number = d.number;
       charged = d.charged.amount;
       released = d.released.amount;
-      told = d.window.lines;
+      seen = d.reader.lines;
     } };
 
     ghost invariant = { λ d. (d.settings ≡ C.settings) × (d.charged.parts ≡ 1) × (d.released.parts ≡ 1)
-        × (d.window.settings ≡ C.settings) × (d.window.log ≡ C.log) };
+        × (d.reader.settings ≡ C.settings) × (d.reader.log ≡ C.log) };
 }
 
 impl<C: Charges, R: Ledger> Desk<C, R> {
@@ -55,10 +54,10 @@ impl<C: Charges, R: Ledger> Desk<C, R> {
         &self.settings
     }
 
-    /// Takes the lock for the step of this request at this moment ([`crate::Store::step`]), and gives its
-    /// reply: the plain book's on a lawful book whose heads are those after the lines that were shown, which begin with
-    /// those that the desk was told. It is told them, and the line of its own change. The bytes of a GET are a copy. It
-    /// may wait for other desks.
+    /// Takes the lock for the step of this request at this moment ([`crate::Store::step`]), and gives its reply: the
+    /// plain book's on a lawful book. The heads of that book are those after the lines that were shown, and these begin
+    /// with what the desk has seen. After it the desk has seen all of them, and the line of its own change. The bytes of
+    /// a GET are a copy. It may wait for other desks.
     pub fn call<W: Wait, B: Wait + Drop>(
         &mut self,
         rt: &W,
@@ -84,30 +83,30 @@ impl<C: Charges, R: Ledger> Desk<C, R> {
         shared.store.lock(rt).sweep(self, now)
     }
 
-    /// Looks on the board what a HEAD of this upload tells at this moment, after lines that begin with those which the
-    /// desk was told, and it is told these. So it is never behind what the desk was told before, its own steps among
-    /// that. It is refused as Unknown where the name's tenant is not there or never had the id, and as Gone where the
-    /// upload has ended or expired. The desk's counts stay. It takes no lock and no memory, and waits for nobody.
+    /// Reads on the board what a HEAD of this upload tells at this moment. The answer is at least as new as anything
+    /// that this desk has reported, its own steps included. It is refused as Unknown where the name's tenant is not there
+    /// or never had the id, and as Gone where the upload has ended or expired. The desk's counts stay. It takes no lock
+    /// and no memory, and waits for nobody.
     ///
-    /// Board, with the desk as it was, says that the board was not entered, as no run has it.
+    /// Board, with the desk as it was, says that the board was not entered, which happens in no run.
     pub fn head(&mut self, name: &Name, now: Moment) -> Result<HeadRow, Refusal>
-        ensures head { TellsHead C.settings name.now now result self.old self.new }
+        ensures head { SeesHead C.settings name.now now result self.old self.new }
         ensures no_tenant { length C.settings.tenants ≤ name.now.tenant
             → (result ≡ Err Unknown) ⊎ (result ≡ Err Board) }
     {
-        let Some(row) = self.look(name, now) else {
+        let Some(row) = self.read_board(name, now) else {
             return Err(Refusal::Board);
         };
         row
     }
 
     // What the board tells of an upload; nothing, where it was not entered, and then the desk stays.
-    fn look(&mut self, name: &Name, now: Moment) -> Option<Result<HeadRow, Refusal>>
-        ensures looks { IfSome result (Looks C.settings self.old.told self.new.told name.now now) }
-        ensures alone { IsToldAlone self.old self.new }
+    fn read_board(&mut self, name: &Name, now: Moment) -> Option<Result<HeadRow, Refusal>>
+        ensures reads { IfSome result (ReadsHead C.settings self.old.seen self.new.seen name.now now) }
+        ensures alone { OnlySeesMore self.old self.new }
         ensures stays { IfNone result (self.new ≡ self.old) }
     {
-        self.window.look(name, now)
+        self.reader.look(name, now)
     }
 
     /// Answers a turn, and passes the gate on the way: at `Before`, then with the lock at `Locked`, if it takes the
@@ -122,7 +121,7 @@ impl<C: Charges, R: Ledger> Desk<C, R> {
         turn: usize,
         gate: &G,
     ) -> Reply
-        ensures { TakesTurn C.settings request.now now result self.old self.new }
+        ensures { AnswersTurn C.settings request.now now result self.old self.new }
     {
         gate.pass(self.number, turn, Stop::Before);
         let reply = self.reply_to(rt, shared, request, now, turn, gate);
@@ -140,7 +139,7 @@ impl<C: Charges, R: Ledger> Desk<C, R> {
         turn: usize,
         gate: &G,
     ) -> Reply
-        ensures { TakesTurn C.settings request.now now result self.old self.new }
+        ensures { AnswersTurn C.settings request.now now result self.old self.new }
     {
         match head_of(&self.settings, request) {
             HeadOf::Refused(reply) => return reply,
@@ -165,9 +164,9 @@ impl<C: Charges, R: Ledger> Desk<C, R> {
     ) -> Reply
         requires head { is_head request.now.method ≡ true }
         requires asks { operation_of C.settings request.now ≡ Ok (operation.Look name.now) }
-        ensures { TakesTurn C.settings request.now now result self.old self.new }
+        ensures { AnswersTurn C.settings request.now now result self.old self.new }
     {
-        if let Some(row) = self.look(name, now) {
+        if let Some(row) = self.read_board(name, now) {
             return head_reply(row);
         }
         self.answer_locked(rt, shared, request, now, turn, gate)
@@ -202,7 +201,7 @@ impl<C: Charges, R: Ledger> Desk<C, R> {
     ) -> Vec<Reply>
         requires empty { replies.items ≡ [] }
         requires room { length batch.now ≤ vec_capacity replies }
-        ensures { TakesBatch C.settings batch.now result.items self.old self.new }
+        ensures { AnswersBatch C.settings batch.now result.items self.old self.new }
     {
         for (number, turn) in batch.iter().enumerate() {
             let reply = self.answer(rt, shared, &turn.request, turn.now, number, gate);

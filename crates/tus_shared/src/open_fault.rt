@@ -12,7 +12,7 @@ pub enum OpenFault {
     Desks,
     /// There was too little memory.
     Memory,
-    /// The board, or a window on it, could not be made.
+    /// The board, or a reader of it, could not be made.
     Board,
 }
 

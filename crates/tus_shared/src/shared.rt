@@ -1,15 +1,14 @@
 ghost use Rattle.std.specs.Prelude.{◌≡◌, ◌<◌, ◌≤◌, ◌↔◌, [], Err, IfOk, IsTrue};
 ghost use Rattle.tus_shared.specs.Desk.{new_desks};
-ghost use Rattle.tus_shared.specs.Store.{IsCounted};
+ghost use Rattle.tus_shared.specs.inside.StoreRule.{IsCounted};
 ghost use Rattle.upload_book.specs.Settings.{is_outside};
 
-use crate::board::Board;
 use crate::charges::Charges;
-use crate::column::Column;
 use crate::desk::Desk;
-use crate::line_log::Opened;
 use crate::open_fault::OpenFault;
 use crate::store::Store;
+use crate::store_ledger::StoreLedger;
+use head_board::{Board, Opened};
 use std::alloc::Global;
 use std::sync::ledger::{Blank, Ledger};
 use std::sync::{Mutex, Wait};
@@ -28,10 +27,10 @@ impl<C: Charges, R: Ledger, B: Wait + Drop> Shared<C, R, B> {
     /// A store with an empty book of these settings, and so many desks, which are numbered from 0 and have
     /// made no step. `charged` and `released` are new ledgers of 16 parts each: a desk gets one of each, and
     /// those that no desk has stay behind the lock. `opened` is the log of the lines that will be shown, and `rt` is the
-    /// handle by which the board waits for readers that still look at an older sheet. All memory is taken here.
+    /// handle by which the board waits for readers that still read an older copy. All memory is taken here.
     ///
     /// The error is `Desks` where there are none or more than 16 desks, and else `Memory`, where there was
-    /// too little for the book or the list of desks, or `Board`, where the board or a window on it could not be made,
+    /// too little for the book or the list of desks, or `Board`, where the board or a reader of it could not be made,
     /// as where memory lacked for them.
     pub fn open(
         rt: B,
@@ -46,7 +45,7 @@ impl<C: Charges, R: Ledger, B: Wait + Drop> Shared<C, R, B> {
         requires desks { desks ≡ C.desks }
         requires charged { (charged.name ≡ C.name) × (charged.parts ≡ C.parts) × (C.parts ≡ 16) }
         requires released { (released.name ≡ R.name) × (released.parts ≡ R.parts) × (R.parts ≡ 16) }
-        requires log { opened.front.book ≡ C.log }
+        requires log { opened.seen.book ≡ C.log }
         ensures desks { IfOk result (λ opened. opened.1.items ≡ new_desks desks) }
         ensures fault { (result ≡ Err OpenFault.Desks) ↔ IsTrue (is_outside desks 16) }
     {
@@ -56,8 +55,8 @@ impl<C: Charges, R: Ledger, B: Wait + Drop> Shared<C, R, B> {
         let Ok(book) = Book::new(alloc, settings.copied()) else {
             return Err(OpenFault::Memory);
         };
-        let mut charged = Column::open(charged);
-        let mut released = Column::open(released);
+        let mut charged = StoreLedger::open(charged);
+        let mut released = StoreLedger::open(released);
         let opened = open_board(
             rt,
             alloc,
@@ -85,19 +84,19 @@ impl<C: Charges, R: Ledger, B: Wait + Drop> Shared<C, R, B> {
     }
 }
 
-// The board of a new store, and so many desks, each with a part of both ledgers and a window on that board.
+// The board of a new store, and so many desks, each with a part of both ledgers and a reader of that board.
 fn open_board<C: Charges, R: Ledger, B: Wait + Drop>(
     rt: B,
     alloc: Global,
     settings: &Settings,
     count: usize,
     opened: Opened,
-    charged: &mut Column<C>,
-    released: &mut Column<R>,
+    charged: &mut StoreLedger<C>,
+    released: &mut StoreLedger<R>,
 ) -> Result<(Board<B>, Vec<Desk<C, R>>), OpenFault>
     requires count { (0 < count) × (count ≤ 16) }
     requires settings { settings.now ≡ C.settings }
-    requires log { opened.front.book ≡ C.log }
+    requires log { opened.seen.book ≡ C.log }
     requires charged { IsCounted 0 0 (record { total = charged.old.book.total; parts = charged.old.rest.parts; rest = charged.old.rest.amount }) }
     requires released { IsCounted 0 0 (record { total = released.old.book.total; parts = released.old.rest.parts; rest = released.old.rest.amount }) }
     ensures board { IfOk result (λ opened. opened.0 ≡ record { settings = C.settings; log = C.log; lines = [] }) }
@@ -115,14 +114,14 @@ fn open_board<C: Charges, R: Ledger, B: Wait + Drop>(
     Ok((board, desks))
 }
 
-// So many desks of a new store, each with a part of both ledgers and a window on the board.
+// So many desks of a new store, each with a part of both ledgers and a reader of the board.
 fn open_desks<C: Charges, R: Ledger, B: Wait + Drop>(
     alloc: Global,
     settings: &Settings,
     count: usize,
     board: &mut Board<B>,
-    charged: &mut Column<C>,
-    released: &mut Column<R>,
+    charged: &mut StoreLedger<C>,
+    released: &mut StoreLedger<R>,
 ) -> Result<Vec<Desk<C, R>>, OpenFault>
     requires count { count ≤ 16 }
     requires settings { settings.now ≡ C.settings }
@@ -141,7 +140,7 @@ fn open_desks<C: Charges, R: Ledger, B: Wait + Drop>(
         return Err(OpenFault::Memory);
     };
     for number in 0..count {
-        let Ok(window) = board.window() else {
+        let Ok(reader) = board.reader() else {
             return Err(OpenFault::Board);
         };
         desks.push_reserved(Desk {
@@ -149,7 +148,7 @@ fn open_desks<C: Charges, R: Ledger, B: Wait + Drop>(
             number,
             charged: charged.part(),
             released: released.part(),
-            window,
+            reader,
         });
     }
     Ok(desks)

@@ -1,7 +1,8 @@
 ghost use Rattle.std.specs.Prelude.{◌≡◌, Err, IsOk, MatchBool, length};
 ghost use mathlib.Core.List.{IsPrefix};
 ghost use Rattle.tus_shared.specs.Desk.{Moves};
-ghost use Rattle.tus_shared.specs.Steps.{IsDone, IsStoreStep, IsSweep, Shows, ShowsLine, patched_name};
+ghost use Rattle.tus_shared.specs.Steps.{IsDone, IsStoreStep, IsSweep, ShowsChange};
+ghost use Rattle.tus_shared.specs.inside.ShownLine.{ShowsLine, patched_name};
 ghost use Rattle.tus_shared.specs.Store.{IsShown};
 ghost use Rattle.upload_book.specs.Append.{expiry_told};
 ghost use Rattle.upload_book.specs.Book.{plain_of};
@@ -12,10 +13,10 @@ ghost use Rattle.upload_book.specs.Lawful.{IsLawful};
 ghost use Rattle.upload_book.specs.PlainBook.{tenant_book};
 ghost use Rattle.upload_book.specs.Ready.{IsReady, change_in, moment_in};
 
-use crate::board::Board;
 use crate::charges::Charges;
-use crate::column::Column;
 use crate::desk::Desk;
+use crate::store_ledger::StoreLedger;
+use head_board::Board;
 use std::marker::Model;
 use std::sync::Wait;
 use std::sync::ledger::Ledger;
@@ -28,13 +29,13 @@ use upload_book::{Book, Change, Moment, Name, Outcome, Ready, Refusal, Refused, 
 pub struct Store<C: Charges, R: Ledger, B: Wait + Drop> {
     pub(crate) book: Book,
     pub(crate) board: Board<B>,
-    pub(crate) charged: Column<C>,
-    pub(crate) released: Column<R>,
+    pub(crate) charged: StoreLedger<C>,
+    pub(crate) released: StoreLedger<R>,
 }
 
 impl<C: Charges, R: Ledger, B: Wait + Drop> Model for Store<C, R, B> {
     ghost use Rattle.tus_shared.specs.Store as spec;
-    ghost use Rattle.tus_shared.specs.Store.{IsStore};
+    ghost use Rattle.tus_shared.specs.inside.StoreRule.{IsStore};
     ghost use Rattle.upload_book.specs.Book.{plain_of};
 
     ghost Value = { spec.Store };
@@ -48,9 +49,9 @@ impl<C: Charges, R: Ledger, B: Wait + Drop> Model for Store<C, R, B> {
 
 impl<C: Charges, R: Ledger, B: Wait + Drop> Store<C, R, B> {
     /// Answers a request at a desk and applies it to the book, as the plain book does at this moment
-    /// ([`tus_steps::answer`]). What that changes of the heads is shown on the board in one line, and the desk is told
-    /// all lines that were shown. The desk's shares rise by what the request charges and releases. No other
-    /// desk's do, since no other is lent.
+    /// ([`tus_steps::answer`]). What that changes of the heads is shown on the board in one line, and the desk has seen
+    /// all lines after it. The desk's shares rise by what the request charges and releases. No other desk's do, since no
+    /// other is lent.
     ///
     /// Where memory lacks for the line, a request that would change the book is refused as Memory, and nothing is
     /// changed or shown.
@@ -58,13 +59,13 @@ impl<C: Charges, R: Ledger, B: Wait + Drop> Store<C, R, B> {
         ensures settings { self.old.book.settings ≡ C.settings }
         ensures lawful { IsLawful self.old.book }
         ensures stays_lawful { IsLawful self.new.book }
-        ensures begins { IsPrefix desk.old.told self.old.lines }
+        ensures begins { IsPrefix desk.old.seen self.old.lines }
         ensures before { IsShown C.settings self.old }
         ensures after { IsShown C.settings self.new }
         ensures step { IsStoreStep self.old.book request.now now result self.new.book }
-        ensures shows { Shows self.old request.now now result self.new }
+        ensures shows { ShowsChange self.old request.now now result self.new }
         ensures moves { Moves self.old.book self.new.book desk.old desk.new }
-        ensures told { desk.new.told ≡ self.new.lines }
+        ensures seen { desk.new.seen ≡ self.new.lines }
     {
         let mut ids = PartIds::new();
         match change_of(self.book.settings(), request, &mut ids) {
@@ -74,27 +75,27 @@ impl<C: Charges, R: Ledger, B: Wait + Drop> Store<C, R, B> {
                 change_reply(request, offset, outcome)
             }
             None => {
-                self.board.tell(&mut desk.window);
+                self.board.show_to(&mut desk.reader);
                 answer(&mut self.book, request, now)
             }
         }
     }
 
     /// Ends all uploads that have expired at this moment, as the plain book's sweep does, and shows that on the board in
-    /// one line, also where there are none. The desk's shares rise by what that releases, and it is told all lines that
-    /// were shown.
+    /// one line, also where there are none. The desk's shares rise by what that releases, and it has seen all lines after
+    /// it.
     ///
     /// It is refused as Memory where that lacks for the line, and then nothing is changed or shown.
     pub fn sweep(&mut self, desk: &mut Desk<C, R>, now: Moment) -> Result<Swept, Refusal>
         ensures settings { self.old.book.settings ≡ C.settings }
         ensures lawful { IsLawful self.old.book }
         ensures stays_lawful { IsLawful self.new.book }
-        ensures begins { IsPrefix desk.old.told self.old.lines }
+        ensures begins { IsPrefix desk.old.seen self.old.lines }
         ensures before { IsShown C.settings self.old }
         ensures after { IsShown C.settings self.new }
         ensures sweep { IsSweep self.old now result self.new }
         ensures moves { Moves self.old.book self.new.book desk.old desk.new }
-        ensures told { desk.new.told ≡ self.new.lines }
+        ensures seen { desk.new.seen ≡ self.new.lines }
     {
         match self.make(desk, Change::Sweep, now) {
             Ok(Outcome::Swept(swept)) => Ok(swept),
@@ -115,16 +116,16 @@ impl<C: Charges, R: Ledger, B: Wait + Drop> Store<C, R, B> {
         ensures settings { self.old.book.settings ≡ C.settings }
         ensures lawful { IsLawful self.old.book }
         ensures stays_lawful { IsLawful self.new.book }
-        ensures begins { IsPrefix desk.old.told self.old.lines }
+        ensures begins { IsPrefix desk.old.seen self.old.lines }
         ensures before { IsShown C.settings self.old }
         ensures after { IsShown C.settings self.new }
         ensures done { IsDone self.old change.entry now result self.new }
         ensures moves { Moves self.old.book self.new.book desk.old desk.new }
-        ensures told { desk.new.told ≡ self.new.lines }
+        ensures seen { desk.new.seen ≡ self.new.lines }
     {
-        self.board.tell(&mut desk.window);
-        // the settings tell that the book is lawful
-        let _ = self.book.settings();
+        self.board.show_to(&mut desk.reader);
+        // the contract of this call tells that the book is lawful
+        let _lawful = self.book.settings();
         let patched = patched_by(&change);
         let ready = match self.book.prepare(change, now) {
             Ok(ready) => ready,
@@ -142,7 +143,7 @@ impl<C: Charges, R: Ledger, B: Wait + Drop> Store<C, R, B> {
         let given_back = self.book.released_total() - released;
         self.charged.book.add(&mut desk.charged, cost);
         self.released.book.add(&mut desk.released, given_back);
-        self.board.tell(&mut desk.window);
+        self.board.show_to(&mut desk.reader);
         Ok(outcome)
     }
 

@@ -1,7 +1,7 @@
 ghost use Rattle.std.specs.Prelude.{◌≡◌, ◌≤◌, [], IfOk, OnErr, length, vec_capacity, vec_len};
 ghost use Rattle.std.specs.Thread.{IsSend, IsSync};
 ghost use Rattle.std.specs.List.{AllZip};
-ghost use Rattle.tus_shared.specs.Served.{AllFour, TakesBatch};
+ghost use Rattle.tus_shared.specs.Answers.{AllFour, AnswersBatch};
 
 use crate::charges::Charges;
 use crate::desk::Desk;
@@ -39,7 +39,7 @@ pub fn work_all<
 ) -> Result<Vec<Vec<Reply>>, WorkFault>
     requires { length batches.now ≡ vec_len desks.old }
     ensures answers { IfOk result (λ replies. AllFour
-        (λ batch told before after. TakesBatch C.settings batch.now told.items before after)
+        (λ batch own before after. AnswersBatch C.settings batch.now own.items before after)
         batches.now replies.items desks.old.items desks.new.items) }
     ensures lacking { OnErr result (desks.new ≡ desks.old) }
     ensures count { vec_len desks.new ≡ vec_len desks.old }
@@ -56,7 +56,7 @@ pub fn work_all<
 // A list for each batch, with room for its replies.
 fn room_for(alloc: Global, batches: &[&[Turn]]) -> Result<Vec<Vec<Reply>>, AllocError>
     ensures { IfOk result (λ replies. AllZip
-        (λ batch told. (told.items ≡ []) × (length batch.now ≤ vec_capacity told))
+        (λ batch room. (room.items ≡ []) × (length batch.now ≤ vec_capacity room))
         batches.now replies.items) }
 {
     let mut replies = Vec::with_capacity(alloc, batches.len())?;
@@ -88,7 +88,7 @@ fn work<
         (λ batch room. (room.items ≡ []) × (length batch.now ≤ vec_capacity room))
         batches.now rooms.items }
     ensures answers { AllFour
-        (λ batch told before after. TakesBatch C.settings batch.now told.items before after)
+        (λ batch own before after. AnswersBatch C.settings batch.now own.items before after)
         batches.now result.1.items desks.items result.0.items }
     ensures desks { vec_capacity result.0 ≡ vec_capacity desks }
     ensures replies { vec_capacity result.1 ≡ vec_capacity rooms }
@@ -98,7 +98,7 @@ fn work<
     };
     let desk = desks.pop().unwrap();
     let room = rooms.pop().unwrap();
-    let ((mut after, mut told), (moved, last)) = join(
+    let ((mut after, mut replies), (moved, last)) = join(
         rt,
         || -> (Vec<Desk<C, R>>, Vec<Vec<Reply>>)
             requires bounds { IsSync W.row × IsSync G.row × IsSend C.row × IsSync C.row × IsSend R.row × IsSync R.row × IsSend B.row }
@@ -107,7 +107,7 @@ fn work<
                 (λ batch room. (room.items ≡ []) × (length batch.now ≤ vec_capacity room))
                 others.now rooms.items }
             ensures answers { AllFour
-                (λ batch told before after. TakesBatch C.settings batch.now told.items before after)
+                (λ batch own before after. AnswersBatch C.settings batch.now own.items before after)
                 others.entry.now result.1.items desks.items result.0.items }
             ensures desks { vec_capacity result.0 ≡ vec_capacity desks }
             ensures replies { vec_capacity result.1 ≡ vec_capacity rooms }
@@ -115,12 +115,12 @@ fn work<
         || -> (Desk<C, R>, Vec<Reply>)
             requires empty { room.items ≡ [] }
             requires room { length batch.now.now ≤ vec_capacity room }
-            ensures { TakesBatch C.settings batch.entry.now.now result.1.items desk result.0 }
+            ensures { AnswersBatch C.settings batch.entry.now.now result.1.items desk result.0 }
         { answered(rt, shared, desk, batch, room, gate) },
     );
     after.push_reserved(moved);
-    told.push_reserved(last);
-    (after, told)
+    replies.push_reserved(last);
+    (after, replies)
 }
 
 // The desk after its batch, and the replies to that, in a list that has room for them.
@@ -134,7 +134,7 @@ fn answered<C: Charges, R: Ledger, G: Gate, W: Wait, B: Wait + Drop>(
 ) -> (Desk<C, R>, Vec<Reply>)
     requires empty { room.items ≡ [] }
     requires room { length batch.now ≤ vec_capacity room }
-    ensures { TakesBatch C.settings batch.now result.1.items desk result.0 }
+    ensures { AnswersBatch C.settings batch.now result.1.items desk result.0 }
 {
     let replies = desk.answer_all(rt, shared, batch, room, gate);
     (desk, replies)

@@ -22,12 +22,12 @@ use Rattle.upload_book.specs.NewFinal.{NewFinal}
 use Rattle.upload_book.specs.NewUpload.{NewUpload}
 use Rattle.upload_book.specs.PlainBook.{PlainBook, answer_of, book_after, tenant_book}
 use Rattle.upload_book.specs.Terminate.{terminate_answer}
-use Rattle.upload_book.proofs.AppendLemmas.{part_after_append-refused}
-use Rattle.upload_book.proofs.BookLemmas.{book_after-stays}
-use Rattle.upload_book.proofs.CreateSteps.{after-empty, empty-answer, none-added}
-use Rattle.upload_book.proofs.HeadParts.{IsFollowed}
-use Rattle.upload_book.proofs.HeadsFewer.{heads-terminate}
-use Rattle.upload_book.proofs.Outcomes.{part_after_create-refused}
+use Rattle.upload_book.proofs.Lawful.AppendLemmas.{part_after_append-refused}
+use Rattle.upload_book.proofs.Steps.BookLemmas.{book_after-stays}
+use Rattle.upload_book.proofs.Steps.CreateSteps.{after-empty, empty-answer, none-added}
+use Rattle.upload_book.proofs.Heads.HeadParts.{IsFollowed}
+use Rattle.upload_book.proofs.Heads.HeadsFewer.{heads-terminate}
+use Rattle.upload_book.proofs.Lawful.Outcomes.{part_after_create-refused}
 use Rattle.tus_steps.specs.Changing.{IsChangeStep, change_for, change_reply}
 use Rattle.tus_steps.specs.declared.reply.Reply.{Reply}
 use Rattle.tus_steps.specs.Method.{is_options}

@@ -64,7 +64,7 @@ alike-turned : (tenant : List ℕ) (b other : PlainBook) → AreAlike tenant b o
 alike-turned tenant b other alike =
     record { numbers = sym alike.numbers; part = sym alike.part; each = alike.other_each; other_each = alike.each }
 
--- and while a sweep ends what is over on both
+-- and while a sweep ends what has expired on both
 alike-swept : (tenant : List ℕ) (b other : PlainBook) (now : ℕ) → AreAlike tenant b other → AreAlike tenant (book_after_sweep b now) (book_after_sweep other now)
 alike-swept tenant b other now alike = record {
   numbers = alike.numbers;

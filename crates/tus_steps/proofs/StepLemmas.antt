@@ -21,10 +21,10 @@ use Rattle.upload_book.specs.Operation.{MayLackMemory}
 use Rattle.upload_book.specs.PlainBook.{PlainBook, answer_of, book_after, tenant_book}
 use Rattle.upload_book.specs.Refusal.{IsAnswer}
 use Rattle.upload_book.specs.TenantBook.{TenantBook}
-use Rattle.upload_book.proofs.AppendLemmas.{part_after_append-refused}
-use Rattle.upload_book.proofs.BookLemmas.{book_after-stays}
-use Rattle.upload_book.proofs.CreateSteps.{after-create}
-use Rattle.upload_book.proofs.Outcomes.{unless-Err}
+use Rattle.upload_book.proofs.Lawful.AppendLemmas.{part_after_append-refused}
+use Rattle.upload_book.proofs.Steps.BookLemmas.{book_after-stays}
+use Rattle.upload_book.proofs.Steps.CreateSteps.{after-create}
+use Rattle.upload_book.proofs.Lawful.Outcomes.{unless-Err}
 use Rattle.upload_book.specs.declared.terminate.Removed.{Removed}
 use Rattle.tus_steps.specs.Reply.{append_reply, creation_reply, deletion_reply, IsRefusing}
 use Rattle.tus_steps.specs.Request.{Request}

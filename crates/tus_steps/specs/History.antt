@@ -61,8 +61,9 @@ replies_to tenant events replies = map {A = Request × Reply} {B = Reply} (λ ex
 abbrev pub sends_bytes : Request → Bool
 sends_bytes r = is_patch r.method || is_with_upload r
 
--- The request is refused for what all tenants share: memory, or the blocks that they may be charged in all. (Of one
--- that sends no bytes, it is the tenant's own ids that are spent.)
+-- The request may be refused for what all tenants share: memory, or the blocks that they may be charged in all. Where one
+-- that sends no bytes is refused as spent, it is the tenant's own ids that are. A creation that carries bytes may be
+-- refused so for either, and counts here.
 abbrev pub lacks_shared : Request → Reply → Bool
 lacks_shared r (reply.Refused refusal.Memory head at expires) = true
 lacks_shared r (reply.Refused refusal.Spent head at expires) = sends_bytes r

@@ -1,5 +1,5 @@
--- Tenants do not disturb each other: what a request of one is told, and what is then kept for it, rests on its own part
--- of the book.
+-- Tenants do not disturb each other: what a request of one gets as its reply, and what is then kept for it, rests on its
+-- own part of the book.
 use Rattle.std.specs.Prelude.{◌≡◌, ℕ, true, false, List, length, map, All, Option, option_map, option_and_then, slice_get}
 use Rattle.upload_book.specs.declared.settings.TenantQuota.{TenantQuota}
 use Rattle.upload_book.specs.PlainBook.{PlainBook, opening_book}
@@ -46,8 +46,8 @@ pub record StepsSeeOneTenant : Type 0 where
 abbrev pub AreUnhindered : List ℕ → List Event → List Reply → Type 0
 AreUnhindered tenant events replies = All IsUnhindered (exchanges_of tenant events replies)
 
--- Take all requests of other tenants away from what happens: the replies to a tenant's requests stay the same, unless
--- one of them is refused for what all tenants share.
+-- Leave out all requests of other tenants: the replies to a tenant's requests stay the same, unless one of them is
+-- refused for what all tenants share.
 abbrev pub OwnEvents : Type 0
 OwnEvents =
     (s : Settings) (tenant : List ℕ) (events : List Event) (replies alone : List Reply) (after left : PlainBook)

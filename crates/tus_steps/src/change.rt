@@ -5,10 +5,10 @@ ghost use Rattle.upload_book.specs.Change.{CanBeMade};
 ghost use Rattle.upload_book.specs.Lawful.{IsLawful};
 ghost use Rattle.upload_book.specs.PlainBook.{PlainBook};
 
-use crate::asked::ChangeOf;
 use crate::creation::PartIds;
 use crate::reply::Reply;
 use crate::request::Request;
+use crate::requested_change::ChangeOf;
 use upload_book::{Change, FirstChunk, Operation, Outcome, Refused, Settings};
 
 /// Finds the change that a request asks for, to one who makes it in two halves; a concatenation borrows from `ids`.

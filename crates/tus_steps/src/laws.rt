@@ -15,10 +15,13 @@ pub fn steps_see_one_tenant()
     ensures { StepsSeeOneTenant }
 {}
 
-/// Each of a tenant's requests is told what it would be told if no other tenant ever sent one: for every list of
+/// Each of a tenant's requests gets the reply that it would get if no other tenant ever sent one. For every list of
 /// requests and sweeps from an opening book, the replies to a tenant's requests are those that they get in the list
-/// of its own events, which are its requests and all sweeps. None of these replies, in either list, is a refusal for
-/// what all tenants share: memory, or the total of blocks that they may be charged.
+/// of its own events, which are its requests and all sweeps.
+///
+/// The premise is that none of these replies, in either list, is a refusal for what all tenants share: memory, or the
+/// total of blocks that they may be charged. A request that sends bytes and is refused as `spent` counts as one, also
+/// where it is the tenant's own ids that are spent.
 pub fn own_events()
     ensures { OwnEvents }
 {}

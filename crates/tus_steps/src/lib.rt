@@ -2,7 +2,6 @@
 //! and applied as the plain book does.
 #![tactic(auto)]
 
-mod asked;
 mod change;
 mod creation;
 mod field;
@@ -12,13 +11,13 @@ mod media;
 mod method;
 mod reply;
 mod request;
+mod requested_change;
 mod route;
 mod run_fault;
 mod runs;
 mod step;
 mod tus_fields;
 
-pub use asked::ChangeOf;
 pub use change::{change_of, change_reply};
 pub use creation::PartIds;
 pub use field::Field;
@@ -27,6 +26,7 @@ pub use media::trim_blanks;
 pub use method::Method;
 pub use reply::{Place, Reply};
 pub use request::Request;
+pub use requested_change::ChangeOf;
 pub use run_fault::RunFault;
 pub use runs::run;
 pub use step::answer;

@@ -1,8 +1,7 @@
 -- The pairs of a text, the first and the others, and how many bytes they take.
-use Rattle.std.proofs.Common.{◌≡◌, ℕ, ◌+◌, ◌<◌, ◌≤◌, Bool, true, false, eqb, nat_lt, List, [], ◌∷◌, ◌++◌, map, length, take, Result, Ok, Err, IfOk, IfErr, is_ok, inl, inr, refl, sym, ap, ap₂, ◌∙◌, append_assoc, arith}
+use Rattle.std.proofs.Common.{◌≡◌, ℕ, ◌+◌, ◌<◌, ◌≤◌, true, List, [], ◌∷◌, ◌++◌, map, length, take, Result, Ok, Err, IfOk, IfErr, is_ok, inl, inr, sym, ap, ap₂, ◌∙◌, append_assoc, arith}
 use Rattle.std.specs.List.{list_all, before_first, after_first, position_or_len}
-use Rattle.std.proofs.lemmas.Bool.{cases_eq, and_parts, eq-eqb, ne_eqb}
-use Rattle.std.proofs.lemmas.Bool.Decides.{nat_tests}
+use Rattle.std.proofs.lemmas.Bool.{cases_eq, and_parts}
 use Rattle.std.proofs.lemmas.List.{length-take, length-drop, take_all, map-append}
 use Rattle.std.proofs.lemmas.List.Splits.{slice_split_first}
 use Rattle.base64.specs.declared.decode.DecodeError.{DecodeError}
@@ -10,26 +9,13 @@ use Rattle.base64.specs.Engines.{standard}
 use Rattle.base64.specs.GeneralPurpose.{decode_of, IsDecodedInto}
 use Rattle.tus_text.proofs.DistinctLemmas.{Key, texts_of}
 use Rattle.tus_text.proofs.PositionLemmas.{slice_split-one}
-use Rattle.tus_text.specs.Cut.{is_space, trim_spaces}
-use Rattle.tus_text.specs.Metadata.{is_comma, is_value, is_pair, pairs_of, key_of}
-
-some-lt : (n : ℕ) → eqb n 0 ≡ false → nat_lt 0 n ≡ true
-some-lt n some = grind (arith, nat_tests)
+use Rattle.tus_text.specs.Cut.{trim_spaces}
+use Rattle.tus_text.specs.Metadata.{is_comma, is_pair, pairs_of, key_of}
 
 -- what decoding into a buffer told
 pub decoded-ok : (text output new : List ℕ) (r : Result ℕ DecodeError) → IfOk r (λ n. IsDecodedInto standard text n output new) → IfErr r (λ e. decode_of standard text ≡ Err e) → is_ok r ≡ is_ok (decode_of standard text)
 decoded-ok text output new (Ok n) ok err = sym (ap is_ok ok.0)
 decoded-ok text output new (Err e) ok err = sym (ap is_ok err)
-
--- a pair that is a key alone
-pub pair-key : (pair key : List ℕ) → key ≡ key_of pair → eqb (length key) 0 ≡ false → length key ≡ length pair → eqb (length key) (length pair) ≡ is_pair pair
-pair-key pair key is some whole =
-    rw (← is, some-lt (length key) some, eq-eqb (length key) (length pair) whole) refl
-
--- a pair that has a value
-pub pair-value : (pair key value : List ℕ) (valid : Bool) → key ≡ key_of pair → value ≡ after_first is_space pair → eqb (length key) 0 ≡ false → (length key ≡ length pair → ⊥) → valid ≡ is_value value → valid ≡ is_pair pair
-pair-value pair key value valid is after some more tells =
-    tells ∙ rw (← is, ← after, ne_eqb (length key) (length pair) more, some-lt (length key) some) refl
 
 -- the keys of the pairs
 abbrev pub keys_of : List ℕ → List (List ℕ)

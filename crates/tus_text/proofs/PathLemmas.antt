@@ -1,8 +1,8 @@
 -- `path_of` reads the grammar of targets: it gives what each tree that prints the bytes names, and
 -- where it gives a path, some tree prints them.
-use Rattle.std.proofs.Common.{◌≡◌, ◌≢◌, ℕ, ◌+◌, ◌<◌, ◌≤◌, Bool, true, false, not, cond, eqb, List, [], ◌∷◌, ◌++◌, length, take, get_or, Option, Some, None, All, codes, inl, inr, true≢false, refl, sym, subst, ap, ◌∙◌, arith}
+use Rattle.std.proofs.Common.{◌≡◌, ◌≢◌, ℕ, ◌+◌, ◌<◌, ◌≤◌, Bool, true, false, not, cond, eqb, List, [], ◌∷◌, ◌++◌, length, take, get_or, Option, Some, None, All, codes, inl, inr, refl, sym, ap, ◌∙◌, arith}
 use Rattle.std.specs.Char.{to_ascii_lowercase}
-use Rattle.std.specs.List.{AllPass, list_all, before_first, after_first, position_or_len, prefix_len, starts_with}
+use Rattle.std.specs.List.{AllPass, list_all, before_first, after_first, position_or_len, prefix_len}
 use Rattle.std.specs.Option.{option_map_or, option_and_then}
 use Rattle.std.specs.Str.{str_to_ascii_lowercase, str_eq_ignore_ascii_case}
 use Rattle.std.specs.Str.Parse.{digits_value}
@@ -16,7 +16,6 @@ use Rattle.std.proofs.lemmas.Option.{cond_some, same_Some, none-some}
 use Rattle.std.proofs.lemmas.Slice.Eq.{bytes_eq-Decides}
 use Rattle.tus_text.specs.declared.path.Path.{Path}
 use Rattle.tus_text.specs.declared.path.Path.TheVariants.{Create, Upload, Other}
-use Rattle.tus_text.specs.Number.{number_of}
 use Rattle.tus_text.specs.Tenant.{is_tenant_byte, is_tenant_name}
 use Rattle.tus_text.proofs.NumberLemmas.{number_of-numeral, number_of-some}
 use Rattle.tus_text.specs.Path.{Origin, Tail, bare, slash, id, IsId, Target, IsTarget, IsTail, HasOrigin, Names, print_tail, print_origin, print_target, named_path, is_authority_byte, is_slash, after_scheme, after_authority, after_origin, after_files, id_of, path_in_files, path_of}
@@ -75,10 +74,6 @@ parts_path-some : (tenant rest : List ℕ) (n : ℕ) → is_tenant_name tenant �
 parts_path-some tenant rest n is_name some is_id =
     rw (is_name, ne_eqb (length rest) 0 (λ none. omega arith), is_id) refl
 
-parts_path-no_id : (tenant rest : List ℕ) → eqb (length rest) 0 ≡ false → id_of rest ≡ None → parts_path tenant rest ≡ Other
-parts_path-no_id tenant rest some none =
-    elim (cases_Bool (is_tenant_name tenant)) [ inl is_name ↦ rw (is_name, some, none) refl | inr other ↦ rw other refl ]
-
 id_of-digits : (digits : List ℕ) → IsId digits → id_of digits ≡ Some (digits_value 10 digits)
 id_of-digits digits valid =
     rw (ne_eqb (get_or digits 0 0) 48 valid.first) (number_of-numeral digits valid.some valid.numeral valid.fits)
@@ -90,29 +85,6 @@ path_in_files-tail tenant slash is_name valid =
     path_in_files-parts _ _ _ (parts-slash tenant [] is_name) ∙ parts_path-none tenant is_name
 path_in_files-tail tenant (id digits) is_name valid =
     path_in_files-parts _ _ _ (parts-slash tenant digits is_name) ∙ parts_path-some tenant digits _ is_name valid.some (id_of-digits digits valid)
-
--- what the two parts of the text name, part by part
-module _ (text tenant rest : List ℕ) (is_tenant : tenant ≡ before_first is_slash text) (is_rest : rest ≡ after_first is_slash text) where
-  parts_are : Parts text tenant rest
-  parts_are = record { before = sym is_tenant; after = sym is_rest }
-
-  pub no_tenant-path : is_tenant_name tenant ≡ false → Other ≡ path_in_files text
-  no_tenant-path other = sym (path_in_files-parts text tenant rest parts_are ∙ parts_path-other tenant rest other)
-
-  pub no_id-path : eqb (length rest) 0 ≡ false → id_of rest ≡ None → Other ≡ path_in_files text
-  no_id-path some none = sym (path_in_files-parts text tenant rest parts_are ∙ parts_path-no_id tenant rest some none)
-
-no_zero : (text : List ℕ) → starts_with eqb text (48 ∷ []) ≡ false → eqb (get_or text 0 0) 48 ≡ false
-no_zero [] other = refl
-no_zero (b ∷ text) other =
-    elim (cases_eq b 48) [
-      | inl zero ↦ absurd (true≢false (subst (λ n. starts_with eqb (n ∷ text) (48 ∷ []) ≡ false) zero other))
-      | inr differ ↦ ne_eqb b 48 differ
-    ]
-
--- the number of digits whose first is no zero
-pub id_of-number : (text : List ℕ) (number : Option ℕ) → starts_with eqb text (48 ∷ []) ≡ false → number ≡ number_of text → number ≡ id_of text
-id_of-number text number other is = rw (no_zero text other) is
 
 -- the other way: a tenant and a tail that print the text
 pub record Reading (text : List ℕ) : Type 0 where
@@ -130,11 +102,6 @@ id_of-some text n is_id =
           let number = number_of-some text n (rw (ne_eqb (get_or text 0 0) 48 other) at is_id) in
           record { some = number.some; numeral = number.digits; first = other; fits = number.fits }
     ]
-
--- an id after the tenant names an upload
-pub upload-path : (text tenant rest : List ℕ) (n : ℕ) → tenant ≡ before_first is_slash text → rest ≡ after_first is_slash text → is_tenant_name tenant ≡ true → id_of rest ≡ Some n → Upload tenant n ≡ path_in_files text
-upload-path text tenant rest n is_tenant is_rest is_name is_id =
-    sym (path_in_files-parts text tenant rest (parts_are text tenant rest is_tenant is_rest) ∙ parts_path-some tenant rest n is_name (id_of-some rest n is_id).some is_id)
 
 -- the tail that the rest after a slash is
 tail-reading : (tenant rest : List ℕ) (o : Option ℕ) → id_of rest ≡ o → is_tenant_name tenant ≡ true → parts_path tenant rest ≢ Other → (tail : Tail) × IsTail tail × (tenant ++ 47 ∷ rest ≡ tenant ++ print_tail tail)

@@ -15,17 +15,17 @@ use Rattle.upload_book.specs.declared.head_row.Kind.{Kind}
 use Rattle.upload_book.specs.declared.head_row.Kind.TheVariants.{Plain, Partial, Final}
 use Rattle.upload_book.specs.declared.refusal.Refusal.{Refusal}
 use Rattle.upload_book.specs.declared.settings.Numbers.{Numbers}
-use Rattle.upload_book.specs.Expiry.{lifetime_end, renewed, is_over}
+use Rattle.upload_book.specs.Expiry.{lifetime_end, renewed, has_expired}
 use Rattle.upload_book.specs.Laws.{AccountsFollow, ResumedPatch, RowsFollow, charged_after, first_part, later_part, row_in}
 use Rattle.upload_book.specs.Lawful.{IsUploadOf, IsOfKind}
 use Rattle.upload_book.specs.Look.{row_of}
 use Rattle.upload_book.specs.Refusal.{unless}
 use Rattle.upload_book.specs.TenantBook.{TenantBook, kept_in, visible_upload, with_changed}
 use Rattle.upload_book.specs.Upload.{Upload, content_of, offset_of, is_reached, head_row_of}
-use Rattle.upload_book.proofs.Entries.{kept_in-All, visible_in-changed, visible_in-fresh, visible_in-Ok, with_kept-twice}
-use Rattle.upload_book.proofs.ChargeLemmas.{charge-append}
-use Rattle.upload_book.proofs.PriceLemmas.{blocks_between-two}
-use Rattle.upload_book.proofs.LawfulAppend.{IsAppendable, IsAppendable-from_none, append_refusal-none, content_of-append, offset_of-append, complete_tells}
+use Rattle.upload_book.proofs.Lawful.Entries.{kept_in-All, visible_in-changed, visible_in-fresh, visible_in-Ok, with_kept-twice}
+use Rattle.upload_book.proofs.Charge.ChargeLemmas.{charge-append}
+use Rattle.upload_book.proofs.Charge.PriceLemmas.{blocks_between-two}
+use Rattle.upload_book.proofs.Lawful.LawfulAppend.{IsAppendable, IsAppendable-from_none, append_refusal-none, content_of-append, offset_of-append, complete_tells}
 
 or_else-twice : (known told : Option ℕ) → or_else (or_else known told) told ≡ or_else known told
 or_else-twice None None = refl
@@ -165,8 +165,8 @@ never_after n account part u chunk now Partial can own sound none = absurd (expi
 never_after n account part u chunk now Final can own sound none = absurd (true≢false own)
 
 -- a PATCH of an upload that is seen leaves one that is seen
-fresh_append : (n : Numbers) (account : Account) (part : TenantBook) (u : Upload) (chunk : Chunk) (now : ℕ) → IsAppendable n account u chunk → IsUploadOf n part u → is_over now u.expires ≡ false
-    → is_over now (upload_with n u chunk now).expires ≡ false
+fresh_append : (n : Numbers) (account : Account) (part : TenantBook) (u : Upload) (chunk : Chunk) (now : ℕ) → IsAppendable n account u chunk → IsUploadOf n part u → has_expired now u.expires ≡ false
+    → has_expired now (upload_with n u chunk now).expires ≡ false
 fresh_append n account part u chunk now can sound fresh =
     fresh_after now u.kind (is_reached (or_else u.declared chunk.length) (offset_of u + length chunk.bytes)) u.expires (lifetime_end n now) fresh
     (never_after n account part u chunk now u.kind can can.own sound.kind)

@@ -6,12 +6,12 @@ use Rattle.upload_book.specs.ExpiryList.{ExpiryList}
 use Rattle.upload_book.specs.Lawful.{IsLawful}
 use Rattle.upload_book.specs.PlainBook.{PlainBook}
 use Rattle.upload_book.specs.Settings.{Settings}
-use Rattle.upload_book.specs.Store.{Store, plain_in}
+use Rattle.upload_book.specs.BlockStore.{BlockStore, plain_in}
 
 -- the settings, the uploads in blocks, how many blocks were charged and released so far, and the uploads that expire
 pub record StoredBook : Type 0 where
   pub settings : Settings
-  pub store : Store
+  pub store : BlockStore
   pub charged : ℕ
   pub released : ℕ
   pub expiries : ExpiryList

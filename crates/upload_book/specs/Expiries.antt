@@ -14,6 +14,6 @@ end_in part id = option_and_then (λ (u : Upload). u.expires) (kept_in part.uplo
 abbrev pub ends_of : PlainBook → Ends
 ends_of b name = end_in (tenant_book b name.tenant) name.id
 
--- a list has exactly the uploads of a book that expire, those that are over included
+-- a list has exactly the uploads of a book that expire, those that have expired included
 abbrev pub AreExpiries : PlainBook → List Expiring → Type 0
 AreExpiries b list = AreExpiring (ends_of b) list

@@ -1,5 +1,5 @@
--- When an upload expires (tus 1.0.0, Expiration): when it gets an end, when that is renewed, and when it is
--- over.
+-- When an upload expires (tus 1.0.0, Expiration): when it gets an end, when that is renewed, and when it has
+-- expired.
 use Rattle.std.specs.Prelude.{ℕ, ◌+◌, Bool, true, false, max, min, nat_le, Option, Some, None, unwrap_or}
 use Rattle.std.specs.Option.{option_map_or}
 use Rattle.upload_book.specs.declared.head_row.Kind.{Kind}
@@ -20,6 +20,6 @@ renewed Plain false before end = Some (max (unwrap_or before 0) end)
 renewed Partial complete before end = Some (max (unwrap_or before 0) end)
 renewed Final complete before end = before
 
--- an upload with this end, if any, is over at a moment: from the end on
-abbrev pub is_over : ℕ → Option ℕ → Bool
-is_over now expires = option_map_or (λ end. nat_le end now) expires false
+-- an upload with this end, if any, has expired at a moment: from the end on
+abbrev pub has_expired : ℕ → Option ℕ → Bool
+has_expired now expires = option_map_or (λ end. nat_le end now) expires false

@@ -10,7 +10,7 @@ use Rattle.upload_book.specs.declared.head_row.HeadRow.{HeadRow}
 use Rattle.upload_book.specs.declared.head_row.Name.{Name}
 use Rattle.upload_book.specs.declared.refusal.Refusal.{Refusal}
 use Rattle.upload_book.specs.Charge.{charge_in}
-use Rattle.upload_book.specs.Expiry.{is_over}
+use Rattle.upload_book.specs.Expiry.{has_expired}
 use Rattle.upload_book.specs.PlainBook.{PlainBook, opening_book, tenant_book}
 use Rattle.upload_book.specs.Settings.{Settings}
 use Rattle.upload_book.specs.TenantBook.{TenantBook, TenantPart, Entry, opening_part, visible_in, with_changed, with_new}
@@ -63,15 +63,15 @@ shown h name now = visible_in (λ row. row.expires) (head_part_at h name.tenant)
 abbrev pub with_row : HeadPart → ℕ → HeadRow → HeadPart
 with_row part id row = if id == part.next then with_new part row else with_changed part id row
 
--- a part without the rows that are over at a moment
-abbrev pub without_over : ℕ → HeadPart → HeadPart
-without_over now part = record part { uploads = filter (λ e. not (is_over now e.kept.expires)) part.uploads }
+-- a part without the rows that have expired at a moment
+abbrev pub without_expired : ℕ → HeadPart → HeadPart
+without_expired now part = record part { uploads = filter (λ e. not (has_expired now e.kept.expires)) part.uploads }
 
 -- the tenants' parts after a change
 abbrev pub parts_after : Heads → HeadChange → List HeadPart
 parts_after h (Put name row) = set h.tenants name.tenant (with_row (head_part_at h name.tenant) name.id row)
 parts_after h (Gone name) = set h.tenants name.tenant (without (head_part_at h name.tenant) name.id)
-parts_after h (Swept now) = map {A = HeadPart} {B = HeadPart} (without_over now) h.tenants
+parts_after h (Swept now) = map {A = HeadPart} {B = HeadPart} (without_expired now) h.tenants
 
 -- the heads after a line
 abbrev pub apply_line : Heads → BoardLine → Heads

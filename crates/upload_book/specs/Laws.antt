@@ -1,5 +1,6 @@
 -- Laws above the steps.
-use Rattle.std.specs.Prelude.{◌≡◌, ℕ, ◌+◌, ◌-◌, Bool, true, List, [], ◌∷◌, ◌++◌, length, codes, IsOk, IfSome, IfNone, Some, None, Result, Ok, Err}
+use Rattle.std.specs.Result.{result_err}
+use Rattle.std.specs.Prelude.{◌≡◌, ℕ, ◌+◌, ◌-◌, Bool, true, not, List, [], ◌∷◌, ◌++◌, length, is_err, IsOk, IfSome, IfNone, Some, None, Result, Ok, Err}
 use Rattle.upload_book.specs.Chunk.{Chunk}
 use Rattle.upload_book.specs.FirstChunk.{FirstChunk}
 use Rattle.upload_book.specs.NewUpload.{NewUpload}
@@ -11,7 +12,7 @@ use Rattle.upload_book.specs.declared.board_line.BoardLine.{BoardLine}
 use Rattle.upload_book.specs.declared.change.Change.{Change}
 use Rattle.upload_book.specs.Append.{append_tests, append_answer, append_refusal, appended_row, appended_upload, part_after_append, upload_with}
 use Rattle.upload_book.specs.Charge.{charge_in}
-use Rattle.upload_book.specs.Change.{CanBeMade, book_after_change, line_of}
+use Rattle.upload_book.specs.Change.{CanBeMade, MayLackFor, book_after_change, change_answer, line_of}
 use Rattle.upload_book.specs.Concat.{concat_tests}
 use Rattle.upload_book.specs.Content.{content_tests}
 use Rattle.upload_book.specs.Create.{creation_tests}
@@ -21,33 +22,42 @@ use Rattle.upload_book.specs.Lawful.{IsLawful, IsTenantOf}
 use Rattle.upload_book.specs.Look.{row_of}
 use Rattle.upload_book.specs.Order.{order, stand_in}
 use Rattle.upload_book.specs.PlainBook.{PlainBook}
-use Rattle.upload_book.specs.Refusal.{words_of}
-use Rattle.upload_book.specs.TenantBook.{TenantBook, kept_in, with_changed}
+use Rattle.upload_book.specs.Refusal.{first_that_holds, word_of, words_of}
+use Rattle.upload_book.specs.declared.refusal.Refusal.TheVariants.{Gone, Memory, Unknown}
+use Rattle.upload_book.specs.TenantBook.{TenantBook, is_given, kept_in, visible, visible_upload, with_changed}
 use Rattle.upload_book.specs.declared.refusal.Refusal.{Refusal}
 use Rattle.upload_book.specs.Upload.{Upload, head_row_of, offset_of}
 
--- what is asked of every upload before its own tests
-abbrev pub visible_words : List (List ℕ)
-visible_words = codes "unknown" ∷ codes "gone" ∷ []
+-- what is asked of every upload before its own tests: whether its id was given, and whether it is still there and has
+-- not expired
+abbrev pub visible_tests : TenantBook → ℕ → ℕ → List (Bool × Refusal)
+visible_tests part id now =
+    (not (is_given part id), Unknown)
+    ∷ (is_err (visible (λ (u : Upload). u.expires) now (kept_in part.uploads id)), Gone)
+    ∷ []
 
 -- what is asked after every test
 abbrev pub memory_word : List (List ℕ)
-memory_word = codes "memory" ∷ []
+memory_word = word_of Memory ∷ []
 
--- the tests of a creation, of a concatenation, of a PATCH and of a GET follow the order of refusals
+-- Which upload a request sees is refused by the first of its tests that holds. These, and the tests of a creation, of a
+-- concatenation, of a PATCH and of a GET, follow the order of refusals. Memory is lacking only for a change that nothing
+-- else refuses, and then that is its refusal.
 pub record FollowOrder : Type 0 where
+  pub visible : (part : TenantBook) (id now : ℕ) → result_err (visible_upload part id now) ≡ first_that_holds (visible_tests part id now)
+  pub last : (b : PlainBook) (change : Change) (now : ℕ) → MayLackFor b change now → IsOk (change_answer b change now)
   pub creation : (n : Numbers) (account : Account) (part : TenantBook) (new : NewUpload) (first : FirstChunk) → stand_in (words_of (creation_tests n account part new first) ++ memory_word) order ≡ true
   pub concat : (n : Numbers) (part : TenantBook) (there complete : Bool) (len : ℕ) → stand_in (words_of (concat_tests n part there complete len) ++ memory_word) order ≡ true
-  pub append : (n : Numbers) (account : Account) (row : HeadRow) (chunk : Chunk) → stand_in (visible_words ++ words_of (append_tests n account row chunk) ++ memory_word) order ≡ true
-  pub content : (u : Upload) → stand_in (visible_words ++ words_of (content_tests u) ++ memory_word) order ≡ true
+  pub append : (n : Numbers) (account : Account) (part : TenantBook) (id now : ℕ) (row : HeadRow) (chunk : Chunk) → stand_in (words_of (visible_tests part id now) ++ words_of (append_tests n account row chunk) ++ memory_word) order ≡ true
+  pub content : (part : TenantBook) (id now : ℕ) (u : Upload) → stand_in (words_of (visible_tests part id now) ++ words_of (content_tests u) ++ memory_word) order ≡ true
 
 -- the row of the two
 abbrev pub row_in : Result (HeadRow × Account) Refusal → Result HeadRow Refusal
 row_in (Ok both) = Ok both.0
 row_in (Err refusal) = Err refusal
 
--- What a HEAD tells of an upload after a PATCH is the row of the upload before, with the chunk, on the tenant's
--- account.
+-- The row of an upload after a PATCH, or why that is refused, is found from the row before it: the bytes that the upload
+-- had make no difference. (It also takes the chunk, the tenant's account, the moment and the numbers of the settings.)
 abbrev pub RowsFollow : Type 0
 RowsFollow =
     (n : Numbers) (account : Account) (u : Upload) (chunk : Chunk) (now : ℕ)

@@ -18,9 +18,11 @@ use Rattle.upload_book.specs.declared.ready.Step.{Step}
 use Rattle.upload_book.specs.declared.ready.Step.TheVariants.{Append, Concat, Create, Sweep, Terminate}
 use Rattle.upload_book.specs.Lawful.{IsConcatText, is_kept_metadata}
 use Rattle.upload_book.specs.PlainBook.{tenant_book}
-use Rattle.upload_book.specs.Standing.{standing_in}
-use Rattle.upload_book.specs.Store.{Store, IsVisibleIn, entry_at, pieces_named, rows_at, upload_at}
-use Rattle.upload_book.specs.Stored.{as_piece, no_chain, own_chain, segment_of}
+use Rattle.upload_book.specs.inside.Progress.{progress_in}
+use Rattle.upload_book.specs.BlockStore.{BlockStore, Joins, entry_at, pieces_named, rows_at, upload_at}
+use Rattle.upload_book.specs.inside.Places.{IsVisibleIn}
+use Rattle.upload_book.specs.Stored.{segment_of}
+use Rattle.upload_book.specs.inside.Pieces.{as_piece, no_chain, own_chain}
 use Rattle.upload_book.specs.Upload.{head_row_of}
 
 -- The book is ready for a PATCH: it sees the upload at the place and refuses nothing, the upload will be so far, and
@@ -29,12 +31,12 @@ pub record IsReadyForChunk (b : StoredBook) (r : ReadyChunk) : Type 0 where
   pub there : r.name.tenant < length b.settings.tenants
   pub seen : IsVisibleIn b.store r.name.tenant r.name.id r.now r.place
   pub accepted : append_refusal b.settings.numbers (account_in b.settings.numbers (tenant_book (plain_of b) r.name.tenant) b.charged) (head_row_of (upload_at b.store r.name.tenant r.place)) r.chunk ≡ None
-  pub after : r.after ≡ standing_in (row_with b.settings.numbers (head_row_of (upload_at b.store r.name.tenant r.place)) r.chunk r.now)
+  pub after : r.after ≡ progress_in (row_with b.settings.numbers (head_row_of (upload_at b.store r.name.tenant r.place)) r.chunk r.now)
   pub room : 0 < length r.chunk.bytes → HasRoom b.store.pool (own_chain (entry_at b.store r.name.tenant r.place).kept.pieces) (length r.chunk.bytes)
 
 -- the book is ready for a DELETE: it sees the upload at the place
 pub record IsReadyForEnd (b : StoredBook) (r : ReadyEnd) : Type 0 where
-  pub there : r.name.tenant < length b.store.shelves
+  pub there : r.name.tenant < length b.store.stored_tenants
   pub seen : IsVisibleIn b.store r.name.tenant r.name.id r.now r.place
 
 -- The book is ready for a creation: it refuses nothing, the texts are of their forms, the upload will expire then, and
@@ -49,7 +51,7 @@ pub record IsReadyForUpload (b : StoredBook) (r : ReadyUpload) : Type 0 where
   pub room : HasRoom b.store.pool r.body (length r.first.bytes)
 
 -- the pieces of the parts of a concatenation were listed, and there is an empty list with room for them
-pub record IsListed (s : Store) (tenant : ℕ) (r : ReadyFinal) : Type 0 where
+pub record IsListed (s : BlockStore) (tenant : ℕ) (r : ReadyFinal) : Type 0 where
   pub pieces : map segment_of (map as_piece r.unheld.items) ≡ map segment_of (pieces_named s tenant r.new.parts r.now)
   pub few : length r.unheld.items ≤ length r.new.parts
   pub empty : r.pieces.items ≡ []
@@ -86,6 +88,13 @@ step_change (Append r) = change.Append r.name r.chunk
 step_change (Concat r) = change.Concat r.tenant r.new
 step_change (Terminate r) = change.Terminate r.name
 step_change (Sweep r) = change.Sweep
+
+-- What a change leaves of the blocks, beside what the plain book says of the bytes: a PATCH of no bytes touches no block,
+-- and a concatenation takes none and changes no byte of any.
+abbrev pub LeavesBlocks : StoredBook → Change → ℕ → StoredBook → Type 0
+LeavesBlocks before (change.Append name chunk) now after = chunk.bytes ≡ [] → after.store.pool ≡ before.store.pool
+LeavesBlocks before (change.Concat tenant new) now after = Joins before.store after.store tenant new now
+LeavesBlocks before _ now after = ⊤
 
 -- the same of what `prepare` gives,
 abbrev pub change_in : Ready → Change

@@ -1,17 +1,13 @@
 -- How a book keeps its uploads in blocks, and what it keeps of them.
-use Rattle.std.specs.Prelude.{◌≡◌, ◌≢◌, ℕ, ◌<◌, ◌≤◌, ◌==◌, List, [], ◌∷◌, All, Contains, flat_map, length, map, Option, Some, None, option_and_then, slice_get, if◌then◌else◌}
+use Rattle.std.specs.Prelude.{◌≡◌, ℕ, ◌<◌, ◌≤◌, ◌==◌, List, [], All, Contains, flat_map, length, map, Option, option_and_then, slice_get, if◌then◌else◌}
 use Rattle.std.specs.List.{sum_by}
 use Rattle.block_pool.specs.Blocks.{Blocks, count_at, places_of}
-use Rattle.block_bodies.specs.Bodies.{Chain, IsBodyOf, StandsOnce, blocks_for, content_of}
+use Rattle.block_bodies.specs.Bodies.{StandsOnce, blocks_for, content_of}
 use Rattle.upload_book.specs.Charge.{Source, charge_of}
 use Rattle.upload_book.specs.Concat.{part_named, parts_named}
 use Rattle.upload_book.specs.declared.head_row.Kind.{Kind}
 use Rattle.upload_book.specs.declared.head_row.Kind.TheVariants.{Plain, Partial, Final}
 use Rattle.upload_book.specs.declared.piece.Piece.{Piece}
-use Rattle.upload_book.specs.declared.piece.UnheldPiece.{UnheldPiece}
-use Rattle.upload_book.specs.Create.{new_kind}
-use Rattle.upload_book.specs.NewFinal.{NewFinal}
-use Rattle.upload_book.specs.NewUpload.{NewUpload}
 use Rattle.upload_book.specs.TenantBook.{TenantBook, TenantPart, Entry}
 use Rattle.upload_book.specs.Upload.{Upload}
 
@@ -29,8 +25,8 @@ abbrev pub block_at : StoredUpload → ℕ → ℕ → Option ℕ
 block_at u piece place = option_and_then (λ (x : Piece). slice_get x.chain.blocks place) (slice_get u.pieces piece)
 
 -- a tenant's part as it is kept
-abbrev pub Shelf : Type 0
-Shelf = TenantPart StoredUpload
+abbrev pub StoredTenant : Type 0
+StoredTenant = TenantPart StoredUpload
 
 -- the ids of an upload's parts, which only a final one has
 abbrev pub parts_of : Kind → List ℕ → List ℕ
@@ -55,40 +51,28 @@ abbrev pub entry_of : Blocks → Entry StoredUpload → Entry Upload
 entry_of p e = record { id = e.id; kept = upload_of p e.kept }
 
 -- the tenant's part that is kept so
-abbrev pub part_of : Blocks → Shelf → TenantBook
-part_of p shelf = record {
-  quota = shelf.quota;
-  next = shelf.next;
-  uploads = map {A = Entry StoredUpload} {B = Entry Upload} (entry_of p) shelf.uploads;
+abbrev pub part_of : Blocks → StoredTenant → TenantBook
+part_of p stored_tenant = record {
+  quota = stored_tenant.quota;
+  next = stored_tenant.next;
+  uploads = map {A = Entry StoredUpload} {B = Entry Upload} (entry_of p) stored_tenant.uploads;
 }
 
 -- the partial upload that a part of a concatenation names, as it is kept
-abbrev pub part_kept : Shelf → ℕ → Option ℕ → Option (Entry StoredUpload)
-part_kept shelf now named = part_named (λ u. u.kind) (λ u. u.expires) shelf now named
+abbrev pub part_kept : StoredTenant → ℕ → Option ℕ → Option (Entry StoredUpload)
+part_kept stored_tenant now named = part_named (λ u. u.kind) (λ u. u.expires) stored_tenant now named
 
 -- those that are named, in their order
-abbrev pub parts_kept : Shelf → ℕ → List (Option ℕ) → List (Entry StoredUpload)
-parts_kept shelf now named = parts_named (λ u. u.kind) (λ u. u.expires) shelf now named
+abbrev pub parts_kept : StoredTenant → ℕ → List (Option ℕ) → List (Entry StoredUpload)
+parts_kept stored_tenant now named = parts_named (λ u. u.kind) (λ u. u.expires) stored_tenant now named
 
 -- all pieces of a tenant
-abbrev pub pieces_of : Shelf → List Piece
-pieces_of shelf = flat_map (λ (e : Entry StoredUpload). e.kept.pieces) shelf.uploads
+abbrev pub pieces_of : StoredTenant → List Piece
+pieces_of stored_tenant = flat_map (λ (e : Entry StoredUpload). e.kept.pieces) stored_tenant.uploads
 
 -- how many bytes some pieces have together
 abbrev pub pieces_len : List Piece → ℕ
 pieces_len pieces = sum_by (λ (x : Piece). x.chain.len) pieces
-
--- the bytes of some pieces, one after another
-abbrev pub bytes_of : Blocks → List Piece → List ℕ
-bytes_of p pieces = flat_map (λ (x : Piece). content_of p x.chain) pieces
-
--- each piece is a body of the pool
-abbrev pub AreBodies : Blocks → List Piece → Type 0
-AreBodies p pieces = (x : Piece) → Contains pieces x → IsBodyOf p x.chain
-
--- what a piece will be once its blocks are held
-abbrev pub as_piece : UnheldPiece → Piece
-as_piece x = record { origin = x.origin; chain = x.chain }
 
 -- what pieces of the same blocks share: the origin, the blocks and the number of bytes, and not the room of the list
 pub record Segment : Type 0 where
@@ -105,14 +89,14 @@ abbrev pub placed_in : List Piece → List ℕ
 placed_in pieces = flat_map (λ (x : Piece). x.chain.blocks) pieces
 
 -- at how many places of a tenant's pieces a block stands
-abbrev pub places_on : ℕ → Shelf → ℕ
-places_on b shelf = places_of b (placed_in (pieces_of shelf))
+abbrev pub places_on : ℕ → StoredTenant → ℕ
+places_on b stored_tenant = places_of b (placed_in (pieces_of stored_tenant))
 
 -- what a tenant pays, in blocks of a size, by how its pieces are kept
-abbrev pub charge_on : ℕ → Shelf → ℕ
-charge_on size shelf =
-    charge_of size shelf.next
-    (map {A = Piece} {B = Source} (λ x. record { origin = x.origin; len = x.chain.len }) (pieces_of shelf))
+abbrev pub charge_on : ℕ → StoredTenant → ℕ
+charge_on size stored_tenant =
+    charge_of size stored_tenant.next
+    (map {A = Piece} {B = Source} (λ x. record { origin = x.origin; len = x.chain.len }) (pieces_of stored_tenant))
 
 -- some, or none
 abbrev pub some_of : ℕ → ℕ
@@ -137,46 +121,7 @@ pub record ArePieces (size next : ℕ) (pieces : List Piece) : Type 0 where
 
 -- What is kept of the blocks: each tenant's pieces are as they should be, each block is held as often as it
 -- stands in them, so it is free exactly where it stands in none, and no block is two tenants'.
-pub record IsStored (p : Blocks) (shelves : List Shelf) : Type 0 where
-  pub pieces : All (λ s. ArePieces p.block_size s.next (pieces_of s)) shelves
-  pub counts : (b : ℕ) → count_at p b ≡ sum_by (places_on b) shelves
-  pub apart : (b : ℕ) → sum_by (λ s. some_of (places_on b s)) shelves ≤ 1
-
--- what is kept of a body that has no bytes yet
-abbrev pub no_chain : Chain
-no_chain = record { blocks = []; len = 0; room = 0 }
-
--- the piece of an upload to which bytes are sent
-abbrev pub own_chain : List Piece → Chain
-own_chain [] = no_chain
-own_chain (x ∷ pieces) = x.chain
-
--- an upload that is not final has one piece, whose bytes were sent to it
-abbrev pub HasOwnPiece : Entry StoredUpload → Type 0
-HasOwnPiece e = e.kept.kind ≢ Final → e.kept.pieces ≡ record { origin = e.id; chain = own_chain e.kept.pieces } ∷ []
-
--- each piece reads as as many bytes as it has
-abbrev pub ReadsWhole : Blocks → List Piece → Type 0
-ReadsWhole p pieces = (x : Piece) → Contains pieces x → length (content_of p x.chain) ≡ x.chain.len
-
--- a new upload with these bytes and this end, as it is kept under its id
-abbrev pub new_stored : NewUpload → ℕ → Chain → Option ℕ → StoredUpload
-new_stored new id chain expires = record {
-  kind = new_kind new.partial;
-  declared = new.length;
-  pieces = record { origin = id; chain = chain } ∷ [];
-  metadata = new.metadata;
-  concat = new.concat;
-  expires = expires;
-}
-
--- a final upload of these pieces, as it is kept
-abbrev pub final_of : NewFinal → List Piece → StoredUpload
-final_of new pieces = record {
-  kind = Final;
-  declared = Some (pieces_len pieces);
-  pieces = pieces;
-  metadata = new.metadata;
-  concat = new.concat;
-  expires = None;
-}
+pub record IsStored (p : Blocks) (stored_tenants : List StoredTenant) : Type 0 where
+  pub pieces : All (λ s. ArePieces p.block_size s.next (pieces_of s)) stored_tenants
+  pub counts : (b : ℕ) → count_at p b ≡ sum_by (places_on b) stored_tenants
+  pub apart : (b : ℕ) → sum_by (λ s. some_of (places_on b s)) stored_tenants ≤ 1

@@ -2,14 +2,14 @@
 use Rattle.std.specs.Prelude.{◌≡◌, ℕ, ◌+◌, ◌-◌, not, length, map}
 use Rattle.std.specs.List.{filter, sum_by}
 use Rattle.upload_book.specs.declared.sweep.Swept.{Swept}
-use Rattle.upload_book.specs.Expiry.{is_over}
+use Rattle.upload_book.specs.Expiry.{has_expired}
 use Rattle.upload_book.specs.PlainBook.{PlainBook}
 use Rattle.upload_book.specs.TenantBook.{TenantBook}
 use Rattle.upload_book.specs.Terminate.{given_back}
 
--- a part after a sweep at a moment: what is left are the uploads that are not over
+-- a part after a sweep at a moment: what is left are the uploads that have not expired
 abbrev pub part_after_sweep : ℕ → TenantBook → TenantBook
-part_after_sweep now part = record part { uploads = filter (λ e. not (is_over now e.kept.expires)) part.uploads }
+part_after_sweep now part = record part { uploads = filter (λ e. not (has_expired now e.kept.expires)) part.uploads }
 
 -- the blocks that a sweep gives back
 abbrev pub swept_blocks : PlainBook → ℕ → ℕ

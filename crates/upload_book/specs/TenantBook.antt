@@ -2,7 +2,7 @@
 use Rattle.std.specs.Prelude.{ℕ, ◌+◌, Bool, ◌&&◌, List, [], ◌∷◌, ◌++◌, map, nat_lt, ◌==◌, Option, Some, None, Result, Ok, Err, if◌then◌else◌}
 use Rattle.upload_book.specs.declared.refusal.Refusal.{Refusal}
 use Rattle.upload_book.specs.declared.refusal.Refusal.TheVariants.{Unknown, Gone}
-use Rattle.upload_book.specs.Expiry.{is_over}
+use Rattle.upload_book.specs.Expiry.{has_expired}
 use Rattle.upload_book.specs.Upload.{Upload}
 
 -- what is kept under an id
@@ -46,10 +46,10 @@ module _ {K : Type 0} where
   abbrev pub is_given : TenantPart K → ℕ → Bool
   is_given part id = nat_lt 0 id && nat_lt id part.next
 
-  -- what was found is visible, unless it is over
+  -- what was found is visible, unless it has expired
   abbrev pub visible : (K → Option ℕ) → ℕ → Option K → Result K Refusal
   visible expires now None = Err Gone
-  visible expires now (Some kept) = if is_over now (expires kept) then Err Gone else Ok kept
+  visible expires now (Some kept) = if has_expired now (expires kept) then Err Gone else Ok kept
 
   -- What a request for an id sees at a moment, by when each upload expires: an id that was never given is
   -- unknown, and one that was given is gone where its upload has ended or expired (tus 1.0.0, Expiration).

@@ -5,15 +5,15 @@ ghost use Rattle.upload_book.specs.Operation.{MayLackMemory};
 ghost use Rattle.upload_book.specs.declared.operation.Operation.TheVariants as operation;
 ghost use Rattle.upload_book.specs.PlainBook.{answer_of, book_after};
 ghost use Rattle.upload_book.specs.Ready.{IsReadyForChunk};
-ghost use Rattle.upload_book.specs.Store.{IsVisibleIn};
+ghost use Rattle.upload_book.specs.inside.Places.{IsVisibleIn};
 ghost use Rattle.upload_book.specs.Refusal.{IsAnswer};
 
 use crate::book::Book;
 use crate::head_row::Name;
 use crate::moment::Moment;
+use crate::progress::append_refusal;
 use crate::ready::ReadyChunk;
 use crate::refusal::Refusal;
-use crate::standing::append_refusal;
 use std::marker::Model;
 use tus_text::Checksum;
 
@@ -146,20 +146,20 @@ impl Book {
     {
         let account = self.account(name.tenant);
         let tenant = usize::from(name.tenant);
-        let standing = self.store.standing(tenant, place);
+        let progress = self.store.progress(tenant, place);
         let numbers = self.settings.numbers();
-        if let Some(refusal) = append_refusal(numbers, &account, &standing, &chunk) {
+        if let Some(refusal) = append_refusal(numbers, &account, &progress, &chunk) {
             return Err(Refused {
                 refusal,
-                expires: standing.expires,
+                expires: progress.expires,
             });
         }
-        let after = standing.with(numbers, &chunk, now);
+        let after = progress.with(numbers, &chunk, now);
         let more = chunk.bytes.len() as u64;
         if more > 0 && self.store.reserve(tenant, place, more).is_err() {
             return Err(Refused {
                 refusal: Refusal::Memory,
-                expires: standing.expires,
+                expires: progress.expires,
             });
         }
         Ok(ReadyChunk {
@@ -201,7 +201,7 @@ impl Book {
             return appended;
         }
         // the numbers tell that what may be charged in all is a number
-        let _ = self.settings.numbers();
+        let _in_range = self.settings.numbers();
         self.charged += self
             .store
             .put(tenant, place, bytes, after.declared, after.expires);

@@ -1,21 +1,22 @@
 ghost use Rattle.std.specs.Prelude.{◌≡◌, ◌<◌, ◌+◌, length, IfOk};
 ghost use Rattle.std.specs.List.{sum_by};
 ghost use Rattle.upload_book.specs.Account.{account_in};
+ghost use Rattle.upload_book.specs.BlockBook.{blocks_of, HoldsBook};
 ghost use Rattle.upload_book.specs.Book.{plain_of};
 ghost use Rattle.upload_book.specs.Charge.{charge_in};
 ghost use Rattle.upload_book.specs.Expiries.{AreExpiries};
 ghost use Rattle.upload_book.specs.Heads.{accounts_of};
 ghost use Rattle.upload_book.specs.Lawful.{IsLawful};
 ghost use Rattle.upload_book.specs.PlainBook.{opening_book, tenant_book};
-ghost use Rattle.upload_book.specs.Store.{holders_at};
+ghost use Rattle.upload_book.specs.BlockStore.{holders_at};
 ghost use Rattle.upload_book.specs.Stored.{IsStored};
 
 use crate::account::Account;
+use crate::block_store::BlockStore;
 use crate::board_line::Accounts;
 use crate::expiry_list::{Expiring, ExpiryList};
 use crate::head_row::Name;
 use crate::settings::Settings;
-use crate::store::Store;
 use std::alloc::{AllocError, Global};
 use std::marker::Model;
 
@@ -24,7 +25,7 @@ use std::marker::Model;
 #[derive(Drop)]
 pub struct Book {
     pub(crate) settings: Settings,
-    pub(crate) store: Store,
+    pub(crate) store: BlockStore,
     pub(crate) charged: u64,
     pub(crate) released: u64,
     pub(crate) expiries: ExpiryList,
@@ -59,7 +60,7 @@ impl Book {
     pub fn new(alloc: Global, settings: Settings) -> Result<Book, AllocError>
         ensures { IfOk result (λ b. plain_of b ≡ opening_book settings) }
     {
-        let store = Store::new(alloc, &settings)?;
+        let store = BlockStore::new(alloc, &settings)?;
         let room = settings.tenant_count() * settings.numbers().uploads as usize;
         let expiries = ExpiryList::new(alloc, room)?;
         Ok(Book {
@@ -128,12 +129,22 @@ impl Book {
     /// stands in none.
     pub fn holders(&self, name: &Name, segment: usize, place: u64) -> Option<u64>
         ensures value { result ≡ holders_at self.now.store name.now.tenant name.now.id segment place }
-        ensures stored { IsStored self.now.store.pool self.now.store.shelves }
+        ensures stored { IsStored self.now.store.pool self.now.store.stored_tenants }
     {
         self.store.holders(name, segment, place)
     }
 
-    /// The uploads that expire, each once, with the moment from which on it is over: by ascending moment, then by the
+    /// Says of the blocks what holds of every book, and does nothing. Each block is counted by exactly its holders, free
+    /// where it has none, and no block is two tenants'. All bytes that are read through blocks are those of the plain book.
+    pub fn tell_blocks(&self)
+        ensures blocks { HoldsBook (blocks_of self.now) (plain_of self.now) }
+        ensures lawful { IsLawful (plain_of self.now) }
+    {
+        self.store.free();
+        self.store.tell_blocks();
+    }
+
+    /// The uploads that expire, each once, with the moment from which on it has expired: by ascending moment, then by the
     /// tenant's place, then by the id. Those that have expired and are not swept yet are among them.
     pub fn expiries(&self) -> &[Expiring]
         ensures { AreExpiries (plain_of self.now) result.now }

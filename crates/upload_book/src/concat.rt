@@ -8,8 +8,9 @@ ghost use Rattle.upload_book.specs.declared.operation.Operation.TheVariants as o
 ghost use Rattle.upload_book.specs.PlainBook.{answer_of, book_after};
 ghost use Rattle.upload_book.specs.Ready.{IsReadyForFinal};
 ghost use Rattle.upload_book.specs.Refusal.{IsAnswer, first_that_holds};
-ghost use Rattle.upload_book.specs.Store.{part_at, Joins};
+ghost use Rattle.upload_book.specs.BlockStore.{part_at, Joins};
 
+use crate::block_store::BlockStore;
 use crate::book::Book;
 use crate::create::Created;
 use crate::head_row::Name;
@@ -18,7 +19,6 @@ use crate::parts_seen::PartsSeen;
 use crate::ready::ReadyFinal;
 use crate::refusal::Refusal;
 use crate::settings::Numbers;
-use crate::store::Store;
 use std::marker::Model;
 
 /// The final upload that a concatenation asks for (tus 1.0.0, Concatenation). A contract sees its parts
@@ -141,11 +141,11 @@ impl Book {
 // Why the next concatenation of the tenant at this place is refused, if it is, where its parts are seen so.
 fn concat_refusal(
     numbers: &Numbers,
-    store: &Store,
+    store: &BlockStore,
     tenant: usize,
     seen: &PartsSeen,
 ) -> Option<Refusal>
-    requires { tenant < length store.now.shelves }
+    requires { tenant < length store.now.stored_tenants }
     ensures { result ≡ first_that_holds
         (concat_tests numbers.now (part_at store.now tenant) seen.now.there seen.now.complete seen.now.len) }
 {

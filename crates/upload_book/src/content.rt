@@ -64,7 +64,7 @@ impl Book {
     {
         let place = self.store.place(name, now)?;
         let tenant = usize::from(name.tenant);
-        if !self.store.standing(tenant, place).is_complete() {
+        if !self.store.progress(tenant, place).is_complete() {
             return Err(Refusal::Unfinished);
         }
         match self.store.read(self.alloc, tenant, place) {

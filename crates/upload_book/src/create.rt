@@ -8,9 +8,10 @@ ghost use Rattle.upload_book.specs.Operation.{MayLackMemory};
 ghost use Rattle.upload_book.specs.PlainBook.{answer_of, book_after};
 ghost use Rattle.upload_book.specs.Ready.{IsReadyForUpload};
 ghost use Rattle.upload_book.specs.Refusal.{IsAnswer};
-ghost use Rattle.upload_book.specs.Store.{part_at};
+ghost use Rattle.upload_book.specs.BlockStore.{part_at};
 
 use crate::account::Account;
+use crate::block_store::BlockStore;
 use crate::book::Book;
 use crate::checksum::{is_mismatch, is_of_other_algorithm};
 use crate::expiry::{lifetime_end, renewed};
@@ -19,7 +20,6 @@ use crate::moment::Moment;
 use crate::ready::ReadyUpload;
 use crate::refusal::Refusal;
 use crate::settings::Numbers;
-use crate::store::Store;
 use std::marker::Model;
 use tus_text::Checksum;
 
@@ -124,7 +124,7 @@ impl Book {
             bytes: b"",
         };
         // the settings tell that the book is lawful, so no more was charged than may be
-        let _ = self.settings();
+        let _lawful = self.settings();
         self.create_with(tenant, new, none, now)
     }
 
@@ -236,7 +236,7 @@ impl Book {
             expires,
         };
         // the numbers tell that what may be charged in all is a number
-        let _ = self.settings.numbers();
+        let _in_range = self.settings.numbers();
         self.charged += self.store.create(place, &new, body, bytes, created.expires);
         self.expiries.set_end(created.name, None, created.expires);
         created
@@ -247,12 +247,12 @@ impl Book {
 fn creation_refusal(
     numbers: &Numbers,
     account: &Account,
-    store: &Store,
+    store: &BlockStore,
     tenant: usize,
     new: &NewUpload,
     first: &FirstChunk,
 ) -> Option<Refusal>
-    requires tenant { tenant < length store.now.shelves }
+    requires tenant { tenant < length store.now.stored_tenants }
     requires blocks { 0 < numbers.now.block_size }
     requires quota { account.now.charge ≤ account.now.quota }
     requires charged { account.now.charged ≤ numbers.now.last_total }

@@ -1,6 +1,6 @@
 //! When an upload expires (tus 1.0.0, Expiration).
 ghost use Rattle.std.specs.Prelude.{◌≡◌};
-ghost use Rattle.upload_book.specs.Expiry.{lifetime_end, renewed, is_over};
+ghost use Rattle.upload_book.specs.Expiry.{lifetime_end, renewed, has_expired};
 
 use crate::head_row::Kind;
 use crate::moment::Moment;
@@ -30,9 +30,9 @@ pub fn renewed(kind: Kind, is_complete: bool, before: Option<Moment>, end: Momen
     }
 }
 
-/// Whether an upload with this end is over at `now`.
-pub fn is_over(now: Moment, expires: Option<Moment>) -> bool
-    ensures { result ≡ is_over now expires }
+/// Whether an upload with this end has expired at `now`.
+pub fn has_expired(now: Moment, expires: Option<Moment>) -> bool
+    ensures { result ≡ has_expired now expires }
 {
     expires.is_some_and(|end| end <= now)
 }

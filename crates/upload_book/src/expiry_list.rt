@@ -11,7 +11,7 @@ use std::marker::Model;
 /// An upload that expires, and when.
 #[derive(Clone, Copy, Debug, PartialEq, Eq)]
 pub struct Expiring {
-    /// From when on it is over.
+    /// From when on it has expired.
     pub at: Moment,
     pub name: Name,
 }

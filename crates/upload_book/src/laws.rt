@@ -1,4 +1,5 @@
 //! Laws of the definitions that the contracts cite: each is the contract of a function that does nothing.
+ghost use Rattle.upload_book.specs.FinalLaws.{FinalsStay};
 ghost use Rattle.upload_book.specs.Laws.{AccountsFollow, FollowOrder, HeadsFollow, ResumedPatch, RowsFollow};
 
 /// The tests that decide on a creation, on a concatenation, on a PATCH and on a GET follow the one order of
@@ -14,7 +15,9 @@ pub fn resumed_patch()
     ensures { ResumedPatch }
 {}
 
-/// What a HEAD tells after a PATCH is determined by what it told before, and by the chunk.
+/// What a HEAD shows after a PATCH of an upload that was found, or why that is refused, is determined without the
+/// bytes that the upload had: by what a HEAD showed before, the tenant's account, the chunk, the moment and the numbers
+/// of the settings.
 pub fn rows_follow()
     ensures { RowsFollow }
 {}
@@ -29,4 +32,10 @@ pub fn accounts_follow()
 /// the heads of the book after the change. A change that is refused has no line.
 pub fn heads_follow()
     ensures { HeadsFollow }
+{}
+
+/// A final upload is the concatenation that it was created from. Whatever happens to its parts or to others, it stays
+/// whole until it is ended itself; and each final upload of a book was made by a concatenation that happened to it.
+pub fn finals_stay()
+    ensures { FinalsStay }
 {}

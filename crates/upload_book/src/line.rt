@@ -37,7 +37,7 @@ impl<'a> Ready<'a> {
             ≡ apply_line (heads_of (plain_of book.now)) result }
     {
         // the settings tell that the book is lawful
-        let _ = book.settings();
+        let _lawful = book.settings();
         book.line_of_step(&self.step)
     }
 }
@@ -102,7 +102,7 @@ impl Book {
             ≡ Some result }
     {
         // the numbers tell what is kept of the book
-        let _ = self.settings.numbers();
+        let _in_range = self.settings.numbers();
         let tenant = ready.tenant;
         BoardLine {
             change: HeadChange::Put(self.next_name(tenant), ready.new.row(ready.len)),
@@ -154,7 +154,7 @@ impl Book {
             → result ≡ accounts_of (with_tenant_book (plain_of self.now) tenant part) }
     {
         // the numbers tell that what may be charged in all is a number
-        let _ = self.settings.numbers();
+        let _in_range = self.settings.numbers();
         let place = usize::from(tenant);
         let before = self.charge(tenant);
         let accounts = self.accounts();
@@ -171,7 +171,7 @@ impl Book {
     fn accounts_swept(&self, now: Moment) -> Accounts
         ensures { result ≡ accounts_of (book_after_sweep (plain_of self.now) now) }
     {
-        if self.first_over(now).is_none() {
+        if self.first_expired(now).is_none() {
             return self.accounts();
         }
         let charge = self.store.charges_swept(now);

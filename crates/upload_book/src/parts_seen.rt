@@ -1,7 +1,7 @@
 ghost use Rattle.std.specs.Prelude.{◌≡◌, ◌+◌, ◌-◌, ◌^◌, ◌&&◌, false, min};
 ghost use Rattle.upload_book.specs.Upload.{is_reached};
 
-use crate::standing::Standing;
+use crate::progress::Progress;
 
 /// What the parts of a concatenation are together.
 #[derive(Clone, Copy, Debug)]
@@ -16,7 +16,7 @@ pub(crate) struct PartsSeen {
 
 impl PartsSeen {
     /// With one more part, which is there.
-    pub(crate) fn with(self, part: &Standing) -> PartsSeen
+    pub(crate) fn with(self, part: &Progress) -> PartsSeen
         ensures { result ≡ record self {
           complete = self.complete && is_reached part.now.declared part.now.offset;
           len = min (self.len + part.now.offset) (2 ^ 64 - 1);

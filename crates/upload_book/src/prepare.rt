@@ -1,7 +1,7 @@
 ghost use Rattle.std.specs.Prelude.{◌≡◌, Ok, Err, IfOk, IfErr, None, OnErr, length};
 ghost use Rattle.upload_book.specs.Book.{plain_of};
 ghost use Rattle.upload_book.specs.Change.{CanBeMade, MayLackFor, book_after_change, change_answer, change_lacking};
-ghost use Rattle.upload_book.specs.Ready.{IsReady, change_in, moment_in};
+ghost use Rattle.upload_book.specs.Ready.{IsReady, LeavesBlocks, change_in, moment_in};
 ghost use Rattle.upload_book.specs.Refusal.{IsAnswer};
 
 use crate::append::Refused;
@@ -64,12 +64,14 @@ impl Book {
     }
 
     /// Makes a change for which the book is ready: nothing was changed since [`Book::prepare`] gave it. It cannot
-    /// fail, takes no memory, and gives what the call gives that makes the change.
+    /// fail, takes no memory, and gives what the call gives that makes the change. A PATCH of no bytes touches no block; a
+    /// concatenation takes none, and no byte of any block changes.
     pub fn commit(&mut self, ready: Ready) -> Outcome
         requires { IsReady self.old ready }
         ensures answer { change_answer (plain_of self.old) (change_in ready.entry) (moment_in ready.entry) ≡ Ok result }
         ensures after { plain_of self.new
             ≡ book_after_change (plain_of self.old) (change_in ready.entry) (moment_in ready.entry) }
+        ensures blocks { LeavesBlocks self.old (change_in ready.entry) (moment_in ready.entry) self.new }
     {
         match ready.step {
             Step::Create(upload) => Outcome::Created(self.put_upload(upload)),

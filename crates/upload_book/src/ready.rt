@@ -4,7 +4,7 @@ use crate::create::{FirstChunk, NewUpload};
 use crate::head_row::Name;
 use crate::moment::Moment;
 use crate::piece::{Piece, UnheldPiece};
-use crate::standing::Standing;
+use crate::progress::Progress;
 use block_bodies::Body;
 
 /// A change that [`crate::Book::prepare`] accepted, with all the memory that it takes: [`crate::Book::commit`] makes it.
@@ -31,7 +31,7 @@ pub(crate) struct ReadyChunk<'a> {
     pub(crate) now: Moment,
     pub(crate) place: usize,
     /// How far the upload is afterwards.
-    pub(crate) after: Standing,
+    pub(crate) after: Progress,
 }
 
 /// A DELETE that was accepted, of the upload at this place.

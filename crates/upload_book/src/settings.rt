@@ -188,7 +188,7 @@ fn is_outside(number: u64, most: u64) -> bool
 }
 
 // The first fault of the tenants, whose quotas may be `blocks` together.
-#[tactic(auto, using(crate::proofs::TenantLists::all_names_given, std::proofs::lemmas::Grind::common_steps))]
+#[tactic(auto, using(crate::proofs::Lawful::TenantLists::all_names_given, std::proofs::lemmas::Grind::common_steps))]
 fn tenant_fault(blocks: u64, tenants: &[(&[u8], u64)]) -> Option<SettingsFault>
     ensures { result ≡ first_that_holds (tenant_tests blocks (tenants_of tenants.now)) }
 {

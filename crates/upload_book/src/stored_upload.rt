@@ -6,24 +6,25 @@ ghost use Rattle.upload_book.specs.Charge.{price};
 ghost use Rattle.upload_book.specs.Create.{new_kind};
 ghost use Rattle.upload_book.specs.declared.head_row.Kind.TheVariants.{Final};
 ghost use Rattle.upload_book.specs.declared.piece.Piece.{Piece};
-ghost use Rattle.upload_book.specs.Expiry.{is_over};
-ghost use Rattle.upload_book.specs.Left.{is_left, sources_in};
+ghost use Rattle.upload_book.specs.Expiry.{has_expired};
+ghost use Rattle.upload_book.specs.inside.ChargeAfter.{is_left, sources_in};
 ghost use Rattle.upload_book.specs.Lawful.{is_kept_metadata, IsConcatText};
-ghost use Rattle.upload_book.specs.Standing.{standing_in};
-ghost use Rattle.upload_book.specs.Store.{with_chain, with_head};
-ghost use Rattle.upload_book.specs.Stored.{as_piece, block_at, bytes_of, final_of, new_stored, no_chain, own_chain, pieces_len, placed_in, segment_of, upload_of, AreBodies, ReadsWhole};
+ghost use Rattle.upload_book.specs.inside.Progress.{progress_in};
+ghost use Rattle.upload_book.specs.inside.Places.{with_chain, with_head};
+ghost use Rattle.upload_book.specs.Stored.{block_at, pieces_len, placed_in, segment_of, upload_of};
+ghost use Rattle.upload_book.specs.inside.Pieces.{as_piece, bytes_of, final_of, new_stored, no_chain, own_chain, AreBodies, ReadsWhole};
 ghost use Rattle.upload_book.specs.Upload.{head_row_of, content_of as upload_content_of};
 
+use crate::charge_after::Ended;
 use crate::concat::NewFinal;
 use crate::create::NewUpload;
-use crate::expiry::is_over;
+use crate::expiry::has_expired;
 use crate::head_row::{HeadRow, Kind};
-use crate::held::Held;
-use crate::joined::{give_back_each, price_from, read_each};
-use crate::left::Ended;
+use crate::held_bytes::HeldBytes;
 use crate::moment::Moment;
 use crate::piece::{Piece, UnheldPiece};
-use crate::standing::Standing;
+use crate::pieces::{give_back_each, price_from, read_each};
+use crate::progress::Progress;
 use crate::texts::Texts;
 use block_bodies::{Body, BodyFault};
 use block_pool::{BlockId, Pool};
@@ -34,14 +35,14 @@ use std::marker::Model;
 #[derive(Drop)]
 pub(crate) struct StoredUpload {
     id: u64,
-    held: Held,
+    held: HeldBytes,
     declared: Option<u64>,
     expires: Option<Moment>,
     texts: Box<Texts>,
 }
 
 impl Model for StoredUpload {
-    ghost use Rattle.upload_book.specs.Held.{kind_of, pieces_in, IsCounted};
+    ghost use Rattle.upload_book.specs.inside.HeldBytes.{kind_of, pieces_in, IsCounted};
     ghost use Rattle.upload_book.specs.TenantBook.{Entry};
     ghost use Rattle.upload_book.specs.Stored as stored;
 
@@ -79,7 +80,7 @@ impl StoredUpload {
         texts.set(new.metadata, new.concat);
         StoredUpload {
             id,
-            held: Held::Own {
+            held: HeldBytes::Own {
                 partial: new.partial,
                 body,
             },
@@ -106,7 +107,7 @@ impl StoredUpload {
         texts.set(new.metadata, new.concat);
         StoredUpload {
             id,
-            held: Held::Joined { len, pieces },
+            held: HeldBytes::Joined { len, pieces },
             declared: Some(len),
             expires: None,
             texts,
@@ -121,10 +122,10 @@ impl StoredUpload {
     }
 
     /// Whether the upload has expired at `now`.
-    pub(crate) fn is_over(&self, now: Moment) -> bool
-        ensures { result ≡ is_over now self.now.kept.expires }
+    pub(crate) fn has_expired(&self, now: Moment) -> bool
+        ensures { result ≡ has_expired now self.now.kept.expires }
     {
-        is_over(now, self.expires)
+        has_expired(now, self.expires)
     }
 
     /// When it expires, if it does.
@@ -139,7 +140,7 @@ impl StoredUpload {
         ensures { result ≡ is_left ended.now.at self.now.kept.expires }
     {
         match ended.at {
-            Some(now) => !self.is_over(now),
+            Some(now) => !self.has_expired(now),
             None => true,
         }
     }
@@ -149,9 +150,9 @@ impl StoredUpload {
         ensures { result ≡ self.now.kept.kind }
     {
         match &self.held {
-            Held::Own { partial: true, .. } => Kind::Partial,
-            Held::Own { partial: false, .. } => Kind::Plain,
-            Held::Joined { .. } => Kind::Final,
+            HeldBytes::Own { partial: true, .. } => Kind::Partial,
+            HeldBytes::Own { partial: false, .. } => Kind::Plain,
+            HeldBytes::Joined { .. } => Kind::Final,
         }
     }
 
@@ -160,8 +161,8 @@ impl StoredUpload {
         ensures { result ≡ pieces_len self.now.kept.pieces }
     {
         match &self.held {
-            Held::Own { body, .. } => body.len(),
-            Held::Joined { len, .. } => *len,
+            HeldBytes::Own { body, .. } => body.len(),
+            HeldBytes::Joined { len, .. } => *len,
         }
     }
 
@@ -181,11 +182,11 @@ impl StoredUpload {
     }
 
     /// How far the upload is.
-    pub(crate) fn standing(&self) -> Standing
+    pub(crate) fn progress(&self) -> Progress
         ensures { (p : Blocks) → ReadsWhole p self.now.kept.pieces
-            → result ≡ standing_in (head_row_of (upload_of p self.now.kept)) }
+            → result ≡ progress_in (head_row_of (upload_of p self.now.kept)) }
     {
-        Standing {
+        Progress {
             kind: self.kind(),
             offset: self.offset(),
             declared: self.declared,
@@ -212,8 +213,8 @@ impl StoredUpload {
         ensures { bytes.new.items ≡ bytes.old.items ++ bytes_of pool.now self.now.kept.pieces }
     {
         match &self.held {
-            Held::Own { body, .. } => body.read_onto(pool, bytes),
-            Held::Joined { pieces, .. } => read_each(pieces, pool, bytes),
+            HeldBytes::Own { body, .. } => body.read_onto(pool, bytes),
+            HeldBytes::Joined { pieces, .. } => read_each(pieces, pool, bytes),
         }
     }
 
@@ -222,9 +223,9 @@ impl StoredUpload {
         ensures { result ≡ block_at self.now.kept piece place }
     {
         match &self.held {
-            Held::Own { body, .. } if piece == 0 => body.block(place),
-            Held::Own { .. } => None,
-            Held::Joined { pieces, .. } => pieces.get(piece)?.chain.block(place),
+            HeldBytes::Own { body, .. } if piece == 0 => body.block(place),
+            HeldBytes::Own { .. } => None,
+            HeldBytes::Joined { pieces, .. } => pieces.get(piece)?.chain.block(place),
         }
     }
 
@@ -233,8 +234,8 @@ impl StoredUpload {
         ensures { result ≡ length self.now.kept.pieces }
     {
         match &self.held {
-            Held::Own { .. } => 1,
-            Held::Joined { pieces, .. } => pieces.len(),
+            HeldBytes::Own { .. } => 1,
+            HeldBytes::Joined { pieces, .. } => pieces.len(),
         }
     }
 
@@ -244,8 +245,8 @@ impl StoredUpload {
         ensures { (d : Piece) → result ≡ (get_or self.now.kept.pieces piece d).origin }
     {
         match &self.held {
-            Held::Own { .. } => self.id,
-            Held::Joined { pieces, .. } => pieces[piece].origin,
+            HeldBytes::Own { .. } => self.id,
+            HeldBytes::Joined { pieces, .. } => pieces[piece].origin,
         }
     }
 
@@ -256,8 +257,8 @@ impl StoredUpload {
         ensures { (d : Piece) → result ≡ blocks_for size (get_or self.now.kept.pieces piece d).chain.len }
     {
         match &self.held {
-            Held::Own { body, .. } => body.len().div_ceil(size),
-            Held::Joined { pieces, .. } => pieces[piece].chain.len().div_ceil(size),
+            HeldBytes::Own { body, .. } => body.len().div_ceil(size),
+            HeldBytes::Joined { pieces, .. } => pieces[piece].chain.len().div_ceil(size),
         }
     }
 
@@ -268,9 +269,11 @@ impl StoredUpload {
         ensures { result ≡ price size (sources_in (drop piece self.now.kept.pieces)) origin }
     {
         match &self.held {
-            Held::Own { body, .. } if piece == 0 && self.id == origin => body.len().div_ceil(size),
-            Held::Own { .. } => 0,
-            Held::Joined { pieces, .. } => price_from(pieces, piece, size, origin),
+            HeldBytes::Own { body, .. } if piece == 0 && self.id == origin => body
+                .len()
+                .div_ceil(size),
+            HeldBytes::Own { .. } => 0,
+            HeldBytes::Joined { pieces, .. } => price_from(pieces, piece, size, origin),
         }
     }
 
@@ -281,11 +284,11 @@ impl StoredUpload {
         ensures { IfOk result (λ x. segment_of (as_piece x) ∷ [] ≡ map segment_of self.now.kept.pieces) }
     {
         match &self.held {
-            Held::Own { body, .. } => Ok(UnheldPiece {
+            HeldBytes::Own { body, .. } => Ok(UnheldPiece {
                 origin: self.id,
                 chain: body.list()?,
             }),
-            Held::Joined { .. } => unreachable!(),
+            HeldBytes::Joined { .. } => unreachable!(),
         }
     }
 
@@ -306,8 +309,8 @@ impl StoredUpload {
         ensures unchanged { OnErr result (self.new ≡ self.old) }
     {
         match &mut self.held {
-            Held::Own { body, .. } => reserve_within(body, pool, more),
-            Held::Joined { .. } => unreachable!(),
+            HeldBytes::Own { body, .. } => reserve_within(body, pool, more),
+            HeldBytes::Joined { .. } => unreachable!(),
         }
     }
 
@@ -325,8 +328,8 @@ impl StoredUpload {
         ensures upload { self.new ≡ with_chain self.old (own_chain self.new.kept.pieces) }
     {
         match &mut self.held {
-            Held::Own { body, .. } => body.put(pool, bytes),
-            Held::Joined { .. } => unreachable!(),
+            HeldBytes::Own { body, .. } => body.put(pool, bytes),
+            HeldBytes::Joined { .. } => unreachable!(),
         }
     }
 
@@ -346,8 +349,8 @@ impl StoredUpload {
     {
         let StoredUpload { held, texts, .. } = self;
         let freed = match held {
-            Held::Own { body, .. } => body.give_back(pool),
-            Held::Joined { pieces, .. } => give_back_each(pieces, pool),
+            HeldBytes::Own { body, .. } => body.give_back(pool),
+            HeldBytes::Joined { pieces, .. } => give_back_each(pieces, pool),
         };
         (freed, texts)
     }

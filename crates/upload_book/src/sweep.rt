@@ -27,7 +27,7 @@ impl Book {
         ensures after { plain_of self.new ≡ book_after_sweep (plain_of self.old) now }
     {
         // the settings tell that the book is lawful, so what ends is few
-        let _ = self.settings();
+        let _lawful = self.settings();
         let mut uploads = 0;
         let mut blocks = 0;
         while let Some(freed) = self.end_first(now) {
@@ -48,15 +48,15 @@ impl Book {
         ensures none { IfNone result (EndsNone (plain_of self.old) now) }
         ensures unchanged { IfNone result (self.new ≡ self.old) }
     {
-        let first = self.first_over(now)?;
+        let first = self.first_expired(now)?;
         let place = self.store.find(&first.name)?;
         Some(self.remove(first.name, place))
     }
 
     // The upload that expires first, where it has expired at `now`; else none has.
-    pub(crate) fn first_over(&self, now: Moment) -> Option<Expiring>
+    pub(crate) fn first_expired(&self, now: Moment) -> Option<Expiring>
         ensures first { IfSome result (λ x. slice_get self.now.expiries.list 0 ≡ Some x) }
-        ensures over { IfSome result (λ x. x.at ≤ now) }
+        ensures expired { IfSome result (λ x. x.at ≤ now) }
         ensures none { IfNone result (EndsNone (plain_of self.now) now) }
     {
         let first = self.expiries.first()?;

@@ -2,7 +2,7 @@ ghost use Rattle.std.specs.Prelude.{◌≡◌, ◌<◌, length, Ok, Err, IfOk, I
 ghost use Rattle.upload_book.specs.Book.{plain_of};
 ghost use Rattle.upload_book.specs.PlainBook.{answer_of, book_after, tenant_book, with_tenant_book};
 ghost use Rattle.upload_book.specs.Ready.{IsReadyForEnd};
-ghost use Rattle.upload_book.specs.Store.{IsPlaceOf};
+ghost use Rattle.upload_book.specs.inside.Places.{IsPlaceOf};
 ghost use Rattle.upload_book.specs.Terminate.{given_back, part_after_terminate, terminate_answer, without};
 
 use crate::book::Book;
@@ -52,7 +52,7 @@ impl Book {
     // Ends the upload of this name, which stands at this place of its tenant's part, whether it has expired or not. Gives
     // how many blocks became free.
     pub(crate) fn remove(&mut self, name: Name, place: usize) -> u64
-        requires tenant { name.tenant < length self.old.store.shelves }
+        requires tenant { name.tenant < length self.old.store.stored_tenants }
         requires placed { IsPlaceOf self.old.store name.tenant name.id place }
         ensures freed { result ≡ given_back (plain_of self.old).settings.numbers
             (tenant_book (plain_of self.old) name.tenant) (without (tenant_book (plain_of self.old) name.tenant) name.id) }

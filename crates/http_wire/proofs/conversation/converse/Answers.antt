@@ -2,7 +2,7 @@ use Rattle.std.proofs.Common.{[], refl}
 use Rattle.std.proofs.lemmas.Result.{err_from_is_err_and}
 use Rattle.http_wire.specs.declared.fault.WireFault.TheVariants.{Memory}
 use Rattle.http_wire.proofs.AheadLemmas.{Appends-none, Consumes-none}
-use Rattle.http_wire.proofs.Talk.{IfErr-from}
+use Rattle.http_wire.proofs.ConversationLemmas.{IfErr-from}
 use Rattle.http_wire.proofs.conversation.converse.Goals as goal
 
 pub returns-in_err-buffers-clause-breaks : goal.returns-in_err-buffers-clause-breaks

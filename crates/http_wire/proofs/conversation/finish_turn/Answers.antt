@@ -1,11 +1,11 @@
 use Rattle.std.proofs.Common.{refl}
-use Rattle.http_wire.proofs.Finished.{Finishes-message, Finishes-refused, Finishes-cut_patch, Finishes-cut_other, Finishes-end}
+use Rattle.http_wire.proofs.FinishLemmas.{Finishes-message, Finishes-refused, Finishes-cut_patch, Finishes-cut_other, Finishes-end}
 use Rattle.http_wire.proofs.conversation.finish_turn.Goals as goal
 
 pub returns-in-Message-clause-finishes : goal.returns-in-Message-clause-finishes
 returns-in-Message-clause-finishes g c =
-    let told = c.answer_message-written.ensures.answers in
-    rw (c.turn_after.ensures, c.in-Message.is) (Finishes-message g.A.Answer.steps c.args.now c.args.buffers.now.inbox c.in-Message.parts told.0 _ _ _ _ _ c.answer_message-written.result c.in-Message.parts.framing.close refl told.1 told.2)
+    let step = c.answer_message-written.ensures.answers in
+    rw (c.turn_after.ensures, c.in-Message.is) (Finishes-message g.A.Answer.steps c.args.now c.args.buffers.now.inbox c.in-Message.layout step.0 _ _ _ _ _ c.answer_message-written.result c.in-Message.layout.framing.close refl step.1 step.2)
 
 pub returns-in-Refused-clause-finishes : goal.returns-in-Refused-clause-finishes
 returns-in-Refused-clause-finishes g c =
@@ -13,8 +13,8 @@ returns-in-Refused-clause-finishes g c =
 
 pub returns-in-CutPatch-clause-finishes : goal.returns-in-CutPatch-clause-finishes
 returns-in-CutPatch-clause-finishes g c =
-    let told = c.apply_cut.ensures in
-    rw (c.turn_cut.ensures, c.in-CutPatch.is) (Finishes-cut_patch g.A.Answer.steps c.args.now c.args.buffers.now.inbox c.in-CutPatch.parts c.in-CutPatch.why told.0 _ _ _ _ told.1 c.requires.writer)
+    let step = c.apply_cut.ensures in
+    rw (c.turn_cut.ensures, c.in-CutPatch.is) (Finishes-cut_patch g.A.Answer.steps c.args.now c.args.buffers.now.inbox c.in-CutPatch.layout c.in-CutPatch.why step.0 _ _ _ _ step.1 c.requires.writer)
 
 pub returns-in-CutOther-clause-finishes : goal.returns-in-CutOther-clause-finishes
 returns-in-CutOther-clause-finishes g c =

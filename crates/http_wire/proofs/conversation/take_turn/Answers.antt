@@ -3,79 +3,45 @@ use Rattle.std.proofs.lemmas.Result.{err_from_is_err_and}
 use Rattle.http_wire.specs.Clock.{asked, unasked}
 use Rattle.http_wire.specs.Exchange.{Exchange}
 use Rattle.http_wire.proofs.AheadLemmas.{Appends-more}
-use Rattle.http_wire.proofs.Finished.{IfOk-when}
-use Rattle.http_wire.proofs.PassedUp.{passed_no, passed}
-use Rattle.http_wire.proofs.Served.{BreaksTurn-front, TakesTurn-broken}
+use Rattle.http_wire.proofs.FinishLemmas.{IfOk-when}
+use Rattle.http_wire.proofs.TurnLemmas.{BreaksTurn-front, TakesTurn-broken}
 use Rattle.http_wire.proofs.conversation.take_turn.Goals as goal
 
-pub returns-in_err-front-clause-turn : goal.returns-in_err-front-clause-turn
-returns-in_err-front-clause-turn g c =
+pub returns-in_err-incoming-clause-turn : goal.returns-in_err-incoming-clause-turn
+returns-in_err-incoming-clause-turn g c =
     let p = err_from_is_err_and c.from_residual.result c.from_residual.ensures.1 in
-    let f = c.in_err-front.ensures.front in
+    let f = c.in_err-incoming.ensures.reads in
     let x : Exchange _ = record { input = c.args.buffers.now.inbox.held ++ f.0; text = f.1; before = c.args.answerer.now; after = c.args.answerer.now } in
     unasked (rw p.1 refl) refl (λ now. (
       f.0,
       f.1,
       f.2,
       f.3,
-      TakesTurn-broken g.A.Answer.steps c.args.max_size now x c.read_front.new.inbox.held c.from_residual.result p.0 c.in_err-front.field-0.0 p.1 p.2
-          (BreaksTurn-front g.A.Answer.steps c.args.max_size now x c.in_err-front.field-0.0 f.4 refl),
+      TakesTurn-broken g.A.Answer.steps c.args.max_size now x c.read_incoming.new.inbox.held c.from_residual.result p.0 c.in_err-incoming.field-0.0 p.1 p.2
+          (BreaksTurn-front g.A.Answer.steps c.args.max_size now x c.in_err-incoming.field-0.0 f.4 refl),
     ))
 
 pub returns-clause-turn : goal.returns-clause-turn
 returns-clause-turn g c =
-    let f = c.in_ok-front.ensures.front in
+    let f = c.in_ok-incoming.ensures.reads in
     let t = c.finish_turn.ensures.finishes.turn c.args.max_size (c.args.buffers.now.inbox.held ++ f.0) f.1 f.4 in
     rw c.finish_turn.ensures.inbox (asked c.moment-now.result c.moment-now.ensures (f.0, f.1 ++ t.0, f.2, Appends-more _ _ _ f.1 t.0 f.3 t.1, t.2))
 
 pub returns-clause-end : goal.returns-clause-end
 returns-clause-end g c =
-    rw c.finish_turn.ensures.inbox (IfOk-when _ c.finish_turn.result (λ sees. c.finish_turn.ensures.finishes.end (g.R.Source.remaining c.read_front.new.reader) (c.in_ok-front.ensures.end sees) c.in_ok-front.ensures.told))
+    rw c.finish_turn.ensures.inbox (IfOk-when _ c.finish_turn.result (λ sees. c.finish_turn.ensures.finishes.end (g.R.Source.remaining c.read_incoming.new.reader) (c.in_ok-incoming.ensures.end sees) c.in_ok-incoming.ensures.tells_end))
 
 pub returns-clause-ends : goal.returns-clause-ends
 returns-clause-ends g c = c.finish_turn.ensures.finishes.ends
 
 pub returns-clause-stops : goal.returns-clause-stops
-returns-clause-stops g c = rw c.finish_turn.ensures.inbox c.read_front.ensures.stops
+returns-clause-stops g c = rw c.finish_turn.ensures.inbox c.read_incoming.ensures.stops
 
 pub returns-clause-reader : goal.returns-clause-reader
-returns-clause-reader g c = rw c.in_ok-front.ensures.reader c.finish_turn.ensures.finishes.reader
+returns-clause-reader g c = rw c.in_ok-incoming.ensures.reader c.finish_turn.ensures.finishes.reader
 
 pub returns-clause-writer : goal.returns-clause-writer
 returns-clause-writer g c = c.finish_turn.ensures.finishes.writer
 
 pub returns-clause-fault : goal.returns-clause-fault
-returns-clause-fault g c = rw c.in_ok-front.ensures.reader c.finish_turn.ensures.finishes.fault
-
-pub read_front-requires-clause-reader : goal.read_front-requires-clause-reader
-read_front-requires-clause-reader g c = c.requires.reader
-
-pub read_front-requires-clause-writer : goal.read_front-requires-clause-writer
-read_front-requires-clause-writer g c = c.requires.writer
-
-pub read_front-requires-clause-max_size : goal.read_front-requires-clause-max_size
-read_front-requires-clause-max_size g c = c.requires.max_size
-
-pub returns-in_err-front-clause-end : goal.returns-in_err-front-clause-end
-returns-in_err-front-clause-end g c = passed_no c.from_residual.result _ _ c.from_residual.ensures.1
-
-pub returns-in_err-front-clause-ends : goal.returns-in_err-front-clause-ends
-returns-in_err-front-clause-ends g c = passed_no c.from_residual.result _ _ c.from_residual.ensures.1
-
-pub returns-in_err-front-clause-stops : goal.returns-in_err-front-clause-stops
-returns-in_err-front-clause-stops g c = c.read_front.ensures.stops
-
-pub returns-in_err-front-clause-reader : goal.returns-in_err-front-clause-reader
-returns-in_err-front-clause-reader g c = passed_no c.from_residual.result _ _ c.from_residual.ensures.1
-
-pub returns-in_err-front-clause-writer : goal.returns-in_err-front-clause-writer
-returns-in_err-front-clause-writer g c = passed_no c.from_residual.result _ _ c.from_residual.ensures.1
-
-pub returns-in_err-front-clause-fault : goal.returns-in_err-front-clause-fault
-returns-in_err-front-clause-fault g c = passed c.from_residual.result _ c.from_residual.ensures.1 (λ e is. rw is c.in_err-front.ensures.fault)
-
-pub finish_turn-requires-clause-writer : goal.finish_turn-requires-clause-writer
-finish_turn-requires-clause-writer g c = c.in_ok-front.ensures.writer
-
-pub finish_turn-requires-clause-lent : goal.finish_turn-requires-clause-lent
-finish_turn-requires-clause-lent g c = c.in_ok-front.ensures.lent
+returns-clause-fault g c = rw c.in_ok-incoming.ensures.reader c.finish_turn.ensures.finishes.fault

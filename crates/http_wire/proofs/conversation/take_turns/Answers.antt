@@ -5,7 +5,7 @@ use Rattle.http_wire.specs.Exchange.{Exchange}
 use Rattle.http_wire.specs.Turns.{Breaks, Converses}
 use Rattle.http_wire.specs.declared.conversation.Ended.TheVariants as ended
 use Rattle.http_wire.proofs.AheadLemmas.{Appends-more, Appends-none, Consumes-more, Consumes-none}
-use Rattle.http_wire.proofs.Talk.{Reached, longer_by, Reached-more, Converses-last, Converses-all, Breaks-after, Converses-known, moments_split, IfErr-from, timed_at}
+use Rattle.http_wire.proofs.ConversationLemmas.{Reached, longer_by, Reached-more, Converses-last, Converses-all, Breaks-after, Converses-known, moments_split, IfErr-from, timed_at}
 use Rattle.http_wire.proofs.conversation.take_turns.Goals as goal
 
 pub loop-moment-init : goal.loop-moment-init
@@ -104,12 +104,12 @@ returns-clause-converses g c =
 pub returns-in-Some-clause-known : goal.returns-in-Some-clause-known
 returns-in-Some-clause-known g c input before known kept =
     let max = g.A.Answer.max_size c.args.answerer.now in
-    let told = returns-in-Some-clause-converses g c in
+    let whole = returns-in-Some-clause-converses g c in
     let read = (rw c.in-Some.is at c.in_ok-turn.ensures.end) c.loop-moment.invariant.end in
-    Converses-known g.A.Answer.steps max _ _ _ _ c.args.moments.now (record { input = told.0; text = told.1; before = c.args.answerer.now; after = c.take_turn.new.answerer }) c.in-Some.ended told.2 told.3 told.4 read input before known kept
+    Converses-known g.A.Answer.steps max _ _ _ _ c.args.moments.now (record { input = whole.0; text = whole.1; before = c.args.answerer.now; after = c.take_turn.new.answerer }) c.in-Some.ended whole.2 whole.3 whole.4 read input before known kept
 
 pub returns-clause-known : goal.returns-clause-known
 returns-clause-known g c input before known kept =
     let max = g.A.Answer.max_size c.args.answerer.now in
-    let told = returns-clause-converses g c in
-    Converses-known g.A.Answer.steps max _ _ _ _ c.args.moments.now (record { input = told.0; text = told.1; before = c.args.answerer.now; after = c.loop-moment.answerer }) ended.Moments told.2 told.3 told.4 tt input before known kept
+    let whole = returns-clause-converses g c in
+    Converses-known g.A.Answer.steps max _ _ _ _ c.args.moments.now (record { input = whole.0; text = whole.1; before = c.args.answerer.now; after = c.loop-moment.answerer }) ended.Moments whole.2 whole.3 whole.4 tt input before known kept

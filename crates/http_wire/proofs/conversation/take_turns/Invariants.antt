@@ -1,7 +1,7 @@
 use Rattle.std.proofs.Common.{◌≡◌, ℕ, List, take, false}
 use Rattle.std.specs.Io.KnownBytes.{Appends, Consumes}
-use Rattle.http_wire.specs.Ahead.{SeesEnd}
-use Rattle.http_wire.proofs.Talk.{Reached}
+use Rattle.http_wire.specs.inside.Ahead.{SeesEnd}
+use Rattle.http_wire.proofs.ConversationLemmas.{Reached}
 use Rattle.http_wire.proofs.conversation.take_turns.Given as goal
 
 -- nothing failed yet, and a turn was taken at each moment so far

@@ -1,7 +1,7 @@
 use Rattle.std.proofs.Common.{◌≡◌, ◌+◌, ◌-◌, ◌≤◌, suc, false, length}
 use Rattle.std.specs.Prelude.{if◌then◌else◌}
-use Rattle.http_wire.specs.Ahead.{Grew, SeesEnd, StopsAtEnd}
-use Rattle.http_wire.specs.declared.inbox.TheConstants.{READ_SIZE}
+use Rattle.http_wire.specs.inside.Ahead.{Grew, SeesEnd, StopsAtEnd}
+use Rattle.http_wire.specs.declared.read.inbox.TheConstants.{READ_SIZE}
 use Rattle.http_wire.proofs.read.fill_to.Given as goal
 
 abbrev pub invariant-loop-inbox : goal.invariant-loop-inbox

@@ -1,6 +1,6 @@
-use Rattle.http_wire.proofs.ReplyLemmas.{reply_text-parts}
+use Rattle.http_wire.proofs.ReplyLemmas.{reply_text-sent}
 use Rattle.http_wire.proofs.write.write_reply.Goals as goal
 
 pub returns : goal.returns
 returns g c =
-    rw (reply_text-parts c.args.reply.now c.args.now c.args.framing, ← c.put_reply.ensures, ← c.content_of.ensures) c.write_with.ensures
+    rw (reply_text-sent c.args.reply.now c.args.now c.args.framing, ← c.put_reply.ensures, ← c.content_of.ensures) c.write_with.ensures

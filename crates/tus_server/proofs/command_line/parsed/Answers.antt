@@ -1,12 +1,12 @@
 use Rattle.std.proofs.Common.{map}
 use Rattle.std.proofs.lemmas.Result.{IfOk-weaker}
-use Rattle.tus_server.proofs.CommandLineLemmas.{fails_by, matches_told}
+use Rattle.tus_server.proofs.CommandLineLemmas.{fails_by, matches_found}
 use Rattle.tus_server.proofs.command_line.parsed.Goals as goal
 
-pub returns-clause-told : goal.returns-clause-told
-returns-clause-told g c =
+pub returns-clause-found : goal.returns-clause-found
+returns-clause-found g c =
     let words = map g.S.AsStr.text c.args.words.now in
-    IfOk-weaker c.try_get_matches_from.result _ _ (λ m h. matches_told _ words m c.in_ok-command.ensures h) c.try_get_matches_from.ensures.matches
+    IfOk-weaker c.try_get_matches_from.result _ _ (λ m h. matches_found _ words m c.in_ok-command.ensures h) c.try_get_matches_from.ensures.matches
 
 pub returns-clause-faults : goal.returns-clause-faults
 returns-clause-faults g c =

@@ -1,18 +1,11 @@
-use Rattle.std.proofs.Common.{◌∙◌, sym, ap, map}
-use Rattle.clap.specs.Words.{kind_of}
-use Rattle.tus_server.specs.CommandLine.{talk_told}
-use Rattle.tus_server.proofs.CommandLineLemmas.{answered, shown}
+use Rattle.std.proofs.Common.{refl}
+use Rattle.clap.specs.Values.{kind_of}
+use Rattle.tus_server.specs.Run.{explained}
+use Rattle.tus_server.proofs.RunLemmas.{RunEnds-performed}
 use Rattle.tus_server.proofs.program.run.Goals as goal
 
-pub returns-in-Ok-clause-talks : goal.returns-in-Ok-clause-talks
-returns-in-Ok-clause-talks g c input before read wrote ended taken =
-    let talked = c.talk_as_told.ensures.talks input before read wrote ended in
-    (talked.0, sym (ap talk_told c.in-Ok.ensures.told) ∙ talked.1, talked.2, talked.3, talked.4)
+pub returns-in-Ok : goal.returns-in-Ok
+returns-in-Ok g c = RunEnds-performed _ _ _ _ _ _ c.in-Ok.ensures.faults c.in-Ok.ensures.found c.perform.ensures
 
-pub returns-in-Err-clause-not_taken : goal.returns-in-Err-clause-not_taken
-returns-in-Err-clause-not_taken g c refused =
-    answered (map g.S.AsStr.text c.args.words.now) (kind_of c.in-Err.error) c.explain.result c.in-Err.ensures.faults c.explain.ensures.status c.explain.ensures.no_memory c.explain.ensures.help
-
-pub returns-in-Err-clause-help : goal.returns-in-Err-clause-help
-returns-in-Err-clause-help g c asks =
-    shown _ (kind_of c.in-Err.error) c.explain.result asks c.in-Err.ensures.faults c.explain.ensures.no_memory c.explain.ensures.shown
+pub returns-in-Err : goal.returns-in-Err
+returns-in-Err g c = explained (kind_of c.in-Err.error) c.in-Err.ensures.faults c.explain.ensures refl

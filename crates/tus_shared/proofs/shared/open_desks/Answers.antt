@@ -1,5 +1,5 @@
 use Rattle.std.proofs.Common.{ap, ◌∙◌, arith}
-use Rattle.tus_shared.specs.Board.{BoardView}
+use Rattle.head_board.specs.Board.{BoardView}
 use Rattle.tus_shared.proofs.SharesLemmas.{new_desks-next}
 use Rattle.tus_shared.proofs.shared.open_desks.Goals as goal
 
@@ -16,9 +16,9 @@ loop-number-preserved g c =
         parts = omega (arith, c.part-in-loop-number.ensures.left, i.1.parts);
         rest = c.part-in-loop-number.ensures.none_left;
       },
-      c.in-Ok-window.ensures.board ∙ i.2,
+      c.in-Ok-reader.ensures.board ∙ i.2,
       new_desks-next _ _ _ _ _ _ c.push_reserved.ensures.items i.3 c.part.ensures.amount c.part-in-loop-number.ensures.amount
-          (ap (λ (b : BoardView). b.lines) (c.in-Ok-window.ensures.window ∙ i.2 ∙ c.requires.board)),
+          (ap (λ (b : BoardView). b.lines) (c.in-Ok-reader.ensures.reader ∙ i.2 ∙ c.requires.board)),
       omega (arith, c.push_reserved.ensures.len, i.4),
       omega (arith, c.push_reserved.ensures.capacity, i.5),
     )

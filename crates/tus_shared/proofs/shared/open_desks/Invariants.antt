@@ -1,6 +1,6 @@
 use Rattle.std.proofs.Common.{◌≡◌, ◌≤◌, vec_len, vec_capacity}
 use Rattle.tus_shared.specs.Desk.{new_desks}
-use Rattle.tus_shared.specs.Store.{IsCounted}
+use Rattle.tus_shared.specs.inside.StoreRule.{IsCounted}
 use Rattle.tus_shared.proofs.shared.open_desks.Given as goal
 
 abbrev pub invariant-loop-number : goal.invariant-loop-number

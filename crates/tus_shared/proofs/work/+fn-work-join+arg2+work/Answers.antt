@@ -1,6 +1,6 @@
 use Rattle.std.proofs.Common.{◌≡◌, ◌<◌, ◌≤◌, [], ◌∷◌, length, length-append, vec_capacity, ap, refl, sym, ◌∙◌, rules, arith}
 use Rattle.std.specs.List.{AllZip}
-use Rattle.tus_shared.specs.Served.{AllFour, TakesBatch}
+use Rattle.tus_shared.specs.Answers.{AllFour, AnswersBatch}
 use Rattle.std.proofs.lemmas.Slice.Zip.{AllZip-long}
 use Rattle.tus_shared.proofs.ZipLemmas.{AllFour-last, AllFour-long, AllFour-none, AllZip-init}
 use Rattle.tus_shared.proofs.work.+fn-work-join+arg2+work.Goals as goal
@@ -28,7 +28,7 @@ join-after-requires-after_bounds g t c =
 pub push_reserved-requires : goal.push_reserved-requires
 push_reserved-requires g t c =
     let batches = c.in-Some.ensures.cases in
-    let all : AllFour (λ batch told before after. TakesBatch g.C.Charges.settings batch.now told.items before after) c.in-Some.others.now c.join-after.result.0.1.items c.pop.new.self.items c.join-after.result.0.0.items = c.join-after.ensures.first.0 in
+    let all : AllFour (λ batch own before after. AnswersBatch g.C.Charges.settings batch.now own.items before after) c.in-Some.others.now c.join-after.result.0.1.items c.pop.new.self.items c.join-after.result.0.0.items = c.join-after.ensures.first.0 in
     let capacity : vec_capacity c.join-after.result.0.0 ≡ vec_capacity c.args.desks = c.join-after.ensures.first.1.0 ∙ c.pop.ensures.capacity in
     let long = AllFour-long _ c.in-Some.others.now c.join-after.result.0.1.items c.pop.new.self.items c.join-after.result.0.0.items all in
     omega (arith, long.1, capacity, c.join-after.result.0.0.ok.0, batches.1, c.requires.desks, c.args.desks.ok)
@@ -36,7 +36,7 @@ push_reserved-requires g t c =
 pub push_reserved-requires-2 : goal.push_reserved-requires-2
 push_reserved-requires-2 g t c =
     let batches = c.in-Some.ensures.cases in
-    let all : AllFour (λ batch told before after. TakesBatch g.C.Charges.settings batch.now told.items before after) c.in-Some.others.now c.join-after.result.0.1.items c.pop.new.self.items c.join-after.result.0.0.items = c.join-after.ensures.first.0 in
+    let all : AllFour (λ batch own before after. AnswersBatch g.C.Charges.settings batch.now own.items before after) c.in-Some.others.now c.join-after.result.0.1.items c.pop.new.self.items c.join-after.result.0.0.items = c.join-after.ensures.first.0 in
     let capacity : vec_capacity c.join-after.result.0.1 ≡ vec_capacity c.args.rooms = c.join-after.ensures.first.1.1 ∙ c.pop-2.ensures.capacity in
     let long = AllFour-long _ c.in-Some.others.now c.join-after.result.0.1.items c.pop.new.self.items c.join-after.result.0.0.items all in
     let same = AllZip-long _ c.args.batches.now c.args.rooms.items c.requires.rooms in
@@ -45,9 +45,9 @@ push_reserved-requires-2 g t c =
 pub returns-clause-answers : goal.returns-clause-answers
 returns-clause-answers g t c =
     let batches = c.in-Some.ensures.cases in
-    let all : AllFour (λ batch told before after. TakesBatch g.C.Charges.settings batch.now told.items before after) c.in-Some.others.now c.join-after.result.0.1.items c.pop.new.self.items c.join-after.result.0.0.items = c.join-after.ensures.first.0 in
-    let here : TakesBatch g.C.Charges.settings c.in-Some.batch.now.now c.join-after.result.1.1.items c.unwrap-desk.result c.join-after.result.1.0 = c.join-after.ensures.second in
-    AllFour-last (λ batch told before after. TakesBatch g.C.Charges.settings batch.now told.items before after) c.args.batches.now c.in-Some.others.now c.in-Some.batch.now
+    let all : AllFour (λ batch own before after. AnswersBatch g.C.Charges.settings batch.now own.items before after) c.in-Some.others.now c.join-after.result.0.1.items c.pop.new.self.items c.join-after.result.0.0.items = c.join-after.ensures.first.0 in
+    let here : AnswersBatch g.C.Charges.settings c.in-Some.batch.now.now c.join-after.result.1.1.items c.unwrap-desk.result c.join-after.result.1.0 = c.join-after.ensures.second in
+    AllFour-last (λ batch own before after. AnswersBatch g.C.Charges.settings batch.now own.items before after) c.args.batches.now c.in-Some.others.now c.in-Some.batch.now
     c.push_reserved-2.new.self.items c.join-after.result.0.1.items c.join-after.result.1.1 c.args.desks.items c.pop.new.self.items c.unwrap-desk.result
     c.push_reserved.new.self.items c.join-after.result.0.0.items c.join-after.result.1.0
     batches.0 c.push_reserved-2.ensures.items (rw c.unwrap-desk.ensures at c.pop.ensures.items) c.push_reserved.ensures.items all here

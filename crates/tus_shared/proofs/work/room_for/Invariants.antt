@@ -6,4 +6,4 @@ abbrev pub invariant-loop-batch : goal.invariant-loop-batch
 invariant-loop-batch l =
     (vec_len l.replies ≡ l.batch-index)
     × (length l.batches ≤ vec_capacity l.replies)
-    × AllZip (λ batch told. (told.items ≡ []) × (length batch.now ≤ vec_capacity told)) (take l.batch-index l.batches) l.replies.items
+    × AllZip (λ batch room. (room.items ≡ []) × (length batch.now ≤ vec_capacity room)) (take l.batch-index l.batches) l.replies.items

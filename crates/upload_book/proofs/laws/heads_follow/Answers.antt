@@ -1,4 +1,4 @@
-use Rattle.upload_book.proofs.HeadsLemmas.{heads_follow}
+use Rattle.upload_book.proofs.Heads.HeadsLemmas.{heads_follow}
 use Rattle.upload_book.proofs.laws.heads_follow.Goals as goal
 
 pub returns : goal.returns

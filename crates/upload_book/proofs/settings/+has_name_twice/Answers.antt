@@ -1,5 +1,5 @@
 use Rattle.std.proofs.Common.{refl}
-use Rattle.upload_book.proofs.TenantLists.{has_name_twice-cons}
+use Rattle.upload_book.proofs.Lawful.TenantLists.{has_name_twice-cons}
 use Rattle.upload_book.proofs.settings.+has_name_twice.Goals as goal
 
 pub returns-then-is_named_again : goal.returns-then-is_named_again

@@ -1,10 +1,10 @@
-use Rattle.std.proofs.Common.{rules, ◌≡◌, ◌+◌, ap, length, refl, sym, subst, ◌∙◌, arith}
+use Rattle.std.proofs.Common.{◌≡◌, ◌+◌, ap, length, refl, sym, subst, ◌∙◌, arith}
 use Rattle.upload_book.specs.Book.{plain_of}
 use Rattle.upload_book.specs.Change.{CanBeMade}
 use Rattle.upload_book.specs.Heads.{heads_after, heads_of}
 use Rattle.upload_book.specs.PlainBook.{PlainBook}
 use Rattle.upload_book.specs.Settings.{Settings}
-use Rattle.tus_shared.specs.Board.{BoardView}
+use Rattle.head_board.specs.Board.{BoardView}
 use Rattle.tus_shared.specs.Store.{IsShown}
 use Rattle.tus_shared.proofs.ChangeLemmas.{done-made, done-refused, done-unshown, no-less, shown-more}
 use Rattle.tus_shared.proofs.store.Store.make.Goals as goal
@@ -68,8 +68,8 @@ returns-clause-done g c =
     rw (← c.self.view_is) (done-made (plain_of c.self.inside.book) c.self.inside.board.lines _ _ _ _ c.args.change _ c.args.now _ _
     c.prepare.ensures.plain refl c.in-Ok.ensures.change c.in-Ok.ensures.now c.if-not-show_line.ensures.shown c.commit-outcome.ensures.answer c.commit-outcome.ensures.after)
 
-pub tell-requires : goal.tell-requires
-tell-requires g c = c.desk.invariant.4 ∙ sym c.self.invariant.board_log
+pub show_to-requires : goal.show_to-requires
+show_to-requires g c = c.desk.invariant.4 ∙ sym c.self.invariant.board_log
 
 pub prepare-requires : goal.prepare-requires
 prepare-requires g c = subst (λ (s : Settings). CanBeMade (length s.tenants) c.args.change) (sym c.self.invariant.settings) c.requires
@@ -83,22 +83,22 @@ returns-in-Err-clause-after g c = rw c.prepare.ensures.plain c.self.invariant.sh
 pub invariant_of-desk : goal.invariant_of-desk
 invariant_of-desk g c =
     let i = c.desk.invariant in
-    (i.0, i.1, i.2, ap (λ (v : BoardView). v.settings) c.tell.ensures.told ∙ i.3, ap (λ (v : BoardView). v.log) c.tell.ensures.told ∙ i.4)
+    (i.0, i.1, i.2, ap (λ (v : BoardView). v.settings) c.show_to.ensures.seen ∙ i.3, ap (λ (v : BoardView). v.log) c.show_to.ensures.seen ∙ i.4)
 
 pub returns-in-Err-clause-settings : goal.returns-in-Err-clause-settings
 returns-in-Err-clause-settings g c = rw (← c.self.view_is) c.self.invariant.settings
 
 pub returns-in-Err-clause-lawful : goal.returns-in-Err-clause-lawful
-returns-in-Err-clause-lawful g c = rw (← c.self.view_is) c.settings.ensures.lawful
+returns-in-Err-clause-lawful g c = rw (← c.self.view_is) c.settings-lawful.ensures.lawful
 
 pub returns-in-Err-clause-begins : goal.returns-in-Err-clause-begins
-returns-in-Err-clause-begins g c = rw (← c.self.view_is, ← c.desk.view_is) c.tell.ensures.begins
+returns-in-Err-clause-begins g c = rw (← c.self.view_is, ← c.desk.view_is) c.show_to.ensures.begins
 
-pub returns-in-Err-clause-told : goal.returns-in-Err-clause-told
-returns-in-Err-clause-told g c = ap (λ (v : BoardView). v.lines) c.tell.ensures.told
+pub returns-in-Err-clause-seen : goal.returns-in-Err-clause-seen
+returns-in-Err-clause-seen g c = ap (λ (v : BoardView). v.lines) c.show_to.ensures.seen
 
 pub returns-in-Err-clause-stays_lawful : goal.returns-in-Err-clause-stays_lawful
-returns-in-Err-clause-stays_lawful g c = rw c.prepare.ensures.plain c.settings.ensures.lawful
+returns-in-Err-clause-stays_lawful g c = rw c.prepare.ensures.plain c.settings-lawful.ensures.lawful
 
 pub returns-in-Err-clause-moves : goal.returns-in-Err-clause-moves
 returns-in-Err-clause-moves g c =
@@ -114,22 +114,22 @@ invariant_of-self-then-not-show_line g c = rw (c.prepare.ensures.plain, c.if-not
 pub invariant_of-desk-then-not-show_line : goal.invariant_of-desk-then-not-show_line
 invariant_of-desk-then-not-show_line g c =
     let i = c.desk.invariant in
-    (i.0, i.1, i.2, ap (λ (v : BoardView). v.settings) c.tell.ensures.told ∙ i.3, ap (λ (v : BoardView). v.log) c.tell.ensures.told ∙ i.4)
+    (i.0, i.1, i.2, ap (λ (v : BoardView). v.settings) c.show_to.ensures.seen ∙ i.3, ap (λ (v : BoardView). v.log) c.show_to.ensures.seen ∙ i.4)
 
 pub returns-then-not-show_line-clause-settings : goal.returns-then-not-show_line-clause-settings
 returns-then-not-show_line-clause-settings g c = rw (← c.self.view_is) c.self.invariant.settings
 
 pub returns-then-not-show_line-clause-lawful : goal.returns-then-not-show_line-clause-lawful
-returns-then-not-show_line-clause-lawful g c = rw (← c.self.view_is) c.settings.ensures.lawful
+returns-then-not-show_line-clause-lawful g c = rw (← c.self.view_is) c.settings-lawful.ensures.lawful
 
 pub returns-then-not-show_line-clause-begins : goal.returns-then-not-show_line-clause-begins
-returns-then-not-show_line-clause-begins g c = rw (← c.self.view_is, ← c.desk.view_is) c.tell.ensures.begins
+returns-then-not-show_line-clause-begins g c = rw (← c.self.view_is, ← c.desk.view_is) c.show_to.ensures.begins
 
-pub returns-then-not-show_line-clause-told : goal.returns-then-not-show_line-clause-told
-returns-then-not-show_line-clause-told g c = ap (λ (v : BoardView). v.lines) (c.tell.ensures.told) ∙ sym (ap (λ (v : BoardView). v.lines) c.if-not-show_line.ensures.shown)
+pub returns-then-not-show_line-clause-seen : goal.returns-then-not-show_line-clause-seen
+returns-then-not-show_line-clause-seen g c = ap (λ (v : BoardView). v.lines) (c.show_to.ensures.seen) ∙ sym (ap (λ (v : BoardView). v.lines) c.if-not-show_line.ensures.shown)
 
 pub returns-then-not-show_line-clause-stays_lawful : goal.returns-then-not-show_line-clause-stays_lawful
-returns-then-not-show_line-clause-stays_lawful g c = rw c.prepare.ensures.plain c.settings.ensures.lawful
+returns-then-not-show_line-clause-stays_lawful g c = rw c.prepare.ensures.plain c.settings-lawful.ensures.lawful
 
 pub returns-then-not-show_line-clause-moves : goal.returns-then-not-show_line-clause-moves
 returns-then-not-show_line-clause-moves g c =
@@ -162,10 +162,10 @@ pub returns-clause-settings : goal.returns-clause-settings
 returns-clause-settings g c = rw (← c.self.view_is) c.self.invariant.settings
 
 pub returns-clause-lawful : goal.returns-clause-lawful
-returns-clause-lawful g c = rw (← c.self.view_is) c.settings.ensures.lawful
+returns-clause-lawful g c = rw (← c.self.view_is) c.settings-lawful.ensures.lawful
 
 pub returns-clause-begins : goal.returns-clause-begins
-returns-clause-begins g c = rw (← c.self.view_is, ← c.desk.view_is) c.tell.ensures.begins
+returns-clause-begins g c = rw (← c.self.view_is, ← c.desk.view_is) c.show_to.ensures.begins
 
-pub returns-clause-told : goal.returns-clause-told
-returns-clause-told g c = ap (λ (v : BoardView). v.lines) c.tell-2.ensures.told
+pub returns-clause-seen : goal.returns-clause-seen
+returns-clause-seen g c = ap (λ (v : BoardView). v.lines) c.show_to-2.ensures.seen

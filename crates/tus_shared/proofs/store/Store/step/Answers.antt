@@ -3,7 +3,7 @@ use Rattle.tus_steps.specs.Changing.{change_found}
 use Rattle.upload_book.specs.Book.{plain_of}
 use Rattle.upload_book.specs.PlainBook.{PlainBook}
 use Rattle.upload_book.specs.Settings.{Settings}
-use Rattle.tus_shared.specs.Board.{BoardView}
+use Rattle.head_board.specs.Board.{BoardView}
 use Rattle.tus_shared.specs.Store.{IsShown}
 use Rattle.tus_shared.proofs.ChangeLemmas.{done-step}
 use Rattle.tus_shared.proofs.store.Store.step.Goals as goal
@@ -64,8 +64,8 @@ returns-in-Some-clause-after g c = c.make-outcome.ensures.after
 pub returns-in-Some-clause-moves : goal.returns-in-Some-clause-moves
 returns-in-Some-clause-moves g c = c.make-outcome.ensures.moves
 
-pub returns-in-Some-clause-told : goal.returns-in-Some-clause-told
-returns-in-Some-clause-told g c = c.make-outcome.ensures.told
+pub returns-in-Some-clause-seen : goal.returns-in-Some-clause-seen
+returns-in-Some-clause-seen g c = c.make-outcome.ensures.seen
 
 pub returns-in-None-clause-settings : goal.returns-in-None-clause-settings
 returns-in-None-clause-settings g c = rw (← c.self.view_is) c.self.invariant.settings
@@ -74,15 +74,15 @@ pub returns-in-None-clause-lawful : goal.returns-in-None-clause-lawful
 returns-in-None-clause-lawful g c = rw (← c.self.view_is) c.settings.ensures.lawful
 
 pub returns-in-None-clause-begins : goal.returns-in-None-clause-begins
-returns-in-None-clause-begins g c = rw (← c.self.view_is, ← c.desk.view_is) c.tell.ensures.begins
+returns-in-None-clause-begins g c = rw (← c.self.view_is, ← c.desk.view_is) c.show_to.ensures.begins
 
-pub returns-in-None-clause-told : goal.returns-in-None-clause-told
-returns-in-None-clause-told g c = ap (λ (v : BoardView). v.lines) c.tell.ensures.told
+pub returns-in-None-clause-seen : goal.returns-in-None-clause-seen
+returns-in-None-clause-seen g c = ap (λ (v : BoardView). v.lines) c.show_to.ensures.seen
 
-pub tell-requires : goal.tell-requires
-tell-requires g c = c.desk.invariant.4 ∙ sym c.self.invariant.board_log
+pub show_to-requires : goal.show_to-requires
+show_to-requires g c = c.desk.invariant.4 ∙ sym c.self.invariant.board_log
 
 pub invariant_of-desk : goal.invariant_of-desk
 invariant_of-desk g c =
     let i = c.desk.invariant in
-    (i.0, i.1, i.2, ap (λ (v : BoardView). v.settings) c.tell.ensures.told ∙ i.3, ap (λ (v : BoardView). v.log) c.tell.ensures.told ∙ i.4)
+    (i.0, i.1, i.2, ap (λ (v : BoardView). v.settings) c.show_to.ensures.seen ∙ i.3, ap (λ (v : BoardView). v.log) c.show_to.ensures.seen ∙ i.4)

@@ -5,9 +5,9 @@ use Rattle.upload_book.specs.Charge.{charge_in, charge_with}
 use Rattle.upload_book.specs.contracts.book.Book.{the_view}
 use Rattle.upload_book.specs.declared.board_line.Accounts.{Accounts}
 use Rattle.upload_book.specs.PlainBook.{tenant_book}
-use Rattle.upload_book.specs.Store.{part_at}
-use Rattle.upload_book.proofs.BookSteps.{charge-plain_book}
-use Rattle.upload_book.proofs.PlainShelves.{map-same}
+use Rattle.upload_book.specs.BlockStore.{part_at}
+use Rattle.upload_book.proofs.Steps.BookSteps.{charge-plain_book}
+use Rattle.upload_book.proofs.Store.PlainStoredTenants.{map-same}
 use Rattle.upload_book.proofs.book.Book.accounts.Goals as goal
 
 pub returns : goal.returns

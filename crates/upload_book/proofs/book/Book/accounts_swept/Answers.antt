@@ -2,7 +2,7 @@ use Rattle.std.proofs.Common.{ap, refl, ◌∙◌, arith}
 use Rattle.std.specs.List.{sum}
 use Rattle.upload_book.specs.Book.{plain_of}
 use Rattle.upload_book.specs.contracts.book.Book.{the_view}
-use Rattle.upload_book.proofs.LineLemmas.{accounts-swept, charges-swept, swept-small, swept-total}
+use Rattle.upload_book.proofs.Heads.LineLemmas.{accounts-swept, charges-swept, swept-small, swept-total}
 use Rattle.upload_book.proofs.book.Book.accounts_swept.Goals as goal
 
 pub total-requires : goal.total-requires

@@ -1,14 +1,13 @@
-use Rattle.std.proofs.Common.{◌≡◌, ◌≢◌, [], true, false, Ok, Err, inl, inr, refl, ap, sym, subst, ◌∙◌}
+use Rattle.std.proofs.Common.{◌≡◌, ◌≢◌, [], true, Ok, inl, inr, refl, ap, sym, subst, ◌∙◌}
 use Rattle.std.specs.Result.{IsOkAnd}
 use Rattle.std.proofs.lemmas.Bool.{false≢true}
 use Rattle.std.proofs.lemmas.Result.{err_from_is_err_and}
 use Rattle.upload_book.specs.Content.{bytes_of, content_answer, content_told}
 use Rattle.upload_book.specs.contracts.book.Book.{the_view}
-use Rattle.upload_book.specs.declared.refusal.Refusal.TheVariants.{Unfinished}
-use Rattle.upload_book.specs.declared.standing.Standing.{Standing}
-use Rattle.upload_book.specs.Store.{upload_at}
+use Rattle.upload_book.specs.declared.progress.Progress.{Progress}
+use Rattle.upload_book.specs.BlockStore.{upload_at}
 use Rattle.upload_book.specs.Upload.{Upload, content_of, is_complete, is_reached}
-use Rattle.upload_book.proofs.BookSteps.{answer-plain}
+use Rattle.upload_book.proofs.Steps.BookSteps.{answer-plain}
 use Rattle.upload_book.proofs.book.Book.content.Goals as goal
 
 pub returns-in_err-place : goal.returns-in_err-place
@@ -22,40 +21,17 @@ told u complete = rw complete refl
 
 pub returns-in-Ok : goal.returns-in-Ok
 returns-in-Ok c =
-    let at = rw c.from-tenant.ensures at c.standing.ensures in
+    let at = rw c.from-tenant.ensures at c.progress.ensures in
     let bytes = rw c.from-tenant.ensures at c.in-Ok.ensures.bytes in
     let u : Upload = upload_at c.self.inside.store c.args.name.now.tenant c.in_ok-place.place in
-    let complete : is_complete u ≡ true = ap (λ (s : Standing). is_reached s.declared s.offset) (sym at) ∙ sym c.is_complete.ensures ∙ c.if-not-is_complete.false in
+    let complete : is_complete u ≡ true = ap (λ (s : Progress). is_reached s.declared s.offset) (sym at) ∙ sym c.is_complete.ensures ∙ c.if-not-is_complete.false in
     inl (rw (c.of.ensures, bytes, ← c.self.view_is) (sym (answer-plain (the_view c.self.inside) c.args.name.now.tenant (content_answer c.args.name.now.id c.args.now) ∙ ap bytes_of c.in_ok-place.ensures.visible.visible ∙ told u complete)))
 
 pub returns-in-Err : goal.returns-in-Err
 returns-in-Err c =
-    let at = rw c.from-tenant.ensures at c.standing.ensures in
+    let at = rw c.from-tenant.ensures at c.progress.ensures in
     let none = rw c.from-tenant.ensures at c.in-Err.ensures.none in
     let u : Upload = upload_at c.self.inside.store c.args.name.now.tenant c.in_ok-place.place in
-    let complete : is_complete u ≡ true = ap (λ (s : Standing). is_reached s.declared s.offset) (sym at) ∙ sym c.is_complete.ensures ∙ c.if-not-is_complete.false in
+    let complete : is_complete u ≡ true = ap (λ (s : Progress). is_reached s.declared s.offset) (sym at) ∙ sym c.is_complete.ensures ∙ c.if-not-is_complete.false in
     let answer = answer-plain (the_view c.self.inside) c.args.name.now.tenant (content_answer c.args.name.now.id c.args.now) ∙ ap bytes_of c.in_ok-place.ensures.visible.visible ∙ told u complete in
     inr (rw (← c.self.view_is) (subst (λ answer. IsOkAnd answer (λ bytes. bytes ≢ [])) (sym answer) (λ empty. false≢true (none empty))), refl)
-
-pub standing-requires-clause-tenant : goal.standing-requires-clause-tenant
-standing-requires-clause-tenant c = rw c.from-tenant.ensures c.in_ok-place.ensures.there
-
-pub standing-requires-clause-place : goal.standing-requires-clause-place
-standing-requires-clause-place c = rw c.from-tenant.ensures c.in_ok-place.ensures.visible.there
-
--- one that is not complete tells that
-untold : (u : Upload) → is_complete u ≡ false → content_told u ≡ Err Unfinished
-untold u incomplete = rw incomplete refl
-
-pub returns-then-not-is_complete : goal.returns-then-not-is_complete
-returns-then-not-is_complete c =
-    let at = rw c.from-tenant.ensures at c.standing.ensures in
-    let u : Upload = upload_at c.self.inside.store c.args.name.now.tenant c.in_ok-place.place in
-    let incomplete : is_complete u ≡ false = ap (λ (s : Standing). is_reached s.declared s.offset) (sym at) ∙ sym c.is_complete.ensures ∙ c.if-not-is_complete.true in
-    inl (rw (← c.self.view_is) (sym (answer-plain (the_view c.self.inside) c.args.name.now.tenant (content_answer c.args.name.now.id c.args.now) ∙ ap bytes_of c.in_ok-place.ensures.visible.visible ∙ untold u incomplete)))
-
-pub read-requires-clause-tenant : goal.read-requires-clause-tenant
-read-requires-clause-tenant c = rw c.from-tenant.ensures c.in_ok-place.ensures.there
-
-pub read-requires-clause-place : goal.read-requires-clause-place
-read-requires-clause-place c = rw c.from-tenant.ensures c.in_ok-place.ensures.visible.there

@@ -1,11 +1,9 @@
-use Rattle.std.proofs.Common.{◌≡◌, length, slice_get, Some, ap, sym, subst, ◌∙◌, arith}
+use Rattle.std.proofs.Common.{◌≡◌, slice_get, Some, sym, subst, ◌∙◌}
 use Rattle.std.proofs.lemmas.Option.{none-some}
 use Rattle.upload_book.specs.Book.{StoredBook, plain_of}
 use Rattle.upload_book.specs.contracts.book.Book.{the_view}
 use Rattle.upload_book.specs.declared.expiry_list.Expiring.{Expiring}
-use Rattle.upload_book.proofs.BookEnds.{tenant-there}
-use Rattle.upload_book.proofs.BookSteps.{parts-shelves}
-use Rattle.upload_book.proofs.FirstEnds.{EndsOne-first, IsPlaceOf-found, first-told, nothing-there}
+use Rattle.upload_book.proofs.Expiries.FirstEnds.{EndsOne-first, IsPlaceOf-found, first-told, nothing-there}
 use Rattle.upload_book.proofs.book.Book.end_first.Goals as goal
 
 -- the first in the book that was read
@@ -16,7 +14,7 @@ pub returns-in_err-place-clause-none : goal.returns-in_err-place-clause-none
 returns-in_err-place-clause-none c =
     let b = the_view c.self.inside in
     let x = c.in_ok-first.first in
-    let first = first_in b c.args.self.now x c.self.view_is (rw c.in_ok-first.was at c.first_over.ensures.first) in
+    let first = first_in b c.args.self.now x c.self.view_is (rw c.in_ok-first.was at c.first_expired.ensures.first) in
     let told = first-told (plain_of b) b.expiries.list c.args.now c.self.invariant.lawful c.self.invariant.expiries x first in
     absurd (none-some x.at (sym (nothing-there b x.name (sym c.find.ensures ∙ c.in_err-place.was)) ∙ told))
 
@@ -29,14 +27,6 @@ pub returns-clause-one : goal.returns-clause-one
 returns-clause-one c =
     let b = the_view c.self.inside in
     let x = c.in_ok-first.first in
-    let first = first_in b c.args.self.now x c.self.view_is (rw c.in_ok-first.was at c.first_over.ensures.first) in
-    let one = EndsOne-first (plain_of b) b.expiries.list c.args.now c.self.invariant.lawful c.self.invariant.expiries x first (rw c.in_ok-first.was at c.first_over.ensures.over) in
+    let first = first_in b c.args.self.now x c.self.view_is (rw c.in_ok-first.was at c.first_expired.ensures.first) in
+    let one = EndsOne-first (plain_of b) b.expiries.list c.args.now c.self.invariant.lawful c.self.invariant.expiries x first (rw c.in_ok-first.was at c.first_expired.ensures.expired) in
     rw (c.remove.ensures.freed, c.remove.ensures.after) (rw (← c.self.view_is) one)
-
-pub remove-requires-clause-tenant : goal.remove-requires-clause-tenant
-remove-requires-clause-tenant c =
-    let b = the_view c.self.inside in
-    let x = c.in_ok-first.first in
-    let first = first_in b c.args.self.now x c.self.view_is (rw c.in_ok-first.was at c.first_over.ensures.first) in
-    let there = tenant-there (plain_of b) x.name x.at (first-told (plain_of b) b.expiries.list c.args.now c.self.invariant.lawful c.self.invariant.expiries x first) in
-    omega (arith, there, parts-shelves b.store, ap (λ (b : StoredBook). length b.store.shelves) c.self.view_is)

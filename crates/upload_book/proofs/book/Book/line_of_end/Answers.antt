@@ -3,9 +3,10 @@ use Rattle.upload_book.specs.Book.{StoredBook}
 use Rattle.upload_book.specs.Charge.{charge_with}
 use Rattle.upload_book.specs.contracts.book.Book.{the_view}
 use Rattle.upload_book.specs.Ready.{IsReadyForEnd}
-use Rattle.upload_book.specs.Store.{part_at, without_upload}
-use Rattle.upload_book.proofs.BookSteps.{shelves-settings}
-use Rattle.upload_book.proofs.LineSteps.{Tells, end-charged, line-end}
+use Rattle.upload_book.specs.BlockStore.{part_at}
+use Rattle.upload_book.specs.inside.Places.{without_upload}
+use Rattle.upload_book.proofs.Steps.BookSteps.{stored_tenants-settings}
+use Rattle.upload_book.proofs.Heads.LineSteps.{Tells, end-charged, line-end}
 use Rattle.upload_book.proofs.book.Book.line_of_end.Goals as goal
 
 pub charge_without-charge-requires-clause-tenant : goal.charge_without-charge-requires-clause-tenant
@@ -20,7 +21,7 @@ pub accounts_where-requires-clause-tenant_there : goal.accounts_where-requires-c
 accounts_where-requires-clause-tenant_there c =
     let b = the_view c.self.inside in
     let ready = subst (λ (b : StoredBook). IsReadyForEnd b c.args.ready.now) (sym c.self.view_is) c.requires in
-    rw (← c.self.view_is) (omega (arith, ready.there, shelves-settings b c.self.invariant))
+    rw (← c.self.view_is) (omega (arith, ready.there, stored_tenants-settings b c.self.invariant))
 
 pub accounts_where-requires-clause-within : goal.accounts_where-requires-clause-within
 accounts_where-requires-clause-within c =

@@ -1,6 +1,6 @@
 use Rattle.std.proofs.Common.{subst}
 use Rattle.upload_book.specs.Book.{IsBook}
-use Rattle.upload_book.proofs.LineSteps.{final-charged, line-final}
+use Rattle.upload_book.proofs.Heads.LineSteps.{final-charged, line-final}
 use Rattle.upload_book.proofs.book.Book.line_of_final.Goals as goal
 
 pub accounts_where-requires-clause-within : goal.accounts_where-requires-clause-within

@@ -5,8 +5,8 @@ use Rattle.upload_book.specs.Book.{StoredBook, IsBook}
 use Rattle.upload_book.specs.Create.{new_kind}
 use Rattle.upload_book.specs.declared.head_row.HeadRow.{HeadRow}
 use Rattle.upload_book.specs.declared.settings.Numbers.{Numbers}
-use Rattle.upload_book.proofs.ChargeLemmas.{blocks_between-first}
-use Rattle.upload_book.proofs.LineSteps.{line-upload, upload-charged, upload-small}
+use Rattle.upload_book.proofs.Charge.ChargeLemmas.{blocks_between-first}
+use Rattle.upload_book.proofs.Heads.LineSteps.{line-upload, upload-charged, upload-small}
 use Rattle.upload_book.proofs.book.Book.line_of_upload.Goals as goal
 
 pub overflow_add-charge : goal.overflow_add-charge

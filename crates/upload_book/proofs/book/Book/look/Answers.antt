@@ -2,20 +2,10 @@ use Rattle.std.proofs.Common.{ap, sym, ◌∙◌}
 use Rattle.std.proofs.lemmas.Result.{err_from_is_err_and}
 use Rattle.upload_book.specs.Look.{look_answer, row_of}
 use Rattle.upload_book.specs.contracts.book.Book.{the_view}
-use Rattle.upload_book.proofs.BookSteps.{answer-plain}
+use Rattle.upload_book.proofs.Steps.BookSteps.{answer-plain}
 use Rattle.upload_book.proofs.book.Book.look.Goals as goal
 
 pub returns-in_err-place : goal.returns-in_err-place
 returns-in_err-place c =
     let p = err_from_is_err_and c.from_residual.result c.from_residual.ensures.1 in
     rw (p.1, p.2, ← c.self.view_is) (sym (answer-plain (the_view c.self.inside) c.args.name.now.tenant (look_answer c.args.name.now.id c.args.now) ∙ ap row_of c.in_err-place.ensures.refused))
-
-pub head_row-requires-clause-tenant : goal.head_row-requires-clause-tenant
-head_row-requires-clause-tenant c = rw c.from.ensures c.in_ok-place.ensures.there
-
-pub head_row-requires-clause-place : goal.head_row-requires-clause-place
-head_row-requires-clause-place c = rw c.from.ensures c.in_ok-place.ensures.visible.there
-
-pub returns : goal.returns
-returns c =
-    rw (c.head_row.ensures, c.from.ensures, ← c.self.view_is) (sym (answer-plain (the_view c.self.inside) c.args.name.now.tenant (look_answer c.args.name.now.id c.args.now) ∙ ap row_of c.in_ok-place.ensures.visible.visible))

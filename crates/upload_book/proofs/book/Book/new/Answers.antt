@@ -1,7 +1,7 @@
 use Rattle.std.proofs.Common.{ℕ, ◌*◌, [], ap₂, ◌∙◌}
 use Rattle.upload_book.specs.declared.settings.Numbers.{Numbers}
 use Rattle.upload_book.specs.ExpiryList.{ExpiryList}
-use Rattle.upload_book.proofs.BookSteps.{IsBook-opening, plain-opening}
+use Rattle.upload_book.proofs.Steps.BookSteps.{IsBook-opening, plain-opening}
 use Rattle.upload_book.proofs.book.Book.new.Goals as goal
 
 -- a list of nothing, with room for all uploads of so many tenants

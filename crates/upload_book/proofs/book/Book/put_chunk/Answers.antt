@@ -8,7 +8,7 @@ use Rattle.upload_book.specs.Chunk.{Chunk}
 use Rattle.upload_book.specs.contracts.book.Book.{the_view}
 use Rattle.upload_book.specs.declared.ready.ReadyChunk.{ReadyChunk}
 use Rattle.upload_book.specs.declared.settings.Numbers.{Numbers}
-use Rattle.upload_book.specs.declared.standing.Standing.{Standing}
+use Rattle.upload_book.specs.declared.progress.Progress.{Progress}
 use Rattle.upload_book.specs.Append.{upload_with}
 use Rattle.upload_book.specs.Expiries.{ends_of}
 use Rattle.upload_book.specs.ExpiryList.{with_end, AreExpiring, Ends, ExpiryList}
@@ -16,12 +16,12 @@ use Rattle.upload_book.specs.PlainBook.{tenant_book}
 use Rattle.upload_book.specs.Ready.{IsReadyForChunk}
 use Rattle.upload_book.specs.TenantBook.{with_changed}
 use Rattle.upload_book.specs.Account.{blocks_between}
-use Rattle.upload_book.specs.Store.{entry_at, shelf_at, upload_at}
+use Rattle.upload_book.specs.BlockStore.{entry_at, upload_at}
 use Rattle.upload_book.specs.Upload.{offset_of}
-use Rattle.upload_book.specs.Stored.{own_chain}
-use Rattle.upload_book.proofs.BookSteps.{IsIndex, expiries-room_is, shelves-settings}
-use Rattle.upload_book.proofs.ExpirySteps.{AreExpiries-renewed, IsRenewed, renewed-few, renewed-known, renewed-room}
-use Rattle.upload_book.proofs.PatchSteps.{IsBook-patch, patch-alone, patch-answer, patch-charged, patch-follows, patch-free, patch-own, patch-renewed, patch-room, patch-taken, plain-patch}
+use Rattle.upload_book.specs.inside.Pieces.{own_chain}
+use Rattle.upload_book.proofs.Steps.BookSteps.{IsIndex, expiries-room_is, stored_tenants-settings}
+use Rattle.upload_book.proofs.Expiries.ExpirySteps.{AreExpiries-renewed, IsRenewed, renewed-few, renewed-known, renewed-room}
+use Rattle.upload_book.proofs.Steps.PatchSteps.{IsBook-patch, patch-alone, patch-answer, patch-charged, patch-follows, patch-free, patch-renewed, patch-room, patch-taken, plain-patch}
 use Rattle.upload_book.proofs.book.Book.put_chunk.Goals as goal
 
 -- the test on the bytes tells that there are none,
@@ -36,16 +36,9 @@ some_bytes bytes empty is fails = grind (arith, nat_tests)
 ready_as : (b w : StoredBook) (r : ReadyChunk) → b ≡ w → IsReadyForChunk w r → IsReadyForChunk b r
 ready_as b w r is ready = subst (λ (b : StoredBook). IsReadyForChunk b r) (sym is) ready
 
--- the tenant has a shelf
-shelf_there : (b : StoredBook) (r : ReadyChunk) → IsBook b → IsReadyForChunk b r → r.name.tenant < length b.store.shelves
-shelf_there b r kept ready = omega (arith, ready.there, shelves-settings b kept)
-
--- and the upload its place on it
-tenant_there : (b : StoredBook) (r : ReadyChunk) (tenant : ℕ) → IsBook b → IsReadyForChunk b r → tenant ≡ r.name.tenant → tenant < length b.store.shelves
-tenant_there b r tenant kept ready at = rw at (shelf_there b r kept ready)
-
-place_there : (b : StoredBook) (r : ReadyChunk) (tenant : ℕ) → IsReadyForChunk b r → tenant ≡ r.name.tenant → r.place < length (shelf_at b.store tenant).uploads
-place_there b r tenant ready at = rw at ready.seen.there
+-- the tenant has a stored part
+stored_tenant_there : (b : StoredBook) (r : ReadyChunk) → IsBook b → IsReadyForChunk b r → r.name.tenant < length b.store.stored_tenants
+stored_tenant_there b r kept ready = omega (arith, ready.there, stored_tenants-settings b kept)
 
 -- the upload gets the end after the PATCH
 renewed_to : (b : StoredBook) (r : ReadyChunk) (tenant : ℕ) (before : Option ℕ) → IsBook b → IsReadyForChunk b r → tenant ≡ r.name.tenant → before ≡ (upload_at b.store tenant r.place).expires
@@ -53,30 +46,8 @@ renewed_to : (b : StoredBook) (r : ReadyChunk) (tenant : ℕ) (before : Option �
 renewed_to b r tenant before kept ready at was =
     let changed = with_changed (tenant_book (plain_of b) r.name.tenant) r.name.id (upload_with b.settings.numbers (upload_at b.store r.name.tenant r.place) r.chunk r.now) in
     subst (λ before. IsRenewed (plain_of b) b.expiries.list r.name.tenant r.name.id changed before r.after.expires) (sym (was ∙ ap (λ t. (upload_at b.store t r.place).expires) at))
-    (subst (λ (after : Standing). IsRenewed (plain_of b) b.expiries.list r.name.tenant r.name.id changed (upload_at b.store r.name.tenant r.place).expires after.expires) (sym ready.after)
-    (patch-renewed b r.name.tenant r.name.id r.place r.now r.chunk kept (shelf_there b r kept ready) ready.seen ready.accepted))
-
--- the list is that of the book after the PATCH
-index : (b : StoredBook) (r : ReadyChunk) (tenant : ℕ) (before : Option ℕ) (e : ExpiryList) → IsBook b → IsReadyForChunk b r → tenant ≡ r.name.tenant → before ≡ (upload_at b.store tenant r.place).expires
-    → ((ends : Ends) → AreExpiring ends b.expiries.list → ends r.name ≡ before → AreExpiring (with_end ends r.name r.after.expires) e.list) → e.room ≡ b.expiries.room
-    → IsIndex b r.name.tenant (with_changed (tenant_book (plain_of b) r.name.tenant) r.name.id (upload_with b.settings.numbers (upload_at b.store r.name.tenant r.place) r.chunk r.now)) e
-index b r tenant before e kept ready at was ends room =
-    let renewed = renewed_to b r tenant before kept ready at was in
-    record { expiries = AreExpiries-renewed renewed e.list (ends (ends_of (plain_of b)) kept.expiries renewed.was); room = room }
-
--- what is charged in all fits
-fits_taken : (charged taken blocks most : ℕ) → most < 18446744073709551616 → taken ≡ blocks → charged + blocks ≤ most → Fits w64 (charged + taken)
-fits_taken charged taken blocks most fits same within = omega arith
-
-pub expires-before-requires-clause-tenant : goal.expires-before-requires-clause-tenant
-expires-before-requires-clause-tenant c =
-    let b = the_view c.self.inside in
-    tenant_there b c.args.ready c.from-tenant.result c.self.invariant (ready_as b c.args.self.now c.args.ready c.self.view_is c.requires) c.from-tenant.ensures
-
-pub expires-before-requires-clause-place : goal.expires-before-requires-clause-place
-expires-before-requires-clause-place c =
-    let b = the_view c.self.inside in
-    place_there b c.args.ready c.from-tenant.result (ready_as b c.args.self.now c.args.ready c.self.view_is c.requires) c.from-tenant.ensures
+    (subst (λ (after : Progress). IsRenewed (plain_of b) b.expiries.list r.name.tenant r.name.id changed (upload_at b.store r.name.tenant r.place).expires after.expires) (sym ready.after)
+    (patch-renewed b r.name.tenant r.name.id r.place r.now r.chunk kept (stored_tenant_there b r kept ready) ready.seen ready.accepted))
 
 pub set_end-requires-clause-known : goal.set_end-requires-clause-known
 set_end-requires-clause-known c =
@@ -95,29 +66,20 @@ set_end-requires-clause-more c =
     λ none some. subst (λ n. length b.expiries.list < n) (expiries-room_is b c.self.invariant)
     (renewed-room (renewed_to b c.args.ready c.from-tenant.result c.expires-before.result c.self.invariant (ready_as b c.args.self.now c.args.ready c.self.view_is c.requires) c.from-tenant.ensures c.expires-before.ensures) none some)
 
-pub renew-requires-clause-tenant : goal.renew-requires-clause-tenant
-renew-requires-clause-tenant c =
-    let b = the_view c.self.inside in
-    tenant_there b c.args.ready c.from-tenant.result c.self.invariant (ready_as b c.args.self.now c.args.ready c.self.view_is c.requires) c.from-tenant.ensures
-
-pub renew-requires-clause-place : goal.renew-requires-clause-place
-renew-requires-clause-place c =
-    let b = the_view c.self.inside in
-    place_there b c.args.ready c.from-tenant.result (ready_as b c.args.self.now c.args.ready c.self.view_is c.requires) c.from-tenant.ensures
-
-pub renew-requires-clause-own : goal.renew-requires-clause-own
-renew-requires-clause-own c =
-    let b = the_view c.self.inside in
-    let r = c.args.ready in
-    let ready = ready_as b c.args.self.now r c.self.view_is c.requires in
-    rw c.from-tenant.ensures (patch-own b r.name.tenant r.name.id r.place r.now r.chunk c.self.invariant (shelf_there b r c.self.invariant ready) ready.seen ready.accepted)
+-- the list is that of the book after the PATCH
+index : (b : StoredBook) (r : ReadyChunk) (tenant : ℕ) (before : Option ℕ) (e : ExpiryList) → IsBook b → IsReadyForChunk b r → tenant ≡ r.name.tenant → before ≡ (upload_at b.store tenant r.place).expires
+    → ((ends : Ends) → AreExpiring ends b.expiries.list → ends r.name ≡ before → AreExpiring (with_end ends r.name r.after.expires) e.list) → e.room ≡ b.expiries.room
+    → IsIndex b r.name.tenant (with_changed (tenant_book (plain_of b) r.name.tenant) r.name.id (upload_with b.settings.numbers (upload_at b.store r.name.tenant r.place) r.chunk r.now)) e
+index b r tenant before e kept ready at was ends room =
+    let renewed = renewed_to b r tenant before kept ready at was in
+    record { expiries = AreExpiries-renewed renewed e.list (ends (ends_of (plain_of b)) kept.expiries renewed.was); room = room }
 
 pub invariant_of-self : goal.invariant_of-self
 invariant_of-self c =
     let b = the_view c.self.inside in
     let r = c.args.ready in
     let ready = ready_as b c.args.self.now r c.self.view_is c.requires in
-    let within = shelf_there b r c.self.invariant ready in
+    let within = stored_tenant_there b r c.self.invariant ready in
     let bytes : c.chunk.inside.bytes.now ≡ r.chunk.bytes = ap (λ (chunk : Chunk). chunk.bytes) c.chunk.view_is in
     let empty : [] ≡ r.chunk.bytes = sym (no_bytes c.chunk.inside.bytes.now c.is_empty.result c.is_empty.ensures c.if-is_empty.true) ∙ bytes in
     let follows = patch-follows b r.name.tenant r.name.id r.place r.now r.chunk c.self.invariant within ready.seen ready.accepted c.renew.new.self [] r.after empty ready.after (rw c.from-tenant.ensures at c.renew.ensures.plain) (record { blocks = ap size_of c.renew.ensures.pool; bytes = ap (λ (p : Blocks). p.block_size) c.renew.ensures.pool }) c.renew.ensures.room_stays in
@@ -128,31 +90,18 @@ returns-then-is_empty-clause-answer c =
     let b = the_view c.self.inside in
     let r = c.args.ready in
     let ready = ready_as b c.args.self.now r c.self.view_is c.requires in
-    rw (← c.self.view_is) (patch-answer b r.name.tenant r.name.id r.place r.now r.chunk c.self.invariant (shelf_there b r c.self.invariant ready) ready.seen ready.accepted r.after ready.after)
+    rw (← c.self.view_is) (patch-answer b r.name.tenant r.name.id r.place r.now r.chunk c.self.invariant (stored_tenant_there b r c.self.invariant ready) ready.seen ready.accepted r.after ready.after)
 
 pub returns-then-is_empty-clause-after : goal.returns-then-is_empty-clause-after
 returns-then-is_empty-clause-after c =
     let b = the_view c.self.inside in
     let r = c.args.ready in
     let ready = ready_as b c.args.self.now r c.self.view_is c.requires in
-    let within = shelf_there b r c.self.invariant ready in
+    let within = stored_tenant_there b r c.self.invariant ready in
     let bytes : c.chunk.inside.bytes.now ≡ r.chunk.bytes = ap (λ (chunk : Chunk). chunk.bytes) c.chunk.view_is in
     let empty : [] ≡ r.chunk.bytes = sym (no_bytes c.chunk.inside.bytes.now c.is_empty.result c.is_empty.ensures c.if-is_empty.true) ∙ bytes in
     let follows = patch-follows b r.name.tenant r.name.id r.place r.now r.chunk c.self.invariant within ready.seen ready.accepted c.renew.new.self [] r.after empty ready.after (rw c.from-tenant.ensures at c.renew.ensures.plain) (record { blocks = ap size_of c.renew.ensures.pool; bytes = ap (λ (p : Blocks). p.block_size) c.renew.ensures.pool }) c.renew.ensures.room_stays in
     rw (← c.self.view_is) (plain-patch b r.name.tenant r.name.id r.place r.now r.chunk c.self.invariant within ready.seen ready.accepted c.renew.new.self b.charged follows (patch-free b r.name.tenant r.name.id r.place r.now r.chunk c.self.invariant within ready.seen ready.accepted (sym empty)))
-
-pub returns-then-is_empty-clause-empty : goal.returns-then-is_empty-clause-empty
-returns-then-is_empty-clause-empty c = λ none. c.renew.ensures.pool ∙ ap (λ (b : StoredBook). b.store.pool) c.self.view_is
-
-pub put-requires-clause-tenant : goal.put-requires-clause-tenant
-put-requires-clause-tenant c =
-    let b = the_view c.self.inside in
-    tenant_there b c.args.ready c.from-tenant.result c.self.invariant (ready_as b c.args.self.now c.args.ready c.self.view_is c.requires) c.from-tenant.ensures
-
-pub put-requires-clause-place : goal.put-requires-clause-place
-put-requires-clause-place c =
-    let b = the_view c.self.inside in
-    place_there b c.args.ready c.from-tenant.result (ready_as b c.args.self.now c.args.ready c.self.view_is c.requires) c.from-tenant.ensures
 
 pub put-requires-clause-alone : goal.put-requires-clause-alone
 put-requires-clause-alone c =
@@ -161,7 +110,7 @@ put-requires-clause-alone c =
     let ready = ready_as b c.args.self.now r c.self.view_is c.requires in
     let bytes : c.chunk.inside.bytes.now ≡ r.chunk.bytes = ap (λ (chunk : Chunk). chunk.bytes) c.chunk.view_is in
     let some : 0 < length r.chunk.bytes = subst (λ (bytes : List ℕ). 0 < length bytes) bytes (some_bytes c.chunk.inside.bytes.now c.is_empty.result c.is_empty.ensures c.if-is_empty.false) in
-    rw c.from-tenant.ensures (patch-alone b r.name.tenant r.name.id r.place r.now r.chunk c.self.invariant (shelf_there b r c.self.invariant ready) ready.seen ready.accepted some)
+    rw c.from-tenant.ensures (patch-alone b r.name.tenant r.name.id r.place r.now r.chunk c.self.invariant (stored_tenant_there b r c.self.invariant ready) ready.seen ready.accepted some)
 
 pub put-requires-clause-room : goal.put-requires-clause-room
 put-requires-clause-room c =
@@ -169,7 +118,7 @@ put-requires-clause-room c =
     let r = c.args.ready in
     let ready = ready_as b c.args.self.now r c.self.view_is c.requires in
     let bytes : c.chunk.inside.bytes.now ≡ r.chunk.bytes = ap (λ (chunk : Chunk). chunk.bytes) c.chunk.view_is in
-    rw (c.from-tenant.ensures, bytes) (patch-room b r.name.tenant r.name.id r.place r.now r.chunk c.self.invariant (shelf_there b r c.self.invariant ready) ready.seen ready.accepted)
+    rw (c.from-tenant.ensures, bytes) (patch-room b r.name.tenant r.name.id r.place r.now r.chunk c.self.invariant (stored_tenant_there b r c.self.invariant ready) ready.seen ready.accepted)
 
 pub put-requires-clause-listed : goal.put-requires-clause-listed
 put-requires-clause-listed c =
@@ -180,21 +129,25 @@ put-requires-clause-listed c =
     let some : 0 < length r.chunk.bytes = subst (λ (bytes : List ℕ). 0 < length bytes) bytes (some_bytes c.chunk.inside.bytes.now c.is_empty.result c.is_empty.ensures c.if-is_empty.false) in
     rw c.from-tenant.ensures (subst (λ (bytes : List ℕ). HasRoom b.store.pool (own_chain (entry_at b.store r.name.tenant r.place).kept.pieces) (length bytes)) (sym bytes) (ready.room some))
 
+-- what is charged in all fits
+fits_taken : (charged taken blocks most : ℕ) → most < 18446744073709551616 → taken ≡ blocks → charged + blocks ≤ most → Fits w64 (charged + taken)
+fits_taken charged taken blocks most fits same within = omega arith
+
 pub overflow_add-self : goal.overflow_add-self
 overflow_add-self c =
     let b = the_view c.self.inside in
     let r = c.args.ready in
     let ready = ready_as b c.args.self.now r c.self.view_is c.requires in
     let bytes : c.chunk.inside.bytes.now ≡ r.chunk.bytes = ap (λ (chunk : Chunk). chunk.bytes) c.chunk.view_is in
-    fits_taken b.charged c.put.result (blocks_between b.store.pool.block_size (offset_of (upload_at b.store r.name.tenant r.place)) (length r.chunk.bytes)) b.settings.numbers.last_total (subst (λ (n : Numbers). n.last_total < 18446744073709551616) c.numbers.ensures.value c.numbers.ensures.last_total) (rw (c.from-tenant.ensures, bytes) at c.put.ensures.taken)
-    (patch-charged b r.name.tenant r.name.id r.place r.now r.chunk c.self.invariant (shelf_there b r c.self.invariant ready) ready.seen ready.accepted)
+    fits_taken b.charged c.put.result (blocks_between b.store.pool.block_size (offset_of (upload_at b.store r.name.tenant r.place)) (length r.chunk.bytes)) b.settings.numbers.last_total (subst (λ (n : Numbers). n.last_total < 18446744073709551616) c.numbers-in_range.ensures.value c.numbers-in_range.ensures.last_total) (rw (c.from-tenant.ensures, bytes) at c.put.ensures.taken)
+    (patch-charged b r.name.tenant r.name.id r.place r.now r.chunk c.self.invariant (stored_tenant_there b r c.self.invariant ready) ready.seen ready.accepted)
 
 pub invariant_of-self-2 : goal.invariant_of-self-2
 invariant_of-self-2 c =
     let b = the_view c.self.inside in
     let r = c.args.ready in
     let ready = ready_as b c.args.self.now r c.self.view_is c.requires in
-    let within = shelf_there b r c.self.invariant ready in
+    let within = stored_tenant_there b r c.self.invariant ready in
     let bytes : c.chunk.inside.bytes.now ≡ r.chunk.bytes = ap (λ (chunk : Chunk). chunk.bytes) c.chunk.view_is in
     let follows = patch-follows b r.name.tenant r.name.id r.place r.now r.chunk c.self.invariant within ready.seen ready.accepted c.put.new.self c.chunk.inside.bytes.now r.after bytes ready.after (rw c.from-tenant.ensures at c.put.ensures.plain) c.put.ensures.sizes c.put.ensures.room_stays in
     let charged = ap (λ n. b.charged + n) (patch-taken b r.name.tenant r.name.id r.place r.now r.chunk c.self.invariant within ready.seen ready.accepted c.from-tenant.result c.put.result c.chunk.inside.bytes.now c.from-tenant.ensures bytes c.put.ensures.taken) in
@@ -205,21 +158,15 @@ returns-clause-answer c =
     let b = the_view c.self.inside in
     let r = c.args.ready in
     let ready = ready_as b c.args.self.now r c.self.view_is c.requires in
-    rw (← c.self.view_is) (patch-answer b r.name.tenant r.name.id r.place r.now r.chunk c.self.invariant (shelf_there b r c.self.invariant ready) ready.seen ready.accepted r.after ready.after)
+    rw (← c.self.view_is) (patch-answer b r.name.tenant r.name.id r.place r.now r.chunk c.self.invariant (stored_tenant_there b r c.self.invariant ready) ready.seen ready.accepted r.after ready.after)
 
 pub returns-clause-after : goal.returns-clause-after
 returns-clause-after c =
     let b = the_view c.self.inside in
     let r = c.args.ready in
     let ready = ready_as b c.args.self.now r c.self.view_is c.requires in
-    let within = shelf_there b r c.self.invariant ready in
+    let within = stored_tenant_there b r c.self.invariant ready in
     let bytes : c.chunk.inside.bytes.now ≡ r.chunk.bytes = ap (λ (chunk : Chunk). chunk.bytes) c.chunk.view_is in
     let follows = patch-follows b r.name.tenant r.name.id r.place r.now r.chunk c.self.invariant within ready.seen ready.accepted c.put.new.self c.chunk.inside.bytes.now r.after bytes ready.after (rw c.from-tenant.ensures at c.put.ensures.plain) c.put.ensures.sizes c.put.ensures.room_stays in
     let charged = ap (λ n. b.charged + n) (patch-taken b r.name.tenant r.name.id r.place r.now r.chunk c.self.invariant within ready.seen ready.accepted c.from-tenant.result c.put.result c.chunk.inside.bytes.now c.from-tenant.ensures bytes c.put.ensures.taken) in
     rw (← c.self.view_is) (plain-patch b r.name.tenant r.name.id r.place r.now r.chunk c.self.invariant within ready.seen ready.accepted c.put.new.self (b.charged + c.put.result) follows charged)
-
-pub returns-clause-empty : goal.returns-clause-empty
-returns-clause-empty c =
-    let bytes : c.chunk.inside.bytes.now ≡ c.args.ready.chunk.bytes = ap (λ (chunk : Chunk). chunk.bytes) c.chunk.view_is in
-    let some : 0 < length c.args.ready.chunk.bytes = subst (λ (bytes : List ℕ). 0 < length bytes) bytes (some_bytes c.chunk.inside.bytes.now c.is_empty.result c.is_empty.ensures c.if-is_empty.false) in
-    λ none. absurd (omega (arith, some, ap (length {A = ℕ}) none))

@@ -6,9 +6,9 @@ use Rattle.upload_book.specs.declared.ready.ReadyFinal.{ReadyFinal}
 use Rattle.upload_book.specs.PlainBook.{tenant_book}
 use Rattle.upload_book.specs.Ready.{IsReadyForFinal}
 use Rattle.upload_book.specs.Concat.{joined_len}
-use Rattle.upload_book.specs.Store.{part_at, rows_at}
-use Rattle.upload_book.proofs.ConcatSteps.{Concats-read, IsBook-concats, SeesParts-ready, concat-few, concat-id, concat-room, id-told, plain-concats}
-use Rattle.upload_book.proofs.Outcomes.{concat_answer-none}
+use Rattle.upload_book.specs.BlockStore.{part_at, rows_at}
+use Rattle.upload_book.proofs.Steps.ConcatSteps.{Concats-read, IsBook-concats, SeesParts-ready, concat-few, concat-id, concat-room, id-told, plain-concats}
+use Rattle.upload_book.proofs.Lawful.Outcomes.{concat_answer-none}
 use Rattle.upload_book.proofs.book.Book.put_final.Goals as goal
 
 -- the book was ready

@@ -8,11 +8,11 @@ use Rattle.upload_book.specs.FirstChunk.{FirstChunk}
 use Rattle.upload_book.specs.declared.settings.Numbers.{Numbers}
 use Rattle.upload_book.specs.PlainBook.{tenant_book}
 use Rattle.upload_book.specs.Ready.{IsReadyForUpload}
-use Rattle.upload_book.specs.Store.{Store, part_at, plain_in}
+use Rattle.upload_book.specs.BlockStore.{BlockStore, part_at, plain_in}
 use Rattle.upload_book.specs.TenantBook.{TenantBook, with_new}
-use Rattle.upload_book.proofs.BookSteps.{expiries-room_is, part-plain, shelves-settings}
-use Rattle.upload_book.proofs.ExpirySteps.{AreExpiries-renewed, IsRenewed, renewed-few, renewed-known, renewed-room}
-use Rattle.upload_book.proofs.CreateSteps.{IsCreation, IsBook-create, create-answer, create-blocks, create-charged, create-follows, create-next, create-renewed, create-room, create-taken, plain-create}
+use Rattle.upload_book.proofs.Steps.BookSteps.{expiries-room_is, part-plain, stored_tenants-settings}
+use Rattle.upload_book.proofs.Expiries.ExpirySteps.{AreExpiries-renewed, IsRenewed, renewed-few, renewed-known, renewed-room}
+use Rattle.upload_book.proofs.Steps.CreateSteps.{IsCreation, IsBook-create, create-answer, create-blocks, create-charged, create-follows, create-next, create-renewed, create-room, create-taken, plain-create}
 use Rattle.upload_book.proofs.book.Book.put_upload.Goals as goal
 
 -- the book was ready
@@ -23,10 +23,10 @@ ready_as b w r is ready = subst (λ (b : StoredBook). IsReadyForUpload b r) (sym
 creation : (b w : StoredBook) (r : ReadyUpload) → IsBook b → b ≡ w → IsReadyForUpload w r → IsCreation b r.tenant r.new r.first
 creation b w r kept is asked =
     let ready = ready_as b w r is asked in
-    record { kept = kept; within = omega (arith, ready.there, shelves-settings b kept); texts = record { metadata = ready.metadata; concat = ready.concat }; none = ready.accepted }
+    record { kept = kept; within = omega (arith, ready.there, stored_tenants-settings b kept); texts = record { metadata = ready.metadata; concat = ready.concat }; none = ready.accepted }
 
 -- the store has the upload
-stored : (b w : StoredBook) (r : ReadyUpload) (s : Store) (place : ℕ) (bytes : List ℕ) → b ≡ w → IsReadyForUpload w r → place ≡ r.tenant → bytes ≡ r.first.bytes
+stored : (b w : StoredBook) (r : ReadyUpload) (s : BlockStore) (place : ℕ) (bytes : List ℕ) → b ≡ w → IsReadyForUpload w r → place ≡ r.tenant → bytes ≡ r.first.bytes
     → plain_in s ≡ set (plain_in b.store) place (with_new (part_at b.store place) (upload_from r.new bytes r.expires))
     → plain_in s ≡ set (plain_in b.store) r.tenant (with_new (part_at b.store r.tenant) (created_upload b.settings.numbers r.new r.first.bytes r.now))
 stored b w r s place bytes is asked at bytes_is plain =
@@ -95,7 +95,7 @@ overflow_add-self c =
     let is = creation b c.args.self.now r c.self.invariant c.self.view_is c.requires in
     let bytes : c.first.inside.bytes.now ≡ r.first.bytes = ap (λ (first : FirstChunk). first.bytes) c.first.view_is in
     let taken = create-taken b r.tenant r.new r.first r.now is c.create.result (rw bytes at c.create.ensures.taken) in
-    fits_taken _ _ _ _ (subst (λ (n : Numbers). n.last_total < 18446744073709551616) c.numbers.ensures.value c.numbers.ensures.last_total) taken (create-charged b r.tenant r.new r.first r.now is)
+    fits_taken _ _ _ _ (subst (λ (n : Numbers). n.last_total < 18446744073709551616) c.numbers-in_range.ensures.value c.numbers-in_range.ensures.last_total) taken (create-charged b r.tenant r.new r.first r.now is)
 
 pub invariant_of-self : goal.invariant_of-self
 invariant_of-self c =

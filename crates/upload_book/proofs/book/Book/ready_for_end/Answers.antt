@@ -4,8 +4,8 @@ use Rattle.upload_book.specs.Book.{plain_of}
 use Rattle.upload_book.specs.contracts.book.Book.{the_view}
 use Rattle.upload_book.specs.PlainBook.{tenant_book}
 use Rattle.upload_book.specs.TenantBook.{visible_upload}
-use Rattle.upload_book.proofs.BookSteps.{part-plain}
-use Rattle.upload_book.proofs.Outcomes.{terminate_answer-refused}
+use Rattle.upload_book.proofs.Steps.BookSteps.{part-plain}
+use Rattle.upload_book.proofs.Lawful.Outcomes.{terminate_answer-refused}
 use Rattle.upload_book.proofs.book.Book.ready_for_end.Goals as goal
 
 pub returns-in_err-place-clause-refused : goal.returns-in_err-place-clause-refused

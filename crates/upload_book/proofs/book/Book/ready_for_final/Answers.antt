@@ -9,11 +9,10 @@ use Rattle.upload_book.specs.PlainBook.{tenant_book}
 use Rattle.upload_book.specs.Concat.{joined_len}
 use Rattle.upload_book.specs.declared.ready.ReadyFinal.{ReadyFinal}
 use Rattle.upload_book.specs.Ready.{IsReadyForFinal}
-use Rattle.upload_book.specs.Store.{pieces_named, rows_at}
+use Rattle.upload_book.specs.BlockStore.{pieces_named, rows_at}
 use Rattle.upload_book.specs.Stored.{segment_of}
-use Rattle.upload_book.proofs.ConcatSteps.{SeesParts-read, refusal-told, len-told}
-use Rattle.upload_book.proofs.Outcomes.{concat_answer-none, concat_answer-refused}
-use Rattle.upload_book.proofs.BookSteps.{shelves-settings}
+use Rattle.upload_book.proofs.Steps.ConcatSteps.{SeesParts-read, refusal-told, len-told}
+use Rattle.upload_book.proofs.Lawful.Outcomes.{concat_answer-none, concat_answer-refused}
 use Rattle.upload_book.proofs.book.Book.ready_for_final.Goals as goal
 
 pub returns-in-Some-clause-refused : goal.returns-in-Some-clause-refused
@@ -66,15 +65,3 @@ returns-in-Ok-with_capacity-clause-ready c =
         room = omega (arith, c.len.ensures, c.in-Ok-with_capacity.ensures.capacity, c.in-Ok.unheld.ok.0);
       };
     })
-
-pub parts_seen-seen-requires : goal.parts_seen-seen-requires
-parts_seen-seen-requires c =
-    rw c.from-place.ensures (omega (arith, c.requires.tenant_there, shelves-settings (the_view c.self.inside) c.self.invariant, ap (λ (b : StoredBook). length b.settings.tenants) c.self.view_is))
-
-pub concat_refusal-requires : goal.concat_refusal-requires
-concat_refusal-requires c =
-    rw c.from-place.ensures (omega (arith, c.requires.tenant_there, shelves-settings (the_view c.self.inside) c.self.invariant, ap (λ (b : StoredBook). length b.settings.tenants) c.self.view_is))
-
-pub list_parts-requires : goal.list_parts-requires
-list_parts-requires c =
-    rw c.from-place.ensures (omega (arith, c.requires.tenant_there, shelves-settings (the_view c.self.inside) c.self.invariant, ap (λ (b : StoredBook). length b.settings.tenants) c.self.view_is))

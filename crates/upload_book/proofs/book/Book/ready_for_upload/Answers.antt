@@ -11,15 +11,12 @@ use Rattle.upload_book.specs.NewUpload.{NewUpload}
 use Rattle.upload_book.specs.PlainBook.{tenant_book}
 use Rattle.upload_book.specs.Ready.{IsReadyForUpload}
 use Rattle.block_bodies.specs.Bodies.{HasRoom}
-use Rattle.upload_book.specs.Store.{part_at}
-use Rattle.upload_book.proofs.BookSteps.{part-plain, shelves-settings}
-use Rattle.upload_book.proofs.CreateSteps.{IsCreation, create-blocks, create-lacks, create-taken}
-use Rattle.upload_book.proofs.LawfulCreate.{HasLawfulTexts}
-use Rattle.upload_book.proofs.Outcomes.{create_answer-refused}
-use Rattle.upload_book.proofs.PatchSteps.{account_at}
-use Rattle.upload_book.proofs.BookSteps.{part-within}
-use Rattle.upload_book.proofs.LawfulSteps.{charge-within}
-use Rattle.upload_book.proofs.SettingsLemmas.{block_size-some}
+use Rattle.upload_book.specs.BlockStore.{part_at}
+use Rattle.upload_book.proofs.Steps.BookSteps.{part-plain, stored_tenants-settings}
+use Rattle.upload_book.proofs.Steps.CreateSteps.{IsCreation, create-blocks, create-lacks, create-taken}
+use Rattle.upload_book.proofs.Lawful.LawfulCreate.{HasLawfulTexts}
+use Rattle.upload_book.proofs.Lawful.Outcomes.{create_answer-refused}
+use Rattle.upload_book.proofs.Steps.PatchSteps.{account_at}
 use Rattle.upload_book.proofs.book.Book.ready_for_upload.Goals as goal
 
 -- what was read where a creation is tested
@@ -34,9 +31,9 @@ record IsRead (b w : StoredBook) (t place : ℕ) (numbers : Numbers) (account : 
   found_is : found ≡ creation_refusal numbers account (part_at b.store place) new first
 
 module _ {b w : StoredBook} {t place : ℕ} {numbers : Numbers} {account : Account} {new : NewUpload} {first : FirstChunk} {found : Option Refusal} (r : IsRead b w t place numbers account new first found) where
-  -- the tenant has a shelf
-  there : t < length b.store.shelves
-  there = omega (arith, r.tenant, shelves-settings b r.kept, ap (λ (b : StoredBook). length b.settings.tenants) r.is)
+  -- the tenant has a stored part
+  there : t < length b.store.stored_tenants
+  there = omega (arith, r.tenant, stored_tenants-settings b r.kept, ap (λ (b : StoredBook). length b.settings.tenants) r.is)
 
   -- why the creation is refused, if it is
   told : (why : Option Refusal) → found ≡ why → creation_refusal b.settings.numbers (account_at b t) (tenant_book (plain_of b) t) new first ≡ why
@@ -99,23 +96,3 @@ returns-in-Err-clause-refused c =
     let is = creation r c.in_default.is in
     let some = subst (λ n. 0 < n) (create-taken b c.args.tenant c.args.new c.args.first c.args.now is _ refl) (rw bytes at c.in-Err.ensures.memory) in
     inr (rw (← c.self.view_is) (create-lacks b c.args.tenant c.args.new c.args.first c.args.now is some, refl))
-
-pub account-account-requires : goal.account-account-requires
-account-account-requires c = c.requires.tenant_there
-
-pub creation_refusal-requires-clause-tenant : goal.creation_refusal-requires-clause-tenant
-creation_refusal-requires-clause-tenant c =
-    rw c.from-place.ensures (omega (arith, c.requires.tenant_there, shelves-settings (the_view c.self.inside) c.self.invariant, ap (λ (b : StoredBook). length b.settings.tenants) c.self.view_is))
-
-pub creation_refusal-requires-clause-blocks : goal.creation_refusal-requires-clause-blocks
-creation_refusal-requires-clause-blocks c = rw c.numbers-numbers.ensures.value (block_size-some c.self.inside.settings c.self.invariant.lawful.settings)
-
-pub creation_refusal-requires-clause-quota : goal.creation_refusal-requires-clause-quota
-creation_refusal-requires-clause-quota c =
-    let b = the_view c.self.inside in
-    let within : c.args.tenant < length b.store.shelves = omega (arith, c.requires.tenant_there, shelves-settings b c.self.invariant, ap (λ (b : StoredBook). length b.settings.tenants) c.self.view_is) in
-    rw (c.account-account.ensures, ← c.self.view_is) (charge-within (plain_of b) c.args.tenant c.self.invariant.lawful (part-within b c.args.tenant within))
-
-pub creation_refusal-requires-clause-charged : goal.creation_refusal-requires-clause-charged
-creation_refusal-requires-clause-charged c =
-    rw (c.account-account.ensures, c.numbers-numbers.ensures.value, ← c.self.view_is) c.self.invariant.lawful.last

@@ -2,18 +2,19 @@ use Rattle.std.proofs.Common.{◌≡◌, ◌<◌, ◌≤◌, ℕ, length, ap, sy
 use Rattle.upload_book.specs.Book.{StoredBook, plain_of}
 use Rattle.upload_book.specs.contracts.book.Book.{the_view}
 use Rattle.upload_book.specs.Expiries.{ends_of}
-use Rattle.upload_book.specs.Store.{upload_at, IsPlaceOf}
-use Rattle.upload_book.proofs.BookSteps.{IsBook-removes, Removes, expiries-room_is, placed-removes, placed-renewed, plain-removes, removes-freed, removes-within}
-use Rattle.upload_book.proofs.ExpirySteps.{AreExpiries-renewed, renewed-few, renewed-known}
+use Rattle.upload_book.specs.BlockStore.{upload_at}
+use Rattle.upload_book.specs.inside.Places.{IsPlaceOf}
+use Rattle.upload_book.proofs.Steps.BookSteps.{IsBook-removes, Removes, expiries-room_is, placed-removes, placed-renewed, plain-removes, removes-freed, removes-within}
+use Rattle.upload_book.proofs.Expiries.ExpirySteps.{AreExpiries-renewed, renewed-few, renewed-known}
 use Rattle.upload_book.proofs.book.Book.remove.Goals as goal
 
--- the upload stands at the place, whose tenant has a shelf
+-- the upload stands at the place, whose tenant has a stored part
 pub record Stands (b : StoredBook) (tenant id place : ℕ) : Type 0 where
-  pub within : tenant < length b.store.shelves
+  pub within : tenant < length b.store.stored_tenants
   pub placed : IsPlaceOf b.store tenant id place
 
 -- in the book that was read it stands there too
-stands : (b w : StoredBook) (tenant id place : ℕ) → b ≡ w → tenant < length w.store.shelves → IsPlaceOf w.store tenant id place → Stands b tenant id place
+stands : (b w : StoredBook) (tenant id place : ℕ) → b ≡ w → tenant < length w.store.stored_tenants → IsPlaceOf w.store tenant id place → Stands b tenant id place
 stands b w tenant id place is within placed = subst (λ (b : StoredBook). Stands b tenant id place) (sym is) (record { within = within; placed = placed })
 
 pub set_end-requires-clause-known : goal.set_end-requires-clause-known

@@ -1,6 +1,6 @@
 use Rattle.upload_book.specs.Book.{plain_of}
 use Rattle.upload_book.specs.Sweep.{sweep_answer}
-use Rattle.upload_book.proofs.SweepSteps.{IsSweptTo}
+use Rattle.upload_book.proofs.Expiries.SweepSteps.{IsSweptTo}
 use Rattle.upload_book.proofs.book.Book.sweep.Given as goal
 
 -- so many uploads have ended, and the sweep of what is left ends the others

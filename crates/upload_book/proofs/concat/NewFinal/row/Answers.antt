@@ -1,6 +1,6 @@
 use Rattle.std.proofs.Common.{length, ap, arith}
 use Rattle.upload_book.specs.NewFinal.{NewFinal}
-use Rattle.upload_book.proofs.TextLemmas.{final_concat-fits, kept_metadata-fits}
+use Rattle.upload_book.proofs.Lawful.TextLemmas.{final_concat-fits, kept_metadata-fits}
 use Rattle.upload_book.proofs.concat.NewFinal.row.Goals as goal
 
 pub of-requires : goal.of-requires

@@ -1,6 +1,6 @@
 use Rattle.std.proofs.Common.{length, ap, arith}
 use Rattle.upload_book.specs.NewUpload.{NewUpload}
-use Rattle.upload_book.proofs.TextLemmas.{kept_metadata-fits, new_concat-fits}
+use Rattle.upload_book.proofs.Lawful.TextLemmas.{kept_metadata-fits, new_concat-fits}
 use Rattle.upload_book.proofs.create.NewUpload.row.Goals as goal
 
 pub of-requires : goal.of-requires

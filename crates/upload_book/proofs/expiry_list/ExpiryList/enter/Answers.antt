@@ -1,4 +1,4 @@
-use Rattle.upload_book.proofs.EndsLemmas.{AreExpiring-more}
+use Rattle.upload_book.proofs.Expiries.EndsLemmas.{AreExpiring-more}
 use Rattle.std.proofs.lemmas.Option.{none-some}
 use Rattle.upload_book.proofs.expiry_list.ExpiryList.enter.Goals as goal
 

@@ -3,7 +3,7 @@ use Rattle.std.specs.List.{Contains, insert}
 use Rattle.std.proofs.lemmas.List.Sorted.{IsPermutation-insert}
 use Rattle.upload_book.specs.declared.expiry_list.Expiring.{Expiring}
 use Rattle.upload_book.specs.ExpiryList.{ExpiryList, IsAscending}
-use Rattle.upload_book.proofs.ExpiryLemmas.{IsPlace, ascending-insert}
+use Rattle.upload_book.proofs.Expiries.ExpiryLemmas.{IsPlace, ascending-insert}
 use Rattle.upload_book.proofs.expiry_list.ExpiryList.insert.Goals as goal
 use Rattle.upload_book.proofs.expiry_list.ExpiryList.insert.Goals.{Else-prove}
 

@@ -1,7 +1,7 @@
 use Rattle.std.proofs.Common.{Option, ℕ, subst, ◌∙◌, arith}
 use Rattle.std.proofs.lemmas.List.Sorted.{length_permutation}
 use Rattle.upload_book.specs.ExpiryList.{KnowsEnd}
-use Rattle.upload_book.proofs.EndsLemmas.{AreExpiring-less, KnowsEnd-left}
+use Rattle.upload_book.proofs.Expiries.EndsLemmas.{AreExpiring-less, KnowsEnd-left}
 use Rattle.upload_book.proofs.expiry_list.ExpiryList.leave.Goals as goal
 
 pub remove-requires : goal.remove-requires

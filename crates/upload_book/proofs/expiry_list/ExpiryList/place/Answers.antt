@@ -1,7 +1,7 @@
 use Rattle.std.proofs.Common.{rules}
 use Rattle.std.proofs.lemmas.List.Sorted.{IsPartitionPoint-from_clause}
 use Rattle.upload_book.specs.ExpiryList.{comes_before}
-use Rattle.upload_book.proofs.ExpiryLemmas.{before-parts}
+use Rattle.upload_book.proofs.Expiries.ExpiryLemmas.{before-parts}
 use Rattle.upload_book.proofs.expiry_list.ExpiryList.place.Goals as goal
 
 pub returns-clause-point : goal.returns-clause-point

@@ -3,7 +3,7 @@ use Rattle.std.specs.List.{Contains}
 use Rattle.std.proofs.lemmas.List.Quantifiers.{all_pairs_remove}
 use Rattle.std.proofs.lemmas.List.Sorted.{IsPermutation-remove}
 use Rattle.upload_book.specs.ExpiryList.{ExpiryList, IsAscending, comes_before}
-use Rattle.upload_book.proofs.ExpiryLemmas.{IsPlace, at-place}
+use Rattle.upload_book.proofs.Expiries.ExpiryLemmas.{IsPlace, at-place}
 use Rattle.upload_book.proofs.expiry_list.ExpiryList.remove.Goals as goal
 use Rattle.upload_book.proofs.expiry_list.ExpiryList.remove.Goals.{After-remove}
 

@@ -1,6 +1,6 @@
 use Rattle.std.proofs.Common.{None, sym}
 use Rattle.upload_book.specs.ExpiryList.{with_end}
-use Rattle.upload_book.proofs.EndsLemmas.{AreExpiring-same, with_end-same, with_end-twice}
+use Rattle.upload_book.proofs.Expiries.EndsLemmas.{AreExpiring-same, with_end-same, with_end-twice}
 use Rattle.upload_book.proofs.expiry_list.ExpiryList.set_end.Goals as goal
 
 pub returns-then-ne-clause-ends : goal.returns-then-ne-clause-ends

@@ -1,5 +1,5 @@
 use Rattle.std.proofs.Common.{sym, ◌∙◌, arith}
-use Rattle.upload_book.proofs.TenantLists.{names_fit}
+use Rattle.upload_book.proofs.Lawful.TenantLists.{names_fit}
 use Rattle.upload_book.proofs.settings.Settings.new.Goals as goal
 
 pub of-requires : goal.of-requires

@@ -1,4 +1,4 @@
-use Rattle.upload_book.proofs.SettingsLemmas.{max_size-within}
+use Rattle.upload_book.proofs.Lawful.SettingsLemmas.{max_size-within}
 use Rattle.upload_book.proofs.settings.Settings.numbers.Goals as goal
 
 pub returns-clause-max_size : goal.returns-clause-max_size

@@ -1,5 +1,5 @@
 use Rattle.std.proofs.Common.{refl}
-use Rattle.upload_book.proofs.OwnLemmas.{offset-whole}
+use Rattle.upload_book.proofs.Store.OwnLemmas.{offset-whole}
 use Rattle.upload_book.proofs.stored_upload.StoredUpload.head_row.Goals as goal
 
 pub returns : goal.returns

@@ -1,6 +1,6 @@
 use Rattle.std.proofs.Common.{length, ap, arith}
 use Rattle.upload_book.specs.NewFinal.{NewFinal}
-use Rattle.upload_book.proofs.TextLemmas.{kept_metadata-fits, final_concat-fits}
+use Rattle.upload_book.proofs.Lawful.TextLemmas.{kept_metadata-fits, final_concat-fits}
 use Rattle.upload_book.proofs.stored_upload.StoredUpload.joined.Goals as goal
 
 pub set-requires-clause-metadata : goal.set-requires-clause-metadata

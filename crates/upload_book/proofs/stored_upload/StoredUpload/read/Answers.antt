@@ -1,6 +1,6 @@
 use Rattle.std.proofs.Common.{ℕ, List, ◌++◌, sym, ap, ◌∙◌}
-use Rattle.upload_book.specs.Stored.{bytes_of}
-use Rattle.upload_book.proofs.OwnLemmas.{content-kept}
+use Rattle.upload_book.specs.inside.Pieces.{bytes_of}
+use Rattle.upload_book.proofs.Store.OwnLemmas.{content-kept}
 use Rattle.upload_book.proofs.stored_upload.StoredUpload.read.Goals as goal
 
 pub returns-clause-bytes : goal.returns-clause-bytes

@@ -1,11 +1,11 @@
 use Rattle.std.proofs.Common.{◌≡◌, List, [], ◌∷◌, sym, ap, ◌∙◌, subst}
 use Rattle.std.specs.List.{Contains}
 use Rattle.upload_book.specs.declared.piece.Piece.{Piece}
-use Rattle.upload_book.specs.Held.{pieces_in}
+use Rattle.upload_book.specs.inside.HeldBytes.{pieces_in}
 use Rattle.upload_book.specs.Stored.{StoredUpload}
 use Rattle.upload_book.specs.TenantBook.{Entry}
-use Rattle.upload_book.proofs.InUse.{Contains-first}
-use Rattle.upload_book.proofs.PutLemmas.{own_piece}
+use Rattle.upload_book.proofs.Charge.InUse.{Contains-first}
+use Rattle.upload_book.proofs.Store.PutLemmas.{own_piece}
 use Rattle.upload_book.proofs.stored_upload.StoredUpload.read_onto.Goals as goal
 
 pub read_onto-requires-clause-body : goal.read_onto-requires-clause-body

@@ -1,0 +1,28 @@
+-- Laws of the lines that tell what a book's steps change.
+use Rattle.std.specs.Prelude.{◌≡◌, ℕ, ◌<◌, ◌≤◌, true, List, ◌++◌, Some, None}
+use Rattle.upload_book.specs.declared.board_line.BoardLine.{BoardLine}
+use Rattle.upload_book.specs.declared.head_row.HeadRow.{HeadRow}
+use Rattle.upload_book.specs.declared.head_row.Name.{Name}
+use Rattle.upload_book.specs.Heads.{Heads, HeadPart, head_part_at, heads_after}
+use Rattle.upload_book.specs.HeadSteps.{IsLegal, MayBecome, MayFollow}
+use Rattle.upload_book.specs.Settings.{Settings}
+use Rattle.upload_book.specs.TenantBook.{kept_in}
+use Rattle.head_board.specs.Room.{has_room}
+
+-- there is room for each line that may follow
+abbrev pub LinesHaveRoom : Type 0
+LinesHaveRoom = (h : Heads) (line : BoardLine) → MayFollow h line → has_room h line.change ≡ true
+
+-- What a later part of a tenant tells of an id: the ids that were given stay given; an upload which stands in both
+-- does not become shorter, and its kind, its texts and its length, once that is known, stay; and none stands again
+-- under an id that was given and under which none stands.
+pub record IsLater (id : ℕ) (before after : HeadPart) : Type 0 where
+  pub next : before.next ≤ after.next
+  pub grows : (old new : HeadRow) → kept_in before.uploads id ≡ Some old → kept_in after.uploads id ≡ Some new → MayBecome old new
+  pub gone : id < before.next → kept_in before.uploads id ≡ None → kept_in after.uploads id ≡ None
+
+-- what more lines tell of each name
+abbrev pub LaterLines : Type 0
+LaterLines =
+    (s : Settings) (lines more : List BoardLine) (name : Name) → IsLegal s (lines ++ more)
+    → IsLater name.id (head_part_at (heads_after s lines) name.tenant) (head_part_at (heads_after s (lines ++ more)) name.tenant)

@@ -1,0 +1,46 @@
+-- How a table keeps the rows of a tenant.
+use Rattle.std.specs.Prelude.{◌≡◌, ◌+◌, ◌<◌, ◌≤◌, ℕ, false, List, map, vec_len, vec_capacity, All, Option, Some, None, IfSome, if◌then◌else◌}
+use Rattle.std.specs.List.Sorted.{IsStrictlyIncreasing}
+use Rattle.head_board.specs.declared.head_rows.HeadRows.TheInside.{Inside}
+use Rattle.upload_book.specs.declared.head_row.HeadRow.{HeadRow}
+use Rattle.upload_book.specs.Expiry.{has_expired}
+use Rattle.upload_book.specs.Heads.{HeadPart}
+use Rattle.upload_book.specs.TenantBook.{Entry}
+
+-- the tenant's part, and for how many rows there is room
+pub record Rows : Type 0 where
+  pub part : HeadPart
+  pub room : ℕ
+
+-- the rows that are kept so: each box has a row or is spare
+abbrev pub rows_of : Inside → Rows
+rows_of r = record {
+  part = record { quota = r.quota; next = r.next; uploads = r.rows.items };
+  room = vec_len r.rows + vec_len r.spare;
+}
+
+-- the ids of rows
+abbrev pub row_ids : List (Entry HeadRow) → List ℕ
+row_ids rows = map {A = Entry HeadRow} {B = ℕ} (λ e. e.id) rows
+
+-- rows stand under ids that ascend, below the next one
+pub record AreBelow (next : ℕ) (rows : List (Entry HeadRow)) : Type 0 where
+  pub ascending : IsStrictlyIncreasing (row_ids rows)
+  pub below : All (λ (e : Entry HeadRow). e.id < next) rows
+
+-- a moment at which no row has expired, where that stays so with one more row, which has this end
+abbrev pub fresh_with : Option ℕ → Option ℕ → Option ℕ
+fresh_with None end = None
+fresh_with (Some now) end = if has_expired now end then None else Some now
+
+-- at the moment, if there is one, none of the rows has expired
+abbrev pub AreFresh : Option ℕ → List (Entry HeadRow) → Type 0
+AreFresh fresh rows = IfSome fresh (λ now. All (λ (e : Entry HeadRow). has_expired now e.kept.expires ≡ false) rows)
+
+-- Each of the two lists has room for all boxes, so that none is ever lost; the ids are as they should be; and none has
+-- expired where that is known.
+pub record AreRows (r : Inside) : Type 0 where
+  pub rows : vec_len r.rows + vec_len r.spare ≤ vec_capacity r.rows
+  pub spare : vec_len r.rows + vec_len r.spare ≤ vec_capacity r.spare
+  pub ids : AreBelow r.next r.rows.items
+  pub fresh : AreFresh r.fresh r.rows.items

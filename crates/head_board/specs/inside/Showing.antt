@@ -1,0 +1,57 @@
+-- What readers read, and the rule that it keeps.
+use Rattle.std.specs.Prelude.{◌≡◌, ℕ, true, false, List}
+use mathlib.Core.Option.{some}
+use lib.ListN.{get_elem?}
+use Rattle.logbook.specs.Pages.{Book}
+use Rattle.upload_book.specs.Heads.{heads_after}
+use Rattle.upload_book.specs.HeadSteps.{IsLegal}
+use Rattle.head_board.specs.NoBoard.{no_settings}
+use Rattle.head_board.specs.declared.board_copy.LogName.{LogName}
+use Rattle.head_board.specs.declared.board_copy.Note.{Note}
+use Rattle.head_board.specs.declared.board_copy.Note.TheVariants.{Nothing, Adds}
+use Rattle.head_board.specs.declared.board_copy.BoardCopy.{BoardCopy}
+use Rattle.head_board.specs.declared.board_copy.View.{View}
+use Rattle.head_board.specs.Room.{heads_with}
+
+-- the copy after a note
+abbrev pub noted : BoardCopy → Note → BoardCopy
+noted s Nothing = s
+noted s (Adds a) = record { table = heads_with s.table a.line; seen = a.after }
+
+-- the lines that were applied are legal, and the copy has the heads after them
+pub record IsCurrent (s : BoardCopy) : Type 0 where
+  pub legal : IsLegal s.table.settings s.seen.lines
+  pub heads : s.table ≡ heads_after s.table.settings s.seen.lines
+
+-- the log of this name
+abbrev pub log_of : LogName → Book
+log_of n = record { number = n.number; log_name = n.log_name; cells_name = n.cells_name }
+
+-- what is known of no board
+abbrev pub no_view : View
+no_view = record {
+  knows = false;
+  settings = no_settings;
+  log = record { number = 0; log_name = 0; cells_name = 0 };
+}
+
+-- what is known of the board of this copy
+abbrev pub view_of : BoardCopy → View
+view_of s = record {
+  knows = true;
+  settings = s.table.settings;
+  log = record {
+    number = s.seen.book.number;
+    log_name = s.seen.book.log_name;
+    cells_name = s.seen.book.cells_name;
+  };
+}
+
+-- what is known, if it is, is right
+abbrev pub Fits : View → BoardCopy → Type 0
+Fits v s = v.knows ≡ true → (v.settings ≡ s.table.settings) × (log_of v.log ≡ s.seen.book)
+
+-- the rule of the board: the copy is current, and what each place knows is right; no clause compares two places
+pub record IsConsistent (s : BoardCopy) (views : List View) : Type 0 where
+  pub current : IsCurrent s
+  pub each : (seat : ℕ) (v : View) → get_elem? views seat ≡ some v → Fits v s

@@ -1,0 +1,140 @@
+ghost use Rattle.std.specs.Prelude.{◌≡◌, true, IfSome, IfNone};
+ghost use mathlib.Core.List.{IsPrefix};
+ghost use Rattle.head_board.specs.Board.{ReadsHead};
+ghost use Rattle.head_board.specs.inside.Showing.{log_of};
+ghost use Rattle.left_right.specs.Sides.{view as known_at};
+ghost use Rattle.upload_book.specs.Heads.{heads_after, shown};
+ghost use Rattle.upload_book.specs.HeadSteps.{IsLegal};
+
+use crate::board_copy::BoardCopy;
+use crate::line_log::SeenLines;
+use crate::showing::{BoardReader, Enters};
+use core::mem::replace_with;
+use std::marker::Model;
+use upload_book::{HeadRow, Moment, Name, Refusal};
+
+/// A reader of the heads that a board shows, which needs no lock. A contract sees the settings of the book, which log
+/// the lines of the board are in, and the lines that the reader has seen: all that it reads is at least as new.
+#[derive(Drop)]
+pub struct HeadReader {
+    reader: BoardReader,
+    seen: SeenLines,
+}
+
+impl Model for HeadReader {
+    ghost use Rattle.std.specs.Prelude.{◌≡◌, true};
+    ghost use Rattle.head_board.specs.Board.{BoardView};
+    ghost use Rattle.head_board.specs.inside.Showing.{log_of};
+    ghost use Rattle.left_right.specs.Sides.{view as known_at};
+
+    ghost Value = { BoardView };
+
+    ghost view = { λ r. record {
+      settings = (known_at r.reader.place).settings;
+      log = r.seen.book;
+      lines = r.seen.lines;
+    } };
+
+    ghost invariant = { λ r. ((known_at r.reader.place).knows ≡ true) × (log_of (known_at r.reader.place).log ≡ r.seen.book) };
+}
+
+// What is asked: after which lines, of which upload, and when.
+#[derive(Drop)]
+struct HeadQuery {
+    seen: SeenLines,
+    name: Name,
+    moment: Moment,
+}
+
+// What is found: the answer, and the lines on which that rests.
+#[derive(Drop)]
+struct Found {
+    row: Result<HeadRow, Refusal>,
+    seen: SeenLines,
+}
+
+impl HeadReader {
+    /// A reader at a place that knows its board, which has seen these lines.
+    pub(crate) fn new(reader: BoardReader, seen: SeenLines) -> HeadReader
+        requires knows { (known_at reader.place).knows ≡ true }
+        requires log { log_of (known_at reader.place).log ≡ seen.book }
+        ensures { result ≡ record { settings = (known_at reader.place).settings; log = seen.book; lines = seen.lines } }
+    {
+        HeadReader { reader, seen }
+    }
+
+    /// The lines that it has seen.
+    pub(crate) fn seen(&self) -> &SeenLines
+        ensures { result.now ≡ record { book = self.now.log; lines = self.now.lines } }
+    {
+        &self.seen
+    }
+
+    /// From now on it has seen these lines.
+    pub(crate) fn learn(&mut self, seen: SeenLines)
+        requires { seen.book ≡ self.old.log }
+        ensures { self.new ≡ record self.old { lines = seen.lines } }
+    {
+        self.seen = seen;
+    }
+
+    /// What the board tells of an upload at this moment: Unknown where the name's tenant is not there or never had the
+    /// id, Gone where the upload has ended or expired, and else its row. The answer is at least as new as what the
+    /// reader has seen, and the reader has seen the lines of the answer then. It takes no lock and no memory, and waits
+    /// for nobody.
+    ///
+    /// `None`, with the reader as it was, says that the board was not entered: it has been let go, or it shows fewer
+    /// lines than the reader has seen, which happens in no run.
+    pub fn look(&mut self, name: &Name, now: Moment) -> Option<Result<HeadRow, Refusal>>
+        ensures reads { IfSome result (ReadsHead self.old.settings self.old.lines self.new.lines name.now now) }
+        ensures board { self.new ≡ record self.old { lines = self.new.lines } }
+        ensures stays { IfNone result (self.new ≡ self.old) }
+    {
+        let query = HeadQuery {
+            seen: self.seen.again(),
+            name: *name,
+            moment: now,
+        };
+        let found = replace_with(&mut self.reader, query, read_head)?;
+        self.seen = found.seen;
+        Some(found.row)
+    }
+}
+
+// Enters the board, and reads what it shows, unless that has fewer lines than were seen. The place is the same after
+// it.
+fn read_head(reader: BoardReader, query: HeadQuery) -> (BoardReader, Option<Found>)
+    requires knows { (known_at reader.place).knows ≡ true }
+    requires log { log_of (known_at reader.place).log ≡ query.seen.book }
+    ensures place { known_at result.0.place ≡ known_at reader.place }
+    ensures found { IfSome result.1 (λ found.
+        (found.seen.book ≡ query.seen.book)
+        × IsPrefix query.seen.lines found.seen.lines
+        × IsLegal (known_at reader.place).settings found.seen.lines
+        × (found.row ≡ shown (heads_after (known_at reader.place).settings found.seen.lines) query.name query.moment)) }
+{
+    match reader.enter_as::<Enters>() {
+        Ok(reading) => {
+            let found = found_on(reading.get(), &query);
+            (reading.leave(), found)
+        }
+        Err(reader) => (reader, None),
+    }
+}
+
+// What a copy tells, unless it has fewer lines than were seen.
+fn found_on(copy: &BoardCopy, query: &HeadQuery) -> Option<Found>
+    requires { copy.now.seen.book ≡ query.now.seen.book }
+    ensures { IfSome result (λ found.
+        (found.seen ≡ copy.now.seen)
+        × IsPrefix query.now.seen.lines copy.now.seen.lines
+        × (found.row ≡ shown copy.now.table query.now.name query.now.moment)) }
+{
+    if !query.seen.begins(&copy.seen) {
+        return None;
+    }
+    Some(Found {
+        row: copy.table.look(&query.name, query.moment),
+        seen: copy.seen.again(),
+    })
+}

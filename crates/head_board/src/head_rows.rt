@@ -1,0 +1,198 @@
+ghost use Rattle.std.specs.Prelude.{◌≡◌, ◌<◌, ◌≤◌, ◌==◌, ◌⊎◌, length, position, slice_index_or, true, IfOk, MatchBool, if◌then◌else◌};
+ghost use Rattle.std.specs.List.{remove};
+ghost use Rattle.std.specs.List.Sorted.{IsStrictlyIncreasing};
+ghost use Rattle.head_board.specs.Room.{takes_row};
+ghost use Rattle.head_board.specs.inside.Rows.{fresh_with, row_ids};
+ghost use Rattle.upload_book.specs.Heads.{with_row, without_expired};
+ghost use Rattle.upload_book.specs.Expiry.{has_expired};
+ghost use Rattle.upload_book.specs.TenantBook.{Entry, opening_part, visible_in, with_changed, with_new};
+ghost use Rattle.upload_book.specs.Terminate.{without};
+
+use crate::kept_row::{KeptRow, empty_rows};
+use std::alloc::{AllocError, Global};
+use std::marker::Model;
+use upload_book::{HeadRow, Moment, Refusal};
+
+/// The rows of a tenant's uploads by ascending id, the id that its next one gets, and boxes for as many more as it may
+/// have. Where a moment is known at which none of the rows has expired, it is kept: so most sweeps need not look at the
+/// rows. A contract sees the tenant's part of the heads, and for how many rows there is room.
+#[derive(Drop)]
+pub(crate) struct HeadRows {
+    quota: u64,
+    next: u64,
+    rows: Vec<KeptRow>,
+    spare: Vec<Box<HeadRow>>,
+    fresh: Option<Moment>,
+}
+
+impl Model for HeadRows {
+    ghost use Rattle.head_board.specs.inside.Rows.{Rows, rows_of, AreRows};
+
+    ghost Value = { Rows };
+
+    ghost view = { rows_of };
+
+    ghost invariant = { AreRows };
+}
+
+impl HeadRows {
+    /// The part of a tenant that has no upload yet, with room for so many. All its memory is taken here; the error is
+    /// that there was too little.
+    pub(crate) fn new(alloc: Global, quota: u64, room: usize) -> Result<HeadRows, AllocError>
+        ensures { IfOk result (λ r. r ≡ record { part = opening_part quota; room = room }) }
+    {
+        Ok(HeadRows {
+            quota,
+            next: 1,
+            rows: Vec::with_capacity(alloc, room)?,
+            spare: empty_rows(alloc, room)?,
+            fresh: None,
+        })
+    }
+
+    /// Puts a row under an id: that of an upload which stands, or the next one. Says whether it did. It does not where
+    /// the upload is a new one and there is no room for it, or no id up to `last_id`, and then nothing changes.
+    pub(crate) fn put(&mut self, last_id: u64, id: u64, row: &HeadRow) -> bool
+        requires { last_id < 18446744073709551615 }
+        ensures put { result ≡ takes_row self.old.room last_id self.old.part id }
+        ensures after { self.new ≡ (if result then record self.old { part = with_row self.old.part id row.now } else self.old) }
+    {
+        if id == self.next {
+            self.add(last_id, row)
+        } else {
+            self.change(id, row);
+            true
+        }
+    }
+
+    // Puts the row of a new upload.
+    fn add(&mut self, last_id: u64, row: &HeadRow) -> bool
+        requires { last_id < 18446744073709551615 }
+        ensures { MatchBool result
+            ((length self.old.part.uploads < self.old.room) × (self.old.part.next ≤ last_id)
+            × (self.new ≡ record self.old { part = with_new self.old.part row.now }))
+            (((self.old.room ≤ length self.old.part.uploads) ⊎ (last_id < self.old.part.next))
+            × (self.new ≡ self.old)) }
+    {
+        if self.next > last_id {
+            return false;
+        }
+        let Some(place) = self.spare.pop() else {
+            return false;
+        };
+        self.rows.push_reserved(KeptRow::new(self.next, place, row));
+        self.next += 1;
+        self.fresh = fresh_with(self.fresh, row.expires);
+        true
+    }
+
+    // Puts another row under the id of an upload, if it is there.
+    fn change(&mut self, id: u64, row: &HeadRow)
+        ensures { self.new ≡ record self.old { part = with_changed self.old.part id row.now } }
+    {
+        if let Some(place) = self.place(id) {
+            self.rows[place].set(row);
+            self.fresh = fresh_with(self.fresh, row.expires);
+        }
+    }
+
+    /// Takes out the row under an id, if one is there.
+    pub(crate) fn remove(&mut self, id: u64)
+        ensures { self.new ≡ record self.old { part = without self.old.part id } }
+    {
+        if let Some(place) = self.place(id) {
+            self.take_out(place);
+        }
+    }
+
+    /// Takes out the rows of all uploads that have expired at this moment. It looks at none of them where it is known
+    /// that none has.
+    pub(crate) fn sweep(&mut self, now: Moment)
+        ensures { self.new ≡ record self.old { part = without_expired now self.old.part } }
+    {
+        if self.is_fresh(now) {
+            return;
+        }
+        let mut place = 0;
+        while place < self.count() {
+            if self.has_expired(place, now) {
+                self.take_out(place);
+            } else {
+                place += 1;
+            }
+        }
+        self.fresh = Some(now);
+    }
+
+    /// What a HEAD of this id finds at this moment: Unknown where the id was never given, Gone where its upload has
+    /// ended or expired, and else its row.
+    pub(crate) fn look(&self, id: u64, now: Moment) -> Result<HeadRow, Refusal>
+        ensures { result ≡ visible_in (λ row. row.expires) self.now.part id now }
+    {
+        if id == 0 || self.next <= id {
+            return Err(Refusal::Unknown);
+        }
+        let Some(place) = self.place(id) else {
+            return Err(Refusal::Gone);
+        };
+        let row = &self.rows[place];
+        if row.has_expired(now) {
+            return Err(Refusal::Gone);
+        }
+        Ok(row.copied())
+    }
+
+    // Whether it is known that none of the rows has expired at this moment.
+    fn is_fresh(&self, now: Moment) -> bool
+        ensures { result ≡ true → without_expired now self.now.part ≡ self.now.part }
+    {
+        match self.fresh {
+            Some(fresh) => now <= fresh,
+            None => false,
+        }
+    }
+
+    // How many rows there are.
+    fn count(&self) -> usize
+        ensures { result ≡ length self.now.part.uploads }
+    {
+        self.rows.len()
+    }
+
+    // Whether the upload at a place has expired at this moment.
+    fn has_expired(&self, place: usize, now: Moment) -> bool
+        requires { place < length self.now.part.uploads }
+        ensures { (d : Entry HeadRow) → result ≡ has_expired now (slice_index_or self.now.part.uploads place d).kept.expires }
+    {
+        self.rows[place].has_expired(now)
+    }
+
+    // The place of the row under an id, if one is there.
+    fn place(&self, id: u64) -> Option<usize>
+        ensures place { result ≡ position (λ e. e.id == id) self.now.part.uploads }
+        ensures ascending { IsStrictlyIncreasing (row_ids self.now.part.uploads) }
+    {
+        self.rows.iter().position(|row| row.id() == id)
+    }
+
+    // Takes out the row at a place.
+    fn take_out(&mut self, place: usize)
+        requires { place < length self.old.part.uploads }
+        ensures { self.new ≡ record self.old {
+          part = record self.old.part { uploads = remove self.old.part.uploads place };
+        } }
+    {
+        let row = self.rows.remove(place);
+        self.spare.push_reserved(row.into_box());
+    }
+}
+
+// A moment at which no row has expired, where that stays so with one more row, which has this end.
+fn fresh_with(fresh: Option<Moment>, end: Option<Moment>) -> Option<Moment>
+    ensures { result ≡ fresh_with fresh end }
+{
+    match fresh {
+        Some(now) if !end.is_some_and(|end| end <= now) => fresh,
+        _ => None,
+    }
+}

@@ -1,0 +1,114 @@
+ghost use Rattle.std.specs.Prelude.{◌≡◌, IfOk, vec_len, vec_capacity, ◌≤◌};
+ghost use Rattle.upload_book.specs.Expiry.{has_expired};
+
+use std::alloc::{AllocError, Global};
+use std::marker::Model;
+use tus_text::Text;
+use upload_book::{HeadRow, Kind, Moment};
+
+/// The row of an upload under its id. It has room for texts of 3 KiB, so it lies in a box: rows move where one of
+/// them is taken out. A contract sees the id and the row.
+#[derive(Drop)]
+pub(crate) struct KeptRow {
+    pub(crate) id: u64,
+    pub(crate) row: Box<HeadRow>,
+}
+
+impl Model for KeptRow {
+    ghost use Rattle.upload_book.specs.TenantBook.{Entry};
+    ghost use Rattle.upload_book.specs.declared.head_row.HeadRow.{HeadRow};
+
+    ghost Value = { Entry HeadRow };
+
+    ghost view = { λ k. record { id = k.id; kept = k.row.value } };
+}
+
+impl KeptRow {
+    /// A row under an id, which is copied to where the box has its place.
+    pub(crate) fn new(id: u64, mut place: Box<HeadRow>, row: &HeadRow) -> KeptRow
+        ensures { result ≡ record { id = id; kept = row.now } }
+    {
+        set_row(&mut *place, row);
+        KeptRow { id, row: place }
+    }
+
+    /// Gets another row.
+    pub(crate) fn set(&mut self, row: &HeadRow)
+        ensures { self.new ≡ record self.old { kept = row.now } }
+    {
+        set_row(&mut *self.row, row);
+    }
+
+    /// The id of the upload.
+    pub(crate) fn id(&self) -> u64
+        ensures { result ≡ self.now.id }
+    {
+        self.id
+    }
+
+    /// The row once more.
+    pub(crate) fn copied(&self) -> HeadRow
+        ensures { result ≡ self.now.kept }
+    {
+        let row = &*self.row;
+        HeadRow {
+            kind: row.kind,
+            offset: row.offset,
+            declared: row.declared,
+            metadata: row.metadata.copied(),
+            concat: row.concat.copied(),
+            expires: row.expires,
+        }
+    }
+
+    /// Whether the upload has expired at this moment.
+    pub(crate) fn has_expired(&self, now: Moment) -> bool
+        ensures { result ≡ has_expired now self.now.kept.expires }
+    {
+        match self.row.expires {
+            Some(end) => end <= now,
+            None => false,
+        }
+    }
+
+    /// The box, for the row of another upload.
+    pub(crate) fn into_box(self) -> Box<HeadRow> {
+        self.row
+    }
+}
+
+/// So many boxes for rows. The error is that there was too little memory.
+pub(crate) fn empty_rows(alloc: Global, count: usize) -> Result<Vec<Box<HeadRow>>, AllocError>
+    ensures count { IfOk result (λ v. vec_len v ≡ count) }
+    ensures room { IfOk result (λ v. count ≤ vec_capacity v) }
+{
+    let mut rows = Vec::with_capacity(alloc, count)?;
+    for _ in 0..count {
+        rows.push_reserved(Box::new(alloc, empty_row())?);
+    }
+    Ok(rows)
+}
+
+// A row of nothing.
+fn empty_row() -> HeadRow {
+    HeadRow {
+        kind: Kind::Plain,
+        offset: 0,
+        declared: None,
+        metadata: Text::empty(),
+        concat: Text::empty(),
+        expires: None,
+    }
+}
+
+// Copies a row to another. Of the texts it copies the bytes that are used.
+fn set_row(to: &mut HeadRow, row: &HeadRow)
+    ensures { to.new ≡ row.now }
+{
+    to.kind = row.kind;
+    to.offset = row.offset;
+    to.declared = row.declared;
+    to.metadata.set(row.metadata.as_slice());
+    to.concat.set(row.concat.as_slice());
+    to.expires = row.expires;
+}

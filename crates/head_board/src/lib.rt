@@ -1,0 +1,18 @@
+//! The heads of a book, shown to readers that take no lock. A board gets each change of the book as one line, and no
+//! reader falls behind what it has seen.
+#![tactic(auto)]
+
+mod board;
+mod board_copy;
+mod head_reader;
+mod head_rows;
+mod head_table;
+mod kept_row;
+pub mod laws;
+mod line_log;
+mod showing;
+
+pub use board::Board;
+pub use head_reader::HeadReader;
+pub use head_table::HeadTable;
+pub use line_log::Opened;

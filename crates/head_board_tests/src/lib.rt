@@ -1,0 +1,10 @@
+//! The tests of a board by its public calls. They stand in a crate of their own so that the board is not proved once
+//! more with them; nothing else is in it.
+#![tactic(auto)]
+
+#[cfg(test)]
+mod boards;
+#[cfg(test)]
+mod settings;
+#[cfg(test)]
+mod tables;

@@ -1,0 +1,197 @@
+//! A table of heads that follows lines.
+
+ghost use Rattle.std.specs.Prelude.{◌≡◌};
+
+use crate::settings::{moment, settings};
+use head_board::HeadTable;
+use std::process::Abort;
+use std::test::Fail;
+use tus_text::Text;
+use upload_book::HeadChange::{Gone, Put, Swept};
+use upload_book::{
+    Accounts, BoardLine, HeadChange, HeadRow, Kind, Moment, Name, Numbers, Refusal, Settings,
+};
+
+/// A line of a change, after which so much was charged.
+pub fn line(change: HeadChange, charged: u64) -> BoardLine
+    ensures { result.change ≡ change }
+{
+    BoardLine {
+        change,
+        accounts: Accounts {
+            charged,
+            released: 0,
+            charge: [0; 16],
+        },
+    }
+}
+
+/// The name of an upload.
+pub fn name(tenant: u8, id: u64) -> Name
+    ensures { result ≡ record { tenant = tenant; id = id } }
+{
+    Name { tenant, id }
+}
+
+/// A row of so many bytes of ten, with this metadata and this end.
+pub fn row(offset: u64, metadata: &'static [u8; 6], expires: Option<Moment>) -> HeadRow {
+    HeadRow {
+        kind: Kind::Plain,
+        offset,
+        declared: Some(10),
+        metadata: Text::of(metadata),
+        concat: Text::empty(),
+        expires,
+    }
+}
+
+/// Asserts the offset and the metadata that a HEAD of an upload finds, or why it finds none.
+pub fn assert_shown(
+    rt: &impl Abort,
+    found: &Result<HeadRow, Refusal>,
+    expected: Result<(u64, &[u8]), Refusal>,
+) {
+    match (found, expected) {
+        (Ok(row), Ok((offset, metadata))) => assert_row(rt, row, offset, metadata),
+        (Err(found), Err(refusal)) => assert!(rt; *found == refusal),
+        _ => assert!(rt; false, "a row, or none"),
+    }
+}
+
+// A row of so many bytes of ten has this metadata.
+fn assert_row(rt: &impl Abort, row: &HeadRow, offset: u64, metadata: &[u8]) {
+    assert!(rt; row.offset == offset);
+    assert!(rt; row.declared == Some(10));
+    assert!(rt; row.metadata.as_slice() == metadata);
+}
+
+// The tenant and the id of an upload.
+type Place = (u8, u64);
+
+// A line for a table, with how many blocks were charged after it, or what the table shows then.
+enum Step {
+    // An upload has so many bytes, this metadata and this end.
+    Put(Place, u64, &'static [u8; 6], Option<u64>, u64),
+    Gone(Place, u64),
+    Swept(u64, u64),
+    // At a second an upload has so many bytes and this metadata, or is not shown.
+    Shows(Place, u64, Result<(u64, &'static [u8]), Refusal>),
+}
+
+static FOLLOWED: [Step; 16] = [
+    Step::Shows((0, 1), 1000, Err(Refusal::Unknown)),
+    Step::Put((0, 1), 0, b"key QQ", Some(5000), 0),
+    Step::Shows((0, 1), 1000, Ok((0, b"key QQ"))),
+    Step::Shows((0, 1), 5000, Err(Refusal::Gone)),
+    Step::Put((0, 1), 5, b"key Qg", Some(5000), 2),
+    Step::Shows((0, 1), 1000, Ok((5, b"key Qg"))),
+    Step::Put((0, 2), 7, b"key Qw", None, 4),
+    Step::Put((1, 1), 9, b"key RA", Some(5000), 7),
+    Step::Shows((0, 2), 1000, Ok((7, b"key Qw"))),
+    Step::Shows((1, 1), 1000, Ok((9, b"key RA"))),
+    Step::Gone((0, 1), 7),
+    Step::Shows((0, 1), 1000, Err(Refusal::Gone)),
+    Step::Shows((0, 2), 1000, Ok((7, b"key Qw"))),
+    Step::Swept(5000, 7),
+    Step::Shows((1, 1), 1000, Err(Refusal::Gone)),
+    Step::Shows((0, 2), 5000, Ok((7, b"key Qw"))),
+];
+
+// Asserts what a table shows of an upload at a second, or why nothing.
+fn assert_shows(
+    rt: &impl Abort,
+    table: &HeadTable,
+    name: Name,
+    secs: u64,
+    expected: Result<(u64, &[u8]), Refusal>,
+) {
+    assert_shown(rt, &table.look(&name, moment(rt, secs)), expected);
+}
+
+// Applies a line to a table, which then has what was charged after it.
+fn apply(rt: &impl Abort, table: &mut HeadTable, change: HeadChange, charged: u64) {
+    table.apply(&line(change, charged));
+    assert!(rt; table.accounts().charged == charged);
+}
+
+// Takes a table through one step.
+fn take(rt: &impl Abort, table: &mut HeadTable, step: &Step) {
+    match step {
+        Step::Put((tenant, id), offset, metadata, expires, charged) => {
+            let expires = expires.map(|end| moment(rt, end));
+            let change = Put(name(*tenant, *id), row(*offset, metadata, expires));
+            apply(rt, table, change, *charged);
+        }
+        Step::Gone((tenant, id), charged) => apply(rt, table, Gone(name(*tenant, *id)), *charged),
+        Step::Swept(secs, charged) => apply(rt, table, Swept(moment(rt, *secs)), *charged),
+        Step::Shows((tenant, id), secs, expected) => {
+            assert_shows(rt, table, name(*tenant, *id), *secs, *expected)
+        }
+    }
+}
+
+#[test]
+fn a_table_follows_its_lines(rt: HostRuntime) -> Result<(), Fail> {
+    let mut table = HeadTable::new(rt.alloc(), &settings()?)?;
+    for step in &FOLLOWED {
+        take(&rt, &mut table, step);
+    }
+    assert_shows(&rt, &table, name(0, 3), 1000, Err(Refusal::Unknown));
+    assert_shows(&rt, &table, name(2, 1), 1000, Err(Refusal::Unknown));
+    Ok(())
+}
+
+// Settings of one tenant with so many uploads at most, of which the last has this id.
+fn narrow(uploads: u64, last_id: u64) -> Result<Settings, Fail> {
+    let numbers = Numbers {
+        blocks: 12,
+        block_size: 4,
+        lifetime: 3600,
+        max_size: 64,
+        uploads,
+        last_id,
+        last_total: u64::MAX,
+    };
+    Ok(Settings::new(numbers, &[(b"acme", 8)])?)
+}
+
+// A new upload of acme has so many bytes, and so many blocks were charged.
+fn put(table: &mut HeadTable, id: u64, metadata: &'static [u8; 6]) {
+    table.apply(&line(Put(name(0, id), row(id, metadata, None)), id));
+}
+
+// Of three new uploads a table has room for two: after the third it is as after the second.
+fn assert_two_fit(rt: &impl Abort, table: &mut HeadTable) {
+    put(table, 1, b"key QQ");
+    put(table, 2, b"key Qg");
+    put(table, 3, b"key Qw");
+    assert_shows(rt, table, name(0, 3), 1000, Err(Refusal::Unknown));
+    assert_shows(rt, table, name(0, 2), 1000, Ok((2, b"key Qg")));
+    assert!(rt; table.accounts().charged == 2);
+}
+
+#[test]
+fn a_line_without_room_changes_nothing(rt: HostRuntime) -> Result<(), Fail> {
+    let mut table = HeadTable::new(rt.alloc(), &narrow(2, 9)?)?;
+    assert_two_fit(&rt, &mut table);
+    let mut table = HeadTable::new(rt.alloc(), &narrow(9, 2)?)?;
+    assert_two_fit(&rt, &mut table);
+    Ok(())
+}
+
+// A new upload of acme is shown, and is gone once it ends.
+fn put_and_end(rt: &impl Abort, table: &mut HeadTable, id: u64) {
+    put(table, id, b"key QQ");
+    assert_shows(rt, table, name(0, id), 1000, Ok((id, b"key QQ")));
+    table.apply(&line(Gone(name(0, id)), id));
+    assert_shows(rt, table, name(0, id), 1000, Err(Refusal::Gone));
+}
+
+#[test]
+fn a_box_serves_the_next_upload(rt: HostRuntime) -> Result<(), Fail> {
+    let mut table = HeadTable::new(rt.alloc(), &narrow(1, 9)?)?;
+    for id in 1..6 {
+        put_and_end(&rt, &mut table, id);
+    }
+    Ok(())
+}

@@ -1,0 +1,10 @@
+-- What only proofs and private functions need.
+pub mod Ahead
+pub mod FieldSpans
+pub mod HeadLayout
+pub mod HeadSearch
+pub mod IncomingLayout
+pub mod ReplyPage
+pub mod Scan
+pub mod TurnFinish
+pub mod WireModel

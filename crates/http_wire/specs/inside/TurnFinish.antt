@@ -1,0 +1,45 @@
+-- The second half of a turn, after its message was read: a request is answered or refused, and the conversation goes on or ends.
+use Rattle.std.specs.Prelude.{ℕ, List, Option, Some, None, ◌≡◌, Bool, true, false, ◌++◌, Result, Ok, Err, OnOk, IfOk, IfErr}
+use Rattle.http_wire.specs.inside.Ahead.{Ahead, SeesEnd}
+use Rattle.http_wire.specs.declared.conversation.Ended.{Ended}
+use Rattle.http_wire.specs.declared.conversation.Ended.TheVariants as ended
+use Rattle.http_wire.specs.declared.fault.WireFault.TheVariants as fault
+use Rattle.std.specs.Io.KnownBytes.{Appends}
+use Rattle.tus_steps.specs.Request.{Request}
+use Rattle.tus_steps.specs.declared.reply.Reply.{Reply}
+use Rattle.http_wire.specs.Fault.{Names}
+use Rattle.http_wire.specs.Incoming.{FramedRequest, is_cut_by_fault}
+use Rattle.http_wire.specs.ReadOnWire.{ComesIn, TellsEnd}
+use Rattle.http_wire.specs.Turns.{EndsByTurn, IsReadWhen, TakesTurn}
+use Rattle.http_wire.specs.declared.fault.WireFault.{WireFault}
+use Rattle.http_wire.specs.declared.incoming.Cut.{Cut}
+use Rattle.http_wire.specs.declared.incoming.Cut.TheVariants as cut
+use Rattle.http_wire.specs.declared.incoming.Incoming.{Incoming}
+
+-- the input ended only where no byte of it is left
+abbrev pub EndsTurnAtEnd : Option (List ℕ) → Ahead → Option Ended → Type 0
+EndsTurnAtEnd remaining a None = SeesEnd remaining a
+EndsTurnAtEnd remaining a (Some e) = IsReadWhen e remaining
+
+-- how a turn ends after its reply was written, or was not: with the connection, where that closes
+abbrev pub turn_after : {T : Type 0} → Result T WireFault → Bool → Result (Option Ended) WireFault
+turn_after (Ok written) true = Ok (Some ended.Closed)
+turn_after (Ok written) false = Ok None
+turn_after (Err why) close = Err why
+
+-- how a turn ends whose body was cut
+abbrev pub turn_cut : Cut → Result (Option Ended) WireFault
+turn_cut cut.Ended = Ok (Some ended.Cut)
+turn_cut cut.Fault = Err fault.Read
+
+-- A turn was finished by what came in, at this moment: whatever that was read from, with what is written now it is a turn.
+-- Only a PATCH that a failed read cut makes it the reader's fault, and only a write that failed the writer's.
+pub record FinishesTurn {A : Type 0} (steps : A → Request → ℕ → Reply → A → Type 0) (now : ℕ) (a : Ahead) (incoming : Incoming FramedRequest) (wrote writes : Option (List ℕ)) (failed : Bool) (before after : A)
+    (r : Result (Option Ended) WireFault) : Type 0 where
+  pub turn : (max : ℕ) (input said : List ℕ) → ComesIn max (record { input = input; text = said }) a.held incoming
+      → (text : List ℕ) × Appends wrote writes text × TakesTurn steps max now (record { input = input; text = said ++ text; before = before; after = after }) a.held r
+  pub end : (remaining : Option (List ℕ)) → SeesEnd remaining a → TellsEnd a.ended (Ok incoming) → IfOk r (EndsTurnAtEnd remaining a)
+  pub ends : IfOk r EndsByTurn
+  pub reader : OnOk r (is_cut_by_fault incoming ≡ false)
+  pub writer : OnOk r (failed ≡ false)
+  pub fault : IfErr r (Names (is_cut_by_fault incoming) failed)

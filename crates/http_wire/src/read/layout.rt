@@ -1,0 +1,33 @@
+ghost use Rattle.std.specs.Prelude.{◌≡◌, ℕ, List};
+
+use crate::framing::Framing;
+use crate::read::fields::FieldSpan;
+use httparse::spans::Span;
+use tus_steps::{Method, TusFields};
+
+/// Where a message stands in its bytes, a head and a body, and what its head says of it.
+#[derive(Clone, Copy)]
+pub struct Layout {
+    pub method: Method,
+    pub framing: Framing,
+    /// Whether the request waits for `100 Continue` before it sends its body.
+    pub is_waiting: bool,
+    pub head_len: usize,
+    pub body_len: usize,
+    pub target: Span,
+    /// Where the fields that count for the steps stand in the head.
+    pub fields: TusFields<FieldSpan>,
+}
+
+impl Layout {
+    ghost use Rattle.http_wire.specs.Layout.{field_at};
+    ghost use Rattle.tus_steps.specs.Method.{is_applied_when_cut as applied};
+
+    /// Whether the request is applied with the bytes that came where its body is cut off: it is a PATCH
+    /// without a checksum. That is what makes an upload resumable.
+    pub fn is_applied_when_cut(&self) -> bool
+        ensures { (head : List ℕ) → result ≡ applied self.now.method (field_at head self.now.fields.checksum) }
+    {
+        self.method.is_patch() && self.fields.checksum.is_absent()
+    }
+}

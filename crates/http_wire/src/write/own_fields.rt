@@ -1,0 +1,198 @@
+//! The fields of a reply of the steps, in their order.
+ghost use Rattle.std.specs.Prelude.{◌≡◌, ◌+◌, ◌≤◌, ◌++◌, length, codes};
+ghost use Rattle.http_wire.specs.ReplyText.{own_fields, length_line, declared_line, upload_path, tells_version, extensions_in, max_size_in, algorithms_in, allowed_in, location_in, offset_in, metadata_in, concat_in, expires_in, is_uncached, line, text_line};
+
+use crate::write::page::{FIELDS_MAX, LINE_MAX, OPENING_MAX, Page, SHORT_MAX};
+use itoa::Buffer;
+use tus_steps::{Place, Reply};
+use upload_book::{Moment, Refusal};
+
+/// Puts the fields of a reply of the steps.
+#[tactic(auto, unfolding(crate::specs::ReplyText::own_fields))]
+pub fn put_own_fields(page: &mut Page, reply: &Reply)
+    requires { length page.old ≤ OPENING_MAX }
+    ensures text { page.new ≡ page.old ++ own_fields reply.now }
+    ensures len { length page.new ≤ FIELDS_MAX }
+{
+    page.put_line_if(tells_version(reply), b"Tus-Version", b"1.0.0");
+    page.put_text_line(b"Tus-Extension", extensions_in(reply));
+    page.put_number_line(b"Tus-Max-Size", max_size_in(reply));
+    page.put_text_line(b"Tus-Checksum-Algorithm", algorithms_in(reply));
+    page.put_text_line(b"Allow", allowed_in(reply));
+    put_location(page, reply);
+    page.put_number_line(b"Upload-Offset", offset_in(reply));
+    put_length(page, reply);
+    page.put_text_line(b"Upload-Metadata", metadata_in(reply));
+    page.put_text_line(b"Upload-Concat", concat_in(reply));
+    page.put_moment_line(b"Upload-Expires", expires_in(reply));
+    page.put_line_if(is_uncached(reply), b"Cache-Control", b"no-store");
+}
+
+fn tells_version(reply: &Reply) -> bool
+    ensures { result ≡ tells_version reply.now }
+{
+    matches!(
+        reply,
+        Reply::Options { .. }
+            | Reply::Refused {
+                refusal: Refusal::Version,
+                ..
+            }
+    )
+}
+
+// What is served beside the core protocol.
+fn extensions_in(reply: &Reply) -> &'static [u8]
+    ensures text { result.now ≡ extensions_in reply.now }
+    ensures len { length result.now ≤ 97 }
+{
+    match reply {
+        Reply::Options { .. } =>
+            b"creation,creation-defer-length,expiration,termination,concatenation,checksum,creation-with-upload",
+        _ => b"",
+    }
+}
+
+fn max_size_in(reply: &Reply) -> Option<u64>
+    ensures { result ≡ max_size_in reply.now }
+{
+    match reply {
+        Reply::Options { max_size } => Some(*max_size),
+        _ => None,
+    }
+}
+
+// By which algorithms a checksum may be.
+fn algorithms_in(reply: &Reply) -> &'static [u8]
+    ensures text { result.now ≡ algorithms_in reply.now }
+    ensures len { length result.now ≤ 4 }
+{
+    match reply {
+        Reply::Options { .. } => b"sha1",
+        _ => b"",
+    }
+}
+
+// The methods that the place allows, where the method was refused.
+fn allowed_in(reply: &Reply) -> &'static [u8]
+    ensures text { result.now ≡ allowed_in reply.now }
+    ensures len { length result.now ≤ 40 }
+{
+    match reply {
+        Reply::Refused {
+            refusal: Refusal::Method,
+            place: Place::Create,
+            ..
+        } => b"POST, OPTIONS",
+        Reply::Refused {
+            refusal: Refusal::Method,
+            place: Place::Upload,
+            ..
+        } => b"HEAD, GET, PATCH, DELETE, OPTIONS",
+        _ => b"",
+    }
+}
+
+#[tactic(auto, unfolding(crate::specs::ReplyText::text_line))]
+fn put_location(page: &mut Page, reply: &Reply)
+    requires { length page.old ≤ SHORT_MAX }
+    ensures text { page.new ≡ page.old ++ text_line (codes "Location") (location_in reply.now) }
+    ensures len { length page.new ≤ length page.old + LINE_MAX }
+{
+    match reply {
+        Reply::Created { tenant, id, .. } => put_path(page, tenant.as_slice(), *id),
+        _ => {}
+    }
+}
+
+// The line of an upload's path.
+#[tactic(auto, unfolding(crate::specs::ReplyText::line))]
+fn put_path(page: &mut Page, tenant: &[u8], id: u64)
+    requires room { length page.old ≤ SHORT_MAX }
+    requires tenant { length tenant.now ≤ 32 }
+    ensures text { page.new ≡ page.old ++ line (codes "Location") (upload_path tenant.now id) }
+    ensures len { length page.new ≤ length page.old + LINE_MAX }
+{
+    let mut digits = Buffer::new();
+    page.put(b"Location: /files/");
+    page.put(tenant);
+    page.put(b"/");
+    page.put(digits.format(id).as_bytes());
+    page.put(b"\r\n");
+}
+
+fn offset_in(reply: &Reply) -> Option<u64>
+    ensures { result ≡ offset_in reply.now }
+{
+    match reply {
+        Reply::Created { offset, .. } => *offset,
+        Reply::Head(row) => Some(row.offset),
+        Reply::Patched { offset, .. } => Some(*offset),
+        _ => None,
+    }
+}
+
+#[tactic(auto, unfolding(crate::specs::ReplyText::length_line))]
+fn put_length(page: &mut Page, reply: &Reply)
+    requires { length page.old ≤ SHORT_MAX }
+    ensures text { page.new ≡ page.old ++ length_line reply.now }
+    ensures len { length page.new ≤ length page.old + LINE_MAX }
+{
+    match reply {
+        Reply::Head(row) => put_declared(page, row.declared),
+        _ => {}
+    }
+}
+
+#[tactic(auto, unfolding(crate::specs::ReplyText::declared_line))]
+fn put_declared(page: &mut Page, declared: Option<u64>)
+    requires { length page.old ≤ SHORT_MAX }
+    ensures text { page.new ≡ page.old ++ declared_line declared }
+    ensures len { length page.new ≤ length page.old + LINE_MAX }
+{
+    match declared {
+        Some(length) => page.put_number_line(b"Upload-Length", Some(length)),
+        None => page.put_line(b"Upload-Defer-Length", b"1"),
+    }
+}
+
+fn metadata_in(reply: &Reply) -> &[u8]
+    ensures text { result.now ≡ metadata_in reply.now }
+    ensures len { length result.now ≤ 1024 }
+{
+    match reply {
+        Reply::Head(row) => row.metadata.as_slice(),
+        _ => b"",
+    }
+}
+
+fn concat_in(reply: &Reply) -> &[u8]
+    ensures text { result.now ≡ concat_in reply.now }
+    ensures len { length result.now ≤ 2048 }
+{
+    match reply {
+        Reply::Head(row) => row.concat.as_slice(),
+        _ => b"",
+    }
+}
+
+fn expires_in(reply: &Reply) -> Option<Moment>
+    ensures { result ≡ expires_in reply.now }
+{
+    match reply {
+        Reply::Created { expires, .. } => *expires,
+        Reply::Patched { expires, .. } => *expires,
+        Reply::Refused { expires, .. } => *expires,
+        _ => None,
+    }
+}
+
+fn is_uncached(reply: &Reply) -> bool
+    ensures { result ≡ is_uncached reply.now }
+{
+    match reply {
+        Reply::Head(_) => true,
+        Reply::Refused { head, .. } => *head,
+        _ => false,
+    }
+}

@@ -1,0 +1,193 @@
+//! The bytes of the replies, put on a page; the bytes of an upload are not copied to it.
+ghost use Rattle.std.specs.Prelude.{◌≡◌, ◌+◌, ◌≤◌, ◌++◌, length, codes};
+ghost use Rattle.http_wire.specs.inside.ReplyPage.{page_text, content_sent, word_in};
+ghost use Rattle.http_wire.specs.ReplyText.{status_line, reason_in, reasons, opening, ending, content_fields, word_body, body_in, media_in, reply_status, refusal_text};
+ghost use Rattle.http_wire.specs.Refusal as wire;
+
+use crate::framing::Framing;
+use crate::refusal::WireRefusal;
+use crate::write::own_fields::put_own_fields;
+use crate::write::page::{CONTENT_MAX, ENDING_MAX, FIELDS_MAX, HEAD_MAX, OPENING_MAX, Page};
+use itoa::Buffer;
+use tus_steps::Reply;
+use tus_text::write_expires;
+use upload_book::Moment;
+
+/// Puts the bytes of a reply at the moment of its message, but for the bytes of an upload: those are
+/// `content_of` it.
+#[tactic(auto, unfolding(crate::specs::ReplyText::reply_head))]
+pub fn put_reply(page: &mut Page, reply: &Reply, now: Moment, framing: Framing)
+    ensures { page.new ≡ page_text reply.now now framing }
+{
+    page.clear();
+    let status = status_of(reply);
+    put_opening(page, status, now);
+    put_own_fields(page, reply);
+    let bare = framing.bare || status == 204;
+    put_ending(page, bare, framing.close, media_in(reply), body_len(reply));
+    if !bare {
+        put_word_of(page, reply);
+    }
+}
+
+/// The bytes of the upload that a reply sends after what is put on its page.
+pub fn content_of(reply: &Reply, framing: Framing) -> &[u8]
+    ensures { result.now ≡ content_sent reply.now framing }
+{
+    match reply {
+        Reply::Content(content) if !framing.bare => content.as_slice(),
+        _ => b"",
+    }
+}
+
+/// Puts the bytes of a refusal of the wire at the moment of its message.
+#[tactic(auto, unfolding(crate::specs::ReplyText::refusal_text))]
+pub fn put_refusal(page: &mut Page, refusal: WireRefusal, now: Moment, framing: Framing)
+    ensures { page.new ≡ refusal_text refusal now framing }
+{
+    page.clear();
+    let status = refusal.status();
+    put_opening(page, status, now);
+    let bare = framing.bare || status == 204;
+    let word = refusal.word().as_bytes();
+    put_ending(
+        page,
+        bare,
+        framing.close,
+        b"text/plain",
+        word.len() as u64 + 1,
+    );
+    if !bare {
+        put_word(page, word);
+    }
+}
+
+// The lines that every reply begins with.
+#[tactic(auto, unfolding(crate::specs::ReplyText::opening))]
+fn put_opening(page: &mut Page, status: u16, now: Moment)
+    requires { length page.old ≤ 0 }
+    ensures text { page.new ≡ page.old ++ opening status now }
+    ensures len { length page.new ≤ OPENING_MAX }
+{
+    put_status_line(page, status);
+    page.put_line(b"Date", &write_expires(now.secs()));
+    page.put_line(b"Tus-Resumable", b"1.0.0");
+}
+
+#[tactic(auto, unfolding(crate::specs::ReplyText::status_line))]
+fn put_status_line(page: &mut Page, status: u16)
+    requires { length page.old ≤ 0 }
+    ensures text { page.new ≡ page.old ++ status_line status }
+    ensures len { length page.new ≤ 64 }
+{
+    page.put(b"HTTP/1.1 ");
+    let mut digits = Buffer::new();
+    page.put(digits.format(status).as_bytes());
+    page.put(b" ");
+    page.put(reason(status));
+    page.put(b"\r\n");
+}
+
+fn reason(status: u16) -> &'static [u8]
+    ensures text { result.now ≡ reason_in reasons status }
+    ensures len { length result.now ≤ 31 }
+{
+    match status {
+        200 => b"OK",
+        201 => b"Created",
+        204 => b"No Content",
+        400 => b"Bad Request",
+        403 => b"Forbidden",
+        404 => b"Not Found",
+        405 => b"Method Not Allowed",
+        409 => b"Conflict",
+        410 => b"Gone",
+        411 => b"Length Required",
+        412 => b"Precondition Failed",
+        413 => b"Content Too Large",
+        415 => b"Unsupported Media Type",
+        431 => b"Request Header Fields Too Large",
+        460 => b"Checksum Mismatch",
+        503 => b"Service Unavailable",
+        507 => b"Insufficient Storage",
+        _ => b"",
+    }
+}
+
+fn status_of(reply: &Reply) -> u16
+    ensures { result ≡ reply_status reply.now }
+{
+    match reply {
+        Reply::Created { .. } => 201,
+        Reply::Head(_) | Reply::Content(_) => 200,
+        Reply::Options { .. } | Reply::Patched { .. } | Reply::Deleted => 204,
+        Reply::Refused { refusal, .. } => refusal.status(),
+    }
+}
+
+// What the body of a reply is.
+fn media_in(reply: &Reply) -> &'static [u8]
+    ensures text { result.now ≡ media_in reply.now }
+    ensures len { length result.now ≤ 24 }
+{
+    match reply {
+        Reply::Content(_) => b"application/octet-stream",
+        Reply::Refused { .. } => b"text/plain",
+        _ => b"",
+    }
+}
+
+fn body_len(reply: &Reply) -> u64
+    ensures { result ≡ length (body_in reply.now) }
+{
+    match reply {
+        Reply::Content(content) => content.as_slice().len() as u64,
+        Reply::Refused { refusal, .. } => refusal.word().len() as u64 + 1,
+        _ => 0,
+    }
+}
+
+// The word of a reply that refuses.
+fn put_word_of(page: &mut Page, reply: &Reply)
+    requires { length page.old ≤ HEAD_MAX }
+    ensures { page.new ≡ page.old ++ word_in reply.now }
+{
+    if let Reply::Refused { refusal, .. } = reply {
+        put_word(page, refusal.word().as_bytes());
+    }
+}
+
+fn put_word(page: &mut Page, word: &[u8])
+    requires room { length page.old ≤ HEAD_MAX }
+    requires word { length word.now ≤ 20 }
+    ensures { page.new ≡ page.old ++ word_body word.now }
+{
+    page.put(word);
+    page.put(b"\n");
+}
+
+// What follows the fields of the steps, to the empty line.
+#[tactic(auto, unfolding(crate::specs::ReplyText::ending))]
+fn put_ending(page: &mut Page, bare: bool, close: bool, media: &[u8], len: u64)
+    requires room { length page.old ≤ FIELDS_MAX }
+    requires media { length media.now ≤ 24 }
+    ensures text { page.new ≡ page.old ++ ending bare close media.now len }
+    ensures len { length page.new ≤ length page.old + ENDING_MAX }
+{
+    if !bare {
+        put_content_fields(page, media, len);
+    }
+    page.put_line_if(close, b"Connection", b"close");
+    page.put(b"\r\n");
+}
+
+#[tactic(auto, unfolding(crate::specs::ReplyText::content_fields))]
+fn put_content_fields(page: &mut Page, media: &[u8], len: u64)
+    requires room { length page.old ≤ FIELDS_MAX }
+    requires media { length media.now ≤ 24 }
+    ensures text { page.new ≡ page.old ++ content_fields media.now len }
+    ensures len { length page.new ≤ length page.old + CONTENT_MAX }
+{
+    page.put_text_line(b"Content-Type", media);
+    page.put_number_line(b"Content-Length", Some(len));
+}

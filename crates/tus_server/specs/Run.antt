@@ -1,0 +1,70 @@
+-- How a run of the program ends, from the words of its command line to its exit status.
+use Rattle.std.specs.Prelude.{◌≡◌, ◌≢◌, ◌⊎◌, ℕ, true, List, [], Option, Some, None, Result}
+use Rattle.clap.specs.Words.{IsAmong, Text}
+use Rattle.clap.specs.declared.error.kind.ErrorKind.{ErrorKind}
+use Rattle.clap.specs.declared.error.kind.ErrorKind.TheVariants.{DisplayHelp, DisplayVersion, OutOfMemory}
+use Rattle.tus_server.specs.Arguments.{CommandArguments, talk, serve, arguments_in}
+use Rattle.tus_server.specs.CommandLine.{faults_in}
+use Rattle.tus_server.specs.Fault.{Reports, WritesLine}
+use Rattle.tus_server.specs.Serve.{ServeEnds}
+use Rattle.tus_server.specs.StreamUse.{StreamUse, IsAlive, IsUntouched}
+use Rattle.tus_server.specs.Talk.{TalkEnds}
+use Rattle.tus_server.specs.declared.fault.RunFault.{RunFault}
+use Rattle.tus_server.specs.declared.fault.RunFault.TheVariants.{Wire, Memory}
+
+-- why words are not taken: memory was lacking, or they have this fault or ask for this
+abbrev pub IsReason : List Text → ErrorKind → Type 0
+IsReason words kind = (kind ≡ OutOfMemory) ⊎ IsAmong kind (faults_in words)
+
+-- they ask for help, or for a version
+abbrev pub IsHelp : ErrorKind → Type 0
+IsHelp kind = (kind ≡ DisplayHelp) ⊎ (kind ≡ DisplayVersion)
+
+-- words that are not taken were answered, by the reason for it
+module _ {W E : Type 0} (kind : ErrorKind) (status : ℕ) (writer : StreamUse W) (errors : StreamUse E) where
+  -- they were refused, and standard error says what is wrong with them
+  pub record RefusesWords : Type 0 where
+    pub status_is : status ≡ 2
+    pub not_help : kind ≢ DisplayHelp
+    pub not_memory : kind ≢ OutOfMemory
+    pub untouched : IsUntouched writer
+
+  -- they asked for help, which was written
+  pub record ShowsHelp : Type 0 where
+    pub status_is : status ≡ 0
+    pub asked : IsHelp kind
+    pub alive : IsAlive writer
+    pub quiet : IsUntouched errors
+
+  -- they asked for help, which could not be written
+  pub record FailsToShowHelp : Type 0 where
+    pub status_is : status ≡ 3
+    pub asked : IsHelp kind
+    pub failed : writer.has_failed ≡ true
+    pub line : WritesLine errors Wire
+
+  -- memory was lacking for an answer
+  pub record EndsForMemory : Type 0 where
+    pub status_is : status ≡ 4
+    pub untouched : IsUntouched writer
+    pub line : WritesLine errors Memory
+
+  abbrev pub Explains : Type 0
+  Explains = RefusesWords ⊎ ShowsHelp ⊎ FailsToShowHelp ⊎ EndsForMemory
+
+module _ {R W E : Type 0} (status : ℕ) (reader : StreamUse R) (writer : StreamUse W) (errors : StreamUse E) where
+  -- The command was done that the words ask for. Words that are taken ask for one, so far as clap's rules go; where they
+  -- don't, they are refused, and no stream is touched.
+  abbrev pub Performs : Option CommandArguments → Type 0
+  Performs None = (status ≡ 2) × IsUntouched reader × IsUntouched writer × IsUntouched errors
+  Performs (Some (talk arguments)) =
+      (outcome : Result (Unit {0}) RunFault) × TalkEnds arguments reader writer outcome
+      × Reports outcome status errors
+  Performs (Some (serve arguments)) =
+      (outcome : Result (Unit {0}) RunFault) × ServeEnds arguments writer outcome × IsUntouched reader
+      × Reports outcome status errors
+
+  -- how a run ends whose words are these
+  pub data RunEnds (words : List Text) : Type 0 where
+    explained : (kind : ErrorKind) → IsReason words kind → Explains kind status writer errors → IsUntouched reader → RunEnds words
+    performed : faults_in words ≡ [] → Performs (arguments_in words) → RunEnds words

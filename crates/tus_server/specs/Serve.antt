@@ -1,0 +1,31 @@
+-- How `serve` ends. What is written on its connections is the workers' (`serve_stream` of `tus_workers`).
+use Rattle.std.specs.Prelude.{◌≡◌, Result, Ok, Err, IsOk}
+use Rattle.upload_book.specs.Settings.{Settings}
+use Rattle.upload_book.specs.declared.settings_fault.SettingsFault.{SettingsFault}
+use Rattle.tus_server.specs.Arguments.{ServeArguments}
+use Rattle.tus_server.specs.Lines.{PrintsLines}
+use Rattle.tus_server.specs.Settings.{settings_given}
+use Rattle.tus_server.specs.StreamUse.{StreamUse, IsAlive, IsUntouched}
+use Rattle.tus_server.specs.declared.fault.RunFault.{RunFault}
+use Rattle.tus_server.specs.declared.fault.RunFault.TheVariants as run
+
+-- the settings of the arguments, or their first fault
+abbrev pub serve_settings : ServeArguments → Result Settings SettingsFault
+serve_settings arguments = settings_given arguments.numbers arguments.tenants
+
+-- `serve` was asked for with these arguments, with this output
+module _ {W : Type 0} (arguments : ServeArguments) (output : StreamUse W) where
+  -- all connections were served, and both lines were printed
+  pub record ServesAll : Type 0 where
+    pub settings : IsOk (serve_settings arguments)
+    pub printed : PrintsLines output.before output.after
+    pub alive : IsAlive output
+
+  -- How `serve` ends: it served all, or a socket or its output failed, or it refused the settings, or lacked memory to
+  -- begin with. In the last two nothing was printed.
+  abbrev pub ServeEnds : {T : Type 0} → Result T RunFault → Type 0
+  ServeEnds (Ok _) = ServesAll
+  ServeEnds (Err run.Wire) = IsOk (serve_settings arguments)
+  ServeEnds (Err (run.Settings why)) = (serve_settings arguments ≡ Err why) × IsUntouched output
+  ServeEnds (Err run.Memory) = IsUntouched output
+  ServeEnds (Err run.Words) = ⊥

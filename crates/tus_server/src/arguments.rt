@@ -1,0 +1,142 @@
+//! How the options are read from what was found in the command line.
+ghost use Rattle.std.specs.Prelude.{◌≡◌, IfSome, codes, false, option_map};
+ghost use Rattle.clap.specs.Walk.{rows_of};
+ghost use Rattle.clap.specs.Words.{found_of, subcommand_rows_of};
+ghost use Rattle.tus_server.specs.Arguments.{arguments_entered, arguments_of, connections_given, is_set, moment_set, number_given, number_under, numbers_given, port_given, serve, serve_arguments, talk, talk_arguments, work_given, workers_given};
+ghost use Rattle.upload_book.specs.Settings.{is_outside};
+
+use crate::options::{CommandOptions, ServeOptions, TalkOptions};
+use clap::ArgMatches;
+use tus_workers::WorkOptions;
+use upload_book::{Moment, Numbers};
+
+/// The command that was entered, with its options. None where there is none, its moment is past the year 9999, its
+/// port is none, or it is to have no worker or more than 16.
+pub fn command_options<'m, 'a>(matches: &'m ArgMatches<'a>) -> Option<CommandOptions<'m, 'a>>
+    ensures { option_map arguments_of result ≡ arguments_entered (subcommand_rows_of matches.now) }
+{
+    match matches.subcommand_matches("talk") {
+        Some(found) => talk_options(found),
+        None => serve_options(matches.subcommand_matches("serve")?),
+    }
+}
+
+/// The command `talk`, with the options that were found.
+fn talk_options<'m, 'a>(found: &'m ArgMatches<'a>) -> Option<CommandOptions<'m, 'a>>
+    ensures { option_map arguments_of result ≡ option_map talk (talk_arguments (rows_of (found_of found.now))) }
+{
+    Some(CommandOptions::Talk(TalkOptions {
+        numbers: numbers_of(found),
+        moment: Moment::new(number_of(found, "moment"))?,
+        tenants: found.get_strs("tenant")?,
+    }))
+}
+
+/// The command `serve`, with the options that were found.
+fn serve_options<'m, 'a>(found: &'m ArgMatches<'a>) -> Option<CommandOptions<'m, 'a>>
+    ensures { option_map arguments_of result ≡ option_map serve (serve_arguments (rows_of (found_of found.now))) }
+{
+    let work = work_of(found)?;
+    let port = port_of(found)?;
+    let workers = workers_of(found)?;
+    Some(CommandOptions::Serve(ServeOptions {
+        numbers: numbers_of(found),
+        tenants: found.get_strs("tenant")?,
+        port,
+        workers,
+        work,
+    }))
+}
+
+/// The numbers that the options give. Ids and totals are bounded by their type alone.
+fn numbers_of(found: &ArgMatches) -> Numbers
+    ensures { result ≡ numbers_given (rows_of (found_of found.now)) }
+{
+    Numbers {
+        blocks: number_of(found, "blocks"),
+        block_size: number_of(found, "block-size"),
+        lifetime: number_of(found, "lifetime"),
+        max_size: number_of(found, "max-size"),
+        uploads: number_of(found, "uploads"),
+        last_id: u64::MAX - 1,
+        last_total: u64::MAX,
+    }
+}
+
+/// The number of the option of this name; 0 where it has none, which its default rules out.
+fn number_of(found: &ArgMatches, name: &str) -> u64
+    ensures { result ≡ number_under name.now (rows_of (found_of found.now)) }
+{
+    number_given(found, name).unwrap_or(0)
+}
+
+/// The number of the option of this name, if it has one.
+fn number_given(found: &ArgMatches, name: &str) -> Option<u64>
+    ensures { result ≡ number_given name.now (rows_of (found_of found.now)) }
+{
+    found.get_one::<u64>(name)
+}
+
+/// Whether the flag of this name is set.
+fn is_set(found: &ArgMatches, name: &str) -> bool
+    ensures { result ≡ is_set name.now (rows_of (found_of found.now)) }
+{
+    found.get_one::<bool>(name).unwrap_or(false)
+}
+
+/// How many workers the option gives; None where the number is not from 1 to 16.
+fn workers_of(found: &ArgMatches) -> Option<usize>
+    ensures given { result ≡ workers_given (rows_of (found_of found.now)) }
+    ensures in_range { IfSome result (λ workers. is_outside workers 16 ≡ false) }
+{
+    let workers = number_of(found, "workers");
+    if workers == 0 || workers > 16 {
+        None
+    } else {
+        Some(workers as usize)
+    }
+}
+
+/// The port that the option gives; None where the number is none.
+fn port_of(found: &ArgMatches) -> Option<u16>
+    ensures { result ≡ port_given (rows_of (found_of found.now)) }
+{
+    let port = number_of(found, "port");
+    if port <= 65_535 {
+        Some(port as u16)
+    } else {
+        None
+    }
+}
+
+/// What each worker is asked for; None where the moment is past the year 9999.
+fn work_of(found: &ArgMatches) -> Option<WorkOptions>
+    ensures { result ≡ work_given (rows_of (found_of found.now)) }
+{
+    Some(WorkOptions {
+        moment: moment_of(found)?,
+        connections: connections_of(found),
+        idle: number_of(found, "idle"),
+    })
+}
+
+/// How many connections a worker accepts: without a bound it is the greatest number.
+fn connections_of(found: &ArgMatches) -> u64
+    ensures { result ≡ connections_given (rows_of (found_of found.now)) }
+{
+    if is_set(found, "forever") {
+        u64::MAX
+    } else {
+        number_of(found, "connections")
+    }
+}
+
+/// The moment that is set, if any; None where it is past the year 9999.
+fn moment_of(found: &ArgMatches) -> Option<Option<Moment>>
+    ensures { result ≡ moment_set (number_given (codes "moment") (rows_of (found_of found.now))) }
+{
+    match number_given(found, "moment") {
+        Some(secs) => Some(Some(Moment::new(secs)?)),
+        None => Some(None),
+    }
+}

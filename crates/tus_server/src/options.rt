@@ -1,0 +1,37 @@
+//! What the command line asks for: a command with its options.
+ghost use Rattle.std.specs.Prelude.{◌≡◌, false};
+ghost use Rattle.upload_book.specs.Settings.{is_outside};
+
+use tus_workers::WorkOptions;
+use upload_book::{Moment, Numbers};
+
+/// A command with what it was asked for.
+#[derive(Clone, Copy)]
+pub enum CommandOptions<'m, 'a> {
+    Talk(TalkOptions<'m, 'a>),
+    Serve(ServeOptions<'m, 'a>),
+}
+
+/// What the command `talk` was asked for.
+#[derive(Clone, Copy)]
+pub struct TalkOptions<'m, 'a> {
+    pub numbers: Numbers,
+    /// The moment of every message.
+    pub moment: Moment,
+    /// Words NAME:QUOTA, as they were given.
+    pub tenants: &'m [&'a str],
+}
+
+/// What the command `serve` was asked for.
+#[derive(Clone, Copy)]
+pub struct ServeOptions<'m, 'a> {
+    pub numbers: Numbers,
+    /// Words NAME:QUOTA, as they were given.
+    pub tenants: &'m [&'a str],
+    /// The port that is listened at; 0 is any that is free.
+    pub port: u16,
+    /// How many workers there are, from 1 to 16.
+    pub workers: usize,
+    pub work: WorkOptions,
+    ghost workers_in_range: { is_outside workers 16 ≡ false },
+}

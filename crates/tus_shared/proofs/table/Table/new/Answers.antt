@@ -1,5 +1,0 @@
-use Rattle.tus_shared.proofs.TableLemmas.{opening-table}
-use Rattle.tus_shared.proofs.table.Table.new.Goals as goal
-
-pub returns : goal.returns
-returns c = opening-table c.args.settings.now c.copied.result c.in_ok-empty_parts.field-0.items c.copied.ensures c.in_ok-empty_parts.ensures.parts

@@ -1,0 +1,3 @@
+-- What private functions and proofs alone need.
+pub mod StoreRule
+pub mod ShownLine

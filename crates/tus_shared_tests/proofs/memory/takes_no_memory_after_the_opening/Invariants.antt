@@ -1,0 +1,10 @@
+use Rattle.tus_shared_tests.proofs.memory.takes_no_memory_after_the_opening.Given as goal
+
+abbrev pub ghosts-serve_twenty-C-Charges : goal.ghosts-serve_twenty-C-Charges
+ghosts-serve_twenty-C-Charges g a = record { settings = a.settings; desks = 1; log = a.lines.seen.book }
+
+abbrev pub ghosts-serve_twenty-C-Ledger : goal.ghosts-serve_twenty-C-Ledger
+ghosts-serve_twenty-C-Ledger g a = record { name = a.charged.name; parts = a.charged.parts }
+
+abbrev pub ghosts-serve_twenty-R-Ledger : goal.ghosts-serve_twenty-R-Ledger
+ghosts-serve_twenty-R-Ledger g a = record { name = a.released.name; parts = a.released.parts }

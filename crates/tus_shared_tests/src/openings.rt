@@ -1,0 +1,70 @@
+//! How many desks there may be, and the words of faults.
+
+ghost use Rattle.std.specs.Prelude.{◌≡◌};
+
+use crate::requests::settings;
+use std::alloc::Global;
+use std::marker::Brand;
+use std::sync::Wait;
+use std::sync::ledger::{Blank, Ledger};
+use std::test::Fail;
+use tus_shared::{Charges, OpenFault, Opened, Shared, WorkFault};
+use upload_book::Settings;
+
+// How many desks an opening gives that asks for so many.
+fn open<C: Charges, R: Ledger, W: Wait>(
+    rt: &W,
+    alloc: Global,
+    settings: Settings,
+    desks: usize,
+    charged: Blank,
+    released: Blank,
+    lines: Opened,
+) -> Result<usize, OpenFault>
+    requires settings { settings ≡ C.settings }
+    requires desks { desks ≡ C.desks }
+    requires charged { (charged.name ≡ C.name) × (charged.parts ≡ C.parts) × (C.parts ≡ 16) }
+    requires released { (released.name ≡ R.name) × (released.parts ≡ R.parts) × (R.parts ≡ 16) }
+    requires log { lines.seen.book ≡ C.log }
+{
+    let (_, opened) = Shared::<C, R, &W>::open(
+        rt, alloc, settings, desks, charged, released, lines,
+    )?;
+    Ok(opened.len())
+}
+
+fn opened<W: Wait>(rt: &W, alloc: Global, desks: usize) -> Result<Result<usize, OpenFault>, Fail> {
+    let opened = open::<Brand, Brand, W>(
+        rt,
+        alloc,
+        settings()?,
+        desks,
+        Blank::new(16),
+        Blank::new(16),
+        Opened::new(),
+    );
+    Ok(opened)
+}
+
+#[test]
+fn one_to_sixteen_desks(rt: HostRuntime) -> Result<(), Fail> {
+    let rows = [
+        (0, Err(OpenFault::Desks)),
+        (1, Ok(1)),
+        (16, Ok(16)),
+        (17, Err(OpenFault::Desks)),
+    ];
+    for (desks, expected) in rows {
+        assert_eq!(rt; opened(&rt, rt.alloc(), desks)?, expected, "{desks} desks");
+    }
+    Ok(())
+}
+
+#[test]
+fn faults_are_told_by_their_words(rt: HostRuntime) -> Result<(), Fail> {
+    assert!(rt; OpenFault::Desks.word() == "desks");
+    assert!(rt; OpenFault::Memory.word() == "memory");
+    assert!(rt; OpenFault::Board.word() == "board");
+    assert!(rt; WorkFault::Memory.word() == "memory");
+    Ok(())
+}

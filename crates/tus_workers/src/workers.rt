@@ -1,0 +1,206 @@
+//! The workers of a server: each has a desk, and serves one connection after another.
+ghost use Rattle.std.specs.Prelude.{◌≡◌, ◌≤◌, IfSome};
+
+use crate::machine_clock::MachineClock;
+use crate::stream::{ServedStream, serve_stream};
+use crate::work_options::WorkOptions;
+use core::mem::replace_with;
+use http_wire::{Buffers, Clock, Ended, Tapped};
+use std::alloc::Global;
+use std::io::{Eprint, Read};
+use std::net::{Shutdown, TcpListener, TcpStream};
+use std::sync::Wait;
+use std::sync::atomic::{AtomicU64, Ordering};
+use std::sync::ledger::Ledger;
+use std::thread::yield_now;
+use std::time::{Duration, Instant};
+use std::{io, time};
+use tus_shared::{Charges, Desk, NoGate, Shared};
+
+/// The most bytes of buffers that are kept for the next connection.
+const ROOM_KEPT: usize = 2_097_152;
+
+/// How many connections may be open before their workers let others run first.
+const CROWD: u64 = 3;
+
+/// For how many seconds the rest of a refused input is read, and for how long its next byte is waited for.
+const LINGER_SECONDS: u64 = 5;
+
+/// How many bytes of such a rest are read at once, and how often.
+const REST_SIZE: usize = 16_384;
+
+const REST_READS: usize = 4096;
+
+/// What the workers of a server share.
+#[derive(Drop)]
+pub struct Workers<'a, C: Charges, R: Ledger, H, B: Wait + Drop> {
+    rt: &'a H,
+    alloc: Global,
+    listener: &'a TcpListener,
+    shared: &'a Shared<C, R, B>,
+    options: WorkOptions,
+    // How many connections are open.
+    open: AtomicU64,
+    // How many workers could accept no more.
+    ended: AtomicU64,
+}
+
+impl<'a, C: Charges, R: Ledger, H: Wait + Eprint + time::Clock, B: Wait + Drop> Workers<
+    'a,
+    C,
+    R,
+    H,
+    B,
+> {
+    /// Workers that have accepted nothing.
+    pub fn new(
+        rt: &'a H,
+        alloc: Global,
+        listener: &'a TcpListener,
+        shared: &'a Shared<C, R, B>,
+        options: WorkOptions,
+    ) -> Self
+        ensures { result.options ≡ options }
+    {
+        Workers {
+            rt,
+            alloc,
+            listener,
+            shared,
+            options,
+            open: AtomicU64::new(0),
+            ended: AtomicU64::new(0),
+        }
+    }
+
+    /// Whether no worker's accept failed.
+    pub fn is_whole(&self) -> bool {
+        self.ended.load(Ordering::SeqCst) == 0
+    }
+
+    /// Accepts as many connections as the options say, sweeps after each accept, and serves one after another.
+    /// A fault of a connection ends that connection alone; where an accept fails, the worker ends, and says so on
+    /// standard error.
+    pub fn work(&self, desk: &mut Desk<C, R>) {
+        let mut clock = MachineClock::new(self.rt, self.options.moment);
+        let mut buffers = None;
+        for _ in 0..self.options.connections {
+            let Ok((stream, _)) = self.listener.accept() else {
+                self.ended.fetch_add(1, Ordering::SeqCst);
+                let _ = self.rt.eprintln(
+                    "tus-server: a worker ended, since it could accept no connection",
+                );
+                return;
+            };
+            let _ = desk.sweep(self.rt, self.shared, clock.moment());
+            buffers = replace_with(desk, buffers, |desk, buffers| {
+                self.attend(&stream, desk, buffers, &mut clock)
+            });
+        }
+    }
+
+    // Serves one connection, and gives back the desk and the buffers, unless these grew too large. Where there is
+    // no memory for buffers, the connection ends unanswered.
+    fn attend(
+        &self,
+        stream: &TcpStream,
+        desk: Desk<C, R>,
+        buffers: Option<Buffers>,
+        clock: &mut MachineClock<'a, H>,
+    ) -> (Desk<C, R>, Option<Buffers>)
+        ensures { IfSome result.1 (λ buffers. buffers.inbox.room ≤ 2097152) }
+    {
+        let buffers = match buffers {
+            Some(buffers) => buffers,
+            None => match Buffers::new(self.alloc) {
+                Ok(buffers) => buffers,
+                Err(_) => return (desk, None),
+            },
+        };
+        self.prepare(stream);
+        self.open.fetch_add(1, Ordering::Relaxed);
+        let reader = Tapped::new(Polite {
+            stream,
+            open: &self.open,
+        });
+        let writer = Tapped::new(stream);
+        let ServedStream {
+            ended,
+            desk,
+            reader: _,
+            writer: _,
+            buffers,
+        } = serve_stream(
+            self.rt,
+            buffers,
+            reader,
+            writer,
+            desk,
+            self.shared,
+            clock,
+            &NoGate,
+        );
+        self.open.fetch_sub(1, Ordering::Relaxed);
+        if let Ok(Ended::Closed | Ended::Moments) = ended {
+            self.linger(stream);
+        }
+        if buffers.room() <= ROOM_KEPT {
+            (desk, Some(buffers))
+        } else {
+            (desk, None)
+        }
+    }
+
+    // Sets up a connection: small replies are sent at once, and a client that is silent for too long is cut off.
+    // A connection that refuses this is served all the same.
+    fn prepare(&self, stream: &TcpStream) {
+        let idle = match self.options.idle {
+            0 => None,
+            seconds => Some(Duration::from_secs(seconds)),
+        };
+        let _ = stream.set_nodelay(true);
+        let _ = stream.set_read_timeout(idle);
+        let _ = stream.set_write_timeout(idle);
+    }
+
+    // Ends a connection whose input may not have been read: says that nothing follows, and drops what still comes,
+    // within bounds. A close with unread bytes would take the last reply from the client.
+    fn linger(&self, stream: &TcpStream) {
+        let Ok(start) = Instant::now(self.rt) else {
+            return;
+        };
+        let linger = Duration::from_secs(LINGER_SECONDS);
+        let _ = stream.shutdown(Shutdown::Write);
+        let _ = stream.set_read_timeout(Some(linger));
+        let mut reader = stream;
+        let mut rest = [0; REST_SIZE];
+        for _ in 0..REST_READS {
+            match reader.read(&mut rest) {
+                Ok(0) | Err(_) => return,
+                Ok(_) => {}
+            }
+            match start.elapsed(self.rt) {
+                Ok(elapsed) if elapsed < linger => {}
+                _ => return,
+            }
+        }
+    }
+}
+
+/// The reader of a connection. Where many are open it lets other threads run first: when its turn comes back, the
+/// next request is often there, and the thread need not sleep.
+#[derive(Drop)]
+struct Polite<'s, 'o> {
+    stream: &'s TcpStream,
+    open: &'o AtomicU64,
+}
+
+impl Read for Polite<'_, '_> {
+    fn read(&mut self, buf: &mut [u8]) -> io::Result<usize> {
+        if self.open.load(Ordering::Relaxed) > CROWD {
+            yield_now();
+        }
+        let mut stream = self.stream;
+        stream.read(buf)
+    }
+}

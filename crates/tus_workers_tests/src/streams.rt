@@ -1,0 +1,187 @@
+//! One desk that serves a connection after another, over readers and writers in memory.
+
+ghost use Rattle.std.specs.Prelude.{◌≡◌};
+
+use crate::opening::{assert_balance, moment, settings};
+use crate::texts::{CREATED, CUT_PATCH, HEAD, LOOKED, LOOKED_CUT, PATCH, PATCHED, POST};
+use http_wire::{Buffers, Ended, Tapped, WireFault};
+use std::alloc::Global;
+use std::io;
+use std::io::{ErrorKind, Read, Write};
+use std::marker::Brand;
+use std::process::Abort;
+use std::sync::Wait;
+use std::sync::ledger::{Blank, Ledger};
+use std::test::Fail;
+use tus_shared::{Charges, Desk, NoGate, Opened, Shared, settle};
+use tus_workers::{ServedStream, serve_stream};
+use upload_book::Settings;
+
+// A reader of some pieces, at most one of them a read. Where `fails`, the read after the last of them fails, and else it is
+// at the end.
+#[derive(Drop)]
+struct Input<'a> {
+    pieces: &'a [&'a [u8]],
+    next: usize,
+    fails: bool,
+}
+
+impl Read for Input<'_> {
+    fn read(&mut self, buf: &mut [u8]) -> io::Result<usize> {
+        let Some(piece) = self.pieces.get(self.next) else {
+            return if self.fails {
+                Err(io::Error::from(ErrorKind::Other))
+            } else {
+                Ok(0)
+            };
+        };
+        let count = piece.len().min(buf.len());
+        buf[..count].copy_from_slice(&piece[..count]);
+        self.next = self.next.saturating_add(1);
+        Ok(count)
+    }
+}
+
+// A writer that keeps what is written.
+#[derive(Drop)]
+struct Output(Vec<u8>);
+
+impl Write for Output {
+    fn write(&mut self, buf: &[u8]) -> io::Result<usize> {
+        self.0.extend_from_slice(buf)?;
+        Ok(buf.len())
+    }
+
+    fn flush(&mut self) -> io::Result<()> {
+        Ok(())
+    }
+}
+
+// What a client sends, how its connection ends, and what is written to it.
+struct Row {
+    pieces: &'static [&'static [u8]],
+    fails: bool,
+    ended: Result<Ended, WireFault>,
+    written: &'static [&'static [u8]],
+}
+
+static FIRST_UPLOAD: [Row; 1] = [Row {
+    pieces: &[POST, PATCH, HEAD],
+    fails: false,
+    ended: Ok(Ended::Input),
+    written: &[CREATED, PATCHED, LOOKED],
+}];
+
+// A read fails in the body of a PATCH, and the client looks on another connection what came of it.
+static READ_FAULT: [Row; 2] = [
+    Row {
+        pieces: &[POST, CUT_PATCH],
+        fails: true,
+        ended: Err(WireFault::Read),
+        written: &[CREATED],
+    },
+    Row {
+        pieces: &[HEAD],
+        fails: false,
+        ended: Ok(Ended::Input),
+        written: &[LOOKED_CUT],
+    },
+];
+
+// Asserts that these texts were written, one after another, and nothing else.
+fn assert_written(rt: &impl Abort, written: &[u8], texts: &[&[u8]]) {
+    let mut rest = written;
+    for text in texts {
+        rest = rest.strip_prefix(*text).expect(rt, "the next reply");
+    }
+    assert!(rt; rest.is_empty());
+}
+
+// Serves the connection of a row at a desk, and gives back the desk and the buffers.
+fn serve_row<C: Charges, R: Ledger, W: Wait + Abort>(
+    rt: &W,
+    alloc: Global,
+    shared: &Shared<C, R, &W>,
+    desk: Desk<C, R>,
+    buffers: Buffers,
+    row: &Row,
+) -> (Desk<C, R>, Buffers) {
+    let reader = Tapped::new(Input {
+        pieces: row.pieces,
+        next: 0,
+        fails: row.fails,
+    });
+    let writer = Tapped::new(Output(Vec::new(alloc)));
+    let mut clock = moment(rt);
+    let served = serve_stream(
+        rt, buffers, reader, writer, desk, shared, &mut clock, &NoGate,
+    );
+    let ServedStream {
+        ended,
+        desk,
+        reader: _,
+        writer,
+        buffers,
+    } = served;
+    assert!(rt; ended == row.ended);
+    assert_written(rt, &writer.inner.0, row.written);
+    (desk, buffers)
+}
+
+// Serves the connections of these rows at one desk, one after another, and asserts what was charged.
+fn serve_rows<C: Charges, R: Ledger, W: Wait + Abort>(
+    rt: &W,
+    alloc: Global,
+    settings: Settings,
+    charged: Blank,
+    released: Blank,
+    lines: Opened,
+    rows: &[Row],
+    balance: [u64; 3],
+) -> Result<(), Fail>
+    requires settings { settings ≡ C.settings }
+    requires desks { C.desks ≡ 1 }
+    requires charged { (charged.name ≡ C.name) × (charged.parts ≡ C.parts) × (C.parts ≡ 16) }
+    requires released { (released.name ≡ R.name) × (released.parts ≡ R.parts) × (R.parts ≡ 16) }
+    requires log { lines.seen.book ≡ C.log }
+{
+    let (shared, mut desks) = Shared::<C, R, &W>::open(
+        rt, alloc, settings, 1, charged, released, lines,
+    )?;
+    let mut served = (desks.pop().ok_or("a desk")?, Buffers::new(alloc)?);
+    for row in rows {
+        served = serve_row(rt, alloc, &shared, served.0, served.1, row);
+    }
+    desks.push(served.0)?;
+    let (_, settled) = settle(shared, desks);
+    assert_balance(rt, settled, balance);
+    Ok(())
+}
+
+fn serve<W: Wait + Abort>(
+    rt: &W,
+    alloc: Global,
+    rows: &[Row],
+    balance: [u64; 3],
+) -> Result<(), Fail> {
+    serve_rows::<Brand, Brand, W>(
+        rt,
+        alloc,
+        settings()?,
+        Blank::new(16),
+        Blank::new(16),
+        Opened::new(),
+        rows,
+        balance,
+    )
+}
+
+#[test]
+fn the_first_upload(rt: HostRuntime) -> Result<(), Fail> {
+    serve(&rt, rt.alloc(), &FIRST_UPLOAD, [2, 0, 2])
+}
+
+#[test]
+fn a_read_that_fails_in_a_body_keeps_what_came(rt: HostRuntime) -> Result<(), Fail> {
+    serve(&rt, rt.alloc(), &READ_FAULT, [1, 0, 1])
+}

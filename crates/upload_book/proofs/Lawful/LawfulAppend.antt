@@ -1,0 +1,176 @@
+-- A PATCH leaves a lawful book lawful.
+use Rattle.std.proofs.Common.{◌≡◌, ℕ, ◌+◌, ◌≤◌, ◌⊎◌, true, false, cond, not, eqb, ltb, List, ◌++◌, length, Option, Some, None, unwrap_or, is_some, IfSome, refl, inl, inr, sym, ap, ◌∙◌, arith}
+use Rattle.std.proofs.Math.ListN.{length-map, length-append}
+use Rattle.std.proofs.lemmas.Bool.Decides.{eqb_tells, nat_tests}
+use Rattle.std.proofs.lemmas.Bool.{false≢true}
+use Rattle.std.proofs.lemmas.List.{append-nil, nil_from_length}
+use Rattle.std.proofs.lemmas.List.Elements.{All-map, All-weaker}
+use Rattle.upload_book.specs.Account.{blocks_added}
+use Rattle.upload_book.specs.Append.{is_final, or_else, differ, is_too_long, append_refusal, upload_with}
+use Rattle.upload_book.specs.Checksum.{is_mismatch, is_of_other_algorithm}
+use Rattle.upload_book.specs.Chunk.{Chunk}
+use Rattle.upload_book.specs.declared.account.Account.{Account}
+use Rattle.upload_book.specs.declared.head_row.Kind.{Kind}
+use Rattle.upload_book.specs.declared.head_row.Kind.TheVariants.{Plain, Partial, Final}
+use Rattle.upload_book.specs.declared.settings.Numbers.{Numbers}
+use Rattle.upload_book.specs.Expiry.{lifetime_end, renewed}
+use Rattle.upload_book.specs.Lawful.{IsTenantOf, IsUploadOf, IsOfKind, IsWhole, IsGivenIn, IsSegmentOf}
+use Rattle.upload_book.specs.TenantBook.{Entry, TenantBook, kept_in, with_changed}
+use Rattle.upload_book.specs.Upload.{Upload, content_of, offset_of, is_reached, is_complete, IsComplete, head_row_of}
+use Rattle.upload_book.proofs.Lawful.Entries.{ids_of-with_kept, kept_in-All, kept_in-with_other, kept_in-with_same}
+use Rattle.upload_book.proofs.Lawful.FirstRefusal.{test-passed}
+use Rattle.upload_book.proofs.Lawful.LawfulSteps.{IsUploadOf-beside}
+
+-- what is known of a PATCH that is not refused
+pub record IsAppendable (n : Numbers) (account : Account) (u : Upload) (chunk : Chunk) : Type 0 where
+  pub own : is_final u.kind ≡ false
+  pub typed : not chunk.typed ≡ false
+  pub offset : not (eqb chunk.offset (offset_of u)) ≡ false
+  pub fixed : differ u.declared chunk.length ≡ false
+  pub fits : is_too_long n (unwrap_or (or_else u.declared chunk.length) n.max_size) (offset_of u + length chunk.bytes) ≡ false
+  pub known : is_of_other_algorithm chunk.check ≡ false
+  pub same : is_mismatch chunk.check chunk.bytes ≡ false
+  pub unspent : account.charged + blocks_added n (offset_of u) (length chunk.bytes) ≤ n.last_total
+  pub paid : account.charge + blocks_added n (offset_of u) (length chunk.bytes) ≤ account.quota
+
+-- it is known where no refusal applies
+pub IsAppendable-from_none : (n : Numbers) (account : Account) (u : Upload) (chunk : Chunk) → append_refusal n account (head_row_of u) chunk ≡ None → IsAppendable n account u chunk
+IsAppendable-from_none n account u chunk none =
+    let added = blocks_added n (offset_of u) (length chunk.bytes) in
+    let own = test-passed (is_final u.kind) _ _ none in
+    let typed = test-passed (not chunk.typed) _ _ own.1 in
+    let offset = test-passed (not (eqb chunk.offset (offset_of u))) _ _ typed.1 in
+    let fixed = test-passed (differ u.declared chunk.length) _ _ offset.1 in
+    let fits = test-passed (is_too_long n (unwrap_or (or_else u.declared chunk.length) n.max_size) (offset_of u + length chunk.bytes)) _ _ fixed.1 in
+    let known = test-passed (is_of_other_algorithm chunk.check) _ _ fits.1 in
+    let same = test-passed (is_mismatch chunk.check chunk.bytes) _ _ known.1 in
+    let unspent = test-passed (ltb n.last_total (account.charged + added)) _ _ same.1 in
+    let paid = test-passed (ltb account.quota (account.charge + added)) _ _ unspent.1 in
+    record {
+      own = own.0;
+      typed = typed.0;
+      offset = offset.0;
+      fixed = fixed.0;
+      fits = fits.0;
+      known = known.0;
+      same = same.0;
+      unspent = at_most n.last_total (account.charged + added) unspent.0;
+      paid = at_most account.quota (account.charge + added) paid.0;
+    }
+  where
+    at_most : (most k : ℕ) → ltb most k ≡ false → k ≤ most
+    at_most most k test = grind (arith, nat_tests)
+
+-- a number that is no more is not above
+pub not_above : (most k : ℕ) → k ≤ most → ltb most k ≡ false
+not_above most k less = grind (arith, nat_tests)
+
+-- and no refusal applies where it is known
+pub append_refusal-none : (n : Numbers) (account : Account) (u : Upload) (chunk : Chunk) → IsAppendable n account u chunk → append_refusal n account (head_row_of u) chunk ≡ None
+append_refusal-none n account u chunk can =
+    let added = blocks_added n (offset_of u) (length chunk.bytes) in
+    rw (can.own, can.typed, can.offset, can.fixed, can.fits, can.known, can.same, not_above n.last_total (account.charged + added) can.unspent, not_above account.quota (account.charge + added) can.paid) refl
+
+-- the bytes stand at the end
+pub content_of-append : (n : Numbers) (u : Upload) (chunk : Chunk) (now : ℕ) → content_of (upload_with n u chunk now) ≡ content_of u ++ chunk.bytes
+content_of-append n u chunk now = append-nil (content_of u ++ chunk.bytes)
+
+-- and count for the offset
+pub offset_of-append : (n : Numbers) (u : Upload) (chunk : Chunk) (now : ℕ) → offset_of (upload_with n u chunk now) ≡ offset_of u + length chunk.bytes
+offset_of-append n u chunk now =
+    ap length (content_of-append n u chunk now) ∙ length-append (content_of u) chunk.bytes
+
+-- bytes that are not too many end within the length that is known, and within the greatest size
+pub ends_within : (n : Numbers) (declared : Option ℕ) (end : ℕ) → is_too_long n (unwrap_or declared n.max_size) end ≡ false → IfSome declared (λ most. (end ≤ most) × (most ≤ n.max_size)) × (end ≤ n.max_size)
+ends_within n None end fits = (tt, grind (arith, nat_tests))
+ends_within n (Some most) end fits = ((grind (arith, nat_tests), grind (arith, nat_tests)), grind (arith, nat_tests))
+
+-- the test of completeness and the fact, over a length and an offset
+declared_tells : (declared : Option ℕ) (offset : ℕ) → let complete = is_reached declared offset in ((complete ≡ true) × (declared ≡ Some offset)) ⊎ ((complete ≡ false) × (declared ≡ Some offset → ⊥))
+declared_tells None offset = inr (refl, λ is. cc)
+declared_tells (Some most) offset =
+    elim (eqb_tells most offset) [ inl same ↦ inl (same.0, ap Some same.1) | inr differs ↦ inr (differs.0, λ is. differs.1 (cc)) ]
+
+-- the same of an upload
+pub complete_tells : (u : Upload) → ((is_complete u ≡ true) × IsComplete u) ⊎ ((is_complete u ≡ false) × (IsComplete u → ⊥))
+complete_tells u = declared_tells u.declared (offset_of u)
+
+-- an upload that expires as its kind asks
+pub IsOfKind-renewed : (part : TenantBook) (kind : Kind) (u : Upload) (before : Option ℕ) (end : ℕ) → is_final kind ≡ false → IsWhole u → u.expires ≡ renewed kind (is_complete u) before end → IsOfKind part u kind
+IsOfKind-renewed part Plain u before end own whole is =
+    elim (complete_tells u) [
+      | inl complete ↦
+          let never : u.expires ≡ None = is ∙ rw complete.0 refl in
+          (whole, (λ expires _. false≢true (sym (ap (is_some {T = ℕ}) never) ∙ expires), λ open'. absurd (open' complete.1)))
+      | inr open' ↦ (whole, (λ _. open'.1, λ _. rw is (rw open'.0 refl)))
+    ]
+IsOfKind-renewed part Partial u before end own whole is = (whole, rw is refl)
+IsOfKind-renewed part Final u before end own whole is = absurd (cc)
+
+-- an upload that is not a final one is whole
+pub IsWhole-from_kind : (part : TenantBook) (kind : Kind) (u : Upload) → is_final kind ≡ false → IsOfKind part u kind → IsWhole u
+IsWhole-from_kind part Plain u own sound = sound.0
+IsWhole-from_kind part Partial u own sound = sound.0
+IsWhole-from_kind part Final u own sound = absurd (cc)
+
+-- an upload is as it should be after a PATCH
+IsUploadOf-append : (n : Numbers) (account : Account) (part later : TenantBook) (u : Upload) (chunk : Chunk) (now : ℕ) → IsAppendable n account u chunk → IsUploadOf n part u → IsUploadOf n later (upload_with n u chunk now)
+IsUploadOf-append n account part later u chunk now can sound =
+    let after = upload_with n u chunk now in
+    let within = ends_within n (or_else u.declared chunk.length) (offset_of u + length chunk.bytes) can.fits in
+    let end = offset_of-append n u chunk now in
+    let whole = IsWhole-from_kind part u.kind u can.own sound.kind in
+    let expires : after.expires ≡ renewed u.kind (is_complete after) u.expires (lifetime_end n now) = ap (λ offset. renewed u.kind (is_reached (or_else u.declared chunk.length) offset) u.expires (lifetime_end n now)) (sym end) in
+    record {
+      within = rw end within.0;
+      size = rw end within.1;
+      kind = IsOfKind-renewed later u.kind after u.expires (lifetime_end n now) can.own (record { segment = refl; parts = whole.parts }) expires;
+      metadata = sound.metadata;
+      concat = sound.concat;
+    }
+
+-- past the end of a complete upload there is room for no byte
+pub no_bytes : (n : Numbers) (offset more : ℕ) → is_too_long n offset (offset + more) ≡ false → more ≡ 0
+no_bytes n offset more fits = grind (arith, nat_tests)
+
+-- a part of a final upload takes no more bytes
+IsSegment-append : (n : Numbers) (account : Account) (u : Upload) (chunk : Chunk) (now : ℕ) (segment : List ℕ) → IsAppendable n account u chunk → (u.kind ≡ Partial) × IsComplete u × (content_of u ≡ segment) → let after = upload_with n u chunk now in (after.kind ≡ Partial) × IsComplete after × (content_of after ≡ segment)
+IsSegment-append n account u chunk now segment can is =
+    let fits = rw is.1 at can.fits in
+    let none : length chunk.bytes ≡ 0 = no_bytes n (offset_of u) (length chunk.bytes) fits in
+    let offset : offset_of (upload_with n u chunk now) ≡ offset_of u = offset_of-append n u chunk now ∙ omega arith in
+    let content : content_of (upload_with n u chunk now) ≡ content_of u = content_of-append n u chunk now ∙ rw (nil_from_length chunk.bytes none) (append-nil (content_of u)) in
+    (is.0, rw (is.1, offset) refl, content ∙ is.2)
+
+-- and so still stands for its segment
+IsSegmentOf-append : (n : Numbers) (account : Account) (part : TenantBook) (id : ℕ) (u : Upload) (chunk : Chunk) (now : ℕ) → kept_in part.uploads id ≡ Some u → IsAppendable n account u chunk → (other : ℕ) (segment : List ℕ) → IsSegmentOf part other segment → IsSegmentOf (with_changed part id (upload_with n u chunk now)) other segment
+IsSegmentOf-append n account part id u chunk now there can other segment is =
+    let after = upload_with n u chunk now in
+    elim (eqb_tells other id) [
+      | inl same ↦
+          let seen = rw same.1 at is in
+          let part-is = rw there at seen in
+          rw same.1 (rw (kept_in-with_same part.uploads id after u there) (IsSegment-append n account u chunk now segment can part-is))
+      | inr differs ↦ rw (kept_in-with_other part.uploads id other after differs.1) is
+    ]
+
+-- a PATCH that is not refused leaves the tenant's part as it should be
+pub IsTenantOf-append : (n : Numbers) (account : Account) (part : TenantBook) (id : ℕ) (u : Upload) (chunk : Chunk) (now : ℕ) → kept_in part.uploads id ≡ Some u → append_refusal n account (head_row_of u) chunk ≡ None → IsTenantOf n part → IsTenantOf n (with_changed part id (upload_with n u chunk now))
+IsTenantOf-append n account part id u chunk now there none sound =
+    let can = IsAppendable-from_none n account u chunk none in
+    let after = upload_with n u chunk now in
+    let later : TenantBook = with_changed part id after in
+    let change : Entry Upload → Entry Upload = λ e. cond (eqb e.id id) (record e { kept = after }) e in
+    let sound-u = kept_in-All (IsUploadOf n part) part.uploads id u sound.uploads there in
+    let segments = IsSegmentOf-append n account part id u chunk now there can in
+    record {
+      first = sound.first;
+      last = sound.last;
+      few = omega (arith, sound.few, length-map part.uploads change);
+      ascending = rw (ids_of-with_kept part.uploads id after) sound.ascending;
+      given = All-map (λ (e : Entry Upload). IsGivenIn later e.id) change part.uploads (All-weaker (λ (e : Entry Upload). IsGivenIn part e.id) (λ (e : Entry Upload). IsGivenIn later (change e).id) (λ e given. elim (eqb e.id id) as (λ same. IsGivenIn later (cond same (record e { kept = after }) e).id) [ true ↦ given | false ↦ given ]) part.uploads sound.given);
+      uploads = All-map (λ (e : Entry Upload). IsUploadOf n later e.kept) change part.uploads (All-weaker (λ (e : Entry Upload). IsUploadOf n part e.kept) (λ (e : Entry Upload). IsUploadOf n later (change e).kept) (λ e here. elim (eqb e.id id) as (λ same. IsUploadOf n later (cond same (record e { kept = after }) e).kept) [
+        | true ↦ IsUploadOf-append n account part later u chunk now can sound-u
+        | false ↦ IsUploadOf-beside n part later e.kept (λ _ given. given) (λ other segment _. segments other segment) here
+      ]) part.uploads sound.uploads);
+    }

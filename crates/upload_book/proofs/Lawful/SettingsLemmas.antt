@@ -1,0 +1,77 @@
+-- What settings with no fault keep.
+use Rattle.std.proofs.Common.{◌≡◌, ℕ, ◌<◌, ◌≤◌, Bool, false, ltb, List, [], ◌∷◌, ◌++◌, length, None, arith}
+use Rattle.std.specs.List.{sum_by}
+use Rattle.std.specs.Prelude.{⊤}
+use Rattle.std.proofs.lemmas.Bool.Decides.{nat_tests}
+use Rattle.upload_book.specs.declared.settings_fault.SettingsFault.{SettingsFault}
+use Rattle.upload_book.specs.Refusal.{first_that_holds}
+use Rattle.upload_book.specs.Settings.{Settings, is_outside, number_tests, tenant_tests, settings_fault}
+use Rattle.upload_book.proofs.Lawful.FirstRefusal.{test-passed}
+
+-- no test holds
+abbrev NoneHolds : List (Bool × SettingsFault) → Type 0
+NoneHolds [] = ⊤
+NoneHolds (test ∷ tests) = (test.0 ≡ false) × NoneHolds tests
+
+none_holds : (tests : List (Bool × SettingsFault)) → first_that_holds tests ≡ None → NoneHolds tests
+none_holds [] h = tt
+none_holds (test ∷ tests) h =
+    let passed = test-passed test.0 test.1 (first_that_holds tests) h in (passed.0, none_holds tests passed.1)
+
+within : (n most : ℕ) → is_outside n most ≡ false → n ≤ most
+within n most h = grind (arith, nat_tests)
+
+-- the last id is below the greatest number
+pub last_id-within : (s : Settings) → settings_fault s ≡ None → s.numbers.last_id ≤ 18446744073709551614
+last_id-within s h =
+    let tests = number_tests s.numbers ++ tenant_tests s.numbers.blocks s.tenants in
+    let holds : NoneHolds tests = none_holds tests h in
+    within s.numbers.last_id 18446744073709551614 holds.1.1.1.1.1.1.0
+
+-- the greatest size is within its range
+pub max_size-within : (s : Settings) → settings_fault s ≡ None → s.numbers.max_size ≤ 16777216
+max_size-within s h =
+    let tests = number_tests s.numbers ++ tenant_tests s.numbers.blocks s.tenants in
+    let holds : NoneHolds tests = none_holds tests h in
+    within s.numbers.max_size 16777216 holds.1.1.1.1.0
+
+-- the quotas are within the blocks
+pub quotas-within : (s : Settings) → settings_fault s ≡ None → sum_by (λ t. t.quota) s.tenants ≤ s.numbers.blocks
+quotas-within s h =
+    let tests = number_tests s.numbers ++ tenant_tests s.numbers.blocks s.tenants in
+    let holds : NoneHolds tests = none_holds tests h in
+    at_most s.numbers.blocks (sum_by (λ t. t.quota) s.tenants) holds.1.1.1.1.1.1.1.1.1.1.0
+  where
+    at_most : (most k : ℕ) → ltb most k ≡ false → k ≤ most
+    at_most most k test = grind (arith, nat_tests)
+
+-- there are not more blocks than a pool has
+pub blocks-within : (s : Settings) → settings_fault s ≡ None → s.numbers.blocks ≤ 1048576
+blocks-within s h =
+    let tests = number_tests s.numbers ++ tenant_tests s.numbers.blocks s.tenants in
+    let holds : NoneHolds tests = none_holds tests h in
+    within s.numbers.blocks 1048576 holds.0
+
+-- a block has a byte
+pub block_size-some : (s : Settings) → settings_fault s ≡ None → 0 < s.numbers.block_size
+block_size-some s h =
+    let tests = number_tests s.numbers ++ tenant_tests s.numbers.blocks s.tenants in
+    let holds : NoneHolds tests = none_holds tests h in
+    some s.numbers.block_size 65536 holds.1.0
+  where
+    some : (n most : ℕ) → is_outside n most ≡ false → 0 < n
+    some n most test = grind (arith, nat_tests)
+
+-- a tenant has few uploads
+pub uploads-within : (s : Settings) → settings_fault s ≡ None → s.numbers.uploads ≤ 64
+uploads-within s h =
+    let tests = number_tests s.numbers ++ tenant_tests s.numbers.blocks s.tenants in
+    let holds : NoneHolds tests = none_holds tests h in
+    within s.numbers.uploads 64 holds.1.1.1.1.1.0
+
+-- there are few tenants
+pub tenants-within : (s : Settings) → settings_fault s ≡ None → length s.tenants ≤ 16
+tenants-within s h =
+    let tests = number_tests s.numbers ++ tenant_tests s.numbers.blocks s.tenants in
+    let holds : NoneHolds tests = none_holds tests h in
+    within (length s.tenants) 16 holds.1.1.1.1.1.1.1.0

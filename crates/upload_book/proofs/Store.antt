@@ -1,0 +1,24 @@
+-- The store of blocks after each of its calls.
+pub mod StoredTenants
+pub mod Pieces
+pub mod GoneLemmas
+pub mod PutLemmas
+pub mod JoinLemmas
+pub mod JoinedLemmas
+pub mod PlainStoredTenants
+pub mod StoreLemmas
+pub mod StoreSteps
+pub mod StoreGone
+pub mod AloneLemmas
+pub mod StayLemmas
+pub mod OwnLemmas
+pub mod PutOnce
+pub mod PlainSteps
+pub mod StoreAppend
+pub mod StoreCreate
+pub mod StoreOpen
+pub mod StoreRenew
+pub mod HoldersLemmas
+pub mod BlockBookLemmas
+pub mod StoreJoin
+pub mod StoreReserve

@@ -1,7 +1,0 @@
-use Rattle.std.proofs.Common.{take}
-use Rattle.upload_book.proofs.PartLemmas.{AreSeen}
-use Rattle.upload_book.proofs.store.Store.parts_seen.Given as goal
-
--- the parts so far were seen so
-abbrev pub invariant-loop-part : goal.invariant-loop-part
-invariant-loop-part l = AreSeen l.self l.tenant (take l.part-index l.named) l.now l.seen

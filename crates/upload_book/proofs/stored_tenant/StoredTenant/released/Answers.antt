@@ -1,0 +1,57 @@
+use Rattle.std.proofs.Common.{◌≡◌, ◌+◌, ◌-◌, ◌<◌, ℕ, Option, drop, get_or, length, max, ap, sym, ◌∙◌, arith}
+use Rattle.std.proofs.lemmas.List.{get_or_default}
+use Rattle.block_bodies.specs.Bodies.{blocks_for}
+use Rattle.upload_book.specs.Charge.{price}
+use Rattle.upload_book.specs.declared.piece.Piece.{Piece}
+use Rattle.upload_book.specs.declared.stored_tenant.StoredTenant.{StoredTenant as KeptTenant}
+use Rattle.upload_book.specs.inside.Kept.{stored_tenant_of}
+use Rattle.upload_book.specs.inside.ChargeAfter.{left_beside, sources_in, sources_kept, IsPaid}
+use Rattle.upload_book.specs.Stored.{StoredUpload}
+use Rattle.upload_book.specs.inside.Pieces.{no_chain}
+use Rattle.upload_book.specs.TenantBook.{Entry}
+use Rattle.upload_book.proofs.Charge.ChargeAfterLemmas.{IsReleasedTo, cost-apart, left_to-le, released-all, released-more}
+use Rattle.upload_book.proofs.Store.Pieces.{Contains-entry}
+use Rattle.upload_book.proofs.stored_tenant.StoredTenant.released.Goals as goal
+
+-- no piece
+abbrev no_piece : Piece
+no_piece = record { origin = 0; chain = no_chain }
+
+-- what is found of one piece more
+found : (t : KeptTenant) (size place : ℕ) (ended : Option ℕ) (e : Entry StoredUpload) (piece released origin later beside held blocks more : ℕ) → IsPaid size t → place < length t.uploads.items → e ≡ get_or t.uploads.items place e
+    → piece < length e.kept.pieces → origin ≡ (get_or e.kept.pieces piece no_piece).origin → later ≡ price size (sources_in (drop (piece + 1) e.kept.pieces)) origin
+    → beside ≡ price size (sources_kept (left_beside ended t.uploads.items place)) origin → held ≡ max later beside
+    → ((d : Piece) → blocks ≡ blocks_for size (get_or e.kept.pieces piece d).chain.len) → more ≡ blocks - held
+    → IsReleasedTo size t.next e.kept.pieces (sources_kept (left_beside ended t.uploads.items place)) piece released
+    → IsReleasedTo size t.next e.kept.pieces (sources_kept (left_beside ended t.uploads.items place)) (piece + 1) (released + more)
+found t size place ended e piece released origin later beside held blocks more paid there is within at is_later is_beside is_held takes is_more so_far =
+    let x : Piece = get_or e.kept.pieces piece no_piece in
+    let read : get_or e.kept.pieces piece no_piece ≡ get_or e.kept.pieces piece (get_or e.kept.pieces piece no_piece) = get_or_default e.kept.pieces piece no_piece (get_or e.kept.pieces piece no_piece) within in
+    let given = paid.given (get_or e.kept.pieces piece no_piece) (Contains-entry (stored_tenant_of t) place e (get_or e.kept.pieces piece no_piece) (record { within = there; read = is }) (piece, within, sym read)) in
+    rw (is_more, is_held)
+    (released-more size t.next e.kept.pieces (sources_kept (left_beside ended t.uploads.items place)) piece released blocks later beside (get_or e.kept.pieces piece no_piece) within read given (takes no_piece)
+    (is_later ∙ ap (price size (sources_in (drop (piece + 1) e.kept.pieces))) at) (is_beside ∙ ap (price size (sources_kept (left_beside ended t.uploads.items place))) at) so_far)
+
+-- it is within what the tenant pays
+fits : (t : KeptTenant) (size place : ℕ) (ended : Option ℕ) (e : Entry StoredUpload) (piece released : ℕ) → IsPaid size t → place < length t.uploads.items → e ≡ get_or t.uploads.items place e
+    → IsReleasedTo size t.next e.kept.pieces (sources_kept (left_beside ended t.uploads.items place)) piece released → released < 18446744073709551616
+fits t size place ended e piece released paid there is so_far =
+    omega (arith, so_far, cost-apart size t.next ended t.uploads.items place e there is, left_to-le size t.next ended t.uploads.items place, paid.charge, paid.fits)
+
+pub loop-piece-preserved : goal.loop-piece-preserved
+loop-piece-preserved c =
+    found c.args.self.now c.args.size c.args.place c.args.ended.now.at c.index-upload.result.now c.loop-piece.piece c.loop-piece.released c.origin-origin.result c.price_from-later.result c.price_beside.result c.max-held.result c.blocks-in-loop-piece.result c.saturating_sub-released.result c.requires.paid c.requires.place c.index-upload.ensures
+    (omega (arith, c.loop-piece-test.true, c.piece_count-piece-end.ensures)) (c.origin-origin.ensures no_piece) c.price_from-later.ensures c.price_beside.ensures c.max-held.ensures c.blocks-in-loop-piece.ensures c.saturating_sub-released.ensures c.loop-piece.invariant
+
+pub overflow_add-released : goal.overflow_add-released
+overflow_add-released c =
+    let next = found c.args.self.now c.args.size c.args.place c.args.ended.now.at c.index-upload.result.now c.loop-piece.piece c.loop-piece.released c.origin-origin.result c.price_from-later.result c.price_beside.result c.max-held.result c.blocks-in-loop-piece.result c.saturating_sub-released.result c.requires.paid c.requires.place c.index-upload.ensures
+    (omega (arith, c.loop-piece-test.true, c.piece_count-piece-end.ensures)) (c.origin-origin.ensures no_piece) c.price_from-later.ensures c.price_beside.ensures c.max-held.ensures c.blocks-in-loop-piece.ensures c.saturating_sub-released.ensures c.loop-piece.invariant in
+    let small = fits c.args.self.now c.args.size c.args.place c.args.ended.now.at c.index-upload.result.now (c.loop-piece.piece + 1) (c.loop-piece.released + c.saturating_sub-released.result) c.requires.paid c.requires.place c.index-upload.ensures next in
+    omega (arith, small)
+
+pub returns : goal.returns
+returns c =
+    let t = c.args.self.now in
+    released-all c.args.size t.next c.index-upload.result.now.kept.pieces (sources_kept (left_beside c.args.ended.now.at t.uploads.items c.args.place)) c.loop-piece.piece c.loop-piece.released (omega (arith, c.loop-piece-test.false, c.piece_count-piece-end.ensures)) c.loop-piece.invariant
+    ∙ cost-apart c.args.size t.next c.args.ended.now.at t.uploads.items c.args.place c.index-upload.result.now c.requires.place c.index-upload.ensures

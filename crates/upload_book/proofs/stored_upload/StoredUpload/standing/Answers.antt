@@ -1,7 +1,0 @@
-use Rattle.std.proofs.Common.{refl}
-use Rattle.upload_book.proofs.OwnLemmas.{offset-whole}
-use Rattle.upload_book.proofs.stored_upload.StoredUpload.standing.Goals as goal
-
-pub returns : goal.returns
-returns c p whole =
-    rw (offset-whole p c.args.self.now.kept whole, c.offset.ensures, c.kind.ensures) (rw (← c.self.view_is) refl)

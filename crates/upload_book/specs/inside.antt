@@ -1,0 +1,7 @@
+-- What only proofs need: how the book keeps its uploads.
+pub mod ChargeAfter
+pub mod HeldBytes
+pub mod Kept
+pub mod Pieces
+pub mod Places
+pub mod Progress

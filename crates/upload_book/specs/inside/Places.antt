@@ -1,0 +1,62 @@
+-- What stands at a place of a tenant's part in a store, and the part with another upload there.
+use Rattle.std.specs.Prelude.{◌≡◌, ◌≢◌, ℕ, ◌<◌, ◌≤◌, List, [], ◌∷◌, ◌++◌, map, length, set, Option, Some, All, Ok}
+use Rattle.std.specs.List.{remove}
+use Rattle.std.specs.List.Sorted.{IsStrictlyIncreasing}
+use Rattle.block_bodies.specs.Bodies.{Chain}
+use Rattle.upload_book.specs.declared.head_row.Kind.TheVariants.{Final}
+use Rattle.upload_book.specs.Stored.{StoredUpload, part_kept}
+use Rattle.upload_book.specs.TenantBook.{TenantPart, Entry, visible_upload}
+use Rattle.upload_book.specs.Upload.{Upload, content_of}
+use Rattle.upload_book.specs.BlockStore.{BlockStore, stored_tenant_at, part_at, entry_at, upload_at}
+
+-- the upload with the id stands at this place of its tenant's part
+pub record IsPlaceOf (s : BlockStore) (tenant id place : ℕ) : Type 0 where
+  pub there : place < length (stored_tenant_at s tenant).uploads
+  pub named : (entry_at s tenant place).id ≡ id
+
+-- a request for the id sees, at this moment, the upload at this place
+pub record IsVisibleIn (s : BlockStore) (tenant id now place : ℕ) : Type 0 where
+  pub there : place < length (stored_tenant_at s tenant).uploads
+  pub named : (entry_at s tenant place).id ≡ id
+  pub visible : visible_upload (part_at s tenant) id now ≡ Ok (upload_at s tenant place)
+
+-- a part of a concatenation that is named so is, at this moment, the partial upload at this place
+pub record IsPartIn (s : BlockStore) (tenant : ℕ) (named : Option ℕ) (now place : ℕ) : Type 0 where
+  pub there : place < length (stored_tenant_at s tenant).uploads
+  pub seen : part_kept (stored_tenant_at s tenant) now named ≡ Some (entry_at s tenant place)
+
+-- there are few enough uploads of a tenant, and of their segments, for every block to be held once more by each
+pub record AreFew (s : BlockStore) (tenant : ℕ) : Type 0 where
+  pub uploads : length (part_at s tenant).uploads ≤ 64
+  pub segments : All (λ e. length e.kept.segments ≤ 32) (part_at s tenant).uploads
+
+-- the upload with bytes at its end, this length and this end
+abbrev pub with_bytes : Upload → List ℕ → Option ℕ → Option ℕ → Upload
+with_bytes u bytes declared expires = record u {
+  declared = declared;
+  segments = (content_of u ++ bytes) ∷ [];
+  expires = expires;
+}
+
+-- No other upload has the bytes of the upload at a place: it is not a final one, it alone has its id, and no
+-- final one has it as a part. So nobody else sees what is written after its bytes.
+pub record IsAlone (s : BlockStore) (tenant place : ℕ) : Type 0 where
+  pub own : (entry_at s tenant place).kept.kind ≢ Final
+  pub ids : IsStrictlyIncreasing (map {A = Entry Upload} {B = ℕ} (λ e. e.id) (part_at s tenant).uploads)
+  pub parts : All (λ e. e.kept.kind ≡ Final → All (λ o. o ≢ (entry_at s tenant place).id) e.kept.parts) (part_at s tenant).uploads
+
+-- the upload with another list of its blocks
+abbrev pub with_chain : Entry StoredUpload → Chain → Entry StoredUpload
+with_chain e chain = record e { kept = record e.kept { pieces = record { origin = e.id; chain = chain } ∷ [] } }
+
+-- the upload with this length and this end
+abbrev pub with_head : Entry StoredUpload → Option ℕ → Option ℕ → Entry StoredUpload
+with_head e declared expires = record e { kept = record e.kept { declared = declared; expires = expires } }
+
+-- a part with another entry at a place
+abbrev pub with_upload : {K : Type 0} → TenantPart K → ℕ → Entry K → TenantPart K
+with_upload part place e = record part { uploads = set part.uploads place e }
+
+-- a part without the entry at a place
+abbrev pub without_upload : {K : Type 0} → TenantPart K → ℕ → TenantPart K
+without_upload part place = record part { uploads = remove part.uploads place }

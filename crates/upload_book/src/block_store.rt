@@ -1,0 +1,529 @@
+ghost use Rattle.std.specs.Prelude.{◌≡◌, ◌≢◌, ◌+◌, ◌-◌, ◌<◌, ◌≤◌, ◌^◌, ◌==◌, [], length, map, min, position, set, All, None, IfOk, IfErr, IfSome, IfNone, IsOk, IsTrue, OnOk, OnErr};
+ghost use Rattle.std.specs.List.{range_with_len, sum_by};
+ghost use Rattle.block_pool.specs.Blocks.{IsWithinLimits, all_free, free_in, size_of};
+ghost use Rattle.upload_book.specs.Account.{blocks_between};
+ghost use Rattle.upload_book.specs.Charge.{charge_with};
+ghost use Rattle.upload_book.specs.Concat.{are_complete, are_there, final_upload, joined_len, parts_found};
+ghost use Rattle.upload_book.specs.Create.{new_kind, upload_from};
+ghost use Rattle.upload_book.specs.Ready.{IsListed};
+ghost use Rattle.upload_book.specs.Lawful.{IsConcatText, is_kept_metadata};
+ghost use Rattle.upload_book.specs.Sweep.{part_after_sweep};
+ghost use Rattle.upload_book.specs.declared.head_row.Kind.TheVariants.{Final};
+ghost use Rattle.upload_book.specs.inside.Kept.{stored_tenant_of, HasRoom};
+ghost use Rattle.upload_book.specs.Settings.{settings_fault};
+ghost use Rattle.upload_book.specs.inside.Progress.{progress_in};
+ghost use Rattle.upload_book.specs.BlockStore.{opening_stored_tenants, plain_in, stored_tenant_at, part_at, pieces_named, entry_at, holders_at, rows_at, upload_at, Joins};
+ghost use Rattle.upload_book.specs.inside.Places.{with_bytes, with_upload, without_upload, AreFew, IsAlone, IsPartIn, IsVisibleIn};
+ghost use Rattle.upload_book.specs.Stored as kept;
+ghost use Rattle.upload_book.specs.Stored.{part_kept, segment_of, IsStored};
+ghost use Rattle.upload_book.specs.inside.Pieces.{as_piece, no_chain, own_chain, HasOwnPiece};
+ghost use Rattle.block_bodies.specs.Bodies.{HasRoom as HasRoomFor};
+ghost use Rattle.block_bodies.specs.Changes.{SameSizes};
+ghost use Rattle.upload_book.specs.TenantBook.{visible_upload, with_new};
+ghost use Rattle.upload_book.specs.Upload.{content_of, head_row_of, offset_of};
+
+use crate::create::NewUpload;
+use crate::head_row::{HeadRow, Name};
+use crate::moment::Moment;
+use crate::parts_seen::PartsSeen;
+use crate::piece::UnheldPiece;
+use crate::pieces::hold_each;
+use crate::progress::Progress;
+use crate::ready::ReadyFinal;
+use crate::refusal::Refusal;
+use crate::settings::Settings;
+use crate::stored_tenant::StoredTenant;
+use crate::stored_upload::{StoredUpload, body_for};
+use block_bodies::Body;
+use block_pool::Pool;
+use std::alloc::{AllocError, Global};
+use std::marker::Model;
+
+/// The uploads of all tenants, in blocks of one pool.
+#[derive(Drop)]
+pub(crate) struct BlockStore {
+    pool: Pool,
+    stored_tenants: Vec<StoredTenant>,
+    room: usize,
+}
+
+impl Model for BlockStore {
+    ghost use Rattle.upload_book.specs.BlockStore as spec;
+
+    ghost Value = { spec.BlockStore };
+
+    ghost use Rattle.upload_book.specs.inside.Kept.{store_of, IsKept};
+
+    ghost view = { store_of };
+
+    ghost invariant = { IsKept };
+}
+
+impl BlockStore {
+    /// The store with no upload, with a part for each tenant of the settings. All its memory is taken here,
+    /// but for the lists of the blocks of its uploads; the error is that there was too little.
+    pub(crate) fn new(alloc: Global, settings: &Settings) -> Result<BlockStore, AllocError>
+        ensures value { IfOk result (λ s. s ≡ record {
+          pool = all_free settings.now.numbers.blocks settings.now.numbers.block_size;
+          stored_tenants = opening_stored_tenants settings.now.tenants;
+          room = settings.now.numbers.uploads;
+        }) }
+        ensures sound { settings_fault settings.now ≡ None }
+    {
+        let numbers = settings.numbers();
+        let pool = Pool::new(alloc, numbers.blocks as u32, numbers.block_size as u32)?;
+        let stored_tenants = empty_stored_tenants(alloc, settings)?;
+        Ok(BlockStore {
+            pool,
+            stored_tenants,
+            room: numbers.uploads as usize,
+        })
+    }
+
+    /// How many blocks are free: those that no tenant pays.
+    pub(crate) fn free(&self) -> u32
+        ensures value { result ≡ free_in self.now.pool }
+        ensures in_use { free_in self.now.pool + sum_by (charge_with self.now.pool.block_size) (plain_in self.now)
+            ≡ size_of self.now.pool }
+    {
+        self.pool.free()
+    }
+
+    /// How many blocks the tenant at this place pays; 0 where there is none.
+    pub(crate) fn charge(&self, tenant: usize) -> u64
+        ensures { result ≡ charge_with self.now.pool.block_size (part_at self.now tenant) }
+    {
+        if tenant < self.tenants() {
+            self.stored_tenants[tenant].charge
+        } else {
+            0
+        }
+    }
+
+    /// How many blocks each of 16 tenants pays, by its place; 0 where there is none.
+    pub(crate) fn charges(&self) -> [u64; 16]
+        ensures { result ≡ map (λ tenant. charge_with self.now.pool.block_size (part_at self.now tenant))
+            (range_with_len 0 16) }
+    {
+        let mut charges = [0; 16];
+        for tenant in 0..16 {
+            charges[tenant] = self.charge(tenant);
+        }
+        charges
+    }
+
+    /// How many blocks the tenant at this place will pay once the upload at a place has ended. It goes over the
+    /// tenant's pieces once for each piece of this upload.
+    pub(crate) fn charge_without(&self, tenant: usize, place: usize) -> u64
+        requires tenant { tenant < length self.now.stored_tenants }
+        requires place { place < length (stored_tenant_at self.now tenant).uploads }
+        ensures { result ≡ charge_with self.now.pool.block_size (without_upload (part_at self.now tenant) place) }
+    {
+        let size = u64::from(self.pool.block_size());
+        self.stored_tenants[tenant].charge_without(place, size)
+    }
+
+    /// How many blocks each of 16 tenants will pay, by its place, once all uploads that have expired at `now` have
+    /// ended; 0 where there is no tenant. It goes over all uploads once, and over a tenant's pieces once for each
+    /// piece of an upload that has expired.
+    pub(crate) fn charges_swept(&self, now: Moment) -> [u64; 16]
+        ensures { result ≡ map (λ tenant. charge_with self.now.pool.block_size
+            (part_after_sweep now (part_at self.now tenant))) (range_with_len 0 16) }
+    {
+        let mut charges = [0; 16];
+        for tenant in 0..16 {
+            charges[tenant] = self.charge_swept(tenant, now);
+        }
+        charges
+    }
+
+    // How many blocks the tenant at this place will pay once its uploads that have expired at `now` have ended; 0 where
+    // there is no tenant.
+    fn charge_swept(&self, tenant: usize, now: Moment) -> u64
+        ensures { result ≡ charge_with self.now.pool.block_size (part_after_sweep now (part_at self.now tenant)) }
+    {
+        if tenant < self.tenants() {
+            let size = u64::from(self.pool.block_size());
+            self.stored_tenants[tenant].charge_swept(now, size)
+        } else {
+            0
+        }
+    }
+
+    /// The id that the tenant's next upload gets.
+    pub(crate) fn next(&self, tenant: usize) -> u64
+        requires { tenant < length self.now.stored_tenants }
+        ensures { result ≡ (part_at self.now tenant).next }
+    {
+        self.stored_tenants[tenant].next
+    }
+
+    /// How many uploads the tenant has, expired ones included.
+    pub(crate) fn count(&self, tenant: usize) -> usize
+        requires { tenant < length self.now.stored_tenants }
+        ensures { result ≡ length (part_at self.now tenant).uploads }
+    {
+        self.stored_tenants[tenant].uploads.len()
+    }
+
+    /// How many hold the block at a place of one of an upload's segments, both from 0, whether the upload has
+    /// expired or not; `None` where there is none. With it a caller learns what every store keeps of its blocks.
+    pub(crate) fn holders(&self, name: &Name, segment: usize, place: u64) -> Option<u64>
+        ensures value { result ≡ holders_at self.now name.now.tenant name.now.id segment place }
+        ensures stored { IsStored self.now.pool self.now.stored_tenants }
+    {
+        let stored_tenant = self.stored_tenants.get(usize::from(name.tenant))?;
+        let upload = &stored_tenant.uploads[stored_tenant.place(name.id)?];
+        let block = upload.block(segment, place)?;
+        Some(self.pool.count(block))
+    }
+
+    /// Says of the blocks what holds of every store, and does nothing.
+    pub(crate) fn tell_blocks(&self)
+        ensures stored { IsStored self.now.pool self.now.stored_tenants }
+        ensures own { All (λ (t : kept.StoredTenant). All HasOwnPiece t.uploads) self.now.stored_tenants }
+    {
+        self.pool.free();
+    }
+
+    /// The place, in its tenant's part, of the upload that a request for `name` sees at `now`.
+    pub(crate) fn place(&self, name: &Name, now: Moment) -> Result<usize, Refusal>
+        ensures there { IfOk result (λ i. name.now.tenant < length self.now.stored_tenants) }
+        ensures visible { IfOk result (λ i. IsVisibleIn self.now name.now.tenant name.now.id now i) }
+        ensures refused { IfErr result
+            (λ e. visible_upload (part_at self.now name.now.tenant) name.now.id now ≡ Err e) }
+    {
+        match self.stored_tenants.get(usize::from(name.tenant)) {
+            Some(stored_tenant) => stored_tenant.visible(name.id, now),
+            None => Err(Refusal::Unknown),
+        }
+    }
+
+    /// The place, in its tenant's part, of the upload of this name, whether it has expired or not; `None` where there is
+    /// none. It goes over the tenant's uploads once.
+    pub(crate) fn find(&self, name: &Name) -> Option<usize>
+        ensures { result ≡ position (λ e. e.id == name.now.id) (stored_tenant_at self.now name.now.tenant).uploads }
+    {
+        self.stored_tenants
+            .get(usize::from(name.tenant))?
+            .place(name.id)
+    }
+
+    /// When the upload at a place expires, if it does.
+    pub(crate) fn expires(&self, tenant: usize, place: usize) -> Option<Moment>
+        requires tenant { tenant < length self.now.stored_tenants }
+        requires place { place < length (stored_tenant_at self.now tenant).uploads }
+        ensures { result ≡ (upload_at self.now tenant place).expires }
+    {
+        self.stored_tenants[tenant].uploads[place].expires()
+    }
+
+    /// What a HEAD tells of the upload at a place.
+    pub(crate) fn head_row(&self, tenant: usize, place: usize) -> HeadRow
+        requires tenant { tenant < length self.now.stored_tenants }
+        requires place { place < length (stored_tenant_at self.now tenant).uploads }
+        ensures { result ≡ head_row_of (upload_at self.now tenant place) }
+    {
+        self.stored_tenants[tenant].uploads[place].head_row()
+    }
+
+    /// How far the upload at a place is.
+    pub(crate) fn progress(&self, tenant: usize, place: usize) -> Progress
+        requires tenant { tenant < length self.now.stored_tenants }
+        requires place { place < length (stored_tenant_at self.now tenant).uploads }
+        ensures { result ≡ progress_in (head_row_of (upload_at self.now tenant place)) }
+    {
+        self.stored_tenants[tenant].uploads[place].progress()
+    }
+
+    /// The bytes of the upload at a place, copied once. The error is that there was no memory for them, which
+    /// never comes where there are none.
+    pub(crate) fn read(
+        &self,
+        alloc: Global,
+        tenant: usize,
+        place: usize,
+    ) -> Result<Vec<u8>, AllocError>
+        requires tenant { tenant < length self.now.stored_tenants }
+        requires place { place < length (stored_tenant_at self.now tenant).uploads }
+        ensures bytes { IfOk result (λ v. v.items ≡ content_of (upload_at self.now tenant place)) }
+        ensures none { content_of (upload_at self.now tenant place) ≡ [] → IsOk result }
+    {
+        self.stored_tenants[tenant].uploads[place].read(alloc, &self.pool)
+    }
+
+    /// A body of no bytes with room for so many, which a new upload may have. The error is that there was no memory
+    /// for the list of their blocks.
+    pub(crate) fn body_for(&self, alloc: Global, more: u64) -> Result<Body, AllocError>
+        requires blocks { sum_by (charge_with self.now.pool.block_size) (plain_in self.now)
+            + blocks_between self.now.pool.block_size 0 more ≤ size_of self.now.pool }
+        ensures empty { IfOk result (λ body. body ≡ record no_chain { room = body.room }) }
+        ensures listed { IfOk result (λ body. HasRoomFor self.now.pool body more) }
+        ensures memory { OnErr result (0 < blocks_between self.now.pool.block_size 0 more) }
+    {
+        let body = body_for(alloc, &self.pool, more)?;
+        Ok(body)
+    }
+
+    /// Creates an upload with these bytes, for which the body has room, and with this end as the tenant's next one;
+    /// its texts get a box that is spare. Gives how many blocks were taken for the bytes.
+    pub(crate) fn create(
+        &mut self,
+        tenant: usize,
+        new: &NewUpload,
+        body: Body,
+        bytes: &[u8],
+        expires: Option<Moment>,
+    ) -> u64
+        requires tenant { tenant < length self.old.stored_tenants }
+        requires room { length (stored_tenant_at self.old tenant).uploads < self.old.room }
+        requires id { (stored_tenant_at self.old tenant).next + 1 < 2 ^ 64 }
+        requires metadata { IsTrue (is_kept_metadata new.now.metadata) }
+        requires concat { IsConcatText (new_kind new.now.partial) new.now.concat }
+        requires blocks { sum_by (charge_with self.old.pool.block_size) (plain_in self.old)
+            + blocks_between self.old.pool.block_size 0 (length bytes.now) ≤ size_of self.old.pool }
+        requires empty { body ≡ record no_chain { room = body.room } }
+        requires listed { HasRoomFor self.old.pool body (length bytes.now) }
+        ensures plain { plain_in self.new ≡ set (plain_in self.old) tenant
+            (with_new (part_at self.old tenant) (upload_from new.now bytes.now expires)) }
+        ensures taken { result ≡ blocks_between self.old.pool.block_size 0 (length bytes.now) }
+        ensures charge { charge_with self.old.pool.block_size (part_at self.new tenant)
+            ≡ charge_with self.old.pool.block_size (part_at self.old tenant) + result }
+        ensures sizes { SameSizes self.old.pool self.new.pool }
+        ensures room_stays { self.new.room ≡ self.old.room }
+    {
+        let mut body = body;
+        let taken = body.put(&mut self.pool, bytes);
+        let stored_tenant = &mut self.stored_tenants[tenant];
+        let texts = stored_tenant.spare.pop().unwrap();
+        let upload = StoredUpload::new(stored_tenant.next, new, body, expires, texts);
+        stored_tenant.uploads.push_reserved(upload);
+        stored_tenant.next += 1;
+        stored_tenant.charge += taken;
+        taken
+    }
+
+    /// The place of the upload that a part of a concatenation names, where it is a partial one that a request
+    /// sees at `now`.
+    fn part(&self, tenant: usize, named: Option<u64>, now: Moment) -> Option<usize>
+        requires { tenant < length self.now.stored_tenants }
+        ensures place { IfSome result (λ i. IsPartIn self.now tenant named now i) }
+        ensures none { IfNone result (part_kept (stored_tenant_at self.now tenant) now named ≡ None) }
+    {
+        self.stored_tenants[tenant].part(named, now)
+    }
+
+    /// What the parts of a concatenation are together at `now`.
+    pub(crate) fn parts_seen(&self, tenant: usize, named: &[Option<u64>], now: Moment) -> PartsSeen
+        requires { tenant < length self.now.stored_tenants }
+        ensures there { result.there ≡ are_there named.now (rows_at self.now tenant named.now now) }
+        ensures complete { result.complete ≡ are_complete (rows_at self.now tenant named.now now) }
+        ensures len { result.len ≡ min (joined_len (rows_at self.now tenant named.now now)) (2 ^ 64 - 1) }
+    {
+        let mut seen = PartsSeen {
+            there: true,
+            complete: true,
+            len: 0,
+        };
+        for part in named {
+            seen = match self.part(tenant, *part, now) {
+                Some(place) => seen.with(&self.progress(tenant, place)),
+                None => seen.with_missing(),
+            };
+        }
+        seen
+    }
+
+    /// The pieces of the parts of a concatenation, before their blocks are held for it. The error is that there
+    /// was no memory for the lists of them.
+    pub(crate) fn list_parts(
+        &self,
+        alloc: Global,
+        tenant: usize,
+        named: &[Option<u64>],
+        now: Moment,
+    ) -> Result<Vec<UnheldPiece>, AllocError>
+        requires { tenant < length self.now.stored_tenants }
+        ensures pieces { IfOk result (λ v. map segment_of (map as_piece v.items)
+            ≡ map segment_of (pieces_named self.now tenant named.now now)) }
+        ensures few { IfOk result (λ v. length v.items ≤ length named.now) }
+    {
+        let mut listed = Vec::with_capacity(alloc, named.len())?;
+        for part in named {
+            if let Some(place) = self.part(tenant, *part, now) {
+                let piece = self.stored_tenants[tenant].uploads[place].list()?;
+                listed.push_reserved(piece);
+            }
+        }
+        Ok(listed)
+    }
+
+    /// Keeps a final upload, which is joined of the pieces that were listed, as the tenant's next one.
+    pub(crate) fn join(&mut self, tenant: usize, ready: ReadyFinal)
+        requires tenant { tenant < length self.old.stored_tenants }
+        requires room { length (stored_tenant_at self.old tenant).uploads < self.old.room }
+        requires id { (stored_tenant_at self.old tenant).next + 1 < 2 ^ 64 }
+        requires few { AreFew self.old tenant }
+        requires parts { length ready.new.parts ≤ 32 }
+        requires len { ready.len ≡ joined_len (rows_at self.old tenant ready.new.parts ready.now) }
+        requires metadata { IsTrue (is_kept_metadata ready.new.metadata) }
+        requires concat { IsConcatText Final ready.new.concat }
+        requires listed { IsListed self.old tenant ready }
+        ensures plain { plain_in self.new ≡ set (plain_in self.old) tenant
+            (with_new (part_at self.old tenant)
+            (final_upload (parts_found (part_at self.old tenant) ready.entry.now ready.entry.new.parts) ready.entry.new)) }
+        ensures joins { Joins self.old self.new tenant ready.entry.new ready.entry.now }
+        ensures sizes { SameSizes self.old.pool self.new.pool }
+        ensures room_stays { self.new.room ≡ self.old.room }
+        ensures charge { charge_with self.old.pool.block_size (part_at self.new tenant)
+            ≡ charge_with self.old.pool.block_size (part_at self.old tenant) }
+    {
+        let ReadyFinal {
+            new,
+            len,
+            unheld,
+            pieces,
+            ..
+        } = ready;
+        let mut pieces = pieces;
+        hold_each(unheld, &mut self.pool, &mut pieces);
+        let stored_tenant = &mut self.stored_tenants[tenant];
+        let texts = stored_tenant.spare.pop().unwrap();
+        let upload = StoredUpload::joined(stored_tenant.next, &new, pieces, len, texts);
+        stored_tenant.uploads.push_reserved(upload);
+        stored_tenant.next += 1;
+    }
+
+    /// Tells the length and the end of the upload at a place, which is not a final one.
+    pub(crate) fn renew(
+        &mut self,
+        tenant: usize,
+        place: usize,
+        declared: Option<u64>,
+        expires: Option<Moment>,
+    )
+        requires tenant { tenant < length self.old.stored_tenants }
+        requires place { place < length (stored_tenant_at self.old tenant).uploads }
+        requires own { (entry_at self.old tenant place).kept.kind ≢ Final }
+        ensures plain { plain_in self.new ≡ set (plain_in self.old) tenant
+            (with_upload (part_at self.old tenant) place (record {
+              id = (entry_at self.old tenant place).id;
+              kept = with_bytes (upload_at self.old tenant place) [] declared expires;
+            })) }
+        ensures pool { self.new.pool ≡ self.old.pool }
+        ensures room_stays { self.new.room ≡ self.old.room }
+        ensures charge { charge_with self.old.pool.block_size (part_at self.new tenant)
+            ≡ charge_with self.old.pool.block_size (part_at self.old tenant) }
+    {
+        let stored_tenant = &mut self.stored_tenants[tenant];
+        stored_tenant.uploads[place].renew(declared, expires);
+    }
+
+    /// Makes room in the list of the blocks of the upload at a place for so many more bytes. The error is that there
+    /// was no memory for it, and then nothing changes.
+    pub(crate) fn reserve(
+        &mut self,
+        tenant: usize,
+        place: usize,
+        more: u64,
+    ) -> Result<(), AllocError>
+        requires tenant { tenant < length self.old.stored_tenants }
+        requires place { place < length (stored_tenant_at self.old tenant).uploads }
+        requires alone { IsAlone self.old tenant place }
+        requires room { sum_by (charge_with self.old.pool.block_size) (plain_in self.old)
+            + blocks_between self.old.pool.block_size (offset_of (upload_at self.old tenant place)) more
+            ≤ size_of self.old.pool }
+        ensures plain { OnOk result (plain_in self.new ≡ plain_in self.old) }
+        ensures listed { OnOk result
+            (HasRoomFor self.new.pool (own_chain (entry_at self.new tenant place).kept.pieces) more) }
+        ensures pool { self.new.pool ≡ self.old.pool }
+        ensures room_stays { self.new.room ≡ self.old.room }
+        ensures memory { OnErr result (0 < blocks_between self.old.pool.block_size
+            (offset_of (upload_at self.old tenant place)) more) }
+        ensures unchanged { OnErr result (self.new ≡ self.old) }
+    {
+        let stored_tenant = &mut self.stored_tenants[tenant];
+        let upload = &mut stored_tenant.uploads[place];
+        upload.reserve(&self.pool, more)?;
+        Ok(())
+    }
+
+    /// Adds bytes, for which room was made, at the end of the upload at a place, and tells its length and its end.
+    /// Gives how many blocks were taken for the bytes.
+    pub(crate) fn put(
+        &mut self,
+        tenant: usize,
+        place: usize,
+        bytes: &[u8],
+        declared: Option<u64>,
+        expires: Option<Moment>,
+    ) -> u64
+        requires tenant { tenant < length self.old.stored_tenants }
+        requires place { place < length (stored_tenant_at self.old tenant).uploads }
+        requires alone { IsAlone self.old tenant place }
+        requires room { sum_by (charge_with self.old.pool.block_size) (plain_in self.old)
+            + blocks_between self.old.pool.block_size (offset_of (upload_at self.old tenant place)) (length bytes.now)
+            ≤ size_of self.old.pool }
+        requires listed { HasRoomFor self.old.pool (own_chain (entry_at self.old tenant place).kept.pieces)
+            (length bytes.now) }
+        ensures plain { plain_in self.new ≡ set (plain_in self.old) tenant
+            (with_upload (part_at self.old tenant) place (record {
+              id = (entry_at self.old tenant place).id;
+              kept = with_bytes (upload_at self.old tenant place) bytes.now declared expires;
+            })) }
+        ensures taken { result ≡ blocks_between self.old.pool.block_size
+            (offset_of (upload_at self.old tenant place)) (length bytes.now) }
+        ensures charge { charge_with self.old.pool.block_size (part_at self.new tenant)
+            ≡ charge_with self.old.pool.block_size (part_at self.old tenant) + result }
+        ensures sizes { SameSizes self.old.pool self.new.pool }
+        ensures room_stays { self.new.room ≡ self.old.room }
+    {
+        let stored_tenant = &mut self.stored_tenants[tenant];
+        let upload = &mut stored_tenant.uploads[place];
+        let taken = upload.put(&mut self.pool, bytes);
+        upload.renew(declared, expires);
+        stored_tenant.charge += taken;
+        taken
+    }
+
+    /// Ends the upload at a place. Gives how many blocks became free: those that its tenant no longer pays.
+    pub(crate) fn remove(&mut self, tenant: usize, place: usize) -> u64
+        requires tenant { tenant < length self.old.stored_tenants }
+        requires place { place < length (stored_tenant_at self.old tenant).uploads }
+        ensures plain { plain_in self.new ≡ set (plain_in self.old) tenant
+            (without_upload (part_at self.old tenant) place) }
+        ensures charge { charge_with self.old.pool.block_size (part_at self.new tenant) + result
+            ≡ charge_with self.old.pool.block_size (part_at self.old tenant) }
+        ensures free { free_in self.new.pool ≡ free_in self.old.pool + result }
+        ensures sizes { SameSizes self.old.pool self.new.pool }
+        ensures room_stays { self.new.room ≡ self.old.room }
+    {
+        let stored_tenant = &mut self.stored_tenants[tenant];
+        let upload = stored_tenant.uploads.remove(place);
+        let (freed, texts) = upload.give_back(&mut self.pool);
+        stored_tenant.spare.push_reserved(texts);
+        stored_tenant.charge -= freed;
+        freed
+    }
+
+    /// How many tenants there are.
+    pub(crate) fn tenants(&self) -> usize
+        ensures { result ≡ length self.now.stored_tenants }
+    {
+        self.stored_tenants.len()
+    }
+}
+
+// A part with no upload for each tenant of the settings, with room for as many as it may have.
+fn empty_stored_tenants(alloc: Global, settings: &Settings) -> Result<Vec<StoredTenant>, AllocError>
+    ensures stored_tenants { IfOk result (λ v. map stored_tenant_of v.items ≡ opening_stored_tenants settings.now.tenants) }
+    ensures charges { IfOk result (λ v. All (λ t. t.charge ≡ 0) v.items) }
+    ensures room { IfOk result (λ v. All (HasRoom settings.now.numbers.uploads) v.items) }
+{
+    let room = settings.numbers().uploads as usize;
+    let mut stored_tenants = Vec::with_capacity(alloc, settings.tenant_count())?;
+    for place in 0..settings.tenant_count() {
+        stored_tenants.push_reserved(StoredTenant::new(alloc, settings.quota(place), room)?);
+    }
+    Ok(stored_tenants)
+}

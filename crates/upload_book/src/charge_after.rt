@@ -1,0 +1,111 @@
+//! What a tenant will pay once uploads have ended, found before any of them ends, and without memory.
+//!
+//! A tenant pays each origin once: the most blocks that a piece of it takes. So of a piece that ends its tenant no
+//! longer pays the blocks that it takes beyond those of every other piece of its origin.
+ghost use Rattle.std.specs.Prelude.{◌≡◌, ◌+◌, ◌<◌, ◌^◌, Some, length};
+ghost use Rattle.std.specs.List.{remove};
+ghost use Rattle.upload_book.specs.Charge.{price};
+ghost use Rattle.upload_book.specs.inside.ChargeAfter.{cost_of, left, left_beside, left_to, sources_kept, IsPaid};
+
+use crate::moment::Moment;
+use crate::stored_tenant::StoredTenant;
+use crate::stored_upload::StoredUpload;
+
+/// Which uploads have ended: those that had expired at this moment, or none where there is no moment.
+#[derive(Clone, Copy, Debug)]
+pub(crate) struct Ended {
+    pub(crate) at: Option<Moment>,
+}
+
+impl StoredTenant {
+    /// What the tenant will pay, in blocks of this size, once the upload at a place has ended. It goes over the
+    /// tenant's pieces once for each piece of this upload.
+    pub(crate) fn charge_without(&self, place: usize, size: u64) -> u64
+        requires place { place < length self.now.uploads.items }
+        requires size { 0 < size }
+        requires paid { IsPaid size self.now }
+        ensures { result ≡ cost_of size self.now.next (remove self.now.uploads.items place) }
+    {
+        let none = Ended { at: None };
+        self.charge - self.released(place, &none, size)
+    }
+
+    /// What the tenant will pay, in blocks of this size, once its uploads that have expired at `now` have ended. It
+    /// goes over the uploads once, and over the tenant's pieces once for each piece of an upload that has expired.
+    pub(crate) fn charge_swept(&self, now: Moment, size: u64) -> u64
+        requires size { 0 < size }
+        requires paid { IsPaid size self.now }
+        ensures { result ≡ cost_of size self.now.next (left (Some now) self.now.uploads.items) }
+    {
+        let ended = Ended { at: Some(now) };
+        let mut released = 0;
+        for place in 0..self.uploads.len() {
+            released += self.released_at(place, &ended, size);
+        }
+        self.charge - released
+    }
+
+    // How many blocks the tenant no longer pays once the upload at a place has ended, if it ends, where of those before
+    // it the others that end have.
+    fn released_at(&self, place: usize, ended: &Ended, size: u64) -> u64
+        requires place { place < length self.now.uploads.items }
+        requires size { 0 < size }
+        requires paid { IsPaid size self.now }
+        ensures { cost_of size self.now.next (left_to ended.now.at self.now.uploads.items (place + 1)) + result
+            ≡ cost_of size self.now.next (left_to ended.now.at self.now.uploads.items place) }
+    {
+        if self.uploads[place].is_left(ended) {
+            return 0;
+        }
+        self.released(place, ended, size)
+    }
+
+    // How many blocks the tenant no longer pays once the upload at a place has ended, where of those before it the
+    // others that end have.
+    fn released(&self, place: usize, ended: &Ended, size: u64) -> u64
+        requires place { place < length self.now.uploads.items }
+        requires size { 0 < size }
+        requires paid { IsPaid size self.now }
+        ensures { cost_of size self.now.next (left_beside ended.now.at self.now.uploads.items place) + result
+            ≡ cost_of size self.now.next (left_to ended.now.at self.now.uploads.items place) }
+    {
+        let upload = &self.uploads[place];
+        let mut released = 0;
+        for piece in 0..upload.piece_count() {
+            let origin = upload.origin(piece);
+            let later = upload.price_from(piece + 1, size, origin);
+            let held = later.max(self.price_beside(place, ended, size, origin));
+            released += upload.blocks(piece, size).saturating_sub(held);
+        }
+        released
+    }
+
+    // The most blocks that a piece of this origin takes in the uploads beside the one at a place, where of those
+    // before it the others that end have.
+    fn price_beside(&self, place: usize, ended: &Ended, size: u64, origin: u64) -> u64
+        requires place { place < length self.now.uploads.items }
+        requires size { 0 < size }
+        ensures { result ≡ price size (sources_kept (left_beside ended.now.at self.now.uploads.items place)) origin }
+    {
+        let none = Ended { at: None };
+        let (before, _) = self.uploads.split_at(place);
+        let (_, later) = self.uploads.split_at(place + 1);
+        let dearest_before = price_left(before, ended, size, origin);
+        let dearest_later = price_left(later, &none, size, origin);
+        dearest_before.max(dearest_later)
+    }
+}
+
+// The most blocks that a piece of this origin takes in those uploads that have not ended.
+fn price_left(uploads: &[StoredUpload], ended: &Ended, size: u64, origin: u64) -> u64
+    requires { 0 < size }
+    ensures { result ≡ price size (sources_kept (left ended.now.at uploads.now)) origin }
+{
+    let mut most: u64 = 0;
+    for upload in uploads {
+        if upload.is_left(ended) {
+            most = most.max(upload.price_from(0, size, origin));
+        }
+    }
+    most
+}

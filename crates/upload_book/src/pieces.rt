@@ -1,0 +1,72 @@
+//! Lists of pieces: their blocks are held, read and given back one after another.
+ghost use Rattle.std.specs.Prelude.{◌≡◌, ◌+◌, ◌-◌, ◌<◌, ◌≤◌, ◌++◌, drop, map, length, vec_len, vec_capacity};
+ghost use Rattle.block_pool.specs.Blocks.{free_in};
+ghost use Rattle.block_bodies.specs.Bodies.{IsHeld};
+ghost use Rattle.block_bodies.specs.Changes.{GivesBack, Holds, MayHold};
+ghost use Rattle.upload_book.specs.Charge.{price};
+ghost use Rattle.upload_book.specs.inside.ChargeAfter.{sources_in};
+ghost use Rattle.upload_book.specs.Stored.{pieces_len, placed_in};
+ghost use Rattle.upload_book.specs.inside.Pieces.{as_piece, bytes_of, AreBodies};
+
+use crate::piece::{Piece, UnheldPiece};
+use block_pool::Pool;
+
+/// Reads the bytes of the pieces onto the end of `bytes`, which has room for them.
+pub(crate) fn read_each(pieces: &[Piece], pool: &Pool, bytes: &mut Vec<u8>)
+    requires bodies { AreBodies pool.now pieces.now }
+    requires room { vec_len bytes.old + pieces_len pieces.now ≤ vec_capacity bytes.old }
+    ensures { bytes.new.items ≡ bytes.old.items ++ bytes_of pool.now pieces.now }
+{
+    for piece in pieces {
+        piece.chain.read_onto(pool, bytes);
+    }
+}
+
+/// Holds the blocks of each piece once more, and puts it at the end of `pieces`, which has room for them.
+pub(crate) fn hold_each(unheld: Vec<UnheldPiece>, pool: &mut Pool, pieces: &mut Vec<Piece>)
+    requires held { MayHold pool.old (placed_in (map as_piece unheld.items)) }
+    requires room { vec_len pieces.old + length unheld.items ≤ vec_capacity pieces.old }
+    ensures pieces { pieces.new.items ≡ pieces.old.items ++ map as_piece unheld.items }
+    ensures holds { Holds pool.old (placed_in (map as_piece unheld.items)) pool.new }
+{
+    for piece in unheld {
+        pieces.push_reserved(Piece {
+            origin: piece.origin,
+            chain: piece.chain.hold(pool),
+        });
+    }
+}
+
+/// Ends the pieces: each of their blocks is held once less. Gives how many became free.
+pub(crate) fn give_back_each(pieces: Vec<Piece>, pool: &mut Pool) -> u64
+    requires { IsHeld pool.old (placed_in pieces.items) }
+    ensures { GivesBack pool.old (placed_in pieces.items) result pool.new }
+{
+    let before = pool.free();
+    release_each(pieces, pool);
+    u64::from(pool.free() - before)
+}
+
+fn release_each(pieces: Vec<Piece>, pool: &mut Pool)
+    requires { IsHeld pool.old (placed_in pieces.items) }
+    ensures { GivesBack pool.old (placed_in pieces.items) (free_in pool.new - free_in pool.old) pool.new }
+{
+    for piece in pieces {
+        piece.chain.give_back(pool);
+    }
+}
+
+/// The most blocks of a size that a piece of this origin takes, of the pieces from a place on; 0 where there is none.
+pub(crate) fn price_from(pieces: &[Piece], from: usize, size: u64, origin: u64) -> u64
+    requires { 0 < size }
+    ensures { result ≡ price size (sources_in (drop from pieces.now)) origin }
+{
+    let mut most = 0;
+    for place in from..pieces.len() {
+        let piece = &pieces[place];
+        if piece.origin == origin {
+            most = most.max(piece.chain.len().div_ceil(size));
+        }
+    }
+    most
+}

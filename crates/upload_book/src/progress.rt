@@ -1,0 +1,99 @@
+ghost use Rattle.std.specs.Prelude.{◌≡◌, ◌+◌, ◌<◌, ◌≤◌, ◌^◌, length};
+ghost use Rattle.upload_book.specs.Append.{append_refusal, differ, row_with};
+ghost use Rattle.upload_book.specs.inside.Progress.{row_at, progress_in};
+ghost use Rattle.upload_book.specs.Upload.{is_reached};
+
+use crate::account::Account;
+use crate::append::Chunk;
+use crate::checksum::{is_mismatch, is_of_other_algorithm};
+use crate::expiry::{lifetime_end, renewed};
+use crate::head_row::Kind;
+use crate::moment::Moment;
+use crate::refusal::Refusal;
+use crate::settings::Numbers;
+
+/// How far an upload is: its row without the texts.
+#[derive(Clone, Copy, Debug)]
+pub(crate) struct Progress {
+    pub(crate) kind: Kind,
+    pub(crate) offset: u64,
+    pub(crate) declared: Option<u64>,
+    pub(crate) expires: Option<Moment>,
+}
+
+impl Progress {
+    /// Whether the upload has all of its bytes.
+    pub(crate) fn is_complete(&self) -> bool
+        ensures { result ≡ is_reached self.now.declared self.now.offset }
+    {
+        self.declared == Some(self.offset)
+    }
+
+    /// How far the upload is after a PATCH.
+    pub(crate) fn with(&self, numbers: &Numbers, chunk: &Chunk, now: Moment) -> Progress
+        requires { self.now.offset + length chunk.now.bytes < 2 ^ 64 }
+        ensures { result ≡ progress_in (row_with numbers.now (row_at self.now) chunk.now now) }
+    {
+        let declared = self.declared.or(chunk.length);
+        let offset = self.offset + chunk.bytes.len() as u64;
+        let end = lifetime_end(numbers, now);
+        Progress {
+            kind: self.kind,
+            offset,
+            declared,
+            expires: renewed(self.kind, declared == Some(offset), self.expires, end),
+        }
+    }
+}
+
+/// Why a PATCH of an upload is refused on its tenant's account, if it is.
+pub(crate) fn append_refusal(
+    numbers: &Numbers,
+    account: &Account,
+    progress: &Progress,
+    chunk: &Chunk,
+) -> Option<Refusal>
+    requires short { progress.now.offset + length chunk.now.bytes < 2 ^ 64 }
+    requires blocks { 0 < numbers.now.block_size }
+    requires quota { account.now.charge ≤ account.now.quota }
+    requires charged { account.now.charged ≤ numbers.now.last_total }
+    ensures { result ≡ append_refusal numbers.now account.now (row_at progress.now) chunk.now }
+{
+    let max_size = numbers.max_size;
+    let last_total = numbers.last_total;
+    let most = progress.declared.or(chunk.length).unwrap_or(max_size);
+    let end = progress.offset + chunk.bytes.len() as u64;
+    let size = numbers.block_size;
+    let added = end.div_ceil(size) - progress.offset.div_ceil(size);
+    if progress.kind == Kind::Final {
+        Some(Refusal::IsFinal)
+    } else if !chunk.typed {
+        Some(Refusal::Media)
+    } else if chunk.offset != progress.offset {
+        Some(Refusal::Offset)
+    } else if differ(progress.declared, chunk.length) {
+        Some(Refusal::LengthFixed)
+    } else if most > max_size || end > most {
+        Some(Refusal::TooLong)
+    } else if is_of_other_algorithm(chunk.check) {
+        Some(Refusal::Algorithm)
+    } else if is_mismatch(chunk.check, chunk.bytes) {
+        Some(Refusal::Mismatch)
+    } else if added > last_total - account.charged {
+        Some(Refusal::Spent)
+    } else if added > account.quota - account.charge {
+        Some(Refusal::Quota)
+    } else {
+        None
+    }
+}
+
+// Whether both are there, and differ.
+fn differ(known: Option<u64>, told: Option<u64>) -> bool
+    ensures { result ≡ differ known told }
+{
+    match (known, told) {
+        (Some(known), Some(told)) => known != told,
+        _ => false,
+    }
+}

@@ -1,0 +1,78 @@
+ghost use Rattle.std.specs.Prelude.{◌≡◌, ◌==◌, None, IfOk, IfErr, IfSome, IfNone, position};
+ghost use Rattle.upload_book.specs.Stored.{part_kept};
+ghost use Rattle.upload_book.specs.TenantBook.{opening_part, visible_in};
+
+use crate::head_row::Kind;
+use crate::moment::Moment;
+use crate::refusal::Refusal;
+use crate::stored_upload::StoredUpload;
+use crate::texts::Texts;
+use std::alloc::{AllocError, Global};
+
+/// A tenant's part of the book: its quota in blocks, the id that its next upload gets, the blocks that it
+/// pays, its uploads by ascending id, and the boxes for the texts of as many more as it may have.
+#[derive(Drop)]
+pub(crate) struct StoredTenant {
+    pub(crate) quota: u64,
+    pub(crate) next: u64,
+    pub(crate) charge: u64,
+    pub(crate) uploads: Vec<StoredUpload>,
+    pub(crate) spare: Vec<Box<Texts>>,
+}
+
+impl StoredTenant {
+    ghost use Rattle.upload_book.specs.inside.Kept.{stored_tenant_of, HasRoom, IsPartAt, IsVisibleAt};
+
+    /// The part of a tenant that has no upload yet, with room for so many. All memory for them is taken here, but
+    /// for the lists of their blocks; the error is that there was too little.
+    pub(crate) fn new(alloc: Global, quota: u64, room: usize) -> Result<StoredTenant, AllocError>
+        ensures stored_tenant { IfOk result (λ t. stored_tenant_of t ≡ opening_part quota) }
+        ensures charge { IfOk result (λ t. t.charge ≡ 0) }
+        ensures room { IfOk result (HasRoom room) }
+    {
+        Ok(StoredTenant {
+            quota,
+            next: 1,
+            charge: 0,
+            uploads: Vec::with_capacity(alloc, room)?,
+            spare: Texts::boxes(alloc, room)?,
+        })
+    }
+
+    /// The place of the upload that a request for `id` sees at `now`. It is Unknown where the id was
+    /// never given, and Gone where its upload has ended or expired. It goes over the uploads once.
+    pub(crate) fn visible(&self, id: u64, now: Moment) -> Result<usize, Refusal>
+        ensures place { IfOk result (λ i. IsVisibleAt (stored_tenant_of self.now) id now i) }
+        ensures refused { IfErr result
+            (λ e. visible_in (λ u. u.expires) (stored_tenant_of self.now) id now ≡ Err e) }
+    {
+        if id == 0 || self.next <= id {
+            return Err(Refusal::Unknown);
+        }
+        match self.place(id) {
+            Some(place) if !self.uploads[place].has_expired(now) => Ok(place),
+            _ => Err(Refusal::Gone),
+        }
+    }
+
+    /// The place of the upload that a part of a concatenation names, where it is a partial one that a request
+    /// sees at `now`.
+    pub(crate) fn part(&self, named: Option<u64>, now: Moment) -> Option<usize>
+        ensures place { IfSome result (λ i. IsPartAt (stored_tenant_of self.now) named now i) }
+        ensures none { IfNone result (part_kept (stored_tenant_of self.now) now named ≡ None) }
+    {
+        let place = self.visible(named?, now).ok()?;
+        if self.uploads[place].kind() == Kind::Partial {
+            Some(place)
+        } else {
+            None
+        }
+    }
+
+    /// The place of the upload with this id, if it is still there.
+    pub(crate) fn place(&self, id: u64) -> Option<usize>
+        ensures { result ≡ position (λ e. e.id == id) self.now.uploads.items }
+    {
+        self.uploads.iter().position(|upload| upload.id() == id)
+    }
+}
