@@ -1,4 +1,4 @@
-ghost use Rattle.std.specs.Prelude.{◌≡◌, ℕ, ◌+◌, ◌-◌, ◌*◌, ◌%◌, ◌^◌, ◌<◌, ◌≤◌, ◌↔◌, [], ◌∷◌, ◌++◌, length, take, min, IfOk, IfErr, IsOk, OnOk, OnErr, slice_get, slice_index, vec_len, vec_capacity};
+ghost use Rattle.std.specs.Prelude.{◌≡◌, ℕ, ◌+◌, ◌-◌, ◌*◌, ◌%◌, ◌^◌, ◌<◌, ◌≤◌, ◌↔◌, [], ◌∷◌, ◌++◌, length, take, max, min, IfOk, IfErr, IsOk, OnOk, OnErr, slice_get, slice_index, vec_len, vec_capacity};
 ghost use Rattle.block_pool.specs.Blocks.{free_in, places_of, count_at};
 ghost use Rattle.block_bodies.specs.Bodies.{Chain, IsBodyOf, IsHeld, IsLastOwn, HasRoom, StandsOnce, blocks_with, content_of};
 ghost use Rattle.block_bodies.specs.Changes.{GivesBack, Holds, MayHold, Puts};
@@ -80,6 +80,8 @@ impl Body {
         ensures puts { OnOk result (Puts pool.old self.old bytes.now pool.new self.new) }
         ensures once { StandsOnce self.new.blocks }
         ensures room_kept { self.old.room ≤ self.new.room }
+        ensures bound { self.new.room
+            ≤ max self.old.room (max 4 (2 * blocks_with pool.old self.old (length bytes.now))) }
         ensures full { (result ≡ Err BodyFault.Full)
             ↔ (length self.old.blocks + free_in pool.old < blocks_with pool.old self.old (length bytes.now)) }
         ensures memory { result ≡ Err BodyFault.Memory → self.old.room < blocks_with pool.old self.old (length bytes.now) }
@@ -94,7 +96,8 @@ impl Body {
     }
 
     /// Makes room in the list of blocks for `more` bytes, and gives how many blocks they need. The bytes, the
-    /// blocks and the pool stay, and the list keeps the room that it had.
+    /// blocks and the pool stay, and the list keeps the room that it had. Where it has to grow, it gets room for at
+    /// most twice the blocks that the bytes then take, or for 4.
     ///
     /// `Full` comes exactly where fewer blocks are free than are needed, and before `Memory`, which comes only
     /// where the list had to grow and could not. After either the body is unchanged.
@@ -104,6 +107,7 @@ impl Body {
         ensures room { OnOk result (HasRoom pool.now self.new more) }
         ensures once { StandsOnce self.new.blocks }
         ensures room_kept { self.old.room ≤ self.new.room }
+        ensures bound { self.new.room ≤ max self.old.room (max 4 (2 * blocks_with pool.now self.old more)) }
         ensures body { self.new ≡ record self.old { room = self.new.room } }
         ensures full { (result ≡ Err BodyFault.Full)
             ↔ (length self.old.blocks + free_in pool.now < blocks_with pool.now self.old more) }
@@ -115,7 +119,7 @@ impl Body {
         if needed > u64::from(pool.free()) {
             return Err(BodyFault::Full);
         }
-        match self.blocks.reserve(needed as usize) {
+        match make_room(&mut self.blocks, needed as usize) {
             Ok(()) => Ok(needed),
             Err(_) => Err(BodyFault::Memory),
         }
@@ -278,6 +282,26 @@ impl Body {
         release_each(pool, &self.blocks);
         u64::from(pool.free() - before)
     }
+}
+
+// Makes room in a list for so many more blocks. Where it has to grow, it gets room for at least twice as many as before,
+// so that a body which grows little by little is not copied each time.
+fn make_room(blocks: &mut Vec<BlockId>, more: usize) -> Result<(), AllocError>
+    requires { more < 2 ^ 32 }
+    ensures items { blocks.new.items ≡ blocks.old.items }
+    ensures ok { OnOk result (vec_len blocks.new + more ≤ vec_capacity blocks.new) }
+    ensures capacity { vec_capacity blocks.old ≤ vec_capacity blocks.new }
+    ensures bound { vec_capacity blocks.new
+        ≤ max (vec_capacity blocks.old) (max 4 (2 * (vec_len blocks.old + more))) }
+    ensures full { OnErr result (vec_capacity blocks.old < vec_len blocks.old + more) }
+    ensures err { OnErr result (vec_capacity blocks.new ≡ vec_capacity blocks.old) }
+{
+    let (len, room) = (blocks.len(), blocks.capacity());
+    if more <= room - len {
+        return Ok(());
+    }
+    let grown = (len + more).max(2 * room).max(4);
+    blocks.reserve_exact(grown - len)
 }
 
 fn release_each(pool: &mut Pool, blocks: &[BlockId])

@@ -2,7 +2,7 @@
 use Rattle.std.proofs.Common.{ℕ, Bool, true, false, List, [], ◌∷◌, inl, inr, ap}
 use Rattle.tus_steps.specs.Request.{Request}
 use Rattle.tus_steps.specs.declared.reply.Reply.{Reply}
-use Rattle.http_wire.specs.Conversation.{Course, Conversation, EndsWith, Goes, Turn}
+use Rattle.http_wire.specs.Conversation.{Course, Conversation, EndsWith, Goes, MessageTurn}
 use Rattle.http_wire.specs.Exchange.{Exchange, first_part, followed, last_part}
 use Rattle.http_wire.specs.Front.{Front, message, refused, cut_patch, cut_other, clean_end}
 use Rattle.http_wire.specs.Turns.{Answered, Breaks, BreaksOff, Converses, FailsIn, FailsToContinue}
@@ -23,19 +23,19 @@ module _ {A B : Type 0} (f : A → B) (steps : A → Request → ℕ → Reply �
   Goes-carried true next then x e on h = EndsWith-carried _ _ x e h
   Goes-carried false next then x e on h = on h
 
-  Turn-carried : (now : ℕ) (next : Course A) (then : Course B) (front : Front) (x : Exchange A) (e : Ended) → ((y : Exchange A) → next y e → then (carried f y) e) → Turn steps now next front x e → Turn others now then front (carried f x) e
-  Turn-carried now next then (message request framing waiting rest) x e on h =
+  MessageTurn-carried : (now : ℕ) (next : Course A) (then : Course B) (front : Front) (x : Exchange A) (e : Ended) → ((y : Exchange A) → next y e → then (carried f y) e) → MessageTurn steps now next front x e → MessageTurn others now then front (carried f x) e
+  MessageTurn-carried now next then (message request framing waiting rest) x e on h =
       (h.0, f h.1, h.2, carries x.before request now h.0 h.1 h.3, h.4, Goes-carried framing.close next then (last_part x rest h.1 h.2) e (on (last_part x rest h.1 h.2)) h.5)
-  Turn-carried now next then (refused why framing) x e on h = EndsWith-carried _ _ x e h
-  Turn-carried now next then (cut_patch request framing waiting) x e on h = (h.0, carries x.before request now h.0 x.after h.1, h.2, h.3)
-  Turn-carried now next then (cut_other waiting) x e on h = EndsWith-carried _ _ x e h
-  Turn-carried now next then clean_end x e on h = EndsWith-carried _ _ x e h
+  MessageTurn-carried now next then (refused why framing) x e on h = EndsWith-carried _ _ x e h
+  MessageTurn-carried now next then (cut_patch request framing waiting) x e on h = (h.0, carries x.before request now h.0 x.after h.1, h.2, h.3)
+  MessageTurn-carried now next then (cut_other waiting) x e on h = EndsWith-carried _ _ x e h
+  MessageTurn-carried now next then clean_end x e on h = EndsWith-carried _ _ x e h
 
   -- a whole conversation
   pub Conversation-carried : (moments : List ℕ) (x : Exchange A) (e : Ended) → Conversation steps max moments x e → Conversation others max moments (carried f x) e
   Conversation-carried [] x e h = EndsWith-carried _ _ x e h
   Conversation-carried (now ∷ moments) x e h =
-      (h.0, h.1, Turn-carried now (Conversation steps max moments) (Conversation others max moments) h.0 x e (λ y. Conversation-carried moments y e) h.2)
+      (h.0, h.1, MessageTurn-carried now (Conversation steps max moments) (Conversation others max moments) h.0 x e (λ y. Conversation-carried moments y e) h.2)
 
   -- the same, whatever follows the bytes that were read
   pub Converses-carried : (moments : List ℕ) (x : Exchange A) (e : Ended) → Converses steps max moments x e → Converses others max moments (carried f x) e

@@ -4,7 +4,7 @@ use Rattle.tus_steps.specs.Request.{Request}
 use Rattle.tus_steps.specs.declared.reply.Reply.{Reply}
 use Rattle.http_wire.specs.inside.Ahead.{Ahead}
 use Rattle.http_wire.specs.Exchange.{Exchange}
-use Rattle.http_wire.specs.Fault.{Names}
+use Rattle.http_wire.specs.Fault.{NamesStream}
 use Rattle.http_wire.specs.Layout.{framed_at, request_at}
 use Rattle.http_wire.specs.ReplyText.{reply_text, refusal_text}
 use Rattle.http_wire.specs.inside.TurnFinish.{FinishesTurn, turn_after, turn_cut}
@@ -20,7 +20,7 @@ use Rattle.http_wire.specs.declared.incoming.Incoming.TheVariants as incoming
 use Rattle.http_wire.specs.declared.incoming.Cut.TheVariants as cut
 use Rattle.http_wire.specs.declared.refusal.WireRefusal.{WireRefusal}
 use Rattle.http_wire.proofs.AheadLemmas.{Appends-none}
-use Rattle.http_wire.proofs.TurnLemmas.{Turn-stays, Turn-closed, Turn-refused, Turn-cut_patch, Turn-cut_other, Turn-end, LastTurn-alone, BreaksTurn-reply, BreaksTurn-refusal}
+use Rattle.http_wire.proofs.TurnLemmas.{MessageTurn-stays, MessageTurn-closed, MessageTurn-refused, MessageTurn-cut_patch, MessageTurn-cut_other, MessageTurn-end, LastTurn-alone, BreaksTurn-reply, BreaksTurn-refusal}
 
 -- what holds of a value under a premise that does not name it
 pub IfOk-when : {T E P : Type 0} (Q : T → Type 0) (r : Result T E) → (P → IfOk r Q) → IfOk r (λ x. P → Q x)
@@ -41,7 +41,7 @@ module _ {A : Type 0} (steps : A → Request → ℕ → Reply → A → Type 0)
     turn = λ max input said f. (
       reply_text reply now p.framing,
       w.all,
-      λ rest _. Turn-closed steps max now (record { input = input; text = said; before = before; after = after }) a p reply f step is rest,
+      λ rest _. MessageTurn-closed steps max now (record { input = input; text = said; before = before; after = after }) a p reply f step is rest,
     );
     end = λ remaining sees tells. tt;
     ends = tt;
@@ -53,7 +53,7 @@ module _ {A : Type 0} (steps : A → Request → ℕ → Reply → A → Type 0)
     turn = λ max input said f. (
       reply_text reply now p.framing,
       w.all,
-      Turn-stays steps max now (record { input = input; text = said; before = before; after = after }) a p reply f step is,
+      MessageTurn-stays steps max now (record { input = input; text = said; before = before; after = after }) a p reply f step is,
     );
     end = λ remaining sees tells. sees;
     ends = tt;
@@ -72,7 +72,7 @@ module _ {A : Type 0} (steps : A → Request → ℕ → Reply → A → Type 0)
     ends = tt;
     reader = tt;
     writer = tt;
-    fault = subst (Names false failed) (sym w.fault) (refl, w.failed);
+    fault = subst (NamesStream false failed) (sym w.fault) (refl, w.failed);
   }
 
   -- a request was refused
@@ -82,7 +82,7 @@ module _ {A : Type 0} (steps : A → Request → ℕ → Reply → A → Type 0)
     turn = λ max input said f. (
       refusal_text why now framing,
       w.all,
-      λ rest _. Turn-refused steps max now (record { input = input; text = said; before = same; after = same }) a why framing f refl rest,
+      λ rest _. MessageTurn-refused steps max now (record { input = input; text = said; before = same; after = same }) a why framing f refl rest,
     );
     end = λ remaining sees tells. tt;
     ends = tt;
@@ -101,7 +101,7 @@ module _ {A : Type 0} (steps : A → Request → ℕ → Reply → A → Type 0)
     ends = tt;
     reader = tt;
     writer = tt;
-    fault = subst (Names false failed) (sym w.fault) (refl, w.failed);
+    fault = subst (NamesStream false failed) (sym w.fault) (refl, w.failed);
   }
 
   -- a PATCH was cut, and was applied with the bytes that came
@@ -113,7 +113,7 @@ module _ {A : Type 0} (steps : A → Request → ℕ → Reply → A → Type 0)
       Appends-none w,
       λ rest none. LastTurn-alone steps max now (record { input = input; text = said ++ []; before = before; after = after }) rest ended.Cut
           (quiet max now (record { input = input; text = said; before = before; after = after }) ended.Cut
-          (Turn-cut_patch steps max now (record { input = input; text = said; before = before; after = after }) a p cut.Ended reply f step)) none,
+          (MessageTurn-cut_patch steps max now (record { input = input; text = said; before = before; after = after }) a p cut.Ended reply f step)) none,
     );
     end = λ remaining sees tells. sees tells;
     ends = tt;
@@ -129,7 +129,7 @@ module _ {A : Type 0} (steps : A → Request → ℕ → Reply → A → Type 0)
         ended.Cut,
         tt,
         quiet max now (record { input = input; text = said; before = before; after = after }) ended.Cut
-            (Turn-cut_patch steps max now (record { input = input; text = said; before = before; after = after }) a p cut.Fault reply f step),
+            (MessageTurn-cut_patch steps max now (record { input = input; text = said; before = before; after = after }) a p cut.Fault reply f step),
       ),
     );
     end = λ remaining sees tells. tt;
@@ -147,7 +147,7 @@ module _ {A : Type 0} (steps : A → Request → ℕ → Reply → A → Type 0)
       Appends-none w,
       λ rest none. LastTurn-alone steps max now (record { input = input; text = said ++ []; before = same; after = same }) rest ended.Cut
           (quiet max now (record { input = input; text = said; before = same; after = same }) ended.Cut
-          (Turn-cut_other steps max now (record { input = input; text = said; before = same; after = same }) a f refl)) none,
+          (MessageTurn-cut_other steps max now (record { input = input; text = said; before = same; after = same }) a f refl)) none,
     );
     end = λ remaining sees tells. sees tells;
     ends = tt;
@@ -164,7 +164,7 @@ module _ {A : Type 0} (steps : A → Request → ℕ → Reply → A → Type 0)
       Appends-none w,
       λ rest none. LastTurn-alone steps max now (record { input = input; text = said ++ []; before = same; after = same }) rest ended.Input
           (quiet max now (record { input = input; text = said; before = same; after = same }) ended.Input
-          (Turn-end steps max now (record { input = input; text = said; before = same; after = same }) f refl)) none,
+          (MessageTurn-end steps max now (record { input = input; text = said; before = same; after = same }) f refl)) none,
     );
     end = λ remaining sees tells. sees tells;
     ends = tt;

@@ -11,7 +11,7 @@ use Rattle.http_wire.specs.inside.Ahead.{Ahead}
 use Rattle.http_wire.specs.Conversation.{continue_text}
 use Rattle.http_wire.specs.Front.{Front, Begins, BeginsWhole, IsFront, LacksMemory, message, refused, cut_patch, cut_other, clean_end, closing, framing_of, unknown_framing, sure_room, method_in, is_waiting, request_of, tus_fields, with_body, judged, judged_front, parsed_front}
 use Rattle.http_wire.specs.Layout.{field_at, request_at}
-use Rattle.http_wire.specs.inside.HeadLayout.{ShowsHead, BeginsHead, ReadsHead}
+use Rattle.http_wire.specs.inside.HeadLayout.{ShowsHead, BeginsHead, ReadsLayout}
 use Rattle.http_wire.specs.inside.IncomingLayout.{ReadsIncoming}
 use Rattle.http_wire.specs.ReadOnWire.{waits}
 use Rattle.http_wire.specs.inside.HeadSearch.{IsUnfinished}
@@ -142,7 +142,7 @@ ReadsIncoming-unwritten max bytes a r e n is is_write f front w = rw (is, is_wri
 
 -- a head that was found and read
 pub BeginsHead-found : (max : ℕ) (bytes held found : List ℕ) (len : ℕ) (p : Layout) → found ≡ held → len ≤ length held → p.head_len ≡ length (take len found)
-    → ReadsHead max (take len found) (Ok p) → ((rest : List ℕ) → head_text (bytes ++ rest) ≡ whole (take len held) (drop len held ++ rest)) → BeginsHead max bytes p held
+    → ReadsLayout max (take len found) (Ok p) → ((rest : List ℕ) → head_text (bytes ++ rest) ≡ whole (take len held) (drop len held ++ rest)) → BeginsHead max bytes p held
 BeginsHead-found max bytes held found len p e within is gives begins =
     let count : length (take len found) ≡ len = rw e (omega (arith, length-take-le len held within)) in
     let n : p.head_len ≡ len = is ∙ count in

@@ -27,10 +27,10 @@ module _ {A : Type 0} (steps : A → Request → ℕ → Reply → A → Type 0)
   with_text x text = record x { text = x.text ++ text }
 
   -- a message is answered, and the connection stays open
-  pub Turn-stays : (now : ℕ) (x : Exchange A) (a : Ahead) (p : Layout) (reply : Reply) → ComesIn max (record { input = x.input; text = x.text }) a.held (incoming.Message (framed_at a.lent p))
+  pub MessageTurn-stays : (now : ℕ) (x : Exchange A) (a : Ahead) (p : Layout) (reply : Reply) → ComesIn max (record { input = x.input; text = x.text }) a.held (incoming.Message (framed_at a.lent p))
       → steps x.before (request_at p a.lent) now reply x.after → p.framing.close ≡ false → (rest : List ℕ)
       → Answered steps max now (followed (with_text x (reply_text reply now p.framing)) rest) (a.held ++ rest)
-  Turn-stays now x a p reply f step stays rest = record {
+  MessageTurn-stays now x a p reply f step stays rest = record {
     request = request_at p a.lent;
     framing = p.framing;
     waiting = f.0;
@@ -42,32 +42,32 @@ module _ {A : Type 0} (steps : A → Request → ℕ → Reply → A → Type 0)
   }
 
   -- a message is answered, and the connection closes
-  pub Turn-closed : (now : ℕ) (x : Exchange A) (a : Ahead) (p : Layout) (reply : Reply) → ComesIn max (record { input = x.input; text = x.text }) a.held (incoming.Message (framed_at a.lent p))
+  pub MessageTurn-closed : (now : ℕ) (x : Exchange A) (a : Ahead) (p : Layout) (reply : Reply) → ComesIn max (record { input = x.input; text = x.text }) a.held (incoming.Message (framed_at a.lent p))
       → steps x.before (request_at p a.lent) now reply x.after → p.framing.close ≡ true → (rest : List ℕ)
       → LastTurn steps max now (followed (with_text x (reply_text reply now p.framing)) rest) ended.Closed
-  Turn-closed now x a p reply f step close rest moments =
+  MessageTurn-closed now x a p reply f step close rest moments =
       let text = reply_text reply now p.framing in
       Conversation-closed steps max now moments (followed (with_text x text) rest) (request_at p a.lent) p.framing f.0 (a.held ++ rest) reply (f.2 rest) step close (ap (λ l. l ++ text) f.1)
 
   -- a request is refused
-  pub Turn-refused : (now : ℕ) (x : Exchange A) (a : Ahead) (why : WireRefusal) (framing : Framing) → ComesIn max (record { input = x.input; text = x.text }) a.held (incoming.Refused why framing)
+  pub MessageTurn-refused : (now : ℕ) (x : Exchange A) (a : Ahead) (why : WireRefusal) (framing : Framing) → ComesIn max (record { input = x.input; text = x.text }) a.held (incoming.Refused why framing)
       → x.after ≡ x.before → (rest : List ℕ) → LastTurn steps max now (followed (with_text x (refusal_text why now framing)) rest) ended.Closed
-  Turn-refused now x a why framing f same rest moments =
+  MessageTurn-refused now x a why framing f same rest moments =
       (refused why framing, f.1 rest, record { ended = refl; text = ap (λ l. l ++ refusal_text why now framing) f.0; same = same })
 
   -- a PATCH was cut, and is applied with the bytes that came
-  pub Turn-cut_patch : (now : ℕ) (x : Exchange A) (a : Ahead) (p : Layout) (why : Cut) (reply : Reply) → ComesIn max (record { input = x.input; text = x.text }) a.held (incoming.CutPatch (framed_at a.lent p) why)
+  pub MessageTurn-cut_patch : (now : ℕ) (x : Exchange A) (a : Ahead) (p : Layout) (why : Cut) (reply : Reply) → ComesIn max (record { input = x.input; text = x.text }) a.held (incoming.CutPatch (framed_at a.lent p) why)
       → steps x.before (request_at p a.lent) now reply x.after → LastTurn steps max now x ended.Cut
-  Turn-cut_patch now x a p why reply f step moments =
+  MessageTurn-cut_patch now x a p why reply f step moments =
       (cut_patch (request_at p a.lent) p.framing f.0, f.2, (reply, step, refl, f.1))
 
   -- another message was cut
-  pub Turn-cut_other : (now : ℕ) (x : Exchange A) (a : Ahead) → ComesIn max (record { input = x.input; text = x.text }) a.held incoming.CutOther → x.after ≡ x.before → LastTurn steps max now x ended.Cut
-  Turn-cut_other now x a f same moments = (cut_other f.0, f.2, record { ended = refl; text = f.1; same = same })
+  pub MessageTurn-cut_other : (now : ℕ) (x : Exchange A) (a : Ahead) → ComesIn max (record { input = x.input; text = x.text }) a.held incoming.CutOther → x.after ≡ x.before → LastTurn steps max now x ended.Cut
+  MessageTurn-cut_other now x a f same moments = (cut_other f.0, f.2, record { ended = refl; text = f.1; same = same })
 
   -- the input ended between two messages
-  pub Turn-end : (now : ℕ) (x : Exchange A) → (x.text ≡ []) × IsFront max x.input clean_end → x.after ≡ x.before → LastTurn steps max now x ended.Input
-  Turn-end now x f same moments = (clean_end, f.1, record { ended = refl; text = f.0; same = same })
+  pub MessageTurn-end : (now : ℕ) (x : Exchange A) → (x.text ≡ []) × IsFront max x.input clean_end → x.after ≡ x.before → LastTurn steps max now x ended.Input
+  MessageTurn-end now x f same moments = (clean_end, f.1, record { ended = refl; text = f.0; same = same })
 
   -- nothing follows
   pub LastTurn-alone : (now : ℕ) (x : Exchange A) (rest : List ℕ) (e : Ended) → LastTurn steps max now x e → rest ≡ [] → LastTurn steps max now (followed x rest) e

@@ -33,18 +33,18 @@ module _ {A : Type 0} where
 -- state after it; a body has at most max bytes.
 module _ {A : Type 0} (steps : A → Request → ℕ → Reply → A → Type 0) where
   -- the turn of what the input begins with, at a moment
-  abbrev pub Turn : ℕ → Course A → Front → Course A
-  Turn now next (message request framing waiting rest) x e =
+  abbrev pub MessageTurn : ℕ → Course A → Front → Course A
+  MessageTurn now next (message request framing waiting rest) x e =
       (reply : Reply) × (b : A) × (later : List ℕ) × steps x.before request now reply b
       × (x.text ≡ (continue_text waiting ++ reply_text reply now framing) ++ later)
       × Goes framing.close next (last_part x rest b later) e
-  Turn now next (refused why framing) x e = EndsWith Closed (refusal_text why now framing) x e
-  Turn now next (cut_patch request framing waiting) x e =
+  MessageTurn now next (refused why framing) x e = EndsWith Closed (refusal_text why now framing) x e
+  MessageTurn now next (cut_patch request framing waiting) x e =
       (reply : Reply) × steps x.before request now reply x.after × (e ≡ Cut) × (x.text ≡ continue_text waiting)
-  Turn now next (cut_other waiting) x e = EndsWith Cut (continue_text waiting) x e
-  Turn now next clean_end x e = EndsWith Input [] x e
+  MessageTurn now next (cut_other waiting) x e = EndsWith Cut (continue_text waiting) x e
+  MessageTurn now next clean_end x e = EndsWith Input [] x e
 
   -- the conversation of an input: the k-th message has the k-th moment
   abbrev pub Conversation : ℕ → List ℕ → Course A
   Conversation max [] x e = EndsWith Moments [] x e
-  Conversation max (now ∷ moments) x e = (f : Front) × IsFront max x.input f × Turn now (Conversation max moments) f x e
+  Conversation max (now ∷ moments) x e = (f : Front) × IsFront max x.input f × MessageTurn now (Conversation max moments) f x e

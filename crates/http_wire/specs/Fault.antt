@@ -13,11 +13,11 @@ words_of Failed = codes "the wire failed before"
 
 -- A fault names the one that failed, the reader or the writer, and the other has not failed. So after a read
 -- that failed nothing is written, and after a write that failed nothing is read: such a call might fail too.
-abbrev pub Names : Bool → Bool → WireFault → Type 0
-Names reader writer fault.Read = (reader ≡ true) × (writer ≡ false)
-Names reader writer fault.Write = (reader ≡ false) × (writer ≡ true)
-Names reader writer fault.Memory = ⊥
-Names reader writer fault.Failed = ⊥
+abbrev pub NamesStream : Bool → Bool → WireFault → Type 0
+NamesStream reader writer fault.Read = (reader ≡ true) × (writer ≡ false)
+NamesStream reader writer fault.Write = (reader ≡ false) × (writer ≡ true)
+NamesStream reader writer fault.Memory = ⊥
+NamesStream reader writer fault.Failed = ⊥
 
 -- the same, or there was no memory, and then nothing failed
 abbrev pub NamesOrMemory : Bool → Bool → WireFault → Type 0

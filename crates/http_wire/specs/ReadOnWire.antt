@@ -3,7 +3,7 @@ use Rattle.std.specs.Prelude.{◌≡◌, ◌⊎◌, ℕ, Bool, true, false, List
 use Rattle.std.specs.Io.KnownBytes.{Appends, Consumes, IsAtEnd}
 use Rattle.http_wire.specs.Conversation.{continue_text}
 use Rattle.http_wire.specs.Front.{Front, IsFront, message, refused, cut_patch, cut_other, clean_end}
-use Rattle.http_wire.specs.Fault.{Names}
+use Rattle.http_wire.specs.Fault.{NamesStream}
 use Rattle.http_wire.specs.Incoming.{FramedRequest, is_cut_by_fault}
 use Rattle.http_wire.specs.OnWire.{OnWire}
 use Rattle.http_wire.specs.Streams.{Streams}
@@ -91,7 +91,7 @@ pub record Reads {R W : Type 0} (s : Streams R W) (old new : OnWire R W) (r : Re
   pub stops : old.ended ≡ true → (new.reader ≡ old.reader) × (new.ended ≡ true)
   pub reader : IfOk r (λ n. s.read_failed new.reader ≡ is_cut_by_fault n)
   pub writer : OnOk r (s.write_failed new.writer ≡ false)
-  pub fault : IfErr r (Names (s.read_failed new.reader) (s.write_failed new.writer))
+  pub fault : IfErr r (NamesStream (s.read_failed new.reader) (s.write_failed new.writer))
   pub alive : (s.read_failed old.reader ≡ false) × (s.write_failed old.writer ≡ false)
   pub size : new.max_size ≡ old.max_size
   pub reads : new.reads ≡ is_open (state_after r)

@@ -4,7 +4,7 @@ use Rattle.std.specs.Io.KnownBytes.{Appends, Consumes}
 use Rattle.tus_steps.specs.Request.{Request}
 use Rattle.tus_steps.specs.declared.reply.Reply.{Reply}
 use Rattle.http_wire.specs.Clock.{IsTimed}
-use Rattle.http_wire.specs.Fault.{Names}
+use Rattle.http_wire.specs.Fault.{NamesStream}
 use Rattle.http_wire.specs.OnWire.{OnWire}
 use Rattle.http_wire.specs.Streams.{Streams}
 use Rattle.http_wire.specs.Turns.{EndsByTurn, IsReadWhen, TakesTurn}
@@ -43,7 +43,7 @@ module _ {R W A C : Type 0} (s : Streams R W) (steps : A → Request → ℕ →
     pub stops : old.wire.ended ≡ true → (new.wire.reader ≡ old.wire.reader) × (new.wire.ended ≡ true)
     pub reader : OnOk r (s.read_failed new.wire.reader ≡ false)
     pub writer : OnOk r (s.write_failed new.wire.writer ≡ false)
-    pub fault : IfErr r (Names (s.read_failed new.wire.reader) (s.write_failed new.wire.writer))
+    pub fault : IfErr r (NamesStream (s.read_failed new.wire.reader) (s.write_failed new.wire.writer))
     pub alive : (s.read_failed old.wire.reader ≡ false) × (s.write_failed old.wire.writer ≡ false)
     pub size : new.wire.max_size ≡ old.wire.max_size
     pub reads : new.wire.reads ≡ goes_on r

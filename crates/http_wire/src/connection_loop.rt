@@ -1,7 +1,7 @@
 ghost use Rattle.std.specs.Prelude.{◌≡◌, ◌<◌, ◌∷◌, ◌++◌, [], ℕ, List, length, true, IfOk, IfErr, IsErr};
 ghost use Rattle.std.specs.Io.KnownBytes.{Appends, Consumes};
 ghost use Rattle.http_wire.specs.Clock.{AreTold, IsTimed, Tells};
-ghost use Rattle.http_wire.specs.Fault.{Names};
+ghost use Rattle.http_wire.specs.Fault.{NamesStream};
 ghost use Rattle.http_wire.specs.Turns.{Breaks, Converses, IsReadWhen};
 
 use crate::answer::Answer;
@@ -36,7 +36,7 @@ pub fn serve<R: Source + Drop, W: Sink + Drop, A: Answer, C: Clock>(
         × Breaks A.steps wire.old.max_size (moments ++ now ∷ [])
         (record { input = wire.old.held ++ got; text = text; before = answerer.old; after = answerer.new }) f)) }
     ensures reads { IfOk result (λ e. e ≡ Ended.Moments → wire.new.reads ≡ true) }
-    ensures fault { IfErr result (Names (R.has_failed wire.new.reader) (W.has_failed wire.new.writer)) }
+    ensures fault { IfErr result (NamesStream (R.has_failed wire.new.reader) (W.has_failed wire.new.writer)) }
 {
     for taken in 0..most {
         let turn = wire.take_turn(answerer, clock)?;

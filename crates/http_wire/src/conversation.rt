@@ -10,7 +10,7 @@ ghost use Rattle.http_wire.specs.Layout.{IsMessage, framed_at, request_at};
 ghost use Rattle.http_wire.specs.inside.IncomingLayout.{IsLent};
 ghost use Rattle.http_wire.specs.ReplyText.{reply_text};
 ghost use Rattle.tus_steps.specs.declared.reply.Reply.{Reply};
-ghost use Rattle.http_wire.specs.Fault.{Names, NamesOrMemory};
+ghost use Rattle.http_wire.specs.Fault.{NamesStream, NamesOrMemory};
 ghost use Rattle.http_wire.specs.Writes.{Writes};
 
 use crate::answer::Answer;
@@ -149,7 +149,7 @@ pub fn take_turn<R: Source, W: Sink, A: Answer, C: Clock>(
     ensures stops { StopsAtEnd reader.old reader.new buffers.old.inbox buffers.new.inbox }
     ensures reader { OnOk result (R.has_failed reader.new ≡ false) }
     ensures writer { OnOk result (W.has_failed writer.new ≡ false) }
-    ensures fault { IfErr result (Names (R.has_failed reader.new) (W.has_failed writer.new)) }
+    ensures fault { IfErr result (NamesStream (R.has_failed reader.new) (W.has_failed writer.new)) }
 {
     let incoming = read_incoming(
         buffers.alloc,

@@ -2,7 +2,7 @@
 ghost use Rattle.std.specs.Prelude.{◌≡◌, ◌≤◌, ◌+◌, ◌<◌, ◌^◌, ◌++◌, ℕ, List, true, false, length, IfOk, OnOk, OnErr, IfErr};
 ghost use Rattle.std.specs.Io.KnownBytes.{Appends, Consumes};
 ghost use Rattle.http_wire.specs.Conversation.{continue_text};
-ghost use Rattle.http_wire.specs.Fault.{Names};
+ghost use Rattle.http_wire.specs.Fault.{NamesStream};
 ghost use Rattle.http_wire.specs.Incoming.{is_cut_by_fault, map_incoming, map_read};
 ghost use Rattle.http_wire.specs.Layout.{IsLayoutWithin, framed_at};
 ghost use Rattle.http_wire.specs.ReadOnWire.{TellsEnd};
@@ -61,7 +61,7 @@ pub fn read_incoming<R: Source, W: Sink>(
     ensures reader { IfOk result (λ i. R.has_failed reader.new
         ≡ is_cut_by_fault (map_incoming (framed_at inbox.new.lent) i)) }
     ensures writer { OnOk result (W.has_failed writer.new ≡ false) }
-    ensures fault { IfErr result (λ e. Names (R.has_failed reader.new) (W.has_failed writer.new) e) }
+    ensures fault { IfErr result (λ e. NamesStream (R.has_failed reader.new) (W.has_failed writer.new) e) }
 {
     match find_head(reader, inbox)? {
         HeadFound::Whole(len) => match read_layout(alloc, &inbox.held()[..len], found, max_size) {
@@ -99,7 +99,7 @@ fn read_body<R: Source, W: Sink>(
     ensures reader { IfOk result (λ i. R.has_failed reader.new
         ≡ is_cut_by_fault (map_incoming (framed_at inbox.new.lent) i)) }
     ensures writer { OnOk result (W.has_failed writer.new ≡ false) }
-    ensures fault { IfErr result (λ e. Names (R.has_failed reader.new) (W.has_failed writer.new) e) }
+    ensures fault { IfErr result (λ e. NamesStream (R.has_failed reader.new) (W.has_failed writer.new) e) }
 {
     if inbox.reserve(layout.head_len + layout.body_len).is_err() {
         return Ok(Incoming::Refused(WireRefusal::Memory, closing(layout.framing)));

@@ -11,7 +11,7 @@ use Rattle.tus_steps.specs.declared.reply.Reply.{Reply}
 use Rattle.upload_book.specs.Book.{StoredBook, plain_of}
 use Rattle.http_wire.specs.Conversation.{Conversation}
 use Rattle.http_wire.specs.Exchange.{Exchange}
-use Rattle.http_wire.specs.Fault.{Names, NamesOrMemory}
+use Rattle.http_wire.specs.Fault.{NamesStream, NamesOrMemory}
 use Rattle.http_wire.specs.Turns.{Breaks}
 use Rattle.http_wire.specs.declared.conversation.Ended.{Ended}
 use Rattle.http_wire.specs.declared.fault.WireFault.{WireFault}
@@ -61,7 +61,7 @@ Talks-from given now x e is_given new h =
 
 -- the same of one that a fault broke off
 BreaksTalk-from : (given : Result Settings SettingsFault) (now : ℕ) (reader writer : Bool) (x : Exchange StoredBook) (f : WireFault) → given ≡ Ok (plain_of x.before).settings → plain_of x.before ≡ opening_book (plain_of x.before).settings
-    → Names reader writer f → Breaks BookStep (plain_of x.before).settings.numbers.max_size (replicate 4096 now) x f → BreaksTalk given now reader writer x.input x.text
+    → NamesStream reader writer f → Breaks BookStep (plain_of x.before).settings.numbers.max_size (replicate 4096 now) x f → BreaksTalk given now reader writer x.input x.text
 BreaksTalk-from given now reader writer x f is_given new named h =
     let settings = (plain_of x.before).settings in
     let max = settings.numbers.max_size in

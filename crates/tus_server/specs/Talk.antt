@@ -2,7 +2,7 @@
 use Rattle.std.specs.Prelude.{◌≡◌, ◌++◌, ℕ, Bool, List, replicate, Some, Result, Ok, Err, IsOk, OnErr}
 use Rattle.std.specs.Io.KnownBytes.{Appends, Consumes}
 use Rattle.http_wire.specs.Conversation.{Conversation}
-use Rattle.http_wire.specs.Fault.{Names}
+use Rattle.http_wire.specs.Fault.{NamesStream}
 use Rattle.http_wire.specs.Turns.{Breaks}
 use Rattle.http_wire.specs.declared.conversation.Ended.{Ended}
 use Rattle.http_wire.specs.declared.fault.WireFault.{WireFault}
@@ -40,7 +40,7 @@ pub record BreaksTalk (given : Result Settings SettingsFault) (now : ℕ) (reade
   pub is_given : given ≡ Ok settings
   pub after : PlainBook
   pub fault : WireFault
-  pub named : Names reader writer fault
+  pub named : NamesStream reader writer fault
   pub breaks : Breaks IsStep settings.numbers.max_size (moments_at now)
       (record { input = got; text = text; before = opening_book settings; after = after }) fault
 

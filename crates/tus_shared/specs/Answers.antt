@@ -81,8 +81,8 @@ pub record AnswersHead (s : Settings) (request : Request) (now : ℕ) (reply : R
 abbrev pub MayTakeLock : Settings → Request → Type 0
 MayTakeLock s request = is_head request.method ≡ true → IsOk (operation_of s request)
 
--- what a desk answers to a turn: a HEAD beside the lock, where the board can be entered; all else by its step on the
--- store
+-- What a desk answers to a turn: a HEAD that is refused before any upload is looked at, a HEAD that is answered beside the
+-- lock, or the step of the request on the store, with the lock.
 abbrev pub AnswersTurn : Settings → Request → ℕ → Reply → Desk → Desk → Type 0
 AnswersTurn s request now reply old new =
     RefusesHead s request reply old new ⊎ AnswersHead s request now reply old new

@@ -3,7 +3,7 @@
 ghost use Rattle.std.specs.Prelude.{◌≡◌, vec_len};
 
 use crate::requests::Asked::{Delete, Get, Head, Patch, Post};
-use crate::requests::{Asked, Told, moment, settings, told_by, told_of, turn};
+use crate::requests::{Answer, Asked, answer_by, answer_of, moment, settings, turn};
 use std::alloc::Global;
 use std::marker::Brand;
 use std::process::Abort;
@@ -64,12 +64,12 @@ impl Gate for Meeting {
 }
 
 /// Asserts what the replies at a desk tell.
-pub fn assert_told(rt: &impl Abort, replies: Option<&Vec<Reply>>, told: &[Told]) {
+pub fn assert_answers(rt: &impl Abort, replies: Option<&Vec<Reply>>, answers: &[Answer]) {
     let replies = replies.expect(rt, "a list");
-    assert!(rt; replies.len() == told.len());
-    for (turn, expected) in told.iter().enumerate() {
+    assert!(rt; replies.len() == answers.len());
+    for (turn, expected) in answers.iter().enumerate() {
         let reply = replies.get(turn).expect(rt, "a reply");
-        assert!(rt; told_by(reply).is(*expected), "turn {turn}");
+        assert!(rt; answer_by(reply).is(*expected), "turn {turn}");
     }
 }
 
@@ -84,9 +84,9 @@ pub fn create<C: Charges, R: Ledger, W: Wait + Abort>(
     let _ = desk.call(rt, shared, &created.request, created.now);
 }
 
-const BEGUN: Told<'static> = Told::Row(0, Some(10), b"", Some(4600));
+const BEGUN: Answer<'static> = Answer::Row(0, Some(10), b"", Some(4600));
 
-const GROWN: Told<'static> = Told::Row(5, Some(10), b"", Some(4600));
+const GROWN: Answer<'static> = Answer::Row(5, Some(10), b"", Some(4600));
 
 // Two desks answer their batches: a PATCH and a HEAD, and a HEAD that is answered before that PATCH.
 fn meet<C: Charges + Send + Sync, R: Ledger + Send + Sync, W: Threads + Wait + Abort + Sync>(
@@ -117,20 +117,20 @@ fn assert_met(rt: &impl Abort, missed: &AtomicU64) {
 
 // The first desk tells of the upload as it has grown, and the second as it was before.
 fn assert_replies(rt: &impl Abort, replies: &[Vec<Reply>]) {
-    assert_told(rt, replies.get(0), &[Told::Patched(5, Some(4600)), GROWN]);
-    assert_told(rt, replies.get(1), &[BEGUN]);
+    assert_answers(rt, replies.get(0), &[Answer::Patched(5, Some(4600)), GROWN]);
+    assert_answers(rt, replies.get(1), &[BEGUN]);
 }
 
 // The book tells this of an upload of acme.
-fn assert_row(rt: &impl Abort, book: &Book, id: u64, expected: Told) {
+fn assert_row(rt: &impl Abort, book: &Book, id: u64, expected: Answer) {
     let row = book.look(&Name { tenant: 0, id }, moment(rt, 1000));
-    assert!(rt; told_of(&row).is(expected), "upload {id}");
+    assert!(rt; answer_of(&row).is(expected), "upload {id}");
 }
 
 // The book has one upload, which has grown.
 fn assert_grown(rt: &impl Abort, book: &Book) {
     assert_row(rt, book, 1, GROWN);
-    assert_row(rt, book, 2, Told::Refused(Refusal::Unknown, None));
+    assert_row(rt, book, 2, Answer::Refused(Refusal::Unknown, None));
 }
 
 // Both desks answer a batch at once: one is held in its first turn, with the lock, until the other has answered a HEAD.
@@ -212,72 +212,72 @@ impl Gate for Together {
 }
 
 // A turn that sixteen desks have at once, what one of them is told, and what each other is told.
-type Race = (Asked, Told<'static>, Told<'static>);
+type Race = (Asked, Answer<'static>, Answer<'static>);
 
-const ALL_BYTES: Told<'static> = Told::Bytes(b"abcdefghijklmnopqrstuvwxyz012345");
+const ALL_BYTES: Answer<'static> = Answer::Bytes(b"abcdefghijklmnopqrstuvwxyz012345");
 
 // An upload of 32 bytes grows by a block at a time, is sent, and ends.
 static RACES: [Race; 10] = [
     (
         Patch(FIRST, b"0", b"abcd"),
-        Told::Patched(4, Some(4600)),
+        Answer::Patched(4, Some(4600)),
         LATE,
     ),
     (
         Patch(FIRST, b"4", b"efgh"),
-        Told::Patched(8, Some(4600)),
+        Answer::Patched(8, Some(4600)),
         LATE,
     ),
     (
         Patch(FIRST, b"8", b"ijkl"),
-        Told::Patched(12, Some(4600)),
+        Answer::Patched(12, Some(4600)),
         LATE,
     ),
     (
         Patch(FIRST, b"12", b"mnop"),
-        Told::Patched(16, Some(4600)),
+        Answer::Patched(16, Some(4600)),
         LATE,
     ),
     (
         Patch(FIRST, b"16", b"qrst"),
-        Told::Patched(20, Some(4600)),
+        Answer::Patched(20, Some(4600)),
         LATE,
     ),
     (
         Patch(FIRST, b"20", b"uvwx"),
-        Told::Patched(24, Some(4600)),
+        Answer::Patched(24, Some(4600)),
         LATE,
     ),
     (
         Patch(FIRST, b"24", b"yz01"),
-        Told::Patched(28, Some(4600)),
+        Answer::Patched(28, Some(4600)),
         LATE,
     ),
     (
         Patch(FIRST, b"28", b"2345"),
-        Told::Patched(32, None),
-        Told::Refused(Refusal::Offset, None),
+        Answer::Patched(32, None),
+        Answer::Refused(Refusal::Offset, None),
     ),
     (Get(FIRST), ALL_BYTES, ALL_BYTES),
     (
         Delete(FIRST),
-        Told::Deleted,
-        Told::Refused(Refusal::Gone, None),
+        Answer::Deleted,
+        Answer::Refused(Refusal::Gone, None),
     ),
 ];
 
 // What a PATCH is told where another was first.
-const LATE: Told<'static> = Told::Refused(Refusal::Offset, Some(4600));
+const LATE: Answer<'static> = Answer::Refused(Refusal::Offset, Some(4600));
 
 // Asserts that of the desks' replies to one turn one tells `first`, and each other `late`.
-fn assert_race(rt: &impl Abort, replies: &[Vec<Reply>], turn: usize, first: Told, late: Told) {
+fn assert_race(rt: &impl Abort, replies: &[Vec<Reply>], turn: usize, first: Answer, late: Answer) {
     let mut is_open = true;
-    for told in replies {
-        let told = told_by(told.get(turn).expect(rt, "a reply"));
-        if is_open && told.is(first) {
+    for batch in replies {
+        let answer = answer_by(batch.get(turn).expect(rt, "a reply"));
+        if is_open && answer.is(first) {
             is_open = false;
         } else {
-            assert!(rt; told.is(late), "turn {turn}");
+            assert!(rt; answer.is(late), "turn {turn}");
         }
     }
     assert!(rt; !is_open, "turn {turn}");

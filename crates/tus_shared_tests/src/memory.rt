@@ -5,7 +5,7 @@
 ghost use Rattle.std.specs.Prelude.{◌≡◌};
 
 use crate::requests::Asked::Post;
-use crate::requests::{NUMBERS, Told, moment, settings_of, told_by, told_of, turn};
+use crate::requests::{Answer, NUMBERS, answer_by, answer_of, moment, settings_of, turn};
 use std::alloc::Global;
 use std::marker::Brand;
 use std::process::Abort;
@@ -24,15 +24,15 @@ fn create<C: Charges, R: Ledger, W: Wait + Abort>(
 ) {
     let creation = turn(rt, Post(b"10"));
     let reply = desk.call(rt, shared, &creation.request, creation.now);
-    assert!(rt; told_by(&reply).is(Told::Created(id, None, Some(4600))));
+    assert!(rt; answer_by(&reply).is(Answer::Created(id, None, Some(4600))));
 }
 
-const EMPTY: Told<'static> = Told::Row(0, Some(10), b"", Some(4600));
+const EMPTY: Answer<'static> = Answer::Row(0, Some(10), b"", Some(4600));
 
 // A desk answers a HEAD of an upload without bytes.
 fn look<C: Charges, R: Ledger>(rt: &impl Abort, desk: &mut Desk<C, R>, id: u64) {
     let row = desk.head(&Name { tenant: 0, id }, moment(rt, 1000));
-    assert!(rt; told_of(&row).is(EMPTY), "upload {id}");
+    assert!(rt; answer_of(&row).is(EMPTY), "upload {id}");
 }
 
 // A sweep at a desk ends one upload.

@@ -5,9 +5,9 @@
 
 ghost use Rattle.std.specs.Prelude.{◌≡◌};
 
+use crate::requests::Answer::{Bytes, Created, Deleted, Patched, Row};
 use crate::requests::Asked::{Delete, Get, Head, Join, Partial, Patch, Upload};
-use crate::requests::Told::{Bytes, Created, Deleted, Patched, Row};
-use crate::requests::{Asked, NUMBERS, Told, moment, secs, settings_of, told_by};
+use crate::requests::{Answer, Asked, NUMBERS, answer_by, moment, secs, settings_of};
 use std::alloc::Global;
 use std::io::Print;
 use std::marker::Brand;
@@ -28,7 +28,7 @@ const JOINED: &[u8] = b"final;/files/acme/1 /files/acme/2";
 
 /// Two parts and the final upload of both, which stays when the parts end, and an upload with its first bytes: what is
 /// asked, and what is told.
-static TURNS: [(Asked, Told<'static>); 10] = [
+static TURNS: [(Asked, Answer<'static>); 10] = [
     (Partial(b"5"), Created(1, None, Some(4600))),
     (Patch(FIRST, b"0", b"abcde"), Patched(5, Some(4600))),
     (Partial(b"2"), Created(2, None, Some(4600))),
@@ -78,7 +78,7 @@ fn is_answered<C: Charges, R: Ledger, W: Wait + Abort>(
     desk: &mut Desk<C, R>,
     place: usize,
     asked: Asked,
-    told: Told,
+    answer: Answer,
 ) -> bool {
     let reply = desk.answer(
         rt,
@@ -88,11 +88,11 @@ fn is_answered<C: Charges, R: Ledger, W: Wait + Abort>(
         place,
         &NoGate,
     );
-    let tells = told_by(&reply);
-    if let Told::Refused(Refusal::Memory, _) = tells {
+    let tells = answer_by(&reply);
+    if let Answer::Refused(Refusal::Memory, _) = tells {
         return false;
     }
-    assert!(rt; tells.is(told), "request {place}");
+    assert!(rt; tells.is(answer), "request {place}");
     true
 }
 
@@ -104,8 +104,8 @@ fn answered_by<C: Charges, R: Ledger, W: Wait + Abort>(
     desk: &mut Desk<C, R>,
     count: usize,
 ) -> usize {
-    for (place, (asked, told)) in TURNS.iter().take(count).enumerate() {
-        if !is_answered(rt, shared, desk, place, *asked, *told) {
+    for (place, (asked, answer)) in TURNS.iter().take(count).enumerate() {
+        if !is_answered(rt, shared, desk, place, *asked, *answer) {
             return place;
         }
     }

@@ -152,7 +152,7 @@ pub fn turn(rt: &impl Abort, asked: Asked) -> Turn<'static> {
 
 /// What a desk tells.
 #[derive(Clone, Copy, PartialEq, Eq)]
-pub enum Told<'a> {
+pub enum Answer<'a> {
     /// An id, the offset if it is told, and when the upload expires.
     Created(u64, Option<u64>, Option<u64>),
     /// An offset, and when the upload expires.
@@ -174,15 +174,15 @@ pub fn secs(expires: Option<Moment>) -> Option<u64> {
     expires.map(|end| end.secs())
 }
 
-impl<'a> Told<'a> {
+impl<'a> Answer<'a> {
     /// Whether another tells the same, however long either lives.
-    pub fn is(self, other: Told) -> bool {
+    pub fn is(self, other: Answer) -> bool {
         self == other
     }
 }
 
-fn row(row: &HeadRow) -> Told<'_> {
-    Told::Row(
+fn row(row: &HeadRow) -> Answer<'_> {
+    Answer::Row(
         row.offset,
         row.declared,
         row.concat.as_slice(),
@@ -191,31 +191,31 @@ fn row(row: &HeadRow) -> Told<'_> {
 }
 
 /// What a reply tells.
-pub fn told_by(reply: &Reply) -> Told<'_> {
+pub fn answer_by(reply: &Reply) -> Answer<'_> {
     match reply {
-        Reply::Options { .. } => Told::Options,
+        Reply::Options { .. } => Answer::Options,
         Reply::Created {
             id,
             offset,
             expires,
             ..
-        } => Told::Created(*id, *offset, secs(*expires)),
+        } => Answer::Created(*id, *offset, secs(*expires)),
         Reply::Head(found) => row(found),
-        Reply::Content(content) => Told::Bytes(content.as_slice()),
-        Reply::Patched { offset, expires } => Told::Patched(*offset, secs(*expires)),
-        Reply::Deleted => Told::Deleted,
+        Reply::Content(content) => Answer::Bytes(content.as_slice()),
+        Reply::Patched { offset, expires } => Answer::Patched(*offset, secs(*expires)),
+        Reply::Deleted => Answer::Deleted,
         Reply::Refused {
             refusal,
             expires,
             ..
-        } => Told::Refused(*refusal, secs(*expires)),
+        } => Answer::Refused(*refusal, secs(*expires)),
     }
 }
 
 /// What a desk tells of a HEAD of its own.
-pub fn told_of(answer: &Result<HeadRow, Refusal>) -> Told<'_> {
-    match answer {
+pub fn answer_of(head: &Result<HeadRow, Refusal>) -> Answer<'_> {
+    match head {
         Ok(found) => row(found),
-        Err(refusal) => Told::Refused(*refusal, None),
+        Err(refusal) => Answer::Refused(*refusal, None),
     }
 }

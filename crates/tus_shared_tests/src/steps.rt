@@ -2,7 +2,7 @@
 
 ghost use Rattle.std.specs.Prelude.{◌≡◌, ◌<◌, vec_len};
 
-use crate::requests::{Asked, NUMBERS, Told, moment, settings_of, told_by, told_of};
+use crate::requests::{Answer, Asked, NUMBERS, answer_by, answer_of, moment, settings_of};
 use std::alloc::Global;
 use std::marker::Brand;
 use std::process::Abort;
@@ -30,19 +30,19 @@ pub struct Step {
     pub desk: usize,
     pub secs: u64,
     pub call: Call,
-    pub told: Told<'static>,
+    pub answer: Answer<'static>,
     /// How many blocks were charged, released, and are held, and how many are free.
     pub settled: [u64; 4],
 }
 
-/// A table of steps, each `desk secs call => told, settled;`.
+/// A table of steps, each `desk secs call => answer, settled;`.
 macro_rules! steps {
-    ($($desk:literal $secs:literal $call:expr => $told:expr, $settled:expr;)*) => {
+    ($($desk:literal $secs:literal $call:expr => $answer:expr, $settled:expr;)*) => {
         [$(Step {
             desk: $desk,
             secs: $secs,
             call: $call,
-            told: $told,
+            answer: $answer,
             settled: $settled,
         }),*]
     };
@@ -111,8 +111,8 @@ fn reply_in_batch<
 
 // The one reply at a desk.
 fn only_reply(rt: &impl Abort, mut replies: Vec<Vec<Reply>>, desk: usize) -> Reply {
-    let told = replies.get_mut(desk).expect(rt, "a list");
-    told.pop().expect(rt, "a reply")
+    let replies = replies.get_mut(desk).expect(rt, "a list");
+    replies.pop().expect(rt, "a reply")
 }
 
 // Where a step stands: its place in the table, and the way in which its request is asked.
@@ -123,9 +123,9 @@ struct At {
 }
 
 // What a desk tells is what the step here says, by each way in which it is asked.
-fn assert_tells(rt: &impl Abort, told: Told, expected: Told, at: At) {
+fn assert_tells(rt: &impl Abort, answer: Answer, expected: Answer, at: At) {
     let At { place, way } = at;
-    assert!(rt; told == expected, "step {place}, by {way:?}");
+    assert!(rt; answer == expected, "step {place}, by {way:?}");
 }
 
 // The reply of one of two desks to a request tells what the step says.
@@ -145,7 +145,7 @@ fn ask<C: Charges + Send + Sync, R: Ledger + Send + Sync, W: Threads + Wait + Ab
 {
     let (request, now) = (asked.request(), moment(rt, step.secs));
     let reply = reply_to(rt, alloc, shared, desks, desk, at.way, request, now);
-    assert_tells(rt, told_by(&reply), step.told, at);
+    assert_tells(rt, answer_by(&reply), step.answer, at);
 }
 
 // A desk's HEAD of an upload tells what the step says.
@@ -156,8 +156,8 @@ fn look<C: Charges, R: Ledger>(
     step: &Step,
     at: At,
 ) {
-    let answer = desk.head(name, moment(rt, step.secs));
-    assert_tells(rt, told_of(&answer), step.told, at);
+    let head = desk.head(name, moment(rt, step.secs));
+    assert_tells(rt, answer_of(&head), step.answer, at);
 }
 
 // A sweep at a desk tells what the step says.
@@ -170,8 +170,8 @@ fn sweep<C: Charges, R: Ledger, W: Wait + Abort>(
 ) {
     let swept = desk.sweep(rt, shared, moment(rt, step.secs));
     let swept = swept.expect(rt, "a sweep");
-    let told = Told::Swept(swept.uploads, swept.blocks, swept.released);
-    assert_tells(rt, told, step.told, at);
+    let answer = Answer::Swept(swept.uploads, swept.blocks, swept.released);
+    assert_tells(rt, answer, step.answer, at);
 }
 
 // Takes two desks through one step.

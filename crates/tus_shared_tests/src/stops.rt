@@ -3,9 +3,9 @@
 
 ghost use Rattle.std.specs.Prelude.{◌≡◌, vec_len};
 
-use crate::batches::{assert_told, create, wait_for};
+use crate::batches::{assert_answers, create, wait_for};
 use crate::requests::Asked::Patch;
-use crate::requests::{Told, moment, settings, turn};
+use crate::requests::{Answer, moment, settings, turn};
 use std::alloc::Global;
 use std::marker::Brand;
 use std::process::Abort;
@@ -88,10 +88,10 @@ fn assert_noted(rt: &impl Abort, notes: &Notes) {
 
 // The first desk's batch begins the upload, and the second's ends it.
 fn assert_replies(rt: &impl Abort, replies: &[Vec<Reply>]) {
-    let begun = Told::Patched(5, Some(4600));
-    let grown = Told::Patched(8, Some(4600));
-    assert_told(rt, replies.get(0), &[begun]);
-    assert_told(rt, replies.get(1), &[grown, Told::Patched(10, None)]);
+    let begun = Answer::Patched(5, Some(4600));
+    let grown = Answer::Patched(8, Some(4600));
+    assert_answers(rt, replies.get(0), &[begun]);
+    assert_answers(rt, replies.get(1), &[grown, Answer::Patched(10, None)]);
 }
 
 // Both desks answer batches at once, of one turn and of two, which fill a new upload at this path. The stops are noted

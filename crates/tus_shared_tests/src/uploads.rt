@@ -1,8 +1,8 @@
 //! The worked uploads at two desks.
 
+use crate::requests::Answer::{Bytes, Created, Deleted, Patched, Refused, Row, Swept};
 use crate::requests::Asked::{Checked, Delete, Get, Head, Join, Partial, Patch, Post, Upload};
 use crate::requests::NUMBERS;
-use crate::requests::Told::{Bytes, Created, Deleted, Patched, Refused, Row, Swept};
 use crate::steps::Call::{Ask, Look, Sweep};
 use crate::steps::{Step, run, run_with, steps};
 use std::test::Fail;

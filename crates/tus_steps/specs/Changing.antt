@@ -14,7 +14,7 @@ use Rattle.upload_book.specs.PlainBook.{PlainBook}
 use Rattle.upload_book.specs.Settings.{Settings}
 use Rattle.tus_steps.specs.declared.requested_change.ChangeOf.{ChangeOf}
 use Rattle.tus_steps.specs.declared.reply.Reply.{Reply}
-use Rattle.tus_steps.specs.declared.reply.Reply.TheVariants as reply
+use Rattle.tus_steps.specs.declared.reply.Reply.TheVariants.{Deleted}
 use Rattle.tus_steps.specs.Method.{is_options}
 use Rattle.tus_steps.specs.Operation.{operation_of}
 use Rattle.tus_steps.specs.Reply.{append_reply, creation_reply, refusing}
@@ -44,8 +44,8 @@ change_found s r = if is_options r.method then None else change_by (operation_of
 abbrev pub change_reply : Request → Option ℕ → Result Outcome Refused → Reply
 change_reply r offset (Ok (Created created)) = creation_reply r offset (Ok created)
 change_reply r offset (Ok (Appended appended)) = append_reply r (Ok appended)
-change_reply r offset (Ok (Removed removed)) = reply.Deleted
-change_reply r offset (Ok (Swept swept)) = reply.Deleted
+change_reply r offset (Ok (Removed removed)) = Deleted
+change_reply r offset (Ok (Swept swept)) = Deleted
 change_reply r offset (Err refused) = refusing r refused.refusal refused.expires
 
 -- The change is the step of the request: with this reply to its answer, and this book after it. Where it is refused the
@@ -58,4 +58,4 @@ pub record IsStepOf (b : PlainBook) (r : Request) (now : ℕ) (asked : ChangeOf)
 -- the step of a request on a book, by the change that was found: one without leaves the book
 abbrev pub IsChangeStep : PlainBook → Request → ℕ → Option ChangeOf → Type 0
 IsChangeStep b r now (Some asked) = IsStepOf b r now asked
-IsChangeStep b r now None = (told : Reply) (after : PlainBook) → IsStep b r now told after → after ≡ b
+IsChangeStep b r now None = (reply : Reply) (after : PlainBook) → IsStep b r now reply after → after ≡ b

@@ -7,7 +7,7 @@ use Rattle.upload_book.specs.Settings.{tenant_place}
 use Rattle.upload_book.specs.Sweep.{book_after_sweep}
 use Rattle.upload_book.specs.TenantBook.{TenantBook}
 use Rattle.tus_steps.specs.declared.reply.Reply.{Reply}
-use Rattle.tus_steps.specs.declared.reply.Reply.TheVariants as reply
+use Rattle.tus_steps.specs.declared.reply.Reply.TheVariants.{Refused}
 use Rattle.tus_steps.specs.Creation.{is_with_upload}
 use Rattle.tus_steps.specs.Method.{is_patch}
 use Rattle.tus_steps.specs.Request.{Request}
@@ -27,10 +27,10 @@ requests_at turns = map {A = Request × ℕ} {B = Event} (λ turn. request turn.
 -- book is the last one in the end.
 abbrev pub IsHistory : PlainBook → List Event → List Reply → PlainBook → Type 0
 IsHistory b [] [] after = after ≡ b
-IsHistory b [] (told ∷ replies) after = ⊥
+IsHistory b [] (reply ∷ replies) after = ⊥
 IsHistory b (request r now ∷ events) [] after = ⊥
-IsHistory b (request r now ∷ events) (told ∷ replies) after =
-    (middle : PlainBook) × IsStep b r now told middle × IsHistory middle events replies after
+IsHistory b (request r now ∷ events) (reply ∷ replies) after =
+    (middle : PlainBook) × IsStep b r now reply middle × IsHistory middle events replies after
 IsHistory b (sweep now ∷ events) replies after = IsHistory (book_after_sweep b now) events replies after
 
 -- the request is the tenant's: its path names it
@@ -48,8 +48,8 @@ own_events tenant events = filter (is_own tenant) events
 
 -- a tenant's requests, each with its reply, of the replies to all
 abbrev pub exchanges_of : List ℕ → List Event → List Reply → List (Request × Reply)
-exchanges_of tenant (request r now ∷ events) (told ∷ replies) =
-    if is_of tenant r then (r, told) ∷ exchanges_of tenant events replies else exchanges_of tenant events replies
+exchanges_of tenant (request r now ∷ events) (reply ∷ replies) =
+    if is_of tenant r then (r, reply) ∷ exchanges_of tenant events replies else exchanges_of tenant events replies
 exchanges_of tenant (sweep now ∷ events) replies = exchanges_of tenant events replies
 exchanges_of tenant _ _ = []
 
@@ -65,8 +65,8 @@ sends_bytes r = is_patch r.method || is_with_upload r
 -- that sends no bytes is refused as spent, it is the tenant's own ids that are. A creation that carries bytes may be
 -- refused so for either, and counts here.
 abbrev pub lacks_shared : Request → Reply → Bool
-lacks_shared r (reply.Refused refusal.Memory head at expires) = true
-lacks_shared r (reply.Refused refusal.Spent head at expires) = sends_bytes r
+lacks_shared r (Refused refusal.Memory head at expires) = true
+lacks_shared r (Refused refusal.Spent head at expires) = sends_bytes r
 lacks_shared r _ = false
 
 -- the part of the tenant of a name, if there is one

@@ -30,13 +30,13 @@ IsUnhindered exchange = lacks_shared exchange.0 exchange.1 ≡ false
 -- sweep leaves of its part what that part and the moment say.
 pub record StepsSeeOneTenant : Type 0 where
   pub own :
-      (tenant : List ℕ) (b other : PlainBook) (r : Request) (now : ℕ) (told also : Reply) (after left : PlainBook)
-      → AreAlike tenant b other → is_of tenant r ≡ true → IsStep b r now told after → IsStep other r now also left
-      → IsUnhindered (r, told) → IsUnhindered (r, also)
-      → (told ≡ also) × AreAlike tenant after left
+      (tenant : List ℕ) (b other : PlainBook) (r : Request) (now : ℕ) (reply also : Reply) (after left : PlainBook)
+      → AreAlike tenant b other → is_of tenant r ≡ true → IsStep b r now reply after → IsStep other r now also left
+      → IsUnhindered (r, reply) → IsUnhindered (r, also)
+      → (reply ≡ also) × AreAlike tenant after left
   pub others :
-      (tenant : List ℕ) (b : PlainBook) (r : Request) (now : ℕ) (told : Reply) (after : PlainBook)
-      → is_of tenant r ≡ false → IsStep b r now told after
+      (tenant : List ℕ) (b : PlainBook) (r : Request) (now : ℕ) (reply : Reply) (after : PlainBook)
+      → is_of tenant r ≡ false → IsStep b r now reply after
       → part_of after tenant ≡ part_of b tenant
   pub swept :
       (tenant : List ℕ) (b : PlainBook) (now : ℕ)
@@ -64,9 +64,9 @@ quota_of s tenant = option_and_then (slice_get (map {A = TenantQuota} {B = ℕ} 
 -- unless one of them is refused for what all tenants share.
 abbrev pub OtherNeighbours : Type 0
 OtherNeighbours =
-    (s other : Settings) (tenant : List ℕ) (events others : List Event) (replies told : List Reply) (after left : PlainBook)
+    (s other : Settings) (tenant : List ℕ) (events others : List Event) (replies also : List Reply) (after left : PlainBook)
     → s.numbers ≡ other.numbers → quota_of s tenant ≡ quota_of other tenant
-    → IsHistory (opening_book s) events replies after → IsHistory (opening_book other) others told left
+    → IsHistory (opening_book s) events replies after → IsHistory (opening_book other) others also left
     → own_events tenant events ≡ own_events tenant others
-    → AreUnhindered tenant events replies → AreUnhindered tenant others told
-    → replies_to tenant events replies ≡ replies_to tenant others told
+    → AreUnhindered tenant events replies → AreUnhindered tenant others also
+    → replies_to tenant events replies ≡ replies_to tenant others also

@@ -13,7 +13,7 @@ use Rattle.upload_book.specs.Operation.{book_after_operation, MayLackMemory}
 use Rattle.upload_book.specs.PlainBook.{PlainBook, answer_of}
 use Rattle.upload_book.specs.Terminate.{terminate_answer}
 use Rattle.tus_steps.specs.declared.reply.Reply.{Reply}
-use Rattle.tus_steps.specs.declared.reply.Reply.TheVariants as reply
+use Rattle.tus_steps.specs.declared.reply.Reply.TheVariants.{Options}
 use Rattle.tus_steps.specs.Operation.{operation_of}
 use Rattle.tus_steps.specs.Method.{is_options}
 use Rattle.tus_steps.specs.Reply.{refusing, creation_reply, head_reply, content_reply, append_reply, deletion_reply}
@@ -38,18 +38,18 @@ lacking_reply b r now _ = refusing r refusal.Memory None
 -- The step of an operation: this reply, and this book after it. Where it may lack memory, and does, it is
 -- refused for that instead, and the book stays.
 abbrev pub IsOperationStep : PlainBook → Request → ℕ → Operation → Reply → PlainBook → Type 0
-IsOperationStep b r now op told after =
-    ((told ≡ operation_reply b r now op) × (after ≡ book_after_operation b op now))
-    ⊎ (MayLackMemory b op now × (told ≡ lacking_reply b r now op) × (after ≡ b))
+IsOperationStep b r now op reply after =
+    ((reply ≡ operation_reply b r now op) × (after ≡ book_after_operation b op now))
+    ⊎ (MayLackMemory b op now × (reply ≡ lacking_reply b r now op) × (after ≡ b))
 
 -- the step of a request that asks for an operation, or for none for this reason
 abbrev pub IsStepBy : PlainBook → Request → ℕ → Result Operation Refusal → Reply → PlainBook → Type 0
-IsStepBy b r now (Ok op) told after = IsOperationStep b r now op told after
-IsStepBy b r now (Err why) told after = (told ≡ refusing r why None) × (after ≡ b)
+IsStepBy b r now (Ok op) reply after = IsOperationStep b r now op reply after
+IsStepBy b r now (Err why) reply after = (reply ≡ refusing r why None) × (after ≡ b)
 
 -- The step of a request. OPTIONS is answered whatever else the request says (tus 1.0.0, Core Protocol, OPTIONS).
 abbrev pub IsStep : PlainBook → Request → ℕ → Reply → PlainBook → Type 0
-IsStep b r now told after =
+IsStep b r now reply after =
     MatchBool (is_options r.method)
-    ((told ≡ reply.Options b.settings.numbers.max_size) × (after ≡ b))
-    (IsStepBy b r now (operation_of b.settings r) told after)
+    ((reply ≡ Options b.settings.numbers.max_size) × (after ≡ b))
+    (IsStepBy b r now (operation_of b.settings r) reply after)

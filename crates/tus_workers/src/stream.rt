@@ -2,7 +2,7 @@
 ghost use Rattle.std.specs.Prelude.{◌≡◌, ◌<◌, ◌∷◌, ◌++◌, [], ℕ, List, length, false, IfErr, IfOk, IsErr};
 ghost use Rattle.std.specs.Io.KnownBytes.{Appends, Consumes};
 ghost use Rattle.http_wire.specs.Clock.{AreTold, IsTimed, Tells};
-ghost use Rattle.http_wire.specs.Fault.{Names};
+ghost use Rattle.http_wire.specs.Fault.{NamesStream};
 ghost use Rattle.http_wire.specs.Turns.{Breaks, Converses, IsReadWhen};
 ghost use Rattle.tus_shared.specs.Answers.{AnswersTurn};
 
@@ -68,7 +68,7 @@ pub fn serve_stream<
         × Breaks (λ old request now reply new. AnswersTurn C.settings request now reply old new) C.settings.numbers.max_size (moments ++ now ∷ [])
         (record { input = got; text = text; before = desk; after = result.desk }) f)) }
     ensures read { IfOk result.ended (λ e. IsReadWhen e (I.remaining result.reader)) }
-    ensures fault { IfErr result.ended (Names (I.has_failed result.reader) (O.has_failed result.writer)) }
+    ensures fault { IfErr result.ended (NamesStream (I.has_failed result.reader) (O.has_failed result.writer)) }
 {
     let mut answerer = AtDesk::new(rt, desk, shared, gate);
     let mut wire = Wire::with_buffers(buffers, reader, writer, answerer.max_size());

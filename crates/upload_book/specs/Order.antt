@@ -2,8 +2,8 @@
 -- for each reason, and no order among them.
 use Rattle.std.specs.Prelude.{ℕ, Bool, true, false, List, [], ◌∷◌, codes, bytes_eq, if◌then◌else◌}
 
--- The words of all refusals: a request is refused by the first that applies. The wire asks those of the first
--- group, and closes the connection after such a refusal; the steps ask those of the second, before the book is
+-- The words of all refusals that a reply can have: a request is refused by the first that applies. The wire asks those of
+-- the first group, and closes the connection after such a refusal; the steps ask those of the second, before the book is
 -- asked; and the book asks those of the third. Memory stands wherever it may be lacking.
 abbrev pub order : List (List ℕ)
 order =

@@ -121,7 +121,7 @@ pub record ArePieces (size next : ℕ) (pieces : List Piece) : Type 0 where
 
 -- What is kept of the blocks: each tenant's pieces are as they should be, each block is held as often as it
 -- stands in them, so it is free exactly where it stands in none, and no block is two tenants'.
-pub record IsStored (p : Blocks) (stored_tenants : List StoredTenant) : Type 0 where
+pub record HoldsPieces (p : Blocks) (stored_tenants : List StoredTenant) : Type 0 where
   pub pieces : All (λ s. ArePieces p.block_size s.next (pieces_of s)) stored_tenants
   pub counts : (b : ℕ) → count_at p b ≡ sum_by (places_on b) stored_tenants
   pub apart : (b : ℕ) → sum_by (λ s. some_of (places_on b s)) stored_tenants ≤ 1

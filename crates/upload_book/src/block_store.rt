@@ -9,15 +9,15 @@ ghost use Rattle.upload_book.specs.Ready.{IsListed};
 ghost use Rattle.upload_book.specs.Lawful.{IsConcatText, is_kept_metadata};
 ghost use Rattle.upload_book.specs.Sweep.{part_after_sweep};
 ghost use Rattle.upload_book.specs.declared.head_row.Kind.TheVariants.{Final};
-ghost use Rattle.upload_book.specs.inside.Kept.{stored_tenant_of, HasRoom};
+ghost use Rattle.upload_book.specs.inside.Kept.{stored_tenant_of, HasUploadRoom};
 ghost use Rattle.upload_book.specs.Settings.{settings_fault};
 ghost use Rattle.upload_book.specs.inside.Progress.{progress_in};
 ghost use Rattle.upload_book.specs.BlockStore.{opening_stored_tenants, plain_in, stored_tenant_at, part_at, pieces_named, entry_at, holders_at, rows_at, upload_at, Joins};
 ghost use Rattle.upload_book.specs.inside.Places.{with_bytes, with_upload, without_upload, AreFew, IsAlone, IsPartIn, IsVisibleIn};
 ghost use Rattle.upload_book.specs.Stored as kept;
-ghost use Rattle.upload_book.specs.Stored.{part_kept, segment_of, IsStored};
+ghost use Rattle.upload_book.specs.Stored.{part_kept, segment_of, HoldsPieces};
 ghost use Rattle.upload_book.specs.inside.Pieces.{as_piece, no_chain, own_chain, HasOwnPiece};
-ghost use Rattle.block_bodies.specs.Bodies.{HasRoom as HasRoomFor};
+ghost use Rattle.block_bodies.specs.Bodies.{HasRoom};
 ghost use Rattle.block_bodies.specs.Changes.{SameSizes};
 ghost use Rattle.upload_book.specs.TenantBook.{visible_upload, with_new};
 ghost use Rattle.upload_book.specs.Upload.{content_of, head_row_of, offset_of};
@@ -170,7 +170,7 @@ impl BlockStore {
     /// expired or not; `None` where there is none. With it a caller learns what every store keeps of its blocks.
     pub(crate) fn holders(&self, name: &Name, segment: usize, place: u64) -> Option<u64>
         ensures value { result ≡ holders_at self.now name.now.tenant name.now.id segment place }
-        ensures stored { IsStored self.now.pool self.now.stored_tenants }
+        ensures stored { HoldsPieces self.now.pool self.now.stored_tenants }
     {
         let stored_tenant = self.stored_tenants.get(usize::from(name.tenant))?;
         let upload = &stored_tenant.uploads[stored_tenant.place(name.id)?];
@@ -180,7 +180,7 @@ impl BlockStore {
 
     /// Says of the blocks what holds of every store, and does nothing.
     pub(crate) fn tell_blocks(&self)
-        ensures stored { IsStored self.now.pool self.now.stored_tenants }
+        ensures stored { HoldsPieces self.now.pool self.now.stored_tenants }
         ensures own { All (λ (t : kept.StoredTenant). All HasOwnPiece t.uploads) self.now.stored_tenants }
     {
         self.pool.free();
@@ -258,7 +258,7 @@ impl BlockStore {
         requires blocks { sum_by (charge_with self.now.pool.block_size) (plain_in self.now)
             + blocks_between self.now.pool.block_size 0 more ≤ size_of self.now.pool }
         ensures empty { IfOk result (λ body. body ≡ record no_chain { room = body.room }) }
-        ensures listed { IfOk result (λ body. HasRoomFor self.now.pool body more) }
+        ensures listed { IfOk result (λ body. HasRoom self.now.pool body more) }
         ensures memory { OnErr result (0 < blocks_between self.now.pool.block_size 0 more) }
     {
         let body = body_for(alloc, &self.pool, more)?;
@@ -283,7 +283,7 @@ impl BlockStore {
         requires blocks { sum_by (charge_with self.old.pool.block_size) (plain_in self.old)
             + blocks_between self.old.pool.block_size 0 (length bytes.now) ≤ size_of self.old.pool }
         requires empty { body ≡ record no_chain { room = body.room } }
-        requires listed { HasRoomFor self.old.pool body (length bytes.now) }
+        requires listed { HasRoom self.old.pool body (length bytes.now) }
         ensures plain { plain_in self.new ≡ set (plain_in self.old) tenant
             (with_new (part_at self.old tenant) (upload_from new.now bytes.now expires)) }
         ensures taken { result ≡ blocks_between self.old.pool.block_size 0 (length bytes.now) }
@@ -435,7 +435,7 @@ impl BlockStore {
             ≤ size_of self.old.pool }
         ensures plain { OnOk result (plain_in self.new ≡ plain_in self.old) }
         ensures listed { OnOk result
-            (HasRoomFor self.new.pool (own_chain (entry_at self.new tenant place).kept.pieces) more) }
+            (HasRoom self.new.pool (own_chain (entry_at self.new tenant place).kept.pieces) more) }
         ensures pool { self.new.pool ≡ self.old.pool }
         ensures room_stays { self.new.room ≡ self.old.room }
         ensures memory { OnErr result (0 < blocks_between self.old.pool.block_size
@@ -464,7 +464,7 @@ impl BlockStore {
         requires room { sum_by (charge_with self.old.pool.block_size) (plain_in self.old)
             + blocks_between self.old.pool.block_size (offset_of (upload_at self.old tenant place)) (length bytes.now)
             ≤ size_of self.old.pool }
-        requires listed { HasRoomFor self.old.pool (own_chain (entry_at self.old tenant place).kept.pieces)
+        requires listed { HasRoom self.old.pool (own_chain (entry_at self.old tenant place).kept.pieces)
             (length bytes.now) }
         ensures plain { plain_in self.new ≡ set (plain_in self.old) tenant
             (with_upload (part_at self.old tenant) place (record {
@@ -518,7 +518,7 @@ impl BlockStore {
 fn empty_stored_tenants(alloc: Global, settings: &Settings) -> Result<Vec<StoredTenant>, AllocError>
     ensures stored_tenants { IfOk result (λ v. map stored_tenant_of v.items ≡ opening_stored_tenants settings.now.tenants) }
     ensures charges { IfOk result (λ v. All (λ t. t.charge ≡ 0) v.items) }
-    ensures room { IfOk result (λ v. All (HasRoom settings.now.numbers.uploads) v.items) }
+    ensures room { IfOk result (λ v. All (HasUploadRoom settings.now.numbers.uploads) v.items) }
 {
     let room = settings.numbers().uploads as usize;
     let mut stored_tenants = Vec::with_capacity(alloc, settings.tenant_count())?;

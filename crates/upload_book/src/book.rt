@@ -9,7 +9,7 @@ ghost use Rattle.upload_book.specs.Heads.{accounts_of};
 ghost use Rattle.upload_book.specs.Lawful.{IsLawful};
 ghost use Rattle.upload_book.specs.PlainBook.{opening_book, tenant_book};
 ghost use Rattle.upload_book.specs.BlockStore.{holders_at};
-ghost use Rattle.upload_book.specs.Stored.{IsStored};
+ghost use Rattle.upload_book.specs.Stored.{HoldsPieces};
 
 use crate::account::Account;
 use crate::block_store::BlockStore;
@@ -129,7 +129,7 @@ impl Book {
     /// stands in none.
     pub fn holders(&self, name: &Name, segment: usize, place: u64) -> Option<u64>
         ensures value { result ≡ holders_at self.now.store name.now.tenant name.now.id segment place }
-        ensures stored { IsStored self.now.store.pool self.now.store.stored_tenants }
+        ensures stored { HoldsPieces self.now.store.pool self.now.store.stored_tenants }
     {
         self.store.holders(name, segment, place)
     }

@@ -13,8 +13,8 @@ use crate::refusal::Refusal;
 
 impl Book {
     /// Finds whether a change can be made at `now`, and takes all memory that it takes. [`Book::commit`] then makes
-    /// it. The book stays as it is but for room in lists: it stands for the same plain book, and a change that is let
-    /// go costs nothing.
+    /// it. The book stays as it is but for room in lists: it stands for the same plain book, no block changes, and a
+    /// change that is let go costs nothing.
     ///
     /// It is refused as the call that makes the change: by the first refusal that applies, and as Memory where there
     /// was none. A refusal leaves the book as it was; that of a PATCH tells when its upload expires.
@@ -28,6 +28,7 @@ impl Book {
             (MayLackFor (plain_of self.old) change.entry now)
             (change_lacking (plain_of self.old) change.entry now) (Err why)) }
         ensures plain { plain_of self.new ≡ plain_of self.old }
+        ensures pool { self.new.store.pool ≡ self.old.store.pool }
         ensures unchanged { OnErr result (self.new ≡ self.old) }
     {
         match change {

@@ -21,14 +21,14 @@ pub(crate) struct StoredTenant {
 }
 
 impl StoredTenant {
-    ghost use Rattle.upload_book.specs.inside.Kept.{stored_tenant_of, HasRoom, IsPartAt, IsVisibleAt};
+    ghost use Rattle.upload_book.specs.inside.Kept.{stored_tenant_of, HasUploadRoom, IsPartAt, IsVisibleAt};
 
     /// The part of a tenant that has no upload yet, with room for so many. All memory for them is taken here, but
     /// for the lists of their blocks; the error is that there was too little.
     pub(crate) fn new(alloc: Global, quota: u64, room: usize) -> Result<StoredTenant, AllocError>
         ensures stored_tenant { IfOk result (λ t. stored_tenant_of t ≡ opening_part quota) }
         ensures charge { IfOk result (λ t. t.charge ≡ 0) }
-        ensures room { IfOk result (HasRoom room) }
+        ensures room { IfOk result (HasUploadRoom room) }
     {
         Ok(StoredTenant {
             quota,

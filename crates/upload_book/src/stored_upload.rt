@@ -42,7 +42,7 @@ pub(crate) struct StoredUpload {
 }
 
 impl Model for StoredUpload {
-    ghost use Rattle.upload_book.specs.inside.HeldBytes.{kind_of, pieces_in, IsCounted};
+    ghost use Rattle.upload_book.specs.inside.HeldBytes.{kind_of, pieces_in, CountsBytes};
     ghost use Rattle.upload_book.specs.TenantBook.{Entry};
     ghost use Rattle.upload_book.specs.Stored as stored;
 
@@ -60,7 +60,7 @@ impl Model for StoredUpload {
       };
     } };
 
-    ghost invariant = { λ u. IsCounted u.held };
+    ghost invariant = { λ u. CountsBytes u.held };
 }
 
 impl StoredUpload {

@@ -40,9 +40,9 @@ JudgesHead max text h (Err e) = (judged max h ≡ Err e.refusal) × (e.framing �
 
 -- What a head text gives: the layout of its head, or a refusal that an input begins with which begins
 -- with this text, whatever follows it.
-abbrev pub ReadsHead : ℕ → List ℕ → Result Layout RefusedHead → Type 0
-ReadsHead max text (Ok p) = (has_many_lines text ≡ false) × ((h : RequestHead) × Parses text (Some h) × ShowsHead max text h p)
-ReadsHead max text (Err e) = (rest : List ℕ) → Begins max (whole text rest) (refused e.refusal e.framing)
+abbrev pub ReadsLayout : ℕ → List ℕ → Result Layout RefusedHead → Type 0
+ReadsLayout max text (Ok p) = (has_many_lines text ≡ false) × ((h : RequestHead) × Parses text (Some h) × ShowsHead max text h p)
+ReadsLayout max text (Err e) = (rest : List ℕ) → Begins max (whole text rest) (refused e.refusal e.framing)
 
 -- these bytes begin with a whole head of this layout, which is held with what follows it
 pub record BeginsHead (max : ℕ) (bytes : List ℕ) (p : Layout) (held : List ℕ) : Type 0 where

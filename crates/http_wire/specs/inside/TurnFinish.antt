@@ -7,7 +7,7 @@ use Rattle.http_wire.specs.declared.fault.WireFault.TheVariants as fault
 use Rattle.std.specs.Io.KnownBytes.{Appends}
 use Rattle.tus_steps.specs.Request.{Request}
 use Rattle.tus_steps.specs.declared.reply.Reply.{Reply}
-use Rattle.http_wire.specs.Fault.{Names}
+use Rattle.http_wire.specs.Fault.{NamesStream}
 use Rattle.http_wire.specs.Incoming.{FramedRequest, is_cut_by_fault}
 use Rattle.http_wire.specs.ReadOnWire.{ComesIn, TellsEnd}
 use Rattle.http_wire.specs.Turns.{EndsByTurn, IsReadWhen, TakesTurn}
@@ -42,4 +42,4 @@ pub record FinishesTurn {A : Type 0} (steps : A → Request → ℕ → Reply �
   pub ends : IfOk r EndsByTurn
   pub reader : OnOk r (is_cut_by_fault incoming ≡ false)
   pub writer : OnOk r (failed ≡ false)
-  pub fault : IfErr r (Names (is_cut_by_fault incoming) failed)
+  pub fault : IfErr r (NamesStream (is_cut_by_fault incoming) failed)

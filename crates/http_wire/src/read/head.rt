@@ -5,7 +5,7 @@ ghost use Rattle.http_header.specs.HeaderMap.{get_all};
 ghost use Rattle.http_header.specs.Token.{lowercase};
 ghost use Rattle.http_wire.specs.Layout.{IsInside, IsLayoutWithin, field_at};
 ghost use Rattle.http_wire.specs.inside.FieldSpans.{HasFields};
-ghost use Rattle.http_wire.specs.inside.HeadLayout.{HasLine, IsLine, JudgesHead, ReadsHead};
+ghost use Rattle.http_wire.specs.inside.HeadLayout.{HasLine, IsLine, JudgesHead, ReadsLayout};
 ghost use Rattle.tus_steps.specs.Field.{text_of};
 ghost use Rattle.http_wire.specs.Fields.{field_of_values};
 ghost use Rattle.tus_steps.specs.TusFields.{EachField, fields_by, map_fields};
@@ -53,7 +53,7 @@ pub fn read_layout(
     requires max_size { max_size < 2 ^ 31 }
     ensures within { IfOk result (λ p. IsLayoutWithin (length head.now) p) }
     ensures size { IfOk result (λ p. p.body_len ≤ max_size) }
-    ensures gives { ReadsHead max_size head.now result }
+    ensures gives { ReadsLayout max_size head.now result }
 {
     if has_many_lines(head) {
         return Err(unknown(WireRefusal::HeadSize));

@@ -9,7 +9,7 @@ use Rattle.block_pool.proofs.BlocksLaws.{below_size, free_in-numbers, places_of-
 use Rattle.block_bodies.specs.Bodies.{blocks_for}
 use Rattle.upload_book.specs.Charge.{Source, sum_below, price, charge_of}
 use Rattle.upload_book.specs.declared.piece.Piece.{Piece}
-use Rattle.upload_book.specs.Stored.{StoredTenant, pieces_of, placed_in, places_on, charge_on, some_of, Agree, IsPiece, ArePieces, IsStored}
+use Rattle.upload_book.specs.Stored.{StoredTenant, pieces_of, placed_in, places_on, charge_on, some_of, Agree, IsPiece, ArePieces, HoldsPieces}
 use Rattle.upload_book.proofs.Charge.SumsBelow.{sum_below-same, sum_below-add, sum_below-none, sum_below-ones, sum_below-one, sum_below-sum_by, sum_by-range, sum_by-same, some_of-sum_by}
 
 -- the first element is one of the list
@@ -213,7 +213,7 @@ used-charge size n next (x ∷ xs) are below =
     ]
 
 -- a block past the last one stands nowhere
-pub places_on-past : (p : Blocks) (stored_tenants : List StoredTenant) → IsStored p stored_tenants → (b : ℕ) → size_of p ≤ b → All (λ s. places_on b s ≡ 0) stored_tenants
+pub places_on-past : (p : Blocks) (stored_tenants : List StoredTenant) → HoldsPieces p stored_tenants → (b : ℕ) → size_of p ≤ b → All (λ s. places_on b s ≡ 0) stored_tenants
 places_on-past p stored_tenants kept b past k d l = elim (cases_lt 0 (count_at p b)) [
   | inl held ↦ absurd (omega (arith, below_size p b held))
   | inr free ↦ omega (arith, kept.counts b, get_or-le-sum_by (places_on b) stored_tenants k d l)
@@ -224,7 +224,7 @@ free_or_some : (n : ℕ) → cond {A = ℕ} (eqb n 0) 1 0 + some_of n ≡ 1
 free_or_some n = grind (arith, nat_tests)
 
 -- the free blocks and those that the tenants pay are all blocks
-pub blocks_in_use : (p : Blocks) (stored_tenants : List StoredTenant) → IsStored p stored_tenants → free_in p + sum_by (charge_on p.block_size) stored_tenants ≡ size_of p
+pub blocks_in_use : (p : Blocks) (stored_tenants : List StoredTenant) → HoldsPieces p stored_tenants → free_in p + sum_by (charge_on p.block_size) stored_tenants ≡ size_of p
 blocks_in_use p stored_tenants kept =
     let n : ℕ = size_of p in
     let free : free_in p ≡ sum_below n (λ b. cond (eqb (count_at p b) 0) 1 0) =

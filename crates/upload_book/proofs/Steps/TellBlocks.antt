@@ -18,7 +18,7 @@ use Rattle.upload_book.specs.declared.settings.Numbers.{Numbers}
 use Rattle.upload_book.specs.declared.piece.Piece.{Piece}
 use Rattle.upload_book.specs.inside.Pieces.{HasOwnPiece, own_chain}
 use Rattle.upload_book.specs.Lawful.{IsOfKind, IsUploadOf}
-use Rattle.upload_book.specs.Stored.{StoredTenant, StoredUpload, IsStored, upload_of}
+use Rattle.upload_book.specs.Stored.{StoredTenant, StoredUpload, HoldsPieces, upload_of}
 use Rattle.upload_book.specs.TenantBook.{Entry, TenantBook, kept_in, opening_part}
 use Rattle.upload_book.specs.Upload.{Upload, IsComplete}
 use Rattle.upload_book.proofs.Charge.ChargeLemmas.{uploads-sole}
@@ -77,7 +77,7 @@ stands t id (Some i) u at is =
     )
 
 -- what every book has under a name: the upload is kept at a place of its tenant's part
-module _ (b : StoredBook) (t id : ℕ) (kept : IsBook b) (stored : IsStored b.store.pool b.store.stored_tenants) (own : All (λ (s : StoredTenant). All HasOwnPiece s.uploads) b.store.stored_tenants) (within : t < length b.store.stored_tenants) where
+module _ (b : StoredBook) (t id : ℕ) (kept : IsBook b) (stored : HoldsPieces b.store.pool b.store.stored_tenants) (own : All (λ (s : StoredTenant). All HasOwnPiece s.uploads) b.store.stored_tenants) (within : t < length b.store.stored_tenants) where
   abbrev here : StoredTenant
   here = stored_tenant_at b.store t
 
@@ -123,7 +123,7 @@ same-some : {A : Type 0} (x y : A) → Some x ≡ Some y → x ≡ y
 same-some x y same = cc
 
 -- the blocks of an upload that no final one has as a part have one holder each
-own-blocks : (b : StoredBook) → IsBook b → IsStored b.store.pool b.store.stored_tenants → All (λ (s : StoredTenant). All HasOwnPiece s.uploads) b.store.stored_tenants → AreOwn (blocks_of b) (plain_of b)
+own-blocks : (b : StoredBook) → IsBook b → HoldsPieces b.store.pool b.store.stored_tenants → All (λ (s : StoredTenant). All HasOwnPiece s.uploads) b.store.stored_tenants → AreOwn (blocks_of b) (plain_of b)
 own-blocks b kept stored own name u extents x block there has sole listed stands_in = elim (cases_lt name.tenant (length b.store.stored_tenants)) [
   | inr past ↦ absurd (nothing past)
   | inl within ↦
@@ -156,7 +156,7 @@ own-blocks b kept stored own name u extents x block there has sole listed stands
         ∙ sole-count b name.tenant name.id kept stored own within at.0 block at.1 x at.2 (subst IsSole (sym is_upload) sole) (subst (λ extents. Contains extents x) (sym are_extents) listed) stands_in
 
 -- all that a book says of its blocks
-pub holds : (b : StoredBook) → IsBook b → IsStored b.store.pool b.store.stored_tenants → All (λ (s : StoredTenant). All HasOwnPiece s.uploads) b.store.stored_tenants
+pub holds : (b : StoredBook) → IsBook b → HoldsPieces b.store.pool b.store.stored_tenants → All (λ (s : StoredTenant). All HasOwnPiece s.uploads) b.store.stored_tenants
     → free_in b.store.pool + sum_by (charge_with b.store.pool.block_size) (plain_in b.store) ≡ size_of b.store.pool → HoldsBook (blocks_of b) (plain_of b)
 holds b kept stored own in_use = record {
   fits = fits b kept in_use;

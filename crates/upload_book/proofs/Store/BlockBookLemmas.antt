@@ -7,7 +7,7 @@ use Rattle.block_pool.specs.Blocks.{Blocks, places_of}
 use Rattle.block_bodies.specs.Bodies.{content_of}
 use Rattle.upload_book.specs.declared.piece.Piece.{Piece}
 use Rattle.upload_book.specs.BlockBook.{Extent, Extents, AreCounted, AreExtents, IsExtent, bytes_in, extent_of, upload_extents, tenant_extents, extents_on, holders_on}
-use Rattle.upload_book.specs.Stored.{StoredTenant, StoredUpload, entry_of, part_of, pieces_of, placed_in, places_on, some_of, ArePieces, IsStored}
+use Rattle.upload_book.specs.Stored.{StoredTenant, StoredUpload, entry_of, part_of, pieces_of, placed_in, places_on, some_of, ArePieces, HoldsPieces}
 use Rattle.upload_book.specs.TenantBook.{Entry, TenantBook, kept_in}
 use Rattle.upload_book.specs.Upload.{Upload}
 use Rattle.upload_book.proofs.Charge.InUse.{Contains-cases, Contains-first, Contains-later, Contains-none}
@@ -45,7 +45,7 @@ sums-same f g (t ∷ tenants) same =
     sum_by-cons f (tenant_extents t) (map {A = StoredTenant} {B = Extents} tenant_extents tenants) ∙ ap₂ (λ n m. n + m) (same t) (sums-same f g tenants same) ∙ sym (sum_by-cons g t tenants)
 
 -- each block is counted by exactly its holders
-pub AreCounted-stored : (p : Blocks) (tenants : List StoredTenant) → IsStored p tenants → AreCounted (record { pool = p; tenants = map {A = StoredTenant} {B = Extents} tenant_extents tenants })
+pub AreCounted-stored : (p : Blocks) (tenants : List StoredTenant) → HoldsPieces p tenants → AreCounted (record { pool = p; tenants = map {A = StoredTenant} {B = Extents} tenant_extents tenants })
 AreCounted-stored p tenants stored = record {
   counts = λ block. stored.counts block ∙ sym (sums-same (holders_on block) (places_on block) tenants (holders-places block));
   apart = λ block.
@@ -70,7 +70,7 @@ extents-sound size t x are c =
     let piece = are.each found.0 found.1 in
     subst (IsExtent size) found.2 (record { blocks = piece.blocks; once = piece.once })
 
-pub AreExtents-stored : (p : Blocks) (tenants : List StoredTenant) → IsStored p tenants → AreExtents (record { pool = p; tenants = map {A = StoredTenant} {B = Extents} tenant_extents tenants })
+pub AreExtents-stored : (p : Blocks) (tenants : List StoredTenant) → HoldsPieces p tenants → AreExtents (record { pool = p; tenants = map {A = StoredTenant} {B = Extents} tenant_extents tenants })
 AreExtents-stored p tenants stored =
     All-map (λ uploads. (x : Extent) → Contains (extents_on uploads) x → IsExtent p.block_size x) tenant_extents tenants
     (All-weaker (λ (t : StoredTenant). ArePieces p.block_size t.next (pieces_of t)) (λ (t : StoredTenant). (x : Extent) → Contains (extents_on (tenant_extents t)) x → IsExtent p.block_size x) (λ t are x c. extents-sound p.block_size t x are c) tenants stored.pieces)

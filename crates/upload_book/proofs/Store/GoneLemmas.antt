@@ -5,11 +5,11 @@ use Rattle.block_pool.specs.Blocks.{Blocks}
 use Rattle.block_bodies.specs.Bodies.{IsHeld, IsBodyOf}
 use Rattle.block_bodies.specs.Changes.{GivesBack}
 use Rattle.upload_book.specs.declared.piece.Piece.{Piece}
-use Rattle.upload_book.specs.Stored.{StoredTenant, StoredUpload, pieces_of, placed_in, charge_on, ArePieces, IsStored}
+use Rattle.upload_book.specs.Stored.{StoredTenant, StoredUpload, pieces_of, placed_in, charge_on, ArePieces, HoldsPieces}
 use Rattle.upload_book.specs.TenantBook.{Entry}
 use Rattle.upload_book.proofs.Charge.InUse.{places-within}
 use Rattle.upload_book.proofs.Store.Pieces.{IsEntry, without, places-without, Contains-without, ArePieces-copies}
-use Rattle.upload_book.proofs.Store.StoredTenants.{IsStoredTenant, IsStoredOn, IsStoredOn-stored_tenant, places_on-held, Changes, IsStored-changed, charge-changed}
+use Rattle.upload_book.proofs.Store.StoredTenants.{IsStoredTenant, IsStoredOn, IsStoredOn-stored_tenant, places_on-held, Changes, HoldsPieces-changed, charge-changed}
 
 -- each piece of a tenant is a body
 pub piece-body : (p : Blocks) (old : StoredTenant) (x : Piece) → IsStoredOn p old → Contains (pieces_of old) x → IsBodyOf p x.chain
@@ -34,13 +34,13 @@ Changes-gone p old i e freed q on is g = record {
 }
 
 -- the stored book without the upload
-pub IsStored-gone : (p : Blocks) (stored_tenants : List StoredTenant) (t : ℕ) (old : StoredTenant) (i : ℕ) (e : Entry StoredUpload) (freed : ℕ) (q : Blocks) → IsStored p stored_tenants → IsStoredTenant stored_tenants t old → IsEntry old i e → GivesBack p (placed_in e.kept.pieces) freed q
-    → IsStored q (set stored_tenants t (without old i))
-IsStored-gone p stored_tenants t old i e freed q kept stored_tenant is g =
-    IsStored-changed p stored_tenants t old q (without old i) kept stored_tenant (Changes-gone p old i e freed q (IsStoredOn-stored_tenant p stored_tenants t old kept stored_tenant) is g)
+pub HoldsPieces-gone : (p : Blocks) (stored_tenants : List StoredTenant) (t : ℕ) (old : StoredTenant) (i : ℕ) (e : Entry StoredUpload) (freed : ℕ) (q : Blocks) → HoldsPieces p stored_tenants → IsStoredTenant stored_tenants t old → IsEntry old i e → GivesBack p (placed_in e.kept.pieces) freed q
+    → HoldsPieces q (set stored_tenants t (without old i))
+HoldsPieces-gone p stored_tenants t old i e freed q kept stored_tenant is g =
+    HoldsPieces-changed p stored_tenants t old q (without old i) kept stored_tenant (Changes-gone p old i e freed q (IsStoredOn-stored_tenant p stored_tenants t old kept stored_tenant) is g)
 
 -- the tenant pays for as many blocks less as became free
-pub gone-charge : (p : Blocks) (stored_tenants : List StoredTenant) (t : ℕ) (old : StoredTenant) (i : ℕ) (e : Entry StoredUpload) (freed : ℕ) (q : Blocks) → IsStored p stored_tenants → IsStoredTenant stored_tenants t old → IsEntry old i e → GivesBack p (placed_in e.kept.pieces) freed q
+pub gone-charge : (p : Blocks) (stored_tenants : List StoredTenant) (t : ℕ) (old : StoredTenant) (i : ℕ) (e : Entry StoredUpload) (freed : ℕ) (q : Blocks) → HoldsPieces p stored_tenants → IsStoredTenant stored_tenants t old → IsEntry old i e → GivesBack p (placed_in e.kept.pieces) freed q
     → charge_on p.block_size (without old i) + freed ≡ charge_on p.block_size old
 gone-charge p stored_tenants t old i e freed q kept stored_tenant is g =
     let change : Changes p old q (without old i) = Changes-gone p old i e freed q (IsStoredOn-stored_tenant p stored_tenants t old kept stored_tenant) is g in

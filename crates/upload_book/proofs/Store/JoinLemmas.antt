@@ -11,11 +11,11 @@ use Rattle.block_bodies.specs.Bodies.{Chain, blocks_for}
 use Rattle.block_bodies.specs.Changes.{Holds, MayHold}
 use Rattle.block_bodies.proofs.BodiesLaws.{blocks_for-none}
 use Rattle.upload_book.specs.declared.piece.Piece.{Piece}
-use Rattle.upload_book.specs.Stored.{StoredTenant, StoredUpload, pieces_of, placed_in, places_on, charge_on, Agree, IsPiece, ArePieces, IsStored, Segment, segment_of}
+use Rattle.upload_book.specs.Stored.{StoredTenant, StoredUpload, pieces_of, placed_in, places_on, charge_on, Agree, IsPiece, ArePieces, HoldsPieces, Segment, segment_of}
 use Rattle.upload_book.specs.TenantBook.{Entry, with_new}
 use Rattle.upload_book.proofs.Charge.InUse.{places-within, places-found, Contains-cases, Contains-none}
 use Rattle.upload_book.proofs.Store.Pieces.{IsCopyIn, ArePieces-copies, kept_pieces, places-joined, places-few}
-use Rattle.upload_book.proofs.Store.StoredTenants.{IsStoredTenant, IsStoredOn, IsStoredOn-stored_tenant, places_on-held, Changes, IsStored-changed, charge-changed}
+use Rattle.upload_book.proofs.Store.StoredTenants.{IsStoredTenant, IsStoredOn, IsStoredOn-stored_tenant, places_on-held, Changes, HoldsPieces-changed, charge-changed}
 use Rattle.upload_book.proofs.Store.PutLemmas.{own_piece}
 
 -- one more upload's pieces stand after the others
@@ -109,13 +109,13 @@ Changes-new p old kept x pool on own none no_bytes = record {
     ]
 
 -- the stored book with the new upload
-pub IsStored-new : (p : Blocks) (stored_tenants : List StoredTenant) (t : ℕ) (old : StoredTenant) (kept : StoredUpload) (x : Chain) → 0 < p.block_size → IsStored p stored_tenants → IsStoredTenant stored_tenants t old → kept.pieces ≡ own_piece old.next x ∷ [] → x.blocks ≡ [] → x.len ≡ 0
-    → IsStored p (set stored_tenants t (with_new old kept))
-IsStored-new p stored_tenants t old kept x pool stored stored_tenant own none no_bytes =
-    IsStored-changed p stored_tenants t old p (with_new old kept) stored stored_tenant (Changes-new p old kept x pool (IsStoredOn-stored_tenant p stored_tenants t old stored stored_tenant) own none no_bytes)
+pub HoldsPieces-new : (p : Blocks) (stored_tenants : List StoredTenant) (t : ℕ) (old : StoredTenant) (kept : StoredUpload) (x : Chain) → 0 < p.block_size → HoldsPieces p stored_tenants → IsStoredTenant stored_tenants t old → kept.pieces ≡ own_piece old.next x ∷ [] → x.blocks ≡ [] → x.len ≡ 0
+    → HoldsPieces p (set stored_tenants t (with_new old kept))
+HoldsPieces-new p stored_tenants t old kept x pool stored stored_tenant own none no_bytes =
+    HoldsPieces-changed p stored_tenants t old p (with_new old kept) stored stored_tenant (Changes-new p old kept x pool (IsStoredOn-stored_tenant p stored_tenants t old stored stored_tenant) own none no_bytes)
 
 -- the tenant pays nothing for it
-pub new-charge : (p : Blocks) (stored_tenants : List StoredTenant) (t : ℕ) (old : StoredTenant) (kept : StoredUpload) (x : Chain) → 0 < p.block_size → IsStored p stored_tenants → IsStoredTenant stored_tenants t old → kept.pieces ≡ own_piece old.next x ∷ [] → x.blocks ≡ [] → x.len ≡ 0
+pub new-charge : (p : Blocks) (stored_tenants : List StoredTenant) (t : ℕ) (old : StoredTenant) (kept : StoredUpload) (x : Chain) → 0 < p.block_size → HoldsPieces p stored_tenants → IsStoredTenant stored_tenants t old → kept.pieces ≡ own_piece old.next x ∷ [] → x.blocks ≡ [] → x.len ≡ 0
     → charge_on p.block_size (with_new old kept) ≡ charge_on p.block_size old
 new-charge p stored_tenants t old kept x pool stored stored_tenant own none no_bytes =
     let change : Changes p old p (with_new old kept) = Changes-new p old kept x pool (IsStoredOn-stored_tenant p stored_tenants t old stored stored_tenant) own none no_bytes in
@@ -163,12 +163,12 @@ Changes-join p old kept q on copies h = record {
     each x c = elim (Contains-with_new old kept x c) [ inl before ↦ (x, before, refl) | inr here ↦ copies x here ]
 
 -- the stored book with the joined upload
-pub IsStored-join : (p : Blocks) (stored_tenants : List StoredTenant) (t : ℕ) (old : StoredTenant) (kept : StoredUpload) (q : Blocks) → IsStored p stored_tenants → IsStoredTenant stored_tenants t old → AreCopies old kept.pieces → Holds p (placed_in kept.pieces) q → IsStored q (set stored_tenants t (with_new old kept))
-IsStored-join p stored_tenants t old kept q stored stored_tenant copies h =
-    IsStored-changed p stored_tenants t old q (with_new old kept) stored stored_tenant (Changes-join p old kept q (IsStoredOn-stored_tenant p stored_tenants t old stored stored_tenant) copies h)
+pub HoldsPieces-join : (p : Blocks) (stored_tenants : List StoredTenant) (t : ℕ) (old : StoredTenant) (kept : StoredUpload) (q : Blocks) → HoldsPieces p stored_tenants → IsStoredTenant stored_tenants t old → AreCopies old kept.pieces → Holds p (placed_in kept.pieces) q → HoldsPieces q (set stored_tenants t (with_new old kept))
+HoldsPieces-join p stored_tenants t old kept q stored stored_tenant copies h =
+    HoldsPieces-changed p stored_tenants t old q (with_new old kept) stored stored_tenant (Changes-join p old kept q (IsStoredOn-stored_tenant p stored_tenants t old stored stored_tenant) copies h)
 
 -- the tenant pays nothing for it
-pub join-charge : (p : Blocks) (stored_tenants : List StoredTenant) (t : ℕ) (old : StoredTenant) (kept : StoredUpload) (q : Blocks) → IsStored p stored_tenants → IsStoredTenant stored_tenants t old → AreCopies old kept.pieces → Holds p (placed_in kept.pieces) q
+pub join-charge : (p : Blocks) (stored_tenants : List StoredTenant) (t : ℕ) (old : StoredTenant) (kept : StoredUpload) (q : Blocks) → HoldsPieces p stored_tenants → IsStoredTenant stored_tenants t old → AreCopies old kept.pieces → Holds p (placed_in kept.pieces) q
     → charge_on p.block_size (with_new old kept) ≡ charge_on p.block_size old
 join-charge p stored_tenants t old kept q stored stored_tenant copies h =
     let change : Changes p old q (with_new old kept) = Changes-join p old kept q (IsStoredOn-stored_tenant p stored_tenants t old stored stored_tenant) copies h in

@@ -10,7 +10,7 @@ use Rattle.block_pool.proofs.BlocksLaws.{bytes_of-same}
 use Rattle.block_bodies.specs.Bodies.{Chain, content_of}
 use Rattle.block_bodies.specs.Changes.{Puts, Holds, GivesBack}
 use Rattle.upload_book.specs.declared.piece.Piece.{Piece}
-use Rattle.upload_book.specs.Stored.{StoredTenant, StoredUpload, upload_of, entry_of, part_of, placed_in, places_on, parts_of, IsStored, Segment, segment_of}
+use Rattle.upload_book.specs.Stored.{StoredTenant, StoredUpload, upload_of, entry_of, part_of, placed_in, places_on, parts_of, HoldsPieces, Segment, segment_of}
 use Rattle.upload_book.specs.TenantBook.{Entry, TenantBook, with_new}
 use Rattle.upload_book.specs.Upload.{Upload, content_of as upload_content_of}
 use Rattle.upload_book.proofs.Charge.InUse.{places-within, Contains-first, Contains-later}
@@ -120,7 +120,7 @@ put-keeps p old i e x bytes q y on is own f b some =
     f.others b (omega (arith, places-without b old i e is, own-places b e e.id x own, places_on-held p old on b))
 
 -- and those of the other tenants
-pub put-keeps_elsewhere : (p : Blocks) (stored_tenants : List StoredTenant) (t : ℕ) (old : StoredTenant) (i : ℕ) (e : Entry StoredUpload) (x : Chain) (bytes : List ℕ) (q : Blocks) (y : Chain) → IsStored p stored_tenants → IsStoredTenant stored_tenants t old → IsEntry old i e → e.kept.pieces ≡ own_piece e.id x ∷ [] → Puts p x bytes q y
+pub put-keeps_elsewhere : (p : Blocks) (stored_tenants : List StoredTenant) (t : ℕ) (old : StoredTenant) (i : ℕ) (e : Entry StoredUpload) (x : Chain) (bytes : List ℕ) (q : Blocks) (y : Chain) → HoldsPieces p stored_tenants → IsStoredTenant stored_tenants t old → IsEntry old i e → e.kept.pieces ≡ own_piece e.id x ∷ [] → Puts p x bytes q y
     → (k : ℕ) (other : StoredTenant) → IsStoredTenant stored_tenants k other → k ≢ t → KeepBytes p q (λ b. places_on b other)
 put-keeps_elsewhere p stored_tenants t old i e x bytes q y kept stored_tenant is own f k other there differs b some =
     let none : places_on b old ≡ 0 = stored_tenants-apart p stored_tenants t k old other kept stored_tenant there differs b some in
@@ -132,7 +132,7 @@ gone-keeps p old i e freed q on is g b some =
     g.bytes b (omega (arith, places-without b old i e is, g.counts b, places_on-held p old on b))
 
 -- and those of the other tenants
-pub gone-keeps_elsewhere : (p : Blocks) (stored_tenants : List StoredTenant) (t : ℕ) (old : StoredTenant) (i : ℕ) (e : Entry StoredUpload) (freed : ℕ) (q : Blocks) → IsStored p stored_tenants → IsStoredTenant stored_tenants t old → IsEntry old i e → GivesBack p (placed_in e.kept.pieces) freed q
+pub gone-keeps_elsewhere : (p : Blocks) (stored_tenants : List StoredTenant) (t : ℕ) (old : StoredTenant) (i : ℕ) (e : Entry StoredUpload) (freed : ℕ) (q : Blocks) → HoldsPieces p stored_tenants → IsStoredTenant stored_tenants t old → IsEntry old i e → GivesBack p (placed_in e.kept.pieces) freed q
     → (k : ℕ) (other : StoredTenant) → IsStoredTenant stored_tenants k other → k ≢ t → KeepBytes p q (λ b. places_on b other)
 gone-keeps_elsewhere p stored_tenants t old i e freed q kept stored_tenant is g k other there differs b some =
     let none : places_on b old ≡ 0 = stored_tenants-apart p stored_tenants t k old other kept stored_tenant there differs b some in

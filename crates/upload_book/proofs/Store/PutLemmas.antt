@@ -7,12 +7,12 @@ use Rattle.block_pool.proofs.BlocksLaws.{places_of-append, places_of-at}
 use Rattle.block_bodies.specs.Bodies.{Chain, IsBodyOf, IsLastOwn}
 use Rattle.block_bodies.specs.Changes.{Puts}
 use Rattle.upload_book.specs.declared.piece.Piece.{Piece}
-use Rattle.upload_book.specs.Stored.{StoredTenant, StoredUpload, pieces_of, placed_in, places_on, charge_on, Agree, IsPiece, IsStored}
+use Rattle.upload_book.specs.Stored.{StoredTenant, StoredUpload, pieces_of, placed_in, places_on, charge_on, Agree, IsPiece, HoldsPieces}
 use Rattle.upload_book.specs.TenantBook.{Entry}
 use Rattle.upload_book.proofs.Charge.InUse.{places-within, places-found, Contains-first, Contains-cases, Contains-none}
 use Rattle.upload_book.proofs.Store.Pieces.{IsEntry, with_entry, without, places_at, places-without, places-with_entry, Contains-entry, Contains-without, Contains-with_entry}
 use Rattle.upload_book.proofs.Store.PutOnce.{put-once}
-use Rattle.upload_book.proofs.Store.StoredTenants.{IsStoredTenant, IsStoredOn, IsStoredOn-stored_tenant, places_on-held, Changes, IsStored-changed, charge-changed}
+use Rattle.upload_book.proofs.Store.StoredTenants.{IsStoredTenant, IsStoredOn, IsStoredOn-stored_tenant, places_on-held, Changes, HoldsPieces-changed, charge-changed}
 use Rattle.upload_book.proofs.Store.GoneLemmas.{piece-body}
 
 -- the one piece of an upload that is not final
@@ -146,13 +146,13 @@ Changes-put p old i e new x bytes q y on is own alone f put = record {
     ]
 
 -- the stored book with the bytes
-pub IsStored-put : (p : Blocks) (stored_tenants : List StoredTenant) (t : ℕ) (old : StoredTenant) (i : ℕ) (e new : Entry StoredUpload) (x : Chain) (bytes : List ℕ) (q : Blocks) (y : Chain) → IsStored p stored_tenants → IsStoredTenant stored_tenants t old → IsEntry old i e → e.kept.pieces ≡ own_piece e.id x ∷ [] → IsAlone old i e.id
-    → Puts p x bytes q y → new.kept.pieces ≡ own_piece e.id y ∷ [] → IsStored q (set stored_tenants t (with_entry old i new))
-IsStored-put p stored_tenants t old i e new x bytes q y kept stored_tenant is own alone f put =
-    IsStored-changed p stored_tenants t old q (with_entry old i new) kept stored_tenant (Changes-put p old i e new x bytes q y (IsStoredOn-stored_tenant p stored_tenants t old kept stored_tenant) is own alone f put)
+pub HoldsPieces-put : (p : Blocks) (stored_tenants : List StoredTenant) (t : ℕ) (old : StoredTenant) (i : ℕ) (e new : Entry StoredUpload) (x : Chain) (bytes : List ℕ) (q : Blocks) (y : Chain) → HoldsPieces p stored_tenants → IsStoredTenant stored_tenants t old → IsEntry old i e → e.kept.pieces ≡ own_piece e.id x ∷ [] → IsAlone old i e.id
+    → Puts p x bytes q y → new.kept.pieces ≡ own_piece e.id y ∷ [] → HoldsPieces q (set stored_tenants t (with_entry old i new))
+HoldsPieces-put p stored_tenants t old i e new x bytes q y kept stored_tenant is own alone f put =
+    HoldsPieces-changed p stored_tenants t old q (with_entry old i new) kept stored_tenant (Changes-put p old i e new x bytes q y (IsStoredOn-stored_tenant p stored_tenants t old kept stored_tenant) is own alone f put)
 
 -- the tenant pays for the new body in place of the old one
-pub put-charge : (p : Blocks) (stored_tenants : List StoredTenant) (t : ℕ) (old : StoredTenant) (i : ℕ) (e new : Entry StoredUpload) (x : Chain) (bytes : List ℕ) (q : Blocks) (y : Chain) → IsStored p stored_tenants → IsStoredTenant stored_tenants t old → IsEntry old i e → e.kept.pieces ≡ own_piece e.id x ∷ [] → IsAlone old i e.id
+pub put-charge : (p : Blocks) (stored_tenants : List StoredTenant) (t : ℕ) (old : StoredTenant) (i : ℕ) (e new : Entry StoredUpload) (x : Chain) (bytes : List ℕ) (q : Blocks) (y : Chain) → HoldsPieces p stored_tenants → IsStoredTenant stored_tenants t old → IsEntry old i e → e.kept.pieces ≡ own_piece e.id x ∷ [] → IsAlone old i e.id
     → Puts p x bytes q y → new.kept.pieces ≡ own_piece e.id y ∷ []
     → charge_on p.block_size (with_entry old i new) + length x.blocks ≡ charge_on p.block_size old + length y.blocks
 put-charge p stored_tenants t old i e new x bytes q y kept stored_tenant is own alone f put =

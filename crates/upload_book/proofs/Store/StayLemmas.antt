@@ -4,12 +4,12 @@ use Rattle.std.specs.List.{sum_by, All, flat_map}
 use Rattle.std.proofs.lemmas.List.Elements.{All-head, All-tail}
 use Rattle.std.proofs.lemmas.List.Sums.{sum_by-cons}
 use Rattle.block_pool.specs.Blocks.{Blocks, count_at, all_free, places_of}
-use Rattle.upload_book.specs.Stored.{StoredTenant, StoredUpload, pieces_of, placed_in, places_on, charge_on, some_of, ArePieces, IsStored}
+use Rattle.upload_book.specs.Stored.{StoredTenant, StoredUpload, pieces_of, placed_in, places_on, charge_on, some_of, ArePieces, HoldsPieces}
 use Rattle.upload_book.specs.TenantBook.{Entry}
 use Rattle.upload_book.specs.Charge.{charge_of}
 use Rattle.upload_book.proofs.Charge.InUse.{Contains-none, paid}
 use Rattle.upload_book.proofs.Store.Pieces.{IsEntry, with_entry, kept_pieces}
-use Rattle.upload_book.proofs.Store.StoredTenants.{IsStoredTenant, IsStoredOn, IsStoredOn-stored_tenant, Changes, IsStored-changed}
+use Rattle.upload_book.proofs.Store.StoredTenants.{IsStoredTenant, IsStoredOn, IsStoredOn-stored_tenant, Changes, HoldsPieces-changed}
 
 -- at the start each block is free
 pub count_at-free : (n size b : ℕ) → count_at (all_free n size) b ≡ 0
@@ -24,8 +24,8 @@ sum_by-nothing f (x ∷ xs) none =
     omega (arith, sum_by-cons f x xs, All-head (λ x. f x ≡ 0) x xs none, sum_by-nothing f xs (All-tail (λ x. f x ≡ 0) x xs none))
 
 -- a book in which each block is free and no tenant has an upload is stored
-pub IsStored-opening : (p : Blocks) (stored_tenants : List StoredTenant) → ((b : ℕ) → count_at p b ≡ 0) → All (λ s. s.uploads ≡ []) stored_tenants → IsStored p stored_tenants
-IsStored-opening p stored_tenants free none = record {
+pub HoldsPieces-opening : (p : Blocks) (stored_tenants : List StoredTenant) → ((b : ℕ) → count_at p b ≡ 0) → All (λ s. s.uploads ≡ []) stored_tenants → HoldsPieces p stored_tenants
+HoldsPieces-opening p stored_tenants free none = record {
   pieces = λ k d l.
       let no_piece : pieces_of (get_or stored_tenants k d) ≡ [] = ap (flat_map kept_pieces) (none k d l) in
       subst (ArePieces p.block_size (get_or stored_tenants k d).next) (sym no_piece) (record {
@@ -62,9 +62,9 @@ Changes-same p old i e new on is same =
     }
 
 -- the stored book with the entry
-pub IsStored-same : (p : Blocks) (stored_tenants : List StoredTenant) (t : ℕ) (old : StoredTenant) (i : ℕ) (e new : Entry StoredUpload) → IsStored p stored_tenants → IsStoredTenant stored_tenants t old → IsEntry old i e → new.kept.pieces ≡ e.kept.pieces → IsStored p (set stored_tenants t (with_entry old i new))
-IsStored-same p stored_tenants t old i e new kept stored_tenant is same =
-    IsStored-changed p stored_tenants t old p (with_entry old i new) kept stored_tenant (Changes-same p old i e new (IsStoredOn-stored_tenant p stored_tenants t old kept stored_tenant) is same)
+pub HoldsPieces-same : (p : Blocks) (stored_tenants : List StoredTenant) (t : ℕ) (old : StoredTenant) (i : ℕ) (e new : Entry StoredUpload) → HoldsPieces p stored_tenants → IsStoredTenant stored_tenants t old → IsEntry old i e → new.kept.pieces ≡ e.kept.pieces → HoldsPieces p (set stored_tenants t (with_entry old i new))
+HoldsPieces-same p stored_tenants t old i e new kept stored_tenant is same =
+    HoldsPieces-changed p stored_tenants t old p (with_entry old i new) kept stored_tenant (Changes-same p old i e new (IsStoredOn-stored_tenant p stored_tenants t old kept stored_tenant) is same)
 
 -- the tenant pays as before
 pub same-charge : (size : ℕ) (old : StoredTenant) (i : ℕ) (e new : Entry StoredUpload) → IsEntry old i e → new.kept.pieces ≡ e.kept.pieces → charge_on size (with_entry old i new) ≡ charge_on size old

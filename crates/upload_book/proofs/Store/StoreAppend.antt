@@ -12,12 +12,12 @@ use Rattle.upload_book.specs.Charge.{charge_with}
 use Rattle.upload_book.specs.declared.head_row.Kind.TheVariants.{Final}
 use Rattle.upload_book.specs.declared.stored_tenant.StoredTenant.{StoredTenant as KeptTenant}
 use Rattle.upload_book.specs.declared.block_store.BlockStore.TheInside.{Inside}
-use Rattle.upload_book.specs.inside.Kept.{stored_tenant_of, store_of, HasRoom, IsKept}
+use Rattle.upload_book.specs.inside.Kept.{stored_tenant_of, store_of, HasUploadRoom, IsKept}
 use Rattle.upload_book.specs.inside.Places as places
 use Rattle.upload_book.specs.BlockStore.{BlockStore, plain_in, part_at, stored_tenant_at}
 use Rattle.upload_book.specs.inside.Places.{with_chain, with_head, with_upload, with_bytes}
 use Rattle.upload_book.specs.declared.piece.Piece.{Piece}
-use Rattle.upload_book.specs.Stored.{StoredTenant, StoredUpload, part_of, upload_of, pieces_of, charge_on, IsStored}
+use Rattle.upload_book.specs.Stored.{StoredTenant, StoredUpload, part_of, upload_of, pieces_of, charge_on, HoldsPieces}
 use Rattle.upload_book.specs.inside.Pieces.{own_chain, ReadsWhole, HasOwnPiece}
 use Rattle.upload_book.specs.TenantBook.{Entry}
 use Rattle.upload_book.specs.Upload.{offset_of}
@@ -28,7 +28,7 @@ use Rattle.upload_book.proofs.Store.Pieces.{IsEntry, with_entry, without, Contai
 use Rattle.upload_book.proofs.Store.PlainStoredTenants.{content-own, content-same, put-keeps, put-keeps_elsewhere, part-with_entry}
 use Rattle.upload_book.proofs.Store.PlainSteps.{upload-put}
 use Rattle.upload_book.proofs.Charge.PriceLemmas.{blocks_between-adds}
-use Rattle.upload_book.proofs.Store.PutLemmas.{own_piece, own-contained, IsAlone, own-body, own-last, IsStored-put, put-charge}
+use Rattle.upload_book.proofs.Store.PutLemmas.{own_piece, own-contained, IsAlone, own-body, own-last, HoldsPieces-put, put-charge}
 use Rattle.upload_book.proofs.Store.StoredTenants.{IsStoredOn-stored_tenant}
 use Rattle.upload_book.proofs.Store.StoreLemmas.{charges-kept, with_stored_tenant, with_stored_tenant-part, IsPart, IsStoredTenant-part, stored_tenant_at-part, own-part, reads-part, charge-part, charge_with-part, IsKept-with_stored_tenant, plain_in-with_stored_tenant}
 
@@ -69,7 +69,7 @@ pub record IsPutIn (v : Inside) (i : ℕ) (old changed : KeptTenant) (e : Entry 
   pub next : changed.next ≡ old.next
   pub charge : changed.charge ≡ old.charge + taken
   pub uploads : changed.uploads.items ≡ set old.uploads.items i (with_head (with_chain e y) declared expires)
-  pub room : HasRoom v.room changed
+  pub room : HasUploadRoom v.room changed
   pub more : length y.blocks ≡ length (own_chain e.kept.pieces).blocks + taken
 
 put-stored_tenant : (v : Inside) (i : ℕ) (old changed : KeptTenant) (e : Entry StoredUpload) (y : Chain) (declared expires : Option ℕ) (taken : ℕ) → IsPutIn v i old changed e y declared expires taken
@@ -110,7 +110,7 @@ module _ (v : Inside) (t i : ℕ) (old changed : KeptTenant) (e : Entry StoredUp
       let own = own-read v t i old e kept puts.part puts.entry puts.own in
       let x = own_chain e.kept.pieces in
       IsKept-with_stored_tenant v q t old changed kept puts.part puts.puts.sizes
-      (subst (λ (s : StoredTenant). IsStored q (set (store_of v).stored_tenants t s)) (sym stored_tenant) (IsStored-put v.pool (store_of v).stored_tenants t (stored_tenant_of old) i e after x bytes q y kept.stored part puts.entry own puts.alone puts.puts refl))
+      (subst (λ (s : StoredTenant). HoldsPieces q (set (store_of v).stored_tenants t s)) (sym stored_tenant) (HoldsPieces-put v.pool (store_of v).stored_tenants t (stored_tenant_of old) i e after x bytes q y kept.stored part puts.entry own puts.alone puts.puts refl))
       (put-keeps_elsewhere v.pool (store_of v).stored_tenants t (stored_tenant_of old) i e x bytes q y kept.stored part puts.entry own puts.puts)
       (subst (λ (s : StoredTenant). All HasOwnPiece s.uploads) (sym stored_tenant) (All-set HasOwnPiece (stored_tenant_of old).uploads i after (HasOwnPiece-from after y refl) (own-part v t old kept puts.part)))
       (subst (λ (s : StoredTenant). ReadsWhole q (pieces_of s)) (sym stored_tenant) put-reads)

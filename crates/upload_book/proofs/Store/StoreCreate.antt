@@ -14,7 +14,7 @@ use Rattle.upload_book.specs.Create.{new_kind, upload_from}
 use Rattle.upload_book.specs.declared.head_row.Kind.TheVariants.{Final}
 use Rattle.upload_book.specs.declared.stored_tenant.StoredTenant.{StoredTenant as KeptTenant}
 use Rattle.upload_book.specs.declared.block_store.BlockStore.TheInside.{Inside}
-use Rattle.upload_book.specs.inside.Kept.{stored_tenant_of, store_of, HasRoom, IsKept}
+use Rattle.upload_book.specs.inside.Kept.{stored_tenant_of, store_of, HasUploadRoom, IsKept}
 use Rattle.upload_book.specs.NewUpload.{NewUpload}
 use Rattle.upload_book.specs.BlockStore.{plain_in, part_at}
 use Rattle.upload_book.specs.inside.Places.{with_bytes, with_upload}
@@ -78,7 +78,7 @@ pub record IsMade (v : Inside) (t : ℕ) (old changed : KeptTenant) (new : NewUp
   pub next : changed.next ≡ old.next + 1
   pub charge : changed.charge ≡ old.charge + taken
   pub uploads : changed.uploads.items ≡ old.uploads.items ++ record { id = old.next; kept = new_stored new old.next y expires } ∷ []
-  pub room : HasRoom v.room changed
+  pub room : HasUploadRoom v.room changed
 
 module _ (v : Inside) (t : ℕ) (old changed : KeptTenant) (new : NewUpload) (bytes : List ℕ) (q : Blocks) (y : Chain) (expires : Option ℕ) (taken : ℕ) (kept : IsKept v) (is : IsMade v t old changed new bytes q y expires taken) where
   abbrev place : ℕ

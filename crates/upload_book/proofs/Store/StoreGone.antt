@@ -7,13 +7,13 @@ use Rattle.block_bodies.specs.Changes.{GivesBack}
 use Rattle.upload_book.specs.Charge.{charge_with}
 use Rattle.upload_book.specs.declared.stored_tenant.StoredTenant.{StoredTenant as KeptTenant}
 use Rattle.upload_book.specs.declared.block_store.BlockStore.TheInside.{Inside}
-use Rattle.upload_book.specs.inside.Kept.{stored_tenant_of, store_of, HasRoom, IsKept}
+use Rattle.upload_book.specs.inside.Kept.{stored_tenant_of, store_of, HasUploadRoom, IsKept}
 use Rattle.upload_book.specs.BlockStore.{plain_in, part_at}
 use Rattle.upload_book.specs.inside.Places.{without_upload}
-use Rattle.upload_book.specs.Stored.{StoredTenant, StoredUpload, part_of, pieces_of, placed_in, charge_on, IsStored}
+use Rattle.upload_book.specs.Stored.{StoredTenant, StoredUpload, part_of, pieces_of, placed_in, charge_on, HoldsPieces}
 use Rattle.upload_book.specs.inside.Pieces.{ReadsWhole, HasOwnPiece}
 use Rattle.upload_book.specs.TenantBook.{Entry}
-use Rattle.upload_book.proofs.Store.GoneLemmas.{gone-held, IsStored-gone, gone-charge}
+use Rattle.upload_book.proofs.Store.GoneLemmas.{gone-held, HoldsPieces-gone, gone-charge}
 use Rattle.upload_book.proofs.Charge.InUse.{places-within}
 use Rattle.upload_book.proofs.Store.Pieces.{IsEntry, without, All-remove, Contains-without}
 use Rattle.upload_book.proofs.Store.PlainStoredTenants.{content-same, gone-keeps, gone-keeps_elsewhere, part-without}
@@ -45,7 +45,7 @@ pub record IsGivenUp (v : Inside) (i : ℕ) (old changed : KeptTenant) (freed : 
   pub next : changed.next ≡ old.next
   pub charge : changed.charge + freed ≡ old.charge
   pub uploads : changed.uploads.items ≡ remove old.uploads.items i
-  pub room : HasRoom v.room changed
+  pub room : HasUploadRoom v.room changed
 
 given-stored_tenant : (v : Inside) (i : ℕ) (old changed : KeptTenant) (freed : ℕ) → IsGivenUp v i old changed freed → stored_tenant_of changed ≡ without (stored_tenant_of old) i
 given-stored_tenant v i old changed freed is = rw (is.quota, is.next, is.uploads) refl
@@ -60,7 +60,7 @@ IsKept-given v t i old changed e freed q kept gives is =
     let same = content-same v.pool q x.chain (λ b some. gone-keeps v.pool (stored_tenant_of old) i e freed q on gives.entry gives.gives b (omega (arith, some, places-within b (pieces_of (without (stored_tenant_of old) i)) x c))) in
     ap (length {A = ℕ}) same ∙ reads-part v t old kept gives.part x (Contains-without (stored_tenant_of old) i x c) in
     IsKept-with_stored_tenant v q t old changed kept gives.part gives.gives.sizes
-    (subst (λ (s : StoredTenant). IsStored q (set (store_of v).stored_tenants t s)) (sym stored_tenant) (IsStored-gone v.pool (store_of v).stored_tenants t (stored_tenant_of old) i e freed q kept.stored part gives.entry gives.gives))
+    (subst (λ (s : StoredTenant). HoldsPieces q (set (store_of v).stored_tenants t s)) (sym stored_tenant) (HoldsPieces-gone v.pool (store_of v).stored_tenants t (stored_tenant_of old) i e freed q kept.stored part gives.entry gives.gives))
     (gone-keeps_elsewhere v.pool (store_of v).stored_tenants t (stored_tenant_of old) i e freed q kept.stored part gives.entry gives.gives)
     (subst (All HasOwnPiece) (sym is.uploads) (All-remove HasOwnPiece old.uploads.items i (own-part v t old kept gives.part)))
     (subst (λ (s : StoredTenant). ReadsWhole q (pieces_of s)) (sym stored_tenant) reads)

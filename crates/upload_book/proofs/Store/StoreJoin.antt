@@ -15,16 +15,16 @@ use Rattle.upload_book.specs.declared.piece.Piece.{Piece}
 use Rattle.upload_book.specs.declared.piece.UnheldPiece.{UnheldPiece}
 use Rattle.upload_book.specs.declared.stored_tenant.StoredTenant.{StoredTenant as KeptTenant}
 use Rattle.upload_book.specs.declared.block_store.BlockStore.TheInside.{Inside}
-use Rattle.upload_book.specs.inside.Kept.{stored_tenant_of, store_of, HasRoom, IsKept}
+use Rattle.upload_book.specs.inside.Kept.{stored_tenant_of, store_of, HasUploadRoom, IsKept}
 use Rattle.upload_book.specs.NewFinal.{NewFinal}
 use Rattle.upload_book.specs.BlockStore.{BlockStore, Joins, plain_in, part_at, stored_tenant_at, entry_at, pieces_named as pieces_at, rows_at, no_upload}
 use Rattle.upload_book.specs.inside.Places.{AreFew}
-use Rattle.upload_book.specs.Stored.{Segment, StoredTenant, StoredUpload, entry_of, part_of, parts_kept, pieces_len, pieces_of, placed_in, segment_of, upload_of, charge_on, IsStored}
+use Rattle.upload_book.specs.Stored.{Segment, StoredTenant, StoredUpload, entry_of, part_of, parts_kept, pieces_len, pieces_of, placed_in, segment_of, upload_of, charge_on, HoldsPieces}
 use Rattle.upload_book.specs.inside.Pieces.{as_piece, final_of, own_chain, HasOwnPiece, ReadsWhole}
 use Rattle.upload_book.specs.TenantBook.{Entry, with_new}
 use Rattle.upload_book.specs.Upload.{Upload, content_of as upload_content_of, head_row_of, offset_of}
 use Rattle.upload_book.proofs.Charge.InUse.{Contains-first, Contains-later}
-use Rattle.upload_book.proofs.Store.JoinLemmas.{AreCopies, AreCopies-from, Contains-with_new, IsStored-join, MayHold-join, join-charge}
+use Rattle.upload_book.proofs.Store.JoinLemmas.{AreCopies, AreCopies-from, Contains-with_new, HoldsPieces-join, MayHold-join, join-charge}
 use Rattle.upload_book.proofs.Store.OwnLemmas.{HasOwnPiece-final, parts-join}
 use Rattle.upload_book.proofs.Steps.PartLemmas.{ArePartsOf-named, parts-plain, pieces-named}
 use Rattle.upload_book.proofs.Store.Pieces.{flat_map-contains, kept_pieces}
@@ -138,7 +138,7 @@ pub record IsJoined (v : Inside) (old changed : KeptTenant) (new : NewFinal) (pi
   pub next : changed.next ≡ old.next + 1
   pub charge : changed.charge ≡ old.charge
   pub uploads : changed.uploads.items ≡ old.uploads.items ++ record { id = old.next; kept = final_of new pieces } ∷ []
-  pub room : HasRoom v.room changed
+  pub room : HasUploadRoom v.room changed
 
 -- the pieces are copies of the tenant's
 pub joined-copies : (old : StoredTenant) (named : List (Option ℕ)) (now : ℕ) (pieces : List Piece) → map segment_of pieces ≡ map segment_of (flat_map kept_pieces (parts_kept old now named)) → AreCopies old pieces
@@ -194,7 +194,7 @@ module _ (v : Inside) (t : ℕ) (old changed : KeptTenant) (new : NewFinal) (now
   IsKept-joined =
       let part = IsStoredTenant-part v t old joins.part in
       IsKept-with_stored_tenant v q t old changed kept joins.part joins.holds.sizes
-      (subst (λ (s : StoredTenant). IsStored q (set (store_of v).stored_tenants t s)) (sym stored_tenant) (IsStored-join v.pool (store_of v).stored_tenants t (stored_tenant_of old) final q kept.stored part copies joins.holds))
+      (subst (λ (s : StoredTenant). HoldsPieces q (set (store_of v).stored_tenants t s)) (sym stored_tenant) (HoldsPieces-join v.pool (store_of v).stored_tenants t (stored_tenant_of old) final q kept.stored part copies joins.holds))
       (λ k other there differs b some. joins.holds.bytes b)
       (subst (λ (s : StoredTenant). All HasOwnPiece s.uploads) (sym stored_tenant) (All-push HasOwnPiece (stored_tenant_of old).uploads (record { id = old.next; kept = final }) (own-part v t old kept joins.part) (HasOwnPiece-final (record { id = old.next; kept = final }) refl)))
       (subst (λ (s : StoredTenant). ReadsWhole q (pieces_of s)) (sym stored_tenant) joined-reads)

@@ -13,9 +13,9 @@ use Rattle.upload_book.specs.Charge.{charge_with}
 use Rattle.upload_book.specs.declared.head_row.Kind.TheVariants.{Final}
 use Rattle.upload_book.specs.declared.stored_tenant.StoredTenant.{StoredTenant as KeptTenant}
 use Rattle.upload_book.specs.declared.block_store.BlockStore.TheInside.{Inside}
-use Rattle.upload_book.specs.inside.Kept.{stored_tenant_of, store_of, HasRoom, IsKept}
+use Rattle.upload_book.specs.inside.Kept.{stored_tenant_of, store_of, HasUploadRoom, IsKept}
 use Rattle.upload_book.specs.BlockStore.{BlockStore, plain_in, part_at, stored_tenant_at, entry_at, upload_at, no_upload}
-use Rattle.upload_book.specs.Stored.{StoredTenant, StoredUpload, part_of, upload_of, pieces_of, places_on, charge_on, IsStored}
+use Rattle.upload_book.specs.Stored.{StoredTenant, StoredUpload, part_of, upload_of, pieces_of, places_on, charge_on, HoldsPieces}
 use Rattle.upload_book.specs.inside.Pieces.{AreBodies, HasOwnPiece, ReadsWhole}
 use Rattle.upload_book.specs.TenantBook.{TenantBook, Entry, opening_part}
 use Rattle.upload_book.specs.Upload.{Upload}
@@ -77,11 +77,11 @@ charge_with-part v t old kept is =
     ∙ charge-plain v.pool.block_size v.pool (stored_tenant_of old) (own-part v t old kept is) (reads-part v t old kept is)
 
 -- and has room
-pub room-part : (v : Inside) (t : ℕ) (old : KeptTenant) → IsKept v → IsPart v t old → HasRoom v.room old
-room-part v t old kept is = subst (HasRoom v.room) (sym is.read) (kept.room t old is.within)
+pub room-part : (v : Inside) (t : ℕ) (old : KeptTenant) → IsKept v → IsPart v t old → HasUploadRoom v.room old
+room-part v t old kept is = subst (HasUploadRoom v.room) (sym is.read) (kept.room t old is.within)
 
 -- It has as much where an upload changes, or what the tenant pays.
-pub room-changed : (room : ℕ) (old : KeptTenant) (i charge : ℕ) (e : Entry StoredUpload) → HasRoom room old → HasRoom room (record old { charge = charge; uploads = with_item old.uploads i e })
+pub room-changed : (room : ℕ) (old : KeptTenant) (i charge : ℕ) (e : Entry StoredUpload) → HasUploadRoom room old → HasUploadRoom room (record old { charge = charge; uploads = with_item old.uploads i e })
 room-changed room old i charge e has = record { uploads = has.uploads; spare = has.spare; boxes = has.boxes }
 
 -- Where it may have one more upload, a box is spare.
@@ -109,10 +109,10 @@ All-stored_tenants P stored_tenants t s here others k d within =
 -- The store is kept where one part changes over another pool of the sizes, in which the blocks of the others keep
 -- their bytes.
 pub IsKept-with_stored_tenant : (v : Inside) (q : Blocks) (t : ℕ) (old changed : KeptTenant) → IsKept v → IsPart v t old → SameSizes v.pool q
-    → IsStored q (set (store_of v).stored_tenants t (stored_tenant_of changed))
+    → HoldsPieces q (set (store_of v).stored_tenants t (stored_tenant_of changed))
     → ((k : ℕ) (other : StoredTenant) → IsStoredTenant (store_of v).stored_tenants k other → k ≢ t → KeepBytes v.pool q (λ b. places_on b other))
     → All HasOwnPiece (stored_tenant_of changed).uploads → ReadsWhole q (pieces_of (stored_tenant_of changed)) → changed.charge ≡ charge_on v.pool.block_size (stored_tenant_of changed)
-    → HasRoom v.room changed → IsKept (with_stored_tenant v q t changed)
+    → HasUploadRoom v.room changed → IsKept (with_stored_tenant v q t changed)
 IsKept-with_stored_tenant v q t old changed kept is sizes stored stay own reads charge room =
     let stored_tenants = stored_tenants-with_stored_tenant v q t changed in
     record {
@@ -122,7 +122,7 @@ IsKept-with_stored_tenant v q t old changed kept is sizes stored stay own reads 
       size = rw sizes.bytes kept.size;
       blocks = rw sizes.blocks kept.blocks;
       charges = rw sizes.bytes (All-set (λ (s : KeptTenant). s.charge ≡ charge_on v.pool.block_size (stored_tenant_of s)) v.stored_tenants.items t changed charge kept.charges);
-      room = All-set (HasRoom v.room) v.stored_tenants.items t changed room kept.room;
+      room = All-set (HasUploadRoom v.room) v.stored_tenants.items t changed room kept.room;
     }
   where
     others : (k : ℕ) (other : StoredTenant) → IsStoredTenant (store_of v).stored_tenants k other → k ≢ t → ReadsWhole q (pieces_of other)

@@ -9,13 +9,13 @@ use Rattle.upload_book.specs.Charge.{sum_below}
 use Rattle.upload_book.specs.declared.settings.TenantQuota.{TenantQuota}
 use Rattle.upload_book.specs.declared.stored_tenant.StoredTenant.{StoredTenant as KeptTenant}
 use Rattle.upload_book.specs.declared.block_store.BlockStore.TheInside.{Inside}
-use Rattle.upload_book.specs.inside.Kept.{stored_tenant_of, store_of, HasRoom, IsKept}
+use Rattle.upload_book.specs.inside.Kept.{stored_tenant_of, store_of, HasUploadRoom, IsKept}
 use Rattle.upload_book.specs.BlockStore.{opening_stored_tenants}
 use Rattle.upload_book.specs.Stored.{StoredTenant, pieces_of, charge_on}
 use Rattle.upload_book.specs.inside.Pieces.{ReadsWhole, HasOwnPiece}
 use Rattle.upload_book.specs.TenantBook.{opening_part}
 use Rattle.upload_book.proofs.Charge.InUse.{Contains-none}
-use Rattle.upload_book.proofs.Store.StayLemmas.{IsStored-opening}
+use Rattle.upload_book.proofs.Store.StayLemmas.{HoldsPieces-opening}
 
 -- one more tenant has one more part
 pub opening_stored_tenants-more : (tenants : List TenantQuota) (k quota : ℕ) → slice_get (map {A = TenantQuota} {B = ℕ} (λ t. t.quota) tenants) k ≡ Some quota → opening_stored_tenants (take (suc k) tenants) ≡ opening_stored_tenants (take k tenants) ++ opening_part quota ∷ []
@@ -51,11 +51,11 @@ empty_charge size stored_tenant empty =
 
 -- the store is kept
 pub IsKept-opening : (v : Inside) (tenants : List TenantQuota) → (store_of v).stored_tenants ≡ opening_stored_tenants tenants → ((b : ℕ) → count_at v.pool b ≡ 0) → 0 < v.pool.block_size → size_of v.pool < 2 ^ 64
-    → All (λ (t : KeptTenant). t.charge ≡ 0) v.stored_tenants.items → All (HasRoom v.room) v.stored_tenants.items → IsKept v
+    → All (λ (t : KeptTenant). t.charge ≡ 0) v.stored_tenants.items → All (HasUploadRoom v.room) v.stored_tenants.items → IsKept v
 IsKept-opening v tenants opens free size few charges room =
     let none : All (λ (s : StoredTenant). s.uploads ≡ []) (store_of v).stored_tenants = subst (All (λ (s : StoredTenant). s.uploads ≡ [])) (sym opens) (no_uploads tenants) in
     record {
-      stored = IsStored-opening v.pool (store_of v).stored_tenants free none;
+      stored = HoldsPieces-opening v.pool (store_of v).stored_tenants free none;
       own = All-weaker (λ (s : StoredTenant). s.uploads ≡ []) (λ (s : StoredTenant). All HasOwnPiece s.uploads) (λ s empty. rw empty (search rules)) (store_of v).stored_tenants none;
       reads = All-weaker (λ (s : StoredTenant). s.uploads ≡ []) (λ (s : StoredTenant). ReadsWhole v.pool (pieces_of s)) (λ s empty x c. absurd (Contains-none x (rw empty at c))) (store_of v).stored_tenants none;
       size = size;

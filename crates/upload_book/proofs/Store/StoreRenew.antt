@@ -6,16 +6,16 @@ use Rattle.upload_book.specs.Charge.{charge_with}
 use Rattle.upload_book.specs.declared.head_row.Kind.TheVariants.{Final}
 use Rattle.upload_book.specs.declared.stored_tenant.StoredTenant.{StoredTenant as KeptTenant}
 use Rattle.upload_book.specs.declared.block_store.BlockStore.TheInside.{Inside}
-use Rattle.upload_book.specs.inside.Kept.{stored_tenant_of, store_of, HasRoom, IsKept}
+use Rattle.upload_book.specs.inside.Kept.{stored_tenant_of, store_of, HasUploadRoom, IsKept}
 use Rattle.upload_book.specs.BlockStore.{plain_in, part_at}
 use Rattle.upload_book.specs.inside.Places.{with_head, with_upload, with_bytes}
-use Rattle.upload_book.specs.Stored.{StoredTenant, StoredUpload, part_of, upload_of, pieces_of, charge_on, IsStored}
+use Rattle.upload_book.specs.Stored.{StoredTenant, StoredUpload, part_of, upload_of, pieces_of, charge_on, HoldsPieces}
 use Rattle.upload_book.specs.inside.Pieces.{own_chain, ReadsWhole, HasOwnPiece}
 use Rattle.upload_book.specs.TenantBook.{Entry}
 use Rattle.upload_book.specs.Upload.{content_of}
 use Rattle.upload_book.proofs.Store.Pieces.{IsEntry, with_entry}
 use Rattle.upload_book.proofs.Store.PlainStoredTenants.{content-own, part-with_entry, segments-own}
-use Rattle.upload_book.proofs.Store.StayLemmas.{pieces-same, IsStored-same, same-charge}
+use Rattle.upload_book.proofs.Store.StayLemmas.{pieces-same, HoldsPieces-same, same-charge}
 use Rattle.upload_book.proofs.Store.StoreAppend.{own-read}
 use Rattle.upload_book.proofs.Store.StoreLemmas.{with_stored_tenant, with_stored_tenant-part, IsPart, IsStoredTenant-part, stored_tenant_at-part, own-part, reads-part, charge-part, charge_with-part, IsKept-with_stored_tenant, plain_in-with_stored_tenant}
 
@@ -28,7 +28,7 @@ pub record IsRenewed (v : Inside) (t i : ℕ) (old changed : KeptTenant) (e : En
   pub next : changed.next ≡ old.next
   pub charge : changed.charge ≡ old.charge
   pub uploads : changed.uploads.items ≡ set old.uploads.items i (with_head e declared expires)
-  pub room : HasRoom v.room changed
+  pub room : HasUploadRoom v.room changed
 
 module _ (v : Inside) (t i : ℕ) (old changed : KeptTenant) (e : Entry StoredUpload) (declared expires : Option ℕ) (kept : IsKept v) (is : IsRenewed v t i old changed e declared expires) where
   stored_tenant : stored_tenant_of changed ≡ with_entry (stored_tenant_of old) i (with_head e declared expires)
@@ -44,7 +44,7 @@ module _ (v : Inside) (t i : ℕ) (old changed : KeptTenant) (e : Entry StoredUp
       let part = IsStoredTenant-part v t old is.part in
       let new = with_head e declared expires in
       IsKept-with_stored_tenant v v.pool t old changed kept is.part (record { blocks = refl; bytes = refl })
-      (subst (λ (s : StoredTenant). IsStored v.pool (set (store_of v).stored_tenants t s)) (sym stored_tenant) (IsStored-same v.pool (store_of v).stored_tenants t (stored_tenant_of old) i e new kept.stored part is.entry refl))
+      (subst (λ (s : StoredTenant). HoldsPieces v.pool (set (store_of v).stored_tenants t s)) (sym stored_tenant) (HoldsPieces-same v.pool (store_of v).stored_tenants t (stored_tenant_of old) i e new kept.stored part is.entry refl))
       (λ k other there differs b some. refl)
       (subst (λ (s : StoredTenant). All HasOwnPiece s.uploads) (sym stored_tenant) (All-set HasOwnPiece (stored_tenant_of old).uploads i new single (own-part v t old kept is.part)))
       (subst (λ (s : StoredTenant). ReadsWhole v.pool (pieces_of s)) (sym stored_tenant) (subst (ReadsWhole v.pool) (sym (pieces-same (stored_tenant_of old) i e new is.entry refl)) (reads-part v t old kept is.part)))

@@ -9,7 +9,7 @@ use Rattle.block_bodies.specs.Changes.{Puts}
 use Rattle.upload_book.specs.declared.head_row.Kind.TheVariants.{Final}
 use Rattle.upload_book.specs.declared.stored_tenant.StoredTenant.{StoredTenant as KeptTenant}
 use Rattle.upload_book.specs.declared.block_store.BlockStore.TheInside.{Inside}
-use Rattle.upload_book.specs.inside.Kept.{stored_tenant_of, store_of, HasRoom, IsKept}
+use Rattle.upload_book.specs.inside.Kept.{stored_tenant_of, store_of, HasUploadRoom, IsKept}
 use Rattle.upload_book.specs.BlockStore.{entry_at, plain_in, part_at}
 use Rattle.upload_book.specs.inside.Places.{with_bytes, with_chain, with_upload}
 use Rattle.upload_book.specs.Stored.{StoredTenant, StoredUpload, entry_of, part_of, upload_of}
@@ -64,7 +64,7 @@ pub record IsReserved (v : Inside) (t i : ℕ) (old changed : KeptTenant) (e : E
   pub next : changed.next ≡ old.next
   pub charge : changed.charge ≡ old.charge
   pub uploads : changed.uploads.items ≡ set old.uploads.items i (with_chain e y)
-  pub room : HasRoom v.room changed
+  pub room : HasUploadRoom v.room changed
 
 module _ (v : Inside) (t i : ℕ) (old changed : KeptTenant) (e : Entry StoredUpload) (y : Chain) (kept : IsKept v) (is : IsReserved v t i old changed e y) where
   puts : PutsIn v t i old e [] v.pool y

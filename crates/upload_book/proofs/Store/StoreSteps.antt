@@ -7,14 +7,14 @@ use Rattle.upload_book.specs.Charge.{charge_with}
 use Rattle.upload_book.specs.declared.head_row.Kind.TheVariants.{Final}
 use Rattle.upload_book.specs.declared.stored_tenant.StoredTenant.{StoredTenant as KeptTenant}
 use Rattle.upload_book.specs.declared.block_store.BlockStore.TheInside.{Inside}
-use Rattle.upload_book.specs.inside.Kept.{stored_tenant_of, store_of, HasRoom, IsKept}
+use Rattle.upload_book.specs.inside.Kept.{stored_tenant_of, store_of, HasUploadRoom, IsKept}
 use Rattle.upload_book.specs.BlockStore.{plain_in, part_at}
 use Rattle.upload_book.specs.declared.piece.Piece.{Piece}
-use Rattle.upload_book.specs.Stored.{StoredTenant, StoredUpload, part_of, pieces_of, upload_of, charge_on, IsStored}
+use Rattle.upload_book.specs.Stored.{StoredTenant, StoredUpload, part_of, pieces_of, upload_of, charge_on, HoldsPieces}
 use Rattle.upload_book.specs.inside.Pieces.{own_chain, ReadsWhole, HasOwnPiece}
 use Rattle.upload_book.specs.TenantBook.{Entry, with_new}
 use Rattle.upload_book.proofs.Charge.InUse.{Contains-cases, Contains-none}
-use Rattle.upload_book.proofs.Store.JoinLemmas.{Contains-with_new, IsStored-new, new-charge}
+use Rattle.upload_book.proofs.Store.JoinLemmas.{Contains-with_new, HoldsPieces-new, new-charge}
 use Rattle.upload_book.proofs.Store.PlainStoredTenants.{part-with_new}
 use Rattle.upload_book.proofs.Store.PutLemmas.{own_piece}
 use Rattle.upload_book.proofs.Store.StoreLemmas.{with_stored_tenant, IsPart, IsStoredTenant-part, stored_tenant_at-part, own-part, reads-part, charge-part, charge_with-part, IsKept-with_stored_tenant, plain_in-with_stored_tenant, with_stored_tenant-part}
@@ -35,7 +35,7 @@ pub record IsPushed (v : Inside) (t : ℕ) (old changed : KeptTenant) (e : Entry
   pub next : changed.next ≡ old.next + 1
   pub charge : changed.charge ≡ old.charge
   pub uploads : changed.uploads.items ≡ old.uploads.items ++ e ∷ []
-  pub room : HasRoom v.room changed
+  pub room : HasUploadRoom v.room changed
 
 -- it is the stored part with a new upload
 pushed-stored_tenant : (v : Inside) (t : ℕ) (old changed : KeptTenant) (e : Entry StoredUpload) → IsPushed v t old changed e → stored_tenant_of changed ≡ with_new (stored_tenant_of old) e.kept
@@ -70,7 +70,7 @@ IsKept-pushed v t old changed e kept is =
     let own = pushed-piece v t old changed e is in
     let chain = own_chain e.kept.pieces in
     IsKept-with_stored_tenant v v.pool t old changed kept is.part (record { blocks = refl; bytes = refl })
-    (subst (λ (s : StoredTenant). IsStored v.pool (set (store_of v).stored_tenants t s)) (sym stored_tenant) (IsStored-new v.pool (store_of v).stored_tenants t (stored_tenant_of old) e.kept chain kept.size kept.stored part own is.new.empty is.new.none))
+    (subst (λ (s : StoredTenant). HoldsPieces v.pool (set (store_of v).stored_tenants t s)) (sym stored_tenant) (HoldsPieces-new v.pool (store_of v).stored_tenants t (stored_tenant_of old) e.kept chain kept.size kept.stored part own is.new.empty is.new.none))
     (λ k other there differs b some. refl)
     (subst (All HasOwnPiece) (sym is.uploads) (All-push HasOwnPiece old.uploads.items e (own-part v t old kept is.part) is.new.piece))
     (subst (λ (s : StoredTenant). ReadsWhole v.pool (pieces_of s)) (sym stored_tenant) (pushed-reads v t old changed e kept is))

@@ -7,7 +7,7 @@ use Rattle.std.proofs.lemmas.List.Elements.{All-set}
 use Rattle.std.proofs.lemmas.List.Sums.{sum_by-set}
 use Rattle.block_pool.specs.Blocks.{Blocks, size_of, count_at, free_in}
 use Rattle.block_bodies.specs.Changes.{SameSizes}
-use Rattle.upload_book.specs.Stored.{StoredTenant, pieces_of, places_on, charge_on, some_of, ArePieces, IsStored}
+use Rattle.upload_book.specs.Stored.{StoredTenant, pieces_of, places_on, charge_on, some_of, ArePieces, HoldsPieces}
 use Rattle.upload_book.proofs.Charge.SumsBelow.{two-le-sum_by, some_of-none, some_of-some, some_of-le, some_of-zero, sum_by-alone, some_of-sum_by}
 use Rattle.upload_book.proofs.Charge.InUse.{blocks_in_use}
 
@@ -23,7 +23,7 @@ pub record IsStoredOn (p : Blocks) (old : StoredTenant) : Type 0 where
   pub counts : (b : ℕ) → 0 < places_on b old → count_at p b ≡ places_on b old
 
 -- each stored part of a stored book is so
-pub IsStoredOn-stored_tenant : (p : Blocks) (stored_tenants : List StoredTenant) (t : ℕ) (old : StoredTenant) → IsStored p stored_tenants → IsStoredTenant stored_tenants t old → IsStoredOn p old
+pub IsStoredOn-stored_tenant : (p : Blocks) (stored_tenants : List StoredTenant) (t : ℕ) (old : StoredTenant) → HoldsPieces p stored_tenants → IsStoredTenant stored_tenants t old → IsStoredOn p old
 IsStoredOn-stored_tenant p stored_tenants t old kept is = record {
   pieces = subst (λ (s : StoredTenant). ArePieces p.block_size s.next (pieces_of s)) (sym is.read) (kept.pieces t old is.within);
   counts = λ b some.
@@ -32,7 +32,7 @@ IsStoredOn-stored_tenant p stored_tenants t old kept is = record {
 }
 
 -- a block of a stored part stands on no other
-pub stored_tenants-apart : (p : Blocks) (stored_tenants : List StoredTenant) (t k : ℕ) (old other : StoredTenant) → IsStored p stored_tenants → IsStoredTenant stored_tenants t old → IsStoredTenant stored_tenants k other → k ≢ t → (b : ℕ) → 0 < places_on b other → places_on b old ≡ 0
+pub stored_tenants-apart : (p : Blocks) (stored_tenants : List StoredTenant) (t k : ℕ) (old other : StoredTenant) → HoldsPieces p stored_tenants → IsStoredTenant stored_tenants t old → IsStoredTenant stored_tenants k other → k ≢ t → (b : ℕ) → 0 < places_on b other → places_on b old ≡ 0
 stored_tenants-apart p stored_tenants t k old other kept is there differs b some =
     let here : some_of (places_on b (get_or stored_tenants t old)) ≡ some_of (places_on b old) = ap (λ s. some_of (places_on b s)) (sym is.read) in
     let elsewhere : some_of (places_on b (get_or stored_tenants k old)) ≡ 1 =
@@ -55,8 +55,8 @@ pub record Changes (p : Blocks) (old : StoredTenant) (q : Blocks) (s : StoredTen
   pub fresh : (b : ℕ) → 0 < places_on b s → places_on b old ≡ 0 → count_at p b ≡ 0
 
 -- it leaves a stored book
-pub IsStored-changed : (p : Blocks) (stored_tenants : List StoredTenant) (t : ℕ) (old : StoredTenant) (q : Blocks) (s : StoredTenant) → IsStored p stored_tenants → IsStoredTenant stored_tenants t old → Changes p old q s → IsStored q (set stored_tenants t s)
-IsStored-changed p stored_tenants t old q s kept is c = record {
+pub HoldsPieces-changed : (p : Blocks) (stored_tenants : List StoredTenant) (t : ℕ) (old : StoredTenant) (q : Blocks) (s : StoredTenant) → HoldsPieces p stored_tenants → IsStoredTenant stored_tenants t old → Changes p old q s → HoldsPieces q (set stored_tenants t s)
+HoldsPieces-changed p stored_tenants t old q s kept is c = record {
   pieces =
       let others : All (λ s. ArePieces q.block_size s.next (pieces_of s)) stored_tenants =
       subst (λ size. All (λ s. ArePieces size s.next (pieces_of s)) stored_tenants) (sym c.sizes.bytes) kept.pieces in
@@ -82,12 +82,12 @@ IsStored-changed p stored_tenants t old q s kept is c = record {
 }
 
 -- the free blocks and what the tenant pays are together as many as before
-pub charge-changed : (p : Blocks) (stored_tenants : List StoredTenant) (t : ℕ) (old : StoredTenant) (q : Blocks) (s : StoredTenant) → IsStored p stored_tenants → IsStoredTenant stored_tenants t old → Changes p old q s
+pub charge-changed : (p : Blocks) (stored_tenants : List StoredTenant) (t : ℕ) (old : StoredTenant) (q : Blocks) (s : StoredTenant) → HoldsPieces p stored_tenants → IsStoredTenant stored_tenants t old → Changes p old q s
     → free_in q + charge_on p.block_size s ≡ free_in p + charge_on p.block_size old
 charge-changed p stored_tenants t old q s kept is c =
     let before : free_in p + sum_by (charge_on p.block_size) stored_tenants ≡ size_of p = blocks_in_use p stored_tenants kept in
     let after : free_in q + sum_by (charge_on p.block_size) (set stored_tenants t s) ≡ size_of q =
-    subst (λ size. free_in q + sum_by (charge_on size) (set stored_tenants t s) ≡ size_of q) c.sizes.bytes (blocks_in_use q (set stored_tenants t s) (IsStored-changed p stored_tenants t old q s kept is c)) in
+    subst (λ size. free_in q + sum_by (charge_on size) (set stored_tenants t s) ≡ size_of q) c.sizes.bytes (blocks_in_use q (set stored_tenants t s) (HoldsPieces-changed p stored_tenants t old q s kept is c)) in
     let here : charge_on p.block_size (get_or stored_tenants t old) ≡ charge_on p.block_size old = ap (charge_on p.block_size) (sym is.read) in
     sum_up _ _ _ _ _ _ _ _ before after c.sizes.blocks _ (sum_by-set (charge_on p.block_size) stored_tenants t s old is.within) here
   where

@@ -19,6 +19,6 @@ pieces_in id (Own partial body) = record { origin = id; chain = body } ∷ []
 pieces_in id (Joined len pieces) = pieces.items
 
 -- the number that is kept of the bytes of a final upload is theirs
-abbrev pub IsCounted : HeldBytes → Type 0
-IsCounted (Own partial body) = ⊤
-IsCounted (Joined len pieces) = len ≡ pieces_len pieces.items
+abbrev pub CountsBytes : HeldBytes → Type 0
+CountsBytes (Own partial body) = ⊤
+CountsBytes (Joined len pieces) = len ≡ pieces_len pieces.items

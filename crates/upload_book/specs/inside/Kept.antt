@@ -4,7 +4,7 @@ use Rattle.block_pool.specs.Blocks.{size_of}
 use Rattle.upload_book.specs.declared.stored_tenant.StoredTenant.{StoredTenant as KeptTenant}
 use Rattle.upload_book.specs.declared.block_store.BlockStore.TheInside.{Inside}
 use Rattle.upload_book.specs.BlockStore.{BlockStore}
-use Rattle.upload_book.specs.Stored.{StoredTenant, StoredUpload, IsStored, pieces_of, part_kept, charge_on}
+use Rattle.upload_book.specs.Stored.{StoredTenant, StoredUpload, HoldsPieces, pieces_of, part_kept, charge_on}
 use Rattle.upload_book.specs.inside.Pieces.{HasOwnPiece, ReadsWhole}
 use Rattle.upload_book.specs.TenantBook.{Entry, visible_in}
 
@@ -22,7 +22,7 @@ store_of s = record {
 
 -- There is room for so many uploads of a tenant, and there are as many boxes for texts: each upload has one, and the
 -- others are spare. So no box is lost, and one is spare where an upload may be added.
-pub record HasRoom (room : ℕ) (t : KeptTenant) : Type 0 where
+pub record HasUploadRoom (room : ℕ) (t : KeptTenant) : Type 0 where
   pub uploads : room ≤ vec_capacity t.uploads
   pub spare : room ≤ vec_capacity t.spare
   pub boxes : vec_len t.uploads + vec_len t.spare ≡ room
@@ -30,13 +30,13 @@ pub record HasRoom (room : ℕ) (t : KeptTenant) : Type 0 where
 -- The blocks are kept as they should be, each upload that is not final has its own piece, each part knows what its
 -- tenant pays and has room for as many uploads as it may have.
 pub record IsKept (s : Inside) : Type 0 where
-  pub stored : IsStored s.pool (store_of s).stored_tenants
+  pub stored : HoldsPieces s.pool (store_of s).stored_tenants
   pub own : All (λ (stored_tenant : StoredTenant). All HasOwnPiece stored_tenant.uploads) (store_of s).stored_tenants
   pub reads : All (λ (stored_tenant : StoredTenant). ReadsWhole s.pool (pieces_of stored_tenant)) (store_of s).stored_tenants
   pub size : 0 < s.pool.block_size
   pub blocks : size_of s.pool < 2 ^ 64
   pub charges : All (λ (t : KeptTenant). t.charge ≡ charge_on s.pool.block_size (stored_tenant_of t)) s.stored_tenants.items
-  pub room : All (HasRoom s.room) s.stored_tenants.items
+  pub room : All (HasUploadRoom s.room) s.stored_tenants.items
 
 -- a part of a concatenation that is named so is, at this moment, the partial upload at this place
 pub record IsPartAt (stored_tenant : StoredTenant) (named : Option ℕ) (now place : ℕ) : Type 0 where

@@ -35,67 +35,67 @@ pub returns-then-needed-from-clause-unchanged : goal.returns-then-needed-from-cl
 returns-then-needed-from-clause-unchanged c = refl
 
 pub invariant_of-self : goal.invariant_of-self
-invariant_of-self c = rw c.reserve.ensures.items c.self.invariant
+invariant_of-self c = rw c.make_room.ensures.items c.self.invariant
 
 pub returns-clause-needed : goal.returns-clause-needed
-returns-clause-needed c = elim c.match-reserve.branch [
+returns-clause-needed c = elim c.match-make_room.branch [
   | in-Ok w ↦ rw w.result-is c.blocks_needed-needed.ensures
   | in-Err w ↦ rw w.result-is tt
 ]
 
 pub returns-clause-room : goal.returns-clause-room
-returns-clause-room c = elim c.match-reserve.branch [
+returns-clause-room c = elim c.match-make_room.branch [
   | in-Ok w ↦ rw w.result-is
-      (let made = rw w.in-Ok.is at c.reserve.ensures.ok in
+      (let made = rw w.in-Ok.is at c.make_room.ensures.ok in
       HasRoom-made c.args.pool.now c.args.self.now _ c.args.more c.blocks_needed-needed.result c.blocks_needed-needed.ensures
       (ap (λ (x : Chain). x.len) c.self.view_is)
-      (ap (λ (list : List ℕ). length list) c.reserve.ensures.items ∙ ap (λ (x : Chain). length x.blocks) c.self.view_is)
-      (omega (arith, made, c.reserve.new.self.ok.0))
+      (ap (λ (list : List ℕ). length list) c.make_room.ensures.items ∙ ap (λ (x : Chain). length x.blocks) c.self.view_is)
+      (omega (arith, made, c.make_room.new.blocks.ok.0))
       (omega (arith, c.from.ensures, c.free.ensures, c.if-needed-from.false)))
   | in-Err w ↦ rw w.result-is tt
 ]
 
 pub returns-clause-once : goal.returns-clause-once
-returns-clause-once c = rw c.reserve.ensures.items c.self.invariant
+returns-clause-once c = rw c.make_room.ensures.items c.self.invariant
 
 pub returns-clause-room_kept : goal.returns-clause-room_kept
-returns-clause-room_kept c = omega (arith, c.reserve.ensures.capacity, ap (λ (x : Chain). x.room) c.self.view_is)
+returns-clause-room_kept c = omega (arith, c.make_room.ensures.capacity, ap (λ (x : Chain). x.room) c.self.view_is)
 
 pub returns-clause-body : goal.returns-clause-body
 returns-clause-body c =
-    let room = vec_capacity c.reserve.new.self in
+    let room = vec_capacity c.make_room.new.blocks in
     let shown : List ℕ → Chain = λ items. record { blocks = items; len = c.self.inside.len; room = room } in
-    ap shown c.reserve.ensures.items ∙ ap (λ (x : Chain). record x { room = room }) c.self.view_is
+    ap shown c.make_room.ensures.items ∙ ap (λ (x : Chain). record x { room = room }) c.self.view_is
 
 pub returns-clause-full : goal.returns-clause-full
 returns-clause-full c = (
-  λ e. elim c.match-reserve.branch [ in-Ok w ↦ absurd (no_fault _ _ (sym w.result-is ∙ e)) | in-Err w ↦ absurd (other_fault _ w.result-is e) ],
+  λ e. elim c.match-make_room.branch [ in-Ok w ↦ absurd (no_fault _ _ (sym w.result-is ∙ e)) | in-Err w ↦ absurd (other_fault _ w.result-is e) ],
   λ (l : length c.args.self.now.blocks + free_in c.args.pool.now < blocks_with c.args.pool.now c.args.self.now c.args.more).
       absurd (omega (arith, c.blocks_needed-needed.ensures, c.from.ensures, c.free.ensures, c.if-needed-from.false)),
 )
 
 pub returns-clause-memory : goal.returns-clause-memory
-returns-clause-memory c = λ e. elim c.match-reserve.branch [
+returns-clause-memory c = λ e. elim c.match-make_room.branch [
   | in-Ok w ↦ absurd (no_fault _ _ (sym w.result-is ∙ e))
   | in-Err w ↦
-      let small = rw w.in-Err.is at c.reserve.ensures.full in
+      let small = rw w.in-Err.is at c.make_room.ensures.full in
       omega (arith, small, c.self.inside.blocks.ok.0, c.blocks_needed-needed.ensures, ap (λ (x : Chain). x.room) c.self.view_is, ap (λ (x : Chain). length x.blocks) c.self.view_is)
 ]
 
 pub returns-clause-blocks : goal.returns-clause-blocks
-returns-clause-blocks c = λ e. elim c.match-reserve.branch [
+returns-clause-blocks c = λ e. elim c.match-make_room.branch [
   | in-Ok w ↦ absurd (no_fault _ _ (sym w.result-is ∙ e))
   | in-Err w ↦
-      let small = rw w.in-Err.is at c.reserve.ensures.full in
+      let small = rw w.in-Err.is at c.make_room.ensures.full in
       omega (arith, small, c.self.inside.blocks.ok.1, c.blocks_needed-needed.ensures)
 ]
 
 pub returns-clause-unchanged : goal.returns-clause-unchanged
-returns-clause-unchanged c = elim c.match-reserve.branch [
+returns-clause-unchanged c = elim c.match-make_room.branch [
   | in-Ok w ↦ rw w.result-is tt
   | in-Err w ↦ rw w.result-is
       (let shown : List ℕ → ℕ → Chain = λ items room. record { blocks = items; len = c.self.inside.len; room = room } in
-      ap (λ items. shown items (vec_capacity c.reserve.new.self)) c.reserve.ensures.items
-      ∙ ap (λ room. shown c.self.inside.blocks.items room) (rw w.in-Err.is at c.reserve.ensures.err)
+      ap (λ items. shown items (vec_capacity c.make_room.new.blocks)) c.make_room.ensures.items
+      ∙ ap (λ room. shown c.self.inside.blocks.items room) (rw w.in-Err.is at c.make_room.ensures.err)
       ∙ c.self.view_is)
 ]

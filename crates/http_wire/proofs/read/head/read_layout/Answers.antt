@@ -2,7 +2,7 @@ use Rattle.std.proofs.Common.{◌≡◌, ◌∙◌, Bool, true, length, take, ap
 use Rattle.tus_steps.specs.Method.{is_head}
 use Rattle.http_wire.specs.Front.{method_of}
 use Rattle.http_wire.proofs.NameLemmas.{All-names, All-spans_named, HasFields-gathered, has_fields}
-use Rattle.http_wire.proofs.HeadLemmas.{ReadsHead-judged, ReadsHead-memory}
+use Rattle.http_wire.proofs.HeadLemmas.{ReadsLayout-judged, ReadsLayout-memory}
 use Rattle.http_wire.proofs.read.head.read_layout.Goals as goal
 
 pub gather-requires-clause-names : goal.gather-requires-clause-names
@@ -21,7 +21,7 @@ pub returns-in-Ok-clause-gives : goal.returns-in-Ok-clause-gives
 returns-in-Ok-clause-gives c =
     let h = c.in-Some.ensures.0 in
     let line = c.in-Some.ensures.1 in
-    ReadsHead-judged c.args.max_size c.args.head.now h c.layout_of.result (sym c.if-has_many_lines.ensures) line.parses
+    ReadsLayout-judged c.args.max_size c.args.head.now h c.layout_of.result (sym c.if-has_many_lines.ensures) line.parses
     (c.layout_of.ensures.shown h (record { method = line.at.method; target = line.at.path; version = line.at.version })
     (HasFields-gathered c.args.head.now (take c.in-Some.line.headers c.parse.new.spans) h.fields c.gather.new.found c.in-Ok.ensures.found line.at.fields))
 
@@ -31,6 +31,6 @@ returns-in-Err-clause-gives c =
     let line = c.in-Some.ensures.1 in
     let bare : c.is_head.result ≡ is_head (method_of h.method) =
     c.is_head.ensures ∙ ap is_head (c.method_of.ensures ∙ ap method_of (c.of.ensures ∙ line.at.method)) in
-    ReadsHead-memory c.args.max_size c.args.head.now h (record { bare = c.is_head.result; close = true }) (sym c.if-has_many_lines.ensures) line.parses
+    ReadsLayout-memory c.args.max_size c.args.head.now h (record { bare = c.is_head.result; close = true }) (sym c.if-has_many_lines.ensures) line.parses
     (has_fields c.args.head.now (take c.in-Some.line.headers c.parse.new.spans) h.fields line.at.fields c.in-Err.ensures.memory)
     (ap (λ (b : Bool). record { bare = b; close = true }) bare)

@@ -1,7 +1,7 @@
 use Rattle.std.proofs.Common.{subst, sym, ◌≡◌, set, refl, ap, ◌∙◌, arith}
 use Rattle.std.proofs.lemmas.List.{set-get_or}
 use Rattle.std.specs.Vec.{with_item}
-use Rattle.block_bodies.specs.Bodies.{HasRoom as HasRoomFor, Chain}
+use Rattle.block_bodies.specs.Bodies.{HasRoom, Chain}
 use Rattle.upload_book.specs.Account.{blocks_between}
 use Rattle.upload_book.specs.declared.stored_tenant.StoredTenant.{StoredTenant as KeptTenant}
 use Rattle.upload_book.specs.inside.Kept.{store_of}
@@ -113,6 +113,6 @@ returns-clause-plain c =
 pub returns-clause-listed : goal.returns-clause-listed
 unfolding after
 returns-clause-listed c =
-    subst (λ (x : Chain). HasRoomFor c.self.inside.pool x c.args.more)
+    subst (λ (x : Chain). HasRoom c.self.inside.pool x c.args.more)
     (sym (chain-reserved c.self.inside c.args.tenant c.args.place c.index_mut-stored_tenant.result.now (after c) c.index_mut-upload.result.now (own_chain c.reserve.new.self.kept.pieces) c.self.invariant (reserved c)))
     c.in_ok-reserve.ensures.room
