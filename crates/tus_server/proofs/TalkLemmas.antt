@@ -103,6 +103,8 @@ TalkEnds-broken T arguments reader writer x wire.Write given new named consumes 
 TalkEnds-broken T arguments reader writer x wire.Memory given new named consumes appends h = record {
   reader_keeps = Keeps-consumed reader.before reader.after x.input consumes h.0;
   writer_keeps = Keeps-appended writer.before writer.after x.text appends h.1;
+  reader_alive = named.0;
+  writer_alive = named.1;
   untouched = not_err _ (talk_settings arguments) (plain_of x.before).settings given;
 }
 TalkEnds-broken T arguments reader writer x wire.Failed given new named consumes appends h = absurd h

@@ -5,7 +5,7 @@ use Rattle.clap.specs.declared.error.kind.ErrorKind.{ErrorKind}
 use Rattle.clap.specs.declared.error.kind.ErrorKind.TheVariants.{DisplayHelp, DisplayVersion, OutOfMemory}
 use Rattle.tus_server.specs.Arguments.{CommandArguments, talk, serve, arguments_in}
 use Rattle.tus_server.specs.CommandLine.{faults_in}
-use Rattle.tus_server.specs.Fault.{Reports, WritesLine}
+use Rattle.tus_server.specs.Fault.{Reports, WritesLine, WritesOrFails}
 use Rattle.tus_server.specs.Serve.{ServeEnds}
 use Rattle.tus_server.specs.StreamUse.{StreamUse, IsAlive, IsUntouched}
 use Rattle.tus_server.specs.Talk.{TalkEnds}
@@ -22,12 +22,14 @@ IsHelp kind = (kind ≡ DisplayHelp) ⊎ (kind ≡ DisplayVersion)
 
 -- words that are not taken were answered, by the reason for it
 module _ {W E : Type 0} (kind : ErrorKind) (status : ℕ) (writer : StreamUse W) (errors : StreamUse E) where
-  -- they were refused, and standard error says what is wrong with them
+  -- they were refused, and a text was written to standard error, or, where that has failed, a prefix of one
   pub record RefusesWords : Type 0 where
     pub status_is : status ≡ 2
     pub not_help : kind ≢ DisplayHelp
     pub not_memory : kind ≢ OutOfMemory
     pub untouched : IsUntouched writer
+    pub text : List ℕ
+    pub said : WritesOrFails errors.before errors.after errors.has_failed text
 
   -- they asked for help, which was written
   pub record ShowsHelp : Type 0 where

@@ -64,10 +64,12 @@ module _ {R W : Type 0} (arguments : TalkArguments) (reader : StreamUse R) (writ
     pub appends : Appends writer.before writer.after text
     pub breaks : BreaksTalk (talk_settings arguments) arguments.moment reader.has_failed writer.has_failed got text
 
-  -- nothing was read or written, and where the settings have a fault, neither stream is touched
+  -- nothing was read or written, no call has failed, and where the settings have a fault, neither stream is touched
   pub record KeepsStreams : Type 0 where
     pub reader_keeps : KeepsBytes reader
     pub writer_keeps : KeepsBytes writer
+    pub reader_alive : IsAlive reader
+    pub writer_alive : IsAlive writer
     pub untouched : OnErr (talk_settings arguments) (IsUntouched reader × IsUntouched writer)
 
   -- how `talk` ends: it held its conversation, or lost it, or refused the settings, or lacked memory to begin with

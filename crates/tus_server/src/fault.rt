@@ -86,7 +86,7 @@ pub fn report_fault<E: Sink>(fault: RunFault, errors: &mut E) -> u8
 }
 
 /// Writes the text, or a prefix of it where the stream fails.
-fn put_or_fail<E: Sink>(text: &[u8], errors: &mut E)
+pub fn put_or_fail<E: Sink>(text: &[u8], errors: &mut E)
     requires { E.has_failed errors.old ≡ false }
     ensures { WritesOrFails (E.contents errors.old) (E.contents errors.new)
         (E.has_failed errors.new) text.now }

@@ -8,7 +8,7 @@ ghost use Rattle.tus_server.specs.StreamUse.{used};
 
 use crate::arguments::command_options;
 use crate::command_line::parsed;
-use crate::fault::{RunFault, report, report_fault};
+use crate::fault::{RunFault, put_or_fail, report, report_fault};
 use crate::options::CommandOptions;
 use crate::serve::serve;
 use crate::talk::talk;
@@ -113,7 +113,7 @@ fn explain<W: Sink, E: Sink>(
         return report_fault(RunFault::Memory, errors);
     };
     if error.use_stderr() {
-        let _ = put_all(errors, text.as_bytes());
+        put_or_fail(text.as_bytes(), errors);
         return REFUSED;
     }
     match put_all(writer, text.as_bytes()) {

@@ -1,8 +1,7 @@
 //! The command `serve`, after its command line was read.
 ghost use Rattle.std.specs.Prelude.{◌≡◌, ◌⊎◌, false, OnOk, IsErrOf, IfErr};
 ghost use Rattle.tus_server.specs.Arguments.{serve_arguments_of};
-ghost use Rattle.tus_server.specs.Lines.{PrintsLines};
-ghost use Rattle.tus_server.specs.Serve.{ServeEnds};
+ghost use Rattle.tus_server.specs.Serve.{PrintsAll, PrintsSome, ServeEnds};
 ghost use Rattle.tus_server.specs.StreamUse.{used};
 
 use crate::fault::RunFault;
@@ -83,8 +82,9 @@ fn serve_with<
     requires output { W.has_failed output.old ≡ false }
     ensures fault { IfErr result (λ fault. (fault ≡ RunFault.Wire) ⊎ (fault ≡ RunFault.Memory)) }
     ensures memory { IsErrOf result RunFault.Memory → output.new ≡ output.old }
-    ensures printed { OnOk result (PrintsLines (W.contents output.old) (W.contents output.new)) }
-    ensures alive { OnOk result (W.has_failed output.new ≡ false) }
+    ensures wire { IsErrOf result RunFault.Wire
+        → PrintsSome C.settings (used W.contents W.has_failed output.old output.new) }
+    ensures all { OnOk result (PrintsAll C.settings (used W.contents W.has_failed output.old output.new)) }
 {
     let (shared, mut desks) = Shared::<C, R, &H>::open(
         rt,
