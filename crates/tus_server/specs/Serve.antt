@@ -25,14 +25,13 @@ module _ {W : Type 0} (s : Settings) (output : StreamUse W) where
     pub failed : output.has_failed ≡ true
     pub lines : BeginsFirst output.before output.after ⊎ BeginsSecond s output.before output.after
 
-  -- what is printed where a socket or the output failed: nothing, where the port could not be had; or a line broke off; or
-  -- both lines, where an accept failed
+  -- what is printed where a socket or the output failed: nothing, or a line that broke off, or both lines
   abbrev pub PrintsSome : Type 0
   PrintsSome = IsUntouched output ⊎ FailsToPrint ⊎ PrintsAll
 
 -- `serve` was asked for with these arguments, with this output
 module _ {W : Type 0} (arguments : ServeArguments) (output : StreamUse W) where
-  -- all connections were served, and both lines were printed
+  -- it ended well, and both lines were printed
   pub record ServesAll : Type 0 where
     pub settings : Settings
     pub is_given : serve_settings arguments ≡ Ok settings
@@ -44,7 +43,7 @@ module _ {W : Type 0} (arguments : ServeArguments) (output : StreamUse W) where
     pub is_given : serve_settings arguments ≡ Ok settings
     pub prints : PrintsSome settings output
 
-  -- How `serve` ends: it served all, or a socket or its output failed, or it refused the settings, or lacked memory to
+  -- How `serve` ends: well, or a socket or its output failed, or it refused the settings, or lacked memory to
   -- begin with. In the last two nothing was printed.
   abbrev pub ServeEnds : {T : Type 0} → Result T RunFault → Type 0
   ServeEnds (Ok _) = ServesAll
