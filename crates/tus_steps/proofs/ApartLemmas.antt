@@ -1,7 +1,7 @@
 -- What a request asks for, apart from where its tenant stands.
 use Rattle.std.proofs.Common.{◌≡◌, ℕ, Bool, true, false, cond, List, [], Option, Some, None, Result, Ok, Err, IfOk, IfSome, inl, inr, refl}
 use Rattle.std.specs.Option.{option_map, option_and_then}
-use Rattle.std.specs.Prelude.{◌||◌, ok_or, codes}
+use Rattle.std.specs.Prelude.{ok_or, codes}
 use Rattle.std.proofs.lemmas.Bool.{cases_Bool}
 use Rattle.tus_text.specs.Concat.{concat_of}
 use Rattle.tus_text.specs.declared.checksum.Checksum.{Checksum}
@@ -23,7 +23,6 @@ use Rattle.tus_steps.specs.declared.method.Method.TheVariants.{Post, Head, Get, 
 use Rattle.tus_steps.specs.declared.route.Route.{Route}
 use Rattle.tus_steps.specs.declared.route.Route.TheVariants.{Create, Look, Content, Append, Terminate}
 use Rattle.tus_steps.specs.Field.{FieldText, absent, one, many, optional_checksum_in}
-use Rattle.tus_steps.specs.History.{sends_bytes}
 use Rattle.tus_steps.specs.Method.{is_patch}
 use Rattle.tus_steps.specs.Operation.{chunk_in, found_or, has_version, operation_of, operation_on}
 use Rattle.tus_steps.specs.Request.{Request}
@@ -44,33 +43,27 @@ abbrev pub moved_to : ℕ → Result Operation Refusal → Result Operation Refu
 moved_to t (Ok op) = Ok (moved t op)
 moved_to t (Err why) = Err why
 
--- a request that asks for an operation with bytes sends them
-abbrev pub SendsItsBytes : Request → Operation → Type 0
-SendsItsBytes r (operation.Append name chunk) = sends_bytes r ≡ true
-SendsItsBytes r (operation.CreateWith tenant new first) = sends_bytes r ≡ true
-SendsItsBytes r _ = Unit {0}
+-- a request that asks to add bytes to an upload is a PATCH
+abbrev pub AppendsByPatch : Request → Operation → Type 0
+AppendsByPatch r (operation.Append name chunk) = is_patch r.method ≡ true
+AppendsByPatch r _ = Unit {0}
 
 -- operations that differ in the place of the tenant alone
 pub record Apart (r : Request) (ops : ℕ → Option Operation) : Type 0 where
   pub of : Option Operation
   pub each : (t : ℕ) → ops t ≡ option_map (moved t) of
-  pub at : IfSome of (SendsItsBytes r)
+  pub at : IfSome of (AppendsByPatch r)
 
 none-apart : (r : Request) → Apart r (λ t. None)
 none-apart r = record { of = None; each = λ t. refl; at = tt }
 
-cond-apart : (r : Request) (test : Bool) (ops others : ℕ → Option Operation) → (test ≡ true → Apart r ops) → Apart r others → Apart r (λ t. cond test (ops t) (others t))
-cond-apart r true ops others holds fails = holds refl
+cond-apart : (r : Request) (test : Bool) (ops others : ℕ → Option Operation) → Apart r ops → Apart r others → Apart r (λ t. cond test (ops t) (others t))
+cond-apart r true ops others holds fails = holds
 cond-apart r false ops others holds fails = fails
 
-or-true : (a b : Bool) → b ≡ true → (a || b) ≡ true
-or-true true b is = refl
-or-true false b is = is
-
-with-apart : (r : Request) (new : NewUpload) (check : Option (Option Checksum)) → is_with_upload r ≡ true → Apart r (λ t. option_map (λ (c : Option Checksum). operation.CreateWith t new (first_chunk r c)) check)
-with-apart r new None carries = none-apart r
-with-apart r new (Some check) carries =
-    record { of = Some (operation.CreateWith 0 new (first_chunk r check)); each = λ t. refl; at = or-true (is_patch r.method) _ carries }
+with-apart : (r : Request) (new : NewUpload) (check : Option (Option Checksum)) → Apart r (λ t. option_map (λ (c : Option Checksum). operation.CreateWith t new (first_chunk r c)) check)
+with-apart r new None = none-apart r
+with-apart r new (Some check) = record { of = Some (operation.CreateWith 0 new (first_chunk r check)); each = λ t. refl; at = tt }
 
 create-apart : (r : Request) (new : Option NewUpload) → Apart r (λ t. option_and_then (creation_of r t) new)
 create-apart r None = none-apart r
@@ -93,7 +86,7 @@ creation_by-apart r absent = create-apart r (new_upload_in r false [])
 creation_by-apart r (one text) = concat-apart r text (concat_of text)
 creation_by-apart r many = none-apart r
 
-append-apart : (r : Request) (id : ℕ) (chunk : Option Chunk) → sends_bytes r ≡ true → Apart r (λ t. option_map (λ (c : Chunk). operation.Append (record { tenant = t; id = id }) c) chunk)
+append-apart : (r : Request) (id : ℕ) (chunk : Option Chunk) → is_patch r.method ≡ true → Apart r (λ t. option_map (λ (c : Chunk). operation.Append (record { tenant = t; id = id }) c) chunk)
 append-apart r id None at = none-apart r
 append-apart r id (Some chunk) at = record { of = Some (operation.Append (record { tenant = 0; id = id }) chunk); each = λ t. refl; at = at }
 
@@ -118,7 +111,7 @@ pub route-apart : (r : Request) (on : Route) → route r.path r.method ≡ Some 
 route-apart r Create is = creation_by-apart r r.fields.concat
 route-apart r (Look id) is = record { of = Some (operation.Look (record { tenant = 0; id = id })); each = λ t. refl; at = tt }
 route-apart r (Content id) is = record { of = Some (operation.Content (record { tenant = 0; id = id })); each = λ t. refl; at = tt }
-route-apart r (Append id) is = append-apart r id (chunk_in r) (rw (append-patch r.path r.method id is) refl)
+route-apart r (Append id) is = append-apart r id (chunk_in r) (append-patch r.path r.method id is)
 route-apart r (Terminate id) is = record { of = Some (operation.Terminate (record { tenant = 0; id = id })); each = λ t. refl; at = tt }
 
 -- What a request of a tenant asks for, whichever the settings that have it: it is refused for the same reason, or asks
@@ -126,7 +119,7 @@ route-apart r (Terminate id) is = record { of = Some (operation.Terminate (recor
 pub record AsksFor (r : Request) (name : List ℕ) : Type 0 where
   pub of : Result Operation Refusal
   pub each : (s : Settings) (t : ℕ) → tenant_place s name ≡ Some t → operation_of s r ≡ moved_to t of
-  pub at : IfOk of (SendsItsBytes r)
+  pub at : IfOk of (AppendsByPatch r)
 
 -- the last two tests
 abbrev pub asked_at : Request → ℕ → Result Operation Refusal
@@ -136,10 +129,10 @@ asked_at r t = found_or refusal.Method (route r.path r.method) (λ on. ok_or (op
 record AskedAt (r : Request) : Type 0 where
   of : Result Operation Refusal
   each : (t : ℕ) → asked_at r t ≡ moved_to t of
-  at : IfOk of (SendsItsBytes r)
+  at : IfOk of (AppendsByPatch r)
 
-ok_or-apart : (r : Request) (ops : ℕ → Option Operation) (of : Option Operation) → ((t : ℕ) → ops t ≡ option_map (moved t) of) → IfSome of (SendsItsBytes r)
-    → (x : Result Operation Refusal) × ((t : ℕ) → ok_or (ops t) refusal.Field ≡ moved_to t x) × IfOk x (SendsItsBytes r)
+ok_or-apart : (r : Request) (ops : ℕ → Option Operation) (of : Option Operation) → ((t : ℕ) → ops t ≡ option_map (moved t) of) → IfSome of (AppendsByPatch r)
+    → (x : Result Operation Refusal) × ((t : ℕ) → ok_or (ops t) refusal.Field ≡ moved_to t x) × IfOk x (AppendsByPatch r)
 ok_or-apart r ops None each at = (Err refusal.Field, λ t. rw (each t) refl, tt)
 ok_or-apart r ops (Some op) each at = (Ok op, λ t. rw (each t) refl, at)
 

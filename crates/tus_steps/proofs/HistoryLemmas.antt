@@ -1,20 +1,22 @@
 -- What happens to a server, event after event, as far as one tenant sees it.
 use Rattle.std.proofs.Common.{◌≡◌, ℕ, ◌+◌, ◌<◌, true, false, List, [], ◌∷◌, ◌++◌, length, map, get_or, take, Option, Some, None, inl, inr, refl, sym, ap, ◌∙◌, subst}
-use Rattle.std.specs.List.{AllByRecursion, slice_get}
-use Rattle.std.specs.Option.{option_and_then, option_map}
+use Rattle.std.specs.List.{slice_get}
+use Rattle.std.specs.Option.{option_and_then, option_map, option_map_or}
 use Rattle.std.proofs.lemmas.Bool.{cases_Bool}
 use Rattle.std.proofs.lemmas.List.{length-map, map_more}
 use Rattle.std.proofs.lemmas.Option.{get_or_from_slice_get, slice_get-map}
+use Rattle.upload_book.specs.declared.settings.Numbers.{Numbers}
 use Rattle.upload_book.specs.declared.settings.TenantQuota.{TenantQuota}
 use Rattle.upload_book.specs.PlainBook.{PlainBook, opening_book, tenant_book}
 use Rattle.upload_book.specs.Settings.{Settings, tenant_place}
 use Rattle.upload_book.specs.Sweep.{book_after_sweep, part_after_sweep}
 use Rattle.upload_book.specs.TenantBook.{TenantBook, opening_part}
 use Rattle.tus_steps.specs.declared.reply.Reply.{Reply}
-use Rattle.tus_steps.specs.History.{Event, request, sweep, IsHistory, exchanges_of, is_of, own_events, replies_to, requests_at}
-use Rattle.tus_steps.specs.Isolation.{AreAlike, IsUnhindered, quota_of}
+use Rattle.tus_steps.specs.History.{Event, request, sweep, IsHistory, exchanges_of, is_of, next_after, next_of, own_events, part_of, replies_to, requests_at}
+use Rattle.tus_steps.specs.Isolation.{AllUnhindered, AreAlike, IsUnhindered, IsUnhinderedAt, quota_of}
 use Rattle.tus_steps.specs.Request.{Request}
 use Rattle.tus_steps.specs.Step.{IsStep}
+use Rattle.tus_steps.proofs.NextLemmas.{own-tells, swept-next}
 use Rattle.tus_steps.proofs.OwnLemmas.{Leaves, others-step, own-step}
 use Rattle.tus_steps.proofs.PlaceLemmas.{part_of-swept, place-at}
 
@@ -141,45 +143,62 @@ first-exchange : (tenant : List ℕ) (told : List (Request × Reply)) (r : Reque
     → told ≡ (r, first) ∷ exchanges_of tenant events rest
 first-exchange tenant told r now events replies first rest is are own = rw (is, are, own) refl
 
+-- what leaves the tenant's part leaves its next id
+left-next : (tenant : List ℕ) (b after : PlainBook) → Leaves tenant b after → next_of after tenant ≡ next_of b tenant
+left-next tenant b after leaves =
+    ap (λ (part : Option TenantBook). option_map_or (λ (part : TenantBook). part.next) part 1) leaves.part
+
+-- a request is not refused at a book for what all share, by its numbers and the tenant's next id there
+at-book : (tenant : List ℕ) (b : PlainBook) (n : Numbers) (next : ℕ) (exchange : Request × Reply) → b.settings.numbers ≡ n → next_of b tenant ≡ next → IsUnhindered n next exchange → IsUnhinderedAt b tenant exchange
+at-book tenant b n next exchange numbers from unhindered =
+    subst (λ (n : Numbers). IsUnhindered n (next_of b tenant) exchange) (sym numbers) (subst (λ (next : ℕ). IsUnhindered n next exchange) (sym from) unhindered)
+
 -- On two books that are alike to a tenant its own events give the same replies, whatever other events there are.
 pub same-replies : (tenant : List ℕ) (b other : PlainBook) (events others : List Event) (replies told : List Reply) (after left : PlainBook) → AreAlike tenant b other → IsHistory b events replies after → IsHistory other others told left → own_events tenant events ≡ own_events tenant others
-    → AllByRecursion IsUnhindered (exchanges_of tenant events replies) → AllByRecursion IsUnhindered (exchanges_of tenant others told) → replies_to tenant events replies ≡ replies_to tenant others told
-same-replies tenant b other [] others replies told after left alike is also same unhindered also_unhindered =
+    → (n : Numbers) (next : ℕ) → b.settings.numbers ≡ n → next_of b tenant ≡ next → AllUnhindered n next (exchanges_of tenant events replies) → AllUnhindered n next (exchanges_of tenant others told) → replies_to tenant events replies ≡ replies_to tenant others told
+same-replies tenant b other [] others replies told after left alike is also same n next numbers from unhindered also_unhindered =
     sym (no-replies tenant other others told left also (sym same))
-same-replies tenant b other (request r now ∷ events) others [] told after left alike is also same unhindered also_unhindered = absurd is
-same-replies tenant b other (request r now ∷ events) others (t ∷ replies) told after left alike is also same unhindered also_unhindered = elim (cases_Bool (is_of tenant r)) [
+same-replies tenant b other (request r now ∷ events) others [] told after left alike is also same n next numbers from unhindered also_unhindered = absurd is
+same-replies tenant b other (request r now ∷ events) others (t ∷ replies) told after left alike is also same n next numbers from unhindered also_unhindered = elim (cases_Bool (is_of tenant r)) [
   | inl own ↦
-      let next = reaches tenant b other others told left (request r now) (own_events tenant events) alike also (sym (rw own at same)) in
-      let first = first-request next.book r now next.later next.told left next.history in
-      let are = first-exchange tenant (exchanges_of tenant others told) r now next.later next.told first.told first.rest next.exchanges first.are own in
+      let reached = reaches tenant b other others told left (request r now) (own_events tenant events) alike also (sym (rw own at same)) in
+      let first = first-request reached.book r now reached.later reached.told left reached.history in
+      let are = first-exchange tenant (exchanges_of tenant others told) r now reached.later reached.told first.told first.rest reached.exchanges first.are own in
       let here = rw own at unhindered in
       let there = rw are at also_unhindered in
-      let step = own-step tenant b next.book r now t first.told is.0 first.middle next.alike own is.1 first.step here.0 there.0 in
-      let rest = same-replies tenant is.0 first.middle events next.later replies first.rest after left step.alike is.2 first.later (sym next.events) here.1 there.1 in
-      rw own (joined t first.told (replies_to tenant events replies) (replies_to tenant next.later first.rest) (replies_to tenant others told) step.told rest (replies-alike _ _ are))
+      let tells = own-tells tenant b r now t is.0 alike.each own is.1 in
+      let step = own-step tenant b reached.book r now t first.told is.0 first.middle reached.alike own is.1 first.step (at-book tenant b n next (r, t) numbers from here.0) (at-book tenant b n next (r, first.told) numbers from there.0) in
+      let rest = same-replies tenant is.0 first.middle events reached.later replies first.rest after left step.alike is.2 first.later (sym reached.events) n (next_after next t)
+      (ap (λ (s : Settings). s.numbers) tells.settings ∙ numbers) (tells.next ∙ ap (λ (k : ℕ). next_after k t) from) here.1 (rw step.told there.1) in
+      rw own (joined t first.told (replies_to tenant events replies) (replies_to tenant reached.later first.rest) (replies_to tenant others told) step.told rest (replies-alike _ _ are))
   | inr not_own ↦
-      let still = alike-turned tenant other is.0 (alike-others tenant other b is.0 (alike-turned tenant b other alike) (others-step tenant b r now t is.0 not_own is.1)) in
-      rw not_own (same-replies tenant is.0 other events others replies told after left still is.2 also (rw not_own at same) (rw not_own at unhindered) also_unhindered)
+      let leaves = others-step tenant b r now t is.0 not_own is.1 in
+      let still = alike-turned tenant other is.0 (alike-others tenant other b is.0 (alike-turned tenant b other alike) leaves) in
+      rw not_own (same-replies tenant is.0 other events others replies told after left still is.2 also (rw not_own at same) n next
+      (ap (λ (s : Settings). s.numbers) leaves.settings ∙ numbers) (left-next tenant b is.0 leaves ∙ from) (rw not_own at unhindered) also_unhindered)
 ]
-same-replies tenant b other (sweep now ∷ events) others replies told after left alike is also same unhindered also_unhindered =
-    let next = reaches tenant b other others told left (sweep now) (own_events tenant events) alike also (sym same) in
-    let swept = alike-swept tenant b next.book now next.alike in
-    let rest = same-replies tenant (book_after_sweep b now) (book_after_sweep next.book now) events next.later replies next.told after left swept is next.history (sym next.events) unhindered (rw next.exchanges at also_unhindered) in
-    rest ∙ sym (replies-alike _ _ next.exchanges)
+same-replies tenant b other (sweep now ∷ events) others replies told after left alike is also same n next numbers from unhindered also_unhindered =
+    let reached = reaches tenant b other others told left (sweep now) (own_events tenant events) alike also (sym same) in
+    let swept = alike-swept tenant b reached.book now reached.alike in
+    let rest = same-replies tenant (book_after_sweep b now) (book_after_sweep reached.book now) events reached.later replies reached.told after left swept is reached.history (sym reached.events) n next numbers (swept-next tenant b now ∙ from) unhindered (rw reached.exchanges at also_unhindered) in
+    rest ∙ sym (replies-alike _ _ reached.exchanges)
 
 -- a tenant's part at the start is that of its quota
-opening-part : (s : Settings) (tenant : List ℕ) (place : Option ℕ) → tenant_place s tenant ≡ place → option_map (tenant_book (opening_book s)) place ≡ option_map opening_part (option_and_then (slice_get (map {A = TenantQuota} {B = ℕ} (λ t. t.quota) s.tenants)) place)
-opening-part s tenant None is = refl
-opening-part s tenant (Some t) is =
+opening-part-at : (s : Settings) (tenant : List ℕ) (place : Option ℕ) → tenant_place s tenant ≡ place → option_map (tenant_book (opening_book s)) place ≡ option_map opening_part (option_and_then (slice_get (map {A = TenantQuota} {B = ℕ} (λ t. t.quota) s.tenants)) place)
+opening-part-at s tenant None is = refl
+opening-part-at s tenant (Some t) is =
     let there = place-at s tenant t is in
     let part = slice_get-map {A = TenantQuota} {B = TenantBook} (λ t. opening_part t.quota) s.tenants t ∙ ap (option_map (λ (t : TenantQuota). opening_part t.quota)) there.there in
     let quota = slice_get-map {A = TenantQuota} {B = ℕ} (λ t. t.quota) s.tenants t ∙ ap (option_map (λ (t : TenantQuota). t.quota)) there.there in
     rw quota (ap Some (get_or_from_slice_get _ t _ (opening_part 0) part))
 
+pub opening-part : (s : Settings) (tenant : List ℕ) → part_of (opening_book s) tenant ≡ option_map opening_part (quota_of s tenant)
+opening-part s tenant = opening-part-at s tenant (tenant_place s tenant) refl
+
 pub opening-alike : (s other : Settings) (tenant : List ℕ) → s.numbers ≡ other.numbers → quota_of s tenant ≡ quota_of other tenant → AreAlike tenant (opening_book s) (opening_book other)
 opening-alike s other tenant numbers quota = record {
   numbers = numbers;
-  part = opening-part s tenant (tenant_place s tenant) refl ∙ ap (option_map opening_part) quota ∙ sym (opening-part other tenant (tenant_place other tenant) refl);
+  part = opening-part s tenant ∙ ap (option_map opening_part) quota ∙ sym (opening-part other tenant);
   each = length-map s.tenants (λ (t : TenantQuota). opening_part t.quota);
   other_each = length-map other.tenants (λ (t : TenantQuota). opening_part t.quota);
 }

@@ -4,6 +4,7 @@ pub mod AskLemmas
 pub mod PlaceLemmas
 pub mod ApartLemmas
 pub mod OwnLemmas
+pub mod NextLemmas
 pub mod HistoryLemmas
 pub mod LawsLemmas
 pub mod ChangeLemmas

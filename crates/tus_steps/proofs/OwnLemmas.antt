@@ -1,9 +1,9 @@
 -- One step, as far as one tenant sees it.
 use Rattle.std.proofs.Common.{◌≡◌, ◌≢◌, ◌⊎◌, ℕ, ◌<◌, Bool, true, false, List, [], ◌∷◌, ◌++◌, drop, length, take, Option, Some, None, Result, Ok, Err, IfOk, inl, inr, refl, sym, ap, ◌∙◌, subst}
 use Rattle.std.specs.Option.{option_map, option_map_or}
-use Rattle.std.specs.Prelude.{◌||◌, nat_lt}
+use Rattle.std.specs.Prelude.{◌||◌, nat_le, nat_lt}
 use Rattle.std.specs.Str.{bytes_eq}
-use Rattle.std.proofs.lemmas.Bool.{cases_Bool, false≢true}
+use Rattle.std.proofs.lemmas.Bool.{cases_Bool, false≢true, le-leb, ltb-false}
 use Rattle.std.proofs.lemmas.List.{get_or-set_same, length-set}
 use Rattle.std.proofs.lemmas.Slice.Eq.{bytes_eq-Decides}
 use Rattle.upload_book.specs.Account.{account_in, account_with, blocks_added}
@@ -29,20 +29,20 @@ use Rattle.upload_book.specs.Terminate.{part_after_terminate, terminate_answer}
 use Rattle.upload_book.specs.Upload.{Upload, head_row_of}
 use Rattle.tus_steps.specs.declared.reply.Reply.{Reply}
 use Rattle.tus_steps.specs.declared.reply.Reply.TheVariants as reply
-use Rattle.tus_steps.specs.History.{lacks_shared, is_of, part_of, sends_bytes}
-use Rattle.tus_steps.specs.Isolation.{AreAlike, HasEachPart, IsUnhindered}
-use Rattle.tus_steps.specs.Method.{is_options}
+use Rattle.tus_steps.specs.History.{lacks_shared, is_of, part_of}
+use Rattle.tus_steps.specs.Isolation.{AreAlike, HasEachPart, IsUnhindered, IsUnhinderedAt}
+use Rattle.tus_steps.specs.Method.{is_options, is_patch}
 use Rattle.tus_steps.specs.Operation.{has_version, operation_of}
 use Rattle.tus_steps.specs.Reply.{append_reply, content_reply, creation_reply, deletion_reply, head_reply, refusing}
 use Rattle.tus_steps.specs.Request.{Request}
 use Rattle.tus_steps.specs.Route.{tenant_name}
 use Rattle.tus_steps.specs.Step.{IsOperationStep, IsStep, IsStepBy}
-use Rattle.tus_steps.proofs.ApartLemmas.{SendsItsBytes, asks-for, moved, moved_to, route-apart}
+use Rattle.tus_steps.proofs.ApartLemmas.{AppendsByPatch, asks-for, moved, moved_to, route-apart}
 use Rattle.tus_steps.proofs.AskLemmas.{asks}
 use Rattle.tus_steps.proofs.PlaceLemmas.{part_of-other, place-within}
 
 -- the reply to an operation of the tenant at a place with this part, where so many blocks were charged
-abbrev reply_on : ℕ → Numbers → TenantBook → ℕ → Request → ℕ → Operation → Reply
+abbrev pub reply_on : ℕ → Numbers → TenantBook → ℕ → Request → ℕ → Operation → Reply
 reply_on t n part charged r now (operation.Create u new) = creation_reply r None (create_empty_answer t new now n part)
 reply_on t n part charged r now (operation.CreateWith u new first) =
     creation_reply r (Some (length first.bytes)) (create_answer t new first now charged n part)
@@ -53,7 +53,7 @@ reply_on t n part charged r now (operation.Append name chunk) = append_reply r (
 reply_on t n part charged r now (operation.Terminate name) = deletion_reply r (terminate_answer name.id now n part)
 
 -- and the part after it
-abbrev part_on : Numbers → TenantBook → ℕ → ℕ → Operation → TenantBook
+abbrev pub part_on : Numbers → TenantBook → ℕ → ℕ → Operation → TenantBook
 part_on n part charged now (operation.Create u new) = part_after_create_empty new now n part
 part_on n part charged now (operation.CreateWith u new first) = part_after_create new first now charged n part
 part_on n part charged now (operation.Concat u new) = part_after_concat new now n part
@@ -63,19 +63,19 @@ part_on n part charged now (operation.Append name chunk) = part_after_append nam
 part_on n part charged now (operation.Terminate name) = part_after_terminate name.id now n part
 
 -- a book after a step that at most changed the part at a place to this one
-record Changes (b after : PlainBook) (t : ℕ) (part : TenantBook) : Type 0 where
-  settings : after.settings ≡ b.settings
-  count : length after.tenants ≡ length b.tenants
-  own : tenant_book after t ≡ part
+pub record Changes (b after : PlainBook) (t : ℕ) (part : TenantBook) : Type 0 where
+  pub settings : after.settings ≡ b.settings
+  pub count : length after.tenants ≡ length b.tenants
+  pub own : tenant_book after t ≡ part
 
-changes-with : (b after : PlainBook) (t : ℕ) (part : TenantBook) → t < length b.tenants → after ≡ with_tenant_book b t part → Changes b after t part
+pub changes-with : (b after : PlainBook) (t : ℕ) (part : TenantBook) → t < length b.tenants → after ≡ with_tenant_book b t part → Changes b after t part
 changes-with b after t part within is = rw is (record {
   settings = refl;
   count = length-set b.tenants t part;
   own = get_or-set_same b.tenants t part (opening_part 0) within;
 })
 
-changes-none : (b after : PlainBook) (t : ℕ) → after ≡ b → Changes b after t (tenant_book b t)
+pub changes-none : (b after : PlainBook) (t : ℕ) → after ≡ b → Changes b after t (tenant_book b t)
 changes-none b after t is = rw is (record { settings = refl; count = refl; own = refl })
 
 -- the step of an operation that is not refused for what all share
@@ -83,24 +83,24 @@ record Steps (b : PlainBook) (t : ℕ) (r : Request) (now : ℕ) (op : Operation
   told : reply ≡ reply_on t b.settings.numbers (tenant_book b t) b.charged r now op
   after : Changes b left t (part_on b.settings.numbers (tenant_book b t) b.charged now op)
 
-hindered : (r : Request) (told : Reply) (why : Reply) (A : Type 0) → told ≡ why → lacks_shared r why ≡ true → IsUnhindered (r, told) → A
-hindered r told why A is shared unhindered = absurd (false≢true (sym unhindered ∙ ap (lacks_shared r) is ∙ shared))
+hindered : (n : Numbers) (next : ℕ) (r : Request) (told : Reply) (why : Reply) (A : Type 0) → told ≡ why → lacks_shared n next r why ≡ true → IsUnhindered n next (r, told) → A
+hindered n next r told why A is shared unhindered = absurd (false≢true (sym unhindered ∙ ap (lacks_shared n next r) is ∙ shared))
 
-steps : (b : PlainBook) (t : ℕ) (r : Request) (now : ℕ) (op : Operation) (told : Reply) (after : PlainBook) → t < length b.tenants → IsOperationStep b r now (moved t op) told after → IsUnhindered (r, told) → Steps b t r now op told after
-steps b t r now (operation.Create u new) told after within (inl step) unhindered = record { told = step.0; after = changes-with b after t _ within step.1 }
-steps b t r now (operation.Create u new) told after within (inr step) unhindered = absurd step.0
-steps b t r now (operation.CreateWith u new first) told after within (inl step) unhindered = record { told = step.0; after = changes-with b after t _ within step.1 }
-steps b t r now (operation.CreateWith u new first) told after within (inr step) unhindered = hindered r told _ _ step.1 refl unhindered
-steps b t r now (operation.Concat u new) told after within (inl step) unhindered = record { told = step.0; after = changes-with b after t _ within step.1 }
-steps b t r now (operation.Concat u new) told after within (inr step) unhindered = hindered r told _ _ step.1 refl unhindered
-steps b t r now (operation.Look name) told after within (inl step) unhindered = record { told = step.0; after = changes-none b after t step.1 }
-steps b t r now (operation.Look name) told after within (inr step) unhindered = absurd step.0
-steps b t r now (operation.Content name) told after within (inl step) unhindered = record { told = step.0; after = changes-none b after t step.1 }
-steps b t r now (operation.Content name) told after within (inr step) unhindered = hindered r told _ _ step.1 refl unhindered
-steps b t r now (operation.Append name chunk) told after within (inl step) unhindered = record { told = step.0; after = changes-with b after t _ within step.1 }
-steps b t r now (operation.Append name chunk) told after within (inr step) unhindered = hindered r told _ _ step.1 refl unhindered
-steps b t r now (operation.Terminate name) told after within (inl step) unhindered = record { told = step.0; after = changes-with b after t _ within step.1 }
-steps b t r now (operation.Terminate name) told after within (inr step) unhindered = absurd step.0
+steps : (b : PlainBook) (t : ℕ) (r : Request) (now : ℕ) (op : Operation) (told : Reply) (after : PlainBook) (n : Numbers) (next : ℕ) → t < length b.tenants → IsOperationStep b r now (moved t op) told after → IsUnhindered n next (r, told) → Steps b t r now op told after
+steps b t r now (operation.Create u new) told after n next within (inl step) unhindered = record { told = step.0; after = changes-with b after t _ within step.1 }
+steps b t r now (operation.Create u new) told after n next within (inr step) unhindered = absurd step.0
+steps b t r now (operation.CreateWith u new first) told after n next within (inl step) unhindered = record { told = step.0; after = changes-with b after t _ within step.1 }
+steps b t r now (operation.CreateWith u new first) told after n next within (inr step) unhindered = hindered n next r told _ _ step.1 refl unhindered
+steps b t r now (operation.Concat u new) told after n next within (inl step) unhindered = record { told = step.0; after = changes-with b after t _ within step.1 }
+steps b t r now (operation.Concat u new) told after n next within (inr step) unhindered = hindered n next r told _ _ step.1 refl unhindered
+steps b t r now (operation.Look name) told after n next within (inl step) unhindered = record { told = step.0; after = changes-none b after t step.1 }
+steps b t r now (operation.Look name) told after n next within (inr step) unhindered = absurd step.0
+steps b t r now (operation.Content name) told after n next within (inl step) unhindered = record { told = step.0; after = changes-none b after t step.1 }
+steps b t r now (operation.Content name) told after n next within (inr step) unhindered = hindered n next r told _ _ step.1 refl unhindered
+steps b t r now (operation.Append name chunk) told after n next within (inl step) unhindered = record { told = step.0; after = changes-with b after t _ within step.1 }
+steps b t r now (operation.Append name chunk) told after n next within (inr step) unhindered = hindered n next r told _ _ step.1 refl unhindered
+steps b t r now (operation.Terminate name) told after n next within (inl step) unhindered = record { told = step.0; after = changes-with b after t _ within step.1 }
+steps b t r now (operation.Terminate name) told after n next within (inr step) unhindered = absurd step.0
 
 -- tests that differ in the one for what is spent alone give the same, where neither finds that one
 same-unspent : (first : List (Bool × Refusal)) (spent also_spent : Bool) (later : List (Bool × Refusal)) → first_that_holds (first ++ (spent, refusal.Spent) ∷ later) ≢ Some refusal.Spent → first_that_holds (first ++ (also_spent, refusal.Spent) ∷ later) ≢ Some refusal.Spent
@@ -128,30 +128,46 @@ abbrev is_spent_creating : Numbers → TenantBook → ℕ → FirstChunk → Boo
 is_spent_creating n part charged first =
     nat_lt n.last_id part.next || nat_lt n.last_total (account_with (account_in n part charged) (blocks_added n 0 (length first.bytes))).charged
 
--- so is a creation
-same-creation_refusal : (n : Numbers) (part : TenantBook) (c d : ℕ) (new : NewUpload) (first : FirstChunk) → creation_refusal n (account_in n part c) part new first ≢ Some refusal.Spent → creation_refusal n (account_in n part d) part new first ≢ Some refusal.Spent
+-- so is a creation, and it is spent however many were charged where the tenant has no id left
+same-creation_refusal : (n : Numbers) (part : TenantBook) (c d : ℕ) (new : NewUpload) (first : FirstChunk) (none_left : Bool) → nat_lt n.last_id part.next ≡ none_left → (none_left ≡ false → creation_refusal n (account_in n part c) part new first ≢ Some refusal.Spent) → (none_left ≡ false → creation_refusal n (account_in n part d) part new first ≢ Some refusal.Spent)
     → creation_refusal n (account_in n part c) part new first ≡ creation_refusal n (account_in n part d) part new first
-same-creation_refusal n part c d new first apart also =
+same-creation_refusal n part c d new first true is apart also = rw is refl
+same-creation_refusal n part c d new first false is apart also =
     let tests = creation_tests n (account_in n part c) part new first in
-    same-unspent (take 5 tests) (is_spent_creating n part c first) (is_spent_creating n part d first) (drop 6 tests) apart also
+    same-unspent (take 5 tests) (is_spent_creating n part c first) (is_spent_creating n part d first) (drop 6 tests) (apart refl) (also refl)
 
--- a request that sends bytes, and is not refused for what all share, is not spent
-not-spent : (r : Request) (why : Option Refusal) (expires : Option ℕ) (told : Reply) → sends_bytes r ≡ true → ((refused : Refusal) → why ≡ Some refused → told ≡ refusing r refused expires) → IsUnhindered (r, told) → why ≢ Some refusal.Spent
-not-spent r why expires told sends is unhindered spent =
-    hindered r told (refusing r refusal.Spent expires) _ (is refusal.Spent spent) sends unhindered
+-- what is refused as spent is so for what all share
+abbrev IsShared : Numbers → ℕ → Request → Type 0
+IsShared n next r = (is_patch r.method || nat_le next n.last_id) ≡ true
+
+-- of a PATCH
+shared-patch : (n : Numbers) (next : ℕ) (r : Request) → is_patch r.method ≡ true → IsShared n next r
+shared-patch n next r patch = rw patch refl
+
+-- and where the tenant has an id left
+shared-left : (n : Numbers) (next : ℕ) (r : Request) → nat_lt n.last_id next ≡ false → IsShared n next r
+shared-left n next r left = elim (cases_Bool (is_patch r.method)) [
+  | inl patch ↦ rw patch refl
+  | inr other ↦ rw other (le-leb next n.last_id (ltb-false n.last_id next left))
+]
+
+-- then a request that is not refused for what all share is not spent
+not-spent : (n : Numbers) (next : ℕ) (r : Request) (why : Option Refusal) (expires : Option ℕ) (told : Reply) → IsShared n next r → ((refused : Refusal) → why ≡ Some refused → told ≡ refusing r refused expires) → IsUnhindered n next (r, told) → why ≢ Some refusal.Spent
+not-spent n next r why expires told shared is unhindered spent =
+    hindered n next r told (refusing r refusal.Spent expires) _ (is refusal.Spent spent) shared unhindered
 
 -- the answers to a PATCH and the parts after it, where so many and so many blocks were charged
 record SameAppends (r : Request) (id : ℕ) (chunk : Chunk) (now c d : ℕ) (n : Numbers) (part : TenantBook) : Type 0 where
   told : append_reply r (append_answer id chunk now c n part) ≡ append_reply r (append_answer id chunk now d n part)
   after : part_after_append id chunk now c n part ≡ part_after_append id chunk now d n part
 
-same-appends : (r : Request) (id : ℕ) (chunk : Chunk) (now c d : ℕ) (n : Numbers) (part : TenantBook) (seen : Result Upload Refusal) → visible_upload part id now ≡ seen → sends_bytes r ≡ true
-    → IsUnhindered (r, append_reply r (append_answer id chunk now c n part)) → IsUnhindered (r, append_reply r (append_answer id chunk now d n part)) → SameAppends r id chunk now c d n part
-same-appends r id chunk now c d n part (Err why) is sends one other = record { told = rw is refl; after = rw is refl }
-same-appends r id chunk now c d n part (Ok u) is sends one other =
+same-appends : (r : Request) (id : ℕ) (chunk : Chunk) (now c d : ℕ) (n : Numbers) (part : TenantBook) (seen : Result Upload Refusal) → visible_upload part id now ≡ seen → is_patch r.method ≡ true
+    → IsUnhindered n part.next (r, append_reply r (append_answer id chunk now c n part)) → IsUnhindered n part.next (r, append_reply r (append_answer id chunk now d n part)) → SameAppends r id chunk now c d n part
+same-appends r id chunk now c d n part (Err why) is patch one other = record { told = rw is refl; after = rw is refl }
+same-appends r id chunk now c d n part (Ok u) is patch one other =
     let same = same-refusal n part c d u chunk
-    (not-spent r _ u.expires _ sends (λ refused found. rw (is, found) refl) one)
-    (not-spent r _ u.expires _ sends (λ refused found. rw (is, found) refl) other) in
+    (not-spent n part.next r _ u.expires _ (shared-patch n part.next r patch) (λ refused found. rw (is, found) refl) one)
+    (not-spent n part.next r _ u.expires _ (shared-patch n part.next r patch) (λ refused found. rw (is, found) refl) other) in
     record { told = rw (is, same) refl; after = rw (is, same) refl }
 
 -- a creation's reply tells the id, the offset and the expiry alone
@@ -164,11 +180,11 @@ record Same (t u c d : ℕ) (n : Numbers) (part : TenantBook) (r : Request) (now
   told : reply_on t n part c r now op ≡ reply_on u n part d r now op
   after : part_on n part c now op ≡ part_on n part d now op
 
-same-creations : (t u v c d : ℕ) (n : Numbers) (part : TenantBook) (r : Request) (now : ℕ) (new : NewUpload) (first : FirstChunk) → sends_bytes r ≡ true → IsUnhindered (r, reply_on t n part c r now (operation.CreateWith v new first)) → IsUnhindered (r, reply_on u n part d r now (operation.CreateWith v new first)) → Same t u c d n part r now (operation.CreateWith v new first)
-same-creations t u v c d n part r now new first sends one other =
-    let same = same-creation_refusal n part c d new first
-    (not-spent r _ None _ sends (λ refused found. rw found refl) one)
-    (not-spent r _ None _ sends (λ refused found. rw found refl) other) in
+same-creations : (t u v c d : ℕ) (n : Numbers) (part : TenantBook) (r : Request) (now : ℕ) (new : NewUpload) (first : FirstChunk) → IsUnhindered n part.next (r, reply_on t n part c r now (operation.CreateWith v new first)) → IsUnhindered n part.next (r, reply_on u n part d r now (operation.CreateWith v new first)) → Same t u c d n part r now (operation.CreateWith v new first)
+same-creations t u v c d n part r now new first one other =
+    let same = same-creation_refusal n part c d new first (nat_lt n.last_id part.next) refl
+    (λ left. not-spent n part.next r _ None _ (shared-left n part.next r left) (λ refused found. rw found refl) one)
+    (λ left. not-spent n part.next r _ None _ (shared-left n part.next r left) (λ refused found. rw found refl) other) in
     let offset = Some (length first.bytes) in
     let created : Created = record { name = record { tenant = t; id = part.next }; expires = (created_upload n new first.bytes now).expires } in
     record {
@@ -176,11 +192,11 @@ same-creations t u v c d n part r now new first sends one other =
       after = rw same refl;
     }
 
-same : (t u c d : ℕ) (n : Numbers) (part : TenantBook) (r : Request) (now : ℕ) (op : Operation) → SendsItsBytes r op → IsUnhindered (r, reply_on t n part c r now op) → IsUnhindered (r, reply_on u n part d r now op) → Same t u c d n part r now op
+same : (t u c d : ℕ) (n : Numbers) (part : TenantBook) (r : Request) (now : ℕ) (op : Operation) → AppendsByPatch r op → IsUnhindered n part.next (r, reply_on t n part c r now op) → IsUnhindered n part.next (r, reply_on u n part d r now op) → Same t u c d n part r now op
 same t u c d n part r now (operation.Create v new) at one other =
     record { told = created-told r None (creation_refusal n (account_in n part 0) part new no_chunk) _ _ refl refl; after = refl }
 same t u c d n part r now (operation.CreateWith v new first) at one other =
-    same-creations t u v c d n part r now new first at one other
+    same-creations t u v c d n part r now new first one other
 same t u c d n part r now (operation.Concat v new) at one other =
     record { told = created-told r None (concat_refusal n part new now) _ _ refl refl; after = refl }
 same t u c d n part r now (operation.Look name) at one other = record { told = refl; after = refl }
@@ -191,7 +207,7 @@ same t u c d n part r now (operation.Append name chunk) at one other =
 same t u c d n part r now (operation.Terminate name) at one other = record { told = refl; after = refl }
 
 -- the tenant that a request of its own names
-is_of-named : (tenant : List ℕ) (name : Option (List ℕ)) → option_map_or (λ n. bytes_eq n tenant) name false ≡ true → name ≡ Some tenant
+pub is_of-named : (tenant : List ℕ) (name : Option (List ℕ)) → option_map_or (λ n. bytes_eq n tenant) name false ≡ true → name ≡ Some tenant
 is_of-named tenant None is = absurd (false≢true is)
 is_of-named tenant (Some n) is = ap Some ((bytes_eq-Decides n tenant).0 is)
 
@@ -203,7 +219,7 @@ same-parts f g (Some t) None is = absurd cc
 same-parts f g (Some t) (Some u) is = inr (t, u, refl, refl, cc)
 
 -- a tenant that is not in the settings
-refused-none : (r : Request) (name : List ℕ) → tenant_name r.path ≡ Some name → (why : Refusal) × ((s : Settings) → tenant_place s name ≡ None → operation_of s r ≡ Err why)
+pub refused-none : (r : Request) (name : List ℕ) → tenant_name r.path ≡ Some name → (why : Refusal) × ((s : Settings) → tenant_place s name ≡ None → operation_of s r ≡ Err why)
 refused-none r name named = elim (cases_Bool (has_version r)) [
   | inl version ↦ (refusal.Tenant, λ s none. rw (version, named, none) refl)
   | inr other ↦ (refusal.Version, λ s none. rw other refl)
@@ -240,32 +256,32 @@ changed-alike tenant b other after left t u part alike is also_is changes also_c
 }
 
 -- the steps of one operation at two places, whose parts are the same
-steps-alike : (tenant : List ℕ) (b other : PlainBook) (t u : ℕ) (r : Request) (now : ℕ) (op : Operation) (told also : Reply) (after left : PlainBook) → AreAlike tenant b other → tenant_place b.settings tenant ≡ Some t → tenant_place other.settings tenant ≡ Some u → tenant_book b t ≡ tenant_book other u → SendsItsBytes r op
-    → Steps b t r now op told after → Steps other u r now op also left → IsUnhindered (r, told) → IsUnhindered (r, also) → GoAlike tenant told also after left
+steps-alike : (tenant : List ℕ) (b other : PlainBook) (t u : ℕ) (r : Request) (now : ℕ) (op : Operation) (told also : Reply) (after left : PlainBook) → AreAlike tenant b other → tenant_place b.settings tenant ≡ Some t → tenant_place other.settings tenant ≡ Some u → tenant_book b t ≡ tenant_book other u → AppendsByPatch r op
+    → Steps b t r now op told after → Steps other u r now op also left → IsUnhindered b.settings.numbers (tenant_book b t).next (r, told) → IsUnhindered b.settings.numbers (tenant_book b t).next (r, also) → GoAlike tenant told also after left
 steps-alike tenant b other t u r now op told also after left alike is also_is part at one two unhindered also_unhindered =
     let n = b.settings.numbers in
     let p = tenant_book b t in
     let also_told : also ≡ reply_on u n p other.charged r now op = rw (alike.numbers, part) two.told in
     let also_after : Changes other left u (part_on n p other.charged now op) = rw (alike.numbers, part) two.after in
-    let both = same t u b.charged other.charged n p r now op at (subst (λ (told : Reply). IsUnhindered (r, told)) one.told unhindered) (subst (λ (told : Reply). IsUnhindered (r, told)) also_told also_unhindered) in
+    let both = same t u b.charged other.charged n p r now op at (subst (λ (told : Reply). IsUnhindered n p.next (r, told)) one.told unhindered) (subst (λ (told : Reply). IsUnhindered n p.next (r, told)) also_told also_unhindered) in
     record {
       told = one.told ∙ both.told ∙ sym also_told;
       alike = changed-alike tenant b other after left t u (part_on n p other.charged now op) alike is also_is (rw (← both.after) one.after) also_after;
     }
 
-asked-alike : (tenant : List ℕ) (b other : PlainBook) (t u : ℕ) (r : Request) (now : ℕ) (asked : Result Operation Refusal) (told also : Reply) (after left : PlainBook) → AreAlike tenant b other → tenant_place b.settings tenant ≡ Some t → tenant_place other.settings tenant ≡ Some u → tenant_book b t ≡ tenant_book other u → IfOk asked (SendsItsBytes r)
+asked-alike : (tenant : List ℕ) (b other : PlainBook) (t u : ℕ) (r : Request) (now : ℕ) (asked : Result Operation Refusal) (told also : Reply) (after left : PlainBook) → AreAlike tenant b other → tenant_place b.settings tenant ≡ Some t → tenant_place other.settings tenant ≡ Some u → tenant_book b t ≡ tenant_book other u → IfOk asked (AppendsByPatch r)
     → operation_of b.settings r ≡ moved_to t asked → operation_of other.settings r ≡ moved_to u asked
-    → IsStepBy b r now (operation_of b.settings r) told after → IsStepBy other r now (operation_of other.settings r) also left → IsUnhindered (r, told) → IsUnhindered (r, also) → GoAlike tenant told also after left
+    → IsStepBy b r now (operation_of b.settings r) told after → IsStepBy other r now (operation_of other.settings r) also left → IsUnhindered b.settings.numbers (tenant_book b t).next (r, told) → IsUnhindered b.settings.numbers (tenant_book b t).next (r, also) → GoAlike tenant told also after left
 asked-alike tenant b other t u r now (Err why) told also after left alike is also_is part at asks also_asks step also_step unhindered also_unhindered =
     refused-alike tenant b other r now told also after left why alike asks also_asks step also_step
 asked-alike tenant b other t u r now (Ok op) told also after left alike is also_is part at asks also_asks step also_step unhindered also_unhindered =
     steps-alike tenant b other t u r now op told also after left alike is also_is part at
-    (steps b t r now op told after (place-within b tenant t alike.each is) (rw asks at step) unhindered)
-    (steps other u r now op also left (place-within other tenant u alike.other_each also_is) (rw also_asks at also_step) also_unhindered)
+    (steps b t r now op told after b.settings.numbers (tenant_book b t).next (place-within b tenant t alike.each is) (rw asks at step) unhindered)
+    (steps other u r now op also left b.settings.numbers (tenant_book b t).next (place-within other tenant u alike.other_each also_is) (rw also_asks at also_step) also_unhindered)
     unhindered also_unhindered
 
 by-alike : (tenant : List ℕ) (b other : PlainBook) (r : Request) (now : ℕ) (told also : Reply) (after left : PlainBook) → AreAlike tenant b other → is_of tenant r ≡ true
-    → IsStepBy b r now (operation_of b.settings r) told after → IsStepBy other r now (operation_of other.settings r) also left → IsUnhindered (r, told) → IsUnhindered (r, also) → GoAlike tenant told also after left
+    → IsStepBy b r now (operation_of b.settings r) told after → IsStepBy other r now (operation_of other.settings r) also left → IsUnhinderedAt b tenant (r, told) → IsUnhinderedAt b tenant (r, also) → GoAlike tenant told also after left
 by-alike tenant b other r now told also after left alike own step also_step unhindered also_unhindered =
     let named = is_of-named tenant (tenant_name r.path) own in
     elim (same-parts (tenant_book b) (tenant_book other) (tenant_place b.settings tenant) (tenant_place other.settings tenant) alike.part) [
@@ -274,12 +290,12 @@ by-alike tenant b other r now told also after left alike own step also_step unhi
           refused-alike tenant b other r now told also after left refused.0 alike (refused.1 b.settings none.0) (refused.1 other.settings none.1) step also_step
       | inr there ↦
           let asked = asks-for r tenant named in
-          asked-alike tenant b other there.0 there.1 r now asked.of told also after left alike there.2 there.3 there.4 asked.at (asked.each b.settings there.0 there.2) (asked.each other.settings there.1 there.3) step also_step unhindered also_unhindered
+          asked-alike tenant b other there.0 there.1 r now asked.of told also after left alike there.2 there.3 there.4 asked.at (asked.each b.settings there.0 there.2) (asked.each other.settings there.1 there.3) step also_step (rw there.2 at unhindered) (rw there.2 at also_unhindered)
     ]
 
 -- a request of the tenant gets the same reply on both, and leaves them alike
 pub own-step : (tenant : List ℕ) (b other : PlainBook) (r : Request) (now : ℕ) (told also : Reply) (after left : PlainBook) → AreAlike tenant b other → is_of tenant r ≡ true
-    → IsStep b r now told after → IsStep other r now also left → IsUnhindered (r, told) → IsUnhindered (r, also) → GoAlike tenant told also after left
+    → IsStep b r now told after → IsStep other r now also left → IsUnhinderedAt b tenant (r, told) → IsUnhinderedAt b tenant (r, also) → GoAlike tenant told also after left
 own-step tenant b other r now told also after left alike own step also_step unhindered also_unhindered = elim (cases_Bool (is_options r.method)) [
   | inl options ↦
       let one = rw options at step in

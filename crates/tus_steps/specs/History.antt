@@ -1,14 +1,14 @@
 -- What happens at a server, one event after another, and what of it is one tenant's own.
-use Rattle.std.specs.Prelude.{◌≡◌, ℕ, Bool, true, false, ◌||◌, List, [], ◌∷◌, filter, map, Option, option_map, bytes_eq, if◌then◌else◌}
+use Rattle.std.specs.Prelude.{◌≡◌, ℕ, ◌+◌, Bool, true, false, ◌||◌, nat_le, List, [], ◌∷◌, filter, map, Option, option_map, bytes_eq, if◌then◌else◌}
 use Rattle.std.specs.Option.{option_map_or}
 use Rattle.upload_book.specs.declared.refusal.Refusal.TheVariants as refusal
+use Rattle.upload_book.specs.declared.settings.Numbers.{Numbers}
 use Rattle.upload_book.specs.PlainBook.{PlainBook, tenant_book}
 use Rattle.upload_book.specs.Settings.{tenant_place}
 use Rattle.upload_book.specs.Sweep.{book_after_sweep}
 use Rattle.upload_book.specs.TenantBook.{TenantBook}
 use Rattle.tus_steps.specs.declared.reply.Reply.{Reply}
-use Rattle.tus_steps.specs.declared.reply.Reply.TheVariants.{Refused}
-use Rattle.tus_steps.specs.Creation.{is_with_upload}
+use Rattle.tus_steps.specs.declared.reply.Reply.TheVariants.{Created, Refused}
 use Rattle.tus_steps.specs.Method.{is_patch}
 use Rattle.tus_steps.specs.Request.{Request}
 use Rattle.tus_steps.specs.Route.{tenant_name}
@@ -57,18 +57,23 @@ exchanges_of tenant _ _ = []
 abbrev pub replies_to : List ℕ → List Event → List Reply → List Reply
 replies_to tenant events replies = map {A = Request × Reply} {B = Reply} (λ exchange. exchange.1) (exchanges_of tenant events replies)
 
--- the request sends an upload bytes: it is a PATCH, or a creation that carries some
-abbrev pub sends_bytes : Request → Bool
-sends_bytes r = is_patch r.method || is_with_upload r
-
--- The request may be refused for what all tenants share: memory, or the blocks that they may be charged in all. Where one
--- that sends no bytes is refused as spent, it is the tenant's own ids that are. A creation that carries bytes may be
--- refused so for either, and counts here.
-abbrev pub lacks_shared : Request → Reply → Bool
-lacks_shared r (Refused refusal.Memory head at expires) = true
-lacks_shared r (Refused refusal.Spent head at expires) = sends_bytes r
-lacks_shared r _ = false
+-- The request is refused for what all tenants share, by the numbers of the settings and the id that the tenant's next
+-- upload would get: for memory, or for the blocks that they may be charged in all. A PATCH is refused as spent for these
+-- alone. A creation may be so for the tenant's own ids too; but then it has none left, and this is no such refusal.
+abbrev pub lacks_shared : Numbers → ℕ → Request → Reply → Bool
+lacks_shared n next r (Refused refusal.Memory head at expires) = true
+lacks_shared n next r (Refused refusal.Spent head at expires) = is_patch r.method || nat_le next n.last_id
+lacks_shared n next r _ = false
 
 -- the part of the tenant of a name, if there is one
 abbrev pub part_of : PlainBook → List ℕ → Option TenantBook
 part_of b tenant = option_map (tenant_book b) (tenant_place b.settings tenant)
+
+-- the id that the tenant's next upload gets: 1 where there is no such tenant, which never gets one
+abbrev pub next_of : PlainBook → List ℕ → ℕ
+next_of b tenant = option_map_or (λ (part : TenantBook). part.next) (part_of b tenant) 1
+
+-- the same after a reply to a request of the tenant: a creation tells its id, and the next one follows it
+abbrev pub next_after : ℕ → Reply → ℕ
+next_after next (Created tenant id offset expires) = id + 1
+next_after next _ = next

@@ -10,7 +10,11 @@ pub fn requests_follow_the_order()
 
 /// A tenant's request is answered by the request, its moment, the numbers of the settings and the tenant's part of
 /// the book, which every other request leaves; and what a sweep leaves of a part, that part and the moment say. The
-/// exceptions are refusals for what all tenants share: memory, and the total of blocks that they may be charged.
+/// replies to a tenant tell which id its next upload gets.
+///
+/// The exceptions are refusals for what all tenants share: memory, and the total of blocks that they may be charged.
+/// A PATCH is `spent` for that total alone. A creation that is `spent` while the tenant has an id left is so for it; one
+/// for which there is no id is none of the exceptions.
 pub fn steps_see_one_tenant()
     ensures { StepsSeeOneTenant }
 {}
@@ -20,8 +24,9 @@ pub fn steps_see_one_tenant()
 /// of its own events, which are its requests and all sweeps.
 ///
 /// The premise is that none of these replies, in either list, is a refusal for what all tenants share: memory, or the
-/// total of blocks that they may be charged. A request that sends bytes and is refused as `spent` counts as one, also
-/// where it is the tenant's own ids that are spent.
+/// total of blocks that they may be charged. For which a reply is `spent`, the tenant's own requests and replies say: a
+/// PATCH always for that total, and a creation as long as the replies so far left the tenant an id. A creation for which
+/// there is no id is refused as `spent` in both lists.
 pub fn own_events()
     ensures { OwnEvents }
 {}
