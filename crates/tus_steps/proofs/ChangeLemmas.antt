@@ -28,7 +28,8 @@ use Rattle.upload_book.proofs.Steps.CreateSteps.{after-empty, empty-answer, none
 use Rattle.upload_book.proofs.Heads.HeadParts.{IsFollowed}
 use Rattle.upload_book.proofs.Heads.HeadsFewer.{heads-terminate}
 use Rattle.upload_book.proofs.Lawful.Outcomes.{part_after_create-refused}
-use Rattle.tus_steps.specs.Changing.{IsChangeStep, change_for, change_reply}
+use Rattle.tus_steps.specs.Asked.{asked_for, change_in}
+use Rattle.tus_steps.specs.Changing.{IsChangeStep, change_reply}
 use Rattle.tus_steps.specs.declared.reply.Reply.{Reply}
 use Rattle.tus_steps.specs.Method.{is_options}
 use Rattle.tus_steps.specs.Operation.{operation_of}
@@ -84,7 +85,7 @@ stays-unfollowed b after head followed none = (subst (IsFollowed b after) none f
 
 module _ (b : PlainBook) (r : Request) (now : ℕ) (lawful : IsLawful b) (other : is_options r.method ≡ false) where
   -- the step of a creation that carries nothing
-  create-step : (t : ℕ) (new : NewUpload) → operation_of b.settings r ≡ Ok (operation.Create t new) → IsChangeStep b r now (change_for (operation.Create t new))
+  create-step : (t : ℕ) (new : NewUpload) → operation_of b.settings r ≡ Ok (operation.Create t new) → IsChangeStep b r now (change_in (asked_for (operation.Create t new)))
   create-step t new asked =
       let answer : Result Created Refusal = answer_of b t (create_answer t new no_chunk now b.charged) in
       let after : PlainBook = book_after b t (part_after_create new no_chunk now b.charged) in
@@ -98,7 +99,7 @@ module _ (b : PlainBook) (r : Request) (now : ℕ) (lawful : IsLawful b) (other 
         lacks = λ lacks. absurd (omega (arith, lacks.1, none-added b.settings.numbers.block_size));
       }
 
-  create_with-step : (t : ℕ) (new : NewUpload) (first : FirstChunk) → operation_of b.settings r ≡ Ok (operation.CreateWith t new first) → IsChangeStep b r now (change_for (operation.CreateWith t new first))
+  create_with-step : (t : ℕ) (new : NewUpload) (first : FirstChunk) → operation_of b.settings r ≡ Ok (operation.CreateWith t new first) → IsChangeStep b r now (change_in (asked_for (operation.CreateWith t new first)))
   create_with-step t new first asked =
       let answer : Result Created Refusal = answer_of b t (create_answer t new first now b.charged) in
       record {
@@ -107,7 +108,7 @@ module _ (b : PlainBook) (r : Request) (now : ℕ) (lawful : IsLawful b) (other 
         lacks = λ lacks. step-by b r now (operation.CreateWith t new first) _ b other asked (inr (lacks, refl, refl));
       }
 
-  concat-step : (t : ℕ) (new : NewFinal) → operation_of b.settings r ≡ Ok (operation.Concat t new) → IsChangeStep b r now (change_for (operation.Concat t new))
+  concat-step : (t : ℕ) (new : NewFinal) → operation_of b.settings r ≡ Ok (operation.Concat t new) → IsChangeStep b r now (change_in (asked_for (operation.Concat t new)))
   concat-step t new asked =
       let answer : Result Created Refusal = answer_of b t (concat_answer t new now) in
       record {
@@ -116,7 +117,7 @@ module _ (b : PlainBook) (r : Request) (now : ℕ) (lawful : IsLawful b) (other 
         lacks = λ lacks. step-by b r now (operation.Concat t new) _ b other asked (inr (lacks, refl, refl));
       }
 
-  append-step : (name : Name) (chunk : Chunk) → operation_of b.settings r ≡ Ok (operation.Append name chunk) → IsChangeStep b r now (change_for (operation.Append name chunk))
+  append-step : (name : Name) (chunk : Chunk) → operation_of b.settings r ≡ Ok (operation.Append name chunk) → IsChangeStep b r now (change_in (asked_for (operation.Append name chunk)))
   append-step name chunk asked =
       let answer : Result Appended Refused = answer_of b name.tenant (append_answer name.id chunk now b.charged) in
       record {
@@ -125,7 +126,7 @@ module _ (b : PlainBook) (r : Request) (now : ℕ) (lawful : IsLawful b) (other 
         lacks = λ lacks. step-by b r now (operation.Append name chunk) _ b other asked (inr (lacks, reply-appended r (answer_of b name.tenant (append_lacking name.id now)), refl));
       }
 
-  terminate-step : (name : Name) → operation_of b.settings r ≡ Ok (operation.Terminate name) → IsChangeStep b r now (change_for (operation.Terminate name))
+  terminate-step : (name : Name) → operation_of b.settings r ≡ Ok (operation.Terminate name) → IsChangeStep b r now (change_in (asked_for (operation.Terminate name)))
   terminate-step name asked =
       let answer : Result Removed Refusal = answer_of b name.tenant (terminate_answer name.id now) in
       record {
@@ -139,7 +140,7 @@ module _ (b : PlainBook) (r : Request) (now : ℕ) (lawful : IsLawful b) (other 
   unasked op told after asked step = rw (other, asked) at step
 
   -- the change of a request is its step
-  pub change-step : (op : Operation) → operation_of b.settings r ≡ Ok op → IsChangeStep b r now (change_for op)
+  pub change-step : (op : Operation) → operation_of b.settings r ≡ Ok op → IsChangeStep b r now (change_in (asked_for op))
   change-step (operation.Create t new) asked = create-step t new asked
   change-step (operation.CreateWith t new first) asked = create_with-step t new first asked
   change-step (operation.Concat t new) asked = concat-step t new asked

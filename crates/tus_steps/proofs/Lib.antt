@@ -8,3 +8,4 @@ pub mod NextLemmas
 pub mod HistoryLemmas
 pub mod LawsLemmas
 pub mod ChangeLemmas
+pub mod AskedLemmas

@@ -1,44 +1,25 @@
 -- A request that changes the book, where that is done in two halves (tus 1.0.0, Core Protocol, Creation, Concatenation
 -- and Termination).
-use Rattle.std.specs.Prelude.{◌≡◌, ℕ, length, Option, Some, None, Result, Ok, Err, if◌then◌else◌}
-use Rattle.upload_book.specs.Change.{MayLackFor, book_after_change, change_answer, change_lacking}
+use Rattle.std.specs.Prelude.{◌≡◌, ℕ, length, Option, Some, None, IfSome, Result, Ok, Err}
+use Rattle.upload_book.specs.Change.{CanBeMade, MayLackFor, book_after_change, change_answer, change_lacking}
 use Rattle.upload_book.specs.declared.append.Refused.{Refused}
-use Rattle.upload_book.specs.declared.change.Change.TheVariants as change
 use Rattle.upload_book.specs.declared.change.Outcome.{Outcome}
 use Rattle.upload_book.specs.declared.change.Outcome.TheVariants.{Appended, Created, Removed, Swept}
-use Rattle.upload_book.specs.declared.operation.Operation.{Operation}
-use Rattle.upload_book.specs.declared.operation.Operation.TheVariants.{Append, Concat, Create, CreateWith, Terminate}
-use Rattle.upload_book.specs.declared.refusal.Refusal.{Refusal}
-use Rattle.upload_book.specs.FirstChunk.{no_chunk}
+use Rattle.upload_book.specs.Lawful.{IsLawful}
 use Rattle.upload_book.specs.PlainBook.{PlainBook}
 use Rattle.upload_book.specs.Settings.{Settings}
+use Rattle.tus_steps.specs.Asked.{asked_in, change_in}
+use Rattle.tus_steps.specs.declared.asked.Asked.{Asked}
 use Rattle.tus_steps.specs.declared.requested_change.ChangeOf.{ChangeOf}
 use Rattle.tus_steps.specs.declared.reply.Reply.{Reply}
 use Rattle.tus_steps.specs.declared.reply.Reply.TheVariants.{Deleted}
-use Rattle.tus_steps.specs.Method.{is_options}
-use Rattle.tus_steps.specs.Operation.{operation_of}
 use Rattle.tus_steps.specs.Reply.{append_reply, creation_reply, refusing}
 use Rattle.tus_steps.specs.Request.{Request}
 use Rattle.tus_steps.specs.Step.{IsStep}
 
--- the change that an operation is, if it is one: a creation that carries nothing has no first bytes, and its reply does
--- not tell how many there are
-abbrev pub change_for : Operation → Option ChangeOf
-change_for (Create tenant new) = Some (record { change = change.Create tenant new no_chunk; offset = None })
-change_for (CreateWith tenant new first) = Some (record { change = change.Create tenant new first; offset = Some (length first.bytes) })
-change_for (Concat tenant new) = Some (record { change = change.Concat tenant new; offset = None })
-change_for (Append name chunk) = Some (record { change = change.Append name chunk; offset = None })
-change_for (Terminate name) = Some (record { change = change.Terminate name; offset = None })
-change_for _ = None
-
--- the same of what a request asks for, if anything
-abbrev pub change_by : Result Operation Refusal → Option ChangeOf
-change_by (Ok op) = change_for op
-change_by (Err why) = None
-
 -- the change that a request asks for
 abbrev pub change_found : Settings → Request → Option ChangeOf
-change_found s r = if is_options r.method then None else change_by (operation_of s r)
+change_found s r = change_in (asked_in s r)
 
 -- the reply to what a change gave
 abbrev pub change_reply : Request → Option ℕ → Result Outcome Refused → Reply
@@ -59,3 +40,10 @@ pub record IsStepOf (b : PlainBook) (r : Request) (now : ℕ) (asked : ChangeOf)
 abbrev pub IsChangeStep : PlainBook → Request → ℕ → Option ChangeOf → Type 0
 IsChangeStep b r now (Some asked) = IsStepOf b r now asked
 IsChangeStep b r now None = (reply : Reply) (after : PlainBook) → IsStep b r now reply after → after ≡ b
+
+-- What was found of a request is what it asks for under these settings. A change may be given to a book of them, and on
+-- each lawful one it is the request's step at every moment; a request that asks for none leaves the book.
+pub record IsFound (s : Settings) (r : Request) (asked : Asked) : Type 0 where
+  pub is : asked ≡ asked_in s r
+  pub ready : IfSome (change_in asked) (λ found. CanBeMade (length s.tenants) found.change)
+  pub step : (b : PlainBook) (now : ℕ) → IsLawful b → b.settings ≡ s → IsChangeStep b r now (change_in asked)

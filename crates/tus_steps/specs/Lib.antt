@@ -8,6 +8,7 @@ pub mod Creation
 pub mod Operation
 pub mod Reply
 pub mod Step
+pub mod Asked
 pub mod Changing
 pub mod Head
 pub mod Laws

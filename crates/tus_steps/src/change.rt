@@ -1,15 +1,15 @@
 ghost use Rattle.std.specs.Prelude.{◌≡◌, ℕ, IfSome, length};
-ghost use Rattle.tus_steps.specs.Changing.{IsChangeStep, change_for as change_for_operation, change_found, change_reply as reply_to};
-ghost use Rattle.tus_steps.specs.Operation.{CanBeAsked};
+ghost use Rattle.tus_steps.specs.Changing.{IsChangeStep, change_found, change_reply as reply_to};
 ghost use Rattle.upload_book.specs.Change.{CanBeMade};
 ghost use Rattle.upload_book.specs.Lawful.{IsLawful};
 ghost use Rattle.upload_book.specs.PlainBook.{PlainBook};
 
+use crate::asked::{Asked, asked_of};
 use crate::creation::PartIds;
 use crate::reply::Reply;
 use crate::request::Request;
 use crate::requested_change::ChangeOf;
-use upload_book::{Change, FirstChunk, Operation, Outcome, Refused, Settings};
+use upload_book::{Outcome, Refused, Settings};
 
 /// Finds the change that a request asks for, to one who makes it in two halves; a concatenation borrows from `ids`.
 /// There is none where [`crate::answer`] changes nothing: where the request is a HEAD, a GET or OPTIONS, and where it
@@ -29,40 +29,10 @@ where
     ensures step { (b : PlainBook) (now : ℕ) → IsLawful b → b.settings ≡ settings.now
         → IsChangeStep b request.now now result }
 {
-    if request.method.is_options() {
+    let Asked::Change(asked) = asked_of(settings, request, ids) else {
         return None;
-    }
-    match request.operation(settings, ids) {
-        Ok(operation) => change_for(operation),
-        Err(_) => None,
-    }
-}
-
-// The change that an operation is, if it is one.
-fn change_for<'a>(operation: Operation<'a>) -> Option<ChangeOf<'a>>
-    ensures value { result ≡ change_for_operation operation.entry }
-    ensures ready { (tenants : ℕ) → CanBeAsked tenants operation.entry
-        → IfSome result (λ asked. CanBeMade tenants asked.change) }
-{
-    let (change, offset) = match operation {
-        Operation::Create { tenant, new } => {
-            let first = FirstChunk {
-                typed: true,
-                check: None,
-                bytes: b"",
-            };
-            (Change::Create { tenant, new, first }, None)
-        }
-        Operation::CreateWith { tenant, new, first } => {
-            let offset = first.bytes.len() as u64;
-            (Change::Create { tenant, new, first }, Some(offset))
-        }
-        Operation::Concat { tenant, new } => (Change::Concat { tenant, new }, None),
-        Operation::Append { name, chunk } => (Change::Append { name, chunk }, None),
-        Operation::Terminate(name) => (Change::Terminate(name), None),
-        Operation::Look(_) | Operation::Content(_) => return None,
     };
-    Some(ChangeOf { change, offset })
+    Some(asked)
 }
 
 /// The reply to a request that asked for a change, by what the change gave or by why it was refused; `offset` is that

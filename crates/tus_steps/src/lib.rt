@@ -2,6 +2,7 @@
 //! and applied as the plain book does.
 #![tactic(auto)]
 
+mod asked;
 mod change;
 mod creation;
 mod field;
@@ -18,6 +19,7 @@ mod runs;
 mod step;
 mod tus_fields;
 
+pub use asked::{Asked, answer_asked, asked_of};
 pub use change::{change_of, change_reply};
 pub use creation::PartIds;
 pub use field::Field;

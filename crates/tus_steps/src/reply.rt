@@ -1,6 +1,6 @@
 use crate::request::Request;
 use tus_text::{Tenant, Text};
-use upload_book::{Appended, Content, Created, HeadRow, Moment, Refusal, Refused, Removed};
+use upload_book::{Appended, Content, Created, HeadRow, Moment, Refusal, Refused};
 
 /// What the path of a request names, as far as a reply tells it.
 #[derive(Clone, Copy, Debug, PartialEq, Eq)]
@@ -57,7 +57,7 @@ pub enum Reply {
 
 impl Reply {
     ghost use Rattle.std.specs.Prelude.{◌≡◌};
-    ghost use Rattle.tus_steps.specs.Reply.{refusing, creation_reply, content_reply, append_reply, deletion_reply};
+    ghost use Rattle.tus_steps.specs.Reply.{refusing, creation_reply, content_reply, append_reply};
 
     /// The reply that refuses the request, and tells when its upload expires.
     pub fn refusing(request: &Request, refusal: Refusal, expires: Option<Moment>) -> Reply
@@ -110,16 +110,6 @@ impl Reply {
                 expires: appended.expires,
             },
             Err(refused) => Reply::refusing(request, refused.refusal, refused.expires),
-        }
-    }
-
-    /// The reply to a DELETE.
-    pub fn to_deletion(request: &Request, outcome: Result<Removed, Refusal>) -> Reply
-        ensures { result ≡ deletion_reply request.now outcome }
-    {
-        match outcome {
-            Ok(_) => Reply::Deleted,
-            Err(refusal) => Reply::refusing(request, refusal, None),
         }
     }
 }

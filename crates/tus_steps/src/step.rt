@@ -1,13 +1,16 @@
-ghost use Rattle.std.specs.Prelude.{◌≡◌};
+ghost use Rattle.std.specs.Prelude.{◌≡◌, Err, IfErr, IfOk, Ok, OnErr, OnOk, length};
 ghost use Rattle.upload_book.specs.Book.{plain_of};
+ghost use Rattle.upload_book.specs.Change.{CanBeMade, MayLackFor, book_after_change, change_answer, change_lacking};
+ghost use Rattle.upload_book.specs.Refusal.{IsAnswer};
 ghost use Rattle.tus_steps.specs.Reply.{IsRefusing};
 ghost use Rattle.tus_steps.specs.Step.{IsStep};
 
+use crate::asked::{Asked, answer_asked, asked_of};
+use crate::change::change_reply;
 use crate::creation::PartIds;
-use crate::head::head_reply;
 use crate::reply::Reply;
 use crate::request::Request;
-use upload_book::{Book, Moment, Operation};
+use upload_book::{Book, Change, Moment, Outcome, Refused};
 
 /// Answers a request and applies it to the book, as the plain book does at this moment: refused by the
 /// first refusal of the order that applies, and then the book is as it was, or else by its operation.
@@ -18,33 +21,28 @@ pub fn answer(book: &mut Book, request: &Request, now: Moment) -> Reply
     ensures refused { IsRefusing result → book.new ≡ book.old }
     ensures settings { (plain_of book.new).settings ≡ (plain_of book.old).settings }
 {
-    if request.method.is_options() {
-        return Reply::Options {
-            max_size: book.settings().numbers().max_size,
-        };
-    }
     let mut ids = PartIds::new();
-    match request.operation(book.settings(), &mut ids) {
-        Err(refusal) => Reply::refusing(request, refusal, None),
-        Ok(Operation::Create { tenant, new }) => {
-            let outcome = book.create(tenant, new, now);
-            Reply::to_creation(request, None, outcome)
+    match asked_of(book.settings(), request, &mut ids) {
+        Asked::Change(asked) => {
+            let offset = asked.offset;
+            let outcome = make(book, asked.change, now);
+            change_reply(request, offset, outcome)
         }
-        Ok(Operation::CreateWith { tenant, new, first }) => {
-            let offset = first.bytes.len() as u64;
-            let outcome = book.create_with(tenant, new, first, now);
-            Reply::to_creation(request, Some(offset), outcome)
-        }
-        Ok(Operation::Concat { tenant, new }) => {
-            let outcome = book.concat(tenant, new, now);
-            Reply::to_creation(request, None, outcome)
-        }
-        Ok(Operation::Look(name)) => head_reply(book.look(&name, now)),
-        Ok(Operation::Content(name)) => Reply::to_content(request, book.content(&name, now)),
-        Ok(Operation::Append { name, chunk }) => {
-            let outcome = book.append(&name, chunk, now);
-            Reply::to_append(request, outcome)
-        }
-        Ok(Operation::Terminate(name)) => Reply::to_deletion(request, book.terminate(&name, now)),
+        asked => answer_asked(book, request, asked, now),
     }
+}
+
+// Makes a change of the book, or finds why it is refused.
+fn make(book: &mut Book, change: Change, now: Moment) -> Result<Outcome, Refused>
+    requires { CanBeMade (length (plain_of book.old).settings.tenants) change }
+    ensures answer { IfOk result (λ told. change_answer (plain_of book.old) change.entry now ≡ Ok told) }
+    ensures made { OnOk result (plain_of book.new ≡ book_after_change (plain_of book.old) change.entry now) }
+    ensures refused { IfErr result (λ why. IsAnswer
+        (change_answer (plain_of book.old) change.entry now)
+        (MayLackFor (plain_of book.old) change.entry now)
+        (change_lacking (plain_of book.old) change.entry now) (Err why)) }
+    ensures unchanged { OnErr result (book.new ≡ book.old) }
+{
+    let ready = book.prepare(change, now)?;
+    Ok(book.commit(ready))
 }

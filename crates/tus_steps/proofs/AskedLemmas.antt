@@ -1,0 +1,160 @@
+-- What was found of a request is what it asks for, and its step.
+use Rattle.std.proofs.Common.{◌≡◌, ℕ, true, false, List, length, Option, None, IfSome, Result, Ok, Err, IfOk, IfErr, OnOk, OnErr, inl, inr, refl, sym, ap, ◌∙◌, subst}
+use Rattle.std.proofs.lemmas.Bool.{cases_Bool}
+use Rattle.upload_book.specs.Change.{CanBeMade, MayLackFor, book_after_change, change_answer, change_lacking}
+use Rattle.upload_book.specs.Content.{content_answer}
+use Rattle.upload_book.specs.declared.append.Refused.{Refused}
+use Rattle.upload_book.specs.declared.change.Change.{Change}
+use Rattle.upload_book.specs.declared.change.Change.TheVariants as change
+use Rattle.upload_book.specs.declared.change.Outcome.{Outcome}
+use Rattle.upload_book.specs.declared.change.Outcome.TheVariants as outcome
+use Rattle.upload_book.specs.declared.head_row.Name.{Name}
+use Rattle.upload_book.specs.declared.operation.Operation.{Operation}
+use Rattle.upload_book.specs.declared.operation.Operation.TheVariants as operation
+use Rattle.upload_book.specs.declared.refusal.Refusal.{Refusal}
+use Rattle.upload_book.specs.declared.refusal.Refusal.TheVariants as refusal
+use Rattle.upload_book.specs.Look.{look_answer}
+use Rattle.upload_book.specs.Operation.{MayLackMemory}
+use Rattle.upload_book.specs.PlainBook.{PlainBook, answer_of}
+use Rattle.upload_book.specs.Refusal.{IsAnswer}
+use Rattle.upload_book.specs.Settings.{Settings}
+use Rattle.tus_steps.specs.Asked.{asked_by, asked_for, asked_in, change_in}
+use Rattle.tus_steps.specs.Changing.{IsFound, IsStepOf, change_reply}
+use Rattle.tus_steps.specs.declared.asked.Asked.{Asked}
+use Rattle.tus_steps.specs.declared.asked.Asked.TheVariants as asked
+use Rattle.tus_steps.specs.declared.reply.Reply.{Reply}
+use Rattle.tus_steps.specs.declared.reply.Reply.TheVariants as reply
+use Rattle.tus_steps.specs.declared.requested_change.ChangeOf.{ChangeOf}
+use Rattle.tus_steps.specs.Method.{is_options}
+use Rattle.tus_steps.specs.Operation.{operation_of}
+use Rattle.tus_steps.specs.Reply.{IsRefusing, content_reply, head_reply, refusing}
+use Rattle.tus_steps.specs.Request.{Request}
+use Rattle.tus_steps.specs.Step.{IsStep}
+use Rattle.tus_steps.proofs.ChangeLemmas.{change-step}
+use Rattle.tus_steps.proofs.StepLemmas.{step-by}
+
+-- what was found of a request: OPTIONS,
+pub found-options : (s : Settings) (r : Request) → is_options r.method ≡ true → IsFound s r asked.Options
+found-options s r options = record {
+  is = rw options refl;
+  ready = tt;
+  step = λ b now lawful same told after step. (rw options at step).1;
+}
+
+-- one that is refused before the book is asked,
+pub found-refused : (s : Settings) (r : Request) (why : Refusal) → is_options r.method ≡ false → operation_of s r ≡ Err why → IsFound s r (asked.Refused (refusing r why None))
+found-refused s r why other asks = record {
+  is = rw (other, asks) refl;
+  ready = tt;
+  step = λ b now lawful same told after step. (rw (other, ap (λ (s : Settings). operation_of s r) same ∙ asks) at step).1;
+}
+
+-- and one for an operation
+pub found-asked : (s : Settings) (r : Request) (op : Operation) → is_options r.method ≡ false → operation_of s r ≡ Ok op → IfSome (change_in (asked_for op)) (λ (a : ChangeOf). CanBeMade (length s.tenants) a.change) → IsFound s r (asked_for op)
+found-asked s r op other asks ready = record {
+  is = rw (other, asks) refl;
+  ready = ready;
+  step = λ b now lawful same. change-step b r now lawful other op (ap (λ (s : Settings). operation_of s r) same ∙ asks);
+}
+
+-- what is no change has none
+pub asks-none : (asks : Asked) → ((change : ChangeOf) → asks ≡ asked.Change change → ⊥) → change_in asks ≡ None
+asks-none asked.Options other = refl
+asks-none (asked.Refused told) other = refl
+asks-none (asked.Look name) other = refl
+asks-none (asked.Content name) other = refl
+asks-none (asked.Change change) other = absurd (other change refl)
+
+-- What a request asks for, by its operation: one for a change is none of the others.
+abbrev pub IsAsked : Settings → Request → Asked → Type 0
+IsAsked s r asked.Options = is_options r.method ≡ true
+IsAsked s r (asked.Refused told) = (is_options r.method ≡ false) × (why : Refusal) × (operation_of s r ≡ Err why) × (told ≡ refusing r why None)
+IsAsked s r (asked.Look name) = (is_options r.method ≡ false) × (operation_of s r ≡ Ok (operation.Look name))
+IsAsked s r (asked.Content name) = (is_options r.method ≡ false) × (operation_of s r ≡ Ok (operation.Content name))
+IsAsked s r (asked.Change change) = is_options r.method ≡ false
+
+asks-by : (s : Settings) (r : Request) (asks : Result Operation Refusal) → is_options r.method ≡ false → operation_of s r ≡ asks → IsAsked s r (asked_by r asks)
+asks-by s r (Err why) other is = (other, why, is, refl)
+asks-by s r (Ok (operation.Create tenant new)) other is = other
+asks-by s r (Ok (operation.CreateWith tenant new first)) other is = other
+asks-by s r (Ok (operation.Concat tenant new)) other is = other
+asks-by s r (Ok (operation.Look name)) other is = (other, is)
+asks-by s r (Ok (operation.Content name)) other is = (other, is)
+asks-by s r (Ok (operation.Append name chunk)) other is = other
+asks-by s r (Ok (operation.Terminate name)) other is = other
+
+pub asks-in : (s : Settings) (r : Request) (asks : Asked) → asks ≡ asked_in s r → IsAsked s r asks
+asks-in s r asks is = elim (cases_Bool (is_options r.method)) [
+  | inl options ↦
+      let found : asked_in s r ≡ asked.Options = rw options refl in
+      subst (IsAsked s r) (sym (is ∙ found)) options
+  | inr other ↦
+      let found : asked_in s r ≡ asked_by r (operation_of s r) = rw other refl in
+      subst (IsAsked s r) (sym (is ∙ found)) (asks-by s r (operation_of s r) other refl)
+]
+
+module _ (b : PlainBook) (r : Request) (now : ℕ) where
+  -- the steps of a request that asks for no change: OPTIONS,
+  pub options-step : asked.Options ≡ asked_in b.settings r → IsStep b r now (reply.Options b.settings.numbers.max_size) b
+  options-step is = let options = asks-in b.settings r asked.Options is in rw options (refl, refl)
+
+  -- one that is refused,
+  pub refused-step : (told : Reply) → asked.Refused told ≡ asked_in b.settings r → IsStep b r now told b
+  refused-step told is =
+      let asks = asks-in b.settings r (asked.Refused told) is in
+      rw (asks.0, asks.2) (asks.3, refl)
+
+  -- a HEAD,
+  pub look-step : (name : Name) → asked.Look name ≡ asked_in b.settings r → IsStep b r now (head_reply (answer_of b name.tenant (look_answer name.id now))) b
+  look-step name is =
+      let asks = asks-in b.settings r (asked.Look name) is in
+      step-by b r now (operation.Look name) _ b asks.0 asks.1 (inl (refl, refl))
+
+  -- and a GET
+  pub content-step : (name : Name) (bytes : Result (List ℕ) Refusal) → asked.Content name ≡ asked_in b.settings r
+      → IsAnswer (answer_of b name.tenant (content_answer name.id now)) (MayLackMemory b (operation.Content name) now) (Err refusal.Memory) bytes
+      → IsStep b r now (content_reply r bytes) b
+  content-step name bytes is answer =
+      let asks = asks-in b.settings r (asked.Content name) is in
+      step-by b r now (operation.Content name) _ b asks.0 asks.1 (elim answer [
+        | inl same ↦ inl (ap (content_reply r) same, refl)
+        | inr lacks ↦ inr (lacks.0, ap (content_reply r) lacks.1, refl)
+      ])
+
+  -- a step, by other names of what was given and left
+  replied : (offset : Option ℕ) (result answer : Result Outcome Refused) (after left : PlainBook) → result ≡ answer → after ≡ left → IsStep b r now (change_reply r offset answer) left → IsStep b r now (change_reply r offset result) after
+  replied offset result answer after left same is step =
+      subst (λ (book : PlainBook). IsStep b r now (change_reply r offset result) book) (sym is)
+      (subst (λ (told : Result Outcome Refused). IsStep b r now (change_reply r offset told) left) (sym same) step)
+
+  -- the step of one whose change was made or refused
+  pub made-step : (asks : ChangeOf) (result : Result Outcome Refused) (after : PlainBook) → IsStepOf b r now asks → IfOk result (λ told. change_answer b asks.change now ≡ Ok told) → OnOk result (after ≡ book_after_change b asks.change now)
+      → IfErr result (λ why. IsAnswer (change_answer b asks.change now) (MayLackFor b asks.change now) (change_lacking b asks.change now) (Err why)) → OnErr result (after ≡ b)
+      → IsStep b r now (change_reply r asks.offset result) after
+  made-step asks (Ok told) after steps answer made refused stays =
+      replied asks.offset (Ok told) (change_answer b asks.change now) after (book_after_change b asks.change now) (sym answer) made steps.made
+  made-step asks (Err why) after steps answer made (inl same) stays =
+      replied asks.offset (Err why) (change_answer b asks.change now) after (book_after_change b asks.change now) same (stays ∙ sym (steps.refused why (sym same))) steps.made
+  made-step asks (Err why) after steps answer made (inr lacks) stays =
+      replied asks.offset (Err why) (change_lacking b asks.change now) after b lacks.1 stays (steps.lacks lacks.0)
+
+-- a reply that refuses comes of an outcome that does
+pub refused-stays : (r : Request) (offset : Option ℕ) (result : Result Outcome Refused) (told : Reply) (Stays : Type 0) → told ≡ change_reply r offset result → OnErr result Stays → IsRefusing told → Stays
+refused-stays r offset (Ok (outcome.Created created)) told Stays is stays refuses = absurd (subst IsRefusing is refuses)
+refused-stays r offset (Ok (outcome.Appended appended)) told Stays is stays refuses = absurd (subst IsRefusing is refuses)
+refused-stays r offset (Ok (outcome.Removed removed)) told Stays is stays refuses = absurd (subst IsRefusing is refuses)
+refused-stays r offset (Ok (outcome.Swept swept)) told Stays is stays refuses = absurd (subst IsRefusing is refuses)
+refused-stays r offset (Err why) told Stays is stays refuses = stays
+
+-- a change leaves the settings
+change-settings : (b : PlainBook) (made : Change) (now : ℕ) → (book_after_change b made now).settings ≡ b.settings
+change-settings b (change.Create tenant new first) now = refl
+change-settings b (change.Append name chunk) now = refl
+change-settings b (change.Concat tenant new) now = refl
+change-settings b (change.Terminate name) now = refl
+change-settings b change.Sweep now = refl
+
+-- also where it is refused
+pub made-settings : (b : PlainBook) (made : Change) (now : ℕ) (result : Result Outcome Refused) (after : PlainBook) → OnOk result (after ≡ book_after_change b made now) → OnErr result (after ≡ b) → after.settings ≡ b.settings
+made-settings b made now (Ok told) after is stays = ap (λ (b : PlainBook). b.settings) is ∙ change-settings b made now
+made-settings b made now (Err why) after is stays = ap (λ (b : PlainBook). b.settings) stays

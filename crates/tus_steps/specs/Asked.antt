@@ -1,0 +1,41 @@
+-- What a request asks for, as it is found before any book is at hand: to be told what the server can do, to see what
+-- stands of an upload or to get its bytes, or to change the book; or why it is refused before the book is asked.
+use Rattle.std.specs.Prelude.{length, Option, Some, None, Result, Ok, Err, if◌then◌else◌}
+use Rattle.upload_book.specs.declared.change.Change.TheVariants as change
+use Rattle.upload_book.specs.declared.operation.Operation.{Operation}
+use Rattle.upload_book.specs.declared.operation.Operation.TheVariants as operation
+use Rattle.upload_book.specs.declared.refusal.Refusal.{Refusal}
+use Rattle.upload_book.specs.FirstChunk.{no_chunk}
+use Rattle.upload_book.specs.Settings.{Settings}
+use Rattle.tus_steps.specs.declared.asked.Asked.{Asked}
+use Rattle.tus_steps.specs.declared.asked.Asked.TheVariants.{Options, Refused, Look, Content, Change}
+use Rattle.tus_steps.specs.declared.requested_change.ChangeOf.{ChangeOf}
+use Rattle.tus_steps.specs.Method.{is_options}
+use Rattle.tus_steps.specs.Operation.{operation_of}
+use Rattle.tus_steps.specs.Reply.{refusing}
+use Rattle.tus_steps.specs.Request.{Request}
+
+-- what an operation is: a creation that carries nothing has no first bytes, and its reply does not tell how many there are
+abbrev pub asked_for : Operation → Asked
+asked_for (operation.Create tenant new) = Change (record { change = change.Create tenant new no_chunk; offset = None })
+asked_for (operation.CreateWith tenant new first) =
+    Change (record { change = change.Create tenant new first; offset = Some (length first.bytes) })
+asked_for (operation.Concat tenant new) = Change (record { change = change.Concat tenant new; offset = None })
+asked_for (operation.Look name) = Look name
+asked_for (operation.Content name) = Content name
+asked_for (operation.Append name chunk) = Change (record { change = change.Append name chunk; offset = None })
+asked_for (operation.Terminate name) = Change (record { change = change.Terminate name; offset = None })
+
+-- the same of a request for an operation, or for none for this reason
+abbrev pub asked_by : Request → Result Operation Refusal → Asked
+asked_by r (Ok op) = asked_for op
+asked_by r (Err why) = Refused (refusing r why None)
+
+-- what a request asks for under these settings
+abbrev pub asked_in : Settings → Request → Asked
+asked_in s r = if is_options r.method then Options else asked_by r (operation_of s r)
+
+-- the change that is asked for, if it is one
+abbrev pub change_in : Asked → Option ChangeOf
+change_in (Change asked) = Some asked
+change_in _ = None

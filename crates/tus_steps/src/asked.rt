@@ -1,0 +1,101 @@
+ghost use Rattle.std.specs.Prelude.{◌≡◌, ℕ, None, IfSome};
+ghost use Rattle.tus_steps.specs.Asked.{asked_for as asked_for_operation, asked_in, change_in};
+ghost use Rattle.tus_steps.specs.Changing.{IsFound};
+ghost use Rattle.tus_steps.specs.Operation.{CanBeAsked};
+ghost use Rattle.tus_steps.specs.Step.{IsStep};
+ghost use Rattle.upload_book.specs.Book.{plain_of};
+ghost use Rattle.upload_book.specs.Change.{CanBeMade};
+
+use crate::creation::PartIds;
+use crate::head::head_reply;
+use crate::reply::Reply;
+use crate::request::Request;
+use crate::requested_change::ChangeOf;
+use upload_book::{Book, Change, FirstChunk, Moment, Name, Operation, Settings};
+
+/// What a request asks for, as it is found before any book is at hand.
+#[derive(Drop)]
+pub enum Asked<'a> {
+    /// To be told what the server can do.
+    Options,
+    /// Nothing: it is refused before the book is asked, with this reply.
+    Refused(Reply),
+    /// To see what stands of the upload of this name, which may not be there: it is a HEAD.
+    Look(Name),
+    /// The bytes of the upload of this name, which may not be there: it is a GET.
+    Content(Name),
+    /// To change the book.
+    Change(ChangeOf<'a>),
+}
+
+/// Finds what a request asks for, by its own fields and the settings alone; a concatenation borrows from `ids`. So a
+/// request can be read before a lock is taken. It is refused, in this order, as Version, Path, Tenant, Method and Field.
+/// It takes no memory.
+///
+/// [`answer_asked`] then answers it where it asks for no change. A change may be given to
+/// [`upload_book::Book::prepare`], and the reply is [`crate::change_reply`] of what that and
+/// [`upload_book::Book::commit`] give.
+pub fn asked_of<'a, 'b>(
+    settings: &Settings,
+    request: &Request<'a>,
+    ids: &'b mut PartIds,
+) -> Asked<'b>
+where
+    'a: 'b,
+    ensures { IsFound settings.now request.now result }
+{
+    if request.method.is_options() {
+        return Asked::Options;
+    }
+    match request.operation(settings, ids) {
+        Ok(operation) => asked_for(operation),
+        Err(refusal) => Asked::Refused(Reply::refusing(request, refusal, None)),
+    }
+}
+
+// What an operation is.
+fn asked_for<'a>(operation: Operation<'a>) -> Asked<'a>
+    ensures value { result ≡ asked_for_operation operation.entry }
+    ensures ready { (tenants : ℕ) → CanBeAsked tenants operation.entry
+        → IfSome (change_in result) (λ asked. CanBeMade tenants asked.change) }
+{
+    let (change, offset) = match operation {
+        Operation::Look(name) => return Asked::Look(name),
+        Operation::Content(name) => return Asked::Content(name),
+        Operation::Create { tenant, new } => {
+            let first = FirstChunk {
+                typed: true,
+                check: None,
+                bytes: b"",
+            };
+            (Change::Create { tenant, new, first }, None)
+        }
+        Operation::CreateWith { tenant, new, first } => {
+            let offset = first.bytes.len() as u64;
+            (Change::Create { tenant, new, first }, Some(offset))
+        }
+        Operation::Concat { tenant, new } => (Change::Concat { tenant, new }, None),
+        Operation::Append { name, chunk } => (Change::Append { name, chunk }, None),
+        Operation::Terminate(name) => (Change::Terminate(name), None),
+    };
+    Asked::Change(ChangeOf { change, offset })
+}
+
+/// Answers a request that asks for no change, by what [`asked_of`] found of it under the book's settings: the reply is
+/// the plain book's at this moment, and the book stays. A HEAD and a GET go over the uploads of their tenant once. The
+/// bytes of a GET are copied once, and it is refused as Memory where they find none; nothing else takes memory.
+pub fn answer_asked(book: &Book, request: &Request, asked: Asked, now: Moment) -> Reply
+    requires found { asked ≡ asked_in (plain_of book.now).settings request.now }
+    requires stays { change_in asked ≡ None }
+    ensures { IsStep (plain_of book.now) request.now now result (plain_of book.now) }
+{
+    match asked {
+        Asked::Options => Reply::Options {
+            max_size: book.settings().numbers().max_size,
+        },
+        Asked::Refused(reply) => reply,
+        Asked::Look(name) => head_reply(book.look(&name, now)),
+        Asked::Content(name) => Reply::to_content(request, book.content(&name, now)),
+        Asked::Change(_) => unreachable!("a change is made, and not only answered"),
+    }
+}
