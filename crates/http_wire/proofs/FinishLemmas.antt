@@ -1,11 +1,16 @@
 -- The second half of a turn: what is done for each thing that came in.
-use Rattle.std.proofs.Common.{◌≡◌, ℕ, Bool, true, false, List, [], ◌++◌, Option, Some, Result, Ok, Err, IfOk, take, refl, sym, subst, append-nil}
+use Rattle.std.proofs.Common.{◌≡◌, ℕ, Bool, true, false, true≢false, List, [], ◌++◌, Option, Some, Result, Ok, Err, IfOk, IfErr, take, refl, sym, subst, append-nil}
+use Rattle.std.specs.Io.KnownBytes.{Appends}
 use Rattle.tus_steps.specs.Request.{Request}
 use Rattle.tus_steps.specs.declared.reply.Reply.{Reply}
 use Rattle.http_wire.specs.inside.Ahead.{Ahead}
+use Rattle.http_wire.specs.Asking.{BreaksAsked, HasCome, asked}
 use Rattle.http_wire.specs.Exchange.{Exchange}
+use Rattle.http_wire.specs.Front.{message, refused, cut_patch, IsFront}
 use Rattle.http_wire.specs.Fault.{NamesStream}
+use Rattle.http_wire.specs.Incoming.{FramedRequest}
 use Rattle.http_wire.specs.Layout.{framed_at, request_at}
+use Rattle.http_wire.specs.ReadOnWire.{ComesIn}
 use Rattle.http_wire.specs.ReplyText.{reply_text, refusal_text}
 use Rattle.http_wire.specs.inside.TurnFinish.{FinishesTurn, turn_after, turn_cut}
 use Rattle.http_wire.specs.Turns.{LastTurn, BreaksTurn}
@@ -16,6 +21,7 @@ use Rattle.http_wire.specs.declared.fault.WireFault.{WireFault}
 use Rattle.http_wire.specs.declared.framing.Framing.{Framing}
 use Rattle.http_wire.specs.declared.read.layout.Layout.{Layout}
 use Rattle.http_wire.specs.declared.incoming.Cut.{Cut}
+use Rattle.http_wire.specs.declared.incoming.Incoming.{Incoming}
 use Rattle.http_wire.specs.declared.incoming.Incoming.TheVariants as incoming
 use Rattle.http_wire.specs.declared.incoming.Cut.TheVariants as cut
 use Rattle.http_wire.specs.declared.refusal.WireRefusal.{WireRefusal}
@@ -26,6 +32,21 @@ use Rattle.http_wire.proofs.TurnLemmas.{MessageTurn-stays, MessageTurn-closed, M
 pub IfOk-when : {T E P : Type 0} (Q : T → Type 0) (r : Result T E) → (P → IfOk r Q) → IfOk r (λ x. P → Q x)
 IfOk-when Q (Ok x) h = h
 IfOk-when Q (Err e) h = tt
+
+-- what follows from what holds of an error
+pub IfErr-more : {T E : Type 0} (P Q : E → Type 0) (r : Result T E) → ((e : E) → P e → Q e) → IfErr r P → IfErr r Q
+IfErr-more P Q (Ok x) more h = tt
+IfErr-more P Q (Err e) more h = more e h
+
+-- a message has come whatever follows it, so also where nothing does
+came_message : (max : ℕ) (input : List ℕ) (request : Request) (framing : Framing) (waiting : Bool) (held : List ℕ) → ((rest : List ℕ) → IsFront max (input ++ rest) (message request framing waiting (held ++ rest))) → HasCome max input
+came_message max input request framing waiting held front =
+    (message request framing waiting (held ++ []), subst (λ i. IsFront max i (message request framing waiting (held ++ []))) (append-nil input) (front []), refl)
+
+-- and so has a request that is refused
+came_refused : (max : ℕ) (input : List ℕ) (why : WireRefusal) (framing : Framing) → ((rest : List ℕ) → IsFront max (input ++ rest) (refused why framing)) → HasCome max input
+came_refused max input why framing front =
+    (refused why framing, subst (λ i. IsFront max i (refused why framing)) (append-nil input) (front []), refl)
 
 module _ {A : Type 0} (steps : A → Request → ℕ → Reply → A → Type 0) where
   -- nothing is written after what was written while the message came in
@@ -43,6 +64,7 @@ module _ {A : Type 0} (steps : A → Request → ℕ → Reply → A → Type 0)
       w.all,
       λ rest _. MessageTurn-closed steps max now (record { input = input; text = said; before = before; after = after }) a p reply f step is rest,
     );
+    came = λ max input said f fails. came_message max input (request_at p a.lent) p.framing f.0 a.held f.2;
     end = λ remaining sees tells. tt;
     ends = tt;
     reader = refl;
@@ -55,6 +77,7 @@ module _ {A : Type 0} (steps : A → Request → ℕ → Reply → A → Type 0)
       w.all,
       MessageTurn-stays steps max now (record { input = input; text = said; before = before; after = after }) a p reply f step is,
     );
+    came = λ max input said f fails. came_message max input (request_at p a.lent) p.framing f.0 a.held f.2;
     end = λ remaining sees tells. sees;
     ends = tt;
     reader = refl;
@@ -68,6 +91,7 @@ module _ {A : Type 0} (steps : A → Request → ℕ → Reply → A → Type 0)
       subst (BreaksTurn steps max now (record { input = input; text = said ++ take w.prefix.0 (reply_text reply now p.framing); before = before; after = after })) (sym w.fault)
           (BreaksTurn-reply steps max now w.prefix.0 (record { input = input; text = said; before = before; after = after }) a p reply f step),
     );
+    came = λ max input said f fails. came_message max input (request_at p a.lent) p.framing f.0 a.held f.2;
     end = λ remaining sees tells. tt;
     ends = tt;
     reader = tt;
@@ -84,6 +108,7 @@ module _ {A : Type 0} (steps : A → Request → ℕ → Reply → A → Type 0)
       w.all,
       λ rest _. MessageTurn-refused steps max now (record { input = input; text = said; before = same; after = same }) a why framing f refl rest,
     );
+    came = λ max input said f fails. came_refused max input why framing f.1;
     end = λ remaining sees tells. tt;
     ends = tt;
     reader = refl;
@@ -97,6 +122,7 @@ module _ {A : Type 0} (steps : A → Request → ℕ → Reply → A → Type 0)
       subst (BreaksTurn steps max now (record { input = input; text = said ++ take w.prefix.0 (refusal_text why now framing); before = same; after = same })) (sym w.fault)
           (BreaksTurn-refusal steps max now w.prefix.0 (record { input = input; text = said; before = same; after = same }) a why framing f refl),
     );
+    came = λ max input said f fails. came_refused max input why framing f.1;
     end = λ remaining sees tells. tt;
     ends = tt;
     reader = tt;
@@ -115,6 +141,7 @@ module _ {A : Type 0} (steps : A → Request → ℕ → Reply → A → Type 0)
           (quiet max now (record { input = input; text = said; before = before; after = after }) ended.Cut
           (MessageTurn-cut_patch steps max now (record { input = input; text = said; before = before; after = after }) a p cut.Ended reply f step)) none,
     );
+    came = λ max input said f fails. (cut_patch (request_at p a.lent) p.framing f.0, f.2, refl);
     end = λ remaining sees tells. sees tells;
     ends = tt;
     reader = refl;
@@ -132,6 +159,7 @@ module _ {A : Type 0} (steps : A → Request → ℕ → Reply → A → Type 0)
             (MessageTurn-cut_patch steps max now (record { input = input; text = said; before = before; after = after }) a p cut.Fault reply f step),
       ),
     );
+    came = λ max input said f fails. (cut_patch (request_at p a.lent) p.framing f.0, f.2, refl);
     end = λ remaining sees tells. tt;
     ends = tt;
     reader = tt;
@@ -149,6 +177,7 @@ module _ {A : Type 0} (steps : A → Request → ℕ → Reply → A → Type 0)
           (quiet max now (record { input = input; text = said; before = same; after = same }) ended.Cut
           (MessageTurn-cut_other steps max now (record { input = input; text = said; before = same; after = same }) a f refl)) none,
     );
+    came = λ max input said f fails. absurd (true≢false (sym fails));
     end = λ remaining sees tells. sees tells;
     ends = tt;
     reader = refl;
@@ -166,9 +195,19 @@ module _ {A : Type 0} (steps : A → Request → ℕ → Reply → A → Type 0)
           (quiet max now (record { input = input; text = said; before = same; after = same }) ended.Input
           (MessageTurn-end steps max now (record { input = input; text = said; before = same; after = same }) f refl)) none,
     );
+    came = λ max input said f fails. absurd (true≢false (sym fails));
     end = λ remaining sees tells. sees tells;
     ends = tt;
     reader = refl;
     writer = alive;
     fault = tt;
   }
+
+  -- where a turn was finished by a fault, its message had come, and its moment was told before it was finished
+  pub Finishes-asked : {C : Type 0} (tells : C → ℕ → C → Type 0) (before after : C) (max now : ℕ) (a : Ahead) (incoming : Incoming FramedRequest) (input said : List ℕ) (w0 w1 : Option (List ℕ)) (failed : Bool) (first last : A)
+      (r : Result (Option Ended) WireFault) → tells before now after → ComesIn max (record { input = input; text = said }) a.held incoming → FinishesTurn steps now a incoming w0 w1 failed first last r
+      → IfErr r (λ f. (text : List ℕ) × Appends w0 w1 text × BreaksAsked steps tells max before after (record { input = input; text = said ++ text; before = first; after = last }) f)
+  Finishes-asked tells before after max now a incoming input said w0 w1 failed first last (Ok e) told f h = tt
+  Finishes-asked tells before after max now a incoming input said w0 w1 failed first last (Err fault) told f h =
+      let t = h.turn max input said f in
+      (t.0, t.1, asked now told (h.came max input said f refl) t.2)

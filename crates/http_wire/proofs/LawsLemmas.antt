@@ -33,7 +33,7 @@ module _ {A : Type 0} (steps : A → Request → ℕ → Reply → A → Type 0)
       (subst (λ (b : A). Turns steps max after (record y { before = b }) rest) meets others)
 
 -- a text is one head at most
-Parses-unique : (text : List ℕ) (h k : Option RequestHead) → Parses text h → Parses text k → h ≡ k
+pub Parses-unique : (text : List ℕ) (h k : Option RequestHead) → Parses text h → Parses text k → h ≡ k
 Parses-unique text None None p q = refl
 Parses-unique text None (Some k) p q = absurd (p k q.0 q.1)
 Parses-unique text (Some h) None p q = absurd (q h p.0 p.1)

@@ -9,6 +9,7 @@ pub mod HeadLemmas
 pub mod HeadTextLemmas
 pub mod LawsLemmas
 pub mod NameLemmas
+pub mod OrderLemmas
 pub mod PageLemmas
 pub mod RangeLemmas
 pub mod ReplyLemmas

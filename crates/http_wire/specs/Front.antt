@@ -121,12 +121,16 @@ sure_room = 49152
 abbrev pub OutgrowsRoom : ℕ → List ℕ → RequestHead → Type 0
 OutgrowsRoom max text h = (n : ℕ) × (judged max h ≡ Ok n) × (0 < n) × (sure_room < length text + n)
 
+-- the fields of a head may need memory: there are some
+abbrev pub TakesMemory : RequestHead → Type 0
+TakesMemory h = h.fields ≢ []
+
 -- A head that was parsed is refused because there is no memory for its fields, of which it has some, or for
 -- its body.
 abbrev pub LacksMemory : ℕ → List ℕ → Option RequestHead → Front → Type 0
 LacksMemory max text None f = ⊥
 LacksMemory max text (Some h) f =
-    ((h.fields ≢ []) ⊎ OutgrowsRoom max text h) × (f ≡ refused Memory (closing (framing_of h)))
+    (TakesMemory h ⊎ OutgrowsRoom max text h) × (f ≡ refused Memory (closing (framing_of h)))
 
 -- what a whole head text begins
 abbrev pub BeginsWhole : ℕ → List ℕ → List ℕ → Front → Type 0

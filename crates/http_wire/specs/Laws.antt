@@ -1,17 +1,14 @@
 -- Laws above the definitions: an input that comes in two parts, and what an input begins with.
-use Rattle.std.specs.Prelude.{◌≡◌, ◌≤◌, ◌⊎◌, ℕ, ◌+◌, Bool, true, List, [], ◌∷◌, ◌++◌, map, length, codes}
-use Rattle.std.specs.Result.{result_err}
+use Rattle.std.specs.Prelude.{◌≡◌, ◌≤◌, ◌⊎◌, ◌↔◌, ℕ, ◌+◌, Bool, true, List, [], ◌++◌, length, Option}
+use Rattle.httparse.specs.Grammar.{RequestHead}
 use Rattle.upload_book.specs.Order.{order, stand_in}
-use Rattle.upload_book.specs.Refusal.{first_that_holds}
-use Rattle.tus_steps.specs.Field.{FieldText}
 use Rattle.tus_steps.specs.Request.{Request}
 use Rattle.tus_steps.specs.declared.reply.Reply.{Reply}
 use Rattle.http_wire.specs.Conversation.{Conversation}
 use Rattle.http_wire.specs.Exchange.{Exchange, joined}
-use Rattle.http_wire.specs.Front.{Front, message, refused, IsFront}
-use Rattle.http_wire.specs.HeadText.{head_limit}
-use Rattle.http_wire.specs.Judge.{judge, judge_tests}
-use Rattle.http_wire.specs.Refusal.{word_of}
+use Rattle.http_wire.specs.Front.{Front, message, refused, Begins, IsFront}
+use Rattle.http_wire.specs.HeadText.{HeadText, head_limit}
+use Rattle.http_wire.specs.Questions.{IsParsed, IsReason, questions, refusal_in, words_of}
 use Rattle.http_wire.specs.Turns.{Turns}
 use Rattle.http_wire.specs.declared.conversation.Ended.{Ended}
 use Rattle.http_wire.specs.declared.framing.Framing.{Framing}
@@ -53,10 +50,10 @@ OneFront =
     (max : ℕ) (input : List ℕ) (f g : Front) → IsFront max input f → IsFront max input g
     → (f ≡ g) ⊎ (RefusesForMemory f ⊎ RefusesForMemory g)
 
--- A request is refused by its fields exactly for the first of these reasons that applies; and all reasons of the
--- wire, in the sequence in which it comes to them, stand in the order of refusals: too many bytes, no head of a
--- request, no memory for its fields, the tests of its fields, no memory for its body.
+-- An input that begins with this head text is refused for the first of the wire's questions that holds, where lacking memory
+-- may hold, and for no other reason; and where none holds it is not refused. The words of all questions, as they are asked,
+-- stand in the order of refusals.
 pub record WireFollowsOrder : Type 0 where
-  pub first : (max minor : ℕ) (host coding len : FieldText) → result_err (judge max minor host coding len) ≡ first_that_holds (judge_tests max minor host coding len)
-  pub order : (max minor : ℕ) (host coding len : FieldText)
-      → stand_in (codes "head-size" ∷ codes "head" ∷ codes "memory" ∷ map {A = Bool × WireRefusal} {B = List ℕ} (λ t. word_of t.1) (judge_tests max minor host coding len) ++ codes "memory" ∷ []) order ≡ true
+  pub first : (max : ℕ) (t : HeadText) (parsed : Option RequestHead) (why : Option WireRefusal) → IsParsed t parsed
+      → IsReason (questions max t parsed) why ↔ ((f : Front) × Begins max t f × (refusal_in f ≡ why))
+  pub order : (max : ℕ) (t : HeadText) (parsed : Option RequestHead) → stand_in (words_of (questions max t parsed)) order ≡ true

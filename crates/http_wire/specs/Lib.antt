@@ -1,3 +1,4 @@
+pub mod Asking
 pub mod BookStep
 pub mod Clock
 pub mod Connection
@@ -13,6 +14,7 @@ pub mod Laws
 pub mod Layout
 pub mod Message
 pub mod OnWire
+pub mod Questions
 pub mod ReadOnWire
 pub mod Refusal
 pub mod ReplyText

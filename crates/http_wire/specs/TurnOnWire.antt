@@ -3,6 +3,7 @@ use Rattle.std.specs.Prelude.{◌≡◌, ℕ, Bool, true, false, List, ◌++◌,
 use Rattle.std.specs.Io.KnownBytes.{Appends, Consumes}
 use Rattle.tus_steps.specs.Request.{Request}
 use Rattle.tus_steps.specs.declared.reply.Reply.{Reply}
+use Rattle.http_wire.specs.Asking.{BreaksAsked}
 use Rattle.http_wire.specs.Clock.{IsTimed}
 use Rattle.http_wire.specs.Fault.{NamesStream}
 use Rattle.http_wire.specs.OnWire.{OnWire}
@@ -32,12 +33,15 @@ pub record ServedWire (R W A C : Type 0) : Type 0 where
 
 module _ {R W A C : Type 0} (s : Streams R W) (steps : A → Request → ℕ → Reply → A → Type 0) (tells : C → ℕ → C → Type 0) where
   -- A turn on a wire that reads: some bytes were read and this text was written, and it is the turn of what they begin with,
-  -- at a moment that the clock told. Nothing had failed before; where something did now, the fault names which. Nothing is
+  -- at a moment that the clock told, which was not asked before its message had come. Nothing had failed before; where something did now, the fault names which. Nothing is
   -- read after the reader's end. Then the wire reads on where the conversation goes on, and writes on unless something failed.
   pub record TakesTurnOn (old new : ServedWire R W A C) (r : Result (Option Ended) WireFault) : Type 0 where
     pub turn : IsTimed tells old.clock new.clock (IsErr r) (λ now. (got text : List ℕ) × Consumes (s.remaining old.wire.reader) (s.remaining new.wire.reader) got
         × Appends (s.contents old.wire.writer) (s.contents new.wire.writer) text
         × TakesTurn steps old.wire.max_size now (record { input = old.wire.held ++ got; text = text; before = old.state; after = new.state }) new.wire.held r)
+    pub asked : IfErr r (λ f. (got text : List ℕ) × Consumes (s.remaining old.wire.reader) (s.remaining new.wire.reader) got
+        × Appends (s.contents old.wire.writer) (s.contents new.wire.writer) text
+        × BreaksAsked steps tells old.wire.max_size old.clock new.clock (record { input = old.wire.held ++ got; text = text; before = old.state; after = new.state }) f)
     pub end : IfOk r (EndsAtEnd (s.remaining new.wire.reader))
     pub ends : IfOk r EndsByTurn
     pub stops : old.wire.ended ≡ true → (new.wire.reader ≡ old.wire.reader) × (new.wire.ended ≡ true)

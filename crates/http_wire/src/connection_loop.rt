@@ -1,5 +1,6 @@
-ghost use Rattle.std.specs.Prelude.{◌≡◌, ◌<◌, ◌∷◌, ◌++◌, [], ℕ, List, length, true, IfOk, IfErr, IsErr};
+ghost use Rattle.std.specs.Prelude.{◌≡◌, ◌<◌, ◌∷◌, ◌++◌, [], ℕ, List, length, true, false, IfOk, IfErr, IsErr, OnOk};
 ghost use Rattle.std.specs.Io.KnownBytes.{Appends, Consumes};
+ghost use Rattle.http_wire.specs.Asking.{BreaksAfterTurns};
 ghost use Rattle.http_wire.specs.Clock.{AreTold, IsTimed, Tells};
 ghost use Rattle.http_wire.specs.Fault.{NamesStream};
 ghost use Rattle.http_wire.specs.Turns.{Breaks, Converses, IsReadWhen};
@@ -12,8 +13,9 @@ use crate::source::{Sink, Source};
 use crate::wire::Wire;
 
 /// Takes turns on a wire, each at the moment that the clock tells, until the input ends, the connection closes
-/// or `most` turns were taken: the loop of a server's connection. The error is `WireFault::Read` or
-/// `WireFault::Write`.
+/// or `most` turns were taken: the loop of a server's connection. The clock is asked for the moment of a message once that
+/// has come, so not where a fault comes first. The error is `WireFault::Read` or `WireFault::Write`; without one nothing has
+/// failed.
 pub fn serve<R: Source + Drop, W: Sink + Drop, A: Answer, C: Clock>(
     wire: &mut Wire<R, W>,
     answerer: &mut A,
@@ -35,7 +37,14 @@ pub fn serve<R: Source + Drop, W: Sink + Drop, A: Answer, C: Clock>(
         × Appends (W.contents wire.old.writer) (W.contents wire.new.writer) text
         × Breaks A.steps wire.old.max_size (moments ++ now ∷ [])
         (record { input = wire.old.held ++ got; text = text; before = answerer.old; after = answerer.new }) f)) }
+    ensures asked { IfErr result (λ f. (got text : List ℕ)
+        × Consumes (R.remaining wire.old.reader) (R.remaining wire.new.reader) got
+        × Appends (W.contents wire.old.writer) (W.contents wire.new.writer) text
+        × BreaksAfterTurns A.steps C.tells wire.old.max_size clock.old clock.new
+        (record { input = wire.old.held ++ got; text = text; before = answerer.old; after = answerer.new }) f) }
     ensures reads { IfOk result (λ e. e ≡ Ended.Moments → wire.new.reads ≡ true) }
+    ensures reader { OnOk result (R.has_failed wire.new.reader ≡ false) }
+    ensures writer { OnOk result (W.has_failed wire.new.writer ≡ false) }
     ensures fault { IfErr result (NamesStream (R.has_failed wire.new.reader) (W.has_failed wire.new.writer)) }
 {
     for taken in 0..most {
@@ -44,5 +53,6 @@ pub fn serve<R: Source + Drop, W: Sink + Drop, A: Answer, C: Clock>(
             return Ok(ended);
         }
     }
+    prove!(wire.is_open());
     Ok(Ended::Moments)
 }

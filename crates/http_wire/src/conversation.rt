@@ -1,6 +1,7 @@
 ghost use Rattle.std.specs.Prelude.{◌≡◌, ◌<◌, ◌^◌, ◌++◌, ℕ, List, [], Some, false, IfOk, IfErr, IsErr, OnOk};
 ghost use Rattle.std.specs.Io.KnownBytes.{Appends, Consumes};
 ghost use Rattle.http_wire.specs.inside.Ahead.{SeesEnd, StopsAtEnd};
+ghost use Rattle.http_wire.specs.Asking.{BreaksAsked};
 ghost use Rattle.http_wire.specs.Clock.{IsTimed};
 ghost use Rattle.http_wire.specs.Conversation.{Conversation};
 ghost use Rattle.http_wire.specs.Turns.{Breaks, Converses, EndsByTurn, IsReadWhen, TakesTurn};
@@ -143,6 +144,11 @@ pub fn take_turn<R: Source, W: Sink, A: Answer, C: Clock>(
         × TakesTurn A.steps max_size now
         (record { input = buffers.old.inbox.held ++ got; text = text; before = answerer.old; after = answerer.new })
         buffers.new.inbox.held result) }
+    ensures asked { IfErr result (λ f. (got text : List ℕ)
+        × Consumes (R.remaining reader.old) (R.remaining reader.new) got
+        × Appends (W.contents writer.old) (W.contents writer.new) text
+        × BreaksAsked A.steps C.tells max_size clock.old clock.new
+        (record { input = buffers.old.inbox.held ++ got; text = text; before = answerer.old; after = answerer.new }) f) }
     ensures end { IfOk result (λ r. SeesEnd (R.remaining reader.old) buffers.old.inbox
         → EndsTurnAtEnd (R.remaining reader.new) buffers.new.inbox r) }
     ensures ends { IfOk result EndsByTurn }

@@ -49,12 +49,12 @@ pub trait Sink {
         ensures { result ≡ has_failed self.now };
 }
 
-/// A reader or a writer of `std` that remembers whether a call of it failed. A call that a signal
-/// interrupted is one that failed.
+/// A reader or a writer of `std` that remembers whether a call of it failed: only such a call sets the mark. A call that
+/// a signal interrupted is one that failed.
 #[derive(Drop)]
 pub struct Tapped<T> {
     pub inner: T,
-    pub failed: bool,
+    failed: bool,
 }
 
 impl<T> Tapped<T> {

@@ -1,4 +1,5 @@
 ghost use Rattle.std.specs.Prelude.{◌≡◌, ◌<◌, ◌^◌, ℕ, List, false, IfOk, IfErr};
+ghost use Rattle.std.specs.Bool.{OnTrue};
 ghost use Rattle.std.specs.Borrow.{sem};
 ghost use Rattle.std.specs.Io.BufRead.{Rests};
 ghost use Rattle.http_wire.specs.Incoming.{map_incoming, map_read};
@@ -113,6 +114,15 @@ impl<R: Source + Drop, W: Sink + Drop> Wire<R, W> {
         ensures writer { result.1 ≡ self.writer }
     {
         (self.reader, self.writer, self.buffers)
+    }
+
+    /// Whether it still reads. Then it also writes, and nothing has failed.
+    pub fn is_open(&self) -> bool
+        ensures reads { result ≡ self.now.reads }
+        ensures reader { OnTrue result (R.has_failed self.now.reader ≡ false) }
+        ensures writer { OnTrue result (W.has_failed self.now.writer ≡ false) }
+    {
+        self.state == State::Open
     }
 
     /// Reads the next message, and writes `100 Continue` where it is due. The error is

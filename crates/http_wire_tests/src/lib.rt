@@ -26,6 +26,8 @@ mod methods;
 #[cfg(test)]
 mod plain;
 #[cfg(test)]
+mod refused_bodies;
+#[cfg(test)]
 mod refused_memory;
 #[cfg(test)]
 mod replies;

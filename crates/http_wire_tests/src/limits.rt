@@ -42,7 +42,7 @@ const PATCH_GREATEST: &[u8] = b"PATCH /files/acme/1 HTTP/1.1\r\nHost: x\r\nTus-R
 Content-Type: application/offset+octet-stream\r\nUpload-Offset: 0\r\nContent-Length: 64\r\n\r\n\
 0123456789abcdef0123456789abcdef0123456789abcdef0123456789abcdef";
 
-const UNKNOWN: &[u8] = b"HTTP/1.1 404 Not Found\r\nDate: Thu, 01 Jan 1970 00:16:40 GMT\r\n\
+pub const UNKNOWN: &[u8] = b"HTTP/1.1 404 Not Found\r\nDate: Thu, 01 Jan 1970 00:16:40 GMT\r\n\
 Tus-Resumable: 1.0.0\r\nContent-Type: text/plain\r\nContent-Length: 8\r\n\r\nunknown\n";
 
 static GREATEST: Row = Row {
@@ -74,7 +74,7 @@ fn assert_body_len(rt: &impl Abort, alloc: Global, digits: &[u8], len: usize, al
     let mut sent = joined(rt, alloc, &[LARGE, digits, b"\r\n\r\n"]);
     sent.resize(all, b'a').expect(rt, "memory");
     let reader = Tapped::new(Input::new(&sent, usize::MAX));
-    let wire = Wire::new(alloc, reader, Tapped::new(Output::new(alloc)), 300_000);
+    let wire = Wire::new(alloc, reader, Tapped::new(Output::new(alloc)), 600_000);
     let mut wire = wire.expect(rt, "memory");
     assert!(rt;
         read_body_len(rt, &mut wire) == len,
@@ -82,11 +82,12 @@ fn assert_body_len(rt: &impl Abort, alloc: Global, digits: &[u8], len: usize, al
     );
 }
 
-/// Head and body have 49,152 bytes together, 49,153, and more than there is room for at the start.
-static BODIES: [(&[u8], usize, usize); 3] = [
+/// Head and body have 49,152 bytes together, 49,153, and more than there is room for at the start, up to the greatest.
+static BODIES: [(&[u8], usize, usize); 4] = [
     (b"49100", 49_100, 49_152),
     (b"49101", 49_101, 49_153),
     (b"300000", 300_000, 300_053),
+    (b"600000", 600_000, 600_053),
 ];
 
 #[test]

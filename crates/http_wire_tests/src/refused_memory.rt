@@ -5,10 +5,9 @@
 //! lacking. Reader and writer take no memory, so the first allocation is that of the book.
 
 use crate::concatenations::{
-    ABCDE, CONTENT_OF_BOTH, CREATED_2, DELETE_2, FG, FINAL_3, FINAL_OF_BOTH, GET_3, HEAD_3,
-    LOOKED_3, PART_OF_2, PART_OF_5, PATCHED_TO_2,
+    CONTENT_OF_BOTH, CREATED_2, DELETE_2, PART_OF_2, PART_OF_5, PATCHED_TO_2,
 };
-use crate::conversations::{CREATED, DELETE, DELETED, NONE, PATCHED};
+use crate::conversations::{DELETED, NONE, PATCHED};
 use crate::plain::plain_conversation;
 use crate::spoken::{NUMBERS, at, charge_of, new_book, put};
 use http_wire::{Ended, Framing, Incoming, Tapped, Wire, WireFault, WireRefusal, converse};
@@ -36,56 +35,87 @@ Date: Thu, 01 Jan 1970 00:16:40 GMT\r\nTus-Resumable: 1.0.0\r\n\
 Upload-Expires: Thu, 01 Jan 1970 01:16:40 GMT\r\nContent-Type: text/plain\r\nContent-Length: 7\r\n\r\n\
 memory\n";
 
-/// Where memory is lacking for the fields of a message.
-const LACKING_FOR_FIELDS: &[u8] = b"HTTP/1.1 503 Service Unavailable\r\n\
+/// Where memory is lacking for the fields of a message, or for its body.
+pub const LACKING_CLOSES: &[u8] = b"HTTP/1.1 503 Service Unavailable\r\n\
 Date: Thu, 01 Jan 1970 00:16:40 GMT\r\nTus-Resumable: 1.0.0\r\nContent-Type: text/plain\r\n\
 Content-Length: 7\r\nConnection: close\r\n\r\nmemory\n";
 
 /// The same for a HEAD.
-const BARE_LACKING_FOR_FIELDS: &[u8] = b"HTTP/1.1 503 Service Unavailable\r\n\
+const BARE_LACKING_CLOSES: &[u8] = b"HTTP/1.1 503 Service Unavailable\r\n\
 Date: Thu, 01 Jan 1970 00:16:40 GMT\r\nTus-Resumable: 1.0.0\r\nConnection: close\r\n\r\n";
 
 const POST_HELLO: &[u8] = b"POST /files/acme HTTP/1.1\r\nHost: x\r\nTus-Resumable: 1.0.0\r\n\
 Upload-Length: 5\r\nContent-Type: application/offset+octet-stream\r\nContent-Length: 5\r\n\r\nhello";
 
-const CREATED_HELLO: &[u8] = b"HTTP/1.1 201 Created\r\nDate: Thu, 01 Jan 1970 00:16:40 GMT\r\n\
-Tus-Resumable: 1.0.0\r\nLocation: /files/acme/4\r\nUpload-Offset: 5\r\nContent-Length: 0\r\n\r\n";
+const CREATED_1: &[u8] = b"HTTP/1.1 201 Created\r\nDate: Thu, 01 Jan 1970 00:16:40 GMT\r\n\
+Tus-Resumable: 1.0.0\r\nLocation: /files/acme/1\r\nUpload-Offset: 5\r\nContent-Length: 0\r\n\r\n";
 
-/// Two parts and the final upload of both, which stays when the parts end, and an upload with its first bytes.
-static TURNS: [Turn; 10] = [
+const ABCDE_TO_2: &[u8] = b"PATCH /files/acme/2 HTTP/1.1\r\nHost: x\r\nTus-Resumable: 1.0.0\r\n\
+Content-Type: application/offset+octet-stream\r\nUpload-Offset: 0\r\nContent-Length: 5\r\n\r\n\
+abcde";
+
+const CREATED_3: &[u8] = b"HTTP/1.1 201 Created\r\nDate: Thu, 01 Jan 1970 00:16:40 GMT\r\n\
+Tus-Resumable: 1.0.0\r\nLocation: /files/acme/3\r\n\
+Upload-Expires: Thu, 01 Jan 1970 01:16:40 GMT\r\nContent-Length: 0\r\n\r\n";
+
+const FG_TO_3: &[u8] = b"PATCH /files/acme/3 HTTP/1.1\r\nHost: x\r\nTus-Resumable: 1.0.0\r\n\
+Content-Type: application/offset+octet-stream\r\nUpload-Offset: 0\r\nContent-Length: 2\r\n\r\nfg";
+
+const FINAL_OF_2_AND_3: &[u8] = b"POST /files/acme HTTP/1.1\r\nHost: x\r\nTus-Resumable: 1.0.0\r\n\
+Upload-Concat: final;/files/acme/2 http://h:1/files/acme/3\r\n\r\n";
+
+const FINAL_4: &[u8] = b"HTTP/1.1 201 Created\r\nDate: Thu, 01 Jan 1970 00:16:40 GMT\r\n\
+Tus-Resumable: 1.0.0\r\nLocation: /files/acme/4\r\nContent-Length: 0\r\n\r\n";
+
+const HEAD_4: &[u8] = b"HEAD /files/acme/4 HTTP/1.1\r\nHost: x\r\nTus-Resumable: 1.0.0\r\n\r\n";
+
+const LOOKED_4: &[u8] = b"HTTP/1.1 200 OK\r\nDate: Thu, 01 Jan 1970 00:16:40 GMT\r\n\
+Tus-Resumable: 1.0.0\r\nUpload-Offset: 7\r\nUpload-Length: 7\r\n\
+Upload-Concat: final;/files/acme/2 http://h:1/files/acme/3\r\nCache-Control: no-store\r\n\r\n";
+
+const DELETE_3: &[u8] = b"DELETE /files/acme/3 HTTP/1.1\r\nHost: x\r\nTus-Resumable: 1.0.0\r\n\r\n";
+
+const GET_4: &[u8] = b"GET /files/acme/4 HTTP/1.1\r\nHost: x\r\n\r\n";
+
+const CREATED_5: &[u8] = b"HTTP/1.1 201 Created\r\nDate: Thu, 01 Jan 1970 00:16:40 GMT\r\n\
+Tus-Resumable: 1.0.0\r\nLocation: /files/acme/5\r\nUpload-Offset: 5\r\nContent-Length: 0\r\n\r\n";
+
+/// An upload with its first bytes before all else, two parts and the final upload of both, which stays when the parts
+/// end, and another upload with its first bytes.
+static TURNS: [Turn; 11] = [
+    Turn {
+        sent: POST_HELLO,
+        written: CREATED_1,
+        lacking: LACKING,
+    },
     Turn {
         sent: PART_OF_5,
-        written: CREATED,
+        written: CREATED_2,
         lacking: NONE,
     },
     Turn {
-        sent: ABCDE,
+        sent: ABCDE_TO_2,
         written: PATCHED,
         lacking: LACKING_FOR_PATCH,
     },
     Turn {
         sent: PART_OF_2,
-        written: CREATED_2,
+        written: CREATED_3,
         lacking: NONE,
     },
     Turn {
-        sent: FG,
+        sent: FG_TO_3,
         written: PATCHED_TO_2,
         lacking: LACKING_FOR_PATCH,
     },
     Turn {
-        sent: FINAL_OF_BOTH,
-        written: FINAL_3,
+        sent: FINAL_OF_2_AND_3,
+        written: FINAL_4,
         lacking: LACKING,
     },
     Turn {
-        sent: HEAD_3,
-        written: LOOKED_3,
-        lacking: NONE,
-    },
-    Turn {
-        sent: DELETE,
-        written: DELETED,
+        sent: HEAD_4,
+        written: LOOKED_4,
         lacking: NONE,
     },
     Turn {
@@ -94,13 +124,18 @@ static TURNS: [Turn; 10] = [
         lacking: NONE,
     },
     Turn {
-        sent: GET_3,
+        sent: DELETE_3,
+        written: DELETED,
+        lacking: NONE,
+    },
+    Turn {
+        sent: GET_4,
         written: CONTENT_OF_BOTH,
         lacking: LACKING,
     },
     Turn {
         sent: POST_HELLO,
-        written: CREATED_HELLO,
+        written: CREATED_5,
         lacking: LACKING,
     },
 ];
@@ -140,20 +175,20 @@ const WRITTEN_MAX: usize = 4096;
 
 /// A writer that keeps what is written in itself, and takes no memory.
 #[derive(Drop)]
-struct Sheet {
+pub struct Sheet {
     bytes: [u8; WRITTEN_MAX],
     len: usize,
 }
 
 impl Sheet {
-    fn new() -> Self {
+    pub fn new() -> Self {
         Sheet {
             bytes: [0; WRITTEN_MAX],
             len: 0,
         }
     }
 
-    fn text(&self) -> &[u8] {
+    pub fn text(&self) -> &[u8] {
         &self.bytes[..self.len.min(WRITTEN_MAX)]
     }
 }
@@ -189,14 +224,15 @@ fn row_of(book: &Book, id: u64) -> Row {
 /// A block of one of acme's uploads: the upload's id, a segment, and a place in that.
 type Place = (u64, usize, u64);
 
-static PLACES: [Place; 7] = [
+static PLACES: [Place; 8] = [
     (1, 0, 0),
-    (1, 0, 1),
     (2, 0, 0),
+    (2, 0, 1),
     (3, 0, 0),
-    (3, 0, 1),
-    (3, 1, 0),
     (4, 0, 0),
+    (4, 0, 1),
+    (4, 1, 0),
+    (5, 0, 0),
 ];
 
 /// How many hold a block.
@@ -218,7 +254,7 @@ fn assert_same_blocks(rt: &impl Abort, book: &Book, plain: &Book) {
 /// Asserts that two books tell the same of acme's first uploads, of blocks, and of how many hold the blocks of those
 /// uploads.
 fn assert_alike(rt: &impl Abort, book: &Book, plain: &Book) {
-    for id in 1..=4 {
+    for id in 1..=5 {
         assert!(rt; row_of(book, id) == row_of(plain, id), "upload {id}");
     }
     assert_same_blocks(rt, book, plain);
@@ -264,9 +300,9 @@ fn speak_plainly(rt: &impl Abort, alloc: Global, book: &mut Book, turns: &[Turn]
 /// What is written where memory is lacking for the fields of a turn's message.
 fn lacking_for_fields(turn: &Turn) -> &'static [u8] {
     if turn.sent.starts_with(b"HEAD ") {
-        BARE_LACKING_FOR_FIELDS
+        BARE_LACKING_CLOSES
     } else {
-        LACKING_FOR_FIELDS
+        LACKING_CLOSES
     }
 }
 
@@ -475,17 +511,32 @@ enum Way {
 
 /// Speaks the turns with a new book after so many allocations, and prints whether memory was lacking.
 fn speak_after<W: Abort + Print>(rt: &W, alloc: Global, spent: usize, way: Way) {
-    for _ in 0..spent {
-        let _ = Vec::<u8>::with_capacity(alloc, 1);
-    }
-    let settings = Settings::new(NUMBERS, &[(b"acme", 8), (b"beta", 4)]);
-    let is_lacking = match Book::new(alloc, settings.expect(rt, "settings")) {
-        Ok(mut book) => match way {
+    spend(alloc, spent);
+    let is_lacking = match first_book(rt, alloc) {
+        Some(mut book) => match way {
             Way::Wire => on_a_wire(rt, alloc, &TURNS, &mut book),
             Way::Conversation => in_a_conversation(rt, alloc, &TURNS, &mut book),
         },
-        Err(_) => true,
+        None => true,
     };
+    print_lacking(rt, is_lacking);
+}
+
+/// Makes so many allocations.
+pub fn spend(alloc: Global, spent: usize) {
+    for _ in 0..spent {
+        let _ = Vec::<u8>::with_capacity(alloc, 1);
+    }
+}
+
+/// A book with no upload, unless memory is lacking for it.
+pub fn first_book(rt: &impl Abort, alloc: Global) -> Option<Book> {
+    let settings = Settings::new(NUMBERS, &[(b"acme", 8), (b"beta", 4)]);
+    Book::new(alloc, settings.expect(rt, "settings")).ok()
+}
+
+/// Prints whether memory was lacking.
+pub fn print_lacking<W: Abort + Print>(rt: &W, is_lacking: bool) {
     let line = if is_lacking {
         "memory was lacking"
     } else {

@@ -12,11 +12,15 @@ use upload_book::{
     Appended, Book, Content, Created, FirstChunk, Moment, Numbers, Refusal, Refused, Settings,
 };
 
-// How far acme's first two uploads are, what acme and beta pay, how many blocks are free, and the two totals.
-type Seen = ([Result<u64, Refusal>; 2], [u64; 5]);
+// How far acme's first three uploads are, what acme and beta pay, how many blocks are free, and the two totals.
+type Seen = ([Result<u64, Refusal>; 3], [u64; 5]);
 
 fn seen(rt: &impl Abort, book: &Book) -> Seen {
-    let offsets = [offset(rt, book, 1), offset(rt, book, 2)];
+    let offsets = [
+        offset(rt, book, 1),
+        offset(rt, book, 2),
+        offset(rt, book, 3),
+    ];
     (offsets, paid(rt, book))
 }
 
@@ -43,7 +47,7 @@ fn note_lacking(rt: &impl Abort, book: &Book, before: &Seen, is_lacking: &mut bo
     *is_lacking = true;
 }
 
-// A PATCH, and once more where it was refused since there was no memory; gives its answer, which is no such refusal.
+// A PATCH of the second upload, and once more where it was refused since there was no memory; gives its answer, which is no such refusal.
 fn patched(
     rt: &impl Abort,
     book: &mut Book,
@@ -52,7 +56,7 @@ fn patched(
     bytes: &[u8],
 ) -> Result<Appended, Refused> {
     let before = seen(rt, book);
-    let answer = patch(rt, book, 1, offset, bytes);
+    let answer = patch(rt, book, 2, offset, bytes);
     let Err(
         Refused {
             refusal: Refusal::Memory,
@@ -64,7 +68,7 @@ fn patched(
     };
     assert!(rt; expires == Moment::new(4600));
     note_lacking(rt, book, &before, is_lacking);
-    patch(rt, book, 1, offset, bytes)
+    patch(rt, book, 2, offset, bytes)
 }
 
 // A creation of an upload with its first bytes.
@@ -90,10 +94,10 @@ fn created(rt: &impl Abort, book: &mut Book, is_lacking: &mut bool) -> Result<Cr
     create(rt, book)
 }
 
-// A final upload of the first one twice.
+// A final upload of the second one twice.
 fn join(rt: &impl Abort, book: &mut Book) -> Result<Created, Refusal> {
     let tenant = book.settings().tenant(ACME).expect(rt, "acme");
-    let parts = [Some(1), Some(1)];
+    let parts = [Some(2), Some(2)];
     book.concat(tenant, new_final(rt, &parts), moment(rt, 1000))
 }
 
@@ -135,21 +139,28 @@ fn assert_paid(rt: &impl Abort, book: &Book, expected: [u64; 5]) {
     assert!(rt; paid(rt, book) == expected);
 }
 
-// Settings by which a tenant may have two uploads.
-fn two_uploads(rt: &impl Abort) -> Settings {
+// Settings by which a tenant may have three uploads.
+fn three_uploads(rt: &impl Abort) -> Settings {
     let numbers = Numbers {
-        uploads: 2,
+        uploads: 3,
         ..NUMBERS
     };
     let settings = Settings::new(numbers, &[(ACME, 8), (BETA, 4)]);
     settings.expect(rt, "settings")
 }
 
-// Makes acme's first upload, a partial one of twenty bytes.
+// Before all else acme's first upload is made, with its bytes.
+fn create_first(rt: &impl Abort, book: &mut Book, is_lacking: &mut bool) {
+    let made = created(rt, book, is_lacking);
+    assert_made(rt, made, 1);
+    assert_paid(rt, book, [2, 0, 10, 2, 0]);
+}
+
+// Makes the second, a partial one of twenty bytes.
 fn create_partial(rt: &impl Abort, book: &mut Book) {
     let place = book.settings().tenant(ACME).expect(rt, "acme");
     let made = book.create(place, new_upload(true, Some(20)), moment(rt, 1000));
-    assert_made(rt, made, 1);
+    assert_made(rt, made, 2);
 }
 
 // Asserts that an upload was made, of this id.
@@ -158,7 +169,7 @@ fn assert_made(rt: &impl Abort, made: Result<Created, Refusal>, id: u64) {
     assert!(rt; made.name.id == id, "upload {id}");
 }
 
-// Asserts that a PATCH is accepted, and that the first upload ends there after it.
+// Asserts that a PATCH is accepted, and that the second upload ends there after it.
 fn assert_patched(
     rt: &impl Abort,
     book: &mut Book,
@@ -178,36 +189,36 @@ fn assert_removed(rt: &impl Abort, book: &mut Book, id: u64, blocks: u64) {
     assert!(rt; removed.released == blocks, "upload {id}");
 }
 
-// The first upload gets its bytes in three pieces.
+// The second upload gets its bytes in three pieces.
 fn fill(rt: &impl Abort, book: &mut Book, is_lacking: &mut bool) {
     assert_patched(rt, book, is_lacking, 0, b"hello", 5);
     assert_patched(rt, book, is_lacking, 5, b"wor", 8);
     assert_patched(rt, book, is_lacking, 8, b"ld and more.", 20);
-    assert_paid(rt, book, [5, 0, 7, 5, 0]);
-    assert_content(rt, book, is_lacking, 1, b"helloworld and more.");
+    assert_paid(rt, book, [7, 0, 5, 7, 0]);
+    assert_content(rt, book, is_lacking, 2, b"helloworld and more.");
 }
 
-// The second one is the first twice.
+// The third one is the second twice.
 fn double(rt: &impl Abort, book: &mut Book, is_lacking: &mut bool) {
     let made = joined(rt, book, is_lacking);
-    assert_made(rt, made, 2);
+    assert_made(rt, made, 3);
     let twice = b"helloworld and more.helloworld and more.";
-    assert_content(rt, book, is_lacking, 2, twice);
+    assert_content(rt, book, is_lacking, 3, twice);
 }
 
 // Both are ended,
 fn end_both(rt: &impl Abort, book: &mut Book) {
-    assert_removed(rt, book, 1, 0);
-    assert_removed(rt, book, 2, 5);
-    assert_paid(rt, book, [0, 0, 12, 5, 5]);
+    assert_removed(rt, book, 2, 0);
+    assert_removed(rt, book, 3, 5);
+    assert_paid(rt, book, [2, 0, 10, 7, 5]);
 }
 
-// and there is a third.
-fn create_third(rt: &impl Abort, book: &mut Book, is_lacking: &mut bool) {
+// and there is a fourth.
+fn create_fourth(rt: &impl Abort, book: &mut Book, is_lacking: &mut bool) {
     let made = created(rt, book, is_lacking);
-    assert_made(rt, made, 3);
-    assert_content(rt, book, is_lacking, 3, b"hello");
-    assert_paid(rt, book, [2, 0, 10, 7, 5]);
+    assert_made(rt, made, 4);
+    assert_content(rt, book, is_lacking, 4, b"hello");
+    assert_paid(rt, book, [4, 0, 8, 9, 5]);
 }
 
 // Makes the calls after so many allocations. Says whether memory was lacking for the book or for a call.
@@ -215,15 +226,16 @@ fn is_lacking_after(rt: &impl Abort, alloc: Global, spent: usize) -> bool {
     for _ in 0..spent {
         let _ = Vec::<u8>::with_capacity(alloc, 1);
     }
-    let Ok(mut book) = Book::new(alloc, two_uploads(rt)) else {
+    let Ok(mut book) = Book::new(alloc, three_uploads(rt)) else {
         return true;
     };
     let mut is_lacking = false;
+    create_first(rt, &mut book, &mut is_lacking);
     create_partial(rt, &mut book);
     fill(rt, &mut book, &mut is_lacking);
     double(rt, &mut book, &mut is_lacking);
     end_both(rt, &mut book);
-    create_third(rt, &mut book, &mut is_lacking);
+    create_fourth(rt, &mut book, &mut is_lacking);
     is_lacking
 }
 

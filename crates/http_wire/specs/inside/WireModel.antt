@@ -20,10 +20,11 @@ module _ {R W : Type 0} where
     writes = is_alive state;
   }
 
-  -- What holds of every wire: while it reads, no read has failed and the reader's end was seen only there; while it writes,
-  -- no write has failed; and bodies have less than two gigabytes.
+  -- What holds of every wire: while it reads, it also writes, no read has failed, and the reader's end was seen only there;
+  -- while it writes, no write has failed; and bodies have less than two gigabytes.
   pub record IsSound (s : Streams R W) (w : OnWire R W) : Type 0 where
     pub size : w.max_size < 2 ^ 31
+    pub both : w.reads ≡ true → w.writes ≡ true
     pub reader_alive : w.reads ≡ true → s.read_failed w.reader ≡ false
     pub writer_alive : w.writes ≡ true → s.write_failed w.writer ≡ false
     pub end : w.reads ≡ true → w.ended ≡ true → IsAtEnd (s.remaining w.reader)

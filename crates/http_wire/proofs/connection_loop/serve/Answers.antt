@@ -1,8 +1,9 @@
 use Rattle.std.proofs.Common.{arith, ℕ, ◌+◌, ◌∷◌, ◌++◌, [], true≢false, Some, Ok, Err, refl, ◌∙◌, ap, subst, subst₂, sym, append-nil, append_assoc}
 use Rattle.std.proofs.lemmas.List.{length-append}
 use Rattle.std.proofs.lemmas.Result.{err_from_is_err_and}
-use Rattle.http_wire.specs.Exchange.{Exchange}
-use Rattle.http_wire.specs.Turns.{Breaks, Converses, EndsByTurn, TakesTurn}
+use Rattle.http_wire.specs.Asking.{BreaksAsked}
+use Rattle.http_wire.specs.Exchange.{Exchange, last_part}
+use Rattle.http_wire.specs.Turns.{Breaks, Converses, EndsByTurn, TakesTurn, Turns}
 use Rattle.http_wire.proofs.AheadLemmas.{Appends-none, Appends-more, Consumes-none, Consumes-more}
 use Rattle.http_wire.proofs.ConversationLemmas.{Reached, next_from, Reached-more, Converses-last, Converses-all, Breaks-after, IfErr-from, Tells-more, timed_asked, timed_weaker}
 use Rattle.http_wire.proofs.connection_loop.serve.Goals as goal
@@ -54,6 +55,35 @@ returns-in_err-turn-clause-breaks g c =
             Appends-more _ _ _ reached.4 turn.1 reached.6 turn.3,
             subst (λ i. Breaks g.A.Answer.steps max (ms ++ m ∷ []) (record x { input = i; text = reached.4 ++ turn.1; after = b2 }) fault) (append_assoc start reached.3 turn.0) breaks,
           )) timed,
+    )
+
+pub returns-in_err-turn-clause-asked : goal.returns-in_err-turn-clause-asked
+returns-in_err-turn-clause-asked g c =
+    let p = err_from_is_err_and c.from_residual.result c.from_residual.ensures.1 in
+    let max = c.args.wire.now.max_size in
+    let reached = c.loop-taken.invariant.reached in
+    let asked = (c.in_err-turn.ensures.turn.reading c.loop-taken.invariant.reads).asked in
+    let fault = c.in_err-turn.field-0.0 in
+    let start = c.args.wire.now.held in
+    let b1 = c.loop-taken.answerer in
+    let x : Exchange _ = record { input = start ++ (reached.3 ++ asked.0); text = reached.4 ++ asked.1; before = c.args.answerer.now; after = c.take_turn.new.answerer } in
+    IfErr-from _ c.from_residual.result p.0 fault p.1 p.2 (
+      reached.3 ++ asked.0,
+      reached.4 ++ asked.1,
+      Consumes-more _ _ _ reached.3 asked.0 reached.5 asked.2,
+      Appends-more _ _ _ reached.4 asked.1 reached.6 asked.3,
+      record {
+        moments = reached.0;
+        last = c.loop-taken.clock;
+        told = reached.2;
+        text = reached.4;
+        later = asked.1;
+        rest = c.loop-taken.wire.held ++ asked.0;
+        state = b1;
+        turns = subst (λ i. Turns g.A.Answer.steps max reached.0 (record x { input = i; text = reached.4; after = b1 }) (c.loop-taken.wire.held ++ asked.0)) (append_assoc start reached.3 asked.0) (reached.7 asked.0);
+        breaks = subst (λ k. BreaksAsked g.A.Answer.steps g.C.Clock.tells k c.loop-taken.clock c.take_turn.new.clock (last_part x (c.loop-taken.wire.held ++ asked.0) b1 asked.1) fault) c.loop-taken.invariant.size asked.4;
+        whole = refl;
+      },
     )
 
 pub returns-in_err-turn-clause-fault : goal.returns-in_err-turn-clause-fault

@@ -1,9 +1,11 @@
 use Rattle.std.proofs.Common.{◌++◌, refl}
 use Rattle.std.proofs.lemmas.Result.{err_from_is_err_and}
+use Rattle.http_wire.specs.Asking as asking
 use Rattle.http_wire.specs.Clock.{asked, unasked}
 use Rattle.http_wire.specs.Exchange.{Exchange}
 use Rattle.http_wire.proofs.AheadLemmas.{Appends-more}
-use Rattle.http_wire.proofs.FinishLemmas.{IfOk-when}
+use Rattle.http_wire.proofs.FinishLemmas.{Finishes-asked, IfErr-more, IfOk-when}
+use Rattle.http_wire.proofs.ConversationLemmas.{IfErr-from}
 use Rattle.http_wire.proofs.TurnLemmas.{BreaksTurn-front, TakesTurn-broken}
 use Rattle.http_wire.proofs.conversation.take_turn.Goals as goal
 
@@ -20,6 +22,19 @@ returns-in_err-incoming-clause-turn g c =
       TakesTurn-broken g.A.Answer.steps c.args.max_size now x c.read_incoming.new.inbox.held c.from_residual.result p.0 c.in_err-incoming.field-0.0 p.1 p.2
           (BreaksTurn-front g.A.Answer.steps c.args.max_size now x c.in_err-incoming.field-0.0 f.4 refl),
     ))
+
+pub returns-in_err-incoming-clause-asked : goal.returns-in_err-incoming-clause-asked
+returns-in_err-incoming-clause-asked g c =
+    let p = err_from_is_err_and c.from_residual.result c.from_residual.ensures.1 in
+    let f = c.in_err-incoming.ensures.reads in
+    IfErr-from _ c.from_residual.result p.0 c.in_err-incoming.field-0.0 p.1 p.2 (f.0, f.1, f.2, f.3, asking.unasked refl refl f.4)
+
+pub returns-clause-asked : goal.returns-clause-asked
+returns-clause-asked g c =
+    let f = c.in_ok-incoming.ensures.reads in
+    let told = c.moment-now.ensures in
+    IfErr-more _ _ c.finish_turn.result (λ fault t. (f.0, f.1 ++ t.0, f.2, Appends-more _ _ _ f.1 t.0 f.3 t.1, t.2))
+    (Finishes-asked g.A.Answer.steps g.C.Clock.tells _ _ c.args.max_size c.moment-now.result c.read_incoming.new.inbox _ (c.args.buffers.now.inbox.held ++ f.0) f.1 _ _ _ _ _ c.finish_turn.result told f.4 c.finish_turn.ensures.finishes)
 
 pub returns-clause-turn : goal.returns-clause-turn
 returns-clause-turn g c =

@@ -33,6 +33,7 @@ returns-after-turn g c =
       turn = record {
         reading = λ _. record {
           turn = turn.turn;
+          asked = turn.asked;
           end = ends _ c.take_turn-turn.new.buffers.inbox c.take_turn-turn.result (c.self.invariant.end reading) turn.end;
           ends = turn.ends;
           stops = turn.stops;
