@@ -1,5 +1,5 @@
 -- The values of a name, one field after another.
-use Rattle.std.proofs.Common.{◌≡◌, ◌≢◌, ℕ, ◌+◌, ◌<◌, List, [], ◌∷◌, ◌++◌, length, take, get_or, bytes_eq, false, refl, sym, ap, ◌∙◌, inl, inr, append-nil}
+use Rattle.std.proofs.Common.{◌≡◌, ◌≢◌, ℕ, ◌+◌, ◌<◌, Bool, true, true≢false, List, [], ◌∷◌, ◌++◌, length, take, get_or, bytes_eq, false, refl, sym, ap, ◌∙◌, inl, inr, append-nil}
 use Rattle.std.proofs.lemmas.Bool.{cases_Bool}
 use Rattle.std.proofs.lemmas.List.{take_more}
 use Rattle.std.proofs.lemmas.Slice.Eq.{bytes_eq-Decides}
@@ -9,7 +9,7 @@ use Rattle.http_header.proofs.HeaderMapLemmas.{get_all-append_same, get_all-appe
 use Rattle.httparse.specs.Spans.{span_bytes}
 use Rattle.httparse.specs.declared.spans.Span.{Span}
 use Rattle.httparse.specs.declared.spans.HeaderSpan.{HeaderSpan}
-use Rattle.http_wire.specs.inside.FieldSpans.{spans_named}
+use Rattle.http_wire.specs.inside.FieldSpans.{is_counted, kept_if, spans_named}
 
 pub spans_named-append : (head name : List ℕ) (xs ys : List HeaderSpan)
     → spans_named head name (xs ++ ys) ≡ spans_named head name xs ++ spans_named head name ys
@@ -42,9 +42,33 @@ get_all-append_named m head key name h e =
     apart : bytes_eq (lowercase (span_bytes head h.name)) name ≡ false → lowercase (span_bytes head h.name) ≡ name → ⊥
     apart f k = cc (f, (bytes_eq-Decides (lowercase (span_bytes head h.name)) name).1 k)
 
+kept_if-append : {A : Type 0} (b : Bool) (xs ys : List A) → kept_if b (xs ++ ys) ≡ kept_if b xs ++ kept_if b ys
+kept_if-append true xs ys = refl
+kept_if-append false xs ys = refl
+
+-- of one field, where its name has this test: its value is kept under another name only where that has the same test
+kept_named : (test : List ℕ → Bool) (head name : List ℕ) (h : HeaderSpan) (b : Bool) → test (lowercase (span_bytes head h.name)) ≡ b
+    → kept_if (test name) (spans_named head name (h ∷ [])) ≡ kept_if b (spans_named head name (h ∷ []))
+kept_named test head name h b is =
+    elim (cases_Bool (bytes_eq (lowercase (span_bytes head h.name)) name)) [
+      | inl t ↦ ap (λ k. kept_if k (spans_named head name (h ∷ []))) (ap test (sym ((bytes_eq-Decides (lowercase (span_bytes head h.name)) name).0 t)) ∙ is)
+      | inr f ↦ rw f (none (test name) ∙ sym (none b))
+    ]
+  where
+    none : (k : Bool) → kept_if {A = Span} k [] ≡ []
+    none true = refl
+    none false = refl
+
+-- a value that counts was added under its name
+pub get_all-append_counted : (m : Entries Span) (head key name : List ℕ) (h : HeaderSpan) → key ≡ lowercase (span_bytes head h.name) → is_counted (lowercase (span_bytes head h.name)) ≡ true
+    → get_all (append m key h.value) name ≡ get_all m name ++ kept_if (is_counted name) (spans_named head name (h ∷ []))
+get_all-append_counted m head key name h e counted =
+    get_all-append_named m head key name h e ∙ ap (λ l. get_all m name ++ l) (sym (kept_named (λ n. is_counted n) head name h true counted))
+
 -- one more step of a loop over the fields
-pub found_more : (head name : List ℕ) (xs : List HeaderSpan) (i : ℕ) (d : HeaderSpan) (before after : List Span) → i < length xs
-    → after ≡ before ++ spans_named head name (get_or xs i d ∷ []) → before ≡ spans_named head name (take i xs)
-    → after ≡ spans_named head name (take (i + 1) xs)
-found_more head name xs i d before after h step so_far =
-    step ∙ ap (λ l. l ++ spans_named head name (get_or xs i d ∷ [])) so_far ∙ sym (spans_named_more head name xs i d h)
+pub found_more : (b : Bool) (head name : List ℕ) (xs : List HeaderSpan) (i : ℕ) (d : HeaderSpan) (before after : List Span) → i < length xs
+    → after ≡ before ++ kept_if b (spans_named head name (get_or xs i d ∷ [])) → before ≡ kept_if b (spans_named head name (take i xs))
+    → after ≡ kept_if b (spans_named head name (take (i + 1) xs))
+found_more b head name xs i d before after h step so_far =
+    step ∙ ap (λ l. l ++ kept_if b (spans_named head name (get_or xs i d ∷ []))) so_far
+    ∙ sym (ap (kept_if b) (spans_named_more head name xs i d h) ∙ kept_if-append b (spans_named head name (take i xs)) (spans_named head name (get_or xs i d ∷ [])))

@@ -1,5 +1,5 @@
 -- The fields of a parsed head: where their values stand, and that their names are names.
-use Rattle.std.proofs.Common.{◌≡◌, ◌≢◌, ℕ, ◌-◌, ◌≤◌, List, [], ◌∷◌, length, drop, map, All, bytes_eq, refl, ap, ◌∙◌, inl, inr, arith, length-take, IsTrue}
+use Rattle.std.proofs.Common.{◌≡◌, ◌≢◌, ℕ, ◌-◌, ◌≤◌, Bool, true, false, List, [], ◌∷◌, length, drop, map, All, bytes_eq, refl, ap, ◌∙◌, inl, inr, arith, length-take, IsTrue}
 use Rattle.std.proofs.lemmas.Bool.{cases_Bool}
 use Rattle.std.proofs.lemmas.List.Elements.{All-nil, All-cons, All-head, All-tail, All-weaker}
 use Rattle.http_header.specs.FieldName.{IsFieldName}
@@ -10,7 +10,7 @@ use Rattle.httparse.specs.Spans.{IsWithin, IsHeaderWithin, span_bytes, header_by
 use Rattle.httparse.specs.declared.spans.Span.{Span}
 use Rattle.httparse.specs.declared.spans.HeaderSpan.{HeaderSpan}
 use Rattle.http_header.specs.HeaderMap.{Entries, get_all}
-use Rattle.http_wire.specs.inside.FieldSpans.{spans_named, HasFields}
+use Rattle.http_wire.specs.inside.FieldSpans.{is_counted, kept_if, spans_named, HasFields}
 use Rattle.http_wire.specs.Fields.{values_named}
 
 -- the values of a name lie where all headers lie
@@ -22,6 +22,11 @@ All-spans_named n head name (s ∷ spans) h =
       | inl t ↦ rw t (All-cons (IsWithin n) s.value (spans_named head name spans) (All-head (IsHeaderWithin n) s spans h).1 rest)
       | inr f ↦ rw f rest
     ]
+
+-- and so do those that are kept
+pub All-kept_if : (n : ℕ) (b : Bool) (spans : List Span) → All (IsWithin n) spans → All (IsWithin n) (kept_if b spans)
+All-kept_if n true spans h = h
+All-kept_if n false spans h = All-nil (IsWithin n)
 
 -- both crates mean the same bytes of a name
 same_byte : (b : ℕ) → IsTrue (is_token_byte b) → IsTrue (header.is_token_byte b)
@@ -70,8 +75,12 @@ map-spans_named head name (s ∷ spans) (f ∷ fields) e =
 
 -- what was gathered are the fields of the head
 pub HasFields-gathered : (head : List ℕ) (spans : List HeaderSpan) (fields : List Field) (found : Entries Span)
-    → ((name : List ℕ) → get_all found name ≡ spans_named head name spans) → map (header_bytes head) spans ≡ map name_and_value fields → HasFields head found fields
-HasFields-gathered head spans fields found g e name = ap (map (span_bytes head)) (g name) ∙ map-spans_named head name spans fields e
+    → ((name : List ℕ) → get_all found name ≡ kept_if (is_counted name) (spans_named head name spans)) → map (header_bytes head) spans ≡ map name_and_value fields → HasFields head found fields
+HasFields-gathered head spans fields found g e name = ap (map (span_bytes head)) (g name) ∙ kept (is_counted name)
+  where
+    kept : (b : Bool) → map (span_bytes head) (kept_if b (spans_named head name spans)) ≡ kept_if b (values_named name fields)
+    kept true = map-spans_named head name spans fields e
+    kept false = refl
 
 -- where some fields were parsed, the head has some
 pub has_fields : (head : List ℕ) (spans : List HeaderSpan) (fields : List Field) → map (header_bytes head) spans ≡ map name_and_value fields → spans ≢ [] → fields ≢ []

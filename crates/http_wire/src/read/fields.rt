@@ -4,7 +4,7 @@ ghost use Rattle.http_header.specs.FieldName.{IsFieldName};
 ghost use Rattle.http_header.specs.HeaderMap.{get_all};
 ghost use Rattle.http_header.specs.Token.{lowercase};
 ghost use Rattle.http_wire.specs.Layout.{IsInside, field_at};
-ghost use Rattle.http_wire.specs.inside.FieldSpans.{spans_named};
+ghost use Rattle.http_wire.specs.inside.FieldSpans.{is_counted, is_framing_name, is_tus_name, kept_if, spans_named};
 ghost use Rattle.http_wire.specs.Fields.{field_of_values};
 
 use http_header::{HeaderMap, HeaderName, HeaderNameError};
@@ -48,9 +48,9 @@ impl FieldSpan {
     }
 }
 
-/// Puts the places of all values of `head` under their names into `found`, in place of what it had.
-/// The error is that there is no memory, which a head without fields needs none of; `found` is then of
-/// no use.
+/// Puts the places of the values of `head` that count under their names into `found`, in place of what it had. Any other
+/// field is passed over, and costs no memory. The error is that there is no memory, which a head without fields needs
+/// none of; `found` is then of no use.
 pub fn gather(
     alloc: Global,
     head: &[u8],
@@ -60,7 +60,7 @@ pub fn gather(
     requires within { All (IsHeaderWithin (length head.now)) spans.now }
     requires names { All (λ h. IsFieldName (span_bytes head.now h.name)) spans.now }
     ensures found { OnOk result ((name : List ℕ)
-        → get_all found.new name ≡ spans_named head.now name spans.now) }
+        → get_all found.new name ≡ kept_if (is_counted name) (spans_named head.now name spans.now)) }
     ensures memory { OnErr result (spans.now ≢ []) }
 {
     found.clear();
@@ -70,7 +70,7 @@ pub fn gather(
     Ok(())
 }
 
-// Adds one value under its name. No name of a head that was parsed is refused as no name.
+// Adds one value under its name, where that counts. No name of a head that was parsed is refused as no name.
 fn put(
     alloc: Global,
     head: &[u8],
@@ -80,8 +80,11 @@ fn put(
     requires within { IsHeaderWithin (length head.now) span }
     requires name { IsFieldName (span_bytes head.now span.name) }
     ensures { OnOk result ((name : List ℕ) → get_all found.new name
-        ≡ get_all found.old name ++ spans_named head.now name (span ∷ [])) }
+        ≡ get_all found.old name ++ kept_if (is_counted name) (spans_named head.now name (span ∷ []))) }
 {
+    if !is_counted(span.name.of(head)) {
+        return Ok(());
+    }
     let name = match HeaderName::from_bytes(alloc, span.name.of(head)) {
         Ok(name) => name,
         Err(HeaderNameError::Invalid) => return Ok(()),
@@ -91,6 +94,37 @@ fn put(
         Ok(_) => Ok(()),
         Err(_) => Err(AllocError),
     }
+}
+
+// Whether a field of this name counts, in whatever letter case.
+fn is_counted(name: &[u8]) -> bool
+    ensures { result ≡ is_counted (lowercase name.now) }
+{
+    is_framing_name(name) || is_tus_name(name)
+}
+
+fn is_framing_name(name: &[u8]) -> bool
+    ensures { result ≡ is_framing_name (lowercase name.now) }
+{
+    name.eq_ignore_ascii_case(b"host")
+        || name.eq_ignore_ascii_case(b"content-length")
+        || name.eq_ignore_ascii_case(b"transfer-encoding")
+        || name.eq_ignore_ascii_case(b"connection")
+        || name.eq_ignore_ascii_case(b"expect")
+        || name.eq_ignore_ascii_case(b"x-http-method-override")
+}
+
+fn is_tus_name(name: &[u8]) -> bool
+    ensures { result ≡ is_tus_name (lowercase name.now) }
+{
+    name.eq_ignore_ascii_case(b"tus-resumable")
+        || name.eq_ignore_ascii_case(b"upload-offset")
+        || name.eq_ignore_ascii_case(b"content-type")
+        || name.eq_ignore_ascii_case(b"upload-length")
+        || name.eq_ignore_ascii_case(b"upload-defer-length")
+        || name.eq_ignore_ascii_case(b"upload-metadata")
+        || name.eq_ignore_ascii_case(b"upload-concat")
+        || name.eq_ignore_ascii_case(b"upload-checksum")
 }
 
 /// What a head has under a name, which is given in lower case, where its fields were gathered.

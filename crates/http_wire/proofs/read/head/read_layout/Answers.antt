@@ -1,7 +1,8 @@
 use Rattle.std.proofs.Common.{◌≡◌, ◌∙◌, Bool, true, length, take, ap, sym}
 use Rattle.tus_steps.specs.Method.{is_head}
 use Rattle.http_wire.specs.Front.{method_of}
-use Rattle.http_wire.proofs.NameLemmas.{All-names, All-spans_named, HasFields-gathered, has_fields}
+use Rattle.http_wire.specs.inside.FieldSpans.{is_counted}
+use Rattle.http_wire.proofs.NameLemmas.{All-kept_if, All-names, All-spans_named, HasFields-gathered, has_fields}
 use Rattle.http_wire.proofs.HeadLemmas.{ReadsLayout-judged, ReadsLayout-memory}
 use Rattle.http_wire.proofs.read.head.read_layout.Goals as goal
 
@@ -14,8 +15,8 @@ gather-requires-clause-names c =
 pub layout_of-requires-clause-fields : goal.layout_of-requires-clause-fields
 layout_of-requires-clause-fields c name =
     rw (c.in-Ok.ensures.found name)
-    (All-spans_named (length c.args.head.now) c.args.head.now name (take c.in-Some.line.headers c.parse.new.spans)
-    (rw c.in-Some.ensures.1.whole at c.in-Some.ensures.1.within.section.headers_fit))
+    (All-kept_if (length c.args.head.now) (is_counted name) _ (All-spans_named (length c.args.head.now) c.args.head.now name (take c.in-Some.line.headers c.parse.new.spans)
+    (rw c.in-Some.ensures.1.whole at c.in-Some.ensures.1.within.section.headers_fit)))
 
 pub returns-in-Ok-clause-gives : goal.returns-in-Ok-clause-gives
 returns-in-Ok-clause-gives c =
