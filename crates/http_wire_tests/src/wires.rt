@@ -228,20 +228,20 @@ fn large_message(rt: &impl Abort, alloc: Global) -> Vec<u8> {
     large
 }
 
-/// The buffers have memory for a message and one more read after it, and keep it for the next connection.
+/// The buffers have memory for a message and one more read after it, the least power of two that suffices, and keep it
+/// for the next connection.
 #[test]
 fn room_of_buffers(rt: HostRuntime) {
     let alloc = rt.alloc();
     let large = large_message(&rt, alloc);
-    let grown = large.len().saturating_add(16_384);
     let new = Buffers::new(alloc).expect(&rt, "memory");
     assert!(rt; new.room() == 65_536, "at first");
     let small = read_over(&rt, alloc, new, POST);
     assert!(rt; small.room() == 65_536, "after a small message");
     let full = read_over(&rt, alloc, small, &large);
-    assert!(rt; full.room() == grown, "after a large message");
+    assert!(rt; full.room() == 131_072, "after a large message");
     let kept = read_over(&rt, alloc, full, POST);
-    assert!(rt; kept.room() == grown, "after a small message again");
+    assert!(rt; kept.room() == 131_072, "after a small message again");
 }
 
 /// The first wire leaves its buffers with a message in them that nobody has asked for. A wire over these begins anew,

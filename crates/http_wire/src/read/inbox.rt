@@ -1,4 +1,5 @@
 ghost use Rattle.std.specs.Prelude.{◌≡◌, ◌⊎◌, ◌+◌, ◌^◌, ◌<◌, ◌≤◌, ◌++◌, [], true, false, length, take, drop, IfOk, OnOk, OnErr, IfErr, is_err, slice_range, vec_len, vec_capacity};
+ghost use Rattle.std.specs.Int.{IsNextPowerOfTwo};
 ghost use Rattle.std.specs.Io.KnownBytes.{Consumes, Keeps, IsAtEnd};
 ghost use Rattle.http_wire.specs.inside.Ahead.{Ahead, Grew};
 
@@ -129,16 +130,17 @@ impl Inbox {
         self.at += count;
     }
 
-    /// Makes room for `total` bytes held at once and one more read after them, and for no more; where
-    /// there is room enough, it stays. The error is that there is no memory, which comes only where there
-    /// was not room enough, so never for 49,152 bytes or fewer. Then nothing changed.
+    /// Makes room for `total` bytes held at once and one more read after them: the least power of two that suffices,
+    /// so that a message which is a little longer than the last moves nothing. Where there is room enough, it stays.
+    /// The error is that there is no memory, which comes only where there was not room enough, so never for 49,152
+    /// bytes or fewer. Then nothing changed.
     pub fn reserve(&mut self, total: usize) -> Result<(), AllocError>
         requires { total < 2 ^ 32 }
         ensures held { self.new.held ≡ self.old.held }
         ensures ended { self.new.ended ≡ self.old.ended }
         ensures ok { OnOk result (total + READ_SIZE ≤ self.new.room) }
         ensures exact { OnOk result (self.old.room < total + READ_SIZE
-            → self.new.room ≡ total + READ_SIZE) }
+            → IsNextPowerOfTwo (total + READ_SIZE) self.new.room) }
         ensures kept { OnOk result (total + READ_SIZE ≤ self.old.room
             → self.new.room ≡ self.old.room) }
         ensures err { OnErr result (self.new ≡ self.old) }
@@ -148,12 +150,13 @@ impl Inbox {
         let needed = total + READ_SIZE;
         let count = self.end - self.at;
         if self.room < needed {
+            let room = needed.next_power_of_two();
             self.buffer = moved(
                 &self.buffer.as_slice()[self.at..self.end],
-                needed,
+                room,
                 *self.buffer.allocator(),
             )?;
-            self.room = needed;
+            self.room = room;
             self.at = 0;
         } else {
             self.at = place_with_room(&mut self.buffer, self.at, count, needed, self.room);
