@@ -3,6 +3,7 @@ ghost use Rattle.std.specs.Prelude.{◌≡◌, ◌++◌, false};
 ghost use Rattle.http_wire.specs.ReplyText.{reply_text, refusal_text};
 ghost use Rattle.http_wire.specs.Writes.{Writes};
 
+pub mod last_date;
 pub mod own_fields;
 pub mod page;
 pub mod reply;

@@ -1,5 +1,7 @@
 ghost use Rattle.std.specs.Prelude.{◌≡◌, ◌+◌, ◌≤◌, [], ◌++◌, length, IfOk, vec_capacity, decimal, codes};
+ghost use Rattle.tus_text.specs.Date.{expires_text};
 
+use crate::write::last_date::LastDate;
 use itoa::Buffer;
 use std::alloc::{AllocError, Global};
 use std::marker::Model;
@@ -37,6 +39,7 @@ pub const HEAD_MAX: usize = FIELDS_MAX + ENDING_MAX;
 #[derive(Drop)]
 pub struct Page {
     text: Vec<u8>,
+    last_date: LastDate,
 }
 
 impl Model for Page {
@@ -56,7 +59,10 @@ impl Page {
         ensures { IfOk result (λ p. p ≡ []) }
     {
         let text = Vec::with_capacity(alloc, PAGE_SIZE)?;
-        Ok(Page { text })
+        Ok(Page {
+            text,
+            last_date: LastDate::new(),
+        })
     }
 
     /// Takes all bytes off the page.
@@ -64,6 +70,14 @@ impl Page {
         ensures { self.new ≡ [] }
     {
         self.text.clear();
+    }
+
+    /// The date of a moment. It is kept for the other replies within the same second.
+    pub fn date_at(&mut self, moment: Moment) -> [u8; 29]
+        ensures date { result ≡ expires_text moment }
+        ensures same { self.new ≡ self.old }
+    {
+        self.last_date.at(moment)
     }
 
     /// The bytes that were put.

@@ -10,7 +10,6 @@ use crate::write::own_fields::put_own_fields;
 use crate::write::page::{CONTENT_MAX, ENDING_MAX, FIELDS_MAX, HEAD_MAX, OPENING_MAX, Page};
 use itoa::Buffer;
 use tus_steps::Reply;
-use tus_text::write_expires;
 use upload_book::Moment;
 
 /// Puts the bytes of a reply at the moment of its message, but for the bytes of an upload: those are
@@ -70,7 +69,8 @@ fn put_opening(page: &mut Page, status: u16, now: Moment)
     ensures len { length page.new ≤ OPENING_MAX }
 {
     put_status_line(page, status);
-    page.put_line(b"Date", &write_expires(now.secs()));
+    let date = page.date_at(now);
+    page.put_line(b"Date", &date);
     page.put_line(b"Tus-Resumable", b"1.0.0");
 }
 
