@@ -1,11 +1,12 @@
 #!/usr/bin/env python3
-"""What `serve` does beside nginx, on one machine, in one run.
+"""What `serve` does beside nginx and beside the least server in C (least.c), on one machine, in one run.
 
     bench/serve/measure.py PROGRAM
 
-needs nginx and gcc (Debian's). It prints a table for README.md: HEADs, PATCHes and connections a second, each beside
-what nginx does with a HEAD of a small file and a PUT of the same bytes (to a file in memory), as a ratio of rates and
-of requests for a processor second.
+needs nginx and gcc (Debian's), and at least two processors. It prints the table of README.md: HEADs, PATCHes and
+connections a second, each beside what nginx does with a HEAD of a small file and a PUT of the same bytes (to a file in
+memory), and what the least server does with the same messages, as ratios of rates and of requests for a processor second.
+The servers have one half of the processors, and the clients the other.
 """
 import multiprocessing
 import os
@@ -19,6 +20,7 @@ import time
 
 SECONDS = 2
 MIB = 1048576
+HERE = os.path.dirname(os.path.abspath(__file__))
 NGINX = """worker_processes 16;
 daemon off;
 pid {folder}/nginx.pid;
@@ -39,18 +41,38 @@ http {{
 """
 
 
-def processor_seconds(pids):
-    ticks = 0
-    for pid in pids:
-        with open(f'/proc/{pid}/stat') as stat:
-            fields = stat.read().rsplit(')', 1)[1].split()
-        ticks += int(fields[11]) + int(fields[12])
-    return ticks / os.sysconf('SC_CLK_TCK')
+class Server:
+    """A server that was started, with its processes and where its small upload or file is."""
 
+    def __init__(self, port, words, processors):
+        self.port = port
+        self.process = subprocess.Popen(words, stdout=subprocess.DEVNULL, preexec_fn=lambda: os.sched_setaffinity(0, processors))
+        time.sleep(1)
+        children = subprocess.run(['pgrep', '-P', str(self.process.pid)], capture_output=True, text=True).stdout.split()
+        self.pids = [self.process.pid, *map(int, children)]
+        self.small = '/small'
 
-def family(pid):
-    children = subprocess.run(['pgrep', '-P', str(pid)], capture_output=True, text=True).stdout.split()
-    return [pid, *map(int, children)]
+    def create(self):
+        """Creates an upload of 100 bytes, which HEADs look at."""
+        with socket.create_connection(('127.0.0.1', self.port)) as connection:
+            made = exchange(connection, request('POST', '/files/acme', ['Upload-Length: 100']))
+        self.small = re.search(rb'Location: (\S+)', made).group(1).decode()
+        return self
+
+    def processor_seconds(self):
+        ticks = 0
+        for pid in self.pids:
+            with open(f'/proc/{pid}/stat') as stat:
+                fields = stat.read().rsplit(')', 1)[1].split()
+            ticks += int(fields[11]) + int(fields[12])
+        return ticks / os.sysconf('SC_CLK_TCK')
+
+    def measured(self, work):
+        """What the work counts in a second, and for a processor second of the server."""
+        before, start = self.processor_seconds(), time.monotonic()
+        done = work()
+        wall, used = time.monotonic() - start, self.processor_seconds() - before
+        return done / wall, done / max(used, 0.01)
 
 
 def exchange(connection, data):
@@ -72,34 +94,22 @@ def request(method, path, fields, body=b''):
     return '\r\n'.join(lines).encode() + b'\r\n\r\n' + body
 
 
-def patches(port, size, end, counts, number):
-    """Sends PATCHes of this size, sixteen to an upload at most, which it then deletes. A connection has at most 4,096
-    messages, so now and then it takes another."""
-    connection, uploads = socket.create_connection(('127.0.0.1', port)), 0
-    body, done, each = bytes(size), 0, min(16, 16 * MIB // size)
-    pieces = [request('PATCH', '{}', [f'Upload-Offset: {i * size}', 'Content-Type: application/offset+octet-stream'], body)
-              for i in range(each)]
+def patches(port, end, number):
+    """Sends 16 MiB again and again, each to an upload of its own, which it then deletes."""
+    connection, body = socket.create_connection(('127.0.0.1', port)), bytes(16 * MIB)
     while time.monotonic() < end:
-        uploads += 1
-        if uploads % 200 == 0:
-            connection.close()
-            connection = socket.create_connection(('127.0.0.1', port))
-        reply = exchange(connection, request('POST', '/files/acme', [f'Upload-Length: {each * size}']))
-        path = re.search(rb'Location: (\S+)', reply).group(1)
-        for piece in pieces:
-            assert b' 204 ' in exchange(connection, piece.replace(b'{}', path, 1))
-        done += each
-        exchange(connection, request('DELETE', path.decode(), []))
-    counts[number] = done
+        made = exchange(connection, request('POST', '/files/acme', [f'Upload-Length: {16 * MIB}']))
+        path = re.search(rb'Location: (\S+)', made).group(1).decode()
+        fields = ['Upload-Offset: 0', 'Content-Type: application/offset+octet-stream']
+        assert b' 204 ' in exchange(connection, request('PATCH', path, fields, body))
+        exchange(connection, request('DELETE', path, []))
 
 
-def puts(port, size, end, counts, number):
-    connection = socket.create_connection(('127.0.0.1', port))
-    done, data = 0, request('PUT', f'/{number}.bin', [], bytes(size))
+def puts(port, end, number):
+    """Sends 16 MiB again and again to one file."""
+    connection, data = socket.create_connection(('127.0.0.1', port)), request('PUT', f'/{number}.bin', [], bytes(16 * MIB))
     while time.monotonic() < end:
         exchange(connection, data)
-        done += 1
-    counts[number] = done
 
 
 def short(port, path, end, counts, number):
@@ -112,83 +122,97 @@ def short(port, path, end, counts, number):
     counts[number] = done
 
 
-def clients(work, port, first, count, pids):
-    """How many requests so many clients made a second, and for a processor second of the server."""
+def connections(server, count):
+    """How many connections so many clients made for a HEAD each."""
     with multiprocessing.Manager() as manager:
-        counts = manager.list([0] * count)
-        before, start = processor_seconds(pids), time.monotonic()
-        all_of_them = [multiprocessing.Process(target=work, args=(port, first, start + SECONDS, counts, n)) for n in range(count)]
-        for client in all_of_them:
+        counts, end = manager.list([0] * count), time.monotonic() + SECONDS
+        clients = [multiprocessing.Process(target=short, args=(server.port, server.small, end, counts, n)) for n in range(count)]
+        for client in clients:
             client.start()
-        for client in all_of_them:
+        for client in clients:
             client.join()
-        wall, used = time.monotonic() - start, processor_seconds(pids) - before
-        return sum(counts) / wall, sum(counts) / max(used, 0.01)
+        return sum(counts)
 
 
-def heads(program, port, path, count, pids):
-    before, start = processor_seconds(pids), time.monotonic()
-    done = int(subprocess.run([program, str(port), str(count), str(SECONDS)], input=request('HEAD', path, []),
-                              capture_output=True, check=True).stdout)
-    return done / (time.monotonic() - start), done / max(processor_seconds(pids) - before, 0.01)
-
-
-def slow_heads(port, path, work, pids):
+def slow_heads(server, work):
     """The share of HEADs, in percent, that take more than a millisecond while four clients send 16 MiB at once."""
-    with multiprocessing.Manager() as manager:
-        counts, end = manager.list([0] * 4), time.monotonic() + SECONDS
-        busy = [multiprocessing.Process(target=work, args=(port, 16 * MIB, end, counts, n)) for n in range(4)]
-        for client in busy:
-            client.start()
-        connection, data = socket.create_connection(('127.0.0.1', port)), request('HEAD', path, [])
-        done = slow = 0
-        while time.monotonic() < end and done < 4000:
-            start = time.monotonic()
-            exchange(connection, data)
-            slow += time.monotonic() - start > 0.001
-            done += 1
-            time.sleep(0.001)
-        for client in busy:
-            client.join()
-        return 100 * slow / done
+    end = time.monotonic() + SECONDS
+    busy = [multiprocessing.Process(target=work, args=(server.port, end, n)) for n in range(4)]
+    for client in busy:
+        client.start()
+    connection, data = socket.create_connection(('127.0.0.1', server.port)), request('HEAD', server.small, [])
+    done = slow = 0
+    while time.monotonic() < end and done < 4000:
+        start = time.monotonic()
+        exchange(connection, data)
+        slow += time.monotonic() - start > 0.001
+        done += 1
+        time.sleep(0.001)
+    for client in busy:
+        client.join()
+    return 100 * slow / done
 
 
-def row(what, ours, theirs, scale=1, unit=''):
-    print(f'| {what} | {ours[0] * scale:,.0f}{unit} | {theirs[0] * scale:,.0f}{unit} | {ours[0] / theirs[0]:.2f} '
-          f'| {ours[1] / theirs[1]:.2f} |', flush=True)
+def row(what, measured, scale=1, unit=''):
+    """Prints what the servers did, the first of which is ours, and the ratios of ours to each of the others."""
+    ours, *others = measured
+    cells = [f'{rate * scale:,.0f}{unit}' for rate, _ in measured]
+    for rate, efficiency in others:
+        cells += [f'{ours[0] / rate:.2f}', f'{ours[1] / efficiency:.2f}']
+    print(f"| {what} | {' | '.join(cells)} |", flush=True)
+
+
+def built(folder, name):
+    subprocess.run(['gcc', '-O2', '-pthread', '-o', f'{folder}/{name}', f'{HERE}/{name}.c'], check=True)
+    return f'{folder}/{name}'
+
+
+def measure(folder, program):
+    processors = sorted(os.sched_getaffinity(0))
+    for_servers, for_clients = processors[:len(processors) // 2], processors[len(processors) // 2:]
+    load, least = built(folder, 'load'), built(folder, 'least')
+    open(f'{folder}/nginx.conf', 'w').write(NGINX.format(folder=folder))
+    ours = Server(18080, [program, 'serve', '--port', '18080', '--workers', '16', '--forever', '--max-size', '16777216',
+                          '--blocks', '131072', 'acme:131072'], for_servers)
+    nginx = Server(18081, [shutil.which('nginx') or '/usr/sbin/nginx', '-p', folder, '-c', 'nginx.conf'], for_servers)
+    floor = Server(18082, [least, '18082', '16'], for_servers)
+    os.sched_setaffinity(0, for_clients)
+
+    def loaded(server, kind, count, what):
+        words = [load, kind, str(server.port), str(count), str(SECONDS), str(what)]
+        return server.measured(lambda: int(subprocess.run(words, capture_output=True, check=True).stdout))
+
+    try:
+        ours.create()
+        floor.create()
+        print(f'{len(for_servers)} processors for the servers, {len(for_clients)} for the clients\n')
+        print('| what | `serve` | nginx | least | to nginx: rate | for a processor second | to least: rate | for a processor second |')
+        print('|---|---|---|---|---|---|---|---|')
+        for count in (1, 4, 16):
+            row(f'HEADs a second, {count} connections', [loaded(s, 'heads', count, s.small) for s in (ours, nginx, floor)])
+        for size, name in ((4096, '4 KiB'), (65536, '64 KiB'), (MIB, '1 MiB')):
+            for count in (1, 4, 16):
+                row(f'PATCHes of {name}, {count} connections',
+                    [loaded(s, 'puts' if s is nginx else 'patches', count, size) for s in (ours, nginx, floor)], size / 1e6, ' MB/s')
+        row('a connection for each HEAD, 4 clients', [s.measured(lambda: connections(s, 4)) for s in (ours, nginx, floor)])
+        slow = [slow_heads(ours, patches), slow_heads(nginx, puts), slow_heads(floor, patches)]
+        print(f"| HEADs slower than 1 ms while 4 clients send PATCHes of 16 MiB | {' | '.join(f'{s:.1f} %' for s in slow)} | | | | |")
+    finally:
+        for server in (ours, nginx, floor):
+            server.process.terminate()
+            server.process.wait()
 
 
 def main():
-    program = sys.argv[1]
     folder = tempfile.mkdtemp(dir='/dev/shm')
-    os.makedirs(f'{folder}/files')
-    os.chmod(folder, 0o777)
-    os.chmod(f'{folder}/files', 0o777)
-    open(f'{folder}/files/small', 'w').write('x' * 100)
-    load = f'{folder}/heads'
-    subprocess.run(['gcc', '-O2', '-pthread', '-o', load, os.path.join(os.path.dirname(__file__), 'heads.c')], check=True)
-    open(f'{folder}/nginx.conf', 'w').write(NGINX.format(folder=folder))
-    nginx = subprocess.Popen([shutil.which('nginx') or '/usr/sbin/nginx', '-p', folder, '-c', 'nginx.conf'])
-    server = subprocess.Popen([program, 'serve', '--port', '18080', '--workers', '16', '--forever', '--max-size', '16777216',
-                               '--blocks', '131072', 'acme:131072'], stdout=subprocess.DEVNULL)
-    time.sleep(1)
-    ours, theirs = [server.pid], family(nginx.pid)
-    made = exchange(socket.create_connection(('127.0.0.1', 18080)), request('POST', '/files/acme', ['Upload-Length: 100']))
-    path = re.search(rb'Location: (\S+)', made).group(1).decode()
-    print('| what | `serve` | nginx | rate | for a processor second |\n|---|---|---|---|---|')
-    for count in (1, 4, 16):
-        row(f'HEADs a second, {count} connections', heads(load, 18080, path, count, ours), heads(load, 18081, '/small', count, theirs))
-    for size, name in ((65536, '64 KiB'), (MIB, '1 MiB')):
-        for count in (1, 4, 16):
-            row(f'PATCHes of {name}, {count} connections', clients(patches, 18080, size, count, ours),
-                clients(puts, 18081, size, count, theirs), size / 1e6, ' MB/s')
-    row('a connection for each HEAD, 4 clients', clients(short, 18080, path, 4, ours), clients(short, 18081, '/small', 4, theirs))
-    print(f"| HEADs slower than 1 ms while 4 clients send PATCHes of 16 MiB | {slow_heads(18080, path, patches, ours):.1f} % "
-          f"| {slow_heads(18081, '/small', puts, theirs):.1f} % | | |", flush=True)
-    nginx.terminate()
-    server.terminate()
-    nginx.wait()
-    shutil.rmtree(folder, ignore_errors=True)
+    try:
+        os.makedirs(f'{folder}/files')
+        os.chmod(folder, 0o777)
+        os.chmod(f'{folder}/files', 0o777)
+        open(f'{folder}/files/small', 'w').write('x' * 100)
+        measure(folder, sys.argv[1])
+    finally:
+        shutil.rmtree(folder, ignore_errors=True)
 
 
 main()
