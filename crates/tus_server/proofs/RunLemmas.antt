@@ -5,10 +5,11 @@ use Rattle.clap.specs.Words.{Text, subcommand_of}
 use Rattle.tus_server.specs.Arguments.{arguments_entered}
 use Rattle.tus_server.specs.CommandLine.{faults_in, program}
 use Rattle.tus_server.specs.Run.{Performs, RunEnds, performed}
+use Rattle.tus_server.specs.Sockets.{Sockets}
 use Rattle.tus_server.specs.StreamUse.{StreamUse}
 
 -- the command that was found in the words was done
-pub RunEnds-performed : {R W E : Type 0} (status : ℕ) (reader : StreamUse R) (writer : StreamUse W) (errors : StreamUse E) (words : List Text) (entered : Option (Text × List Row)) → faults_in words ≡ []
-    → entered ≡ subcommand_of program words → Performs status reader writer errors (arguments_entered entered) → RunEnds status reader writer errors words
-RunEnds-performed status reader writer errors words entered taken found h =
-    performed taken (subst (λ entered. Performs status reader writer errors (arguments_entered entered)) found h)
+pub RunEnds-performed : {L A R W E : Type 0} (seen : Sockets L A) (status : ℕ) (reader : StreamUse R) (writer : StreamUse W) (errors : StreamUse E) (words : List Text) (entered : Option (Text × List Row)) → faults_in words ≡ []
+    → entered ≡ subcommand_of program words → Performs seen status reader writer errors (arguments_entered entered) → RunEnds seen status reader writer errors words
+RunEnds-performed seen status reader writer errors words entered taken found h =
+    performed taken (subst (λ entered. Performs seen status reader writer errors (arguments_entered entered)) found h)

@@ -5,5 +5,6 @@ pub mod Lines
 pub mod Run
 pub mod Serve
 pub mod Settings
+pub mod Sockets
 pub mod StreamUse
 pub mod Talk

@@ -1,7 +1,7 @@
 -- The two lines that `serve` prints.
-use Rattle.std.specs.Prelude.{◌≡◌, ℕ, ◌≤◌, Bool, true, List, ◌++◌, length, take, Option, codes, decimal}
+use Rattle.std.specs.Prelude.{◌≡◌, ℕ, List, ◌++◌, codes, decimal}
 use Rattle.std.specs.List.{sum_by}
-use Rattle.std.specs.Io.KnownBytes.{Appends}
+use Rattle.tus_shared.specs.Desk.{Desk}
 use Rattle.tus_shared.specs.declared.balance.Balance.{Balance}
 use Rattle.upload_book.specs.Charge.{charge_in}
 use Rattle.upload_book.specs.Lawful.{IsLawful}
@@ -16,35 +16,14 @@ listening_text port = codes "listening 127.0.0.1:" ++ decimal port ++ codes "\n"
 abbrev pub balance_text : Balance → List ℕ
 balance_text b = codes "charged " ++ decimal b.charged ++ codes " released " ++ decimal b.released ++ codes " held " ++ decimal b.held ++ codes "\n"
 
--- the balance of some lawful book with these settings: how many blocks were charged and released in all, and how many its
--- tenants pay
-pub record IsSettled (s : Settings) (balance : Balance) : Type 0 where
+-- The balance of what these desks did: how many blocks they charged and released together. These are the totals of the
+-- book at the end, which is lawful and has these settings, and what is held is what its tenants pay.
+pub record Settles (s : Settings) (desks : List Desk) (balance : Balance) : Type 0 where
+  pub charged_sum : balance.charged ≡ sum_by (λ (d : Desk). d.charged) desks
+  pub released_sum : balance.released ≡ sum_by (λ (d : Desk). d.released) desks
   pub book : PlainBook
-  pub lawful : IsLawful book
   pub settings : book.settings ≡ s
+  pub lawful : IsLawful book
   pub charged : balance.charged ≡ book.charged
   pub released : balance.released ≡ book.released
   pub held : balance.held ≡ sum_by (charge_in s.numbers) book.tenants
-
--- the two lines were written, for some port and the balance of some such book
-pub record PrintsLines (s : Settings) (before after : Option (List ℕ)) : Type 0 where
-  pub port : ℕ
-  pub balance : Balance
-  pub settled : IsSettled s balance
-  pub lines : Appends before after (listening_text port ++ balance_text balance)
-
--- a beginning of the first line was written
-pub record BeginsFirst (before after : Option (List ℕ)) : Type 0 where
-  pub port : ℕ
-  pub n : ℕ
-  pub within : n ≤ length (listening_text port)
-  pub lines : Appends before after (take n (listening_text port))
-
--- the first line was written, and a beginning of the second
-pub record BeginsSecond (s : Settings) (before after : Option (List ℕ)) : Type 0 where
-  pub port : ℕ
-  pub balance : Balance
-  pub settled : IsSettled s balance
-  pub n : ℕ
-  pub within : n ≤ length (balance_text balance)
-  pub lines : Appends before after (listening_text port ++ take n (balance_text balance))

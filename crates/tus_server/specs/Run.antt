@@ -1,5 +1,6 @@
 -- How a run of the program ends, from the words of its command line to its exit status.
 use Rattle.std.specs.Prelude.{◌≡◌, ◌≢◌, ◌⊎◌, ℕ, true, List, [], Option, Some, None, Result}
+use Rattle.std.specs.Io.KnownBytes.{Appends}
 use Rattle.clap.specs.Words.{IsAmong, Text}
 use Rattle.clap.specs.declared.error.kind.ErrorKind.{ErrorKind}
 use Rattle.clap.specs.declared.error.kind.ErrorKind.TheVariants.{DisplayHelp, DisplayVersion, OutOfMemory}
@@ -7,10 +8,11 @@ use Rattle.tus_server.specs.Arguments.{CommandArguments, talk, serve, arguments_
 use Rattle.tus_server.specs.CommandLine.{faults_in}
 use Rattle.tus_server.specs.Fault.{Reports, WritesLine, WritesOrFails}
 use Rattle.tus_server.specs.Serve.{ServeEnds}
+use Rattle.tus_server.specs.Sockets.{Sockets}
 use Rattle.tus_server.specs.StreamUse.{StreamUse, IsAlive, IsUntouched}
 use Rattle.tus_server.specs.Talk.{TalkEnds}
 use Rattle.tus_server.specs.declared.fault.RunFault.{RunFault}
-use Rattle.tus_server.specs.declared.fault.RunFault.TheVariants.{Wire, Memory}
+use Rattle.tus_server.specs.declared.fault.RunFault.TheVariants.{Words, Wire, Memory}
 
 -- why words are not taken: memory was lacking, or they have this fault or ask for this
 abbrev pub IsReason : List Text → ErrorKind → Type 0
@@ -22,39 +24,53 @@ IsHelp kind = (kind ≡ DisplayHelp) ⊎ (kind ≡ DisplayVersion)
 
 -- words that are not taken were answered, by the reason for it
 module _ {W E : Type 0} (kind : ErrorKind) (status : ℕ) (writer : StreamUse W) (errors : StreamUse E) where
-  -- they were refused, and a text was written to standard error, or, where that has failed, a prefix of one
-  pub record RefusesWords : Type 0 where
+  -- they were refused with this text, which was written to standard error, or, where that has failed, a prefix of it
+  pub record RefusesWords (text : List ℕ) : Type 0 where
     pub status_is : status ≡ 2
     pub not_help : kind ≢ DisplayHelp
     pub not_memory : kind ≢ OutOfMemory
     pub untouched : IsUntouched writer
-    pub text : List ℕ
     pub said : WritesOrFails errors.before errors.after errors.has_failed text
 
-  -- they asked for help, which was written
-  pub record ShowsHelp : Type 0 where
+  -- they asked for help, which is this text, and it was written
+  pub record ShowsHelp (text : List ℕ) : Type 0 where
     pub status_is : status ≡ 0
     pub asked : IsHelp kind
+    pub shown : Appends writer.before writer.after text
     pub alive : IsAlive writer
     pub quiet : IsUntouched errors
 
-  -- they asked for help, which could not be written
-  pub record FailsToShowHelp : Type 0 where
+  -- they asked for help, which is this text, and it could not be written: a prefix of it was
+  pub record FailsToShowHelp (text : List ℕ) : Type 0 where
     pub status_is : status ≡ 3
     pub asked : IsHelp kind
+    pub shown : WritesOrFails writer.before writer.after writer.has_failed text
     pub failed : writer.has_failed ≡ true
     pub line : WritesLine errors Wire
 
-  -- memory was lacking for an answer
+  -- the text for them was told
+  abbrev pub Tells : List ℕ → Type 0
+  Tells text = RefusesWords text ⊎ ShowsHelp text ⊎ FailsToShowHelp text
+
+  -- they were refused, and memory was lacking for the text
+  pub record RefusesUntold : Type 0 where
+    pub status_is : status ≡ 2
+    pub not_help : kind ≢ DisplayHelp
+    pub not_memory : kind ≢ OutOfMemory
+    pub untouched : IsUntouched writer
+    pub line : WritesLine errors Words
+
+  -- memory was lacking to read the words, or for the help that they asked for
   pub record EndsForMemory : Type 0 where
     pub status_is : status ≡ 4
+    pub lacking : (kind ≡ OutOfMemory) ⊎ IsHelp kind
     pub untouched : IsUntouched writer
     pub line : WritesLine errors Memory
 
   abbrev pub Explains : Type 0
-  Explains = RefusesWords ⊎ ShowsHelp ⊎ FailsToShowHelp ⊎ EndsForMemory
+  Explains = ((text : List ℕ) × Tells text) ⊎ RefusesUntold ⊎ EndsForMemory
 
-module _ {R W E : Type 0} (status : ℕ) (reader : StreamUse R) (writer : StreamUse W) (errors : StreamUse E) where
+module _ {L A R W E : Type 0} (seen : Sockets L A) (status : ℕ) (reader : StreamUse R) (writer : StreamUse W) (errors : StreamUse E) where
   -- The command was done that the words ask for. Words that are taken ask for one, so far as clap's rules go; where they
   -- don't, they are refused, and no stream is touched.
   abbrev pub Performs : Option CommandArguments → Type 0
@@ -63,7 +79,7 @@ module _ {R W E : Type 0} (status : ℕ) (reader : StreamUse R) (writer : Stream
       (outcome : Result (Unit {0}) RunFault) × TalkEnds arguments reader writer outcome
       × Reports outcome status errors
   Performs (Some (serve arguments)) =
-      (outcome : Result (Unit {0}) RunFault) × ServeEnds arguments writer outcome × IsUntouched reader
+      (outcome : Result (Unit {0}) RunFault) × ServeEnds seen arguments writer outcome × IsUntouched reader
       × Reports outcome status errors
 
   -- how a run ends whose words are these

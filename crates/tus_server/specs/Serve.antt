@@ -1,10 +1,14 @@
 -- How `serve` ends. What is written on its connections is the workers' (`serve_stream` of `tus_workers`).
-use Rattle.std.specs.Prelude.{◌≡◌, ◌⊎◌, true, Result, Ok, Err}
+use Rattle.std.specs.Prelude.{◌≡◌, ◌⊎◌, ℕ, ◌≤◌, true, List, ◌++◌, length, take, Result, Ok, Err}
+use Rattle.std.specs.Io.KnownBytes.{Appends}
+use Rattle.tus_shared.specs.Desk.{Desk}
+use Rattle.tus_shared.specs.declared.balance.Balance.{Balance}
 use Rattle.upload_book.specs.Settings.{Settings}
 use Rattle.upload_book.specs.declared.settings_fault.SettingsFault.{SettingsFault}
 use Rattle.tus_server.specs.Arguments.{ServeArguments}
-use Rattle.tus_server.specs.Lines.{BeginsFirst, BeginsSecond, PrintsLines}
+use Rattle.tus_server.specs.Lines.{Settles, balance_text, listening_text}
 use Rattle.tus_server.specs.Settings.{settings_given}
+use Rattle.tus_server.specs.Sockets.{HasFailed, HaveAccepted, Sockets}
 use Rattle.tus_server.specs.StreamUse.{StreamUse, IsAlive, IsUntouched}
 use Rattle.tus_server.specs.declared.fault.RunFault.{RunFault}
 use Rattle.tus_server.specs.declared.fault.RunFault.TheVariants as run
@@ -13,35 +17,72 @@ use Rattle.tus_server.specs.declared.fault.RunFault.TheVariants as run
 abbrev pub serve_settings : ServeArguments → Result Settings SettingsFault
 serve_settings arguments = settings_given arguments.numbers arguments.tenants
 
--- the output was printed on, over a book with these settings
-module _ {W : Type 0} (s : Settings) (output : StreamUse W) where
-  -- both lines were printed
-  pub record PrintsAll : Type 0 where
-    pub printed : PrintsLines s output.before output.after
+-- `serve` was asked for with these arguments, and so with these settings; it has these sockets and this output
+module _ {L A W : Type 0} (seen : Sockets L A) (arguments : ServeArguments) (s : Settings) (output : StreamUse W) where
+  -- Both lines were printed: the port at which the server listens, which is asked for by the arguments, and the balance of
+  -- what the desks did, one for each worker. Each worker had one of these acceptors.
+  pub record PrintsBoth (acceptors : List A) : Type 0 where
+    pub listener : L
+    pub asked : seen.asked listener ≡ arguments.port
+    pub desks : List Desk
+    pub balance : Balance
+    pub settled : Settles s desks balance
+    pub each_has_a_desk : length desks ≡ arguments.workers
+    pub each_accepts : length acceptors ≡ arguments.workers
+    pub lines : Appends output.before output.after (listening_text (seen.port listener) ++ balance_text balance)
     pub alive : IsAlive output
 
-  -- the output has failed in one of the two lines
-  pub record FailsToPrint : Type 0 where
+  -- both lines were printed, and each worker accepted as many connections as it was to
+  pub record ServesEach : Type 0 where
+    pub acceptors : List A
+    pub prints : PrintsBoth acceptors
+    pub accepted : HaveAccepted seen arguments.work.connections acceptors
+
+  -- both lines were printed, and an accept failed
+  pub record AcceptsNoMore : Type 0 where
+    pub acceptors : List A
+    pub prints : PrintsBoth acceptors
+    pub failed : HasFailed seen acceptors
+
+  -- the output has failed in the first line, of which a beginning was printed
+  pub record BreaksFirstLine : Type 0 where
+    pub listener : L
+    pub asked : seen.asked listener ≡ arguments.port
+    pub n : ℕ
+    pub within : n ≤ length (listening_text (seen.port listener))
+    pub line : Appends output.before output.after (take n (listening_text (seen.port listener)))
     pub failed : output.has_failed ≡ true
-    pub lines : BeginsFirst output.before output.after ⊎ BeginsSecond s output.before output.after
 
-  -- what is printed where a socket or the output failed: nothing, or a line that broke off, or both lines
-  abbrev pub PrintsSome : Type 0
-  PrintsSome = IsUntouched output ⊎ FailsToPrint ⊎ PrintsAll
+  -- the first line was printed, and the output has failed in the second, of which a beginning was printed
+  pub record BreaksSecondLine : Type 0 where
+    pub listener : L
+    pub asked : seen.asked listener ≡ arguments.port
+    pub desks : List Desk
+    pub balance : Balance
+    pub settled : Settles s desks balance
+    pub n : ℕ
+    pub within : n ≤ length (balance_text balance)
+    pub lines : Appends output.before output.after (listening_text (seen.port listener) ++ take n (balance_text balance))
+    pub failed : output.has_failed ≡ true
 
--- `serve` was asked for with these arguments, with this output
-module _ {W : Type 0} (arguments : ServeArguments) (output : StreamUse W) where
-  -- it ended well, and both lines were printed
+  -- What is printed where a socket or the output failed: nothing, where the port could not be had, or a line that broke
+  -- off, or both lines, and then an accept failed.
+  abbrev pub BreaksOff : Type 0
+  BreaksOff = IsUntouched output ⊎ BreaksFirstLine ⊎ BreaksSecondLine ⊎ AcceptsNoMore
+
+-- `serve` was asked for with these arguments, with these sockets and this output
+module _ {L A W : Type 0} (seen : Sockets L A) (arguments : ServeArguments) (output : StreamUse W) where
+  -- it ended well: each worker accepted as many connections as it was to, and both lines were printed
   pub record ServesAll : Type 0 where
     pub settings : Settings
     pub is_given : serve_settings arguments ≡ Ok settings
-    pub prints : PrintsAll settings output
+    pub serves : ServesEach seen arguments settings output
 
   -- a socket or the output failed
   pub record BreaksService : Type 0 where
     pub settings : Settings
     pub is_given : serve_settings arguments ≡ Ok settings
-    pub prints : PrintsSome settings output
+    pub breaks : BreaksOff seen arguments settings output
 
   -- How `serve` ends: well, or a socket or its output failed, or it refused the settings, or lacked memory to
   -- begin with. In the last two nothing was printed.

@@ -2,11 +2,12 @@
 ghost use Rattle.std.specs.Prelude.{◌≡◌, false};
 ghost use Rattle.tus_server.specs.Fault.{Reports, WritesLine, WritesOrFails, fault_of_opening, fault_of_wire, line_of, status_of};
 ghost use Rattle.tus_server.specs.StreamUse.{used};
-ghost use Rattle.tus_server.specs.declared.fault.RunFault.TheVariants.{Settings, Memory};
+ghost use Rattle.tus_server.specs.declared.fault.RunFault.TheVariants.{Memory, Settings, Wire};
 
 use arrayvec::ArrayString;
 use http_wire::{Sink, WireFault, put_all};
 use std::alloc::AllocError;
+use std::io;
 use tus_shared::OpenFault;
 use upload_book::SettingsFault;
 
@@ -16,7 +17,7 @@ const LINE_MAX: usize = 64;
 /// Why the program did not do what it was asked for.
 #[derive(Clone, Copy, Debug, PartialEq, Eq)]
 pub enum RunFault {
-    /// A word of the command line is not UTF-8.
+    /// A word of the command line is not UTF-8, or memory was lacking to say why the words are refused.
     Words,
     /// The settings have a fault.
     Settings(SettingsFault),
@@ -107,6 +108,14 @@ impl From<AllocError> for RunFault {
 
     fn from(_: AllocError) -> RunFault {
         RunFault::Memory
+    }
+}
+
+impl From<io::Error> for RunFault {
+    ghost from_gives = { λ _ run. run ≡ Wire };
+
+    fn from(_: io::Error) -> RunFault {
+        RunFault::Wire
     }
 }
 

@@ -21,13 +21,14 @@ use http_wire::Tapped;
 use std::env;
 use std::io::{Error, ErrorKind};
 use std::process::ExitCode;
+use tus_workers::Loopback;
 
 fn main(rt: HostRuntime) -> ExitCode {
     let mut reader = Tapped::new(rt.stdin());
     let mut writer = Tapped::new(rt.stdout());
     let mut errors = Tapped::new(rt.stderr());
     let status = match words(&rt) {
-        Ok(words) => run(
+        Ok(words) => run::<Loopback, _, _, _, _, _>(
             &rt,
             rt.alloc(),
             words.as_slice(),

@@ -1,9 +1,10 @@
 //! The program over streams and words, from its command line to its exit status.
-ghost use Rattle.std.specs.Prelude.{◌≡◌, false, map};
+ghost use Rattle.std.specs.Prelude.{◌≡◌, ◌≢◌, false, map};
 ghost use Rattle.clap.specs.Values.{kind_of};
 ghost use Rattle.clap.specs.Words.{subcommand_rows_of};
 ghost use Rattle.tus_server.specs.Arguments.{arguments_entered};
-ghost use Rattle.tus_server.specs.Run.{Explains, Performs, RunEnds};
+ghost use Rattle.tus_server.specs.Run.{Explains, Performs, RunEnds, Tells};
+ghost use Rattle.tus_server.specs.Sockets.{sockets};
 ghost use Rattle.tus_server.specs.StreamUse.{used};
 
 use crate::arguments::command_options;
@@ -22,6 +23,7 @@ use std::net::{Net, TcpListener, TcpStream};
 use std::sync::Wait;
 use std::thread::Threads;
 use std::time;
+use tus_workers::Listener;
 
 /// The exit status where the command line is refused.
 const REFUSED: u8 = 2;
@@ -34,6 +36,7 @@ const REFUSED: u8 = 2;
 /// on `errors`, and help on `writer`. At 3 and 4, and at 2 for the settings, the line that names the fault is written
 /// to `errors`, whose own faults are passed over.
 pub fn run<
+    L: Listener,
     S: AsStr,
     H: Threads
         + Wait
@@ -45,16 +48,19 @@ pub fn run<
     W: Sink,
     E: Sink,
 >(rt: &H, alloc: Global, words: &[S], reader: &mut R, writer: &mut W, errors: &mut E) -> u8
+where
+    L: Drop,
+    L::Acceptor: Send + Drop,
     requires reader { R.has_failed reader.old ≡ false }
     requires writer { W.has_failed writer.old ≡ false }
     requires errors { E.has_failed errors.old ≡ false }
-    ensures { RunEnds result
+    ensures { RunEnds (sockets L.asked L.port L.Acceptor.accepted L.Acceptor.has_failed) result
         (used R.remaining R.has_failed reader.old reader.new)
         (used W.contents W.has_failed writer.old writer.new)
         (used E.contents E.has_failed errors.old errors.new) (map S.text words.now) }
 {
     match parsed(alloc, words) {
-        Ok(matches) => perform(rt, alloc, &matches, reader, writer, errors),
+        Ok(matches) => perform::<L, H, R, W, E>(rt, alloc, &matches, reader, writer, errors),
         Err(error) => explain(alloc, &error, writer, errors),
     }
 }
@@ -62,6 +68,7 @@ pub fn run<
 /// Does the command that was found in the command line, and gives the exit status. Where none was found, that is
 /// [`REFUSED`], and the streams are untouched.
 fn perform<
+    L: Listener,
     H: Threads
         + Wait
         + Net<Stream = TcpStream, Listener = TcpListener>
@@ -72,10 +79,13 @@ fn perform<
     W: Sink,
     E: Sink,
 >(rt: &H, alloc: Global, matches: &ArgMatches, reader: &mut R, writer: &mut W, errors: &mut E) -> u8
+where
+    L: Drop,
+    L::Acceptor: Send + Drop,
     requires reader { R.has_failed reader.old ≡ false }
     requires writer { W.has_failed writer.old ≡ false }
     requires errors { E.has_failed errors.old ≡ false }
-    ensures { Performs result
+    ensures { Performs (sockets L.asked L.port L.Acceptor.accepted L.Acceptor.has_failed) result
         (used R.remaining R.has_failed reader.old reader.new)
         (used W.contents W.has_failed writer.old writer.new)
         (used E.contents E.has_failed errors.old errors.new)
@@ -86,14 +96,14 @@ fn perform<
             report(talk(alloc, &options, reader, writer), errors)
         }
         Some(CommandOptions::Serve(options)) => {
-            report(serve(rt, alloc, &options, writer), errors)
+            report(serve::<L, H, W>(rt, alloc, &options, writer), errors)
         }
         None => REFUSED,
     }
 }
 
-/// Answers words that are not taken, and gives the exit status: the text of a refusal goes to `errors`,
-/// and help to `writer`.
+/// Answers words that are not taken, and gives the exit status. Where memory lacks for the text of a refusal, the line of
+/// [`RunFault::Words`] stands for it.
 fn explain<W: Sink, E: Sink>(
     alloc: Global,
     error: &clap::Error,
@@ -109,14 +119,28 @@ fn explain<W: Sink, E: Sink>(
     if error.kind() == ErrorKind::OutOfMemory {
         return report_fault(RunFault::Memory, errors);
     }
-    let Ok(text) = error.to_string(alloc) else {
-        return report_fault(RunFault::Memory, errors);
-    };
+    match error.to_string(alloc) {
+        Ok(text) => tell(error, text.as_bytes(), writer, errors),
+        Err(_) if error.use_stderr() => report_fault(RunFault::Words, errors),
+        Err(_) => report_fault(RunFault::Memory, errors),
+    }
+}
+
+/// Tells the text for words that are not taken, and gives the exit status: why they are refused goes to `errors`, and
+/// help to `writer`.
+fn tell<W: Sink, E: Sink>(error: &clap::Error, text: &[u8], writer: &mut W, errors: &mut E) -> u8
+    requires memory { kind_of error.now ≢ ErrorKind.OutOfMemory }
+    requires writer { W.has_failed writer.old ≡ false }
+    requires errors { E.has_failed errors.old ≡ false }
+    ensures { Tells (kind_of error.now) result
+        (used W.contents W.has_failed writer.old writer.new)
+        (used E.contents E.has_failed errors.old errors.new) text.now }
+{
     if error.use_stderr() {
-        put_or_fail(text.as_bytes(), errors);
+        put_or_fail(text, errors);
         return REFUSED;
     }
-    match put_all(writer, text.as_bytes()) {
+    match put_all(writer, text) {
         Ok(()) => 0,
         Err(_) => report_fault(RunFault::Wire, errors),
     }

@@ -1,33 +1,38 @@
 //! The command `serve`, after its command line was read.
-ghost use Rattle.std.specs.Prelude.{◌≡◌, ◌⊎◌, false, OnOk, IsErrOf, IfErr};
+ghost use Rattle.std.specs.Prelude.{◌≡◌, ◌⊎◌, false, OnOk, IsErrOf, IfErr, vec_len};
+ghost use Rattle.http_wire.specs.Writes.{Writes};
 ghost use Rattle.tus_server.specs.Arguments.{serve_arguments_of};
-ghost use Rattle.tus_server.specs.Serve.{PrintsAll, PrintsSome, ServeEnds};
+ghost use Rattle.tus_server.specs.Lines.{Settles, balance_text};
+ghost use Rattle.tus_server.specs.Serve.{BreaksOff, ServeEnds, ServesEach};
+ghost use Rattle.tus_server.specs.Sockets.{sockets};
 ghost use Rattle.tus_server.specs.StreamUse.{used};
+ghost use Rattle.tus_shared.specs.declared.balance.Balance.{Balance};
 
 use crate::fault::RunFault;
 use crate::lines::{put_balance, put_listening};
 use crate::options::ServeOptions;
 use crate::settings::settings_with;
-use http_wire::Sink;
+use http_wire::{Sink, WireFault};
 use std::alloc::Global;
 use std::io::Eprint;
 use std::marker::Brand;
 use std::net::{Net, TcpListener, TcpStream};
 use std::sync::Wait;
 use std::sync::ledger::{Blank, Ledger};
-use std::thread::{Threads, for_each_mut};
+use std::thread::Threads;
 use std::time;
 use tus_shared::{Charges, Desk, Opened, Shared, settle};
-use tus_workers::{WorkOptions, Workers};
+use tus_workers::{Listener, any_failed, dismiss, hire, work_all};
 use upload_book::Settings;
 
 /// Serves connections on sockets of this machine, over a new book with the settings of the options. It prints where it
 /// listens before it accepts anything, and at its end what was charged, released and is held.
 ///
-/// It is `Ok` where each worker served all of its connections. The error is the fault of the settings, `RunFault::Wire`
+/// It is `Ok` where each worker accepted all of its connections. The error is the fault of the settings, `RunFault::Wire`
 /// where the port could not be had, where a line could not be printed or where an accept failed, or `RunFault::Memory`
 /// where there was no memory for the book or its board. After the first and the last nothing was printed.
 pub fn serve<
+    L: Listener,
     H: Threads
         + Wait
         + Net<Stream = TcpStream, Listener = TcpListener>
@@ -36,12 +41,15 @@ pub fn serve<
         + Sync,
     W: Sink,
 >(rt: &H, alloc: Global, options: &ServeOptions, output: &mut W) -> Result<(), RunFault>
+where
+    L::Acceptor: Send + Drop,
+    L: Drop,
     requires { W.has_failed output.old ≡ false }
-    ensures { ServeEnds (serve_arguments_of options.now)
-        (used W.contents W.has_failed output.old output.new) result }
+    ensures { ServeEnds (sockets L.asked L.port L.Acceptor.accepted L.Acceptor.has_failed)
+        (serve_arguments_of options.now) (used W.contents W.has_failed output.old output.new) result }
 {
     let settings = settings_with(alloc, options.numbers, options.tenants)?;
-    serve_with::<Brand, Brand, H, W>(
+    serve_with::<L, Brand, Brand, H, W>(
         rt,
         alloc,
         settings,
@@ -55,6 +63,7 @@ pub fn serve<
 
 /// Opens a desk for each worker, listens, and lets them work.
 fn serve_with<
+    L: Listener,
     C: Charges + Send + Sync,
     R: Ledger + Send + Sync,
     H: Threads
@@ -74,6 +83,9 @@ fn serve_with<
     lines: Opened,
     output: &mut W,
 ) -> Result<(), RunFault>
+where
+    L::Acceptor: Send + Drop,
+    L: Drop,
     requires settings { settings ≡ C.settings }
     requires desks { options.now.workers ≡ C.desks }
     requires charged { (charged.name ≡ C.name) × (charged.parts ≡ C.parts) × (C.parts ≡ 16) }
@@ -83,10 +95,13 @@ fn serve_with<
     ensures fault { IfErr result (λ fault. (fault ≡ RunFault.Wire) ⊎ (fault ≡ RunFault.Memory)) }
     ensures memory { IsErrOf result RunFault.Memory → output.new ≡ output.old }
     ensures wire { IsErrOf result RunFault.Wire
-        → PrintsSome C.settings (used W.contents W.has_failed output.old output.new) }
-    ensures all { OnOk result (PrintsAll C.settings (used W.contents W.has_failed output.old output.new)) }
+        → BreaksOff (sockets L.asked L.port L.Acceptor.accepted L.Acceptor.has_failed)
+        (serve_arguments_of options.now) C.settings (used W.contents W.has_failed output.old output.new) }
+    ensures all { OnOk result
+        (ServesEach (sockets L.asked L.port L.Acceptor.accepted L.Acceptor.has_failed)
+        (serve_arguments_of options.now) C.settings (used W.contents W.has_failed output.old output.new)) }
 {
-    let (shared, mut desks) = Shared::<C, R, &H>::open(
+    let (shared, desks) = Shared::<C, R, &H>::open(
         rt,
         alloc,
         settings,
@@ -95,51 +110,34 @@ fn serve_with<
         released,
         lines,
     )?;
-    let Ok(listener) = TcpListener::bind(rt, ("127.0.0.1", options.port)) else {
+    let room = Vec::with_capacity(alloc, desks.len())?;
+    let room_after = Vec::with_capacity(alloc, desks.len())?;
+    let listener = L::listen(rt, options.port)?;
+    let mut workers = hire(&listener, desks, room)?;
+    put_listening(output, listener.port())?;
+    work_all(rt, alloc, &shared, workers.as_mut_slice(), options.work);
+    let failed = any_failed(workers.as_slice());
+    put_settled(output, shared, dismiss(workers, room_after))?;
+    if failed {
         return Err(RunFault::Wire);
-    };
-    let Ok(address) = listener.local_addr() else {
-        return Err(RunFault::Wire);
-    };
-    put_listening(output, address.port())?;
-    let is_whole = work_at(
-        rt,
-        alloc,
-        &listener,
-        &shared,
-        desks.as_mut_slice(),
-        options.work,
-    );
-    let (_, balance) = settle(shared, desks);
-    put_balance(output, balance)?;
-    if is_whole {
-        Ok(())
-    } else {
-        Err(RunFault::Wire)
     }
+    Ok(())
 }
 
-/// Lets a worker work at each of the desks, in a thread of its own where one can be had, and says whether all of
-/// them accepted as many connections as they were to.
-fn work_at<
-    C: Charges + Send + Sync,
-    R: Ledger + Send + Sync,
-    H: Threads + Wait + time::Clock + Eprint + Sync,
->(
-    rt: &H,
-    alloc: Global,
-    listener: &TcpListener,
-    shared: &Shared<C, R, &H>,
-    desks: &mut [Desk<C, R>],
-    options: WorkOptions,
-) -> bool {
-    let threads = desks.len().max(1);
-    let workers = Workers::new(rt, alloc, listener, shared, options);
-    for_each_mut(
-        rt,
-        desks,
-        threads,
-        &|_, desk: &mut Desk<C, R>| { workers.work(desk) },
-    );
-    workers.is_whole()
+/// Settles what the desks did, and prints its balance. The error is `WireFault::Write`, and then only a prefix of the
+/// line was written.
+fn put_settled<W: Sink, C: Charges, R: Ledger, B: Wait + Drop>(
+    output: &mut W,
+    shared: Shared<C, R, B>,
+    desks: Vec<Desk<C, R>>,
+) -> Result<(), WireFault>
+    requires all { vec_len desks ≡ C.desks }
+    requires charged_parts { C.parts ≡ 16 }
+    requires released_parts { R.parts ≡ 16 }
+    requires output { W.has_failed output.old ≡ false }
+    ensures { (balance : Balance) × Settles C.settings desks.items balance
+        × Writes (W.contents output.old) (W.contents output.new) (W.has_failed output.new) (balance_text balance) result }
+{
+    let (_, balance) = settle(shared, desks);
+    put_balance(output, balance)
 }

@@ -1,13 +1,20 @@
 //! The workers of a server: each answers the connections that it accepts at a desk of its own, one after another.
 #![tactic(auto)]
 
+mod accept;
 mod at_desk;
+mod connection;
+mod loopback;
 mod machine_clock;
 mod stream;
 mod work_options;
+mod worker;
 mod workers;
 
+pub use accept::{Accept, Listener};
+pub use loopback::{Loopback, LoopbackAcceptor};
 pub use machine_clock::MachineClock;
 pub use stream::{MESSAGES_MAX, ServedStream, serve_stream};
 pub use work_options::WorkOptions;
-pub use workers::Workers;
+pub use worker::{Worker, any_failed, dismiss, hire};
+pub use workers::work_all;

@@ -1,27 +1,27 @@
 //! The workers of a server: each has a desk, and serves one connection after another.
-ghost use Rattle.std.specs.Prelude.{◌≡◌, ◌≤◌, IfSome};
+ghost use Rattle.std.specs.Prelude.{◌≡◌, ◌≤◌, false, All, IfSome};
 
+use crate::accept::Accept;
+use crate::connection::Connection;
 use crate::machine_clock::MachineClock;
 use crate::stream::{ServedStream, serve_stream};
 use crate::work_options::WorkOptions;
+use crate::worker::Worker;
 use core::mem::replace_with;
 use http_wire::{Buffers, Clock, Ended, Tapped};
 use std::alloc::Global;
 use std::io::{Eprint, Read};
-use std::net::{Shutdown, TcpListener, TcpStream};
+use std::net::{Shutdown, TcpStream};
 use std::sync::Wait;
 use std::sync::atomic::{AtomicU64, Ordering};
 use std::sync::ledger::Ledger;
-use std::thread::yield_now;
+use std::thread::{Threads, for_each_mut};
+use std::time;
 use std::time::{Duration, Instant};
-use std::{io, time};
 use tus_shared::{Charges, Desk, NoGate, Shared};
 
 /// The most bytes of buffers that are kept for the next connection.
 const ROOM_KEPT: usize = 2_097_152;
-
-/// How many connections may be open before their workers let others run first.
-const CROWD: u64 = 3;
 
 /// For how many seconds the rest of a refused input is read, and for how long its next byte is waited for.
 const LINGER_SECONDS: u64 = 5;
@@ -31,18 +31,44 @@ const REST_SIZE: usize = 16_384;
 
 const REST_READS: usize = 4096;
 
+/// Lets each of the workers work, as [`Workers::work`] says, in a thread of its own where one can be had.
+pub fn work_all<
+    A: Accept + Send,
+    C: Charges + Send + Sync,
+    R: Ledger + Send + Sync,
+    H: Threads + Wait + Eprint + time::Clock + Sync,
+    B: Wait + Drop + Send,
+>(
+    rt: &H,
+    alloc: Global,
+    shared: &Shared<C, R, B>,
+    workers: &mut [Worker<C, R, A>],
+    options: WorkOptions,
+)
+    requires alive { All (λ w. A.has_failed w.acceptor ≡ false) workers.old }
+    requires new { All (λ w. A.accepted w.acceptor ≡ 0) workers.old }
+    ensures all { All (λ w. A.has_failed w.acceptor ≡ false → A.accepted w.acceptor ≡ options.connections) workers.new }
+    ensures most { All (λ w. A.accepted w.acceptor ≤ options.connections) workers.new }
+{
+    let threads = workers.len().max(1);
+    let common = Workers::new(rt, alloc, shared, options);
+    for_each_mut(
+        rt,
+        workers,
+        threads,
+        &|_, worker: &mut Worker<C, R, A>| { common.work(worker) },
+    );
+}
+
 /// What the workers of a server share.
 #[derive(Drop)]
 pub struct Workers<'a, C: Charges, R: Ledger, H, B: Wait + Drop> {
     rt: &'a H,
     alloc: Global,
-    listener: &'a TcpListener,
     shared: &'a Shared<C, R, B>,
     options: WorkOptions,
     // How many connections are open.
     open: AtomicU64,
-    // How many workers could accept no more.
-    ended: AtomicU64,
 }
 
 impl<'a, C: Charges, R: Ledger, H: Wait + Eprint + time::Clock, B: Wait + Drop> Workers<
@@ -53,47 +79,39 @@ impl<'a, C: Charges, R: Ledger, H: Wait + Eprint + time::Clock, B: Wait + Drop> 
     B,
 > {
     /// Workers that have accepted nothing.
-    pub fn new(
-        rt: &'a H,
-        alloc: Global,
-        listener: &'a TcpListener,
-        shared: &'a Shared<C, R, B>,
-        options: WorkOptions,
-    ) -> Self
+    pub fn new(rt: &'a H, alloc: Global, shared: &'a Shared<C, R, B>, options: WorkOptions) -> Self
         ensures { result.options ≡ options }
     {
         Workers {
             rt,
             alloc,
-            listener,
             shared,
             options,
             open: AtomicU64::new(0),
-            ended: AtomicU64::new(0),
         }
-    }
-
-    /// Whether no worker's accept failed.
-    pub fn is_whole(&self) -> bool {
-        self.ended.load(Ordering::SeqCst) == 0
     }
 
     /// Accepts as many connections as the options say, sweeps after each accept, and serves one after another.
     /// A fault of a connection ends that connection alone; where an accept fails, the worker ends, and says so on
     /// standard error.
-    pub fn work(&self, desk: &mut Desk<C, R>) {
+    pub fn work<A: Accept>(&self, worker: &mut Worker<C, R, A>)
+        requires alive { A.has_failed worker.old.acceptor ≡ false }
+        requires new { A.accepted worker.old.acceptor ≡ 0 }
+        ensures all { A.has_failed worker.new.acceptor ≡ false
+            → A.accepted worker.new.acceptor ≡ self.now.options.connections }
+        ensures most { A.accepted worker.new.acceptor ≤ self.now.options.connections }
+    {
         let mut clock = MachineClock::new(self.rt, self.options.moment);
         let mut buffers = None;
         for _ in 0..self.options.connections {
-            let Ok((stream, _)) = self.listener.accept() else {
-                self.ended.fetch_add(1, Ordering::SeqCst);
+            let Ok(stream) = worker.acceptor.accept() else {
                 let _ = self.rt.eprintln(
                     "tus-server: a worker ended, since it could accept no connection",
                 );
                 return;
             };
-            let _ = desk.sweep(self.rt, self.shared, clock.moment());
-            buffers = replace_with(desk, buffers, |desk, buffers| {
+            let _ = worker.desk.sweep(self.rt, self.shared, clock.moment());
+            buffers = replace_with(&mut worker.desk, buffers, |desk, buffers| {
                 self.attend(&stream, desk, buffers, &mut clock)
             });
         }
@@ -119,11 +137,9 @@ impl<'a, C: Charges, R: Ledger, H: Wait + Eprint + time::Clock, B: Wait + Drop> 
         };
         self.prepare(stream);
         self.open.fetch_add(1, Ordering::Relaxed);
-        let reader = Tapped::new(Polite {
-            stream,
-            open: &self.open,
-        });
-        let writer = Tapped::new(stream);
+        let connection = Connection::new(stream, &self.open);
+        let reader = Tapped::new(&connection);
+        let writer = Tapped::new(&connection);
         let ServedStream {
             ended,
             desk,
@@ -184,23 +200,5 @@ impl<'a, C: Charges, R: Ledger, H: Wait + Eprint + time::Clock, B: Wait + Drop> 
                 _ => return,
             }
         }
-    }
-}
-
-/// The reader of a connection. Where many are open it lets other threads run first: when its turn comes back, the
-/// next request is often there, and the thread need not sleep.
-#[derive(Drop)]
-struct Polite<'s, 'o> {
-    stream: &'s TcpStream,
-    open: &'o AtomicU64,
-}
-
-impl Read for Polite<'_, '_> {
-    fn read(&mut self, buf: &mut [u8]) -> io::Result<usize> {
-        if self.open.load(Ordering::Relaxed) > CROWD {
-            yield_now();
-        }
-        let mut stream = self.stream;
-        stream.read(buf)
     }
 }

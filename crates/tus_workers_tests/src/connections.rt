@@ -1,33 +1,34 @@
-//! Two workers at two desks, and two clients on connections of this machine.
+//! Workers at desks, and clients on connections of this machine.
 
 ghost use Rattle.std.specs.Prelude.{◌≡◌};
 
 use crate::opening::{assert_balance, moment, settings};
+use crate::script::Script;
 use crate::texts::{
     BETA_CREATED, BETA_PATCH, BETA_PATCHED, BETA_POST, CREATED, PATCH, PATCHED, POST,
 };
 use std::alloc::Global;
 use std::io::{Eprint, Read, Write};
 use std::marker::Brand;
-use std::net::{Net, Shutdown, SocketAddr, TcpListener, TcpStream};
+use std::net::{Net, Shutdown, TcpListener, TcpStream};
 use std::process::Abort;
 use std::sync::Wait;
 use std::sync::ledger::{Blank, Ledger};
 use std::test::Fail;
-use std::thread::{Threads, for_each_mut};
+use std::thread::Threads;
 use std::time::Duration;
 use std::{io, time};
-use tus_shared::{Charges, Desk, Opened, Shared, settle};
-use tus_workers::{WorkOptions, Workers};
+use tus_shared::{Charges, Opened, Shared, settle};
+use tus_workers::{Listener, Loopback, WorkOptions, any_failed, dismiss, hire, work_all};
 use upload_book::{Book, Name, Settings};
 
-// A client that has sent these messages, and says that nothing follows.
+// A client at this port that has sent these messages, and says that nothing follows.
 fn client<N: Net<Stream = TcpStream>>(
     net: &N,
-    address: SocketAddr,
+    port: u16,
     messages: &[&[u8]],
 ) -> io::Result<TcpStream> {
-    let stream = TcpStream::connect(net, address)?;
+    let stream = TcpStream::connect(net, ("127.0.0.1", port))?;
     stream.set_read_timeout(Some(Duration::from_secs(30)))?;
     let mut writer = &stream;
     for message in messages {
@@ -49,33 +50,6 @@ fn assert_replies(rt: &impl Abort, alloc: Global, stream: &TcpStream, replies: &
     assert!(rt; rest.is_empty());
 }
 
-// Each desk's worker serves one connection.
-fn work<
-    C: Charges + Send + Sync,
-    R: Ledger + Send + Sync,
-    W: Threads + Wait + Abort + Eprint + time::Clock + Sync,
->(
-    rt: &W,
-    alloc: Global,
-    listener: &TcpListener,
-    shared: &Shared<C, R, &W>,
-    desks: &mut [Desk<C, R>],
-) {
-    let options = WorkOptions {
-        moment: Some(moment(rt)),
-        connections: 1,
-        idle: 30,
-    };
-    let workers = Workers::new(rt, alloc, listener, shared, options);
-    for_each_mut(
-        rt,
-        desks,
-        2,
-        &|_, desk: &mut Desk<C, R>| { workers.work(desk) },
-    );
-    assert!(rt; workers.is_whole());
-}
-
 // The first upload of beta is complete.
 fn assert_content(rt: &impl Abort, book: &Book) {
     let name = Name { tenant: 1, id: 1 };
@@ -83,8 +57,9 @@ fn assert_content(rt: &impl Abort, book: &Book) {
     assert!(rt; content.as_slice() == b"abcd".as_slice());
 }
 
-// Both workers serve a client each, and what both did is settled.
+// Two workers serve a client each, and what both did is settled. Each was to accept so many connections.
 fn serve_both<
+    L: Listener + Drop,
     C: Charges + Send + Sync,
     R: Ledger + Send + Sync,
     W: Threads
@@ -101,23 +76,34 @@ fn serve_both<
     charged: Blank,
     released: Blank,
     lines: Opened,
+    connections: u64,
+    fails: bool,
 ) -> Result<(), Fail>
+where
+    L::Acceptor: Send + Drop,
     requires settings { settings ≡ C.settings }
     requires desks { C.desks ≡ 2 }
     requires charged { (charged.name ≡ C.name) × (charged.parts ≡ C.parts) × (C.parts ≡ 16) }
     requires released { (released.name ≡ R.name) × (released.parts ≡ R.parts) × (R.parts ≡ 16) }
     requires log { lines.seen.book ≡ C.log }
 {
-    let (shared, mut desks) = Shared::<C, R, &W>::open(
+    let (shared, desks) = Shared::<C, R, &W>::open(
         rt, alloc, settings, 2, charged, released, lines,
     )?;
-    let listener = TcpListener::bind(rt, ("127.0.0.1", 0))?;
-    let address = listener.local_addr()?;
-    let acme = client(rt, address, &[POST, PATCH])?;
-    let beta = client(rt, address, &[BETA_POST, BETA_PATCH])?;
-    work(rt, alloc, &listener, &shared, desks.as_mut_slice());
+    let listener = L::listen(rt, 0)?;
+    let acme = client(rt, listener.port(), &[POST, PATCH])?;
+    let beta = client(rt, listener.port(), &[BETA_POST, BETA_PATCH])?;
+    let mut workers = hire(&listener, desks, Vec::with_capacity(alloc, 2)?)?;
+    let options = WorkOptions {
+        moment: Some(moment(rt)),
+        connections,
+        idle: 30,
+    };
+    work_all(rt, alloc, &shared, workers.as_mut_slice(), options);
+    assert!(rt; any_failed(workers.as_slice()) == fails);
     assert_replies(rt, alloc, &acme, &[CREATED, PATCHED]);
     assert_replies(rt, alloc, &beta, &[BETA_CREATED, BETA_PATCHED]);
+    let desks = dismiss(workers, Vec::with_capacity(alloc, 2)?);
     let (book, balance) = settle(shared, desks);
     assert_content(rt, &book);
     assert_balance(rt, balance, [3, 0, 3]);
@@ -126,12 +112,29 @@ fn serve_both<
 
 #[test]
 fn two_workers_serve_two_clients(rt: HostRuntime) -> Result<(), Fail> {
-    serve_both::<Brand, Brand, HostRuntime>(
+    serve_both::<Loopback, Brand, Brand, HostRuntime>(
         &rt,
         rt.alloc(),
         settings()?,
         Blank::new(16),
         Blank::new(16),
         Opened::new(),
+        1,
+        false,
+    )
+}
+
+// Each worker is to accept three connections, and the second accept fails. What it served before is settled.
+#[test]
+fn a_worker_ends_where_an_accept_fails(rt: HostRuntime) -> Result<(), Fail> {
+    serve_both::<Script, Brand, Brand, HostRuntime>(
+        &rt,
+        rt.alloc(),
+        settings()?,
+        Blank::new(16),
+        Blank::new(16),
+        Opened::new(),
+        3,
+        true,
     )
 }

@@ -8,6 +8,8 @@ mod connections;
 #[cfg(test)]
 mod opening;
 #[cfg(test)]
+mod script;
+#[cfg(test)]
 mod streams;
 #[cfg(test)]
 mod texts;

@@ -1,43 +1,84 @@
-use Rattle.std.proofs.Common.{◌≡◌, ◌∙◌, ap, false, inr, length, rules, sym}
+use Rattle.std.proofs.Common.{◌≡◌, ◌∙◌, ap, arith, inl, inr, length, sym}
+use Rattle.std.proofs.lemmas.List.{length-map, with_items_is}
 use Rattle.std.specs.Io.KnownBytes.{Appends}
-use Rattle.tus_server.specs.Lines.{IsSettled, balance_text, listening_text}
+use Rattle.std.specs.Vec.{with_items}
+use Rattle.tus_server.specs.Arguments.{serve_arguments_of}
+use Rattle.tus_server.specs.Lines.{listening_text}
+use Rattle.tus_server.specs.Sockets.{sockets}
 use Rattle.tus_server.specs.StreamUse.{used}
-use Rattle.upload_book.specs.Book.{plain_of}
 use Rattle.tus_server.proofs.DeskLemmas.{new_desks-length}
-use Rattle.tus_server.proofs.LinesLemmas.{PrintsAll-both, PrintsSome-second}
+use Rattle.tus_server.proofs.ServeLemmas.{BreaksOff-failed, BreaksOff-second, PrintsBoth-lines, ServesEach-whole}
 use Rattle.tus_server.proofs.serve.serve_with.Goals as goal
 
-pub settle-requires-clause-all : goal.settle-requires-clause-all
-settle-requires-clause-all g c =
-    sym c.as_mut_slice.ensures.len ∙ ap length c.as_mut_slice.ensures.value ∙ ap length c.in_ok-shared.ensures.desks ∙ new_desks-length c.args.options.now.workers ∙ c.requires.desks
+pub returns-in_err-put_listening-clause-wire : goal.returns-in_err-put_listening-clause-wire
+returns-in_err-put_listening-clause-wire g c _ =
+    let wrote = c.in_err-put_listening.ensures in
+    inr (inl (record {
+      listener = c.in_ok-listener.listener;
+      asked = c.in_ok-listener.ensures;
+      n = wrote.prefix.0;
+      within = rw (← c.port.ensures) wrote.prefix.1;
+      line = rw (← c.port.ensures) wrote.prefix.2;
+      failed = wrote.failed;
+    }))
 
-pub returns-in_err-put_balance-clause-wire : goal.returns-in_err-put_balance-clause-wire
-returns-in_err-put_balance-clause-wire g c _ =
-    let contents = g.W.Sink.contents in
-    let first : Appends (contents c.args.output.now) (contents c.put_listening.new.output) (listening_text c.port.result) = search rules in
-    let book = plain_of c.settle.result.0 in
-    let s = c.settle.ensures in
-    let settled : IsSettled g.C.Charges.settings c.settle.result.1 = record { book = book; lawful = s.lawful; settings = s.settings; charged = s.charged; released = s.released; held = s.held } in
-    PrintsSome-second g.C.Charges.settings (used contents g.W.Sink.has_failed c.args.output.now c.put_balance.new.output) _ c.port.result c.settle.result.1 c.in_err-put_balance.field-0.0 settled first c.in_err-put_balance.ensures
+pub put_settled-requires-clause-all : goal.put_settled-requires-clause-all
+put_settled-requires-clause-all g c =
+    let after = with_items c.in_ok-workers.workers c.work_all.new.workers in
+    let as_many = simp length-map at (ap length c.dismiss.ensures) in
+    omega (
+      arith,
+      c.dismiss.result.ok.0,
+      as_many,
+      after.ok.0,
+      c.in_ok-workers.ensures.count,
+      c.in_ok-shared.desks.ok.0,
+      ap length c.in_ok-shared.ensures.desks,
+      new_desks-length c.args.options.now.workers,
+      c.requires.desks,
+    )
 
-pub returns-then-is_whole-clause-all : goal.returns-then-is_whole-clause-all
-returns-then-is_whole-clause-all g c =
+pub returns-in_err-put_settled-clause-wire : goal.returns-in_err-put_settled-clause-wire
+returns-in_err-put_settled-clause-wire g c _ =
     let contents = g.W.Sink.contents in
-    let first : Appends (contents c.args.output.now) (contents c.put_listening.new.output) (listening_text c.port.result) = search rules in
-    let book = plain_of c.settle.result.0 in
-    let s = c.settle.ensures in
-    let settled : IsSettled g.C.Charges.settings c.settle.result.1 = record { book = book; lawful = s.lawful; settings = s.settings; charged = s.charged; released = s.released; held = s.held } in
-    let last : Appends (contents c.put_listening.new.output) (contents c.put_balance.new.output) (balance_text c.settle.result.1) = search rules in
-    let alive : g.W.Sink.has_failed c.put_balance.new.output ≡ false = search rules in
-    PrintsAll-both g.C.Charges.settings (used contents g.W.Sink.has_failed c.args.output.now c.put_balance.new.output) _ c.port.result c.settle.result.1 settled first last alive
+    let listener = c.in_ok-listener.listener in
+    let first : Appends (contents c.args.output.now) (contents c.put_listening.new.output) (listening_text (g.L.Listener.port listener)) = rw (← c.port.ensures) c.in_ok-put_listening.ensures.all in
+    let settled = c.in_err-put_settled.ensures in
+    BreaksOff-second (sockets g.L.Listener.asked g.L.Listener.port g.L.Acceptor.Accept.accepted g.L.Acceptor.Accept.has_failed) (serve_arguments_of c.args.options.now) g.C.Charges.settings
+    (used contents g.W.Sink.has_failed c.args.output.now c.put_settled.new.output) listener c.dismiss.result.items _ settled.0 _ c.in_ok-listener.ensures settled.1 first settled.2
 
-pub returns-clause-wire : goal.returns-clause-wire
-returns-clause-wire g c _ =
+pub returns-then-failed-clause-wire : goal.returns-then-failed-clause-wire
+returns-then-failed-clause-wire g c _ =
     let contents = g.W.Sink.contents in
-    let first : Appends (contents c.args.output.now) (contents c.put_listening.new.output) (listening_text c.port.result) = search rules in
-    let book = plain_of c.settle.result.0 in
-    let s = c.settle.ensures in
-    let settled : IsSettled g.C.Charges.settings c.settle.result.1 = record { book = book; lawful = s.lawful; settings = s.settings; charged = s.charged; released = s.released; held = s.held } in
-    let last : Appends (contents c.put_listening.new.output) (contents c.put_balance.new.output) (balance_text c.settle.result.1) = search rules in
-    let alive : g.W.Sink.has_failed c.put_balance.new.output ≡ false = search rules in
-    inr (inr (PrintsAll-both g.C.Charges.settings (used contents g.W.Sink.has_failed c.args.output.now c.put_balance.new.output) _ c.port.result c.settle.result.1 settled first last alive))
+    let listener = c.in_ok-listener.listener in
+    let seen = sockets g.L.Listener.asked g.L.Listener.port g.L.Acceptor.Accept.accepted g.L.Acceptor.Accept.has_failed in
+    let arguments = serve_arguments_of c.args.options.now in
+    let output = used contents g.W.Sink.has_failed c.args.output.now c.put_settled.new.output in
+    let first : Appends (contents c.args.output.now) (contents c.put_listening.new.output) (listening_text (g.L.Listener.port listener)) = rw (← c.port.ensures) c.in_ok-put_listening.ensures.all in
+    let settled = c.in_ok-put_settled.ensures in
+    let after = with_items c.in_ok-workers.workers c.work_all.new.workers in
+    let as_many = simp length-map at (ap length c.dismiss.ensures) in
+    let opened = ap length c.in_ok-shared.ensures.desks ∙ new_desks-length c.args.options.now.workers in
+    let at_desks : length c.dismiss.result.items ≡ c.args.options.now.workers = omega (arith, as_many, after.ok.0, c.in_ok-workers.ensures.count, c.in_ok-shared.desks.ok.0, opened) in
+    let at_acceptors : length c.as_slice.result.now ≡ c.args.options.now.workers = omega (arith, c.as_slice.ensures.len, after.ok.0, c.in_ok-workers.ensures.count, c.in_ok-shared.desks.ok.0, opened) in
+    BreaksOff-failed seen arguments g.C.Charges.settings output (λ w. w.acceptor) c.as_slice.result.now (sym c.if-failed.ensures)
+    (PrintsBoth-lines seen arguments g.C.Charges.settings output listener c.dismiss.result.items _ _ settled.0 c.in_ok-listener.ensures settled.1 at_desks (length-map _ _ ∙ at_acceptors) first settled.2.all settled.2.failed)
+
+pub returns-clause-all : goal.returns-clause-all
+returns-clause-all g c =
+    let contents = g.W.Sink.contents in
+    let listener = c.in_ok-listener.listener in
+    let seen = sockets g.L.Listener.asked g.L.Listener.port g.L.Acceptor.Accept.accepted g.L.Acceptor.Accept.has_failed in
+    let arguments = serve_arguments_of c.args.options.now in
+    let output = used contents g.W.Sink.has_failed c.args.output.now c.put_settled.new.output in
+    let first : Appends (contents c.args.output.now) (contents c.put_listening.new.output) (listening_text (g.L.Listener.port listener)) = rw (← c.port.ensures) c.in_ok-put_listening.ensures.all in
+    let settled = c.in_ok-put_settled.ensures in
+    let after = with_items c.in_ok-workers.workers c.work_all.new.workers in
+    let as_many = simp length-map at (ap length c.dismiss.ensures) in
+    let opened = ap length c.in_ok-shared.ensures.desks ∙ new_desks-length c.args.options.now.workers in
+    let at_desks : length c.dismiss.result.items ≡ c.args.options.now.workers = omega (arith, as_many, after.ok.0, c.in_ok-workers.ensures.count, c.in_ok-shared.desks.ok.0, opened) in
+    let at_acceptors : length c.as_slice.result.now ≡ c.args.options.now.workers = omega (arith, c.as_slice.ensures.len, after.ok.0, c.in_ok-workers.ensures.count, c.in_ok-shared.desks.ok.0, opened) in
+    let given : length c.work_all.new.workers ≡ c.in_ok-workers.workers.len = omega (arith, c.as_mut_slice.ensures.len) in
+    let seen_after : c.as_slice.result.now ≡ c.work_all.new.workers = c.as_slice.ensures.value ∙ with_items_is c.in_ok-workers.workers c.work_all.new.workers given in
+    ServesEach-whole seen arguments g.C.Charges.settings output (λ w. w.acceptor) c.as_slice.result.now (sym c.if-failed.ensures) (rw seen_after c.work_all.ensures.all)
+    (PrintsBoth-lines seen arguments g.C.Charges.settings output listener c.dismiss.result.items _ _ settled.0 c.in_ok-listener.ensures settled.1 at_desks (length-map _ _ ∙ at_acceptors) first settled.2.all settled.2.failed)

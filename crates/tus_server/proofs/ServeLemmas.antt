@@ -1,0 +1,96 @@
+-- How `serve` ends, by what was written of its two lines and by how its workers ended.
+use Rattle.std.proofs.Common.{◌≡◌, ◌∙◌, ℕ, ◌<◌, Bool, true, false, List, length, get_or, map, Option, Err, All, inl, inr, refl, sym, ap, subst, true≢false}
+use Rattle.std.proofs.lemmas.List.{get_or-map, length-map}
+use Rattle.std.proofs.lemmas.List.Elements.{All-map}
+use Rattle.std.proofs.lemmas.List.Folds.{Any-from_list_any, list_any_at}
+use Rattle.std.specs.Io.KnownBytes.{Appends}
+use Rattle.std.specs.List.{Any, list_any}
+use Rattle.http_wire.proofs.AheadLemmas.{Appends-more}
+use Rattle.http_wire.specs.Writes.{Writes}
+use Rattle.http_wire.specs.declared.fault.WireFault.{WireFault}
+use Rattle.tus_shared.specs.Desk.{Desk}
+use Rattle.tus_shared.specs.declared.balance.Balance.{Balance}
+use Rattle.upload_book.specs.Settings.{Settings}
+use Rattle.tus_server.specs.Arguments.{ServeArguments}
+use Rattle.tus_server.specs.Lines.{Settles, balance_text, listening_text}
+use Rattle.tus_server.specs.Serve.{BreaksOff, PrintsBoth, ServesEach}
+use Rattle.tus_server.specs.Sockets.{Sockets}
+use Rattle.tus_server.specs.StreamUse.{StreamUse}
+
+false_unless : (b : Bool) → (b ≡ true → ⊥) → b ≡ false
+false_unless true never = absurd (never refl)
+false_unless false never = refl
+
+-- where no element passes a test, each fails it
+none_passes : {X : Type 0} (p : X → Bool) (xs : List X) → list_any p xs ≡ false → All (λ x. p x ≡ false) xs
+none_passes p xs none k d lt =
+    false_unless (p (get_or xs k d)) (λ passes. true≢false (sym (list_any_at p xs k d lt passes) ∙ none))
+
+-- what holds of what is seen of some element holds of some that is seen
+Any-map : {X Y : Type 0} (P : Y → Type 0) (f : X → Y) (xs : List X) → Any (λ x. P (f x)) xs → Any P (map f xs)
+Any-map P f xs (k, x, lt, is, holds) = (
+  k,
+  f x,
+  subst (λ n. k < n) (sym (length-map xs f)) lt,
+  get_or-map f xs k x (f x) lt ∙ ap f is,
+  holds,
+)
+
+module _ {X L A W : Type 0} (seen : Sockets L A) (arguments : ServeArguments) (s : Settings) (output : StreamUse W) (acceptor : X → A) (workers : List X) where
+  -- each worker accepted as many connections as it was to, since no accept failed
+  pub ServesEach-whole : list_any (λ w. seen.has_failed (acceptor w)) workers ≡ false
+      → All (λ w. seen.has_failed (acceptor w) ≡ false → seen.accepted (acceptor w) ≡ arguments.work.connections) workers
+      → PrintsBoth seen arguments s output (map acceptor workers) → ServesEach seen arguments s output
+  ServesEach-whole none all prints =
+      let accepts : A → Type 0 = λ a. (seen.has_failed a ≡ false) × (seen.accepted a ≡ arguments.work.connections) in
+      let alive = none_passes (λ w. seen.has_failed (acceptor w)) workers none in
+      record {
+        acceptors = map acceptor workers;
+        prints = prints;
+        accepted = All-map accepts acceptor workers (λ k d lt. (alive k d lt, all k d lt (alive k d lt)));
+      }
+
+  -- an accept failed
+  pub BreaksOff-failed : list_any (λ w. seen.has_failed (acceptor w)) workers ≡ true
+      → PrintsBoth seen arguments s output (map acceptor workers) → BreaksOff seen arguments s output
+  BreaksOff-failed some prints =
+      inr (inr (inr (record {
+        acceptors = map acceptor workers;
+        prints = prints;
+        failed = Any-map (λ a. seen.has_failed a ≡ true) acceptor workers (Any-from_list_any (λ w. seen.has_failed (acceptor w)) workers some);
+      })))
+
+module _ {L A W : Type 0} (seen : Sockets L A) (arguments : ServeArguments) (s : Settings) (output : StreamUse W) (listener : L) (desks : List Desk) where
+  -- the second line broke off
+  pub BreaksOff-second : {T : Type 0} (between : Option (List ℕ)) (balance : Balance) (fault : WireFault) → seen.asked listener ≡ arguments.port → Settles s desks balance
+      → Appends output.before between (listening_text (seen.port listener))
+      → Writes {T = T} between output.after output.has_failed (balance_text balance) (Err fault) → BreaksOff seen arguments s output
+  BreaksOff-second between balance fault asked settled first last =
+      inr (inr (inl (record {
+        listener = listener;
+        asked = asked;
+        desks = desks;
+        balance = balance;
+        settled = settled;
+        n = last.prefix.0;
+        within = last.prefix.1;
+        lines = Appends-more _ _ _ _ _ first last.prefix.2;
+        failed = last.failed;
+      })))
+
+  -- both lines were written
+  pub PrintsBoth-lines : (acceptors : List A) (between : Option (List ℕ)) (balance : Balance) → seen.asked listener ≡ arguments.port → Settles s desks balance
+      → length desks ≡ arguments.workers → length acceptors ≡ arguments.workers
+      → Appends output.before between (listening_text (seen.port listener)) → Appends between output.after (balance_text balance) → output.has_failed ≡ false
+      → PrintsBoth seen arguments s output acceptors
+  PrintsBoth-lines acceptors between balance asked settled at_desks at_acceptors first last alive = record {
+    listener = listener;
+    asked = asked;
+    desks = desks;
+    balance = balance;
+    settled = settled;
+    each_has_a_desk = at_desks;
+    each_accepts = at_acceptors;
+    lines = Appends-more _ _ _ _ _ first last;
+    alive = alive;
+  }

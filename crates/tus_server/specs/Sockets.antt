@@ -1,0 +1,28 @@
+-- What is seen of the sockets of a run.
+use Rattle.std.specs.Prelude.{◌≡◌, ℕ, Bool, true, false, List, All, Any}
+
+-- What is seen of listeners and of acceptors at them: the port that a listener was asked for and the one at which it
+-- listens, how many connections an acceptor gave, and whether an accept failed.
+pub record Sockets (L A : Type 0) : Type 0 where
+  pub asked : L → ℕ
+  pub port : L → ℕ
+  pub accepted : A → ℕ
+  pub has_failed : A → Bool
+
+abbrev pub sockets : {L A : Type 0} → (L → ℕ) → (L → ℕ) → (A → ℕ) → (A → Bool) → Sockets L A
+sockets asked port accepted has_failed = record {
+  asked = asked;
+  port = port;
+  accepted = accepted;
+  has_failed = has_failed;
+}
+
+module _ {L A : Type 0} (seen : Sockets L A) where
+  -- each of these acceptors has given so many connections
+  abbrev pub HaveAccepted : ℕ → List A → Type 0
+  HaveAccepted connections acceptors =
+      All (λ a. (seen.has_failed a ≡ false) × (seen.accepted a ≡ connections)) acceptors
+
+  -- an accept failed at one of them
+  abbrev pub HasFailed : List A → Type 0
+  HasFailed acceptors = Any (λ a. seen.has_failed a ≡ true) acceptors

@@ -1,0 +1,9 @@
+use Rattle.std.proofs.Common.{◌≡◌, false}
+use Rattle.tus_workers.proofs.workers.Workers.work.Given as goal
+
+-- no accept has failed so far, and each round gave a connection
+abbrev pub invariant-loop : goal.invariant-loop
+invariant-loop g l = record {
+  alive : g.A.Accept.has_failed l.worker.acceptor ≡ false;
+  counted : g.A.Accept.accepted l.worker.acceptor ≡ l.counter;
+}

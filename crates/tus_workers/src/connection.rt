@@ -1,0 +1,56 @@
+//! A connection as its worker reads and writes it.
+
+use std::cell::Cell;
+use std::io;
+use std::io::{Read, Write};
+use std::net::TcpStream;
+use std::sync::atomic::{AtomicU64, Ordering};
+use std::thread::yield_now;
+
+/// How many connections may be open before their workers let others run first.
+const CROWD: u64 = 3;
+
+/// The stream of a connection. Where many connections are open, it lets other threads run before the first byte of each
+/// message: when its turn comes back, the message is often there, and the thread need not sleep.
+#[derive(Drop)]
+pub struct Connection<'s, 'o> {
+    stream: &'s TcpStream,
+    // How many connections are open.
+    open: &'o AtomicU64,
+    // Whether the next byte is the first of a message, so far as is known: nothing was read yet, or a reply was written
+    // since.
+    between: Cell<bool>,
+}
+
+impl<'s, 'o> Connection<'s, 'o> {
+    /// A connection of which nothing was read.
+    pub fn new(stream: &'s TcpStream, open: &'o AtomicU64) -> Self {
+        Connection {
+            stream,
+            open,
+            between: Cell::new(true),
+        }
+    }
+}
+
+impl Read for &Connection<'_, '_> {
+    fn read(&mut self, buf: &mut [u8]) -> io::Result<usize> {
+        if self.between.replace(false) && self.open.load(Ordering::Relaxed) > CROWD {
+            yield_now();
+        }
+        let mut stream = self.stream;
+        stream.read(buf)
+    }
+}
+
+impl Write for &Connection<'_, '_> {
+    fn write(&mut self, buf: &[u8]) -> io::Result<usize> {
+        self.between.set(true);
+        let mut stream = self.stream;
+        stream.write(buf)
+    }
+
+    fn flush(&mut self) -> io::Result<()> {
+        Ok(())
+    }
+}

@@ -1,0 +1,83 @@
+//! A listener whose acceptors fail.
+
+ghost use Rattle.std.specs.Prelude.{◌≡◌};
+
+use std::io;
+use std::io::ErrorKind;
+use std::net::{Net, TcpListener, TcpStream};
+use tus_workers::{Accept, Listener};
+
+/// A listener of which each acceptor gives one connection and then fails.
+#[derive(Drop)]
+pub struct Script {
+    listener: TcpListener,
+    asked: u16,
+    port: u16,
+}
+
+#[derive(Drop)]
+pub struct ScriptedAcceptor {
+    listener: TcpListener,
+    accepted: u64,
+    failed: bool,
+}
+
+impl Listener for Script {
+    type Acceptor = ScriptedAcceptor;
+
+    ghost asked = { λ s. s.asked };
+
+    ghost port = { λ s. s.port };
+
+    fn listen<N: Net<Stream = TcpStream, Listener = TcpListener>>(
+        net: &N,
+        port: u16,
+    ) -> io::Result<Self> {
+        let listener = TcpListener::bind(net, ("127.0.0.1", port))?;
+        let address = listener.local_addr()?;
+        Ok(Script {
+            listener,
+            asked: port,
+            port: address.port(),
+        })
+    }
+
+    fn port(&self) -> u16 {
+        self.port
+    }
+
+    fn acceptor(&self) -> io::Result<ScriptedAcceptor> {
+        Ok(ScriptedAcceptor {
+            listener: self.listener.try_clone()?,
+            accepted: 0,
+            failed: false,
+        })
+    }
+}
+
+impl Accept for ScriptedAcceptor {
+    ghost accepted = { λ a. a.accepted };
+
+    ghost has_failed = { λ a. a.failed };
+
+    fn accept(&mut self) -> io::Result<TcpStream> {
+        if self.accepted > 0 {
+            self.failed = true;
+            return Err(io::Error::from(ErrorKind::Other));
+        }
+        match self.listener.accept() {
+            Ok((stream, _)) => {
+                self.accepted += 1;
+                Ok(stream)
+            }
+            Err(error) => {
+                self.failed = true;
+                Err(error)
+            }
+        }
+    }
+
+    fn failed(&self) -> bool {
+        self.failed
+    }
+}
