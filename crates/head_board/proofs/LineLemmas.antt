@@ -1,4 +1,4 @@
--- What lines change of the heads, and what they leave.
+-- What lines change of the heads, and what events leave of them.
 use Rattle.std.proofs.Common.{◌≡◌, ◌⊎◌, ℕ, ◌+◌, ◌<◌, ◌≤◌, Bool, true, false, cond, not, ◌&&◌, ◌||◌, eqb, leb, ltb, List, [], ◌∷◌, ◌++◌, map, length, get_or, set, Option, Some, None, IfSome, inl, inr, refl, sym, ap, subst, ◌∙◌, arith, length-append}
 use Rattle.std.specs.List.{All, filter}
 use Rattle.std.specs.List.Sorted.{IsStrictlyIncreasing}
@@ -15,13 +15,16 @@ use Rattle.upload_book.specs.declared.head_row.Name.{Name}
 use Rattle.upload_book.specs.declared.settings.Numbers.{Numbers}
 use Rattle.upload_book.specs.declared.settings.TenantQuota.{TenantQuota}
 use Rattle.upload_book.specs.Expiry.{has_expired}
-use Rattle.upload_book.specs.Heads.{Heads, HeadPart, apply_line, apply_lines, head_part, head_part_at, heads_of, parts_after, with_row, without_expired}
-use Rattle.upload_book.specs.HeadSteps.{Follows, IsWithin, MayAllFollow, MayBecome, MayChange, MayFollow}
-use Rattle.upload_book.specs.PlainBook.{opening_book}
+use Rattle.upload_book.specs.Events.{ChangeEvent, book_after_all, book_after_event}
+use Rattle.upload_book.specs.Heads.{Heads, HeadPart, apply_line, head_part, head_part_at, heads_of, parts_after, with_row, without_expired}
+use Rattle.upload_book.specs.HeadSteps.{Follows, IsWithin, MayBecome, MayChange, MayFollow}
+use Rattle.upload_book.specs.PlainBook.{PlainBook, opening_book}
 use Rattle.upload_book.specs.Settings.{Settings}
 use Rattle.upload_book.specs.TenantBook.{Entry, TenantBook, kept_in, opening_part, with_changed, with_new}
 use Rattle.upload_book.proofs.Lawful.Entries.{ascending-filter, ids_of-with_kept, kept_in-contains, kept_in-filter, kept_in-push, kept_in-with_other, kept_in-with_same}
-use Rattle.head_board.specs.Laws.{IsLater, LaterLines, LinesHaveRoom}
+use Rattle.head_board.specs.Event.{Event}
+use Rattle.head_board.specs.Events.{AllHappen, Happens, change_event}
+use Rattle.head_board.specs.Laws.{IsLater, IsLaterBook, LaterEvents, LinesHaveRoom}
 use Rattle.head_board.specs.Room.{has_room}
 use Rattle.head_board.specs.inside.Rows.{AreBelow}
 use Rattle.head_board.proofs.RowLemmas.{AreBelow-none, AreBelow-push}
@@ -232,35 +235,30 @@ line-right : (h : Heads) (line : BoardLine) → MayFollow h line → AreRight h 
 line-right h line may right t =
     step-below (head_part_at h t) (right t) (head_part_at (apply_line h line) t) (part-step h line.change t may.change)
 
-lines-right : (h : Heads) (lines : List BoardLine) → MayAllFollow h lines → AreRight h → AreRight (apply_lines h lines)
-lines-right h [] all right = right
-lines-right h (line ∷ lines) all right = lines-right (apply_line h line) lines all.1 (line-right h line all.0 right)
+-- so it is after an event, whose line leads to the book after it,
+event-right : (b : PlainBook) (e : Event) → Happens b e → AreRight (heads_of b) → AreRight (heads_of (book_after_event b (change_event e)))
+event-right b e here right = subst AreRight (sym here.1.leads.heads) (line-right (heads_of b) here.0 here.1.leads.may right)
 
-lines-later : (h : Heads) (lines : List BoardLine) (name : Name) → MayAllFollow h lines → AreRight h → IsLater name.id (head_part_at h name.tenant) (head_part_at (apply_lines h lines) name.tenant)
-lines-later h [] name all right =
-    IsLater-same name.id (head_part_at h name.tenant) (head_part_at h name.tenant) (right name.tenant) (omega arith) (λ given. refl)
-lines-later h (line ∷ lines) name all right =
-    IsLater-on name.id (head_part_at h name.tenant) (head_part_at (apply_line h line) name.tenant) (head_part_at (apply_lines (apply_line h line) lines) name.tenant) (right name.tenant)
-    (step-later (head_part_at h name.tenant) (right name.tenant) name.id (head_part_at (apply_line h line) name.tenant) (part-step h line.change name.tenant all.0.change))
-    (lines-later (apply_line h line) lines name all.1 (line-right h line all.0 right))
+event-later : (b : PlainBook) (e : Event) (name : Name) → Happens b e → AreRight (heads_of b) → IsLaterBook name b (book_after_event b (change_event e))
+event-later b e name here right =
+    let part : HeadPart = head_part_at (heads_of b) name.tenant in
+    subst (λ (h : Heads). IsLater name.id part (head_part_at h name.tenant)) (sym here.1.leads.heads)
+    (step-later part (right name.tenant) name.id (head_part_at (apply_line (heads_of b) here.0) name.tenant) (part-step (heads_of b) here.0.change name.tenant here.1.leads.may.change))
 
--- lines are applied one after another
-pub apply_lines-append : (h : Heads) (xs ys : List BoardLine) → apply_lines h (xs ++ ys) ≡ apply_lines (apply_lines h xs) ys
-apply_lines-append h [] ys = refl
-apply_lines-append h (line ∷ xs) ys = apply_lines-append (apply_line h line) xs ys
+-- and after several
+events-later : (b : PlainBook) (events : List Event) (name : Name) → AllHappen b events → AreRight (heads_of b) → IsLaterBook name b (book_after_all b (map {A = Event} {B = ChangeEvent} change_event events))
+events-later b [] name all right =
+    IsLater-same name.id (head_part_at (heads_of b) name.tenant) (head_part_at (heads_of b) name.tenant) (right name.tenant) (omega arith) (λ given. refl)
+events-later b (e ∷ events) name all right =
+    let next : PlainBook = book_after_event b (change_event e) in
+    IsLater-on name.id (head_part_at (heads_of b) name.tenant) (head_part_at (heads_of next) name.tenant) (head_part_at (heads_of (book_after_all next (map {A = Event} {B = ChangeEvent} change_event events))) name.tenant) (right name.tenant)
+    (event-later b e name all.0 right)
+    (events-later next events name all.1 (event-right b e all.0 right))
 
--- those of a list that may follow may follow on those before them
-pub follow-seen : (h : Heads) (xs ys : List BoardLine) → MayAllFollow h (xs ++ ys) → MayAllFollow h xs
-follow-seen h [] ys all = tt
-follow-seen h (line ∷ xs) ys all = (all.0, follow-seen (apply_line h line) xs ys all.1)
+more-later : (b : PlainBook) (events more : List Event) (name : Name) → AllHappen b (events ++ more) → AreRight (heads_of b)
+    → IsLaterBook name (book_after_all b (map {A = Event} {B = ChangeEvent} change_event events)) (book_after_all b (map {A = Event} {B = ChangeEvent} change_event (events ++ more)))
+more-later b [] more name all right = events-later b more name all right
+more-later b (e ∷ events) more name all right = more-later (book_after_event b (change_event e)) events more name all.1 (event-right b e all.0 right)
 
-pub follow-back : (h : Heads) (xs ys : List BoardLine) → MayAllFollow h (xs ++ ys) → MayAllFollow (apply_lines h xs) ys
-follow-back h [] ys all = all
-follow-back h (line ∷ xs) ys all = follow-back (apply_line h line) xs ys all.1
-
-pub later_lines : LaterLines
-later_lines s lines more name legal =
-    let h : Heads = heads_of (opening_book s) in
-    let seen = follow-seen h lines more legal in
-    subst (λ (after : Heads). IsLater name.id (head_part_at (apply_lines h lines) name.tenant) (head_part_at after name.tenant)) (sym (apply_lines-append h lines more))
-    (lines-later (apply_lines h lines) more name (follow-back h lines more legal) (lines-right h lines seen (opening-right s)))
+pub later_events : LaterEvents
+later_events s events more name all = more-later (opening_book s) events more name all (opening-right s)

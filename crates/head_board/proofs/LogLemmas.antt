@@ -1,12 +1,12 @@
--- Prefixes of one list, and the step that adds a line to a log.
+-- Prefixes of one list, and the step that adds an event to a log.
 use Rattle.std.proofs.Common.{◌≡◌, ℕ, ◌+◌, ◌<◌, ◌≤◌, ◌==◌, Bool, true, false, List, [], ◌∷◌, ◌++◌, length, refl, ap, sym, subst, arith, inl, length-append, None}
 use Rattle.std.proofs.lemmas.List.{append-nil}
 use Rattle.std.proofs.lemmas.Bool.Decides.{nat_tests}
 use mathlib.Core.List.{IsPrefix}
 use prog.Atomic.{either}
 use Rattle.logbook.specs.Pages.{Cell, Goes, Moves, cell, keeps, no_nib, step}
-use Rattle.upload_book.specs.declared.board_line.BoardLine.{BoardLine}
-use Rattle.head_board.specs.inside.LineLog.{Adds, IsLog}
+use Rattle.head_board.specs.Event.{Event}
+use Rattle.head_board.specs.inside.EventLog.{Adds, IsLog}
 
 -- of two prefixes of one list the shorter begins the longer
 pub prefix_shorter : {A : Type 0} (xs ys zs : List A) → IsPrefix xs zs → IsPrefix ys zs → length xs ≤ length ys → IsPrefix xs ys
@@ -26,13 +26,13 @@ prefix_whole (x ∷ xs) [] p le = absurd (cc (p.1))
 prefix_whole (x ∷ xs) (y ∷ ys) p le =
     let rest = prefix_whole xs ys (p.0, cc (p.1)) (omega arith) in cc (p.1, rest)
 
-abbrev pub shown : List BoardLine → List BoardLine
+abbrev pub shown : List Event → List Event
 shown log = []
 
-abbrev pub moved : List BoardLine → List BoardLine → ℕ → Type 0
+abbrev pub moved : List Event → List Event → ℕ → Type 0
 moved xs ys n = Unit {0}
 
-adds_goes : (log v : List BoardLine) (e : BoardLine) (old : ℕ) → length v ≡ old → IsPrefix v log → (b : Bool) → (length log == old) ≡ b
+adds_goes : (log v : List Event) (e : Event) (old : ℕ) → length v ≡ old → IsPrefix v log → (b : Bool) → (length log == old) ≡ b
     → Goes IsLog shown moved 0 (v, (no_nib, None)) (λ n. either (n == old) (old + 1) n) (Adds (step 0 old (old + 1) e) (v, (no_nib, None))) ((length log, true) ∷ (0, true) ∷ []) log
 adds_goes log v e old len pre true is =
     let here : length log ≡ old = grind (arith, nat_tests) in
@@ -57,8 +57,8 @@ adds_goes log v e old len pre false is =
       rw is tt,
     )
 
--- whatever the log is, the exchange adds the line to all that was seen, or leaves the log
-pub adds_moves : (v : List BoardLine) (e : BoardLine) (old : ℕ) → length v ≡ old → Moves IsLog shown moved 0 (v, (no_nib, None)) (λ n. either (n == old) (old + 1) n) (Adds (step 0 old (old + 1) e) (v, (no_nib, None)))
+-- whatever the log is, the exchange adds the event to all that was seen, or leaves the log
+pub adds_moves : (v : List Event) (e : Event) (old : ℕ) → length v ≡ old → Moves IsLog shown moved 0 (v, (no_nib, None)) (λ n. either (n == old) (old + 1) n) (Adds (step 0 old (old + 1) e) (v, (no_nib, None)))
 adds_moves v e old len cs log kept pre away =
     let P : List Cell → Type 0 = λ c. (0 < length c) × ((cell c 0).1 ≡ true) × Goes IsLog shown moved 0 (v, (no_nib, None)) (λ n. either (n == old) (old + 1) n) (Adds (step 0 old (old + 1) e) (v, (no_nib, None))) c log in
     subst P (sym kept) (omega arith, refl, adds_goes log v e old len pre (length log == old) refl)

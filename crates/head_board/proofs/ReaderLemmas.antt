@@ -1,25 +1,56 @@
 -- What a reader finds.
-use Rattle.std.proofs.Common.{◌≡◌, ℕ, true, Option, Some, None, IfSome, sym, ap, ap₂, subst, ◌∙◌}
+use Rattle.std.proofs.Common.{◌≡◌, ℕ, Bool, true, false, if◌then◌else◌, Option, Some, None, IfSome, option_map, Ok, Err, refl, sym, ap, ap₂, subst, ◌∙◌}
 use mathlib.Core.List.{IsPrefix}
+use Rattle.upload_book.specs.declared.head_row.HeadRow.{HeadRow}
 use Rattle.upload_book.specs.declared.head_row.Name.{Name}
-use Rattle.upload_book.specs.Heads.{Heads, heads_after, shown}
-use Rattle.upload_book.specs.HeadSteps.{IsLegal}
+use Rattle.upload_book.specs.declared.refusal.Refusal.TheVariants.{Gone, Unknown}
+use Rattle.upload_book.specs.Heads.{Heads, HeadPart, head_part, heads_of, shown}
+use Rattle.upload_book.specs.Look.{look_answer, row_of}
+use Rattle.upload_book.specs.PlainBook.{PlainBook, answer_of, tenant_book}
 use Rattle.upload_book.specs.Settings.{Settings}
+use Rattle.upload_book.specs.TenantBook.{TenantBook, is_given, kept_in, visible, visible_in, visible_upload}
+use Rattle.upload_book.specs.Expiry.{has_expired}
+use Rattle.upload_book.specs.Upload.{Upload, head_row_of}
+use Rattle.upload_book.proofs.Heads.HeadParts.{head_part-tenant, row-kept}
 use Rattle.head_board.specs.declared.board_copy.BoardCopy.{BoardCopy}
 use Rattle.head_board.specs.declared.board_copy.View.{View}
 use Rattle.head_board.specs.declared.head_reader.Found.{Found}
-use Rattle.head_board.specs.inside.LineLog.{LogPrefix}
+use Rattle.head_board.specs.Events.{HaveHappened, book_at}
+use Rattle.head_board.specs.inside.EventLog.{LogPrefix}
 use Rattle.head_board.specs.inside.Showing.{Fits, IsCurrent, log_of}
 
--- a current copy tells what the heads are after legal lines
+-- what is found of an upload is what is found of its row
+visible-row : (now : ℕ) (o : Option Upload) → visible (λ (row : HeadRow). row.expires) now (option_map head_row_of o) ≡ row_of (visible (λ (u : Upload). u.expires) now o)
+visible-row now None = refl
+visible-row now (Some u) = by_test (has_expired now u.expires)
+  where
+    by_test : (over : Bool) → (if over then Err Gone else Ok (head_row_of u)) ≡ row_of (if over then Err Gone else Ok u)
+    by_test true = refl
+    by_test false = refl
+
+look-part : (part : TenantBook) (id now : ℕ) → visible_in (λ (row : HeadRow). row.expires) (head_part part) id now ≡ row_of (visible_upload part id now)
+look-part part id now = by_test (is_given part id)
+  where
+    by_test : (given : Bool) → (if given then visible (λ (row : HeadRow). row.expires) now (kept_in (head_part part).uploads id) else Err Unknown) ≡ row_of (if given then visible (λ (u : Upload). u.expires) now (kept_in part.uploads id) else Err Unknown)
+    by_test true = ap (visible (λ (row : HeadRow). row.expires) now) (row-kept part.uploads id) ∙ visible-row now (kept_in part.uploads id)
+    by_test false = refl
+
+-- the heads of a book tell of an upload what the book does
+shown-look : (b : PlainBook) (name : Name) (now : ℕ) → shown (heads_of b) name now ≡ answer_of b name.tenant (look_answer name.id now)
+shown-look b name now = ap (λ (part : HeadPart). visible_in (λ (row : HeadRow). row.expires) part name.id now) (head_part-tenant b name.tenant) ∙ look-part (tenant_book b name.tenant) name.id now
+
+-- a current copy tells what the book does after what happened
 pub found-right : (v : View) (s : BoardCopy) (seen : LogPrefix) (name : Name) (now : ℕ) (found : Option Found) → v.knows ≡ true → log_of v.log ≡ seen.book → IsCurrent s → Fits v s
-    → IfSome found (λ f. (f.seen ≡ s.seen) × IsPrefix seen.lines s.seen.lines × (f.row ≡ shown s.table name now))
-    → IfSome found (λ f. (f.seen.book ≡ seen.book) × IsPrefix seen.lines f.seen.lines × IsLegal v.settings f.seen.lines × (f.row ≡ shown (heads_after v.settings f.seen.lines) name now))
+    → IfSome found (λ f. (f.seen ≡ s.seen) × IsPrefix seen.events s.seen.events × (f.row ≡ shown s.table name now))
+    → IfSome found (λ f. (f.seen.book ≡ seen.book) × IsPrefix seen.events f.seen.events × HaveHappened v.settings f.seen.events
+    × (f.row ≡ answer_of (book_at v.settings f.seen.events) name.tenant (look_answer name.id now)))
 found-right v s seen name now None knows log current fits found = tt
 found-right v s seen name now (Some f) knows log current fits found =
-    let right = fits knows in (
+    let right = fits knows in
+    let heads : s.table ≡ heads_of (book_at v.settings f.seen.events) =
+    current.heads ∙ ap₂ (λ (settings : Settings) (t : LogPrefix). heads_of (book_at settings t.events)) (sym right.0) (sym found.0) in (
       ap (λ (t : LogPrefix). t.book) found.0 ∙ sym right.1 ∙ log,
-      subst (λ (t : LogPrefix). IsPrefix seen.lines t.lines) (sym found.0) found.1,
-      subst (λ (settings : Settings). IsLegal settings f.seen.lines) (sym right.0) (subst (λ (t : LogPrefix). IsLegal s.table.settings t.lines) (sym found.0) current.legal),
-      found.2 ∙ ap (λ (h : Heads). shown h name now) (current.heads ∙ ap₂ (λ (settings : Settings) (t : LogPrefix). heads_after settings t.lines) (sym right.0) (sym found.0)),
+      subst (λ (t : LogPrefix). IsPrefix seen.events t.events) (sym found.0) found.1,
+      subst (λ (settings : Settings). HaveHappened settings f.seen.events) (sym right.0) (subst (λ (t : LogPrefix). HaveHappened s.table.settings t.events) (sym found.0) current.happened),
+      found.2 ∙ ap (λ (h : Heads). shown h name now) heads ∙ shown-look (book_at v.settings f.seen.events) name now,
     )

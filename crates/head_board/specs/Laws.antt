@@ -1,12 +1,15 @@
--- Laws of the lines that tell what a book's steps change.
+-- Laws of what a book's steps change of its heads.
 use Rattle.std.specs.Prelude.{◌≡◌, ℕ, ◌<◌, ◌≤◌, true, List, ◌++◌, Some, None}
 use Rattle.upload_book.specs.declared.board_line.BoardLine.{BoardLine}
 use Rattle.upload_book.specs.declared.head_row.HeadRow.{HeadRow}
 use Rattle.upload_book.specs.declared.head_row.Name.{Name}
-use Rattle.upload_book.specs.Heads.{Heads, HeadPart, head_part_at, heads_after}
-use Rattle.upload_book.specs.HeadSteps.{IsLegal, MayBecome, MayFollow}
+use Rattle.upload_book.specs.Heads.{Heads, HeadPart, head_part_at, heads_of}
+use Rattle.upload_book.specs.HeadSteps.{MayBecome, MayFollow}
+use Rattle.upload_book.specs.PlainBook.{PlainBook}
 use Rattle.upload_book.specs.Settings.{Settings}
 use Rattle.upload_book.specs.TenantBook.{kept_in}
+use Rattle.head_board.specs.Event.{Event}
+use Rattle.head_board.specs.Events.{HaveHappened, book_at}
 use Rattle.head_board.specs.Room.{has_room}
 
 -- there is room for each line that may follow
@@ -21,8 +24,12 @@ pub record IsLater (id : ℕ) (before after : HeadPart) : Type 0 where
   pub grows : (old new : HeadRow) → kept_in before.uploads id ≡ Some old → kept_in after.uploads id ≡ Some new → MayBecome old new
   pub gone : id < before.next → kept_in before.uploads id ≡ None → kept_in after.uploads id ≡ None
 
--- what more lines tell of each name
-abbrev pub LaterLines : Type 0
-LaterLines =
-    (s : Settings) (lines more : List BoardLine) (name : Name) → IsLegal s (lines ++ more)
-    → IsLater name.id (head_part_at (heads_after s lines) name.tenant) (head_part_at (heads_after s (lines ++ more)) name.tenant)
+-- the same of a book, and the upload of a name
+abbrev pub IsLaterBook : Name → PlainBook → PlainBook → Type 0
+IsLaterBook name before after = IsLater name.id (head_part_at (heads_of before) name.tenant) (head_part_at (heads_of after) name.tenant)
+
+-- what more events leave of each name
+abbrev pub LaterEvents : Type 0
+LaterEvents =
+    (s : Settings) (events more : List Event) (name : Name) → HaveHappened s (events ++ more)
+    → IsLaterBook name (book_at s events) (book_at s (events ++ more))

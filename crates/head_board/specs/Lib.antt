@@ -1,5 +1,7 @@
 pub mod Board
 pub mod NoBoard
+pub mod Event
+pub mod Events
 pub mod Room
 pub mod Laws
 pub mod inside

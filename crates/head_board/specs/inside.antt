@@ -1,5 +1,5 @@
 -- What private functions and proofs alone need.
-pub mod LineLog
+pub mod EventLog
 pub mod Rows
 pub mod HeadTable
 pub mod Showing

@@ -1,16 +1,16 @@
-ghost use Rattle.std.specs.Prelude.{◌≡◌, ◌<◌, ◌^◌, ◌++◌, ◌∷◌, [], drop, if◌then◌else◌, IfOk, IsTrue, MatchBool};
+ghost use Rattle.std.specs.Prelude.{◌≡◌, ◌<◌, ◌^◌, ◌++◌, ◌∷◌, [], drop, fold, if◌then◌else◌, IfOk, MatchBool, true};
 ghost use mathlib.Core.List.{IsPrefix};
 ghost use Rattle.head_board.specs.Board.{BoardView};
+ghost use Rattle.head_board.specs.Events.{IsLineOf, book_at, event_of};
 ghost use Rattle.head_board.specs.inside.BoardRule.{IsAtRest};
-ghost use Rattle.head_board.specs.inside.Showing.{noted, view_of, IsCurrent};
+ghost use Rattle.head_board.specs.inside.Showing.{noted, view_of, Fits, IsCurrent, IsNext};
 ghost use Rattle.left_right.specs.Sides.{view as known_at};
-ghost use Rattle.upload_book.specs.Heads.{heads_after};
-ghost use Rattle.upload_book.specs.HeadSteps.{MayFollow};
 
 use crate::board_copy::{Added, BoardCopy, Note};
+use crate::event::Coming;
+use crate::event_log::{LogWord, Opened, SeenEvents};
 use crate::head_reader::HeadReader;
 use crate::head_table::HeadTable;
-use crate::line_log::{LogWord, Opened, SeenLines};
 use crate::showing::{Begins, BoardWriter, Learns, Publishes, Tells};
 use core::mem::replace_with;
 use std::alloc::{AllocError, Global};
@@ -19,11 +19,11 @@ use std::sync::Wait;
 use upload_book::{BoardLine, Settings};
 
 /// The heads of a book as they are shown to readers, who need no lock. This is the writer's side. A contract sees the
-/// settings of the book, which log its lines are in, and all lines that were shown.
+/// settings of the book, which log its events are in, and all events that were shown.
 pub struct Board<W: Wait + Drop> {
     rt: W,
     word: LogWord,
-    seen: SeenLines,
+    seen: SeenEvents,
     writer: BoardWriter,
 }
 
@@ -38,7 +38,7 @@ impl<W: Wait + Drop> Model for Board<W> {
     ghost view = { λ b. record {
       settings = b.writer.desk.shown.value.table.settings;
       log = b.seen.book;
-      lines = b.seen.lines;
+      events = b.seen.events;
     } };
 
     ghost invariant = { λ b. IsBoard b.writer.desk.shown.value (known_at b.writer.desk.place)
@@ -56,7 +56,7 @@ impl<W: Wait + Drop> Board<W> {
         opened: Opened,
     ) -> Result<Board<W>, AllocError>
         requires { (0 < readers) × (readers < 2 ^ 32) }
-        ensures { IfOk result (λ b. b ≡ record { settings = settings.now; log = opened.seen.book; lines = [] }) }
+        ensures { IfOk result (λ b. b ≡ record { settings = settings.now; log = opened.seen.book; events = [] }) }
     {
         let Opened { word, seen } = opened;
         let first = BoardCopy {
@@ -81,42 +81,39 @@ impl<W: Wait + Drop> Board<W> {
         })
     }
 
-    /// Shows a line, which may follow on all those before it: who reads from now on sees it. Says whether it did; else
-    /// nothing changed. It waits for readers that still read the older copy.
+    /// Shows what will have happened once a change is made for which the book is ready, by the line that tells what it
+    /// changes of the heads: who reads from now on sees it. It waits for readers that still read the older copy.
     ///
-    /// It takes no memory, since room for two notes was made by [`Board::new`], and there are never more; and nobody
-    /// else adds to the log. So no run has the answer `false`, but no contract of the list of notes tells that.
-    pub fn show(&mut self, line: BoardLine) -> bool
-        requires { MayFollow (heads_after self.old.settings self.old.lines) line }
-        ensures { MatchBool result (self.new ≡ record self.old { lines = self.old.lines ++ line ∷ [] }) (self.new ≡ self.old) }
+    /// Nothing is shown in part, and no memory is taken: room for two notes was made by [`Board::new`], and there are
+    /// never more. Were a note refused all the same, it would wait until there is room for it, and it waits until the log
+    /// has no more events than the board. No run waits for either, but no contract of the log or of the list of notes
+    /// tells that.
+    pub fn show(&mut self, coming: &Coming, line: BoardLine)
+        requires { IsLineOf (book_at self.old.settings self.old.events) (event_of coming.now) line }
+        ensures { self.new ≡ record self.old { events = self.old.events ++ event_of coming.now ∷ [] } }
     {
-        let Some(after) = self.seen.with(&self.word, &line) else {
-            return false;
-        };
+        let after = self.seen.with(&self.rt, &self.word, coming);
         let next = after.again();
         let note = Note::Adds(Added { line, after });
-        let done = replace_with(&mut self.writer, Work { rt: &self.rt, note }, shown);
-        if done {
-            self.seen = next;
-        }
-        done
+        replace_with(&mut self.writer, Work { rt: &self.rt, note }, shown);
+        self.seen = next;
     }
 
-    /// Shows a reader of this board all lines that were shown so far. It waits until these begin with those that the
+    /// Shows a reader of this board all events that were shown so far. It waits until these begin with those that the
     /// reader has seen. No run has to wait for that, since a reader sees only what was shown.
     pub fn show_to(&self, reader: &mut HeadReader)
         requires { reader.old.log ≡ self.now.log }
-        ensures begins { IsPrefix reader.old.lines self.now.lines }
-        ensures seen { reader.new ≡ record reader.old { lines = self.now.lines } }
+        ensures begins { IsPrefix reader.old.events self.now.events }
+        ensures seen { reader.new ≡ record reader.old { events = self.now.events } }
     {
         self.wait_for(reader.seen());
         reader.learn(self.seen.again());
     }
 
-    // Waits until the lines that were shown begin with these.
-    fn wait_for(&self, seen: &SeenLines)
+    // Waits until the events that were shown begin with these.
+    fn wait_for(&self, seen: &SeenEvents)
         requires { seen.now.book ≡ self.now.log }
-        ensures { IsPrefix seen.now.lines self.now.lines }
+        ensures { IsPrefix seen.now.events self.now.events }
     {
         for _ in self.rt.forever() {
             if seen.begins(&self.seen) {
@@ -126,7 +123,7 @@ impl<W: Wait + Drop> Board<W> {
         unreachable!()
     }
 
-    /// A new reader of the board, which has seen all lines that were shown. The error is that there are as many readers
+    /// A new reader of the board, which has seen all events that were shown. The error is that there are as many readers
     /// as there is room for, or that memory was lacking.
     pub fn reader(&mut self) -> Result<HeadReader, AllocError>
         ensures reader { IfOk result (λ r. r ≡ self.old) }
@@ -160,16 +157,14 @@ fn begun<R: Wait>(rt: &R, writer: BoardWriter) -> (BoardWriter, bool)
         × IsAtRest result.0.desk.shown.value (known_at result.0.desk.place) (drop result.0.behind result.0.log.items))
         (Unit {0}) }
 {
-    let (writer, done) = shown_first(rt, writer);
+    let (mut writer, done) = shown_first(rt, writer);
     if !done {
         return (writer, false);
     }
-    let note = Note::Nothing;
-    let (writer, roomy) = shown(writer, Work { rt, note });
-    if !roomy {
+    if !append(&mut writer, Note::Nothing) {
         return (writer, false);
     }
-    (writer, true)
+    (published(rt, writer), true)
 }
 
 // Shows the first copy once more, so that the writer knows which board it is. Says whether it did.
@@ -189,30 +184,6 @@ fn shown_first<R: Wait>(rt: &R, mut writer: BoardWriter) -> (BoardWriter, bool)
     (writer, true)
 }
 
-// What is to be noted, and the handle by which the writer waits for readers.
-struct Work<'a, R> {
-    rt: &'a R,
-    note: Note,
-}
-
-// Notes something for both copies, and shows the one with it. Says whether it did; else nothing changed.
-fn shown<R: Wait>(mut writer: BoardWriter, work: Work<'_, R>) -> (BoardWriter, bool)
-    requires rest { IsAtRest writer.desk.shown.value (known_at writer.desk.place) (drop writer.behind writer.log.items) }
-    requires next { IsCurrent (noted writer.desk.shown.value work.note) }
-    requires settings { (noted writer.desk.shown.value work.note).table.settings ≡ writer.desk.shown.value.table.settings }
-    requires log { (noted writer.desk.shown.value work.note).seen.book ≡ writer.desk.shown.value.seen.book }
-    ensures rest { IsAtRest result.0.desk.shown.value (known_at result.0.desk.place) (drop result.0.behind result.0.log.items) }
-    ensures value { result.0.desk.shown.value ≡ (if result.1 then noted writer.desk.shown.value work.entry.note else writer.desk.shown.value) }
-{
-    let Work { rt, note } = work;
-    if !append(&mut writer, note) {
-        return (writer, false);
-    }
-    let (writer, published) = writer.publish_as::<Publishes, R>(rt);
-    prove!(published.is_ok());
-    (writer, true)
-}
-
 // Adds a note to those that are to be shown. Says whether it did; else nothing changed.
 fn append(writer: &mut BoardWriter, note: Note) -> bool
     ensures desk { writer.new.desk ≡ writer.old.desk }
@@ -220,4 +191,49 @@ fn append(writer: &mut BoardWriter, note: Note) -> bool
         ≡ (if result then drop writer.old.behind writer.old.log.items ++ note ∷ [] else drop writer.old.behind writer.old.log.items) }
 {
     writer.append(note).is_ok()
+}
+
+// What is to be noted, and the handle by which the writer waits.
+struct Work<'a, R> {
+    rt: &'a R,
+    note: Note,
+}
+
+// Notes something for both copies, and shows the one with it.
+fn shown<R: Wait>(mut writer: BoardWriter, work: Work<'_, R>) -> (BoardWriter, ())
+    requires rest { IsAtRest writer.desk.shown.value (known_at writer.desk.place) (drop writer.behind writer.log.items) }
+    requires next { IsNext writer.desk.shown.value (noted writer.desk.shown.value work.note) }
+    ensures rest { IsAtRest result.0.desk.shown.value (known_at result.0.desk.place) (drop result.0.behind result.0.log.items) }
+    ensures value { result.0.desk.shown.value ≡ noted writer.desk.shown.value work.entry.note }
+{
+    let Work { rt, note } = work;
+    note_down(rt, &mut writer, note);
+    (published(rt, writer), ())
+}
+
+// Adds a note to those that are to be shown, as soon as there is room for it.
+fn note_down<R: Wait>(rt: &R, writer: &mut BoardWriter, mut note: Note)
+    ensures desk { writer.new.desk ≡ writer.old.desk }
+    ensures pending { drop writer.new.behind writer.new.log.items ≡ drop writer.old.behind writer.old.log.items ++ note ∷ [] }
+{
+    for _ in rt.forever() {
+        match writer.append(note) {
+            Ok(()) => return,
+            Err(refused) => note = refused,
+        }
+    }
+    unreachable!()
+}
+
+// Shows the copy with what was noted.
+fn published<R: Wait>(rt: &R, writer: BoardWriter) -> BoardWriter
+    requires knows { (known_at writer.desk.place).knows ≡ true }
+    requires fits { Fits (known_at writer.desk.place) writer.desk.shown.value }
+    requires next { IsNext writer.desk.shown.value (fold noted writer.desk.shown.value (drop writer.behind writer.log.items)) }
+    ensures rest { IsAtRest result.desk.shown.value (known_at result.desk.place) (drop result.behind result.log.items) }
+    ensures value { result.desk.shown.value ≡ fold noted writer.desk.shown.value (drop writer.behind writer.log.items) }
+{
+    let (writer, published) = writer.publish_as::<Publishes, R>(rt);
+    prove!(published.is_ok());
+    writer
 }

@@ -1,20 +1,20 @@
+use crate::event_log::SeenEvents;
 use crate::head_table::HeadTable;
-use crate::line_log::SeenLines;
 use upload_book::{BoardLine, Settings};
 
-/// What readers read: the heads of the book, and the lines of the log that were applied to them. There are two copies:
-/// readers read one while the writer changes the other.
+/// What readers read: the heads of the book, and the events of the log whose lines were applied to them. There are two
+/// copies: readers read one while the writer changes the other.
 #[derive(Drop)]
 pub struct BoardCopy {
     pub(crate) table: HeadTable,
-    pub(crate) seen: SeenLines,
+    pub(crate) seen: SeenEvents,
 }
 
-/// A line, and the lines of the log up to it.
+/// The line of an event, and the events of the log up to that one.
 #[derive(Drop)]
 pub struct Added {
     pub(crate) line: BoardLine,
-    pub(crate) after: SeenLines,
+    pub(crate) after: SeenEvents,
 }
 
 /// What is to be done to both copies.

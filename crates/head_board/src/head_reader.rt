@@ -1,24 +1,26 @@
 ghost use Rattle.std.specs.Prelude.{◌≡◌, true, IfSome, IfNone};
 ghost use mathlib.Core.List.{IsPrefix};
 ghost use Rattle.head_board.specs.Board.{ReadsHead};
+ghost use Rattle.head_board.specs.Events.{HaveHappened, book_at};
 ghost use Rattle.head_board.specs.inside.Showing.{log_of};
 ghost use Rattle.left_right.specs.Sides.{view as known_at};
-ghost use Rattle.upload_book.specs.Heads.{heads_after, shown};
-ghost use Rattle.upload_book.specs.HeadSteps.{IsLegal};
+ghost use Rattle.upload_book.specs.Heads.{shown};
+ghost use Rattle.upload_book.specs.Look.{look_answer};
+ghost use Rattle.upload_book.specs.PlainBook.{answer_of};
 
 use crate::board_copy::BoardCopy;
-use crate::line_log::SeenLines;
+use crate::event_log::SeenEvents;
 use crate::showing::{BoardReader, Enters};
 use core::mem::replace_with;
 use std::marker::Model;
 use upload_book::{HeadRow, Moment, Name, Refusal};
 
 /// A reader of the heads that a board shows, which needs no lock. A contract sees the settings of the book, which log
-/// the lines of the board are in, and the lines that the reader has seen: all that it reads is at least as new.
+/// the events of the board are in, and the events that the reader has seen: all that it reads is at least as new.
 #[derive(Drop)]
 pub struct HeadReader {
     reader: BoardReader,
-    seen: SeenLines,
+    seen: SeenEvents,
 }
 
 impl Model for HeadReader {
@@ -32,62 +34,62 @@ impl Model for HeadReader {
     ghost view = { λ r. record {
       settings = (known_at r.reader.place).settings;
       log = r.seen.book;
-      lines = r.seen.lines;
+      events = r.seen.events;
     } };
 
     ghost invariant = { λ r. ((known_at r.reader.place).knows ≡ true) × (log_of (known_at r.reader.place).log ≡ r.seen.book) };
 }
 
-// What is asked: after which lines, of which upload, and when.
+// What is asked: after which events, of which upload, and when.
 #[derive(Drop)]
 struct HeadQuery {
-    seen: SeenLines,
+    seen: SeenEvents,
     name: Name,
     moment: Moment,
 }
 
-// What is found: the answer, and the lines on which that rests.
+// What is found: the answer, and the events on which that rests.
 #[derive(Drop)]
 struct Found {
     row: Result<HeadRow, Refusal>,
-    seen: SeenLines,
+    seen: SeenEvents,
 }
 
 impl HeadReader {
-    /// A reader at a place that knows its board, which has seen these lines.
-    pub(crate) fn new(reader: BoardReader, seen: SeenLines) -> HeadReader
+    /// A reader at a place that knows its board, which has seen these events.
+    pub(crate) fn new(reader: BoardReader, seen: SeenEvents) -> HeadReader
         requires knows { (known_at reader.place).knows ≡ true }
         requires log { log_of (known_at reader.place).log ≡ seen.book }
-        ensures { result ≡ record { settings = (known_at reader.place).settings; log = seen.book; lines = seen.lines } }
+        ensures { result ≡ record { settings = (known_at reader.place).settings; log = seen.book; events = seen.events } }
     {
         HeadReader { reader, seen }
     }
 
-    /// The lines that it has seen.
-    pub(crate) fn seen(&self) -> &SeenLines
-        ensures { result.now ≡ record { book = self.now.log; lines = self.now.lines } }
+    /// The events that it has seen.
+    pub(crate) fn seen(&self) -> &SeenEvents
+        ensures { result.now ≡ record { book = self.now.log; events = self.now.events } }
     {
         &self.seen
     }
 
-    /// From now on it has seen these lines.
-    pub(crate) fn learn(&mut self, seen: SeenLines)
+    /// From now on it has seen these events.
+    pub(crate) fn learn(&mut self, seen: SeenEvents)
         requires { seen.book ≡ self.old.log }
-        ensures { self.new ≡ record self.old { lines = seen.lines } }
+        ensures { self.new ≡ record self.old { events = seen.events } }
     {
         self.seen = seen;
     }
 
     /// What the board tells of an upload at this moment: Unknown where the name's tenant is not there or never had the
     /// id, Gone where the upload has ended or expired, and else its row. The answer is at least as new as what the
-    /// reader has seen, and the reader has seen the lines of the answer then. It takes no lock and no memory, and waits
+    /// reader has seen, and the reader has seen the events of the answer then. It takes no lock and no memory, and waits
     /// for nobody.
     ///
     /// `None`, with the reader as it was, says that the board was not entered: it has been let go, or it shows fewer
-    /// lines than the reader has seen, which happens in no run.
+    /// events than the reader has seen, which happens in no run.
     pub fn look(&mut self, name: &Name, now: Moment) -> Option<Result<HeadRow, Refusal>>
-        ensures reads { IfSome result (ReadsHead self.old.settings self.old.lines self.new.lines name.now now) }
-        ensures board { self.new ≡ record self.old { lines = self.new.lines } }
+        ensures reads { IfSome result (ReadsHead self.old.settings self.old.events self.new.events name.now now) }
+        ensures board { self.new ≡ record self.old { events = self.new.events } }
         ensures stays { IfNone result (self.new ≡ self.old) }
     {
         let query = HeadQuery {
@@ -101,7 +103,7 @@ impl HeadReader {
     }
 }
 
-// Enters the board, and reads what it shows, unless that has fewer lines than were seen. The place is the same after
+// Enters the board, and reads what it shows, unless that has fewer events than were seen. The place is the same after
 // it.
 fn read_head(reader: BoardReader, query: HeadQuery) -> (BoardReader, Option<Found>)
     requires knows { (known_at reader.place).knows ≡ true }
@@ -109,9 +111,9 @@ fn read_head(reader: BoardReader, query: HeadQuery) -> (BoardReader, Option<Foun
     ensures place { known_at result.0.place ≡ known_at reader.place }
     ensures found { IfSome result.1 (λ found.
         (found.seen.book ≡ query.seen.book)
-        × IsPrefix query.seen.lines found.seen.lines
-        × IsLegal (known_at reader.place).settings found.seen.lines
-        × (found.row ≡ shown (heads_after (known_at reader.place).settings found.seen.lines) query.name query.moment)) }
+        × IsPrefix query.seen.events found.seen.events
+        × HaveHappened (known_at reader.place).settings found.seen.events
+        × (found.row ≡ answer_of (book_at (known_at reader.place).settings found.seen.events) query.name.tenant (look_answer query.name.id query.moment))) }
 {
     match reader.enter_as::<Enters>() {
         Ok(reading) => {
@@ -122,12 +124,12 @@ fn read_head(reader: BoardReader, query: HeadQuery) -> (BoardReader, Option<Foun
     }
 }
 
-// What a copy tells, unless it has fewer lines than were seen.
+// What a copy tells, unless it has fewer events than were seen.
 fn found_on(copy: &BoardCopy, query: &HeadQuery) -> Option<Found>
     requires { copy.now.seen.book ≡ query.now.seen.book }
     ensures { IfSome result (λ found.
         (found.seen ≡ copy.now.seen)
-        × IsPrefix query.now.seen.lines copy.now.seen.lines
+        × IsPrefix query.now.seen.events copy.now.seen.events
         × (found.row ≡ shown copy.now.table query.now.name query.now.moment)) }
 {
     if !query.seen.begins(&copy.seen) {

@@ -4,15 +4,17 @@
 
 mod board;
 mod board_copy;
+mod event;
+mod event_log;
 mod head_reader;
 mod head_rows;
 mod head_table;
 mod kept_row;
 pub mod laws;
-mod line_log;
 mod showing;
 
 pub use board::Board;
+pub use event::{Coming, Event};
+pub use event_log::Opened;
 pub use head_reader::HeadReader;
 pub use head_table::HeadTable;
-pub use line_log::Opened;

@@ -1,44 +1,76 @@
 //! A board and its readers.
 
-ghost use Rattle.std.specs.Prelude.{◌≡◌, []};
+ghost use Rattle.std.specs.Prelude.{◌≡◌, ◌<◌, ℕ, []};
+ghost use Rattle.upload_book.specs.Book.{plain_of};
+ghost use Rattle.upload_book.specs.Change.{CanBeMade};
+ghost use Rattle.upload_book.specs.PlainBook.{opening_book};
 
 use crate::settings::{moment, settings};
-use crate::tables::{assert_shown, line, name, row};
-use head_board::{Board, HeadReader, Opened};
+use crate::tables::{assert_shown, name};
+use head_board::{Board, Coming, HeadReader, Opened};
 use std::process::Abort;
 use std::sync::Wait;
 use std::test::Fail;
-use upload_book::HeadChange::Put;
-use upload_book::{Refusal, Settings};
+use upload_book::{Book, Change, FirstChunk, NewUpload, Refusal};
 
-// A reader finds the offset and the metadata of acme's first upload, or why there are none.
-fn assert_seen(rt: &impl Abort, reader: &mut HeadReader, expected: Result<(u64, &[u8]), Refusal>) {
+// A reader finds the offset of acme's first upload, or why there is none.
+fn assert_seen(rt: &impl Abort, reader: &mut HeadReader, expected: Result<u64, Refusal>) {
     let found = reader.look(&name(0, 1), moment(rt, 1000));
+    let expected = expected.map(|offset| (offset, &b""[..]));
     assert_shown(rt, &found.expect(rt, "entered"), expected);
 }
 
-// A new board shows acme's first upload.
-fn show_first<W: Wait + Drop>(rt: &impl Abort, board: &mut Board<W>, settings: &Settings)
-    requires settings { board.old.settings ≡ settings.now }
-    requires new { board.old.lines ≡ [] }
+// The creation of an upload that begins with five bytes.
+fn creation() -> Change<'static>
+    ensures { (tenants : ℕ) → 0 < tenants → CanBeMade tenants result }
 {
-    let numbers = settings.numbers();
-    assert!(rt; numbers.uploads >= 1);
-    assert!(rt; numbers.last_id >= 1);
-    let first = line(Put(name(0, 1), row(5, b"key QQ", None)), 2);
-    assert!(rt; board.show(first));
+    let new = NewUpload {
+        partial: false,
+        length: Some(10),
+        metadata: b"",
+        concat: b"",
+    };
+    let first = FirstChunk {
+        typed: true,
+        check: None,
+        bytes: b"hello",
+    };
+    Change::Create {
+        tenant: 0,
+        new,
+        first,
+    }
+}
+
+// A new board shows what acme's first upload changes of its book.
+fn show_first<W: Wait + Drop>(rt: &impl Abort, board: &mut Board<W>, book: &mut Book)
+    requires opened { plain_of book.old ≡ opening_book board.old.settings }
+    requires new { board.old.events ≡ [] }
+{
+    assert!(rt; book.settings().tenant_count() > 0);
+    let ready = book.prepare(creation(), moment(rt, 1000));
+    let ready = ready.expect(rt, "a book with room");
+    let line = ready.line(book);
+    board.show(
+        &Coming {
+            desk: 0,
+            ready: &ready,
+        },
+        line,
+    );
 }
 
 #[test]
 fn readers_see_what_is_shown(rt: HostRuntime) -> Result<(), Fail> {
     let settings = settings()?;
     let mut board = Board::new(rt.alloc(), &rt, &settings, 2, Opened::new())?;
+    let mut book = Book::new(rt.alloc(), settings)?;
     let mut one = board.reader()?;
     let mut other = board.reader()?;
     assert_seen(&rt, &mut one, Err(Refusal::Unknown));
-    show_first(&rt, &mut board, &settings);
-    assert_seen(&rt, &mut one, Ok((5, b"key QQ")));
-    assert_seen(&rt, &mut other, Ok((5, b"key QQ")));
+    show_first(&rt, &mut board, &mut book);
+    assert_seen(&rt, &mut one, Ok(5));
+    assert_seen(&rt, &mut other, Ok(5));
     drop(board);
     assert!(rt; one.look(&name(0, 1), moment(&rt, 1000)).is_none());
     Ok(())

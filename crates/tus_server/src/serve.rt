@@ -49,11 +49,12 @@ where
         (serve_arguments_of options.now) (used W.contents W.has_failed output.old output.new) result }
 {
     let settings = settings_with(alloc, options.numbers, options.tenants)?;
-    serve_with::<L, Brand, Brand, H, W>(
+    serve_with::<L, Brand, Brand, Brand, H, W>(
         rt,
         alloc,
         settings,
         options,
+        Blank::new(16),
         Blank::new(16),
         Blank::new(16),
         Opened::new(),
@@ -66,6 +67,7 @@ fn serve_with<
     L: Listener,
     C: Charges + Send + Sync,
     R: Ledger + Send + Sync,
+    M: Ledger + Send + Sync,
     H: Threads
         + Wait
         + Net<Stream = TcpStream, Listener = TcpListener>
@@ -80,7 +82,8 @@ fn serve_with<
     options: &ServeOptions,
     charged: Blank,
     released: Blank,
-    lines: Opened,
+    made: Blank,
+    events: Opened,
     output: &mut W,
 ) -> Result<(), RunFault>
 where
@@ -90,7 +93,8 @@ where
     requires desks { options.now.workers ≡ C.desks }
     requires charged { (charged.name ≡ C.name) × (charged.parts ≡ C.parts) × (C.parts ≡ 16) }
     requires released { (released.name ≡ R.name) × (released.parts ≡ R.parts) × (R.parts ≡ 16) }
-    requires log { lines.seen.book ≡ C.log }
+    requires made { (made.name ≡ M.name) × (made.parts ≡ M.parts) × (M.parts ≡ 16) }
+    requires log { events.seen.book ≡ C.log }
     requires output { W.has_failed output.old ≡ false }
     ensures fault { IfErr result (λ fault. (fault ≡ RunFault.Wire) ⊎ (fault ≡ RunFault.Memory)) }
     ensures memory { IsErrOf result RunFault.Memory → output.new ≡ output.old }
@@ -101,14 +105,15 @@ where
         (ServesEach (sockets L.asked L.port L.Acceptor.accepted L.Acceptor.has_failed)
         (serve_arguments_of options.now) C.settings (used W.contents W.has_failed output.old output.new)) }
 {
-    let (shared, desks) = Shared::<C, R, &H>::open(
+    let (shared, desks) = Shared::<C, R, M, &H>::open(
         rt,
         alloc,
         settings,
         options.workers,
         charged,
         released,
-        lines,
+        made,
+        events,
     )?;
     let room = Vec::with_capacity(alloc, desks.len())?;
     let room_after = Vec::with_capacity(alloc, desks.len())?;
@@ -126,14 +131,15 @@ where
 
 /// Settles what the desks did, and prints its balance. The error is `WireFault::Write`, and then only a prefix of the
 /// line was written.
-fn put_settled<W: Sink, C: Charges, R: Ledger, B: Wait + Drop>(
+fn put_settled<W: Sink, C: Charges, R: Ledger, M: Ledger, B: Wait + Drop>(
     output: &mut W,
-    shared: Shared<C, R, B>,
-    desks: Vec<Desk<C, R>>,
+    shared: Shared<C, R, M, B>,
+    desks: Vec<Desk<C, R, M>>,
 ) -> Result<(), WireFault>
     requires all { vec_len desks ≡ C.desks }
     requires charged_parts { C.parts ≡ 16 }
     requires released_parts { R.parts ≡ 16 }
+    requires made_parts { M.parts ≡ 16 }
     requires output { W.has_failed output.old ≡ false }
     ensures { (balance : Balance) × Settles C.settings desks.items balance
         × Writes (W.contents output.old) (W.contents output.new) (W.has_failed output.new) (balance_text balance) result }

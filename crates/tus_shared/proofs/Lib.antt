@@ -1,5 +1,9 @@
 pub mod SharesLemmas
+pub mod EventLemmas
 pub mod TenantLemmas
 pub mod ZipLemmas
 pub mod ChangeLemmas
+pub mod HeadLemmas
 pub mod BatchLemmas
+pub mod LogLaws
+pub mod TellLemmas

@@ -2,7 +2,7 @@
 use Rattle.std.proofs.Common.{◌≡◌, ℕ, suc, ◌+◌, List, [], ◌∷◌, ◌++◌, length, add-one, ap, ◌∙◌, arith}
 use Rattle.std.proofs.lemmas.List.Sums.{sum_by-cons}
 use Rattle.std.specs.List.{sum_by}
-use Rattle.upload_book.specs.declared.board_line.BoardLine.{BoardLine}
+use Rattle.head_board.specs.Event.{Event}
 use Rattle.tus_shared.specs.Desk.{Desk, new_desks}
 
 -- a share that has these parts and this amount still lacks what the desks that are left have
@@ -22,6 +22,7 @@ IsLeft-next {D = D} amount_of from worth all left rest d from_now worth_now from
     }
 
 -- the desks with one more that has made no step
-pub new_desks-next : (n : ℕ) (desks more : List Desk) (charged released : ℕ) (seen : List BoardLine)
-    → more ≡ desks ++ record { number = n; charged = charged; released = released; seen = seen } ∷ [] → desks ≡ new_desks n → charged ≡ 0 → released ≡ 0 → seen ≡ [] → more ≡ new_desks (n + 1)
-new_desks-next n desks more charged released seen pushed so_far none spent nothing = rw (add-one, pushed) (simp (so_far, none, spent, nothing))
+pub new_desks-next : (n : ℕ) (desks more : List Desk) (charged released made : ℕ) (seen : List Event)
+    → more ≡ desks ++ record { number = n; charged = charged; released = released; made = made; seen = seen } ∷ [] → desks ≡ new_desks n
+    → charged ≡ 0 → released ≡ 0 → made ≡ 0 → seen ≡ [] → more ≡ new_desks (n + 1)
+new_desks-next n desks more charged released made seen pushed so_far none spent unmade nothing = rw (add-one, pushed) (simp (so_far, none, spent, unmade, nothing))

@@ -1,3 +1,5 @@
+pub mod Headline
+pub mod Laws
 pub mod Answers
 pub mod Steps
 pub mod Store

@@ -1,3 +1,3 @@
 -- What private functions and proofs alone need.
 pub mod StoreRule
-pub mod ShownLine
+pub mod DeskRule

@@ -1,11 +1,11 @@
-ghost use Rattle.std.specs.Prelude.{◌≡◌, ◌+◌, All, List, vec_len};
+ghost use Rattle.std.specs.Prelude.{◌≡◌, ◌+◌, All, List, length, vec_len};
 ghost use Rattle.std.specs.List.{sum_by};
 ghost use mathlib.Core.List.{IsPrefix};
+ghost use Rattle.head_board.specs.Event.{Event};
 ghost use Rattle.tus_shared.specs.Desk as spec;
-ghost use Rattle.tus_shared.specs.Store.{IsShown};
+ghost use Rattle.tus_shared.specs.Store.{IsBookAt};
 ghost use Rattle.upload_book.specs.Book.{plain_of};
 ghost use Rattle.upload_book.specs.Charge.{charge_in};
-ghost use Rattle.upload_book.specs.declared.board_line.BoardLine.{BoardLine};
 ghost use Rattle.upload_book.specs.Lawful.{IsLawful};
 
 use crate::charges::Charges;
@@ -29,24 +29,27 @@ pub struct Balance {
 }
 
 /// Ends an opening: takes the book out of the lock, and adds the shares of all of its desks. The sums are
-/// the totals of the book, and what is held is what its tenants pay. The heads of the book are those after the lines
-/// that were shown, which begin with what each desk has seen. It may wait for readers, of which none is left.
-pub fn settle<C: Charges, R: Ledger, B: Wait + Drop>(
-    shared: Shared<C, R, B>,
-    desks: Vec<Desk<C, R>>,
+/// the totals of the book, and what is held is what its tenants pay. The book is the one after all that happened to it,
+/// which begins with what each desk has seen: as many events as the desks made changes. It may wait for readers, of which
+/// none is left.
+pub fn settle<C: Charges, R: Ledger, M: Ledger, B: Wait + Drop>(
+    shared: Shared<C, R, M, B>,
+    desks: Vec<Desk<C, R, M>>,
 ) -> (Book, Balance)
     requires all { vec_len desks ≡ C.desks }
     requires charged_parts { C.parts ≡ 16 }
     requires released_parts { R.parts ≡ 16 }
+    requires made_parts { M.parts ≡ 16 }
     ensures settings { (plain_of result.0).settings ≡ C.settings }
     ensures lawful { IsLawful (plain_of result.0) }
     ensures charged_sum { result.1.charged ≡ sum_by (λ (d : spec.Desk). d.charged) desks.items }
     ensures released_sum { result.1.released ≡ sum_by (λ (d : spec.Desk). d.released) desks.items }
     ensures charged { result.1.charged ≡ (plain_of result.0).charged }
     ensures released { result.1.released ≡ (plain_of result.0).released }
-    ensures seen { (lines : List BoardLine)
-        × IsShown C.settings (record { book = plain_of result.0; lines = lines })
-        × All (λ (d : spec.Desk). IsPrefix d.seen lines) desks.items }
+    ensures happened { (events : List Event)
+        × IsBookAt C.settings events (plain_of result.0)
+        × All (λ (d : spec.Desk). IsPrefix d.seen events) desks.items
+        × (length events ≡ sum_by (λ (d : spec.Desk). d.made) desks.items) }
     ensures held { result.1.held ≡ sum_by (charge_in C.settings.numbers) (plain_of result.0).tenants }
 {
     let Shared { store } = shared;
@@ -55,10 +58,18 @@ pub fn settle<C: Charges, R: Ledger, B: Wait + Drop>(
         board,
         mut charged,
         mut released,
+        mut made,
     } = store.into_inner();
-    gather(&board, &mut charged.rest, &mut released.rest, desks);
+    gather(
+        &board,
+        &mut charged.rest,
+        &mut released.rest,
+        &mut made.rest,
+        desks,
+    );
     charged.book.audit(&mut charged.rest);
     released.book.audit(&mut released.rest);
+    made.book.audit(&mut made.rest);
     let balance = Balance {
         charged: book.charged_total(),
         released: book.released_total(),
@@ -67,19 +78,22 @@ pub fn settle<C: Charges, R: Ledger, B: Wait + Drop>(
     (book, balance)
 }
 
-// Takes the shares of these desks in, each of which has seen lines of the board.
-fn gather<C: Charges, R: Ledger, B: Wait + Drop>(
+// Takes the shares of these desks in, each of which has seen events of the board.
+fn gather<C: Charges, R: Ledger, M: Ledger, B: Wait + Drop>(
     board: &Board<B>,
     charged: &mut Share<C>,
     released: &mut Share<R>,
-    desks: Vec<Desk<C, R>>,
+    made: &mut Share<M>,
+    desks: Vec<Desk<C, R, M>>,
 )
     requires log { board.now.log ≡ C.log }
-    ensures seen { All (λ (d : spec.Desk). IsPrefix d.seen board.now.lines) desks.items }
+    ensures seen { All (λ (d : spec.Desk). IsPrefix d.seen board.now.events) desks.items }
     ensures charged_parts { charged.new.parts ≡ charged.old.parts + vec_len desks }
     ensures released_parts { released.new.parts ≡ released.old.parts + vec_len desks }
+    ensures made_parts { made.new.parts ≡ made.old.parts + vec_len desks }
     ensures charged { charged.new.amount ≡ charged.old.amount + sum_by (λ (d : spec.Desk). d.charged) desks.items }
     ensures released { released.new.amount ≡ released.old.amount + sum_by (λ (d : spec.Desk). d.released) desks.items }
+    ensures made { made.new.amount ≡ made.old.amount + sum_by (λ (d : spec.Desk). d.made) desks.items }
 {
     for desk in desks {
         let Desk {
@@ -87,10 +101,12 @@ fn gather<C: Charges, R: Ledger, B: Wait + Drop>(
             number: _,
             charged: its_charged,
             released: its_released,
+            made: its_made,
             mut reader,
         } = desk;
         board.show_to(&mut reader);
         charged.merge(its_charged);
         released.merge(its_released);
+        made.merge(its_made);
     }
 }

@@ -15,7 +15,7 @@ pub trait Charges: Ledger {
     // How many desks there are.
     ghost desks: { ℕ };
 
-    // The log of the lines that the store shows.
+    // The log of what happens to the book.
     ghost log: { Book };
 }
 

@@ -1,7 +1,9 @@
-ghost use Rattle.std.specs.Prelude.{◌≡◌, ◌⊎◌, ◌≤◌, [], true, Err, IfNone, IfSome, Ok, length, vec_capacity};
-ghost use Rattle.tus_steps.specs.Method.{is_head};
+ghost use Rattle.std.specs.Prelude.{◌≡◌, ◌⊎◌, ◌≤◌, ℕ, [], Err, IfNone, IfSome, Ok, length, vec_capacity};
+ghost use Rattle.tus_steps.specs.declared.head.HeadOf.TheVariants as head;
+ghost use Rattle.tus_steps.specs.Head.{IsHeadStep};
 ghost use Rattle.tus_steps.specs.Operation.{operation_of};
 ghost use Rattle.upload_book.specs.declared.operation.Operation.TheVariants as operation;
+ghost use Rattle.upload_book.specs.PlainBook.{PlainBook};
 ghost use Rattle.head_board.specs.Board.{ReadsHead};
 ghost use Rattle.tus_shared.specs.Answers.{Answers, AnswersBatch, AnswersTurn, OnlySeesMore, SeesHead, Sweeps};
 ghost use Rattle.upload_book.specs.declared.refusal.Refusal.TheVariants.{Board, Unknown};
@@ -17,21 +19,23 @@ use std::sync::ledger::{Ledger, Share};
 use tus_steps::{HeadOf, Reply, Request, head_of, head_reply};
 use upload_book::{HeadRow, Moment, Name, Refusal, Settings, Swept};
 
-/// One of the desks that an opening gives, at which one thread answers its requests. It counts in two shares how many
-/// blocks its own steps charged, and how many they released, and has a reader of the board. A contract sees the desk's
-/// number, these two counts, and the lines that the desk has seen: each later answer is at least as new.
+/// One of the desks that an opening gives, at which one thread answers its requests. It counts in three shares how many
+/// blocks its own steps charged, how many they released, and how many of them changed the book, and has a reader of the
+/// board. A contract sees the desk's number, these counts, and the events that the desk has seen: each later answer is at
+/// least as new.
 #[derive(Drop)]
-pub struct Desk<C: Charges, R: Ledger> {
+pub struct Desk<C: Charges, R: Ledger, M: Ledger> {
     pub(crate) settings: Settings,
     pub(crate) number: usize,
     pub(crate) charged: Share<C>,
     pub(crate) released: Share<R>,
+    pub(crate) made: Share<M>,
     pub(crate) reader: HeadReader,
 }
 
-impl<C: Charges, R: Ledger> Model for Desk<C, R> {
-    ghost use Rattle.std.specs.Prelude.{◌≡◌};
+impl<C: Charges, R: Ledger, M: Ledger> Model for Desk<C, R, M> {
     ghost use Rattle.tus_shared.specs.Desk as spec;
+    ghost use Rattle.tus_shared.specs.inside.DeskRule.{IsDesk};
 
     ghost Value = { spec.Desk };
 
@@ -39,14 +43,14 @@ impl<C: Charges, R: Ledger> Model for Desk<C, R> {
       number = d.number;
       charged = d.charged.amount;
       released = d.released.amount;
-      seen = d.reader.lines;
+      made = d.made.amount;
+      seen = d.reader.events;
     } };
 
-    ghost invariant = { λ d. (d.settings ≡ C.settings) × (d.charged.parts ≡ 1) × (d.released.parts ≡ 1)
-        × (d.reader.settings ≡ C.settings) × (d.reader.log ≡ C.log) };
+    ghost invariant = { λ d. IsDesk C.settings C.log d.settings d.reader d.charged.parts d.released.parts d.made.parts };
 }
 
-impl<C: Charges, R: Ledger> Desk<C, R> {
+impl<C: Charges, R: Ledger, M: Ledger> Desk<C, R, M> {
     /// The settings that the desks were opened with.
     pub fn settings(&self) -> &Settings
         ensures { result.now ≡ C.settings }
@@ -55,13 +59,12 @@ impl<C: Charges, R: Ledger> Desk<C, R> {
     }
 
     /// Takes the lock for the step of this request at this moment ([`crate::Store::step`]), and gives its reply: the
-    /// plain book's on a lawful book. The heads of that book are those after the lines that were shown, and these begin
-    /// with what the desk has seen. After it the desk has seen all of them, and the line of its own change. The bytes of
-    /// a GET are a copy. It may wait for other desks.
+    /// plain book's, after events that begin with what the desk has seen. After it the desk has seen all of them, and its
+    /// own change, which is the next event. The bytes of a GET are a copy. It may wait for other desks.
     pub fn call<W: Wait, B: Wait + Drop>(
         &mut self,
         rt: &W,
-        shared: &Shared<C, R, B>,
+        shared: &Shared<C, R, M, B>,
         request: &Request,
         now: Moment,
     ) -> Reply
@@ -70,14 +73,14 @@ impl<C: Charges, R: Ledger> Desk<C, R> {
         shared.store.lock(rt).step(self, request, now)
     }
 
-    /// Takes the lock for a sweep at this moment ([`crate::Store::sweep`]), and tells what it ended. It is refused as
-    /// Memory where that lacks to show it. It may wait for other desks.
+    /// Takes the lock for a sweep at this moment ([`crate::Store::sweep`]), and tells what it ended. It may wait for other
+    /// desks.
     pub fn sweep<W: Wait, B: Wait + Drop>(
         &mut self,
         rt: &W,
-        shared: &Shared<C, R, B>,
+        shared: &Shared<C, R, M, B>,
         now: Moment,
-    ) -> Result<Swept, Refusal>
+    ) -> Swept
         ensures { Sweeps C.settings now result self.old self.new }
     {
         shared.store.lock(rt).sweep(self, now)
@@ -115,7 +118,7 @@ impl<C: Charges, R: Ledger> Desk<C, R> {
     pub fn answer<W: Wait, B: Wait + Drop, G: Gate>(
         &mut self,
         rt: &W,
-        shared: &Shared<C, R, B>,
+        shared: &Shared<C, R, M, B>,
         request: &Request,
         now: Moment,
         turn: usize,
@@ -133,7 +136,7 @@ impl<C: Charges, R: Ledger> Desk<C, R> {
     fn reply_to<W: Wait, B: Wait + Drop, G: Gate>(
         &mut self,
         rt: &W,
-        shared: &Shared<C, R, B>,
+        shared: &Shared<C, R, M, B>,
         request: &Request,
         now: Moment,
         turn: usize,
@@ -155,16 +158,16 @@ impl<C: Charges, R: Ledger> Desk<C, R> {
     fn answer_head<W: Wait, B: Wait + Drop, G: Gate>(
         &mut self,
         rt: &W,
-        shared: &Shared<C, R, B>,
+        shared: &Shared<C, R, M, B>,
         request: &Request,
         name: &Name,
         now: Moment,
         turn: usize,
         gate: &G,
     ) -> Reply
-        requires head { is_head request.now.method ≡ true }
         requires asks { operation_of C.settings request.now ≡ Ok (operation.Look name.now) }
-        ensures { AnswersTurn C.settings request.now now result self.old self.new }
+        requires step { (b : PlainBook) (now : ℕ) → b.settings ≡ C.settings → IsHeadStep b request.now now (head.Of name.now) }
+        ensures { Answers C.settings request.now now result self.old self.new }
     {
         if let Some(row) = self.read_board(name, now) {
             return head_reply(row);
@@ -176,7 +179,7 @@ impl<C: Charges, R: Ledger> Desk<C, R> {
     fn answer_locked<W: Wait, B: Wait + Drop, G: Gate>(
         &mut self,
         rt: &W,
-        shared: &Shared<C, R, B>,
+        shared: &Shared<C, R, M, B>,
         request: &Request,
         now: Moment,
         turn: usize,
@@ -194,7 +197,7 @@ impl<C: Charges, R: Ledger> Desk<C, R> {
     pub(crate) fn answer_all<W: Wait, B: Wait + Drop, G: Gate>(
         &mut self,
         rt: &W,
-        shared: &Shared<C, R, B>,
+        shared: &Shared<C, R, M, B>,
         batch: &[Turn],
         mut replies: Vec<Reply>,
         gate: &G,

@@ -1,11 +1,13 @@
-//! Several desks over one book behind a lock. Each desk answers requests and counts in two shares what its
-//! own steps charged and released; together the shares are the book's totals.
+//! Several desks over one book behind a lock. Each desk answers requests and counts in three shares what its own steps
+//! charged and released, and how many of them changed the book; together the shares are the book's totals, and the number
+//! of all changes.
 #![tactic(auto)]
 
 mod balance;
 mod charges;
 mod desk;
 mod gate;
+pub mod laws;
 mod open_fault;
 mod shared;
 mod store;

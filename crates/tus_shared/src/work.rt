@@ -26,14 +26,15 @@ use tus_steps::Reply;
 pub fn work_all<
     C: Charges + Send + Sync,
     R: Ledger + Send + Sync,
+    M: Ledger + Send + Sync,
     G: Gate + Sync,
     W: Threads + Wait + Sync,
     B: Wait + Drop + Send,
 >(
     rt: &W,
     alloc: Global,
-    shared: &Shared<C, R, B>,
-    desks: &mut Vec<Desk<C, R>>,
+    shared: &Shared<C, R, M, B>,
+    desks: &mut Vec<Desk<C, R, M>>,
     batches: &[&[Turn]],
     gate: &G,
 ) -> Result<Vec<Vec<Reply>>, WorkFault>
@@ -72,17 +73,18 @@ fn room_for(alloc: Global, batches: &[&[Turn]]) -> Result<Vec<Vec<Reply>>, Alloc
 fn work<
     C: Charges + Send + Sync,
     R: Ledger + Send + Sync,
+    M: Ledger + Send + Sync,
     G: Gate + Sync,
     W: Threads + Wait + Sync,
     B: Wait + Drop + Send,
 >(
     rt: &W,
-    shared: &Shared<C, R, B>,
-    mut desks: Vec<Desk<C, R>>,
+    shared: &Shared<C, R, M, B>,
+    mut desks: Vec<Desk<C, R, M>>,
     batches: &[&[Turn]],
     mut rooms: Vec<Vec<Reply>>,
     gate: &G,
-) -> (Vec<Desk<C, R>>, Vec<Vec<Reply>>)
+) -> (Vec<Desk<C, R, M>>, Vec<Vec<Reply>>)
     requires desks { length batches.now ≡ length desks.items }
     requires rooms { AllZip
         (λ batch room. (room.items ≡ []) × (length batch.now ≤ vec_capacity room))
@@ -100,8 +102,8 @@ fn work<
     let room = rooms.pop().unwrap();
     let ((mut after, mut replies), (moved, last)) = join(
         rt,
-        || -> (Vec<Desk<C, R>>, Vec<Vec<Reply>>)
-            requires bounds { IsSync W.row × IsSync G.row × IsSend C.row × IsSync C.row × IsSend R.row × IsSync R.row × IsSend B.row }
+        || -> (Vec<Desk<C, R, M>>, Vec<Vec<Reply>>)
+            requires bounds { IsSync W.row × IsSync G.row × IsSend C.row × IsSync C.row × IsSend R.row × IsSync R.row × IsSend M.row × IsSync M.row × IsSend B.row }
             requires desks { length others.now ≡ length desks.items }
             requires rooms { AllZip
                 (λ batch room. (room.items ≡ []) × (length batch.now ≤ vec_capacity room))
@@ -112,7 +114,7 @@ fn work<
             ensures desks { vec_capacity result.0 ≡ vec_capacity desks }
             ensures replies { vec_capacity result.1 ≡ vec_capacity rooms }
         { work(rt, shared, desks, others, rooms, gate) },
-        || -> (Desk<C, R>, Vec<Reply>)
+        || -> (Desk<C, R, M>, Vec<Reply>)
             requires empty { room.items ≡ [] }
             requires room { length batch.now.now ≤ vec_capacity room }
             ensures { AnswersBatch C.settings batch.entry.now.now result.1.items desk result.0 }
@@ -124,14 +126,14 @@ fn work<
 }
 
 // The desk after its batch, and the replies to that, in a list that has room for them.
-fn answered<C: Charges, R: Ledger, G: Gate, W: Wait, B: Wait + Drop>(
+fn answered<C: Charges, R: Ledger, M: Ledger, G: Gate, W: Wait, B: Wait + Drop>(
     rt: &W,
-    shared: &Shared<C, R, B>,
-    mut desk: Desk<C, R>,
+    shared: &Shared<C, R, M, B>,
+    mut desk: Desk<C, R, M>,
     batch: &[Turn],
     room: Vec<Reply>,
     gate: &G,
-) -> (Desk<C, R>, Vec<Reply>)
+) -> (Desk<C, R, M>, Vec<Reply>)
     requires empty { room.items ≡ [] }
     requires room { length batch.now ≤ vec_capacity room }
     ensures { AnswersBatch C.settings batch.now result.1.items desk result.0 }

@@ -74,10 +74,10 @@ pub fn assert_answers(rt: &impl Abort, replies: Option<&Vec<Reply>>, answers: &[
 }
 
 /// A desk makes an upload of this length.
-pub fn create<C: Charges, R: Ledger, W: Wait + Abort>(
+pub fn create<C: Charges, R: Ledger, M: Ledger, W: Wait + Abort>(
     rt: &W,
-    shared: &Shared<C, R, &W>,
-    desk: &mut Desk<C, R>,
+    shared: &Shared<C, R, M, &W>,
+    desk: &mut Desk<C, R, M>,
     length: &'static [u8],
 ) {
     let created = turn(rt, Post(length));
@@ -89,12 +89,12 @@ const BEGUN: Answer<'static> = Answer::Row(0, Some(10), b"", Some(4600));
 const GROWN: Answer<'static> = Answer::Row(5, Some(10), b"", Some(4600));
 
 // Two desks answer their batches: a PATCH and a HEAD, and a HEAD that is answered before that PATCH.
-fn meet<C: Charges + Send + Sync, R: Ledger + Send + Sync, W: Threads + Wait + Abort + Sync>(
-    rt: &W,
-    alloc: Global,
-    shared: &Shared<C, R, &W>,
-    desks: &mut Vec<Desk<C, R>>,
-)
+fn meet<
+    C: Charges + Send + Sync,
+    R: Ledger + Send + Sync,
+    M: Ledger + Send + Sync,
+    W: Threads + Wait + Abort + Sync,
+>(rt: &W, alloc: Global, shared: &Shared<C, R, M, &W>, desks: &mut Vec<Desk<C, R, M>>)
     requires { vec_len desks.old ≡ 2 }
     ensures { vec_len desks.new ≡ 2 }
 {
@@ -137,6 +137,7 @@ fn assert_grown(rt: &impl Abort, book: &Book) {
 fn work_at_once<
     C: Charges + Send + Sync,
     R: Ledger + Send + Sync,
+    M: Ledger + Send + Sync,
     W: Threads + Wait + Abort + Sync,
 >(
     rt: &W,
@@ -144,16 +145,18 @@ fn work_at_once<
     settings: Settings,
     charged: Blank,
     released: Blank,
-    lines: Opened,
+    made: Blank,
+    events: Opened,
 ) -> Result<(), Fail>
     requires settings { settings ≡ C.settings }
     requires desks { C.desks ≡ 2 }
     requires charged { (charged.name ≡ C.name) × (charged.parts ≡ C.parts) × (C.parts ≡ 16) }
     requires released { (released.name ≡ R.name) × (released.parts ≡ R.parts) × (R.parts ≡ 16) }
-    requires log { lines.seen.book ≡ C.log }
+    requires made { (made.name ≡ M.name) × (made.parts ≡ M.parts) × (M.parts ≡ 16) }
+    requires log { events.seen.book ≡ C.log }
 {
-    let (shared, mut desks) = Shared::<C, R, &W>::open(
-        rt, alloc, settings, 2, charged, released, lines,
+    let (shared, mut desks) = Shared::<C, R, M, &W>::open(
+        rt, alloc, settings, 2, charged, released, made, events,
     )?;
     create(rt, &shared, &mut desks[0], b"10");
     meet(rt, alloc, &shared, &mut desks);
@@ -175,10 +178,11 @@ fn assert_balance(rt: &impl Abort, balance: Balance, expected: [u64; 3]) {
 
 #[test]
 fn two_desks_work_at_once(rt: HostRuntime) -> Result<(), Fail> {
-    work_at_once::<Brand, Brand, HostRuntime>(
+    work_at_once::<Brand, Brand, Brand, HostRuntime>(
         &rt,
         rt.alloc(),
         settings()?,
+        Blank::new(16),
         Blank::new(16),
         Blank::new(16),
         Opened::new(),
@@ -296,12 +300,13 @@ fn race_turns(rt: &impl Abort, alloc: Global, races: &[Race]) -> Vec<Turn<'stati
 fn answer_at_each<
     C: Charges + Send + Sync,
     R: Ledger + Send + Sync,
+    M: Ledger + Send + Sync,
     W: Threads + Wait + Abort + Sync,
 >(
     rt: &W,
     alloc: Global,
-    shared: &Shared<C, R, &W>,
-    desks: &mut Vec<Desk<C, R>>,
+    shared: &Shared<C, R, M, &W>,
+    desks: &mut Vec<Desk<C, R, M>>,
     batch: &[Turn],
     together: &Together,
 ) -> Vec<Vec<Reply>>
@@ -317,8 +322,9 @@ fn answer_at_each<
 fn meet_each_turn<
     C: Charges + Send + Sync,
     R: Ledger + Send + Sync,
+    M: Ledger + Send + Sync,
     W: Threads + Wait + Abort + Sync,
->(rt: &W, alloc: Global, shared: &Shared<C, R, &W>, desks: &mut Vec<Desk<C, R>>)
+>(rt: &W, alloc: Global, shared: &Shared<C, R, M, &W>, desks: &mut Vec<Desk<C, R, M>>)
     requires { vec_len desks.old ≡ 16 }
     ensures { vec_len desks.new ≡ 16 }
 {
@@ -338,22 +344,29 @@ fn assert_races(rt: &impl Abort, replies: &[Vec<Reply>], races: &[Race]) {
 }
 
 // Sixteen desks race for one upload, and its blocks are free at the end.
-fn race<C: Charges + Send + Sync, R: Ledger + Send + Sync, W: Threads + Wait + Abort + Sync>(
+fn race<
+    C: Charges + Send + Sync,
+    R: Ledger + Send + Sync,
+    M: Ledger + Send + Sync,
+    W: Threads + Wait + Abort + Sync,
+>(
     rt: &W,
     alloc: Global,
     settings: Settings,
     charged: Blank,
     released: Blank,
-    lines: Opened,
+    made: Blank,
+    events: Opened,
 ) -> Result<(), Fail>
     requires settings { settings ≡ C.settings }
     requires desks { C.desks ≡ 16 }
     requires charged { (charged.name ≡ C.name) × (charged.parts ≡ C.parts) × (C.parts ≡ 16) }
     requires released { (released.name ≡ R.name) × (released.parts ≡ R.parts) × (R.parts ≡ 16) }
-    requires log { lines.seen.book ≡ C.log }
+    requires made { (made.name ≡ M.name) × (made.parts ≡ M.parts) × (M.parts ≡ 16) }
+    requires log { events.seen.book ≡ C.log }
 {
-    let (shared, mut desks) = Shared::<C, R, &W>::open(
-        rt, alloc, settings, 16, charged, released, lines,
+    let (shared, mut desks) = Shared::<C, R, M, &W>::open(
+        rt, alloc, settings, 16, charged, released, made, events,
     )?;
     create(rt, &shared, &mut desks[0], b"32");
     meet_each_turn(rt, alloc, &shared, &mut desks);
@@ -365,10 +378,11 @@ fn race<C: Charges + Send + Sync, R: Ledger + Send + Sync, W: Threads + Wait + A
 
 #[test]
 fn sixteen_desks_at_one_upload(rt: HostRuntime) -> Result<(), Fail> {
-    race::<Brand, Brand, HostRuntime>(
+    race::<Brand, Brand, Brand, HostRuntime>(
         &rt,
         rt.alloc(),
         settings()?,
+        Blank::new(16),
         Blank::new(16),
         Blank::new(16),
         Opened::new(),

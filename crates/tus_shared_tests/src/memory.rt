@@ -16,10 +16,10 @@ use tus_shared::{Charges, Desk, Opened, Shared};
 use upload_book::{Name, Numbers, Settings};
 
 // A desk makes an upload, and tells its id.
-fn create<C: Charges, R: Ledger, W: Wait + Abort>(
+fn create<C: Charges, R: Ledger, M: Ledger, W: Wait + Abort>(
     rt: &W,
-    shared: &Shared<C, R, &W>,
-    desk: &mut Desk<C, R>,
+    shared: &Shared<C, R, M, &W>,
+    desk: &mut Desk<C, R, M>,
     id: u64,
 ) {
     let creation = turn(rt, Post(b"10"));
@@ -30,28 +30,26 @@ fn create<C: Charges, R: Ledger, W: Wait + Abort>(
 const EMPTY: Answer<'static> = Answer::Row(0, Some(10), b"", Some(4600));
 
 // A desk answers a HEAD of an upload without bytes.
-fn look<C: Charges, R: Ledger>(rt: &impl Abort, desk: &mut Desk<C, R>, id: u64) {
+fn look<C: Charges, R: Ledger, M: Ledger>(rt: &impl Abort, desk: &mut Desk<C, R, M>, id: u64) {
     let row = desk.head(&Name { tenant: 0, id }, moment(rt, 1000));
     assert!(rt; answer_of(&row).is(EMPTY), "upload {id}");
 }
 
 // A sweep at a desk ends one upload.
-fn sweep<C: Charges, R: Ledger, W: Wait + Abort>(
+fn sweep<C: Charges, R: Ledger, M: Ledger, W: Wait + Abort>(
     rt: &W,
-    shared: &Shared<C, R, &W>,
-    desk: &mut Desk<C, R>,
+    shared: &Shared<C, R, M, &W>,
+    desk: &mut Desk<C, R, M>,
 ) {
-    let swept = desk
-        .sweep(rt, shared, moment(rt, 4600))
-        .expect(rt, "a sweep");
+    let swept = desk.sweep(rt, shared, moment(rt, 4600));
     assert!(rt; swept.uploads == 1);
 }
 
 // A desk makes an upload, answers 500 HEADs of it, and ends it by a sweep.
-fn create_look_and_sweep<C: Charges, R: Ledger, W: Wait + Abort>(
+fn create_look_and_sweep<C: Charges, R: Ledger, M: Ledger, W: Wait + Abort>(
     rt: &W,
-    shared: &Shared<C, R, &W>,
-    desk: &mut Desk<C, R>,
+    shared: &Shared<C, R, M, &W>,
+    desk: &mut Desk<C, R, M>,
     id: u64,
 ) {
     create(rt, shared, desk, id);
@@ -62,22 +60,24 @@ fn create_look_and_sweep<C: Charges, R: Ledger, W: Wait + Abort>(
 }
 
 // Twenty creations and twenty sweeps, and 500 HEADs after each creation.
-fn serve_twenty<C: Charges, R: Ledger, W: Wait + Abort>(
+fn serve_twenty<C: Charges, R: Ledger, M: Ledger, W: Wait + Abort>(
     rt: &W,
     alloc: Global,
     settings: Settings,
     charged: Blank,
     released: Blank,
-    lines: Opened,
+    made: Blank,
+    events: Opened,
 ) -> Result<(), Fail>
     requires settings { settings ≡ C.settings }
     requires desks { C.desks ≡ 1 }
     requires charged { (charged.name ≡ C.name) × (charged.parts ≡ C.parts) × (C.parts ≡ 16) }
     requires released { (released.name ≡ R.name) × (released.parts ≡ R.parts) × (R.parts ≡ 16) }
-    requires log { lines.seen.book ≡ C.log }
+    requires made { (made.name ≡ M.name) × (made.parts ≡ M.parts) × (M.parts ≡ 16) }
+    requires log { events.seen.book ≡ C.log }
 {
-    let (shared, mut desks) = Shared::<C, R, &W>::open(
-        rt, alloc, settings, 1, charged, released, lines,
+    let (shared, mut desks) = Shared::<C, R, M, &W>::open(
+        rt, alloc, settings, 1, charged, released, made, events,
     )?;
     let mut desk = desks.pop().ok_or("a desk")?;
     for id in 1..21u64 {
@@ -92,10 +92,11 @@ fn takes_no_memory_after_the_opening(rt: HostRuntime) -> Result<(), Fail> {
         uploads: 1,
         ..NUMBERS
     };
-    serve_twenty::<Brand, Brand, HostRuntime>(
+    serve_twenty::<Brand, Brand, Brand, HostRuntime>(
         &rt,
         rt.alloc(),
         settings_of(numbers)?,
+        Blank::new(16),
         Blank::new(16),
         Blank::new(16),
         Opened::new(),

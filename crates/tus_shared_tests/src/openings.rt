@@ -12,33 +12,36 @@ use tus_shared::{Charges, OpenFault, Opened, Shared, WorkFault};
 use upload_book::Settings;
 
 // How many desks an opening gives that asks for so many.
-fn open<C: Charges, R: Ledger, W: Wait>(
+fn open<C: Charges, R: Ledger, M: Ledger, W: Wait>(
     rt: &W,
     alloc: Global,
     settings: Settings,
     desks: usize,
     charged: Blank,
     released: Blank,
-    lines: Opened,
+    made: Blank,
+    events: Opened,
 ) -> Result<usize, OpenFault>
     requires settings { settings ≡ C.settings }
     requires desks { desks ≡ C.desks }
     requires charged { (charged.name ≡ C.name) × (charged.parts ≡ C.parts) × (C.parts ≡ 16) }
     requires released { (released.name ≡ R.name) × (released.parts ≡ R.parts) × (R.parts ≡ 16) }
-    requires log { lines.seen.book ≡ C.log }
+    requires made { (made.name ≡ M.name) × (made.parts ≡ M.parts) × (M.parts ≡ 16) }
+    requires log { events.seen.book ≡ C.log }
 {
-    let (_, opened) = Shared::<C, R, &W>::open(
-        rt, alloc, settings, desks, charged, released, lines,
+    let (_, opened) = Shared::<C, R, M, &W>::open(
+        rt, alloc, settings, desks, charged, released, made, events,
     )?;
     Ok(opened.len())
 }
 
 fn opened<W: Wait>(rt: &W, alloc: Global, desks: usize) -> Result<Result<usize, OpenFault>, Fail> {
-    let opened = open::<Brand, Brand, W>(
+    let opened = open::<Brand, Brand, Brand, W>(
         rt,
         alloc,
         settings()?,
         desks,
+        Blank::new(16),
         Blank::new(16),
         Blank::new(16),
         Opened::new(),

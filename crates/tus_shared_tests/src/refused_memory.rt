@@ -18,27 +18,27 @@ use std::test::Fail;
 use tus_shared::{Balance, Charges, Desk, NoGate, OpenFault, Opened, Shared, settle};
 use upload_book::{Name, Numbers, Refusal, Settings};
 
-const FIRST: &[u8] = b"/files/acme/1";
-
 const SECOND: &[u8] = b"/files/acme/2";
 
 const THIRD: &[u8] = b"/files/acme/3";
 
-const JOINED: &[u8] = b"final;/files/acme/1 /files/acme/2";
+const FOURTH: &[u8] = b"/files/acme/4";
 
-/// Two parts and the final upload of both, which stays when the parts end, and an upload with its first bytes: what is
+const JOINED: &[u8] = b"final;/files/acme/2 /files/acme/3";
+
+/// An upload with its first bytes, and two parts and the final upload of both, which stays when the parts end: what is
 /// asked, and what is told.
 static TURNS: [(Asked, Answer<'static>); 10] = [
-    (Partial(b"5"), Created(1, None, Some(4600))),
-    (Patch(FIRST, b"0", b"abcde"), Patched(5, Some(4600))),
-    (Partial(b"2"), Created(2, None, Some(4600))),
-    (Patch(SECOND, b"0", b"fg"), Patched(2, Some(4600))),
-    (Join(JOINED), Created(3, None, None)),
-    (Head(THIRD), Row(7, Some(7), JOINED, None)),
-    (Delete(FIRST), Deleted),
+    (Upload(b"5", b"hello"), Created(1, Some(5), None)),
+    (Partial(b"5"), Created(2, None, Some(4600))),
+    (Patch(SECOND, b"0", b"abcde"), Patched(5, Some(4600))),
+    (Partial(b"2"), Created(3, None, Some(4600))),
+    (Patch(THIRD, b"0", b"fg"), Patched(2, Some(4600))),
+    (Join(JOINED), Created(4, None, None)),
+    (Head(FOURTH), Row(7, Some(7), JOINED, None)),
     (Delete(SECOND), Deleted),
-    (Get(THIRD), Bytes(b"abcdefg")),
-    (Upload(b"5", b"hello"), Created(4, Some(5), None)),
+    (Delete(THIRD), Deleted),
+    (Get(FOURTH), Bytes(b"abcdefg")),
 ];
 
 /// What a HEAD tells of an upload's bytes and expiry.
@@ -55,13 +55,20 @@ struct Outcome {
 }
 
 // What a desk tells of an upload of acme.
-fn seen_at<C: Charges, R: Ledger>(rt: &impl Abort, desk: &mut Desk<C, R>, id: u64) -> Seen {
+fn seen_at<C: Charges, R: Ledger, M: Ledger>(
+    rt: &impl Abort,
+    desk: &mut Desk<C, R, M>,
+    id: u64,
+) -> Seen {
     let row = desk.head(&Name { tenant: 0, id }, moment(rt, 1000))?;
     Ok((row.offset, row.declared, secs(row.expires)))
 }
 
 // What a desk tells of acme's first four uploads.
-fn seen_by<C: Charges, R: Ledger>(rt: &impl Abort, desk: &mut Desk<C, R>) -> [Seen; 4] {
+fn seen_by<C: Charges, R: Ledger, M: Ledger>(
+    rt: &impl Abort,
+    desk: &mut Desk<C, R, M>,
+) -> [Seen; 4] {
     [
         seen_at(rt, desk, 1),
         seen_at(rt, desk, 2),
@@ -72,10 +79,10 @@ fn seen_by<C: Charges, R: Ledger>(rt: &impl Abort, desk: &mut Desk<C, R>) -> [Se
 
 // Asks a desk the turn at a place, and says whether it was answered: it tells what it should, or is refused since memory
 // is lacking.
-fn is_answered<C: Charges, R: Ledger, W: Wait + Abort>(
+fn is_answered<C: Charges, R: Ledger, M: Ledger, W: Wait + Abort>(
     rt: &W,
-    shared: &Shared<C, R, &W>,
-    desk: &mut Desk<C, R>,
+    shared: &Shared<C, R, M, &W>,
+    desk: &mut Desk<C, R, M>,
     place: usize,
     asked: Asked,
     answer: Answer,
@@ -98,10 +105,10 @@ fn is_answered<C: Charges, R: Ledger, W: Wait + Abort>(
 
 // Asks a desk so many of the turns, but none after one that is refused since memory is lacking, and gives how many were
 // answered before it.
-fn answered_by<C: Charges, R: Ledger, W: Wait + Abort>(
+fn answered_by<C: Charges, R: Ledger, M: Ledger, W: Wait + Abort>(
     rt: &W,
-    shared: &Shared<C, R, &W>,
-    desk: &mut Desk<C, R>,
+    shared: &Shared<C, R, M, &W>,
+    desk: &mut Desk<C, R, M>,
     count: usize,
 ) -> usize {
     for (place, (asked, answer)) in TURNS.iter().take(count).enumerate() {
@@ -113,23 +120,25 @@ fn answered_by<C: Charges, R: Ledger, W: Wait + Abort>(
 }
 
 // Opens one desk, asks it so many of the turns, and settles it.
-fn ask_at<C: Charges, R: Ledger, W: Wait + Abort>(
+fn ask_at<C: Charges, R: Ledger, M: Ledger, W: Wait + Abort>(
     rt: &W,
     alloc: Global,
     settings: Settings,
     charged: Blank,
     released: Blank,
-    lines: Opened,
+    made: Blank,
+    events: Opened,
     count: usize,
 ) -> Result<Outcome, OpenFault>
     requires settings { settings ≡ C.settings }
     requires desks { C.desks ≡ 1 }
     requires charged { (charged.name ≡ C.name) × (charged.parts ≡ C.parts) × (C.parts ≡ 16) }
     requires released { (released.name ≡ R.name) × (released.parts ≡ R.parts) × (R.parts ≡ 16) }
-    requires log { lines.seen.book ≡ C.log }
+    requires made { (made.name ≡ M.name) × (made.parts ≡ M.parts) × (M.parts ≡ 16) }
+    requires log { events.seen.book ≡ C.log }
 {
-    let (shared, mut desks) = Shared::<C, R, &W>::open(
-        rt, alloc, settings, 1, charged, released, lines,
+    let (shared, mut desks) = Shared::<C, R, M, &W>::open(
+        rt, alloc, settings, 1, charged, released, made, events,
     )?;
     let answered = answered_by(rt, &shared, &mut desks[0], count);
     let heads = seen_by(rt, &mut desks[0]);
@@ -153,12 +162,21 @@ fn ask<W: Wait + Abort>(
     count: usize,
 ) -> Result<Result<Outcome, OpenFault>, Fail> {
     let numbers = Numbers {
-        uploads: 3,
+        uploads: 4,
         ..NUMBERS
     };
     let settings = settings_of(numbers)?;
-    let (charged, released) = (Blank::new(16), Blank::new(16));
-    Ok(ask_at::<Brand, Brand, W>(rt, alloc, settings, charged, released, Opened::new(), count))
+    let (charged, released, made) = (Blank::new(16), Blank::new(16), Blank::new(16));
+    Ok(ask_at::<Brand, Brand, Brand, W>(
+        rt,
+        alloc,
+        settings,
+        charged,
+        released,
+        made,
+        Opened::new(),
+        count,
+    ))
 }
 
 // Asks all turns after so many allocations. Where one is refused since memory is lacking, all is as if only those before
@@ -177,7 +195,7 @@ fn ask_after<W: Wait + Abort + Print>(rt: &W, alloc: Global, spent: usize) -> Re
             is_lacking
         }
         Err(fault) => {
-            assert!(rt; fault != OpenFault::Desks);
+            assert!(rt; fault == OpenFault::Memory);
             true
         }
     };

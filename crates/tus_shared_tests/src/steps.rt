@@ -59,11 +59,16 @@ enum Way {
 }
 
 // The reply of one of two desks to a request at a moment.
-fn reply_to<C: Charges + Send + Sync, R: Ledger + Send + Sync, W: Threads + Wait + Abort + Sync>(
+fn reply_to<
+    C: Charges + Send + Sync,
+    R: Ledger + Send + Sync,
+    M: Ledger + Send + Sync,
+    W: Threads + Wait + Abort + Sync,
+>(
     rt: &W,
     alloc: Global,
-    shared: &Shared<C, R, &W>,
-    desks: &mut Vec<Desk<C, R>>,
+    shared: &Shared<C, R, M, &W>,
+    desks: &mut Vec<Desk<C, R, M>>,
     desk: usize,
     way: Way,
     request: Request,
@@ -87,12 +92,13 @@ fn reply_to<C: Charges + Send + Sync, R: Ledger + Send + Sync, W: Threads + Wait
 fn reply_in_batch<
     C: Charges + Send + Sync,
     R: Ledger + Send + Sync,
+    M: Ledger + Send + Sync,
     W: Threads + Wait + Abort + Sync,
 >(
     rt: &W,
     alloc: Global,
-    shared: &Shared<C, R, &W>,
-    desks: &mut Vec<Desk<C, R>>,
+    shared: &Shared<C, R, M, &W>,
+    desks: &mut Vec<Desk<C, R, M>>,
     desk: usize,
     batch: &[Turn],
 ) -> Reply
@@ -129,11 +135,16 @@ fn assert_tells(rt: &impl Abort, answer: Answer, expected: Answer, at: At) {
 }
 
 // The reply of one of two desks to a request tells what the step says.
-fn ask<C: Charges + Send + Sync, R: Ledger + Send + Sync, W: Threads + Wait + Abort + Sync>(
+fn ask<
+    C: Charges + Send + Sync,
+    R: Ledger + Send + Sync,
+    M: Ledger + Send + Sync,
+    W: Threads + Wait + Abort + Sync,
+>(
     rt: &W,
     alloc: Global,
-    shared: &Shared<C, R, &W>,
-    desks: &mut Vec<Desk<C, R>>,
+    shared: &Shared<C, R, M, &W>,
+    desks: &mut Vec<Desk<C, R, M>>,
     desk: usize,
     asked: Asked,
     step: &Step,
@@ -149,9 +160,9 @@ fn ask<C: Charges + Send + Sync, R: Ledger + Send + Sync, W: Threads + Wait + Ab
 }
 
 // A desk's HEAD of an upload tells what the step says.
-fn look<C: Charges, R: Ledger>(
+fn look<C: Charges, R: Ledger, M: Ledger>(
     rt: &impl Abort,
-    desk: &mut Desk<C, R>,
+    desk: &mut Desk<C, R, M>,
     name: &Name,
     step: &Step,
     at: At,
@@ -161,25 +172,29 @@ fn look<C: Charges, R: Ledger>(
 }
 
 // A sweep at a desk tells what the step says.
-fn sweep<C: Charges, R: Ledger, W: Wait + Abort>(
+fn sweep<C: Charges, R: Ledger, M: Ledger, W: Wait + Abort>(
     rt: &W,
-    shared: &Shared<C, R, &W>,
-    desk: &mut Desk<C, R>,
+    shared: &Shared<C, R, M, &W>,
+    desk: &mut Desk<C, R, M>,
     step: &Step,
     at: At,
 ) {
     let swept = desk.sweep(rt, shared, moment(rt, step.secs));
-    let swept = swept.expect(rt, "a sweep");
     let answer = Answer::Swept(swept.uploads, swept.blocks, swept.released);
     assert_tells(rt, answer, step.answer, at);
 }
 
 // Takes two desks through one step.
-fn take<C: Charges + Send + Sync, R: Ledger + Send + Sync, W: Threads + Wait + Abort + Sync>(
+fn take<
+    C: Charges + Send + Sync,
+    R: Ledger + Send + Sync,
+    M: Ledger + Send + Sync,
+    W: Threads + Wait + Abort + Sync,
+>(
     rt: &W,
     alloc: Global,
-    shared: &Shared<C, R, &W>,
-    desks: &mut Vec<Desk<C, R>>,
+    shared: &Shared<C, R, M, &W>,
+    desks: &mut Vec<Desk<C, R, M>>,
     step: &Step,
     at: At,
 )
@@ -199,6 +214,7 @@ fn take<C: Charges + Send + Sync, R: Ledger + Send + Sync, W: Threads + Wait + A
 fn settle_after<
     C: Charges + Send + Sync,
     R: Ledger + Send + Sync,
+    M: Ledger + Send + Sync,
     W: Threads + Wait + Abort + Sync,
 >(
     rt: &W,
@@ -206,7 +222,8 @@ fn settle_after<
     settings: Settings,
     charged: Blank,
     released: Blank,
-    lines: Opened,
+    made: Blank,
+    events: Opened,
     way: Way,
     steps: &[Step],
 ) -> Result<[u64; 4], Fail>
@@ -214,21 +231,27 @@ fn settle_after<
     requires desks { C.desks ≡ 2 }
     requires charged { (charged.name ≡ C.name) × (charged.parts ≡ C.parts) × (C.parts ≡ 16) }
     requires released { (released.name ≡ R.name) × (released.parts ≡ R.parts) × (R.parts ≡ 16) }
-    requires log { lines.seen.book ≡ C.log }
+    requires made { (made.name ≡ M.name) × (made.parts ≡ M.parts) × (M.parts ≡ 16) }
+    requires log { events.seen.book ≡ C.log }
 {
-    let (shared, mut desks) = Shared::<C, R, &W>::open(
-        rt, alloc, settings, 2, charged, released, lines,
+    let (shared, mut desks) = Shared::<C, R, M, &W>::open(
+        rt, alloc, settings, 2, charged, released, made, events,
     )?;
     for (place, step) in steps.iter().enumerate() {
         take(rt, alloc, &shared, &mut desks, step, At { place, way });
     }
+    let free = shared.look(rt, |book| book.free_blocks());
     let (book, balance) = settle(shared, desks);
+    assert!(rt;
+        book.free_blocks() == free,
+        "what a look behind the lock tells"
+    );
     let Balance {
         charged,
         released,
         held,
     } = balance;
-    Ok([charged, released, held, book.free_blocks()])
+    Ok([charged, released, held, free])
 }
 
 /// Takes two desks through the steps of a table, in each way in which a desk answers. What stands behind the lock
@@ -250,10 +273,11 @@ pub fn run_with<W: Threads + Wait + Abort + Sync>(
 ) -> Result<(), Fail> {
     for way in [Way::Call, Way::Answer, Way::Batch] {
         for (place, step) in steps.iter().enumerate() {
-            let settled = settle_after::<Brand, Brand, W>(
+            let settled = settle_after::<Brand, Brand, Brand, W>(
                 rt,
                 alloc,
                 settings_of(numbers)?,
+                Blank::new(16),
                 Blank::new(16),
                 Blank::new(16),
                 Opened::new(),

@@ -1,11 +1,12 @@
-//! What a gate is passed: each stop of each turn, in order; at `Locked` the lock is held, and at `Answered` it is not.
+//! What a gate is passed: each stop of each turn, in order; at `Locked` the lock is held, and at `Answered` it is not. A
+//! HEAD does not pass `Locked`.
 //! Batches after others come to the desks in the same places.
 
 ghost use Rattle.std.specs.Prelude.{◌≡◌, vec_len};
 
 use crate::batches::{assert_answers, create, wait_for};
-use crate::requests::Asked::Patch;
-use crate::requests::{Answer, moment, settings, turn};
+use crate::requests::Asked::{Head, Patch, Post};
+use crate::requests::{Answer, Asked, moment, settings, turn};
 use std::alloc::Global;
 use std::marker::Brand;
 use std::process::Abort;
@@ -77,6 +78,54 @@ impl Gate for Notes {
     }
 }
 
+// Notes the stops of a turn, a digit each: 1 before the lock, 2 with it, 3 with the reply.
+#[derive(Drop)]
+struct Digits {
+    noted: AtomicU64,
+}
+
+impl Gate for Digits {
+    fn pass(&self, _desk: usize, _turn: usize, stop: Stop) {
+        let digit = match stop {
+            Stop::Before => 1,
+            Stop::Locked => 2,
+            Stop::Answered => 3,
+        };
+        let noted = self.noted.load(Ordering::SeqCst);
+        self.noted.store(
+            noted.saturating_mul(10).saturating_add(digit),
+            Ordering::SeqCst,
+        );
+    }
+}
+
+// The stops that a desk passes for what it is asked.
+fn stops_of<C: Charges, R: Ledger, M: Ledger, W: Wait + Abort>(
+    rt: &W,
+    shared: &Shared<C, R, M, &W>,
+    desk: &mut Desk<C, R, M>,
+    asked: Asked,
+) -> u64 {
+    let digits = Digits {
+        noted: AtomicU64::new(0),
+    };
+    let turn = turn(rt, asked);
+    let _ = desk.answer(rt, shared, &turn.request, turn.now, 0, &digits);
+    digits.noted.load(Ordering::SeqCst)
+}
+
+// A creation takes the lock; a HEAD does not, of an upload that is there, of one that never was, and of none.
+fn assert_heads_take_no_lock<C: Charges, R: Ledger, M: Ledger, W: Wait + Abort>(
+    rt: &W,
+    shared: &Shared<C, R, M, &W>,
+    desk: &mut Desk<C, R, M>,
+) {
+    assert!(rt; stops_of(rt, shared, desk, Post(b"10")) == 123);
+    for target in [&b"/files/acme/1"[..], b"/files/acme/9", b"/files/acme"] {
+        assert!(rt; stops_of(rt, shared, desk, Head(target)) == 13);
+    }
+}
+
 // One desk passed the three stops of its turn, and the other those of both of its turns, each in order; no desk had the
 // lock beside the other, and none was missed.
 fn assert_noted(rt: &impl Abort, notes: &Notes) {
@@ -96,11 +145,16 @@ fn assert_replies(rt: &impl Abort, replies: &[Vec<Reply>]) {
 
 // Both desks answer batches at once, of one turn and of two, which fill a new upload at this path. The stops are noted
 // by the number of the desk, so a batch that comes to another desk than the one in its place is seen.
-fn fill<C: Charges + Send + Sync, R: Ledger + Send + Sync, W: Threads + Wait + Abort + Sync>(
+fn fill<
+    C: Charges + Send + Sync,
+    R: Ledger + Send + Sync,
+    M: Ledger + Send + Sync,
+    W: Threads + Wait + Abort + Sync,
+>(
     rt: &W,
     alloc: Global,
-    shared: &Shared<C, R, &W>,
-    desks: &mut Vec<Desk<C, R>>,
+    shared: &Shared<C, R, M, &W>,
+    desks: &mut Vec<Desk<C, R, M>>,
     path: &'static [u8],
 )
     requires { vec_len desks.old ≡ 2 }
@@ -130,25 +184,33 @@ fn assert_full(rt: &impl Abort, book: &Book, id: u64) {
 }
 
 // Two desks fill an upload, and once more, as they came back from the first batches, another one.
-fn note_stops<C: Charges + Send + Sync, R: Ledger + Send + Sync, W: Threads + Wait + Abort + Sync>(
+fn note_stops<
+    C: Charges + Send + Sync,
+    R: Ledger + Send + Sync,
+    M: Ledger + Send + Sync,
+    W: Threads + Wait + Abort + Sync,
+>(
     rt: &W,
     alloc: Global,
     settings: Settings,
     charged: Blank,
     released: Blank,
-    lines: Opened,
+    made: Blank,
+    events: Opened,
 ) -> Result<(), Fail>
     requires settings { settings ≡ C.settings }
     requires desks { C.desks ≡ 2 }
     requires charged { (charged.name ≡ C.name) × (charged.parts ≡ C.parts) × (C.parts ≡ 16) }
     requires released { (released.name ≡ R.name) × (released.parts ≡ R.parts) × (R.parts ≡ 16) }
-    requires log { lines.seen.book ≡ C.log }
+    requires made { (made.name ≡ M.name) × (made.parts ≡ M.parts) × (M.parts ≡ 16) }
+    requires log { events.seen.book ≡ C.log }
 {
-    let (shared, mut desks) = Shared::<C, R, &W>::open(
-        rt, alloc, settings, 2, charged, released, lines,
+    let (shared, mut desks) = Shared::<C, R, M, &W>::open(
+        rt, alloc, settings, 2, charged, released, made, events,
     )?;
     fill(rt, alloc, &shared, &mut desks, b"/files/acme/1");
     fill(rt, alloc, &shared, &mut desks, b"/files/acme/2");
+    assert_heads_take_no_lock(rt, &shared, &mut desks[0]);
     let (book, _) = settle(shared, desks);
     assert_full(rt, &book, 1);
     assert_full(rt, &book, 2);
@@ -157,10 +219,11 @@ fn note_stops<C: Charges + Send + Sync, R: Ledger + Send + Sync, W: Threads + Wa
 
 #[test]
 fn a_turn_passes_its_stops(rt: HostRuntime) -> Result<(), Fail> {
-    note_stops::<Brand, Brand, HostRuntime>(
+    note_stops::<Brand, Brand, Brand, HostRuntime>(
         &rt,
         rt.alloc(),
         settings()?,
+        Blank::new(16),
         Blank::new(16),
         Blank::new(16),
         Opened::new(),

@@ -10,18 +10,26 @@ use upload_book::Moment;
 
 /// A desk, as what answers the requests of one connection. It may wait for the other desks of its store.
 #[derive(Drop)]
-pub struct AtDesk<'a, C: Charges, R: Ledger, W: Wait, B: Wait + Drop, G: Gate> {
+pub struct AtDesk<'a, C: Charges, R: Ledger, M: Ledger, W: Wait, B: Wait + Drop, G: Gate> {
     rt: &'a W,
-    desk: Desk<C, R>,
-    shared: &'a Shared<C, R, B>,
+    desk: Desk<C, R, M>,
+    shared: &'a Shared<C, R, M, B>,
     gate: &'a G,
     // How many requests were answered.
     turn: usize,
 }
 
-impl<'a, C: Charges, R: Ledger, W: Wait, B: Wait + Drop, G: Gate> AtDesk<'a, C, R, W, B, G> {
+impl<'a, C: Charges, R: Ledger, M: Ledger, W: Wait, B: Wait + Drop, G: Gate> AtDesk<
+    'a,
+    C,
+    R,
+    M,
+    W,
+    B,
+    G,
+> {
     /// The desk, which has answered nothing on this connection.
-    pub fn new(rt: &'a W, desk: Desk<C, R>, shared: &'a Shared<C, R, B>, gate: &'a G) -> Self
+    pub fn new(rt: &'a W, desk: Desk<C, R, M>, shared: &'a Shared<C, R, M, B>, gate: &'a G) -> Self
         ensures { result.desk ≡ desk }
     {
         AtDesk {
@@ -34,15 +42,15 @@ impl<'a, C: Charges, R: Ledger, W: Wait, B: Wait + Drop, G: Gate> AtDesk<'a, C, 
     }
 
     /// The desk, for the next connection.
-    pub fn into_desk(self) -> Desk<C, R>
+    pub fn into_desk(self) -> Desk<C, R, M>
         ensures { result ≡ self.entry.desk }
     {
         self.desk
     }
 }
 
-impl<'a, C: Charges, R: Ledger, W: Wait, B: Wait + Drop, G: Gate> Answer
-    for AtDesk<'a, C, R, W, B, G> {
+impl<'a, C: Charges, R: Ledger, M: Ledger, W: Wait, B: Wait + Drop, G: Gate> Answer
+    for AtDesk<'a, C, R, M, W, B, G> {
     ghost max_size = { λ _. C.settings.numbers.max_size };
 
     ghost steps = { λ old request now reply new. AnswersTurn C.settings request now reply old.desk new.desk };

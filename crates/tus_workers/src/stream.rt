@@ -17,9 +17,9 @@ pub const MESSAGES_MAX: usize = 4096;
 
 /// A connection that was served: how its conversation ended, and what served it.
 #[derive(Drop)]
-pub struct ServedStream<C: Charges, R: Ledger, I, O> {
+pub struct ServedStream<C: Charges, R: Ledger, M: Ledger, I, O> {
     pub ended: Result<Ended, WireFault>,
-    pub desk: Desk<C, R>,
+    pub desk: Desk<C, R, M>,
     pub reader: I,
     pub writer: O,
     pub buffers: Buffers,
@@ -31,11 +31,12 @@ pub struct ServedStream<C: Charges, R: Ledger, I, O> {
 ///
 /// Each reply is that of a turn at the desk ([`Desk::answer`]): a HEAD is answered beside the lock, and all else is the plain
 /// book's step on some lawful book, of which the desk counts what it charged and released. Nobody can say what the other
-/// desks did meanwhile, but the lines on which the replies rest only grow. Desk and buffers are given back, for the next
+/// desks did meanwhile, but the events on which the replies rest only grow. Desk and buffers are given back, for the next
 /// connection.
 pub fn serve_stream<
     C: Charges,
     R: Ledger,
+    M: Ledger,
     W: Wait,
     I: Source + Drop,
     O: Sink + Drop,
@@ -47,11 +48,11 @@ pub fn serve_stream<
     buffers: Buffers,
     reader: I,
     writer: O,
-    desk: Desk<C, R>,
-    shared: &Shared<C, R, B>,
+    desk: Desk<C, R, M>,
+    shared: &Shared<C, R, M, B>,
     clock: &mut K,
     gate: &G,
-) -> ServedStream<C, R, I, O>
+) -> ServedStream<C, R, M, I, O>
     requires reader { I.has_failed reader ≡ false }
     requires writer { O.has_failed writer ≡ false }
     ensures converses { IfOk result.ended (λ e. (moments : List ℕ)

@@ -9,18 +9,18 @@ use tus_shared::{Charges, Desk};
 
 /// A worker: the desk at which it answers, and what it accepts connections from.
 #[derive(Drop)]
-pub struct Worker<C: Charges, R: Ledger, A: Accept> {
-    pub desk: Desk<C, R>,
+pub struct Worker<C: Charges, R: Ledger, M: Ledger, A: Accept> {
+    pub desk: Desk<C, R, M>,
     pub acceptor: A,
 }
 
 /// A worker for each of the desks, with an acceptor at the listener. They stand in `workers`, an empty
 /// list that has room for them. The error says that an acceptor could not be had.
-pub fn hire<L: Listener, C: Charges, R: Ledger>(
+pub fn hire<L: Listener, C: Charges, R: Ledger, M: Ledger>(
     listener: &L,
-    desks: Vec<Desk<C, R>>,
-    mut workers: Vec<Worker<C, R, L::Acceptor>>,
-) -> io::Result<Vec<Worker<C, R, L::Acceptor>>>
+    desks: Vec<Desk<C, R, M>>,
+    mut workers: Vec<Worker<C, R, M, L::Acceptor>>,
+) -> io::Result<Vec<Worker<C, R, M, L::Acceptor>>>
 where
     L::Acceptor: Drop,
     requires empty { workers.items ≡ [] }
@@ -37,10 +37,10 @@ where
 }
 
 /// The desks of the workers, in their order. They stand in `desks`, an empty list that has room for them.
-pub fn dismiss<C: Charges, R: Ledger, A: Accept + Drop>(
-    workers: Vec<Worker<C, R, A>>,
-    mut desks: Vec<Desk<C, R>>,
-) -> Vec<Desk<C, R>>
+pub fn dismiss<C: Charges, R: Ledger, M: Ledger, A: Accept + Drop>(
+    workers: Vec<Worker<C, R, M, A>>,
+    mut desks: Vec<Desk<C, R, M>>,
+) -> Vec<Desk<C, R, M>>
     requires empty { desks.items ≡ [] }
     requires room { vec_len workers ≤ vec_capacity desks }
     ensures { result.items ≡ map (λ w. w.desk) workers.items }
@@ -53,7 +53,9 @@ pub fn dismiss<C: Charges, R: Ledger, A: Accept + Drop>(
 }
 
 /// Whether an accept of one of these workers failed.
-pub fn any_failed<C: Charges, R: Ledger, A: Accept>(workers: &[Worker<C, R, A>]) -> bool
+pub fn any_failed<C: Charges, R: Ledger, M: Ledger, A: Accept>(
+    workers: &[Worker<C, R, M, A>],
+) -> bool
     ensures { result ≡ list_any (λ w. A.has_failed w.acceptor) workers.now }
 {
     workers.iter().any(|worker| worker.acceptor.failed())

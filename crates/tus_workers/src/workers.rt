@@ -36,13 +36,14 @@ pub fn work_all<
     A: Accept + Send,
     C: Charges + Send + Sync,
     R: Ledger + Send + Sync,
+    M: Ledger + Send + Sync,
     H: Threads + Wait + Eprint + time::Clock + Sync,
     B: Wait + Drop + Send,
 >(
     rt: &H,
     alloc: Global,
-    shared: &Shared<C, R, B>,
-    workers: &mut [Worker<C, R, A>],
+    shared: &Shared<C, R, M, B>,
+    workers: &mut [Worker<C, R, M, A>],
     options: WorkOptions,
 )
     requires alive { All (λ w. A.has_failed w.acceptor ≡ false) workers.old }
@@ -56,30 +57,36 @@ pub fn work_all<
         rt,
         workers,
         threads,
-        &|_, worker: &mut Worker<C, R, A>| { common.work(worker) },
+        &|_, worker: &mut Worker<C, R, M, A>| { common.work(worker) },
     );
 }
 
 /// What the workers of a server share.
 #[derive(Drop)]
-pub struct Workers<'a, C: Charges, R: Ledger, H, B: Wait + Drop> {
+pub struct Workers<'a, C: Charges, R: Ledger, M: Ledger, H, B: Wait + Drop> {
     rt: &'a H,
     alloc: Global,
-    shared: &'a Shared<C, R, B>,
+    shared: &'a Shared<C, R, M, B>,
     options: WorkOptions,
     // How many connections are open.
     open: AtomicU64,
 }
 
-impl<'a, C: Charges, R: Ledger, H: Wait + Eprint + time::Clock, B: Wait + Drop> Workers<
+impl<'a, C: Charges, R: Ledger, M: Ledger, H: Wait + Eprint + time::Clock, B: Wait + Drop> Workers<
     'a,
     C,
     R,
+    M,
     H,
     B,
 > {
     /// Workers that have accepted nothing.
-    pub fn new(rt: &'a H, alloc: Global, shared: &'a Shared<C, R, B>, options: WorkOptions) -> Self
+    pub fn new(
+        rt: &'a H,
+        alloc: Global,
+        shared: &'a Shared<C, R, M, B>,
+        options: WorkOptions,
+    ) -> Self
         ensures { result.options ≡ options }
     {
         Workers {
@@ -94,7 +101,7 @@ impl<'a, C: Charges, R: Ledger, H: Wait + Eprint + time::Clock, B: Wait + Drop> 
     /// Accepts as many connections as the options say, sweeps after each accept, and serves one after another.
     /// A fault of a connection ends that connection alone; where an accept fails, the worker ends, and says so on
     /// standard error.
-    pub fn work<A: Accept>(&self, worker: &mut Worker<C, R, A>)
+    pub fn work<A: Accept>(&self, worker: &mut Worker<C, R, M, A>)
         requires alive { A.has_failed worker.old.acceptor ≡ false }
         requires new { A.accepted worker.old.acceptor ≡ 0 }
         ensures all { A.has_failed worker.new.acceptor ≡ false
@@ -122,10 +129,10 @@ impl<'a, C: Charges, R: Ledger, H: Wait + Eprint + time::Clock, B: Wait + Drop> 
     fn attend(
         &self,
         stream: &TcpStream,
-        desk: Desk<C, R>,
+        desk: Desk<C, R, M>,
         buffers: Option<Buffers>,
         clock: &mut MachineClock<'a, H>,
-    ) -> (Desk<C, R>, Option<Buffers>)
+    ) -> (Desk<C, R, M>, Option<Buffers>)
         ensures { IfSome result.1 (λ buffers. buffers.inbox.room ≤ 2097152) }
     {
         let buffers = match buffers {

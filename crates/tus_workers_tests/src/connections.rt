@@ -62,6 +62,7 @@ fn serve_both<
     L: Listener + Drop,
     C: Charges + Send + Sync,
     R: Ledger + Send + Sync,
+    M: Ledger + Send + Sync,
     W: Threads
         + Wait
         + Abort
@@ -75,7 +76,8 @@ fn serve_both<
     settings: Settings,
     charged: Blank,
     released: Blank,
-    lines: Opened,
+    made: Blank,
+    events: Opened,
     connections: u64,
     fails: bool,
 ) -> Result<(), Fail>
@@ -85,10 +87,11 @@ where
     requires desks { C.desks ≡ 2 }
     requires charged { (charged.name ≡ C.name) × (charged.parts ≡ C.parts) × (C.parts ≡ 16) }
     requires released { (released.name ≡ R.name) × (released.parts ≡ R.parts) × (R.parts ≡ 16) }
-    requires log { lines.seen.book ≡ C.log }
+    requires made { (made.name ≡ M.name) × (made.parts ≡ M.parts) × (M.parts ≡ 16) }
+    requires log { events.seen.book ≡ C.log }
 {
-    let (shared, desks) = Shared::<C, R, &W>::open(
-        rt, alloc, settings, 2, charged, released, lines,
+    let (shared, desks) = Shared::<C, R, M, &W>::open(
+        rt, alloc, settings, 2, charged, released, made, events,
     )?;
     let listener = L::listen(rt, 0)?;
     let acme = client(rt, listener.port(), &[POST, PATCH])?;
@@ -112,10 +115,11 @@ where
 
 #[test]
 fn two_workers_serve_two_clients(rt: HostRuntime) -> Result<(), Fail> {
-    serve_both::<Loopback, Brand, Brand, HostRuntime>(
+    serve_both::<Loopback, Brand, Brand, Brand, HostRuntime>(
         &rt,
         rt.alloc(),
         settings()?,
+        Blank::new(16),
         Blank::new(16),
         Blank::new(16),
         Opened::new(),
@@ -127,10 +131,11 @@ fn two_workers_serve_two_clients(rt: HostRuntime) -> Result<(), Fail> {
 // Each worker is to accept three connections, and the second accept fails. What it served before is settled.
 #[test]
 fn a_worker_ends_where_an_accept_fails(rt: HostRuntime) -> Result<(), Fail> {
-    serve_both::<Script, Brand, Brand, HostRuntime>(
+    serve_both::<Script, Brand, Brand, Brand, HostRuntime>(
         &rt,
         rt.alloc(),
         settings()?,
+        Blank::new(16),
         Blank::new(16),
         Blank::new(16),
         Opened::new(),

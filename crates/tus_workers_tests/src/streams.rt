@@ -98,14 +98,14 @@ fn assert_written(rt: &impl Abort, written: &[u8], texts: &[&[u8]]) {
 }
 
 // Serves the connection of a row at a desk, and gives back the desk and the buffers.
-fn serve_row<C: Charges, R: Ledger, W: Wait + Abort>(
+fn serve_row<C: Charges, R: Ledger, M: Ledger, W: Wait + Abort>(
     rt: &W,
     alloc: Global,
-    shared: &Shared<C, R, &W>,
-    desk: Desk<C, R>,
+    shared: &Shared<C, R, M, &W>,
+    desk: Desk<C, R, M>,
     buffers: Buffers,
     row: &Row,
-) -> (Desk<C, R>, Buffers) {
+) -> (Desk<C, R, M>, Buffers) {
     let reader = Tapped::new(Input {
         pieces: row.pieces,
         next: 0,
@@ -129,13 +129,14 @@ fn serve_row<C: Charges, R: Ledger, W: Wait + Abort>(
 }
 
 // Serves the connections of these rows at one desk, one after another, and asserts what was charged.
-fn serve_rows<C: Charges, R: Ledger, W: Wait + Abort>(
+fn serve_rows<C: Charges, R: Ledger, M: Ledger, W: Wait + Abort>(
     rt: &W,
     alloc: Global,
     settings: Settings,
     charged: Blank,
     released: Blank,
-    lines: Opened,
+    made: Blank,
+    events: Opened,
     rows: &[Row],
     balance: [u64; 3],
 ) -> Result<(), Fail>
@@ -143,10 +144,11 @@ fn serve_rows<C: Charges, R: Ledger, W: Wait + Abort>(
     requires desks { C.desks ≡ 1 }
     requires charged { (charged.name ≡ C.name) × (charged.parts ≡ C.parts) × (C.parts ≡ 16) }
     requires released { (released.name ≡ R.name) × (released.parts ≡ R.parts) × (R.parts ≡ 16) }
-    requires log { lines.seen.book ≡ C.log }
+    requires made { (made.name ≡ M.name) × (made.parts ≡ M.parts) × (M.parts ≡ 16) }
+    requires log { events.seen.book ≡ C.log }
 {
-    let (shared, mut desks) = Shared::<C, R, &W>::open(
-        rt, alloc, settings, 1, charged, released, lines,
+    let (shared, mut desks) = Shared::<C, R, M, &W>::open(
+        rt, alloc, settings, 1, charged, released, made, events,
     )?;
     let mut served = (desks.pop().ok_or("a desk")?, Buffers::new(alloc)?);
     for row in rows {
@@ -164,10 +166,11 @@ fn serve<W: Wait + Abort>(
     rows: &[Row],
     balance: [u64; 3],
 ) -> Result<(), Fail> {
-    serve_rows::<Brand, Brand, W>(
+    serve_rows::<Brand, Brand, Brand, W>(
         rt,
         alloc,
         settings()?,
+        Blank::new(16),
         Blank::new(16),
         Blank::new(16),
         Opened::new(),

@@ -1,13 +1,11 @@
 -- Which lines may follow on heads: those of the steps of a lawful book.
-use Rattle.std.specs.Prelude.{◌≡◌, ℕ, ◌+◌, ◌≤◌, List, [], ◌∷◌, length, ◌⊎◌, Some, All, IfSome, ⊤}
+use Rattle.std.specs.Prelude.{◌≡◌, ℕ, ◌+◌, ◌≤◌, length, ◌⊎◌, Some, All, IfSome, ⊤}
 use Rattle.upload_book.specs.declared.board_line.BoardLine.{BoardLine}
 use Rattle.upload_book.specs.declared.board_line.HeadChange.{HeadChange}
 use Rattle.upload_book.specs.declared.board_line.HeadChange.TheVariants.{Put, Gone, Swept}
 use Rattle.upload_book.specs.declared.head_row.HeadRow.{HeadRow}
 use Rattle.upload_book.specs.declared.settings.Numbers.{Numbers}
-use Rattle.upload_book.specs.Heads.{Heads, HeadPart, apply_line, head_part_at, heads_of}
-use Rattle.upload_book.specs.PlainBook.{opening_book}
-use Rattle.upload_book.specs.Settings.{Settings}
+use Rattle.upload_book.specs.Heads.{Heads, HeadPart, apply_line, head_part_at}
 use Rattle.upload_book.specs.TenantBook.{kept_in}
 
 -- An upload of one row may get another: kind and texts stay, it does not become shorter, and a known length stays.
@@ -44,12 +42,3 @@ pub record MayFollow (h : Heads) (line : BoardLine) : Type 0 where
   pub within : All (IsWithin h.settings.numbers) (apply_line h line).tenants
   pub charged : h.accounts.charged ≤ line.accounts.charged
   pub released : h.accounts.released ≤ line.accounts.released
-
--- each of the lines may follow on those before it
-abbrev pub MayAllFollow : Heads → List BoardLine → Type 0
-MayAllFollow h [] = ⊤
-MayAllFollow h (line ∷ lines) = MayFollow h line × MayAllFollow (apply_line h line) lines
-
--- the lines are what a book of these settings may have changed of its heads since its opening
-abbrev pub IsLegal : Settings → List BoardLine → Type 0
-IsLegal s lines = MayAllFollow (heads_of (opening_book s)) lines

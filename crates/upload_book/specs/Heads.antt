@@ -11,7 +11,7 @@ use Rattle.upload_book.specs.declared.head_row.Name.{Name}
 use Rattle.upload_book.specs.declared.refusal.Refusal.{Refusal}
 use Rattle.upload_book.specs.Charge.{charge_in}
 use Rattle.upload_book.specs.Expiry.{has_expired}
-use Rattle.upload_book.specs.PlainBook.{PlainBook, opening_book, tenant_book}
+use Rattle.upload_book.specs.PlainBook.{PlainBook, tenant_book}
 use Rattle.upload_book.specs.Settings.{Settings}
 use Rattle.upload_book.specs.TenantBook.{TenantBook, TenantPart, Entry, opening_part, visible_in, with_changed, with_new}
 use Rattle.upload_book.specs.Terminate.{without}
@@ -76,12 +76,3 @@ parts_after h (Swept now) = map {A = HeadPart} {B = HeadPart} (without_expired n
 -- the heads after a line
 abbrev pub apply_line : Heads → BoardLine → Heads
 apply_line h line = record h { tenants = parts_after h line.change; accounts = line.accounts }
-
--- the heads after lines, in their order
-abbrev pub apply_lines : Heads → List BoardLine → Heads
-apply_lines h [] = h
-apply_lines h (line ∷ lines) = apply_lines (apply_line h line) lines
-
--- the heads of a book of these settings after lines from its opening on
-abbrev pub heads_after : Settings → List BoardLine → Heads
-heads_after s lines = apply_lines (heads_of (opening_book s)) lines

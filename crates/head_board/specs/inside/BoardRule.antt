@@ -4,7 +4,7 @@ use Rattle.logbook.specs.Pages.{Named}
 use Rattle.head_board.specs.declared.board_copy.Note.{Note}
 use Rattle.head_board.specs.declared.board_copy.BoardCopy.{BoardCopy}
 use Rattle.head_board.specs.declared.board_copy.View.{View}
-use Rattle.head_board.specs.inside.LineLog.{LogPrefix, word_of}
+use Rattle.head_board.specs.inside.EventLog.{LogPrefix, word_of}
 use Rattle.head_board.specs.inside.Showing.{Fits, IsCurrent}
 
 -- What a writer knows between two calls: which board it is. The copy is current, and nothing is left to be shown.
@@ -14,7 +14,7 @@ pub record IsAtRest (copy : BoardCopy) (place : View) (pending : List Note) : Ty
   pub fits : Fits place copy
   pub nothing : pending ≡ []
 
--- what every board keeps: it has seen the lines of the copy that is shown, and its word is that of the log
+-- what every board keeps: it has seen the events of the copy that is shown, and its word is that of the log
 pub record IsBoard (copy : BoardCopy) (place : View) (pending : List Note) (seen : LogPrefix) (log_word : Named) : Type 0 where
   pub rest : IsAtRest copy place pending
   pub same : seen ≡ copy.seen

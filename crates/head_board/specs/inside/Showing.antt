@@ -3,8 +3,8 @@ use Rattle.std.specs.Prelude.{◌≡◌, ℕ, true, false, List}
 use mathlib.Core.Option.{some}
 use lib.ListN.{get_elem?}
 use Rattle.logbook.specs.Pages.{Book}
-use Rattle.upload_book.specs.Heads.{heads_after}
-use Rattle.upload_book.specs.HeadSteps.{IsLegal}
+use Rattle.upload_book.specs.Heads.{heads_of}
+use Rattle.head_board.specs.Events.{HaveHappened, book_at}
 use Rattle.head_board.specs.NoBoard.{no_settings}
 use Rattle.head_board.specs.declared.board_copy.LogName.{LogName}
 use Rattle.head_board.specs.declared.board_copy.Note.{Note}
@@ -18,10 +18,16 @@ abbrev pub noted : BoardCopy → Note → BoardCopy
 noted s Nothing = s
 noted s (Adds a) = record { table = heads_with s.table a.line; seen = a.after }
 
--- the lines that were applied are legal, and the copy has the heads after them
+-- the copy has the heads of the book after what happened
 pub record IsCurrent (s : BoardCopy) : Type 0 where
-  pub legal : IsLegal s.table.settings s.seen.lines
-  pub heads : s.table ≡ heads_after s.table.settings s.seen.lines
+  pub happened : HaveHappened s.table.settings s.seen.events
+  pub heads : s.table ≡ heads_of (book_at s.table.settings s.seen.events)
+
+-- the next copy is current too, and of the same book and log
+pub record IsNext (s next : BoardCopy) : Type 0 where
+  pub current : IsCurrent next
+  pub settings : next.table.settings ≡ s.table.settings
+  pub log : next.seen.book ≡ s.seen.book
 
 -- the log of this name
 abbrev pub log_of : LogName → Book

@@ -1,11 +1,22 @@
-use Rattle.std.proofs.Common.{ap, arith}
-use Rattle.upload_book.specs.declared.head_row.Name.{Name}
-use Rattle.upload_book.specs.declared.settings.Numbers.{Numbers}
-use Rattle.head_board_tests.proofs.FirstLine.{first_line}
+use Rattle.std.proofs.Common.{◌≡◌, [], length, ap, subst, sym, ◌∙◌, arith}
+use Rattle.upload_book.specs.Book.{plain_of}
+use Rattle.upload_book.specs.PlainBook.{PlainBook}
+use Rattle.upload_book.specs.Ready.{change_in, moment_in}
+use Rattle.upload_book.specs.Settings.{Settings}
+use Rattle.head_board.specs.Event.{Event}
+use Rattle.head_board.specs.Events.{IsLineOf, book_at}
 use Rattle.head_board_tests.proofs.boards.show_first.Goals as goal
 
 pub show-requires : goal.show-requires
 show-requires g c =
-    let uploads = ap (λ (n : Numbers). n.uploads) c.numbers-numbers.ensures.value in
-    let last_id = ap (λ (n : Numbers). n.last_id) c.numbers-numbers.ensures.value in
-    rw c.requires.settings (rw c.requires.new (first_line c.args.settings.now c.line-first.result c.name.result c.row.result c.line-first.ensures (ap (λ (name : Name). name.id) c.name.ensures) (omega (arith, uploads)) (omega (arith, last_id))))
+    let board = c.args.board.now in
+    let told = c.line-line.ensures in
+    let before : plain_of c.prepare-ready.new.self ≡ book_at board.settings board.events =
+    c.prepare-ready.ensures.plain ∙ c.requires.opened ∙ ap (book_at board.settings) (sym c.requires.new) in
+    let event : Event = record { desk = 0; change = change_in c.expect-ready.result; now = moment_in c.expect-ready.result } in
+    subst (λ (b : PlainBook). IsLineOf b event c.line-line.result) before (record { is = told.value; leads = record { may = told.follows; heads = told.after } })
+
+pub prepare-ready-requires : goal.prepare-ready-requires
+prepare-ready-requires g c =
+    let count : length c.settings.result.now.tenants ≡ length c.args.book.now.settings.tenants = ap (λ (s : Settings). length s.tenants) c.settings.ensures.value in
+    c.creation.ensures _ (omega (arith, count, c.tenant_count.ensures))

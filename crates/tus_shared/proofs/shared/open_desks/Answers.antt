@@ -16,9 +16,14 @@ loop-number-preserved g c =
         parts = omega (arith, c.part-in-loop-number.ensures.left, i.1.parts);
         rest = c.part-in-loop-number.ensures.none_left;
       },
-      c.in-Ok-reader.ensures.board ∙ i.2,
-      new_desks-next _ _ _ _ _ _ c.push_reserved.ensures.items i.3 c.part.ensures.amount c.part-in-loop-number.ensures.amount
-          (ap (λ (b : BoardView). b.lines) (c.in-Ok-reader.ensures.reader ∙ i.2 ∙ c.requires.board)),
-      omega (arith, c.push_reserved.ensures.len, i.4),
-      omega (arith, c.push_reserved.ensures.capacity, i.5),
+      record {
+        total = c.part-in-loop-number-2.ensures.total ∙ i.2.total;
+        parts = omega (arith, c.part-in-loop-number-2.ensures.left, i.2.parts);
+        rest = c.part-in-loop-number-2.ensures.none_left;
+      },
+      c.in-Ok-reader.ensures.board ∙ i.3,
+      new_desks-next _ _ _ _ _ _ _ c.push_reserved.ensures.items i.4 c.part.ensures.amount c.part-in-loop-number.ensures.amount c.part-in-loop-number-2.ensures.amount
+          (ap (λ (b : BoardView). b.events) (c.in-Ok-reader.ensures.reader ∙ i.3 ∙ c.requires.board)),
+      omega (arith, c.push_reserved.ensures.len, i.5),
+      omega (arith, c.push_reserved.ensures.capacity, i.6),
     )

@@ -1,6 +1,7 @@
 use Rattle.std.proofs.Common.{◌≡◌, length, sym, ◌∙◌, ap}
+use Rattle.head_board.specs.Events.{event_of}
 use Rattle.head_board.proofs.LogLemmas.{adds_moves}
-use Rattle.head_board.proofs.line_log.SeenLines.with.Goals as goal
+use Rattle.head_board.proofs.event_log.SeenEvents.with_next.Goals as goal
 
 pub compare_exchange-found-requires : goal.compare_exchange-found-requires
 compare_exchange-found-requires c =
@@ -13,5 +14,5 @@ compare_exchange-found-requires c =
       book ∙ sym (ap (λ w. w.book) h),
       pen.0 ∙ (book ∙ sym (ap (λ w. w.book) h)),
       offer.0,
-      rw (ap (λ w. w.key) h, pen.1, offer.1, offer.3, c.in_ok-longer.ensures.1) (adds_moves c.again-seen.result.log c.args.line.now c.self.inside.count len),
+      rw (ap (λ w. w.key) h, pen.1, offer.1, offer.3, c.in_ok-longer.ensures.1) (adds_moves c.again-seen.result.log (event_of c.args.coming.now) c.self.inside.count len),
     )

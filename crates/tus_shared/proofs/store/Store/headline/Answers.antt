@@ -1,0 +1,32 @@
+use Rattle.std.proofs.Common.{◌≤◌, All, map, subst}
+use Rattle.upload_book.specs.BlockBook.{HoldsBook, blocks_of}
+use Rattle.upload_book.specs.Charge.{charge_in}
+use Rattle.upload_book.specs.Events.{ChangeEvent}
+use Rattle.upload_book.specs.Lawful.{IsLawful}
+use Rattle.upload_book.specs.Settings.{Settings}
+use Rattle.upload_book.proofs.Lawful.FinalLemmas.{finals_stay}
+use Rattle.head_board.specs.Event.{Event}
+use Rattle.head_board.specs.Events.{book_at, change_event}
+use Rattle.tus_shared.proofs.EventLemmas.{at-settings}
+use Rattle.tus_shared.proofs.store.Store.headline.Goals as goal
+
+pub returns : goal.returns
+returns g c =
+    let s = g.C.Charges.settings in
+    let blocks = blocks_of c.self.inside.book in
+    let events = c.self.inside.board.events in
+    let at = c.self.invariant.at in
+    let holds : HoldsBook blocks (book_at s events) = subst (HoldsBook blocks) at.is c.tell_blocks.ensures.blocks in
+    let lawful : IsLawful (book_at s events) = subst IsLawful at.is c.tell_blocks.ensures.lawful in
+    rw (← c.self.view_is) (record {
+      counted = holds.counted;
+      read = holds.read;
+      stands = at.is;
+      finals = λ name u final has. finals_stay.comes s (map {A = Event} {B = ChangeEvent} change_event events) name u final has;
+      quotas = subst (λ (t : Settings). All (λ part. charge_in t.numbers part ≤ part.quota) (book_at s events).tenants) (at-settings s events) lawful.charges;
+      happened = at.happened;
+      paid = holds.fits;
+      extents = holds.extents;
+      own = holds.own;
+      lawful = lawful;
+    })

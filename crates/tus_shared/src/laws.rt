@@ -1,0 +1,14 @@
+//! Laws of the definitions that the contracts cite: each is the contract of a function that does nothing.
+ghost use Rattle.tus_shared.specs.Laws.{LaterAnswers, OneLog};
+
+/// All desks answer in one list of events: there the replies of every desk are the plain book's, in its own order, and each
+/// change that was made is the next event, made at its desk.
+pub fn one_log()
+    ensures { OneLog }
+{}
+
+/// A desk never sees less, by no call. So no later answer of it tells less of an upload than an earlier one, whether a HEAD
+/// or a PATCH told it, and whatever the desk did between them.
+pub fn later_answers()
+    ensures { LaterAnswers }
+{}
