@@ -1,9 +1,5 @@
 ghost use Rattle.std.specs.Prelude.{◌≡◌, ◌⊎◌, ◌≤◌, ℕ, [], Err, IfNone, IfSome, Ok, length, vec_capacity};
-ghost use Rattle.tus_steps.specs.declared.head.HeadOf.TheVariants as head;
-ghost use Rattle.tus_steps.specs.Head.{IsHeadStep};
-ghost use Rattle.tus_steps.specs.Operation.{operation_of};
-ghost use Rattle.upload_book.specs.declared.operation.Operation.TheVariants as operation;
-ghost use Rattle.upload_book.specs.PlainBook.{PlainBook};
+ghost use Rattle.tus_steps.specs.Changing.{IsFound};
 ghost use Rattle.head_board.specs.Board.{ReadsHead};
 ghost use Rattle.tus_shared.specs.Answers.{Answers, AnswersBatch, AnswersTurn, OnlySeesMore, SeesHead, Sweeps};
 ghost use Rattle.upload_book.specs.declared.refusal.Refusal.TheVariants.{Board, Unknown};
@@ -16,7 +12,7 @@ use head_board::HeadReader;
 use std::marker::Model;
 use std::sync::Wait;
 use std::sync::ledger::{Ledger, Share};
-use tus_steps::{HeadOf, Reply, Request, head_of, head_reply};
+use tus_steps::{Asked, PartIds, Reply, Request, asked_of, head_reply};
 use upload_book::{HeadRow, Moment, Name, Refusal, Settings, Swept};
 
 /// One of the desks that an opening gives, at which one thread answers its requests. It counts in three shares how many
@@ -70,7 +66,9 @@ impl<C: Charges, R: Ledger, M: Ledger> Desk<C, R, M> {
     ) -> Reply
         ensures { Answers C.settings request.now now result self.old self.new }
     {
-        shared.store.lock(rt).step(self, request, now)
+        let mut ids = PartIds::new();
+        let asked = asked_of(&self.settings, request, &mut ids);
+        shared.store.lock(rt).step(self, request, asked, now)
     }
 
     /// Takes the lock for a sweep at this moment ([`crate::Store::sweep`]), and tells what it ended. It may wait for other
@@ -144,35 +142,17 @@ impl<C: Charges, R: Ledger, M: Ledger> Desk<C, R, M> {
     ) -> Reply
         ensures { AnswersTurn C.settings request.now now result self.old self.new }
     {
-        match head_of(&self.settings, request) {
-            HeadOf::Refused(reply) => return reply,
-            HeadOf::Of(name) => {
-                return self.answer_head(rt, shared, request, &name, now, turn, gate);
-            }
-            HeadOf::NotHead => {}
+        let mut ids = PartIds::new();
+        match asked_of(&self.settings, request, &mut ids) {
+            Asked::Look(name) => match self.read_board(&name, now) {
+                Some(row) => head_reply(row),
+                None => {
+                    self.answer_locked(rt, shared, request, Asked::Look(name), now, turn, gate)
+                }
+            },
+            Asked::Refused(reply) if request.method.is_head() => reply,
+            asked => self.answer_locked(rt, shared, request, asked, now, turn, gate),
         }
-        self.answer_locked(rt, shared, request, now, turn, gate)
-    }
-
-    // The reply to a HEAD of the upload of this name.
-    fn answer_head<W: Wait, B: Wait + Drop, G: Gate>(
-        &mut self,
-        rt: &W,
-        shared: &Shared<C, R, M, B>,
-        request: &Request,
-        name: &Name,
-        now: Moment,
-        turn: usize,
-        gate: &G,
-    ) -> Reply
-        requires asks { operation_of C.settings request.now ≡ Ok (operation.Look name.now) }
-        requires step { (b : PlainBook) (now : ℕ) → b.settings ≡ C.settings → IsHeadStep b request.now now (head.Of name.now) }
-        ensures { Answers C.settings request.now now result self.old self.new }
-    {
-        if let Some(row) = self.read_board(name, now) {
-            return head_reply(row);
-        }
-        self.answer_locked(rt, shared, request, now, turn, gate)
     }
 
     // The step of a turn that takes the lock.
@@ -181,15 +161,17 @@ impl<C: Charges, R: Ledger, M: Ledger> Desk<C, R, M> {
         rt: &W,
         shared: &Shared<C, R, M, B>,
         request: &Request,
+        asked: Asked,
         now: Moment,
         turn: usize,
         gate: &G,
     ) -> Reply
+        requires found { IsFound C.settings request.now asked }
         ensures { Answers C.settings request.now now result self.old self.new }
     {
         let mut store = shared.store.lock(rt);
         gate.pass(self.number, turn, Stop::Locked);
-        store.step(self, request, now)
+        store.step(self, request, asked, now)
     }
 
     // Answers the turns of a batch, one after another, and gives their replies in a list that has room for

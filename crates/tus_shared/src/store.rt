@@ -1,6 +1,7 @@
 ghost use Rattle.std.specs.Prelude.{◌≡◌, ◌++◌, ◌∷◌, [], length};
 ghost use mathlib.Core.List.{IsPrefix};
 ghost use Rattle.head_board.specs.Events.{HaveHappened, IsLineOf, book_at, event_of};
+ghost use Rattle.tus_steps.specs.Changing.{IsFound};
 ghost use Rattle.tus_steps.specs.Step.{IsStep};
 ghost use Rattle.tus_shared.specs.Desk.{Moves};
 ghost use Rattle.tus_shared.specs.Headline.{Headline};
@@ -18,7 +19,7 @@ use head_board::{Board, Coming};
 use std::marker::Model;
 use std::sync::Wait;
 use std::sync::ledger::Ledger;
-use tus_steps::{PartIds, Reply, Request, answer, change_of, change_reply};
+use tus_steps::{Asked, Reply, Request, answer_asked, change_reply};
 use upload_book::{Book, Change, Moment, Outcome, Ready, Refused, Swept};
 
 /// What stands behind the lock: the book, the board that shows its heads, and the books of three ledgers, whose totals
@@ -61,10 +62,18 @@ impl<C: Charges, R: Ledger, M: Ledger, B: Wait + Drop> Store<C, R, M, B> {
     }
 
     /// Answers a request at a desk and applies it to the book, as the plain book does at this moment
-    /// ([`tus_steps::answer`]). A change that is accepted is the next event, made at this desk. The desk has seen all events
+    /// ([`tus_steps::answer`]). What it asks for was found before the lock was taken ([`tus_steps::asked_of`], under the
+    /// settings of the desk). A change that is accepted is the next event, made at this desk. The desk has seen all events
     /// after it, and its shares rise by what the request charges and releases, and by that event. The shares of other desks
     /// stay, since no other desk is lent.
-    pub fn step(&mut self, desk: &mut Desk<C, R, M>, request: &Request, now: Moment) -> Reply
+    pub fn step(
+        &mut self,
+        desk: &mut Desk<C, R, M>,
+        request: &Request,
+        asked: Asked,
+        now: Moment,
+    ) -> Reply
+        requires found { IsFound C.settings request.now asked }
         ensures happened { HaveHappened C.settings self.old }
         ensures stays_happened { HaveHappened C.settings self.new }
         ensures lawful { IsLawful (book_at C.settings self.old) }
@@ -75,16 +84,15 @@ impl<C: Charges, R: Ledger, M: Ledger, B: Wait + Drop> Store<C, R, M, B> {
         ensures moves { Moves C.settings self.old self.new desk.old desk.new }
         ensures seen { desk.new.seen ≡ self.new }
     {
-        let mut ids = PartIds::new();
-        match change_of(self.headline().settings(), request, &mut ids) {
-            Some(asked) => {
+        match asked {
+            Asked::Change(asked) => {
                 let offset = asked.offset;
                 let outcome = self.make(desk, asked.change, now);
                 change_reply(request, offset, outcome)
             }
-            None => {
+            asked => {
                 self.board.show_to(&mut desk.reader);
-                answer(&mut self.book, request, now)
+                answer_asked(self.headline(), request, asked, now)
             }
         }
     }
