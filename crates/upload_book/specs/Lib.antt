@@ -16,6 +16,7 @@ pub mod Expiry
 pub mod ExpiryList
 pub mod FinalLaws
 pub mod FirstChunk
+pub mod HeadNotes
 pub mod HeadSteps
 pub mod Heads
 pub mod Lawful

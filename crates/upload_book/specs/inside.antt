@@ -2,6 +2,7 @@
 pub mod ChargeAfter
 pub mod HeldBytes
 pub mod Kept
+pub mod Notes
 pub mod Pieces
 pub mod Places
 pub mod Progress

@@ -3,6 +3,7 @@
 #![tactic(auto)]
 
 mod account;
+mod accounts_after;
 mod append;
 mod block_store;
 mod board_line;
@@ -15,9 +16,11 @@ mod content;
 mod create;
 mod expiry;
 mod expiry_list;
+mod head_note;
 mod head_row;
 mod held_bytes;
 pub mod laws;
+mod lent_row;
 mod line;
 mod look;
 mod moment;
@@ -45,7 +48,9 @@ pub use concat::NewFinal;
 pub use content::Content;
 pub use create::{Created, FirstChunk, NewUpload};
 pub use expiry_list::Expiring;
+pub use head_note::{Growth, HeadNote, NotedChange};
 pub use head_row::{HeadRow, Kind, Name};
+pub use lent_row::LentRow;
 pub use moment::Moment;
 pub use operation::Operation;
 pub use ready::Ready;

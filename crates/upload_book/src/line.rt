@@ -1,26 +1,26 @@
-ghost use Rattle.std.specs.Prelude.{◌≡◌, ◌+◌, ◌-◌, ◌<◌, ◌≤◌, ◌^◌, None, Some, IsTrue, length, sum};
+ghost use Rattle.std.specs.Prelude.{◌≡◌, ◌<◌, None, Some, IsTrue, length};
 ghost use Rattle.upload_book.specs.Book.{plain_of};
-ghost use Rattle.upload_book.specs.Change.{book_after_change, line_of};
-ghost use Rattle.upload_book.specs.Charge.{charge_in};
+ghost use Rattle.upload_book.specs.Change.{book_after_change, head_change, line_of};
 ghost use Rattle.upload_book.specs.Create.{new_kind};
 ghost use Rattle.upload_book.specs.declared.change.Change.TheVariants as change;
 ghost use Rattle.upload_book.specs.declared.head_row.Kind.TheVariants.{Final};
-ghost use Rattle.upload_book.specs.Heads.{accounts_of, apply_line, heads_of};
+ghost use Rattle.upload_book.specs.HeadNotes.{IsNoteOf};
+ghost use Rattle.upload_book.specs.Heads.{apply_line, heads_of};
 ghost use Rattle.upload_book.specs.HeadSteps.{MayFollow};
+ghost use Rattle.upload_book.specs.inside.Notes.{IsNoted};
 ghost use Rattle.upload_book.specs.Lawful.{IsConcatText, is_kept_metadata};
-ghost use Rattle.upload_book.specs.PlainBook.{PlainBook, tenant_book, with_tenant_book};
+ghost use Rattle.upload_book.specs.PlainBook.{tenant_book};
 ghost use Rattle.upload_book.specs.Ready.{IsReady, IsReadyForChunk, IsReadyForEnd, IsReadyForFinal, IsReadyForStep, IsReadyForUpload, change_in, moment_in, step_change, step_moment};
-ghost use Rattle.upload_book.specs.Sweep.{book_after_sweep};
-ghost use Rattle.upload_book.specs.TenantBook.{TenantBook};
 
-use crate::board_line::{Accounts, BoardLine, HeadChange};
+use crate::board_line::{BoardLine, HeadChange};
 use crate::book::Book;
 use crate::concat::NewFinal;
 use crate::create::{FirstChunk, NewUpload};
+use crate::head_note::{Growth, HeadNote, NotedChange};
 use crate::head_row::{HeadRow, Kind, Name};
+use crate::lent_row::LentRow;
 use crate::moment::Moment;
 use crate::ready::{Ready, ReadyChunk, ReadyEnd, ReadyFinal, ReadyUpload, Step};
-use tus_text::Text;
 
 impl<'a> Ready<'a> {
     /// The line by which the change will change the heads of the book, which is ready for it: what HEADs will tell,
@@ -40,6 +40,22 @@ impl<'a> Ready<'a> {
         let _lawful = book.settings();
         book.line_of_step(&self.step)
     }
+
+    /// What the change will do to the heads of the book, which is ready for it, as small as it can be told: the texts of
+    /// a new upload are lent, and a PATCH tells its numbers alone. It takes no memory and changes nothing, so it can be
+    /// told before [`Book::commit`]. On the heads of the book it stands for the line that [`Ready::line`] tells. The
+    /// accounts cost what they cost there.
+    pub fn note(&self, book: &Book) -> HeadNote<'a>
+        requires { IsReady book.now self.now }
+        ensures { IsNoteOf (plain_of book.now) (change_in self.now) (moment_in self.now) result }
+    {
+        // the settings tell that the book is lawful
+        let _lawful = book.settings();
+        HeadNote {
+            change: book.noted(&self.step),
+            accounts: book.accounts_after(&self.step),
+        }
+    }
 }
 
 impl Book {
@@ -48,89 +64,151 @@ impl Book {
         requires { IsReadyForStep self.now step.now }
         ensures { line_of (plain_of self.now) (step_change step.now) (step_moment step.now) ≡ Some result }
     {
-        match step {
-            Step::Create(upload) => self.line_of_upload(upload),
-            Step::Append(chunk) => self.line_of_chunk(chunk),
-            Step::Concat(joined) => self.line_of_final(joined),
-            Step::Terminate(end) => self.line_of_end(end),
-            Step::Sweep(sweep) => self.line_of_sweep(sweep.now),
+        BoardLine {
+            change: self.head_change(step),
+            accounts: self.accounts_after(step),
         }
     }
 
-    // The line of a creation.
-    fn line_of_upload(&self, ready: &ReadyUpload) -> BoardLine
+    // What a change changes of the heads.
+    fn head_change(&self, step: &Step) -> HeadChange
+        requires { IsReadyForStep self.now step.now }
+        ensures { head_change (plain_of self.now) (step_change step.now) (step_moment step.now) ≡ Some result }
+    {
+        match step {
+            Step::Create(upload) => self.head_of_upload(upload),
+            Step::Append(chunk) => self.head_of_chunk(chunk),
+            Step::Concat(joined) => self.head_of_final(joined),
+            Step::Terminate(end) => self.head_of_end(end),
+            Step::Sweep(sweep) => HeadChange::Swept(sweep.now),
+        }
+    }
+
+    // What a creation changes of them.
+    fn head_of_upload(&self, ready: &ReadyUpload) -> HeadChange
         requires { IsReadyForUpload self.now ready.now }
-        ensures { line_of (plain_of self.now) (change.Create ready.entry.now.tenant ready.entry.now.new ready.entry.now.first)
+        ensures { head_change (plain_of self.now) (change.Create ready.entry.now.tenant ready.entry.now.new ready.entry.now.first)
             ready.entry.now.now ≡ Some result }
     {
-        let tenant = ready.tenant;
-        let len = ready.first.len();
-        let blocks = len.div_ceil(self.settings.numbers().block_size);
-        let row = ready.new.row(len, ready.expires);
-        BoardLine {
-            change: HeadChange::Put(self.next_name(tenant), row),
-            accounts: self.accounts_where(tenant, self.charge(tenant) + blocks),
-        }
+        // the numbers tell what is kept of the book
+        let _in_range = self.settings.numbers();
+        let row = ready.new.row(ready.first.len(), ready.expires);
+        HeadChange::Put(self.next_name(ready.tenant), row.copied())
     }
 
-    // The line of a PATCH.
-    fn line_of_chunk(&self, ready: &ReadyChunk) -> BoardLine
+    // What a PATCH changes of them.
+    fn head_of_chunk(&self, ready: &ReadyChunk) -> HeadChange
         requires { IsReadyForChunk self.now ready.now }
-        ensures { line_of (plain_of self.now) (change.Append ready.entry.now.name ready.entry.now.chunk) ready.entry.now.now
+        ensures { head_change (plain_of self.now) (change.Append ready.entry.now.name ready.entry.now.chunk) ready.entry.now.now
             ≡ Some result }
     {
-        let tenant = ready.name.tenant;
-        let size = self.settings.numbers().block_size;
-        let before = self.store.head_row(usize::from(tenant), ready.place);
-        let blocks = ready.after.offset.div_ceil(size) - before.offset.div_ceil(size);
+        // the numbers tell what is kept of the book
+        let _in_range = self.settings.numbers();
+        let before = self
+            .store
+            .head_row(usize::from(ready.name.tenant), ready.place);
         let row = HeadRow {
             offset: ready.after.offset,
             declared: ready.after.declared,
             expires: ready.after.expires,
             ..before
         };
-        BoardLine {
-            change: HeadChange::Put(ready.name, row),
-            accounts: self.accounts_where(tenant, self.charge(tenant) + blocks),
-        }
+        HeadChange::Put(ready.name, row)
     }
 
-    // The line of a concatenation.
-    fn line_of_final(&self, ready: &ReadyFinal) -> BoardLine
+    // What a concatenation changes of them.
+    fn head_of_final(&self, ready: &ReadyFinal) -> HeadChange
         requires { IsReadyForFinal self.now ready.now }
-        ensures { line_of (plain_of self.now) (change.Concat ready.entry.now.tenant ready.entry.now.new) ready.entry.now.now
+        ensures { head_change (plain_of self.now) (change.Concat ready.entry.now.tenant ready.entry.now.new) ready.entry.now.now
             ≡ Some result }
     {
         // the numbers tell what is kept of the book
         let _in_range = self.settings.numbers();
-        let tenant = ready.tenant;
-        BoardLine {
-            change: HeadChange::Put(self.next_name(tenant), ready.new.row(ready.len)),
-            accounts: self.accounts_where(tenant, self.charge(tenant)),
-        }
+        let row = ready.new.row(ready.len);
+        HeadChange::Put(self.next_name(ready.tenant), row.copied())
     }
 
-    // The line of a DELETE.
-    fn line_of_end(&self, ready: &ReadyEnd) -> BoardLine
+    // What a DELETE changes of them.
+    fn head_of_end(&self, ready: &ReadyEnd) -> HeadChange
         requires { IsReadyForEnd self.now ready.now }
-        ensures { line_of (plain_of self.now) (change.Terminate ready.entry.now.name) ready.entry.now.now ≡ Some result }
+        ensures { head_change (plain_of self.now) (change.Terminate ready.entry.now.name) ready.entry.now.now ≡ Some result }
     {
-        let tenant = ready.name.tenant;
-        let charge = self.store.charge_without(usize::from(tenant), ready.place);
-        BoardLine {
-            change: HeadChange::Gone(ready.name),
-            accounts: self.accounts_where(tenant, charge),
+        // the numbers tell what is kept of the book
+        let _in_range = self.settings.numbers();
+        HeadChange::Gone(ready.name)
+    }
+
+    // What a change changes of the heads, as it is noted.
+    fn noted<'a>(&self, step: &Step<'a>) -> NotedChange<'a>
+        requires { IsReadyForStep self.now step.now }
+        ensures { IsNoted (plain_of self.now) (step_change step.now) (step_moment step.now) result }
+    {
+        match step {
+            Step::Create(upload) => self.note_of_upload(upload),
+            Step::Append(chunk) => self.note_of_chunk(chunk),
+            Step::Concat(joined) => self.note_of_final(joined),
+            Step::Terminate(end) => self.note_of_end(end),
+            Step::Sweep(sweep) => self.note_of_sweep(sweep.now),
         }
     }
 
-    // The line of a sweep.
-    fn line_of_sweep(&self, now: Moment) -> BoardLine
-        ensures { line_of (plain_of self.now) change.Sweep now ≡ Some result }
+    // How a creation is noted.
+    fn note_of_upload<'a>(&self, ready: &ReadyUpload<'a>) -> NotedChange<'a>
+        requires { IsReadyForUpload self.now ready.now }
+        ensures { IsNoted (plain_of self.now) (change.Create ready.entry.now.tenant ready.entry.now.new ready.entry.now.first)
+            ready.entry.now.now result }
     {
-        BoardLine {
-            change: HeadChange::Swept(now),
-            accounts: self.accounts_swept(now),
-        }
+        // the numbers tell what is kept of the book
+        let _in_range = self.settings.numbers();
+        NotedChange::Created(
+            ready.tenant,
+            ready.new.row(ready.first.len(), ready.expires),
+        )
+    }
+
+    // How a PATCH is noted.
+    fn note_of_chunk<'a>(&self, ready: &ReadyChunk<'a>) -> NotedChange<'a>
+        requires { IsReadyForChunk self.now ready.now }
+        ensures { IsNoted (plain_of self.now) (change.Append ready.entry.now.name ready.entry.now.chunk) ready.entry.now.now
+            result }
+    {
+        // the numbers tell what is kept of the book
+        let _in_range = self.settings.numbers();
+        let after = &ready.after;
+        let growth = Growth {
+            offset: after.offset,
+            declared: after.declared,
+            expires: after.expires,
+        };
+        NotedChange::Grown(ready.name, growth)
+    }
+
+    // How a concatenation is noted.
+    fn note_of_final<'a>(&self, ready: &ReadyFinal<'a>) -> NotedChange<'a>
+        requires { IsReadyForFinal self.now ready.now }
+        ensures { IsNoted (plain_of self.now) (change.Concat ready.entry.now.tenant ready.entry.now.new) ready.entry.now.now
+            result }
+    {
+        // the numbers tell what is kept of the book
+        let _in_range = self.settings.numbers();
+        NotedChange::Created(ready.tenant, ready.new.row(ready.len))
+    }
+
+    // How a DELETE is noted.
+    fn note_of_end<'a>(&self, ready: &ReadyEnd) -> NotedChange<'a>
+        requires { IsReadyForEnd self.now ready.now }
+        ensures { IsNoted (plain_of self.now) (change.Terminate ready.entry.now.name) ready.entry.now.now result }
+    {
+        // the numbers tell what is kept of the book
+        let _in_range = self.settings.numbers();
+        NotedChange::Gone(ready.name)
+    }
+
+    // How a sweep is noted.
+    fn note_of_sweep<'a>(&self, now: Moment) -> NotedChange<'a>
+        ensures { IsNoted (plain_of self.now) change.Sweep now result }
+    {
+        NotedChange::Swept(now)
     }
 
     // The name that the next upload of the tenant at this place gets.
@@ -143,50 +221,11 @@ impl Book {
             id: self.store.next(usize::from(tenant)),
         }
     }
-
-    // The accounts once the tenant at this place pays so much, and the others what they pay.
-    fn accounts_where(&self, tenant: u8, charge: u64) -> Accounts
-        requires tenant_there { tenant < length (plain_of self.now).settings.tenants }
-        requires within { (plain_of self.now).charged
-            + (charge - charge_in (plain_of self.now).settings.numbers (tenant_book (plain_of self.now) tenant))
-            ≤ (plain_of self.now).settings.numbers.last_total }
-        ensures { (part : TenantBook) → charge_in (plain_of self.now).settings.numbers part ≡ charge
-            → result ≡ accounts_of (with_tenant_book (plain_of self.now) tenant part) }
-    {
-        // the numbers tell that what may be charged in all is a number
-        let _in_range = self.settings.numbers();
-        let place = usize::from(tenant);
-        let before = self.charge(tenant);
-        let accounts = self.accounts();
-        let mut charges = accounts.charge;
-        charges[place] = charge;
-        Accounts {
-            charged: accounts.charged + charge.saturating_sub(before),
-            released: accounts.released + before.saturating_sub(charge),
-            charge: charges,
-        }
-    }
-
-    // The accounts after a sweep. What was charged and not released is what the tenants pay.
-    fn accounts_swept(&self, now: Moment) -> Accounts
-        ensures { result ≡ accounts_of (book_after_sweep (plain_of self.now) now) }
-    {
-        if self.first_expired(now).is_none() {
-            return self.accounts();
-        }
-        let charge = self.store.charges_swept(now);
-        let released = self.charged - total(&charge);
-        Accounts {
-            charged: self.charged,
-            released,
-            charge,
-        }
-    }
 }
 
 impl<'a> NewUpload<'a> {
     // What a HEAD tells of it once it has so many bytes and this end.
-    fn row(&self, len: u64, expires: Option<Moment>) -> HeadRow
+    fn row(&self, len: u64, expires: Option<Moment>) -> LentRow<'a>
         requires metadata { IsTrue (is_kept_metadata self.now.metadata) }
         requires concat { IsConcatText (new_kind self.now.partial) self.now.concat }
         ensures { result ≡ record {
@@ -198,20 +237,18 @@ impl<'a> NewUpload<'a> {
           expires = expires;
         } }
     {
-        HeadRow {
-            kind: self.kind(),
+        let growth = Growth {
             offset: len,
             declared: self.length,
-            metadata: Text::of(self.metadata),
-            concat: Text::of(self.concat),
             expires,
-        }
+        };
+        LentRow::new(self.kind(), growth, self.metadata, self.concat)
     }
 }
 
 impl<'a> FirstChunk<'a> {
     // How many bytes it has.
-    fn len(&self) -> u64
+    pub(crate) fn len(&self) -> u64
         ensures { result ≡ length self.now.bytes }
     {
         self.bytes.len() as u64
@@ -220,7 +257,7 @@ impl<'a> FirstChunk<'a> {
 
 impl<'a> NewFinal<'a> {
     // What a HEAD tells of it once it has so many bytes: it is complete, and never expires.
-    fn row(&self, len: u64) -> HeadRow
+    fn row(&self, len: u64) -> LentRow<'a>
         requires metadata { IsTrue (is_kept_metadata self.now.metadata) }
         requires concat { IsConcatText Final self.now.concat }
         ensures { result ≡ record {
@@ -232,21 +269,11 @@ impl<'a> NewFinal<'a> {
           expires = None;
         } }
     {
-        HeadRow {
-            kind: Kind::Final,
+        let growth = Growth {
             offset: len,
             declared: Some(len),
-            metadata: Text::of(self.metadata),
-            concat: Text::of(self.concat),
             expires: None,
-        }
+        };
+        LentRow::new(Kind::Final, growth, self.metadata, self.concat)
     }
-}
-
-// What all tenants pay together.
-fn total(charges: &[u64]) -> u64
-    requires { sum charges.now < 2 ^ 64 }
-    ensures { result ≡ sum charges.now }
-{
-    charges.iter().sum()
 }

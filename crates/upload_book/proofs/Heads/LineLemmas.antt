@@ -1,4 +1,4 @@
--- The line of a change for which a book is ready.
+-- The line of a change for which a book is ready, and the note that stands for it.
 use Rattle.std.proofs.Common.{◌≡◌, ℕ, zero, suc, ◌+◌, ◌-◌, ◌<◌, ◌≤◌, List, [], ◌∷◌, get_or, length, map, set, Option, Some, IfSome, refl, ap, ap₂, sym, subst, ◌∙◌, arith}
 use Rattle.std.specs.List.{range_with_len, sum, sum_by}
 use Rattle.std.specs.Option.{option_map}
@@ -12,11 +12,13 @@ use Rattle.upload_book.specs.declared.board_line.Accounts.{Accounts}
 use Rattle.upload_book.specs.declared.board_line.BoardLine.{BoardLine}
 use Rattle.upload_book.specs.declared.board_line.HeadChange.{HeadChange}
 use Rattle.upload_book.specs.declared.change.Change.{Change}
+use Rattle.upload_book.specs.declared.head_note.NotedChange.{NotedChange}
 use Rattle.upload_book.specs.declared.ready.Step.{Step}
 use Rattle.upload_book.specs.declared.ready.Step.TheVariants.{Append, Concat, Create, Sweep, Terminate}
 use Rattle.upload_book.specs.declared.settings.Numbers.{Numbers}
 use Rattle.upload_book.specs.declared.settings.TenantQuota.{TenantQuota}
-use Rattle.upload_book.specs.Heads.{accounts_of}
+use Rattle.upload_book.specs.HeadNotes.{change_told, line_told}
+use Rattle.upload_book.specs.Heads.{Heads, accounts_of}
 use Rattle.upload_book.specs.Laws.{LeadsTo}
 use Rattle.upload_book.specs.Lawful.{IsLawful}
 use Rattle.upload_book.specs.PlainBook.{PlainBook, tenant_book, with_tenant_book}
@@ -105,12 +107,18 @@ charges-swept b now kept =
     ∙ ap (λ part. charge_in b.settings.numbers (part_after_sweep now part)) (sym (part-plain b t))
     ∙ ap (charge_in b.settings.numbers) (sym (get_or-map (part_after_sweep now) (plain_of b).tenants t (opening_part 0))))
 
--- The line of a change that has a head, where this is the book after it and these are its accounts.
-pub line-is : (b after : PlainBook) (change : Change) (now : ℕ) (head : HeadChange) (accounts : Accounts) → head_change b change now ≡ Some head → book_after_change b change now ≡ after → accounts ≡ accounts_of after → line_of b change now ≡ Some (record { change = head; accounts = accounts })
-line-is b after change now head accounts is leaves told =
-    let line : PlainBook → HeadChange → BoardLine = λ after head. record { change = head; accounts = accounts_of after } in
+-- The line of a change that has a head, where these are the accounts after it.
+pub line-is : (b : PlainBook) (change : Change) (now : ℕ) (head : HeadChange) (accounts : Accounts) → head_change b change now ≡ Some head → accounts ≡ accounts_of (book_after_change b change now) → line_of b change now ≡ Some (record { change = head; accounts = accounts })
+line-is b change now head accounts is told =
+    let with_head : HeadChange → BoardLine = λ head. record { change = head; accounts = accounts_of (book_after_change b change now) } in
     let with_accounts : Accounts → Option BoardLine = λ accounts. Some (record { change = head; accounts = accounts }) in
-    ap (option_map (line (book_after_change b change now))) is ∙ ap (λ after. Some (line after head)) leaves ∙ ap with_accounts (sym told)
+    ap (option_map with_head) is ∙ ap with_accounts (sym told)
+
+-- A note that says what the change changes of the heads stands for that line.
+pub note-told : (h : Heads) (noted : NotedChange) (head : HeadChange) (accounts : Accounts) → change_told h noted ≡ Some head → line_told h (record { change = noted; accounts = accounts }) ≡ Some (record { change = head; accounts = accounts })
+note-told h noted head accounts is =
+    let with_head : HeadChange → BoardLine = λ head. record { change = head; accounts = accounts } in
+    ap (option_map with_head) is
 
 -- what the book is ready for, it may be asked for
 can-step : (b : StoredBook) (step : Step) → IsLawful (plain_of b) → IsReadyForStep b step → CanBeMade (length (plain_of b).tenants) (step_change step)

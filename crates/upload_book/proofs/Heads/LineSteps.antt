@@ -1,10 +1,10 @@
--- The line of each change for which a book is ready, where its row or name and its accounts were found so.
+-- What each change for which a book is ready changes of the heads, where its row was found so, and the accounts after it.
 use Rattle.std.proofs.Common.{◌≡◌, ℕ, ◌+◌, ◌-◌, ◌<◌, ◌≤◌, length, None, Option, Some, ap, ap₂, sym, ◌∙◌, append-nil, arith}
 use Rattle.std.proofs.lemmas.List.Sums.{get_or-le-sum_by}
 use Rattle.upload_book.specs.Account.{blocks_added}
 use Rattle.upload_book.specs.Append.{row_with, upload_with}
 use Rattle.upload_book.specs.Book.{StoredBook, IsBook, plain_of}
-use Rattle.upload_book.specs.Change.{gone_removed, line_of, put_appended, put_created}
+use Rattle.upload_book.specs.Change.{book_after_change, gone_removed, head_change, put_appended, put_created}
 use Rattle.upload_book.specs.Charge.{charge_in, charge_with}
 use Rattle.upload_book.specs.Chunk.{Chunk}
 use Rattle.upload_book.specs.Concat.{final_upload, joined_len, parts_found, rows_of}
@@ -13,6 +13,7 @@ use Rattle.upload_book.specs.declared.board_line.Accounts.{Accounts}
 use Rattle.upload_book.specs.declared.board_line.HeadChange.{HeadChange}
 use Rattle.upload_book.specs.declared.board_line.HeadChange.TheVariants.{Gone, Put}
 use Rattle.upload_book.specs.declared.change.Change.TheVariants as change
+use Rattle.upload_book.specs.declared.head_note.NotedChange.TheVariants.{Created}
 use Rattle.upload_book.specs.declared.head_row.HeadRow.{HeadRow}
 use Rattle.upload_book.specs.declared.head_row.Kind.TheVariants.{Final}
 use Rattle.upload_book.specs.declared.head_row.Name.{Name}
@@ -22,26 +23,27 @@ use Rattle.upload_book.specs.declared.ready.ReadyFinal.{ReadyFinal}
 use Rattle.upload_book.specs.declared.ready.ReadyUpload.{ReadyUpload}
 use Rattle.upload_book.specs.declared.settings.Numbers.{Numbers}
 use Rattle.upload_book.specs.declared.progress.Progress.{Progress}
-use Rattle.upload_book.specs.Heads.{accounts_of}
+use Rattle.upload_book.specs.HeadNotes.{change_told}
+use Rattle.upload_book.specs.Heads.{HeadPart, accounts_of, head_part_at, heads_of}
 use Rattle.upload_book.specs.Lawful.{IsTenantOf}
 use Rattle.upload_book.specs.PlainBook.{tenant_book, with_tenant_book}
 use Rattle.upload_book.specs.Ready.{IsReadyForChunk, IsReadyForEnd, IsReadyForFinal, IsReadyForUpload}
 use Rattle.upload_book.specs.inside.Progress.{progress_in}
 use Rattle.upload_book.specs.BlockStore.{part_at, upload_at}
 use Rattle.upload_book.specs.inside.Places.{without_upload}
-use Rattle.upload_book.specs.TenantBook.{TenantBook, opening_part, with_changed, with_new}
+use Rattle.upload_book.specs.TenantBook.{TenantBook, kept_in, opening_part, with_changed, with_new}
 use Rattle.upload_book.specs.Terminate.{without}
 use Rattle.upload_book.specs.Upload.{Upload, head_row_of, offset_of}
 use Rattle.upload_book.proofs.Lawful.AppendLemmas.{part_after_append-none}
 use Rattle.upload_book.proofs.Steps.BookLemmas.{IsTenantOf-book}
 use Rattle.upload_book.proofs.Steps.BookSteps.{part-plain, part-within, placed-without, seen-kept, seen-placed, seen-visible, stored_tenants-settings}
 use Rattle.upload_book.proofs.Charge.ChargeLemmas.{charge-append, charge-create}
-use Rattle.upload_book.proofs.Heads.HeadsAppend.{appended-none}
+use Rattle.upload_book.proofs.Heads.HeadsAppend.{appended-none, row-stands}
+use Rattle.upload_book.proofs.Heads.HeadParts.{head_part-tenant}
 use Rattle.upload_book.proofs.Lawful.LawfulAppend.{IsAppendable-from_none, offset_of-append}
 use Rattle.upload_book.proofs.Lawful.LawfulConcat.{charge-concat, offset_of-final}
 use Rattle.upload_book.proofs.Lawful.LawfulCreate.{IsCreatable-from_none}
 use Rattle.upload_book.proofs.Lawful.LawfulFewer.{charge-terminate}
-use Rattle.upload_book.proofs.Heads.LineLemmas.{line-is}
 use Rattle.upload_book.proofs.Lawful.Outcomes.{concat_answer-none, create_answer-none, part_after_concat-none, part_after_create-none, part_after_terminate-visible, terminate_answer-visible}
 use Rattle.upload_book.proofs.Steps.PatchSteps.{account_at}
 use Rattle.upload_book.proofs.Charge.RoomLemmas.{room-within}
@@ -66,6 +68,16 @@ paid-small b t added kept there within =
     let inside = part-within b t (stored_tenant-there b t kept there) in
     omega (arith, room-within (plain_of b) t added kept.lawful inside within, get_or-le-sum_by (charge_in b.settings.numbers) (plain_of b).tenants t (opening_part 0) inside, blocks-within b.settings kept.lawful.settings)
 
+-- the name that its next upload gets
+abbrev pub next_name : StoredBook → ℕ → Name
+next_name b t = record { tenant = t; id = (tenant_book (plain_of b) t).next }
+
+-- a row that is noted as that of its new upload is put there
+pub next-told : (b : StoredBook) (t : ℕ) (row : HeadRow) → change_told (heads_of (plain_of b)) (Created t row) ≡ Some (Put (next_name b t) row)
+next-told b t row =
+    let put : HeadPart → Option HeadChange = λ part. Some (Put (record { tenant = t; id = part.next }) row) in
+    ap put (head_part-tenant (plain_of b) t)
+
 -- what a call read of what it pays
 abbrev pub pays : StoredBook → ℕ → ℕ
 pays b t = charge_in b.settings.numbers (tenant_book (plain_of b) t)
@@ -88,47 +100,57 @@ module _ (b : StoredBook) (r : ReadyUpload) (kept : IsBook b) (ready : IsReadyFo
   upload-charged charge is =
       charged-more b.charged (pays b r.tenant) upload_blocks b.settings.numbers.last_total charge is (IsCreatable-from_none b.settings.numbers (account_at b r.tenant) (tenant_book (plain_of b) r.tenant) r.new r.first ready.accepted).unspent
 
-  -- and this is its line
-  pub line-upload : (name : Name) (row : HeadRow) (charge : ℕ) (accounts : Accounts) → name ≡ record { tenant = r.tenant; id = (tenant_book (plain_of b) r.tenant).next }
+  -- these are the accounts after it,
+  pub upload-accounts : (charge : ℕ) (accounts : Accounts) → charge ≡ pays b r.tenant + upload_blocks → Tells b r.tenant charge accounts
+      → accounts ≡ accounts_of (book_after_change (plain_of b) (change.Create r.tenant r.new r.first) r.now)
+  upload-accounts charge accounts is_charge tells =
+      let n : Numbers = b.settings.numbers in
+      let part : TenantBook = tenant_book (plain_of b) r.tenant in
+      let u : Upload = created_upload b.settings.numbers r.new r.first.bytes r.now in
+      tells (with_new part u) (charge-create n part r.new r.first.bytes r.now (sound-part b r.tenant kept ready.there) ∙ sym is_charge)
+      ∙ ap (λ part. accounts_of (with_tenant_book (plain_of b) r.tenant part)) (sym (part_after_create-none n part r.new r.first r.now b.charged ready.accepted))
+
+  -- and this changes of the heads
+  pub upload-head : (row : HeadRow)
       → row ≡ record { kind = new_kind r.new.partial; offset = length r.first.bytes; declared = r.new.length; metadata = r.new.metadata; concat = r.new.concat; expires = r.expires }
-      → charge ≡ pays b r.tenant + upload_blocks → Tells b r.tenant charge accounts
-      → line_of (plain_of b) (change.Create r.tenant r.new r.first) r.now ≡ Some (record { change = Put name row; accounts = accounts })
-  line-upload name row charge accounts is_name is_row is_charge tells =
+      → head_change (plain_of b) (change.Create r.tenant r.new r.first) r.now ≡ Some (Put (next_name b r.tenant) row)
+  upload-head row is_row =
       let n : Numbers = b.settings.numbers in
       let part : TenantBook = tenant_book (plain_of b) r.tenant in
       let u : Upload = created_upload b.settings.numbers r.new r.first.bytes r.now in
       let told : ℕ → Option ℕ → HeadRow = λ offset expires. record { kind = new_kind r.new.partial; offset = offset; declared = r.new.length; metadata = r.new.metadata; concat = r.new.concat; expires = expires } in
-      let put : Name → HeadRow → Option HeadChange = λ name row. Some (Put name row) in
       let rows : row ≡ head_row_of (created_upload b.settings.numbers r.new r.first.bytes r.now) = is_row ∙ ap₂ told (ap (length {A = ℕ}) (sym (append-nil r.first.bytes))) ready.expires in
-      line-is (plain_of b) (with_tenant_book (plain_of b) r.tenant (with_new part u)) (change.Create r.tenant r.new r.first) r.now (Put name row) accounts
-      (ap (put_created u) (create_answer-none r.tenant n part r.new r.first r.now b.charged ready.accepted) ∙ ap₂ put (sym is_name) (sym rows))
-      (ap (with_tenant_book (plain_of b) r.tenant) (part_after_create-none n part r.new r.first r.now b.charged ready.accepted))
-      (tells (with_new part u) (charge-create n part r.new r.first.bytes r.now (sound-part b r.tenant kept ready.there) ∙ sym is_charge))
+      ap (put_created u) (create_answer-none r.tenant n part r.new r.first r.now b.charged ready.accepted) ∙ ap (λ (row : HeadRow). Some (Put (next_name b r.tenant) row)) (sym rows)
 
 module _ (b : StoredBook) (r : ReadyFinal) (kept : IsBook b) (ready : IsReadyForFinal b r) where
   -- what is charged after a concatenation is what was,
   pub final-charged : (charge : ℕ) → charge ≡ pays b r.tenant → b.charged + (charge - pays b r.tenant) ≤ b.settings.numbers.last_total
   final-charged charge is = omega (arith, is, kept.lawful.last)
 
-  -- and this is its line
-  pub line-final : (name : Name) (row : HeadRow) (charge : ℕ) (accounts : Accounts) → name ≡ record { tenant = r.tenant; id = (tenant_book (plain_of b) r.tenant).next }
+  -- these are the accounts after it,
+  pub final-accounts : (charge : ℕ) (accounts : Accounts) → charge ≡ pays b r.tenant → Tells b r.tenant charge accounts
+      → accounts ≡ accounts_of (book_after_change (plain_of b) (change.Concat r.tenant r.new) r.now)
+  final-accounts charge accounts is_charge tells =
+      let n : Numbers = b.settings.numbers in
+      let part : TenantBook = tenant_book (plain_of b) r.tenant in
+      let u : Upload = final_upload (parts_found (tenant_book (plain_of b) r.tenant) r.now r.new.parts) r.new in
+      tells (with_new part u) (charge-concat n part r.new r.now (sound-part b r.tenant kept ready.there) ∙ sym is_charge)
+      ∙ ap (λ part. accounts_of (with_tenant_book (plain_of b) r.tenant part)) (sym (part_after_concat-none n part r.new r.now ready.accepted))
+
+  -- and this changes of the heads
+  pub final-head : (row : HeadRow)
       → row ≡ record { kind = Final; offset = r.len; declared = Some r.len; metadata = r.new.metadata; concat = r.new.concat; expires = None }
-      → charge ≡ pays b r.tenant → Tells b r.tenant charge accounts
-      → line_of (plain_of b) (change.Concat r.tenant r.new) r.now ≡ Some (record { change = Put name row; accounts = accounts })
-  line-final name row charge accounts is_name is_row is_charge tells =
+      → head_change (plain_of b) (change.Concat r.tenant r.new) r.now ≡ Some (Put (next_name b r.tenant) row)
+  final-head row is_row =
       let n : Numbers = b.settings.numbers in
       let part : TenantBook = tenant_book (plain_of b) r.tenant in
       let u : Upload = final_upload (parts_found (tenant_book (plain_of b) r.tenant) r.now r.new.parts) r.new in
       let told : ℕ → ℕ → HeadRow = λ offset len. record { kind = Final; offset = offset; declared = Some len; metadata = r.new.metadata; concat = r.new.concat; expires = None } in
-      let put : Name → HeadRow → Option HeadChange = λ name row. Some (Put name row) in
       let len : r.len ≡ joined_len (rows_of (parts_found (tenant_book (plain_of b) r.tenant) r.now r.new.parts)) =
       ready.len ∙ ap (λ part. joined_len (rows_of (parts_found part r.now r.new.parts))) (sym (part-plain b r.tenant)) in
       let rows : row ≡ head_row_of (final_upload (parts_found (tenant_book (plain_of b) r.tenant) r.now r.new.parts) r.new) =
       is_row ∙ ap₂ told (len ∙ sym (offset_of-final (parts_found (tenant_book (plain_of b) r.tenant) r.now r.new.parts) r.new)) len in
-      line-is (plain_of b) (with_tenant_book (plain_of b) r.tenant (with_new part u)) (change.Concat r.tenant r.new) r.now (Put name row) accounts
-      (ap (put_created u) (concat_answer-none r.tenant n part r.new r.now ready.accepted) ∙ ap₂ put (sym is_name) (sym rows))
-      (ap (with_tenant_book (plain_of b) r.tenant) (part_after_concat-none n part r.new r.now ready.accepted))
-      (tells (with_new part u) (charge-concat n part r.new r.now (sound-part b r.tenant kept ready.there) ∙ sym is_charge))
+      ap (put_created u) (concat_answer-none r.tenant n part r.new r.now ready.accepted) ∙ ap (λ (row : HeadRow). Some (Put (next_name b r.tenant) row)) (sym rows)
 
 -- the row of an upload after a PATCH
 row-appended : (n : Numbers) (u : Upload) (chunk : Chunk) (now : ℕ) (after : Progress) → after ≡ progress_in (row_with n (head_row_of u) chunk now)
@@ -162,21 +184,32 @@ module _ (b : StoredBook) (r : ReadyChunk) (kept : IsBook b) (ready : IsReadyFor
   pub chunk-offset : r.after.offset ≡ offset_of u + length r.chunk.bytes
   chunk-offset = ap (λ (s : Progress). s.offset) ready.after
 
-  -- and this is its line
-  pub line-chunk : (row : HeadRow) (charge : ℕ) (accounts : Accounts) → row ≡ record (head_row_of u) { offset = r.after.offset; declared = r.after.declared; expires = r.after.expires }
-      → charge ≡ pays b r.name.tenant + chunk_blocks → Tells b r.name.tenant charge accounts
-      → line_of (plain_of b) (change.Append r.name r.chunk) r.now ≡ Some (record { change = Put r.name row; accounts = accounts })
-  line-chunk row charge accounts is_row is_charge tells =
+  -- these are the accounts after it,
+  pub chunk-accounts : (charge : ℕ) (accounts : Accounts) → charge ≡ pays b r.name.tenant + chunk_blocks → Tells b r.name.tenant charge accounts
+      → accounts ≡ accounts_of (book_after_change (plain_of b) (change.Append r.name r.chunk) r.now)
+  chunk-accounts charge accounts is_charge tells =
       let n : Numbers = b.settings.numbers in
       let part : TenantBook = tenant_book (plain_of b) r.name.tenant in
       let later : Upload = upload_with b.settings.numbers u r.chunk r.now in
-      let put : HeadRow → Option HeadChange = λ row. Some (Put r.name row) in
       let seen = seen-visible b r.name.tenant r.name.id r.place r.now kept within ready.seen in
       let there = seen-kept b r.name.tenant r.name.id r.place r.now kept within ready.seen in
-      line-is (plain_of b) (with_tenant_book (plain_of b) r.name.tenant (with_changed part r.name.id later)) (change.Append r.name r.chunk) r.now (Put r.name row) accounts
-      (ap (put_appended r.name) (appended-none n part r.name.id r.now b.charged u r.chunk seen ready.accepted) ∙ ap put (sym (is_row ∙ row-appended n u r.chunk r.now r.after ready.after)))
-      (ap (with_tenant_book (plain_of b) r.name.tenant) (part_after_append-none n part r.name.id r.now b.charged u r.chunk seen ready.accepted))
-      (tells (with_changed part r.name.id later) (charge-append n (account_at b r.name.tenant) part r.name.id u r.chunk r.now (sound-part b r.name.tenant kept ready.there) there ready.accepted ∙ sym is_charge))
+      tells (with_changed part r.name.id later) (charge-append n (account_at b r.name.tenant) part r.name.id u r.chunk r.now (sound-part b r.name.tenant kept ready.there) there ready.accepted ∙ sym is_charge)
+      ∙ ap (λ part. accounts_of (with_tenant_book (plain_of b) r.name.tenant part)) (sym (part_after_append-none n part r.name.id r.now b.charged u r.chunk seen ready.accepted))
+
+  -- this changes of the heads,
+  pub chunk-head : (row : HeadRow) → row ≡ record (head_row_of u) { offset = r.after.offset; declared = r.after.declared; expires = r.after.expires }
+      → head_change (plain_of b) (change.Append r.name r.chunk) r.now ≡ Some (Put r.name row)
+  chunk-head row is_row =
+      let n : Numbers = b.settings.numbers in
+      let part : TenantBook = tenant_book (plain_of b) r.name.tenant in
+      let put : HeadRow → Option HeadChange = λ row. Some (Put r.name row) in
+      let seen = seen-visible b r.name.tenant r.name.id r.place r.now kept within ready.seen in
+      ap (put_appended r.name) (appended-none n part r.name.id r.now b.charged u r.chunk seen ready.accepted) ∙ ap put (sym (is_row ∙ row-appended n u r.chunk r.now r.after ready.after))
+
+  -- and the upload has a row there
+  pub chunk-stands : kept_in (head_part_at (heads_of (plain_of b)) r.name.tenant).uploads r.name.id ≡ Some (head_row_of u)
+  chunk-stands =
+      row-stands (plain_of b) r.name.tenant r.name.id r.now u (seen-visible b r.name.tenant r.name.id r.place r.now kept within ready.seen)
 
 module _ (b : StoredBook) (r : ReadyEnd) (kept : IsBook b) (ready : IsReadyForEnd b r) where
   abbrev part : TenantBook
@@ -192,13 +225,16 @@ module _ (b : StoredBook) (r : ReadyEnd) (kept : IsBook b) (ready : IsReadyForEn
   pub end-charged : (charge : ℕ) → charge ≡ charge_with b.store.pool.block_size (without_upload (part_at b.store r.name.tenant) r.place) → b.charged + (charge - pays b r.name.tenant) ≤ b.settings.numbers.last_total
   end-charged charge is = omega (arith, end-pays charge is, charge-terminate b.settings.numbers part r.name.id, kept.lawful.last)
 
-  -- and this is its line
-  pub line-end : (charge : ℕ) (accounts : Accounts) → charge ≡ charge_with b.store.pool.block_size (without_upload (part_at b.store r.name.tenant) r.place) → Tells b r.name.tenant charge accounts
-      → line_of (plain_of b) (change.Terminate r.name) r.now ≡ Some (record { change = Gone r.name; accounts = accounts })
-  line-end charge accounts is tells =
-      let n : Numbers = b.settings.numbers in
+  -- these are the accounts after it,
+  pub end-accounts : (charge : ℕ) (accounts : Accounts) → charge ≡ charge_with b.store.pool.block_size (without_upload (part_at b.store r.name.tenant) r.place) → Tells b r.name.tenant charge accounts
+      → accounts ≡ accounts_of (book_after_change (plain_of b) (change.Terminate r.name) r.now)
+  end-accounts charge accounts is tells =
       let seen = seen-visible b r.name.tenant r.name.id r.place r.now kept ready.there ready.seen in
-      line-is (plain_of b) (with_tenant_book (plain_of b) r.name.tenant (without part r.name.id)) (change.Terminate r.name) r.now (Gone r.name) accounts
-      (ap (gone_removed r.name) (terminate_answer-visible n part r.name.id r.now (upload_at b.store r.name.tenant r.place) seen))
-      (ap (with_tenant_book (plain_of b) r.name.tenant) (part_after_terminate-visible n part r.name.id r.now (upload_at b.store r.name.tenant r.place) seen))
-      (tells (without part r.name.id) (end-pays charge is))
+      tells (without part r.name.id) (end-pays charge is)
+      ∙ ap (λ part. accounts_of (with_tenant_book (plain_of b) r.name.tenant part)) (sym (part_after_terminate-visible b.settings.numbers part r.name.id r.now (upload_at b.store r.name.tenant r.place) seen))
+
+  -- and this changes of the heads
+  pub end-head : head_change (plain_of b) (change.Terminate r.name) r.now ≡ Some (Gone r.name)
+  end-head =
+      let seen = seen-visible b r.name.tenant r.name.id r.place r.now kept ready.there ready.seen in
+      ap (gone_removed r.name) (terminate_answer-visible b.settings.numbers part r.name.id r.now (upload_at b.store r.name.tenant r.place) seen)

@@ -6,8 +6,8 @@ use Rattle.upload_book.specs.Ready.{IsReadyForEnd}
 use Rattle.upload_book.specs.BlockStore.{part_at}
 use Rattle.upload_book.specs.inside.Places.{without_upload}
 use Rattle.upload_book.proofs.Steps.BookSteps.{stored_tenants-settings}
-use Rattle.upload_book.proofs.Heads.LineSteps.{Tells, end-charged, line-end}
-use Rattle.upload_book.proofs.book.Book.line_of_end.Goals as goal
+use Rattle.upload_book.proofs.Heads.LineSteps.{Tells, end-accounts, end-charged}
+use Rattle.upload_book.proofs.book.Book.accounts_after_end.Goals as goal
 
 pub charge_without-charge-requires-clause-tenant : goal.charge_without-charge-requires-clause-tenant
 charge_without-charge-requires-clause-tenant c =
@@ -36,4 +36,4 @@ returns c =
     let ready = subst (λ (b : StoredBook). IsReadyForEnd b c.args.ready.now) (sym c.self.view_is) c.requires in
     let charge = c.charge_without-charge.ensures ∙ ap (λ t. charge_with b.store.pool.block_size (without_upload (part_at b.store t) c.args.ready.now.place)) c.from.ensures in
     let tells = subst (λ (b : StoredBook). Tells b c.args.ready.now.name.tenant c.charge_without-charge.result c.accounts_where.result) (sym c.self.view_is) c.accounts_where.ensures in
-    rw (← c.self.view_is) (line-end b c.args.ready.now c.self.invariant ready c.charge_without-charge.result c.accounts_where.result charge tells)
+    rw (← c.self.view_is) (end-accounts b c.args.ready.now c.self.invariant ready c.charge_without-charge.result c.accounts_where.result charge tells)

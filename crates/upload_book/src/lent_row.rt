@@ -1,0 +1,105 @@
+ghost use Rattle.std.specs.Prelude.{◌≡◌, ◌≤◌, length};
+
+use crate::head_note::Growth;
+use crate::head_row::{HeadRow, Kind};
+use std::marker::Model;
+use tus_text::Text;
+
+/// A row of an upload whose texts are lent: so it is small, however long they are. A contract sees the row.
+#[derive(Drop)]
+pub struct LentRow<'a> {
+    kind: Kind,
+    growth: Growth,
+    metadata: &'a [u8],
+    concat: &'a [u8],
+}
+
+impl<'a> Model for LentRow<'a> {
+    ghost use Rattle.std.specs.Prelude.{◌≤◌, length};
+    ghost use Rattle.upload_book.specs.declared.head_row.HeadRow.{HeadRow};
+
+    ghost Value = { HeadRow };
+
+    ghost view = { λ row. record {
+      kind = row.kind;
+      offset = row.growth.offset;
+      declared = row.growth.declared;
+      metadata = row.metadata.now;
+      concat = row.concat.now;
+      expires = row.growth.expires;
+    } };
+
+    ghost invariant = { λ row. (length row.metadata.now ≤ 1024) × (length row.concat.now ≤ 2048) };
+}
+
+impl<'a> LentRow<'a> {
+    /// The row of an upload that is so far and has these texts: at most 1,024 bytes of metadata, and 2,048 of
+    /// `Upload-Concat`.
+    pub fn new(kind: Kind, growth: Growth, metadata: &'a [u8], concat: &'a [u8]) -> LentRow<'a>
+        requires metadata { length metadata.now ≤ 1024 }
+        requires concat { length concat.now ≤ 2048 }
+        ensures { result ≡ record {
+          kind = kind;
+          offset = growth.offset;
+          declared = growth.declared;
+          metadata = metadata.now;
+          concat = concat.now;
+          expires = growth.expires;
+        } }
+    {
+        LentRow {
+            kind,
+            growth,
+            metadata,
+            concat,
+        }
+    }
+
+    /// What the upload is for.
+    pub fn kind(&self) -> Kind
+        ensures { result ≡ self.now.kind }
+    {
+        self.kind
+    }
+
+    /// How far the upload is, and when it expires.
+    pub fn growth(&self) -> Growth
+        ensures { result ≡ record {
+          offset = self.now.offset;
+          declared = self.now.declared;
+          expires = self.now.expires;
+        } }
+    {
+        self.growth
+    }
+
+    /// `Upload-Metadata`, at most 1,024 bytes.
+    pub fn metadata(&self) -> &'a [u8]
+        ensures value { result.now ≡ self.now.metadata }
+        ensures fits { length result.now ≤ 1024 }
+    {
+        self.metadata
+    }
+
+    /// `Upload-Concat`, at most 2,048 bytes.
+    pub fn concat(&self) -> &'a [u8]
+        ensures value { result.now ≡ self.now.concat }
+        ensures fits { length result.now ≤ 2048 }
+    {
+        self.concat
+    }
+
+    /// The row with texts of its own, which are copied.
+    pub(crate) fn copied(&self) -> HeadRow
+        ensures { result ≡ self.now }
+    {
+        HeadRow {
+            kind: self.kind,
+            offset: self.growth.offset,
+            declared: self.growth.declared,
+            metadata: Text::of(self.metadata),
+            concat: Text::of(self.concat),
+            expires: self.growth.expires,
+        }
+    }
+}
