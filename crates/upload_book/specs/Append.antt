@@ -37,20 +37,34 @@ differ known told = option_map_or (λ n. option_map_or (λ k. not (n == k)) told
 abbrev pub is_too_long : Numbers → ℕ → ℕ → Bool
 is_too_long n most end = nat_lt n.max_size most || nat_lt most end
 
--- the tests of a PATCH of a visible upload with this row, on this account, in their order
-abbrev pub append_tests : Numbers → Account → HeadRow → Chunk → List (Bool × Refusal)
-append_tests n account row chunk =
-    let after = account_with account (blocks_added n row.offset (length chunk.bytes)) in
+-- The tests of a PATCH of a visible upload with this row that come before its checksum is compared, in their order. They
+-- see how many bytes it sends, and no byte.
+abbrev pub tests_by_row : Numbers → HeadRow → Chunk → List (Bool × Refusal)
+tests_by_row n row chunk =
     (is_final row.kind, IsFinal)
     ∷ (not chunk.typed, Media)
     ∷ (not (chunk.offset == row.offset), Offset)
     ∷ (differ row.declared chunk.length, LengthFixed)
     ∷ (is_too_long n (unwrap_or (or_else row.declared chunk.length) n.max_size) (row.offset + length chunk.bytes), TooLong)
     ∷ (is_of_other_algorithm chunk.check, Algorithm)
-    ∷ (is_mismatch chunk.check chunk.bytes, Mismatch)
+    ∷ []
+
+-- why a PATCH is refused by them, if it is
+abbrev pub refusal_by_row : Numbers → HeadRow → Chunk → Option Refusal
+refusal_by_row n row chunk = first_that_holds (tests_by_row n row chunk)
+
+-- the tests that come after them, on this account
+abbrev pub tests_by_bytes : Numbers → Account → HeadRow → Chunk → List (Bool × Refusal)
+tests_by_bytes n account row chunk =
+    let after = account_with account (blocks_added n row.offset (length chunk.bytes)) in
+    (is_mismatch chunk.check chunk.bytes, Mismatch)
     ∷ (nat_lt n.last_total after.charged, Spent)
     ∷ (nat_lt after.quota after.charge, Quota)
     ∷ []
+
+-- all tests of a PATCH of a visible upload with this row, on this account, in their order
+abbrev pub append_tests : Numbers → Account → HeadRow → Chunk → List (Bool × Refusal)
+append_tests n account row chunk = tests_by_row n row chunk ++ tests_by_bytes n account row chunk
 
 -- why a PATCH of a visible upload is refused, if it is
 abbrev pub append_refusal : Numbers → Account → HeadRow → Chunk → Option Refusal

@@ -1,5 +1,6 @@
 -- The step of a GET (RFC 9110, section 9.3.1; tus 1.0.0 leaves it to the server).
-use Rattle.std.specs.Prelude.{ℕ, Bool, not, List, [], ◌∷◌, Result, Ok, Err}
+use Rattle.std.specs.Prelude.{ℕ, ◌<◌, Bool, not, List, [], ◌∷◌, length, Result, Ok, Err}
+use Rattle.std.specs.Result.{IsOkAnd}
 use Rattle.upload_book.specs.declared.refusal.Refusal.{Refusal}
 use Rattle.upload_book.specs.declared.refusal.Refusal.TheVariants.{Unfinished}
 use Rattle.upload_book.specs.declared.settings.Numbers.{Numbers}
@@ -23,3 +24,7 @@ bytes_of (Err refusal) = Err refusal
 -- the bytes of the upload of an id at a moment
 abbrev pub content_answer : ℕ → ℕ → Numbers → TenantBook → Result (List ℕ) Refusal
 content_answer id now n part = bytes_of (visible_upload part id now)
+
+-- a GET that is answered so gives more bytes than there is room for
+abbrev pub LacksRoom : ℕ → Result (List ℕ) Refusal → Type 0
+LacksRoom room answer = IsOkAnd answer (λ bytes. room < length bytes)

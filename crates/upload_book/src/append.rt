@@ -9,11 +9,13 @@ ghost use Rattle.upload_book.specs.inside.Places.{IsVisibleIn};
 ghost use Rattle.upload_book.specs.Refusal.{IsAnswer};
 
 use crate::book::Book;
-use crate::head_row::Name;
+use crate::head_row::{HeadRow, Name};
 use crate::moment::Moment;
-use crate::progress::append_refusal;
+use crate::payload::Payload;
+use crate::progress::{Progress, append_refusal, refusal_by_row};
 use crate::ready::ReadyChunk;
 use crate::refusal::Refusal;
+use crate::settings::Numbers;
 use std::marker::Model;
 use tus_text::Checksum;
 
@@ -29,7 +31,7 @@ pub struct Chunk<'a> {
     pub typed: bool,
     /// `Upload-Checksum`, which came with the bytes.
     pub check: Option<Checksum>,
-    pub bytes: &'a [u8],
+    pub bytes: Payload<'a>,
 }
 
 impl<'a> Model for Chunk<'a> {
@@ -42,8 +44,26 @@ impl<'a> Model for Chunk<'a> {
       length = chunk.length;
       typed = chunk.typed;
       check = chunk.check;
-      bytes = chunk.bytes.now;
+      bytes = chunk.bytes;
     } };
+}
+
+impl<'a> Chunk<'a> {
+    ghost use Rattle.std.specs.Prelude.{Some, IfSome};
+    ghost use Rattle.upload_book.specs.Append.{append_refusal, refusal_by_row};
+    ghost use Rattle.upload_book.specs.declared.account.Account.{Account};
+
+    /// Why a PATCH with these bytes is refused before their checksum is compared, where a HEAD tells this of its upload:
+    /// the first that applies of IsFinal, Media, Offset, LengthFixed, TooLong and Algorithm. While the upload is so,
+    /// the book refuses it for the same, whatever its tenant pays. It looks at no byte and takes no book, so it can
+    /// be asked before a digest is computed.
+    pub fn refusal_by_row(&self, numbers: &Numbers, row: &HeadRow) -> Option<Refusal>
+        ensures value { result ≡ refusal_by_row numbers.now row.now self.now }
+        ensures refused { IfSome result (λ why. (account : Account)
+            → append_refusal numbers.now account row.now self.now ≡ Some why) }
+    {
+        refusal_by_row(numbers, &Progress::of(row), self)
+    }
 }
 
 /// The upload after a PATCH that was accepted.
@@ -144,6 +164,7 @@ impl Book {
         ensures pool { self.new.store.pool ≡ self.old.store.pool }
         ensures unchanged { OnErr result (self.new ≡ self.old) }
     {
+        let more = chunk.bytes.len() as u64;
         let account = self.account(name.tenant);
         let tenant = usize::from(name.tenant);
         let progress = self.store.progress(tenant, place);
@@ -155,7 +176,6 @@ impl Book {
             });
         }
         let after = progress.with(numbers, &chunk, now);
-        let more = chunk.bytes.len() as u64;
         if more > 0 && self.store.reserve(tenant, place, more).is_err() {
             return Err(Refused {
                 refusal: Refusal::Memory,
@@ -187,7 +207,7 @@ impl Book {
             after,
             ..
         } = ready;
-        let bytes = chunk.bytes;
+        let bytes = chunk.bytes.as_slice();
         let tenant = usize::from(name.tenant);
         let appended = Appended {
             offset: after.offset,

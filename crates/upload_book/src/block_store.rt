@@ -1,4 +1,4 @@
-ghost use Rattle.std.specs.Prelude.{◌≡◌, ◌≢◌, ◌+◌, ◌-◌, ◌<◌, ◌≤◌, ◌^◌, ◌==◌, [], length, map, min, position, set, All, None, IfOk, IfErr, IfSome, IfNone, IsOk, IsTrue, OnOk, OnErr};
+ghost use Rattle.std.specs.Prelude.{◌≡◌, ◌≢◌, ◌+◌, ◌-◌, ◌<◌, ◌≤◌, ◌^◌, ◌==◌, [], length, map, min, position, set, vec_capacity, All, None, IfOk, IfErr, IfSome, IfNone, IsOk, IsTrue, OnOk, OnErr};
 ghost use Rattle.std.specs.List.{range_with_len, sum_by};
 ghost use Rattle.block_pool.specs.Blocks.{IsWithinLimits, all_free, free_in, size_of};
 ghost use Rattle.upload_book.specs.Account.{blocks_between};
@@ -236,20 +236,20 @@ impl BlockStore {
         self.stored_tenants[tenant].uploads[place].progress()
     }
 
-    /// The bytes of the upload at a place, copied once. The error is that there was no memory for them, which
-    /// never comes where there are none.
+    /// The bytes of the upload at a place, copied once, into this vector, whatever it had before. The error is that
+    /// it has too little room for them and got no more.
     pub(crate) fn read(
         &self,
-        alloc: Global,
         tenant: usize,
         place: usize,
+        room: Vec<u8>,
     ) -> Result<Vec<u8>, AllocError>
         requires tenant { tenant < length self.now.stored_tenants }
         requires place { place < length (stored_tenant_at self.now tenant).uploads }
         ensures bytes { IfOk result (λ v. v.items ≡ content_of (upload_at self.now tenant place)) }
-        ensures none { content_of (upload_at self.now tenant place) ≡ [] → IsOk result }
+        ensures lacking { OnErr result (vec_capacity room < length (content_of (upload_at self.now tenant place))) }
     {
-        self.stored_tenants[tenant].uploads[place].read(alloc, &self.pool)
+        self.stored_tenants[tenant].uploads[place].read(&self.pool, room)
     }
 
     /// A body of no bytes with room for so many, which a new upload may have. The error is that there was no memory

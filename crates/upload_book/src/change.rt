@@ -1,3 +1,5 @@
+ghost use Rattle.std.specs.Prelude.{◌≡◌};
+
 use crate::append::{Appended, Chunk};
 use crate::concat::NewFinal;
 use crate::create::{Created, FirstChunk, NewUpload};
@@ -28,6 +30,21 @@ pub enum Change<'a> {
     Terminate(Name),
     /// The end of all uploads that have expired.
     Sweep,
+}
+
+impl<'a> Change<'a> {
+    /// Computes the SHA-1 of the bytes that the change sends, where one came with them to be compared with it; it is kept
+    /// with the bytes, and the change stays what it is. So [`crate::Book::prepare`] need not compute it, under a
+    /// lock that may be around the book. It takes no memory.
+    pub fn digest(&mut self)
+        ensures { self.new ≡ self.old }
+    {
+        match self {
+            Change::Create { first, .. } => first.bytes.digest_for(first.check),
+            Change::Append { chunk, .. } => chunk.bytes.digest_for(chunk.check),
+            Change::Concat { .. } | Change::Terminate(_) | Change::Sweep => {}
+        }
+    }
 }
 
 /// What a change that was done gives: what the call gives that makes it.

@@ -2,7 +2,7 @@
 ghost use Rattle.std.specs.Prelude.{◌≡◌};
 ghost use Rattle.upload_book.specs.Checksum.{is_mismatch, is_of_other_algorithm};
 
-use sha1::Sha1;
+use crate::payload::Payload;
 use tus_text::Checksum;
 
 /// Whether the checksum is by an algorithm that this server does not have.
@@ -13,11 +13,11 @@ pub(crate) fn is_of_other_algorithm(check: Option<Checksum>) -> bool
 }
 
 /// Whether the checksum is a digest by SHA-1, and not that of the bytes.
-pub(crate) fn is_mismatch(check: Option<Checksum>, bytes: &[u8]) -> bool
+pub(crate) fn is_mismatch(check: Option<Checksum>, bytes: &Payload) -> bool
     ensures { result ≡ is_mismatch check bytes.now }
 {
     match check {
-        Some(Checksum::Sha1(digest)) => digest != Sha1::digest(bytes),
+        Some(Checksum::Sha1(digest)) => !bytes.has_digest(&digest),
         _ => false,
     }
 }

@@ -1,8 +1,6 @@
-ghost use Rattle.std.specs.Prelude.{◌≡◌, Err};
+ghost use Rattle.std.specs.Prelude.{◌≡◌, [], Err, vec_capacity};
 ghost use Rattle.upload_book.specs.Book.{plain_of};
-ghost use Rattle.upload_book.specs.Content.{content_answer};
-ghost use Rattle.upload_book.specs.Operation.{MayLackMemory};
-ghost use Rattle.upload_book.specs.declared.operation.Operation.TheVariants as operation;
+ghost use Rattle.upload_book.specs.Content.{LacksRoom, content_answer};
 ghost use Rattle.upload_book.specs.PlainBook.{answer_of};
 ghost use Rattle.upload_book.specs.Refusal.{IsAnswer};
 
@@ -50,16 +48,18 @@ impl Content {
 }
 
 impl Book {
-    /// What a GET of an upload gives at `now`: its bytes, which are copied once.
+    /// What a GET of an upload gives at `now`: its bytes, which are copied once, into this vector, whatever it had
+    /// before. Memory is taken only where its capacity is less than they are; whoever reserved it before
+    /// a lock was taken takes none under it.
     ///
     /// It is refused by the first of these that applies: Unknown where the id was never given, Gone
     /// where the upload has ended or expired, and Unfinished where the upload does not have all of its
-    /// bytes; and where none of them does, as Memory where the copy finds no room. An upload without
-    /// bytes needs none.
-    pub fn content(&self, name: &Name, now: Moment) -> Result<Content, Refusal>
+    /// bytes; and where none of them does, as Memory where the vector has too little room and got no more.
+    /// An upload without bytes needs none.
+    pub fn content(&self, name: &Name, now: Moment, room: Vec<u8>) -> Result<Content, Refusal>
         ensures { IsAnswer
             (answer_of (plain_of self.now) name.now.tenant (content_answer name.now.id now))
-            (MayLackMemory (plain_of self.now) (operation.Content name.now) now)
+            (LacksRoom (vec_capacity room) (answer_of (plain_of self.now) name.now.tenant (content_answer name.now.id now)))
             (Err Refusal.Memory) result }
     {
         let place = self.store.place(name, now)?;
@@ -67,9 +67,16 @@ impl Book {
         if !self.store.progress(tenant, place).is_complete() {
             return Err(Refusal::Unfinished);
         }
-        match self.store.read(self.alloc, tenant, place) {
+        match self.store.read(tenant, place, room) {
             Ok(bytes) => Ok(Content::of(bytes)),
             Err(_) => Err(Refusal::Memory),
         }
+    }
+
+    /// A vector without room, for a GET for which nobody reserved any.
+    pub fn no_room(&self) -> Vec<u8>
+        ensures { result.items ≡ [] }
+    {
+        Vec::new(self.alloc)
     }
 }

@@ -17,6 +17,7 @@ use crate::checksum::{is_mismatch, is_of_other_algorithm};
 use crate::expiry::{lifetime_end, renewed};
 use crate::head_row::{Kind, Name};
 use crate::moment::Moment;
+use crate::payload::Payload;
 use crate::ready::ReadyUpload;
 use crate::refusal::Refusal;
 use crate::settings::Numbers;
@@ -79,7 +80,7 @@ pub struct FirstChunk<'a> {
     pub typed: bool,
     /// `Upload-Checksum`, which came with the bytes.
     pub check: Option<Checksum>,
-    pub bytes: &'a [u8],
+    pub bytes: Payload<'a>,
 }
 
 impl<'a> Model for FirstChunk<'a> {
@@ -90,8 +91,23 @@ impl<'a> Model for FirstChunk<'a> {
     ghost view = { λ first. record {
       typed = first.typed;
       check = first.check;
-      bytes = first.bytes.now;
+      bytes = first.bytes;
     } };
+}
+
+impl<'a> FirstChunk<'a> {
+    ghost use Rattle.upload_book.specs.FirstChunk.{no_chunk};
+
+    /// No bytes: what a creation carries that sends none.
+    pub fn none() -> FirstChunk<'a>
+        ensures { result ≡ no_chunk }
+    {
+        FirstChunk {
+            typed: true,
+            check: None,
+            bytes: Payload::new(b""),
+        }
+    }
 }
 
 /// The upload that was created.
@@ -118,14 +134,9 @@ impl Book {
             (part_after_create_empty new.entry now) }
         ensures refused { OnErr result (self.new ≡ self.old) }
     {
-        let none = FirstChunk {
-            typed: true,
-            check: None,
-            bytes: b"",
-        };
         // the settings tell that the book is lawful, so no more was charged than may be
         let _lawful = self.settings();
-        self.create_with(tenant, new, none, now)
+        self.create_with(tenant, new, FirstChunk::none(), now)
     }
 
     /// Creates an upload of the tenant at this place, under the next id, with its first bytes. They are copied
@@ -228,7 +239,7 @@ impl Book {
             body,
             ..
         } = ready;
-        let bytes = first.bytes;
+        let bytes = first.bytes.as_slice();
         let place = usize::from(tenant);
         let id = self.store.next(place);
         let created = Created {
@@ -269,7 +280,7 @@ fn creation_refusal(
         Some(Refusal::TooLong)
     } else if is_of_other_algorithm(first.check) {
         Some(Refusal::Algorithm)
-    } else if is_mismatch(first.check, first.bytes) {
+    } else if is_mismatch(first.check, &first.bytes) {
         Some(Refusal::Mismatch)
     } else if store.count(tenant) as u64 >= numbers.uploads {
         Some(Refusal::Uploads)

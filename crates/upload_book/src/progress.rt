@@ -1,5 +1,5 @@
-ghost use Rattle.std.specs.Prelude.{◌≡◌, ◌+◌, ◌<◌, ◌≤◌, ◌^◌, length};
-ghost use Rattle.upload_book.specs.Append.{append_refusal, differ, row_with};
+ghost use Rattle.std.specs.Prelude.{◌≡◌, ◌+◌, ◌<◌, ◌≤◌, ◌^◌, length, nat_lt};
+ghost use Rattle.upload_book.specs.Append.{append_refusal, differ, refusal_by_row, row_with};
 ghost use Rattle.upload_book.specs.inside.Progress.{row_at, progress_in};
 ghost use Rattle.upload_book.specs.Upload.{is_reached};
 
@@ -7,7 +7,7 @@ use crate::account::Account;
 use crate::append::Chunk;
 use crate::checksum::{is_mismatch, is_of_other_algorithm};
 use crate::expiry::{lifetime_end, renewed};
-use crate::head_row::Kind;
+use crate::head_row::{HeadRow, Kind};
 use crate::moment::Moment;
 use crate::refusal::Refusal;
 use crate::settings::Numbers;
@@ -22,6 +22,18 @@ pub(crate) struct Progress {
 }
 
 impl Progress {
+    /// How far an upload is of which a HEAD tells this.
+    pub(crate) fn of(row: &HeadRow) -> Progress
+        ensures { result ≡ progress_in row.now }
+    {
+        Progress {
+            kind: row.kind,
+            offset: row.offset,
+            declared: row.declared,
+            expires: row.expires,
+        }
+    }
+
     /// Whether the upload has all of its bytes.
     pub(crate) fn is_complete(&self) -> bool
         ensures { result ≡ is_reached self.now.declared self.now.offset }
@@ -46,6 +58,34 @@ impl Progress {
     }
 }
 
+/// Why a PATCH of an upload is refused before its checksum is compared, if it is.
+pub(crate) fn refusal_by_row(
+    numbers: &Numbers,
+    progress: &Progress,
+    chunk: &Chunk,
+) -> Option<Refusal>
+    ensures { result ≡ refusal_by_row numbers.now (row_at progress.now) chunk.now }
+{
+    let max_size = numbers.max_size;
+    let most = progress.declared.or(chunk.length).unwrap_or(max_size);
+    let len = chunk.bytes.len() as u64;
+    if progress.kind == Kind::Final {
+        Some(Refusal::IsFinal)
+    } else if !chunk.typed {
+        Some(Refusal::Media)
+    } else if chunk.offset != progress.offset {
+        Some(Refusal::Offset)
+    } else if differ(progress.declared, chunk.length) {
+        Some(Refusal::LengthFixed)
+    } else if most > max_size || ends_past(progress.offset, len, most) {
+        Some(Refusal::TooLong)
+    } else if is_of_other_algorithm(chunk.check) {
+        Some(Refusal::Algorithm)
+    } else {
+        None
+    }
+}
+
 /// Why a PATCH of an upload is refused on its tenant's account, if it is.
 pub(crate) fn append_refusal(
     numbers: &Numbers,
@@ -59,25 +99,13 @@ pub(crate) fn append_refusal(
     requires charged { account.now.charged ≤ numbers.now.last_total }
     ensures { result ≡ append_refusal numbers.now account.now (row_at progress.now) chunk.now }
 {
-    let max_size = numbers.max_size;
     let last_total = numbers.last_total;
-    let most = progress.declared.or(chunk.length).unwrap_or(max_size);
     let end = progress.offset + chunk.bytes.len() as u64;
     let size = numbers.block_size;
     let added = end.div_ceil(size) - progress.offset.div_ceil(size);
-    if progress.kind == Kind::Final {
-        Some(Refusal::IsFinal)
-    } else if !chunk.typed {
-        Some(Refusal::Media)
-    } else if chunk.offset != progress.offset {
-        Some(Refusal::Offset)
-    } else if differ(progress.declared, chunk.length) {
-        Some(Refusal::LengthFixed)
-    } else if most > max_size || end > most {
-        Some(Refusal::TooLong)
-    } else if is_of_other_algorithm(chunk.check) {
-        Some(Refusal::Algorithm)
-    } else if is_mismatch(chunk.check, chunk.bytes) {
+    if let Some(refusal) = refusal_by_row(numbers, progress, chunk) {
+        Some(refusal)
+    } else if is_mismatch(chunk.check, &chunk.bytes) {
         Some(Refusal::Mismatch)
     } else if added > last_total - account.charged {
         Some(Refusal::Spent)
@@ -85,6 +113,16 @@ pub(crate) fn append_refusal(
         Some(Refusal::Quota)
     } else {
         None
+    }
+}
+
+// Whether so many bytes after an offset end past a length.
+fn ends_past(offset: u64, len: u64, most: u64) -> bool
+    ensures { result ≡ nat_lt most (offset + len) }
+{
+    match offset.checked_add(len) {
+        Some(end) => end > most,
+        None => true,
     }
 }
 

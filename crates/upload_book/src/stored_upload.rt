@@ -194,14 +194,16 @@ impl StoredUpload {
         }
     }
 
-    /// The bytes of the upload, copied once out of the pool. The error is that there was no memory for them,
-    /// which never comes where there are none.
-    pub(crate) fn read(&self, alloc: Global, pool: &Pool) -> Result<Vec<u8>, AllocError>
+    /// The bytes of the upload, copied once out of the pool into this vector, whatever it had before. The error is
+    /// that it has too little room for them and got no more.
+    pub(crate) fn read(&self, pool: &Pool, room: Vec<u8>) -> Result<Vec<u8>, AllocError>
         requires { AreBodies pool.now self.now.kept.pieces }
         ensures bytes { IfOk result (λ v. v.items ≡ upload_content_of (upload_of pool.now self.now.kept)) }
-        ensures none { pieces_len self.now.kept.pieces ≡ 0 → IsOk result }
+        ensures lacking { OnErr result (vec_capacity room < pieces_len self.now.kept.pieces) }
     {
-        let mut bytes = Vec::with_capacity(alloc, self.offset() as usize)?;
+        let mut bytes = room;
+        bytes.clear();
+        bytes.reserve_exact(self.offset() as usize)?;
         self.read_onto(pool, &mut bytes);
         Ok(bytes)
     }

@@ -9,7 +9,7 @@ use std::alloc::Global;
 use std::process::Abort;
 use tus_text::{Checksum, Concat, read_concat};
 use upload_book::{
-    Appended, Book, Chunk, Moment, Name, NewFinal, NewUpload, Numbers, Refused, Settings,
+    Appended, Book, Chunk, Moment, Name, NewFinal, NewUpload, Numbers, Payload, Refused, Settings,
 };
 
 pub const ACME: &[u8] = b"acme";
@@ -83,7 +83,7 @@ pub fn patch(
         length: None,
         typed: true,
         check: None,
-        bytes,
+        bytes: Payload::new(bytes),
     };
     book.append(&acme(id), chunk, moment(rt, 1000))
 }

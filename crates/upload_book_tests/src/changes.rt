@@ -9,7 +9,7 @@ use crate::plain::PlainBook;
 use std::process::Abort;
 use upload_book::{
     Appended, BoardLine, Book, Change, Chunk, FirstChunk, HeadChange, Kind, Moment, Name,
-    NewUpload, Outcome, Refusal, Refused,
+    NewUpload, Outcome, Payload, Refusal, Refused,
 };
 
 fn hello<'a>() -> Chunk<'a> {
@@ -18,7 +18,7 @@ fn hello<'a>() -> Chunk<'a> {
         length: None,
         typed: true,
         check: None,
-        bytes: b"hello",
+        bytes: Payload::new(b"hello"),
     }
 }
 
@@ -26,7 +26,7 @@ fn no_bytes<'a>() -> FirstChunk<'a> {
     FirstChunk {
         typed: true,
         check: None,
-        bytes: b"",
+        bytes: Payload::new(b""),
     }
 }
 

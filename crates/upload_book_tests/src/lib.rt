@@ -15,6 +15,8 @@ mod joins;
 #[cfg(test)]
 mod memory;
 #[cfg(test)]
+mod payloads;
+#[cfg(test)]
 mod plain;
 #[cfg(test)]
 mod quotas;

@@ -9,7 +9,8 @@ use std::io::Print;
 use std::process::Abort;
 use std::test::Fail;
 use upload_book::{
-    Appended, Book, Content, Created, FirstChunk, Moment, Numbers, Refusal, Refused, Settings,
+    Appended, Book, Content, Created, FirstChunk, Moment, Numbers, Payload, Refusal, Refused,
+    Settings,
 };
 
 // How far acme's first three uploads are, what acme and beta pay, how many blocks are free, and the two totals.
@@ -78,7 +79,7 @@ fn create(rt: &impl Abort, book: &mut Book) -> Result<Created, Refusal> {
     let first = FirstChunk {
         typed: true,
         check: None,
-        bytes: b"hello",
+        bytes: Payload::new(b"hello"),
     };
     book.create_with(tenant, new, first, moment(rt, 1000))
 }
@@ -120,12 +121,12 @@ fn content(
     id: u64,
 ) -> Result<Content, Refusal> {
     let before = seen(rt, book);
-    let answer = book.content(&acme(id), moment(rt, 1000));
+    let answer = book.content(&acme(id), moment(rt, 1000), book.no_room());
     let Err(Refusal::Memory) = answer else {
         return answer;
     };
     note_lacking(rt, book, &before, is_lacking);
-    book.content(&acme(id), moment(rt, 1000))
+    book.content(&acme(id), moment(rt, 1000), book.no_room())
 }
 
 // Asserts that a GET gives these bytes, if not at once then where memory was lacking for the first.

@@ -253,10 +253,13 @@ impl PlainBook {
             (!first.typed, Refusal::Media),
             (self.is_too_long(length, len), Refusal::TooLong),
             (is_other(first.check), Refusal::Algorithm),
-            (differs(first.check, first.bytes), Refusal::Mismatch),
+            (
+                differs(first.check, first.bytes.as_slice()),
+                Refusal::Mismatch,
+            ),
         ])?;
         let id = self.next(tenant);
-        let bytes = Vec::from_slice(self.alloc, first.bytes).expect(rt, "memory");
+        let bytes = Vec::from_slice(self.alloc, first.bytes.as_slice()).expect(rt, "memory");
         let segment = Segment { origin: id, bytes };
         let upload = Upload {
             name: Name { tenant, id },
@@ -338,7 +341,10 @@ impl PlainBook {
             (other, Refusal::LengthFixed),
             (self.is_too_long(length, offset), Refusal::TooLong),
             (is_other(chunk.check), Refusal::Algorithm),
-            (differs(chunk.check, chunk.bytes), Refusal::Mismatch),
+            (
+                differs(chunk.check, chunk.bytes.as_slice()),
+                Refusal::Mismatch,
+            ),
             (charged > self.numbers.last_total, Refusal::Spent),
             (charge > self.quota(tenant), Refusal::Quota),
         ])
@@ -365,7 +371,7 @@ impl PlainBook {
         let expires = self.touched(kind, length == Some(offset), expires, now);
         for upload in self.uploads.iter_mut() {
             if upload.name == *name {
-                upload.append(rt, chunk.bytes, length, expires);
+                upload.append(rt, chunk.bytes.as_slice(), length, expires);
             }
         }
         self.settle(name.tenant, before);

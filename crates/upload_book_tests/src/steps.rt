@@ -8,7 +8,7 @@ use std::process::Abort;
 use tus_text::Checksum;
 use upload_book::{
     Appended, Book, Chunk, Content, Created, FirstChunk, HeadRow, Kind, Moment, Name, Numbers,
-    Refusal, Refused, Removed, Swept,
+    Payload, Refusal, Refused, Removed, Swept,
 };
 
 /// A call of a book.
@@ -233,7 +233,7 @@ impl Pair {
 
     // Asserts what a GET gives.
     fn assert_content(&self, rt: &impl Abort, place: usize, name: Name, now: Moment, told: Told) {
-        let answer = self.book.content(&name, now);
+        let answer = self.book.content(&name, now, self.book.no_room());
         let plainly = self.plain.content(rt, &name, now);
         assert_told(rt, place, [bytes(&answer), plain_bytes(&plainly)], told);
     }
@@ -284,7 +284,7 @@ fn first<'a>(typed: bool, check: Option<Checksum>, bytes: &'a [u8]) -> FirstChun
     FirstChunk {
         typed,
         check,
-        bytes,
+        bytes: Payload::new(bytes),
     }
 }
 
@@ -295,7 +295,7 @@ fn typed<'a>(offset: u64, length: Option<u64>, bytes: &'a [u8]) -> Chunk<'a> {
         length,
         typed: true,
         check: None,
-        bytes,
+        bytes: Payload::new(bytes),
     }
 }
 
@@ -306,7 +306,7 @@ fn checked<'a>(offset: u64, check: Checksum, bytes: &'a [u8]) -> Chunk<'a> {
         length: None,
         typed: true,
         check: Some(check),
-        bytes,
+        bytes: Payload::new(bytes),
     }
 }
 
@@ -317,7 +317,7 @@ fn untyped<'a>(bytes: &'a [u8]) -> Chunk<'a> {
         length: None,
         typed: false,
         check: None,
-        bytes,
+        bytes: Payload::new(bytes),
     }
 }
 

@@ -4,7 +4,7 @@ use crate::books::{ACME, BETA, NUMBERS, acme, moment, new_book, new_final, part}
 use std::process::Abort;
 use tus_text::check_metadata;
 use upload_book::{
-    Book, Chunk, Created, Kind, Moment, Name, NewFinal, NewUpload, Refusal, Refused,
+    Book, Chunk, Created, Kind, Moment, Name, NewFinal, NewUpload, Payload, Refusal, Refused,
 };
 
 const METADATA: &[u8] = b"a YQ==,b";
@@ -66,7 +66,7 @@ fn a_final_upload_keeps_its_texts(rt: HostRuntime) {
 fn assert_unknown(rt: &impl Abort, book: &mut Book, name: &Name) {
     let now = moment(rt, 1000);
     assert!(rt; book.look(name, now).err() == Some(Refusal::Unknown));
-    assert!(rt; book.content(name, now).err() == Some(Refusal::Unknown));
+    assert!(rt; book.content(name, now, book.no_room()).err() == Some(Refusal::Unknown));
     assert!(rt; book.terminate(name, now).err() == Some(Refusal::Unknown));
 }
 
@@ -77,7 +77,7 @@ fn assert_no_append(rt: &impl Abort, book: &mut Book, name: &Name) {
         length: None,
         typed: true,
         check: None,
-        bytes: b"x",
+        bytes: Payload::new(b"x"),
     };
     let refused = Refused {
         refusal: Refusal::Unknown,
@@ -95,9 +95,9 @@ fn a_tenant_that_is_not_there(rt: HostRuntime) {
     assert_no_append(&rt, &mut book, &name);
 }
 
-// A GET of acme's first upload hands over these bytes.
-fn assert_handed_over(rt: &impl Abort, book: &Book, bytes: &[u8]) {
-    let content = book.content(&acme(1), moment(rt, 1000));
+// A GET of acme's first upload hands over these bytes, whatever the vector had into which they are copied.
+fn assert_handed_over(rt: &impl Abort, book: &Book, room: Vec<u8>, bytes: &[u8]) {
+    let content = book.content(&acme(1), moment(rt, 1000), room);
     let content = content.expect(rt, "a content").into_vec();
     assert!(rt; content.as_slice() == bytes);
 }
@@ -106,5 +106,7 @@ fn assert_handed_over(rt: &impl Abort, book: &Book, bytes: &[u8]) {
 fn a_content_is_handed_over(rt: HostRuntime) {
     let mut book = new_book(&rt, rt.alloc(), NUMBERS);
     part(&rt, &mut book, b"abcde");
-    assert_handed_over(&rt, &book, b"abcde");
+    assert_handed_over(&rt, &book, book.no_room(), b"abcde");
+    let used = Vec::from_slice(rt.alloc(), b"others");
+    assert_handed_over(&rt, &book, used.expect(&rt, "memory"), b"abcde");
 }

@@ -1,10 +1,9 @@
-use Rattle.std.proofs.Common.{◌≡◌, ◌≢◌, [], true, Ok, inl, inr, refl, ap, sym, subst, ◌∙◌}
-use Rattle.std.specs.Result.{IsOkAnd}
-use Rattle.std.proofs.lemmas.Bool.{false≢true}
+use Rattle.std.proofs.Common.{◌≡◌, true, false, Ok, Err, inl, inr, refl, ap, sym, subst, ◌∙◌}
 use Rattle.std.proofs.lemmas.Result.{err_from_is_err_and}
-use Rattle.upload_book.specs.Content.{bytes_of, content_answer, content_told}
+use Rattle.upload_book.specs.Content.{LacksRoom, bytes_of, content_answer, content_told}
 use Rattle.upload_book.specs.contracts.book.Book.{the_view}
 use Rattle.upload_book.specs.declared.progress.Progress.{Progress}
+use Rattle.upload_book.specs.declared.refusal.Refusal.TheVariants.{Unfinished}
 use Rattle.upload_book.specs.BlockStore.{upload_at}
 use Rattle.upload_book.specs.Upload.{Upload, content_of, is_complete, is_reached}
 use Rattle.upload_book.proofs.Steps.BookSteps.{answer-plain}
@@ -19,6 +18,17 @@ returns-in_err-place c =
 told : (u : Upload) → is_complete u ≡ true → content_told u ≡ Ok (content_of u)
 told u complete = rw complete refl
 
+-- and one that is not does not
+untold : (u : Upload) → is_complete u ≡ false → content_told u ≡ Err Unfinished
+untold u unfinished = rw unfinished refl
+
+pub returns-then-not-is_complete : goal.returns-then-not-is_complete
+returns-then-not-is_complete c =
+    let at = rw c.from-tenant.ensures at c.progress.ensures in
+    let u : Upload = upload_at c.self.inside.store c.args.name.now.tenant c.in_ok-place.place in
+    let unfinished : is_complete u ≡ false = ap (λ (s : Progress). is_reached s.declared s.offset) (sym at) ∙ sym c.is_complete.ensures ∙ c.if-not-is_complete.true in
+    inl (rw (← c.self.view_is) (sym (answer-plain (the_view c.self.inside) c.args.name.now.tenant (content_answer c.args.name.now.id c.args.now) ∙ ap bytes_of c.in_ok-place.ensures.visible.visible ∙ untold u unfinished)))
+
 pub returns-in-Ok : goal.returns-in-Ok
 returns-in-Ok c =
     let at = rw c.from-tenant.ensures at c.progress.ensures in
@@ -30,8 +40,8 @@ returns-in-Ok c =
 pub returns-in-Err : goal.returns-in-Err
 returns-in-Err c =
     let at = rw c.from-tenant.ensures at c.progress.ensures in
-    let none = rw c.from-tenant.ensures at c.in-Err.ensures.none in
+    let lacks = rw c.from-tenant.ensures at c.in-Err.ensures.lacking in
     let u : Upload = upload_at c.self.inside.store c.args.name.now.tenant c.in_ok-place.place in
     let complete : is_complete u ≡ true = ap (λ (s : Progress). is_reached s.declared s.offset) (sym at) ∙ sym c.is_complete.ensures ∙ c.if-not-is_complete.false in
     let answer = answer-plain (the_view c.self.inside) c.args.name.now.tenant (content_answer c.args.name.now.id c.args.now) ∙ ap bytes_of c.in_ok-place.ensures.visible.visible ∙ told u complete in
-    inr (rw (← c.self.view_is) (subst (λ answer. IsOkAnd answer (λ bytes. bytes ≢ [])) (sym answer) (λ empty. false≢true (none empty))), refl)
+    inr (rw (← c.self.view_is) (subst (LacksRoom _) (sym answer) lacks), refl)

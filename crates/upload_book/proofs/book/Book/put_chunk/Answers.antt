@@ -80,8 +80,8 @@ invariant_of-self c =
     let r = c.args.ready in
     let ready = ready_as b c.args.self.now r c.self.view_is c.requires in
     let within = stored_tenant_there b r c.self.invariant ready in
-    let bytes : c.chunk.inside.bytes.now ≡ r.chunk.bytes = ap (λ (chunk : Chunk). chunk.bytes) c.chunk.view_is in
-    let empty : [] ≡ r.chunk.bytes = sym (no_bytes c.chunk.inside.bytes.now c.is_empty.result c.is_empty.ensures c.if-is_empty.true) ∙ bytes in
+    let bytes : c.as_slice-bytes.result.now ≡ r.chunk.bytes = c.as_slice-bytes.ensures ∙ ap (λ (chunk : Chunk). chunk.bytes) c.chunk.view_is in
+    let empty : [] ≡ r.chunk.bytes = sym (no_bytes c.as_slice-bytes.result.now c.is_empty.result c.is_empty.ensures c.if-is_empty.true) ∙ bytes in
     let follows = patch-follows b r.name.tenant r.name.id r.place r.now r.chunk c.self.invariant within ready.seen ready.accepted c.renew.new.self [] r.after empty ready.after (rw c.from-tenant.ensures at c.renew.ensures.plain) (record { blocks = ap size_of c.renew.ensures.pool; bytes = ap (λ (p : Blocks). p.block_size) c.renew.ensures.pool }) c.renew.ensures.room_stays in
     IsBook-patch b r.name.tenant r.name.id r.place r.now r.chunk c.self.invariant within ready.seen ready.accepted c.renew.new.self b.charged c.set_end.new.self follows (patch-free b r.name.tenant r.name.id r.place r.now r.chunk c.self.invariant within ready.seen ready.accepted (sym empty)) (index b r c.from-tenant.result c.expires-before.result c.set_end.new.self c.self.invariant ready c.from-tenant.ensures c.expires-before.ensures c.set_end.ensures.ends c.set_end.ensures.room_stays)
 
@@ -98,8 +98,8 @@ returns-then-is_empty-clause-after c =
     let r = c.args.ready in
     let ready = ready_as b c.args.self.now r c.self.view_is c.requires in
     let within = stored_tenant_there b r c.self.invariant ready in
-    let bytes : c.chunk.inside.bytes.now ≡ r.chunk.bytes = ap (λ (chunk : Chunk). chunk.bytes) c.chunk.view_is in
-    let empty : [] ≡ r.chunk.bytes = sym (no_bytes c.chunk.inside.bytes.now c.is_empty.result c.is_empty.ensures c.if-is_empty.true) ∙ bytes in
+    let bytes : c.as_slice-bytes.result.now ≡ r.chunk.bytes = c.as_slice-bytes.ensures ∙ ap (λ (chunk : Chunk). chunk.bytes) c.chunk.view_is in
+    let empty : [] ≡ r.chunk.bytes = sym (no_bytes c.as_slice-bytes.result.now c.is_empty.result c.is_empty.ensures c.if-is_empty.true) ∙ bytes in
     let follows = patch-follows b r.name.tenant r.name.id r.place r.now r.chunk c.self.invariant within ready.seen ready.accepted c.renew.new.self [] r.after empty ready.after (rw c.from-tenant.ensures at c.renew.ensures.plain) (record { blocks = ap size_of c.renew.ensures.pool; bytes = ap (λ (p : Blocks). p.block_size) c.renew.ensures.pool }) c.renew.ensures.room_stays in
     rw (← c.self.view_is) (plain-patch b r.name.tenant r.name.id r.place r.now r.chunk c.self.invariant within ready.seen ready.accepted c.renew.new.self b.charged follows (patch-free b r.name.tenant r.name.id r.place r.now r.chunk c.self.invariant within ready.seen ready.accepted (sym empty)))
 
@@ -108,8 +108,8 @@ put-requires-clause-alone c =
     let b = the_view c.self.inside in
     let r = c.args.ready in
     let ready = ready_as b c.args.self.now r c.self.view_is c.requires in
-    let bytes : c.chunk.inside.bytes.now ≡ r.chunk.bytes = ap (λ (chunk : Chunk). chunk.bytes) c.chunk.view_is in
-    let some : 0 < length r.chunk.bytes = subst (λ (bytes : List ℕ). 0 < length bytes) bytes (some_bytes c.chunk.inside.bytes.now c.is_empty.result c.is_empty.ensures c.if-is_empty.false) in
+    let bytes : c.as_slice-bytes.result.now ≡ r.chunk.bytes = c.as_slice-bytes.ensures ∙ ap (λ (chunk : Chunk). chunk.bytes) c.chunk.view_is in
+    let some : 0 < length r.chunk.bytes = subst (λ (bytes : List ℕ). 0 < length bytes) bytes (some_bytes c.as_slice-bytes.result.now c.is_empty.result c.is_empty.ensures c.if-is_empty.false) in
     rw c.from-tenant.ensures (patch-alone b r.name.tenant r.name.id r.place r.now r.chunk c.self.invariant (stored_tenant_there b r c.self.invariant ready) ready.seen ready.accepted some)
 
 pub put-requires-clause-room : goal.put-requires-clause-room
@@ -117,7 +117,7 @@ put-requires-clause-room c =
     let b = the_view c.self.inside in
     let r = c.args.ready in
     let ready = ready_as b c.args.self.now r c.self.view_is c.requires in
-    let bytes : c.chunk.inside.bytes.now ≡ r.chunk.bytes = ap (λ (chunk : Chunk). chunk.bytes) c.chunk.view_is in
+    let bytes : c.as_slice-bytes.result.now ≡ r.chunk.bytes = c.as_slice-bytes.ensures ∙ ap (λ (chunk : Chunk). chunk.bytes) c.chunk.view_is in
     rw (c.from-tenant.ensures, bytes) (patch-room b r.name.tenant r.name.id r.place r.now r.chunk c.self.invariant (stored_tenant_there b r c.self.invariant ready) ready.seen ready.accepted)
 
 pub put-requires-clause-listed : goal.put-requires-clause-listed
@@ -125,8 +125,8 @@ put-requires-clause-listed c =
     let b = the_view c.self.inside in
     let r = c.args.ready in
     let ready = ready_as b c.args.self.now r c.self.view_is c.requires in
-    let bytes : c.chunk.inside.bytes.now ≡ r.chunk.bytes = ap (λ (chunk : Chunk). chunk.bytes) c.chunk.view_is in
-    let some : 0 < length r.chunk.bytes = subst (λ (bytes : List ℕ). 0 < length bytes) bytes (some_bytes c.chunk.inside.bytes.now c.is_empty.result c.is_empty.ensures c.if-is_empty.false) in
+    let bytes : c.as_slice-bytes.result.now ≡ r.chunk.bytes = c.as_slice-bytes.ensures ∙ ap (λ (chunk : Chunk). chunk.bytes) c.chunk.view_is in
+    let some : 0 < length r.chunk.bytes = subst (λ (bytes : List ℕ). 0 < length bytes) bytes (some_bytes c.as_slice-bytes.result.now c.is_empty.result c.is_empty.ensures c.if-is_empty.false) in
     rw c.from-tenant.ensures (subst (λ (bytes : List ℕ). HasRoom b.store.pool (own_chain (entry_at b.store r.name.tenant r.place).kept.pieces) (length bytes)) (sym bytes) (ready.room some))
 
 -- what is charged in all fits
@@ -138,7 +138,7 @@ overflow_add-self c =
     let b = the_view c.self.inside in
     let r = c.args.ready in
     let ready = ready_as b c.args.self.now r c.self.view_is c.requires in
-    let bytes : c.chunk.inside.bytes.now ≡ r.chunk.bytes = ap (λ (chunk : Chunk). chunk.bytes) c.chunk.view_is in
+    let bytes : c.as_slice-bytes.result.now ≡ r.chunk.bytes = c.as_slice-bytes.ensures ∙ ap (λ (chunk : Chunk). chunk.bytes) c.chunk.view_is in
     fits_taken b.charged c.put.result (blocks_between b.store.pool.block_size (offset_of (upload_at b.store r.name.tenant r.place)) (length r.chunk.bytes)) b.settings.numbers.last_total (subst (λ (n : Numbers). n.last_total < 18446744073709551616) c.numbers-in_range.ensures.value c.numbers-in_range.ensures.last_total) (rw (c.from-tenant.ensures, bytes) at c.put.ensures.taken)
     (patch-charged b r.name.tenant r.name.id r.place r.now r.chunk c.self.invariant (stored_tenant_there b r c.self.invariant ready) ready.seen ready.accepted)
 
@@ -148,9 +148,9 @@ invariant_of-self-2 c =
     let r = c.args.ready in
     let ready = ready_as b c.args.self.now r c.self.view_is c.requires in
     let within = stored_tenant_there b r c.self.invariant ready in
-    let bytes : c.chunk.inside.bytes.now ≡ r.chunk.bytes = ap (λ (chunk : Chunk). chunk.bytes) c.chunk.view_is in
-    let follows = patch-follows b r.name.tenant r.name.id r.place r.now r.chunk c.self.invariant within ready.seen ready.accepted c.put.new.self c.chunk.inside.bytes.now r.after bytes ready.after (rw c.from-tenant.ensures at c.put.ensures.plain) c.put.ensures.sizes c.put.ensures.room_stays in
-    let charged = ap (λ n. b.charged + n) (patch-taken b r.name.tenant r.name.id r.place r.now r.chunk c.self.invariant within ready.seen ready.accepted c.from-tenant.result c.put.result c.chunk.inside.bytes.now c.from-tenant.ensures bytes c.put.ensures.taken) in
+    let bytes : c.as_slice-bytes.result.now ≡ r.chunk.bytes = c.as_slice-bytes.ensures ∙ ap (λ (chunk : Chunk). chunk.bytes) c.chunk.view_is in
+    let follows = patch-follows b r.name.tenant r.name.id r.place r.now r.chunk c.self.invariant within ready.seen ready.accepted c.put.new.self c.as_slice-bytes.result.now r.after bytes ready.after (rw c.from-tenant.ensures at c.put.ensures.plain) c.put.ensures.sizes c.put.ensures.room_stays in
+    let charged = ap (λ n. b.charged + n) (patch-taken b r.name.tenant r.name.id r.place r.now r.chunk c.self.invariant within ready.seen ready.accepted c.from-tenant.result c.put.result c.as_slice-bytes.result.now c.from-tenant.ensures bytes c.put.ensures.taken) in
     IsBook-patch b r.name.tenant r.name.id r.place r.now r.chunk c.self.invariant within ready.seen ready.accepted c.put.new.self (b.charged + c.put.result) c.set_end.new.self follows charged (index b r c.from-tenant.result c.expires-before.result c.set_end.new.self c.self.invariant ready c.from-tenant.ensures c.expires-before.ensures c.set_end.ensures.ends c.set_end.ensures.room_stays)
 
 pub returns-clause-answer : goal.returns-clause-answer
@@ -166,7 +166,7 @@ returns-clause-after c =
     let r = c.args.ready in
     let ready = ready_as b c.args.self.now r c.self.view_is c.requires in
     let within = stored_tenant_there b r c.self.invariant ready in
-    let bytes : c.chunk.inside.bytes.now ≡ r.chunk.bytes = ap (λ (chunk : Chunk). chunk.bytes) c.chunk.view_is in
-    let follows = patch-follows b r.name.tenant r.name.id r.place r.now r.chunk c.self.invariant within ready.seen ready.accepted c.put.new.self c.chunk.inside.bytes.now r.after bytes ready.after (rw c.from-tenant.ensures at c.put.ensures.plain) c.put.ensures.sizes c.put.ensures.room_stays in
-    let charged = ap (λ n. b.charged + n) (patch-taken b r.name.tenant r.name.id r.place r.now r.chunk c.self.invariant within ready.seen ready.accepted c.from-tenant.result c.put.result c.chunk.inside.bytes.now c.from-tenant.ensures bytes c.put.ensures.taken) in
+    let bytes : c.as_slice-bytes.result.now ≡ r.chunk.bytes = c.as_slice-bytes.ensures ∙ ap (λ (chunk : Chunk). chunk.bytes) c.chunk.view_is in
+    let follows = patch-follows b r.name.tenant r.name.id r.place r.now r.chunk c.self.invariant within ready.seen ready.accepted c.put.new.self c.as_slice-bytes.result.now r.after bytes ready.after (rw c.from-tenant.ensures at c.put.ensures.plain) c.put.ensures.sizes c.put.ensures.room_stays in
+    let charged = ap (λ n. b.charged + n) (patch-taken b r.name.tenant r.name.id r.place r.now r.chunk c.self.invariant within ready.seen ready.accepted c.from-tenant.result c.put.result c.as_slice-bytes.result.now c.from-tenant.ensures bytes c.put.ensures.taken) in
     rw (← c.self.view_is) (plain-patch b r.name.tenant r.name.id r.place r.now r.chunk c.self.invariant within ready.seen ready.accepted c.put.new.self (b.charged + c.put.result) follows charged)

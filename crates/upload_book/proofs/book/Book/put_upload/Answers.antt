@@ -53,7 +53,8 @@ create-requires-clause-id c =
 pub create-requires-clause-blocks : goal.create-requires-clause-blocks
 create-requires-clause-blocks c =
     let r = c.args.ready in
-    rw (ap (λ (first : FirstChunk). first.bytes) c.first.view_is) (create-blocks (the_view c.self.inside) r.tenant r.new r.first r.now (creation (the_view c.self.inside) c.args.self.now r c.self.invariant c.self.view_is c.requires))
+    let bytes : c.as_slice-bytes.result.now ≡ r.first.bytes = c.as_slice-bytes.ensures ∙ ap (λ (first : FirstChunk). first.bytes) c.first.view_is in
+    rw bytes (create-blocks (the_view c.self.inside) r.tenant r.new r.first r.now (creation (the_view c.self.inside) c.args.self.now r c.self.invariant c.self.view_is c.requires))
 
 -- the upload gets its end under the id that was read
 renewed_to : (b : StoredBook) (r : ReadyUpload) (place id : ℕ) → IsCreation b r.tenant r.new r.first → place ≡ r.tenant → id ≡ (part_at b.store place).next → IsReadyForUpload b r
@@ -93,7 +94,7 @@ overflow_add-self c =
     let b = the_view c.self.inside in
     let r = c.args.ready in
     let is = creation b c.args.self.now r c.self.invariant c.self.view_is c.requires in
-    let bytes : c.first.inside.bytes.now ≡ r.first.bytes = ap (λ (first : FirstChunk). first.bytes) c.first.view_is in
+    let bytes : c.as_slice-bytes.result.now ≡ r.first.bytes = c.as_slice-bytes.ensures ∙ ap (λ (first : FirstChunk). first.bytes) c.first.view_is in
     let taken = create-taken b r.tenant r.new r.first r.now is c.create.result (rw bytes at c.create.ensures.taken) in
     fits_taken _ _ _ _ (subst (λ (n : Numbers). n.last_total < 18446744073709551616) c.numbers-in_range.ensures.value c.numbers-in_range.ensures.last_total) taken (create-charged b r.tenant r.new r.first r.now is)
 
@@ -102,9 +103,9 @@ invariant_of-self c =
     let b = the_view c.self.inside in
     let r = c.args.ready in
     let is = creation b c.args.self.now r c.self.invariant c.self.view_is c.requires in
-    let bytes : c.first.inside.bytes.now ≡ r.first.bytes = ap (λ (first : FirstChunk). first.bytes) c.first.view_is in
+    let bytes : c.as_slice-bytes.result.now ≡ r.first.bytes = c.as_slice-bytes.ensures ∙ ap (λ (first : FirstChunk). first.bytes) c.first.view_is in
     let taken = create-taken b r.tenant r.new r.first r.now is c.create.result (rw bytes at c.create.ensures.taken) in
-    let follows = create-follows b r.tenant r.new r.first r.now is c.create.new.self (stored b c.args.self.now r c.create.new.self c.from-place.result c.first.inside.bytes.now c.self.view_is c.requires c.from-place.ensures bytes c.create.ensures.plain) c.create.ensures.sizes c.create.ensures.room_stays in
+    let follows = create-follows b r.tenant r.new r.first r.now is c.create.new.self (stored b c.args.self.now r c.create.new.self c.from-place.result c.as_slice-bytes.result.now c.self.view_is c.requires c.from-place.ensures bytes c.create.ensures.plain) c.create.ensures.sizes c.create.ensures.room_stays in
     let renewed = renewed_to b r c.from-place.result c.next-id.result is c.from-place.ensures c.next-id.ensures (ready_as b c.args.self.now r c.self.view_is c.requires) in
     IsBook-create b r.tenant r.new r.first r.now is c.create.new.self (b.charged + c.create.result) c.set_end.new.self follows (ap (λ n. b.charged + n) taken)
     (record { expiries = AreExpiries-renewed renewed c.set_end.new.self.list (c.set_end.ensures.ends (ends_of (plain_of b)) c.self.invariant.expiries renewed.was); room = c.set_end.ensures.room_stays })
@@ -121,7 +122,7 @@ returns-clause-after c =
     let b = the_view c.self.inside in
     let r = c.args.ready in
     let is = creation b c.args.self.now r c.self.invariant c.self.view_is c.requires in
-    let bytes : c.first.inside.bytes.now ≡ r.first.bytes = ap (λ (first : FirstChunk). first.bytes) c.first.view_is in
+    let bytes : c.as_slice-bytes.result.now ≡ r.first.bytes = c.as_slice-bytes.ensures ∙ ap (λ (first : FirstChunk). first.bytes) c.first.view_is in
     let taken = create-taken b r.tenant r.new r.first r.now is c.create.result (rw bytes at c.create.ensures.taken) in
-    let follows = create-follows b r.tenant r.new r.first r.now is c.create.new.self (stored b c.args.self.now r c.create.new.self c.from-place.result c.first.inside.bytes.now c.self.view_is c.requires c.from-place.ensures bytes c.create.ensures.plain) c.create.ensures.sizes c.create.ensures.room_stays in
+    let follows = create-follows b r.tenant r.new r.first r.now is c.create.new.self (stored b c.args.self.now r c.create.new.self c.from-place.result c.as_slice-bytes.result.now c.self.view_is c.requires c.from-place.ensures bytes c.create.ensures.plain) c.create.ensures.sizes c.create.ensures.room_stays in
     rw (← c.self.view_is) (plain-create b r.tenant r.new r.first r.now is c.create.new.self (b.charged + c.create.result) follows (ap (λ n. b.charged + n) taken))

@@ -1,4 +1,4 @@
-use Rattle.std.proofs.Common.{◌≡◌, ℕ, ◌<◌, Bool, true, false, List, length, None, Result, Ok, Err, OnOk, OnErr, is_err, inl, inr, ap, refl, sym, subst, ◌∙◌, arith}
+use Rattle.std.proofs.Common.{◌≡◌, ◌<◌, Bool, true, false, length, None, Result, Ok, Err, OnOk, OnErr, is_err, inl, inr, ap, refl, sym, subst, ◌∙◌, arith}
 use Rattle.block_bodies.specs.Bodies.{HasRoom}
 use Rattle.upload_book.specs.Book.{StoredBook, plain_of}
 use Rattle.upload_book.specs.Chunk.{Chunk}
@@ -22,8 +22,8 @@ append_refusal-requires-clause-short c =
     let name = c.args.name in
     let r : IsRead b c.args.self.now name.tenant name.id c.args.place c.args.now c.args.chunk c.from-tenant.result c.numbers-numbers.result.now c.account-account.result c.progress-progress.result =
     record { kept = c.self.invariant; is = c.self.view_is; there = c.requires.tenant; seen = c.requires.visible; at = c.from-tenant.ensures; numbers_read = c.numbers-numbers.ensures.value; account_read = c.account-account.ensures; progress_read = c.progress-progress.ensures } in
-    let bytes : c.chunk.inside.bytes.now ≡ c.args.chunk.bytes = ap (λ (chunk : Chunk). chunk.bytes) c.chunk.view_is in
-    omega (arith, read-small r, ap (length {A = ℕ}) bytes)
+    let count : c.len-more.result ≡ length c.args.chunk.bytes = c.len-more.ensures.value ∙ ap (λ (chunk : Chunk). length chunk.bytes) c.chunk.view_is in
+    omega (arith, read-small r, count, c.len-more.ensures)
 
 pub with-after-requires : goal.with-after-requires
 with-after-requires c =
@@ -31,8 +31,8 @@ with-after-requires c =
     let name = c.args.name in
     let r : IsRead b c.args.self.now name.tenant name.id c.args.place c.args.now c.args.chunk c.from-tenant.result c.numbers-numbers.result.now c.account-account.result c.progress-progress.result =
     record { kept = c.self.invariant; is = c.self.view_is; there = c.requires.tenant; seen = c.requires.visible; at = c.from-tenant.ensures; numbers_read = c.numbers-numbers.ensures.value; account_read = c.account-account.ensures; progress_read = c.progress-progress.ensures } in
-    let bytes : c.chunk.inside.bytes.now ≡ c.args.chunk.bytes = ap (λ (chunk : Chunk). chunk.bytes) c.chunk.view_is in
-    omega (arith, read-small r, ap (length {A = ℕ}) bytes)
+    let count : c.len-more.result ≡ length c.args.chunk.bytes = c.len-more.ensures.value ∙ ap (λ (chunk : Chunk). length chunk.bytes) c.chunk.view_is in
+    omega (arith, read-small r, count, c.len-more.ensures)
 
 pub returns-in-Some-clause-refused : goal.returns-in-Some-clause-refused
 returns-in-Some-clause-refused c =
@@ -50,8 +50,8 @@ reserve-requires-clause-alone c =
     let r : IsRead b c.args.self.now name.tenant name.id c.args.place c.args.now c.args.chunk c.from-tenant.result c.numbers-numbers.result.now c.account-account.result c.progress-progress.result =
     record { kept = c.self.invariant; is = c.self.view_is; there = c.requires.tenant; seen = c.requires.visible; at = c.from-tenant.ensures; numbers_read = c.numbers-numbers.ensures.value; account_read = c.account-account.ensures; progress_read = c.progress-progress.ensures } in
     let none = read-refusal r c.append_refusal.result None c.append_refusal.ensures c.in_default.is in
-    let bytes : c.chunk.inside.bytes.now ≡ c.args.chunk.bytes = ap (λ (chunk : Chunk). chunk.bytes) c.chunk.view_is in
-    let some : 0 < length c.args.chunk.bytes = subst (λ (bytes : List ℕ). 0 < length bytes) bytes c.if-more-gt0.true in
+    let count : c.len-more.result ≡ length c.args.chunk.bytes = c.len-more.ensures.value ∙ ap (λ (chunk : Chunk). length chunk.bytes) c.chunk.view_is in
+    let some : 0 < length c.args.chunk.bytes = subst (λ n. 0 < n) count c.if-more-gt0.true in
     rw c.from-tenant.ensures (patch-alone b name.tenant name.id c.args.place c.args.now c.args.chunk c.self.invariant (read-within r) (read-seen r) none some)
 
 pub reserve-requires-clause-room : goal.reserve-requires-clause-room
@@ -61,8 +61,8 @@ reserve-requires-clause-room c =
     let r : IsRead b c.args.self.now name.tenant name.id c.args.place c.args.now c.args.chunk c.from-tenant.result c.numbers-numbers.result.now c.account-account.result c.progress-progress.result =
     record { kept = c.self.invariant; is = c.self.view_is; there = c.requires.tenant; seen = c.requires.visible; at = c.from-tenant.ensures; numbers_read = c.numbers-numbers.ensures.value; account_read = c.account-account.ensures; progress_read = c.progress-progress.ensures } in
     let none = read-refusal r c.append_refusal.result None c.append_refusal.ensures c.in_default.is in
-    let bytes : c.chunk.inside.bytes.now ≡ c.args.chunk.bytes = ap (λ (chunk : Chunk). chunk.bytes) c.chunk.view_is in
-    rw (c.from-tenant.ensures, bytes) (patch-room b name.tenant name.id c.args.place c.args.now c.args.chunk c.self.invariant (read-within r) (read-seen r) none)
+    let count : c.len-more.result ≡ length c.args.chunk.bytes = c.len-more.ensures.value ∙ ap (λ (chunk : Chunk). length chunk.bytes) c.chunk.view_is in
+    rw (c.from-tenant.ensures, count) (patch-room b name.tenant name.id c.args.place c.args.now c.args.chunk c.self.invariant (read-within r) (read-seen r) none)
 
 -- what holds of an error holds where there is one
 of_err : {T E P : Type 0} (result : Result T E) (failed : Bool) → failed ≡ is_err result → failed ≡ true → OnErr result P → P
@@ -82,9 +82,9 @@ returns-then-is_err-clause-refused c =
     record { kept = c.self.invariant; is = c.self.view_is; there = c.requires.tenant; seen = c.requires.visible; at = c.from-tenant.ensures; numbers_read = c.numbers-numbers.ensures.value; account_read = c.account-account.ensures; progress_read = c.progress-progress.ensures } in
     let none = read-refusal r c.append_refusal.result None c.append_refusal.ensures c.in_default.is in
     let after = read-after r c.with-after.result c.with-after.ensures in
-    let bytes : c.chunk.inside.bytes.now ≡ c.args.chunk.bytes = ap (λ (chunk : Chunk). chunk.bytes) c.chunk.view_is in
+    let count : c.len-more.result ≡ length c.args.chunk.bytes = c.len-more.ensures.value ∙ ap (λ (chunk : Chunk). length chunk.bytes) c.chunk.view_is in
     let lacks = of_err c.reserve.result c.is_err.result c.is_err.ensures.value c.if-is_err.true c.reserve.ensures.memory in
-    let some = subst (λ n. 0 < n) (patch-taken b name.tenant name.id c.args.place c.args.now c.args.chunk c.self.invariant (read-within r) (read-seen r) none c.from-tenant.result _ c.chunk.inside.bytes.now c.from-tenant.ensures bytes refl) lacks in
+    let some = subst (λ n. 0 < n) (patch-taken b name.tenant name.id c.args.place c.args.now c.args.chunk c.self.invariant (read-within r) (read-seen r) none c.from-tenant.result _ c.args.chunk.bytes c.from-tenant.ensures refl refl) (rw count at lacks) in
     let refused : Progress → Refused = λ s. record { refusal = Memory; expires = s.expires } in
     inr (rw (← c.self.view_is) (patch-lacks b name.tenant name.id c.args.place c.args.now c.args.chunk c.self.invariant (read-within r) (read-seen r) none c.with-after.result after some, ap (λ s. Err (refused s)) (read-progress r) ∙ sym (patch-lacking b name.tenant name.id c.args.place c.args.now c.args.chunk c.self.invariant (read-within r) (read-seen r))))
 
@@ -96,7 +96,7 @@ returns-clause-ready c =
     record { kept = c.self.invariant; is = c.self.view_is; there = c.requires.tenant; seen = c.requires.visible; at = c.from-tenant.ensures; numbers_read = c.numbers-numbers.ensures.value; account_read = c.account-account.ensures; progress_read = c.progress-progress.ensures } in
     let none = read-refusal r c.append_refusal.result None c.append_refusal.ensures c.in_default.is in
     let after = read-after r c.with-after.result c.with-after.ensures in
-    let bytes : c.chunk.inside.bytes.now ≡ c.args.chunk.bytes = ap (λ (chunk : Chunk). chunk.bytes) c.chunk.view_is in
+    let count : c.len-more.result ≡ length c.args.chunk.bytes = c.len-more.ensures.value ∙ ap (λ (chunk : Chunk). length chunk.bytes) c.chunk.view_is in
     let ready : ReadyChunk = record { name = name; chunk = c.args.chunk; now = c.args.now; place = c.args.place; after = c.with-after.result } in
     let there : name.tenant < length b.settings.tenants = omega (arith, c.requires.tenant, ap (λ (b : StoredBook). length b.settings.tenants) c.self.view_is) in
     elim c.else-more-gt0.branch [
@@ -106,10 +106,10 @@ returns-clause-ready c =
           let listed = of_ok w.reserve.result w.is_err.result w.is_err.ensures.value w.if-is_err.false w.reserve.ensures.listed in
           let room : HasRoom later.store.pool (own_chain (entry_at later.store name.tenant c.args.place).kept.pieces) (length c.args.chunk.bytes) =
           subst (λ t. HasRoom later.store.pool (own_chain (entry_at later.store t c.args.place).kept.pieces) (length c.args.chunk.bytes)) c.from-tenant.ensures
-          (subst (λ (bytes : List ℕ). HasRoom later.store.pool (own_chain (entry_at later.store c.from-tenant.result c.args.place).kept.pieces) (length bytes)) bytes listed) in
+          (subst (λ n. HasRoom later.store.pool (own_chain (entry_at later.store c.from-tenant.result c.args.place).kept.pieces) n) count listed) in
           subst (λ (b : StoredBook). IsReadyForChunk b ready) (sym w.self-is)
           (ready-later b later ready (ap (λ tenants. book_with (plain_of b) tenants b.charged b.released) plain) there (read-seen r) none after (λ some. room))
       | else-more-gt0-via-else-more-gt0 w ↦
           subst (λ (b : StoredBook). IsReadyForChunk b ready) (c.self.view_is ∙ sym w.self-is)
-          (ready-later b b ready refl there (read-seen r) none after (λ some. absurd (omega (arith, some, w.if-more-gt0.false, ap (length {A = ℕ}) bytes))))
+          (ready-later b b ready refl there (read-seen r) none after (λ some. absurd (omega (arith, some, w.if-more-gt0.false, count))))
     ]

@@ -1,4 +1,4 @@
-use Rattle.std.proofs.Common.{◌≡◌, ◌<◌, ℕ, List, length, None, Option, Some, inl, inr, refl, ap, sym, ◌∙◌, subst, arith}
+use Rattle.std.proofs.Common.{◌≡◌, ◌<◌, ℕ, length, None, Option, Some, inl, inr, refl, ap, sym, ◌∙◌, subst, arith}
 use Rattle.upload_book.specs.Book.{plain_of, IsBook, StoredBook}
 use Rattle.upload_book.specs.contracts.book.Book.{the_view}
 use Rattle.upload_book.specs.Create.{creation_refusal, first_end}
@@ -49,9 +49,9 @@ module _ {b w : StoredBook} {t place : ℕ} {numbers : Numbers} {account : Accou
   creation none = record { kept = r.kept; within = there; texts = r.texts; none = told None none }
 
   -- the end of the upload
-  ends : (now : ℕ) (bytes : List ℕ) (expires : Option ℕ) → bytes ≡ first.bytes → expires ≡ first_end numbers new (length bytes) now → expires ≡ first_end b.settings.numbers new (length first.bytes) now
-  ends now bytes expires bytes_is is =
-      is ∙ ap (λ n. first_end n new (length bytes) now) r.numbers_read ∙ ap (λ (bytes : List ℕ). first_end b.settings.numbers new (length bytes) now) bytes_is
+  ends : (now len : ℕ) (expires : Option ℕ) → len ≡ length first.bytes → expires ≡ first_end numbers new len now → expires ≡ first_end b.settings.numbers new (length first.bytes) now
+  ends now len expires len_is is =
+      is ∙ ap (λ n. first_end n new len now) r.numbers_read ∙ ap (λ len. first_end b.settings.numbers new len now) len_is
 
 pub returns-in-Some-clause-refused : goal.returns-in-Some-clause-refused
 returns-in-Some-clause-refused c =
@@ -65,16 +65,16 @@ body_for-requires c =
     let b = the_view c.self.inside in
     let r : IsRead b c.args.self.now c.args.tenant c.from-place.result c.numbers-numbers.result.now c.account-account.result c.args.new c.args.first c.creation_refusal.result =
     record { kept = c.self.invariant; is = c.self.view_is; tenant = c.requires.tenant_there; texts = record { metadata = c.requires.metadata; concat = c.requires.concat }; at = c.from-place.ensures; numbers_read = c.numbers-numbers.ensures.value; account_read = c.account-account.ensures; found_is = c.creation_refusal.ensures } in
-    let bytes : c.first.inside.bytes.now ≡ c.args.first.bytes = ap (λ (first : FirstChunk). first.bytes) c.first.view_is in
+    let count : c.len-len.result ≡ length c.args.first.bytes = c.len-len.ensures.value ∙ ap (λ (first : FirstChunk). length first.bytes) c.first.view_is in
     let is = creation r c.in_default.is in
-    record { blocks = rw bytes (create-blocks b c.args.tenant c.args.new c.args.first c.args.now is) }
+    record { blocks = rw count (create-blocks b c.args.tenant c.args.new c.args.first c.args.now is) }
 
 pub returns-in-Ok-clause-ready : goal.returns-in-Ok-clause-ready
 returns-in-Ok-clause-ready c =
     let b = the_view c.self.inside in
     let r : IsRead b c.args.self.now c.args.tenant c.from-place.result c.numbers-numbers.result.now c.account-account.result c.args.new c.args.first c.creation_refusal.result =
     record { kept = c.self.invariant; is = c.self.view_is; tenant = c.requires.tenant_there; texts = record { metadata = c.requires.metadata; concat = c.requires.concat }; at = c.from-place.ensures; numbers_read = c.numbers-numbers.ensures.value; account_read = c.account-account.ensures; found_is = c.creation_refusal.ensures } in
-    let bytes : c.first.inside.bytes.now ≡ c.args.first.bytes = ap (λ (first : FirstChunk). first.bytes) c.first.view_is in
+    let count : c.len-len.result ≡ length c.args.first.bytes = c.len-len.ensures.value ∙ ap (λ (first : FirstChunk). length first.bytes) c.first.view_is in
     let is = creation r c.in_default.is in
     let ready : ReadyUpload = record { tenant = c.args.tenant; new = c.args.new; first = c.args.first; now = c.args.now; expires = c.first_end-expires.result; body = c.in-Ok.body } in
     subst (λ (b : StoredBook). IsReadyForUpload b ready) c.self.view_is (record {
@@ -82,9 +82,9 @@ returns-in-Ok-clause-ready c =
       metadata = c.requires.metadata;
       concat = c.requires.concat;
       accepted = is.none;
-      expires = ends r c.args.now c.first.inside.bytes.now c.first_end-expires.result bytes c.first_end-expires.ensures;
+      expires = ends r c.args.now c.len-len.result c.first_end-expires.result count c.first_end-expires.ensures;
       empty = c.in-Ok.ensures.empty;
-      room = subst (λ (bytes : List ℕ). HasRoom b.store.pool c.in-Ok.body (length bytes)) bytes c.in-Ok.ensures.listed;
+      room = subst (λ n. HasRoom b.store.pool c.in-Ok.body n) count c.in-Ok.ensures.listed;
     })
 
 pub returns-in-Err-clause-refused : goal.returns-in-Err-clause-refused
@@ -92,7 +92,7 @@ returns-in-Err-clause-refused c =
     let b = the_view c.self.inside in
     let r : IsRead b c.args.self.now c.args.tenant c.from-place.result c.numbers-numbers.result.now c.account-account.result c.args.new c.args.first c.creation_refusal.result =
     record { kept = c.self.invariant; is = c.self.view_is; tenant = c.requires.tenant_there; texts = record { metadata = c.requires.metadata; concat = c.requires.concat }; at = c.from-place.ensures; numbers_read = c.numbers-numbers.ensures.value; account_read = c.account-account.ensures; found_is = c.creation_refusal.ensures } in
-    let bytes : c.first.inside.bytes.now ≡ c.args.first.bytes = ap (λ (first : FirstChunk). first.bytes) c.first.view_is in
+    let count : c.len-len.result ≡ length c.args.first.bytes = c.len-len.ensures.value ∙ ap (λ (first : FirstChunk). length first.bytes) c.first.view_is in
     let is = creation r c.in_default.is in
-    let some = subst (λ n. 0 < n) (create-taken b c.args.tenant c.args.new c.args.first c.args.now is _ refl) (rw bytes at c.in-Err.ensures.memory) in
+    let some = subst (λ n. 0 < n) (create-taken b c.args.tenant c.args.new c.args.first c.args.now is _ refl) (rw count at c.in-Err.ensures.memory) in
     inr (rw (← c.self.view_is) (create-lacks b c.args.tenant c.args.new c.args.first c.args.now is some, refl))
