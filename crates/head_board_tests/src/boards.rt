@@ -11,7 +11,7 @@ use head_board::{Board, Coming, HeadReader, Opened};
 use std::process::Abort;
 use std::sync::Wait;
 use std::test::Fail;
-use upload_book::{Book, Change, FirstChunk, NewUpload, Refusal};
+use upload_book::{Book, Change, FirstChunk, NewUpload, Payload, Refusal};
 
 // A reader finds the offset of acme's first upload, or why there is none.
 fn assert_seen(rt: &impl Abort, reader: &mut HeadReader, expected: Result<u64, Refusal>) {
@@ -33,7 +33,7 @@ fn creation() -> Change<'static>
     let first = FirstChunk {
         typed: true,
         check: None,
-        bytes: b"hello",
+        bytes: Payload::new(b"hello"),
     };
     Change::Create {
         tenant: 0,

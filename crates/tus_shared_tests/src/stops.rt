@@ -175,7 +175,7 @@ fn fill<
 
 // The book has all bytes of an upload of acme.
 fn assert_full(rt: &impl Abort, book: &Book, id: u64) {
-    let content = book.content(&Name { tenant: 0, id }, moment(rt, 1000));
+    let content = book.content(&Name { tenant: 0, id }, moment(rt, 1000), book.no_room());
     let content = content.expect(rt, "a content");
     assert!(rt;
         content.as_slice() == b"helloworld".as_slice(),

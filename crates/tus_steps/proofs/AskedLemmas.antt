@@ -1,8 +1,9 @@
 -- What was found of a request is what it asks for, and its step.
-use Rattle.std.proofs.Common.{◌≡◌, ℕ, true, false, List, length, Option, None, IfSome, Result, Ok, Err, IfOk, IfErr, OnOk, OnErr, inl, inr, refl, sym, ap, ◌∙◌, subst}
+use Rattle.std.proofs.Common.{◌≡◌, ◌≢◌, ℕ, [], ◌∷◌, arith, true, false, List, length, Option, None, IfSome, Result, Ok, Err, IfOk, IfErr, OnOk, OnErr, inl, inr, refl, sym, ap, ◌∙◌, subst}
 use Rattle.std.proofs.lemmas.Bool.{cases_Bool}
+use Rattle.std.specs.Result.{IsOkAnd}
 use Rattle.upload_book.specs.Change.{CanBeMade, MayLackFor, book_after_change, change_answer, change_lacking}
-use Rattle.upload_book.specs.Content.{content_answer}
+use Rattle.upload_book.specs.Content.{LacksRoom, content_answer}
 use Rattle.upload_book.specs.declared.append.Refused.{Refused}
 use Rattle.upload_book.specs.declared.change.Change.{Change}
 use Rattle.upload_book.specs.declared.change.Change.TheVariants as change
@@ -14,7 +15,6 @@ use Rattle.upload_book.specs.declared.operation.Operation.TheVariants as operati
 use Rattle.upload_book.specs.declared.refusal.Refusal.{Refusal}
 use Rattle.upload_book.specs.declared.refusal.Refusal.TheVariants as refusal
 use Rattle.upload_book.specs.Look.{look_answer}
-use Rattle.upload_book.specs.Operation.{MayLackMemory}
 use Rattle.upload_book.specs.PlainBook.{PlainBook, answer_of}
 use Rattle.upload_book.specs.Refusal.{IsAnswer}
 use Rattle.upload_book.specs.Settings.{Settings}
@@ -93,6 +93,12 @@ asks-in s r asks is = elim (cases_Bool (is_options r.method)) [
       subst (IsAsked s r) (sym (is ∙ found)) (asks-by s r (operation_of s r) other refl)
 ]
 
+-- a GET of more bytes than there is room for is one of some bytes
+lacks-some : (room : ℕ) (answer : Result (List ℕ) Refusal) → LacksRoom room answer → IsOkAnd answer (λ bytes. bytes ≢ [])
+lacks-some room (Ok []) lacks = absurd (omega (arith, lacks))
+lacks-some room (Ok (byte ∷ bytes)) lacks = λ empty. absurd (cc)
+lacks-some room (Err why) lacks = lacks
+
 module _ (b : PlainBook) (r : Request) (now : ℕ) where
   -- the steps of a request that asks for no change: OPTIONS,
   pub options-step : asked.Options ≡ asked_in b.settings r → IsStep b r now (reply.Options b.settings.numbers.max_size) b
@@ -110,15 +116,15 @@ module _ (b : PlainBook) (r : Request) (now : ℕ) where
       let asks = asks-in b.settings r (asked.Look name) is in
       step-by b r now (operation.Look name) _ b asks.0 asks.1 (inl (refl, refl))
 
-  -- and a GET
-  pub content-step : (name : Name) (bytes : Result (List ℕ) Refusal) → asked.Content name ≡ asked_in b.settings r
-      → IsAnswer (answer_of b name.tenant (content_answer name.id now)) (MayLackMemory b (operation.Content name) now) (Err refusal.Memory) bytes
+  -- and a GET, whose bytes were given so much room
+  pub content-step : (name : Name) (room : ℕ) (bytes : Result (List ℕ) Refusal) → asked.Content name ≡ asked_in b.settings r
+      → IsAnswer (answer_of b name.tenant (content_answer name.id now)) (LacksRoom room (answer_of b name.tenant (content_answer name.id now))) (Err refusal.Memory) bytes
       → IsStep b r now (content_reply r bytes) b
-  content-step name bytes is answer =
+  content-step name room bytes is answer =
       let asks = asks-in b.settings r (asked.Content name) is in
       step-by b r now (operation.Content name) _ b asks.0 asks.1 (elim answer [
         | inl same ↦ inl (ap (content_reply r) same, refl)
-        | inr lacks ↦ inr (lacks.0, ap (content_reply r) lacks.1, refl)
+        | inr lacks ↦ inr (lacks-some room _ lacks.0, ap (content_reply r) lacks.1, refl)
       ])
 
   -- a step, by other names of what was given and left

@@ -1,16 +1,18 @@
 -- The step of a request on the plain book: its reply, and the book after it.
 use Rattle.std.specs.Prelude.{◌≡◌, ◌⊎◌, ℕ, length, Some, None, Result, Ok, Err, MatchBool}
+use Rattle.upload_book.specs.declared.head_row.Name.{Name}
 use Rattle.upload_book.specs.declared.operation.Operation.{Operation}
 use Rattle.upload_book.specs.declared.operation.Operation.TheVariants.{Create, CreateWith, Concat, Look, Content, Append, Terminate}
 use Rattle.upload_book.specs.declared.refusal.Refusal.{Refusal}
 use Rattle.upload_book.specs.declared.refusal.Refusal.TheVariants as refusal
 use Rattle.upload_book.specs.Append.{append_answer, append_lacking}
 use Rattle.upload_book.specs.Concat.{concat_answer}
-use Rattle.upload_book.specs.Content.{content_answer}
+use Rattle.upload_book.specs.Content.{LacksRoom, content_answer}
 use Rattle.upload_book.specs.Create.{create_answer, create_empty_answer}
 use Rattle.upload_book.specs.Look.{look_answer}
 use Rattle.upload_book.specs.Operation.{book_after_operation, MayLackMemory}
 use Rattle.upload_book.specs.PlainBook.{PlainBook, answer_of}
+use Rattle.upload_book.specs.Refusal.{IsAnswer}
 use Rattle.upload_book.specs.Terminate.{terminate_answer}
 use Rattle.tus_steps.specs.declared.reply.Reply.{Reply}
 use Rattle.tus_steps.specs.declared.reply.Reply.TheVariants.{Options}
@@ -53,3 +55,10 @@ IsStep b r now reply after =
     MatchBool (is_options r.method)
     ((reply ≡ Options b.settings.numbers.max_size) × (after ≡ b))
     (IsStepBy b r now (operation_of b.settings r) reply after)
+
+-- The reply to a GET of an upload whose bytes are copied to where there is so much room: what the plain book gives; or, where
+-- that are more bytes, that memory was lacking.
+abbrev pub IsContentReply : PlainBook → Request → ℕ → Name → ℕ → Reply → Type 0
+IsContentReply b r now name room reply =
+    let answer = answer_of b name.tenant (content_answer name.id now) in
+    IsAnswer (content_reply r answer) (LacksRoom room answer) (refusing r refusal.Memory None) reply

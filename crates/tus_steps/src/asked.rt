@@ -1,10 +1,12 @@
-ghost use Rattle.std.specs.Prelude.{◌≡◌, ℕ, None, IfSome};
+ghost use Rattle.std.specs.Prelude.{◌≡◌, ℕ, None, IfSome, vec_capacity};
 ghost use Rattle.tus_steps.specs.Asked.{asked_for as asked_for_operation, asked_in, change_in};
 ghost use Rattle.tus_steps.specs.Changing.{IsFound};
+ghost use Rattle.tus_steps.specs.declared.asked.Asked.TheVariants as asks;
 ghost use Rattle.tus_steps.specs.Operation.{CanBeAsked};
-ghost use Rattle.tus_steps.specs.Step.{IsStep};
+ghost use Rattle.tus_steps.specs.Step.{IsContentReply, IsStep};
 ghost use Rattle.upload_book.specs.Book.{plain_of};
 ghost use Rattle.upload_book.specs.Change.{CanBeMade};
+ghost use Rattle.upload_book.specs.declared.head_row.Name.{Name};
 
 use crate::creation::PartIds;
 use crate::head::head_reply;
@@ -63,11 +65,7 @@ fn asked_for<'a>(operation: Operation<'a>) -> Asked<'a>
         Operation::Look(name) => return Asked::Look(name),
         Operation::Content(name) => return Asked::Content(name),
         Operation::Create { tenant, new } => {
-            let first = FirstChunk {
-                typed: true,
-                check: None,
-                bytes: b"",
-            };
+            let first = FirstChunk::none();
             (Change::Create { tenant, new, first }, None)
         }
         Operation::CreateWith { tenant, new, first } => {
@@ -83,11 +81,20 @@ fn asked_for<'a>(operation: Operation<'a>) -> Asked<'a>
 
 /// Answers a request that asks for no change, by what [`asked_of`] found of it under the book's settings: the reply is
 /// the plain book's at this moment, and the book stays. A HEAD and a GET go over the uploads of their tenant once. The
-/// bytes of a GET are copied once, and it is refused as Memory where they find none; nothing else takes memory.
-pub fn answer_asked(book: &Book, request: &Request, asked: Asked, now: Moment) -> Reply
+/// bytes of a GET are copied once, into `room`, whatever that had before. It is refused as Memory only where they are
+/// more than the capacity of `room`, and get no more memory; nothing else takes memory.
+pub fn answer_asked(
+    book: &Book,
+    request: &Request,
+    asked: Asked,
+    now: Moment,
+    room: Vec<u8>,
+) -> Reply
     requires found { asked ≡ asked_in (plain_of book.now).settings request.now }
     requires stays { change_in asked ≡ None }
-    ensures { IsStep (plain_of book.now) request.now now result (plain_of book.now) }
+    ensures step { IsStep (plain_of book.now) request.now now result (plain_of book.now) }
+    ensures room { (name : Name) → asked.entry ≡ asks.Content name
+        → IsContentReply (plain_of book.now) request.now now name (vec_capacity room) result }
 {
     match asked {
         Asked::Options => Reply::Options {
@@ -95,7 +102,7 @@ pub fn answer_asked(book: &Book, request: &Request, asked: Asked, now: Moment) -
         },
         Asked::Refused(reply) => reply,
         Asked::Look(name) => head_reply(book.look(&name, now)),
-        Asked::Content(name) => Reply::to_content(request, book.content(&name, now)),
+        Asked::Content(name) => Reply::to_content(request, book.content(&name, now, room)),
         Asked::Change(_) => unreachable!("a change is made, and not only answered"),
     }
 }

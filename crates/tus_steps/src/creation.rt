@@ -9,7 +9,7 @@ use crate::field::Field;
 use crate::request::Request;
 use arrayvec::ArrayVec;
 use tus_text::{Concat, PARTS_MAX, PartPath, read_concat};
-use upload_book::{FirstChunk, NewFinal, NewUpload, Operation};
+use upload_book::{FirstChunk, NewFinal, NewUpload, Operation, Payload};
 
 /// Room for the parts of a final upload, each by its id, or by none where it is of another tenant.
 pub type PartIds = ArrayVec<Option<u64>, PARTS_MAX>;
@@ -66,7 +66,7 @@ impl<'a> Request<'a> {
         let first = FirstChunk {
             typed: self.fields.media.has_patch_type(),
             check: self.fields.checksum.optional_checksum()?,
-            bytes: self.body,
+            bytes: Payload::new(self.body),
         };
         Some(Operation::CreateWith { tenant, new, first })
     }

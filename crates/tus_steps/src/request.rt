@@ -8,7 +8,7 @@ use crate::route::Route;
 use crate::tus_fields::TusFields;
 use std::marker::Model;
 use tus_text::{Path, Tenant};
-use upload_book::{Chunk, Name, Operation, Refusal, Settings};
+use upload_book::{Chunk, Name, Operation, Payload, Refusal, Settings};
 
 /// The only version of the protocol that is spoken.
 const VERSION: &[u8] = b"1.0.0";
@@ -134,7 +134,7 @@ impl<'a> Request<'a> {
             length,
             typed: self.fields.media.has_patch_type(),
             check,
-            bytes: self.body,
+            bytes: Payload::new(self.body),
         })
     }
 }

@@ -28,7 +28,7 @@ pub fn answer(book: &mut Book, request: &Request, now: Moment) -> Reply
             let outcome = make(book, asked.change, now);
             change_reply(request, offset, outcome)
         }
-        asked => answer_asked(book, request, asked, now),
+        asked => answer_asked(book, request, asked, now, book.no_room()),
     }
 }
 

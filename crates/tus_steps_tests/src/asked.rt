@@ -103,7 +103,7 @@ fn reply_to(book: &Book, request: &Request, now: Moment) -> Option<Reply> {
     let mut ids = PartIds::new();
     match asked_of(book.settings(), request, &mut ids) {
         Asked::Change(_) => None,
-        asked => Some(answer_asked(book, request, asked, now)),
+        asked => Some(answer_asked(book, request, asked, now, book.no_room())),
     }
 }
 

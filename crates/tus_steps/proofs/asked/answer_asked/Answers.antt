@@ -1,16 +1,16 @@
-use Rattle.std.proofs.Common.{sym, ◌∙◌}
+use Rattle.std.proofs.Common.{vec_capacity, sym, ◌∙◌}
 use Rattle.upload_book.specs.Book.{plain_of}
 use Rattle.tus_steps.proofs.AskedLemmas.{content-step, look-step, refused-step}
 use Rattle.tus_steps.proofs.asked.answer_asked.Goals as goal
 
-pub returns-in-Refused : goal.returns-in-Refused
-returns-in-Refused c =
+pub returns-in-Refused-clause-step : goal.returns-in-Refused-clause-step
+returns-in-Refused-clause-step c =
     refused-step (plain_of c.args.book.now) c.args.request.now c.args.now c.in-Refused.reply (sym c.in-Refused.is ∙ c.requires.found)
 
-pub returns-in-Look : goal.returns-in-Look
-returns-in-Look c =
+pub returns-in-Look-clause-step : goal.returns-in-Look-clause-step
+returns-in-Look-clause-step c =
     rw (c.head_reply.ensures, c.look.ensures) (look-step (plain_of c.args.book.now) c.args.request.now c.args.now c.in-Look.name (sym c.in-Look.is ∙ c.requires.found))
 
-pub returns-in-Content : goal.returns-in-Content
-returns-in-Content c =
-    rw c.to_content.ensures (content-step (plain_of c.args.book.now) c.args.request.now c.args.now c.in-Content.name c.content.result (sym c.in-Content.is ∙ c.requires.found) c.content.ensures)
+pub returns-in-Content-clause-step : goal.returns-in-Content-clause-step
+returns-in-Content-clause-step c =
+    rw c.to_content.ensures (content-step (plain_of c.args.book.now) c.args.request.now c.args.now c.in-Content.name (vec_capacity c.args.room) c.content.result (sym c.in-Content.is ∙ c.requires.found) c.content.ensures)
