@@ -53,7 +53,9 @@ fn assert_replies(rt: &impl Abort, alloc: Global, stream: &TcpStream, replies: &
 // The first upload of beta is complete.
 fn assert_content(rt: &impl Abort, book: &Book) {
     let name = Name { tenant: 1, id: 1 };
-    let content = book.content(&name, moment(rt)).expect(rt, "a content");
+    let content = book
+        .content(&name, moment(rt), book.no_room())
+        .expect(rt, "a content");
     assert!(rt; content.as_slice() == b"abcd".as_slice());
 }
 
