@@ -1,6 +1,5 @@
 -- A HEAD as a turn of a desk: it changes nothing.
 use Rattle.std.proofs.Common.{◌≡◌, ℕ, ◌+◌, true, false, List, [], Option, None, Result, Ok, Err, IsErr, length, refl, sym, ap, subst, ◌∙◌}
-use Rattle.std.proofs.lemmas.List.{append-nil}
 use mathlib.Core.List.{IsPrefix}
 use Rattle.upload_book.specs.declared.head_row.HeadRow.{HeadRow}
 use Rattle.upload_book.specs.declared.head_row.Name.{Name}
@@ -28,6 +27,7 @@ use Rattle.tus_shared.specs.Desk.{Desk, Moves}
 use Rattle.tus_shared.specs.Steps.{AddsBy, AddsChange}
 use Rattle.tus_steps.proofs.AskedLemmas.{look-step, refused-step}
 use Rattle.tus_shared.proofs.EventLemmas.{at-settings}
+use Rattle.tus_shared.proofs.LogLaws.{prefix-on, prefix-self}
 
 -- a request that asks for no change adds nothing to what happened
 adds-nothing : (s : Settings) (events : List Event) (desk : ℕ) (r : Request) (now : ℕ) (reply : Reply) → change_found s r ≡ None → AddsChange s events desk r now reply events
@@ -59,15 +59,29 @@ head-answers s r now name row old new is reads alone = record {
   moves = sees-more s old new alone;
 }
 
--- a list begins itself
-begins-self : (events : List Event) → IsPrefix events events
-begins-self events = ([], append-nil events)
+-- a desk that sees more first, and then answers
+pub sees-first : (s : Settings) (r : Request) (now : ℕ) (reply : Reply) (old ready new : Desk) → OnlySeesMore old ready → IsPrefix old.seen ready.seen → Answers s r now reply ready new → Answers s r now reply old new
+sees-first s r now reply old ready new alone begins answers =
+    let seen : Answers s r now reply (record old { seen = ready.seen }) new = subst (λ (d : Desk). Answers s r now reply d new) alone answers in
+    record {
+      before = seen.before;
+      begins = prefix-on old.seen ready.seen seen.before begins seen.begins;
+      happened = seen.happened;
+      step = seen.step;
+      adds = seen.adds;
+      moves = record {
+        number = seen.moves.number;
+        charged = seen.moves.charged;
+        released = seen.moves.released;
+        made = seen.moves.made;
+      };
+    }
 
 -- a request that is refused before the book is asked changes nothing, at a desk that has seen what happened
 pub refused-answers : (s : Settings) (r : Request) (now : ℕ) (reply : Reply) (desk : Desk) → asked.Refused reply ≡ asked_in s r → HaveHappened s desk.seen → Answers s r now reply desk desk
 refused-answers s r now reply desk is happened = record {
   before = desk.seen;
-  begins = begins-self desk.seen;
+  begins = prefix-self desk.seen;
   happened = happened;
   step = refused-step (book_at s desk.seen) r now reply (asked-at s desk.seen r (asked.Refused reply) is);
   adds = adds-nothing s desk.seen desk.number r now reply (ap change_in (sym is));

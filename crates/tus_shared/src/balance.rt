@@ -97,6 +97,7 @@ fn gather<C: Charges, R: Ledger, M: Ledger, B: Wait + Drop>(
 {
     for desk in desks {
         let Desk {
+            alloc: _,
             settings: _,
             number: _,
             charged: its_charged,

@@ -1,14 +1,16 @@
 ghost use Rattle.std.specs.Prelude.{◌≡◌, ◌⊎◌, ◌≤◌, ℕ, [], Err, IfNone, IfSome, Ok, length, vec_capacity};
+ghost use mathlib.Core.List.{IsPrefix};
 ghost use Rattle.tus_steps.specs.Changing.{IsFound};
 ghost use Rattle.head_board.specs.Board.{ReadsHead};
 ghost use Rattle.tus_shared.specs.Answers.{Answers, AnswersBatch, AnswersTurn, OnlySeesMore, SeesHead, Sweeps};
 ghost use Rattle.upload_book.specs.declared.refusal.Refusal.TheVariants.{Board, Unknown};
 
 use crate::charges::Charges;
-use crate::gate::{Gate, Stop};
+use crate::gate::{Gate, NoGate, Stop};
 use crate::shared::Shared;
 use crate::turn::Turn;
 use head_board::HeadReader;
+use std::alloc::Global;
 use std::marker::Model;
 use std::sync::Wait;
 use std::sync::ledger::{Ledger, Share};
@@ -21,6 +23,7 @@ use upload_book::{HeadRow, Moment, Name, Refusal, Settings, Swept};
 /// least as new.
 #[derive(Drop)]
 pub struct Desk<C: Charges, R: Ledger, M: Ledger> {
+    pub(crate) alloc: Global,
     pub(crate) settings: Settings,
     pub(crate) number: usize,
     pub(crate) charged: Share<C>,
@@ -68,7 +71,7 @@ impl<C: Charges, R: Ledger, M: Ledger> Desk<C, R, M> {
     {
         let mut ids = PartIds::new();
         let asked = asked_of(&self.settings, request, &mut ids);
-        shared.store.lock(rt).step(self, request, asked, now)
+        self.answer_locked(rt, shared, request, asked, now, 0, &NoGate)
     }
 
     /// Takes the lock for a sweep at this moment ([`crate::Store::sweep`]), and tells what it ended. It may wait for other
@@ -102,9 +105,14 @@ impl<C: Charges, R: Ledger, M: Ledger> Desk<C, R, M> {
     }
 
     // What the board tells of an upload; nothing, where it was not entered, and then the desk stays.
-    fn read_board(&mut self, name: &Name, now: Moment) -> Option<Result<HeadRow, Refusal>>
+    pub(crate) fn read_board(
+        &mut self,
+        name: &Name,
+        now: Moment,
+    ) -> Option<Result<HeadRow, Refusal>>
         ensures reads { IfSome result (ReadsHead C.settings self.old.seen self.new.seen name.now now) }
         ensures alone { OnlySeesMore self.old self.new }
+        ensures begins { IsPrefix self.old.seen self.new.seen }
         ensures stays { IfNone result (self.new ≡ self.old) }
     {
         self.reader.look(name, now)
@@ -147,7 +155,8 @@ impl<C: Charges, R: Ledger, M: Ledger> Desk<C, R, M> {
             Asked::Look(name) => match self.read_board(&name, now) {
                 Some(row) => head_reply(row),
                 None => {
-                    self.answer_locked(rt, shared, request, Asked::Look(name), now, turn, gate)
+                    let asked = Asked::Look(name);
+                    self.answer_locked(rt, shared, request, asked, now, turn, gate)
                 }
             },
             Asked::Refused(reply) if request.method.is_head() => reply,
@@ -155,13 +164,32 @@ impl<C: Charges, R: Ledger, M: Ledger> Desk<C, R, M> {
         }
     }
 
-    // The step of a turn that takes the lock.
+    // The reply to what a turn asks for, with the lock. What can be done without it is done before it is taken.
     fn answer_locked<W: Wait, B: Wait + Drop, G: Gate>(
         &mut self,
         rt: &W,
         shared: &Shared<C, R, M, B>,
         request: &Request,
+        mut asked: Asked,
+        now: Moment,
+        turn: usize,
+        gate: &G,
+    ) -> Reply
+        requires found { IsFound C.settings request.now asked }
+        ensures { Answers C.settings request.now now result self.old self.new }
+    {
+        let room = self.work_ahead(&mut asked, now);
+        self.step_locked(rt, shared, request, asked, room, now, turn, gate)
+    }
+
+    // The step of a turn, with the lock.
+    fn step_locked<W: Wait, B: Wait + Drop, G: Gate>(
+        &mut self,
+        rt: &W,
+        shared: &Shared<C, R, M, B>,
+        request: &Request,
         asked: Asked,
+        room: Vec<u8>,
         now: Moment,
         turn: usize,
         gate: &G,
@@ -171,7 +199,7 @@ impl<C: Charges, R: Ledger, M: Ledger> Desk<C, R, M> {
     {
         let mut store = shared.store.lock(rt);
         gate.pass(self.number, turn, Stop::Locked);
-        store.step(self, request, asked, now)
+        store.step(self, request, asked, room, now)
     }
 
     // Answers the turns of a batch, one after another, and gives their replies in a list that has room for

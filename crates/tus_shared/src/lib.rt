@@ -3,6 +3,7 @@
 //! of all changes.
 #![tactic(auto)]
 
+mod ahead;
 mod balance;
 mod charges;
 mod desk;

@@ -171,6 +171,7 @@ fn open_desks<C: Charges, R: Ledger, M: Ledger, B: Wait + Drop>(
             return Err(OpenFault::Board);
         };
         desks.push_reserved(Desk {
+            alloc,
             settings: settings.copied(),
             number,
             charged: charged.part(),

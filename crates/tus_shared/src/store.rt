@@ -63,7 +63,7 @@ impl<C: Charges, R: Ledger, M: Ledger, B: Wait + Drop> Store<C, R, M, B> {
 
     /// Answers a request at a desk and applies it to the book, as the plain book does at this moment
     /// ([`tus_steps::answer`]). What it asks for was found before the lock was taken ([`tus_steps::asked_of`], under the
-    /// settings of the desk). A change that is accepted is the next event, made at this desk. The desk has seen all events
+    /// settings of the desk), and so was the room into which the bytes of a GET are copied. A change that is accepted is the next event, made at this desk. The desk has seen all events
     /// after it, and its shares rise by what the request charges and releases, and by that event. The shares of other desks
     /// stay, since no other desk is lent.
     pub fn step(
@@ -71,6 +71,7 @@ impl<C: Charges, R: Ledger, M: Ledger, B: Wait + Drop> Store<C, R, M, B> {
         desk: &mut Desk<C, R, M>,
         request: &Request,
         asked: Asked,
+        room: Vec<u8>,
         now: Moment,
     ) -> Reply
         requires found { IsFound C.settings request.now asked }
@@ -92,7 +93,7 @@ impl<C: Charges, R: Ledger, M: Ledger, B: Wait + Drop> Store<C, R, M, B> {
             }
             asked => {
                 self.board.show_to(&mut desk.reader);
-                answer_asked(self.headline(), request, asked, now)
+                answer_asked(self.headline(), request, asked, now, room)
             }
         }
     }

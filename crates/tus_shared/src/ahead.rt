@@ -1,0 +1,76 @@
+//! What a desk does of a request before it takes the lock.
+ghost use Rattle.std.specs.Prelude.{◌≡◌};
+ghost use mathlib.Core.List.{IsPrefix};
+ghost use Rattle.tus_shared.specs.Answers.{OnlySeesMore};
+
+use crate::charges::Charges;
+use crate::desk::Desk;
+use std::sync::ledger::Ledger;
+use tus_steps::Asked;
+use upload_book::{Change, HeadRow, Moment, Name};
+
+impl<C: Charges, R: Ledger, M: Ledger> Desk<C, R, M> {
+    /// Does of what a request asks for what can be done without the lock, so that the lock is held for less. The SHA-1 of a
+    /// body is computed where it came with one, unless the heads tell that it will not be compared. For a GET as much
+    /// memory is reserved as the heads tell that it needs; there may be too little. What is asked for stays what it is.
+    /// It takes no lock, and waits for nobody.
+    pub(crate) fn work_ahead(&mut self, asked: &mut Asked, now: Moment) -> Vec<u8>
+        ensures asked { asked.new ≡ asked.old }
+        ensures alone { OnlySeesMore self.old self.new }
+        ensures begins { IsPrefix self.old.seen self.new.seen }
+    {
+        match asked {
+            Asked::Content(name) => return self.room_for(name, now),
+            Asked::Change(asked) => {
+                if self.may_compare(&asked.change, now) {
+                    asked.change.digest();
+                }
+            }
+            Asked::Options | Asked::Refused(_) | Asked::Look(_) => {}
+        }
+        Vec::new(self.alloc)
+    }
+
+    // Memory for the bytes of an upload that is complete, as far as the heads tell and there is some.
+    fn room_for(&mut self, name: &Name, now: Moment) -> Vec<u8>
+        ensures alone { OnlySeesMore self.old self.new }
+        ensures begins { IsPrefix self.old.seen self.new.seen }
+    {
+        let len = match self.read_board(name, now) {
+            Some(Ok(row)) => len_of_whole(&row),
+            _ => 0,
+        };
+        match Vec::with_capacity(self.alloc, len as usize) {
+            Ok(room) => room,
+            Err(_) => Vec::new(self.alloc),
+        }
+    }
+
+    // Whether the bytes of a change may come to be compared with a checksum, as far as the heads tell.
+    fn may_compare(&mut self, change: &Change, now: Moment) -> bool
+        ensures alone { OnlySeesMore self.old self.new }
+        ensures begins { IsPrefix self.old.seen self.new.seen }
+    {
+        match change {
+            Change::Create { first, .. } => first.check.is_some(),
+            Change::Append { name, chunk } if chunk.check.is_some() => {
+                match self.read_board(name, now) {
+                    Some(Ok(row)) => chunk
+                        .refusal_by_row(self.settings.numbers(), &row)
+                        .is_none(),
+                    _ => false,
+                }
+            }
+            _ => false,
+        }
+    }
+}
+
+// How many bytes an upload has that is complete; else none.
+fn len_of_whole(row: &HeadRow) -> u64 {
+    if row.declared == Some(row.offset) {
+        row.offset
+    } else {
+        0
+    }
+}
