@@ -1,19 +1,18 @@
 -- The second half of a turn: what is done for each thing that came in.
-use Rattle.std.proofs.Common.{◌≡◌, ℕ, Bool, true, false, true≢false, List, [], ◌++◌, Option, Some, Result, Ok, Err, IfOk, IfErr, take, refl, sym, subst, append-nil}
+use Rattle.std.proofs.Common.{◌≡◌, ℕ, Bool, true, false, List, [], ◌++◌, Option, Some, Result, Ok, Err, IfOk, IfErr, take, refl, sym, subst, ◌∙◌, append-nil}
 use Rattle.std.specs.Io.KnownBytes.{Appends}
 use Rattle.tus_steps.specs.Request.{Request}
 use Rattle.tus_steps.specs.declared.reply.Reply.{Reply}
 use Rattle.http_wire.specs.inside.Ahead.{Ahead}
-use Rattle.http_wire.specs.Asking.{BreaksAsked, HasCome, asked}
+use Rattle.http_wire.specs.Asking.{BreaksAnswer, BreaksAsked, asked}
 use Rattle.http_wire.specs.Exchange.{Exchange}
-use Rattle.http_wire.specs.Front.{message, refused, cut_patch, IsFront}
 use Rattle.http_wire.specs.Fault.{NamesStream}
 use Rattle.http_wire.specs.Incoming.{FramedRequest}
 use Rattle.http_wire.specs.Layout.{framed_at, request_at}
 use Rattle.http_wire.specs.ReadOnWire.{ComesIn}
 use Rattle.http_wire.specs.ReplyText.{reply_text, refusal_text}
 use Rattle.http_wire.specs.inside.TurnFinish.{FinishesTurn, turn_after, turn_cut}
-use Rattle.http_wire.specs.Turns.{LastTurn, BreaksTurn}
+use Rattle.http_wire.specs.Turns.{LastTurn}
 use Rattle.http_wire.specs.Writes.{Writes}
 use Rattle.http_wire.specs.declared.conversation.Ended.{Ended}
 use Rattle.http_wire.specs.declared.conversation.Ended.TheVariants as ended
@@ -26,7 +25,7 @@ use Rattle.http_wire.specs.declared.incoming.Incoming.TheVariants as incoming
 use Rattle.http_wire.specs.declared.incoming.Cut.TheVariants as cut
 use Rattle.http_wire.specs.declared.refusal.WireRefusal.{WireRefusal}
 use Rattle.http_wire.proofs.AheadLemmas.{Appends-none}
-use Rattle.http_wire.proofs.TurnLemmas.{MessageTurn-stays, MessageTurn-closed, MessageTurn-refused, MessageTurn-cut_patch, MessageTurn-cut_other, MessageTurn-end, LastTurn-alone, BreaksTurn-reply, BreaksTurn-refusal}
+use Rattle.http_wire.proofs.TurnLemmas.{MessageTurn-stays, MessageTurn-closed, MessageTurn-refused, MessageTurn-cut_patch, MessageTurn-cut_other, MessageTurn-end, LastTurn-alone, BreaksAnswer-reply, BreaksAnswer-refusal}
 
 -- what holds of a value under a premise that does not name it
 pub IfOk-when : {T E P : Type 0} (Q : T → Type 0) (r : Result T E) → (P → IfOk r Q) → IfOk r (λ x. P → Q x)
@@ -37,16 +36,6 @@ IfOk-when Q (Err e) h = tt
 pub IfErr-more : {T E : Type 0} (P Q : E → Type 0) (r : Result T E) → ((e : E) → P e → Q e) → IfErr r P → IfErr r Q
 IfErr-more P Q (Ok x) more h = tt
 IfErr-more P Q (Err e) more h = more e h
-
--- a message has come whatever follows it, so also where nothing does
-came_message : (max : ℕ) (input : List ℕ) (request : Request) (framing : Framing) (waiting : Bool) (held : List ℕ) → ((rest : List ℕ) → IsFront max (input ++ rest) (message request framing waiting (held ++ rest))) → HasCome max input
-came_message max input request framing waiting held front =
-    (message request framing waiting (held ++ []), subst (λ i. IsFront max i (message request framing waiting (held ++ []))) (append-nil input) (front []), refl)
-
--- and so has a request that is refused
-came_refused : (max : ℕ) (input : List ℕ) (why : WireRefusal) (framing : Framing) → ((rest : List ℕ) → IsFront max (input ++ rest) (refused why framing)) → HasCome max input
-came_refused max input why framing front =
-    (refused why framing, subst (λ i. IsFront max i (refused why framing)) (append-nil input) (front []), refl)
 
 module _ {A : Type 0} (steps : A → Request → ℕ → Reply → A → Type 0) where
   -- nothing is written after what was written while the message came in
@@ -64,7 +53,6 @@ module _ {A : Type 0} (steps : A → Request → ℕ → Reply → A → Type 0)
       w.all,
       λ rest _. MessageTurn-closed steps max now (record { input = input; text = said; before = before; after = after }) a p reply f step is rest,
     );
-    came = λ max input said f fails. came_message max input (request_at p a.lent) p.framing f.0 a.held f.2;
     end = λ remaining sees tells. tt;
     ends = tt;
     reader = refl;
@@ -77,7 +65,6 @@ module _ {A : Type 0} (steps : A → Request → ℕ → Reply → A → Type 0)
       w.all,
       MessageTurn-stays steps max now (record { input = input; text = said; before = before; after = after }) a p reply f step is,
     );
-    came = λ max input said f fails. came_message max input (request_at p a.lent) p.framing f.0 a.held f.2;
     end = λ remaining sees tells. sees;
     ends = tt;
     reader = refl;
@@ -88,10 +75,9 @@ module _ {A : Type 0} (steps : A → Request → ℕ → Reply → A → Type 0)
     turn = λ max input said f. (
       take w.prefix.0 (reply_text reply now p.framing),
       w.prefix.2,
-      subst (BreaksTurn steps max now (record { input = input; text = said ++ take w.prefix.0 (reply_text reply now p.framing); before = before; after = after })) (sym w.fault)
-          (BreaksTurn-reply steps max now w.prefix.0 (record { input = input; text = said; before = before; after = after }) a p reply f step),
+      subst (BreaksAnswer steps max now (record { input = input; text = said ++ take w.prefix.0 (reply_text reply now p.framing); before = before; after = after })) (sym w.fault)
+          (BreaksAnswer-reply steps max now w.prefix.0 (record { input = input; text = said; before = before; after = after }) a p reply f step),
     );
-    came = λ max input said f fails. came_message max input (request_at p a.lent) p.framing f.0 a.held f.2;
     end = λ remaining sees tells. tt;
     ends = tt;
     reader = tt;
@@ -108,7 +94,6 @@ module _ {A : Type 0} (steps : A → Request → ℕ → Reply → A → Type 0)
       w.all,
       λ rest _. MessageTurn-refused steps max now (record { input = input; text = said; before = same; after = same }) a why framing f refl rest,
     );
-    came = λ max input said f fails. came_refused max input why framing f.1;
     end = λ remaining sees tells. tt;
     ends = tt;
     reader = refl;
@@ -119,10 +104,9 @@ module _ {A : Type 0} (steps : A → Request → ℕ → Reply → A → Type 0)
     turn = λ max input said f. (
       take w.prefix.0 (refusal_text why now framing),
       w.prefix.2,
-      subst (BreaksTurn steps max now (record { input = input; text = said ++ take w.prefix.0 (refusal_text why now framing); before = same; after = same })) (sym w.fault)
-          (BreaksTurn-refusal steps max now w.prefix.0 (record { input = input; text = said; before = same; after = same }) a why framing f refl),
+      subst (BreaksAnswer steps max now (record { input = input; text = said ++ take w.prefix.0 (refusal_text why now framing); before = same; after = same })) (sym w.fault)
+          (BreaksAnswer-refusal steps max now w.prefix.0 (record { input = input; text = said; before = same; after = same }) a why framing f refl),
     );
-    came = λ max input said f fails. came_refused max input why framing f.1;
     end = λ remaining sees tells. tt;
     ends = tt;
     reader = tt;
@@ -141,7 +125,6 @@ module _ {A : Type 0} (steps : A → Request → ℕ → Reply → A → Type 0)
           (quiet max now (record { input = input; text = said; before = before; after = after }) ended.Cut
           (MessageTurn-cut_patch steps max now (record { input = input; text = said; before = before; after = after }) a p cut.Ended reply f step)) none,
     );
-    came = λ max input said f fails. (cut_patch (request_at p a.lent) p.framing f.0, f.2, refl);
     end = λ remaining sees tells. sees tells;
     ends = tt;
     reader = refl;
@@ -152,14 +135,16 @@ module _ {A : Type 0} (steps : A → Request → ℕ → Reply → A → Type 0)
     turn = λ max input said f. (
       [],
       Appends-none w,
-      (
-        ended.Cut,
-        tt,
-        quiet max now (record { input = input; text = said; before = before; after = after }) ended.Cut
-            (MessageTurn-cut_patch steps max now (record { input = input; text = said; before = before; after = after }) a p cut.Fault reply f step),
-      ),
+      record {
+        request = request_at p a.lent;
+        framing = p.framing;
+        waiting = f.0;
+        reply = reply;
+        front = f.2;
+        step = step;
+        wrote = append-nil said ∙ f.1;
+      },
     );
-    came = λ max input said f fails. (cut_patch (request_at p a.lent) p.framing f.0, f.2, refl);
     end = λ remaining sees tells. tt;
     ends = tt;
     reader = tt;
@@ -177,7 +162,6 @@ module _ {A : Type 0} (steps : A → Request → ℕ → Reply → A → Type 0)
           (quiet max now (record { input = input; text = said; before = same; after = same }) ended.Cut
           (MessageTurn-cut_other steps max now (record { input = input; text = said; before = same; after = same }) a f refl)) none,
     );
-    came = λ max input said f fails. absurd (true≢false (sym fails));
     end = λ remaining sees tells. sees tells;
     ends = tt;
     reader = refl;
@@ -195,7 +179,6 @@ module _ {A : Type 0} (steps : A → Request → ℕ → Reply → A → Type 0)
           (quiet max now (record { input = input; text = said; before = same; after = same }) ended.Input
           (MessageTurn-end steps max now (record { input = input; text = said; before = same; after = same }) f refl)) none,
     );
-    came = λ max input said f fails. absurd (true≢false (sym fails));
     end = λ remaining sees tells. sees tells;
     ends = tt;
     reader = refl;
@@ -203,11 +186,11 @@ module _ {A : Type 0} (steps : A → Request → ℕ → Reply → A → Type 0)
     fault = tt;
   }
 
-  -- where a turn was finished by a fault, its message had come, and its moment was told before it was finished
+  -- where a turn was finished by a fault, its message had come, and its moment was told before that
   pub Finishes-asked : {C : Type 0} (tells : C → ℕ → C → Type 0) (before after : C) (max now : ℕ) (a : Ahead) (incoming : Incoming FramedRequest) (input said : List ℕ) (w0 w1 : Option (List ℕ)) (failed : Bool) (first last : A)
       (r : Result (Option Ended) WireFault) → tells before now after → ComesIn max (record { input = input; text = said }) a.held incoming → FinishesTurn steps now a incoming w0 w1 failed first last r
       → IfErr r (λ f. (text : List ℕ) × Appends w0 w1 text × BreaksAsked steps tells max before after (record { input = input; text = said ++ text; before = first; after = last }) f)
   Finishes-asked tells before after max now a incoming input said w0 w1 failed first last (Ok e) told f h = tt
   Finishes-asked tells before after max now a incoming input said w0 w1 failed first last (Err fault) told f h =
       let t = h.turn max input said f in
-      (t.0, t.1, asked now told (h.came max input said f refl) t.2)
+      (t.0, t.1, asked now told t.2)

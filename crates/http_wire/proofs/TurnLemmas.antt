@@ -1,15 +1,17 @@
 -- One turn: what was read and written is the turn of its front.
-use Rattle.std.proofs.Common.{◌≡◌, ℕ, true, false, List, [], ◌++◌, Option, Result, Err, take, refl, sym, ap, subst, inl, inr, append-nil}
+use Rattle.std.proofs.Common.{◌≡◌, ℕ, true, false, List, [], ◌++◌, Option, Result, Ok, Err, take, refl, sym, ap, subst, inl, inr, append-nil}
 use Rattle.tus_steps.specs.Request.{Request}
 use Rattle.tus_steps.specs.declared.reply.Reply.{Reply}
+use Rattle.http_wire.specs.Asking.{BreaksAnswer}
 use Rattle.http_wire.specs.inside.Ahead.{Ahead}
+use Rattle.http_wire.specs.inside.TurnFinish.{FinishesIn}
 use Rattle.http_wire.specs.Conversation.{continue_text}
 use Rattle.http_wire.specs.Exchange.{Exchange, followed}
 use Rattle.http_wire.specs.Front.{Front, message, refused, cut_patch, cut_other, clean_end, IsFront}
 use Rattle.http_wire.specs.ReadOnWire.{waits, ComesIn, BreaksFront}
 use Rattle.http_wire.specs.Layout.{framed_at, request_at}
 use Rattle.http_wire.specs.ReplyText.{reply_text, refusal_text}
-use Rattle.http_wire.specs.Turns.{TakesTurn, Answered, LastTurn, FailsIn, BreaksTurn}
+use Rattle.http_wire.specs.Turns.{TakesTurn, Answered, LastTurn, FailsToAnswer, FailsIn, BreaksTurn}
 use Rattle.http_wire.proofs.ConversationLemmas.{Conversation-closed}
 use Rattle.http_wire.specs.declared.conversation.Ended.{Ended}
 use Rattle.http_wire.specs.declared.conversation.Ended.TheVariants as ended
@@ -89,19 +91,40 @@ module _ {A : Type 0} (steps : A → Request → ℕ → Reply → A → Type 0)
   BreaksTurn-front now x Memory f same = absurd f
   BreaksTurn-front now x Failed f same = absurd f
 
+  -- an answer that could not be written is a turn that was broken off
+  fails_to_answer : (now : ℕ) (f : Front) (x : Exchange A) → FailsToAnswer steps max now f x → FailsIn steps max now f x
+  fails_to_answer now (message request framing waiting rest) x h = inr h
+  fails_to_answer now (refused why framing) x h = h
+  fails_to_answer now (cut_patch request framing waiting) x h = absurd h
+  fails_to_answer now (cut_other waiting) x h = absurd h
+  fails_to_answer now clean_end x h = absurd h
+
+  -- a turn that was broken off while it was answered is one that was broken off
+  pub BreaksTurn-answer : (now : ℕ) (x : Exchange A) (e : WireFault) → BreaksAnswer steps max now x e → BreaksTurn steps max now x e
+  BreaksTurn-answer now x Read h =
+      (ended.Cut, tt, λ moments. (cut_patch h.request h.framing h.waiting, h.front, (h.reply, h.step, refl, h.wrote)))
+  BreaksTurn-answer now x Write h = (h.0, h.1, fails_to_answer now h.0 x h.2)
+  BreaksTurn-answer now x Memory h = h
+  BreaksTurn-answer now x Failed h = h
+
+  -- a turn that was finished was taken
+  pub TakesTurn-finished : (now : ℕ) (x : Exchange A) (held : List ℕ) (r : Result (Option Ended) WireFault) → FinishesIn steps max now x held r → TakesTurn steps max now x held r
+  TakesTurn-finished now x held (Ok e) h = h
+  TakesTurn-finished now x held (Err fault) h = BreaksTurn-answer now x fault h
+
   -- the reply could not be written
-  pub BreaksTurn-reply : (now n : ℕ) (x : Exchange A) (a : Ahead) (p : Layout) (reply : Reply) → ComesIn max (record { input = x.input; text = x.text }) a.held (incoming.Message (framed_at a.lent p))
-      → steps x.before (request_at p a.lent) now reply x.after → BreaksTurn steps max now (with_text x (take n (reply_text reply now p.framing))) Write
-  BreaksTurn-reply now n x a p reply f step = (
+  pub BreaksAnswer-reply : (now n : ℕ) (x : Exchange A) (a : Ahead) (p : Layout) (reply : Reply) → ComesIn max (record { input = x.input; text = x.text }) a.held (incoming.Message (framed_at a.lent p))
+      → steps x.before (request_at p a.lent) now reply x.after → BreaksAnswer steps max now (with_text x (take n (reply_text reply now p.framing))) Write
+  BreaksAnswer-reply now n x a p reply f step = (
     message (request_at p a.lent) p.framing f.0 (a.held ++ []),
     subst (λ i. IsFront max i (message (request_at p a.lent) p.framing f.0 (a.held ++ []))) (append-nil x.input) (f.2 []),
-    inr (reply, n, step, ap (λ l. l ++ take n (reply_text reply now p.framing)) f.1),
+    (reply, n, step, ap (λ l. l ++ take n (reply_text reply now p.framing)) f.1),
   )
 
   -- the refusal could not be written
-  pub BreaksTurn-refusal : (now n : ℕ) (x : Exchange A) (a : Ahead) (why : WireRefusal) (framing : Framing)
-      → ComesIn max (record { input = x.input; text = x.text }) a.held (incoming.Refused why framing) → x.after ≡ x.before → BreaksTurn steps max now (with_text x (take n (refusal_text why now framing))) Write
-  BreaksTurn-refusal now n x a why framing f same = (
+  pub BreaksAnswer-refusal : (now n : ℕ) (x : Exchange A) (a : Ahead) (why : WireRefusal) (framing : Framing)
+      → ComesIn max (record { input = x.input; text = x.text }) a.held (incoming.Refused why framing) → x.after ≡ x.before → BreaksAnswer steps max now (with_text x (take n (refusal_text why now framing))) Write
+  BreaksAnswer-refusal now n x a why framing f same = (
     refused why framing,
     subst (λ i. IsFront max i (refused why framing)) (append-nil x.input) (f.1 []),
     (same, (n, ap (λ l. l ++ take n (refusal_text why now framing)) f.0)),

@@ -68,15 +68,23 @@ module _ {A : Type 0} (steps : A → Request → ℕ → Reply → A → Type 0)
   FailsToContinue waiting x =
       (waiting ≡ true) × (x.after ≡ x.before) × ((n : ℕ) × (x.text ≡ take n (continue_text true)))
 
-  -- The turn of a front was broken off by a write that failed: a prefix of its text was written. A step that
-  -- was made before its reply could not be written stays.
+  -- The answer to a front was broken off by a write that failed: a prefix of the reply or of the refusal was written, after
+  -- `100 Continue` where that was due. A step that was made before its reply could not be written stays.
+  abbrev pub FailsToAnswer : ℕ → Front → Exchange A → Type 0
+  FailsToAnswer now (message request framing waiting rest) x =
+      (reply : Reply) × (n : ℕ) × steps x.before request now reply x.after
+      × (x.text ≡ continue_text waiting ++ take n (reply_text reply now framing))
+  FailsToAnswer now (refused why framing) x =
+      (x.after ≡ x.before) × ((n : ℕ) × (x.text ≡ take n (refusal_text why now framing)))
+  FailsToAnswer now (cut_patch request framing waiting) x = ⊥
+  FailsToAnswer now (cut_other waiting) x = ⊥
+  FailsToAnswer now clean_end x = ⊥
+
+  -- The turn of a front was broken off by a write that failed: that of `100 Continue`, or that of its answer.
   abbrev pub FailsIn : ℕ → Front → Exchange A → Type 0
   FailsIn now (message request framing waiting rest) x =
-      FailsToContinue waiting x
-      ⊎ ((reply : Reply) × (n : ℕ) × steps x.before request now reply x.after
-      × (x.text ≡ continue_text waiting ++ take n (reply_text reply now framing)))
-  FailsIn now (refused why framing) x =
-      (x.after ≡ x.before) × ((n : ℕ) × (x.text ≡ take n (refusal_text why now framing)))
+      FailsToContinue waiting x ⊎ FailsToAnswer now (message request framing waiting rest) x
+  FailsIn now (refused why framing) x = FailsToAnswer now (refused why framing) x
   FailsIn now (cut_patch request framing waiting) x = FailsToContinue waiting x
   FailsIn now (cut_other waiting) x = FailsToContinue waiting x
   FailsIn now clean_end x = ⊥

@@ -1,5 +1,5 @@
 -- The second half of a turn, after its message was read: a request is answered or refused, and the conversation goes on or ends.
-use Rattle.std.specs.Prelude.{ℕ, List, Option, Some, None, ◌≡◌, Bool, true, false, ◌++◌, Result, Ok, Err, IsErr, OnOk, IfOk, IfErr}
+use Rattle.std.specs.Prelude.{ℕ, List, Option, Some, None, ◌≡◌, Bool, true, false, ◌++◌, Result, Ok, Err, OnOk, IfOk, IfErr}
 use Rattle.http_wire.specs.inside.Ahead.{Ahead, SeesEnd}
 use Rattle.http_wire.specs.declared.conversation.Ended.{Ended}
 use Rattle.http_wire.specs.declared.conversation.Ended.TheVariants as ended
@@ -7,7 +7,8 @@ use Rattle.http_wire.specs.declared.fault.WireFault.TheVariants as fault
 use Rattle.std.specs.Io.KnownBytes.{Appends}
 use Rattle.tus_steps.specs.Request.{Request}
 use Rattle.tus_steps.specs.declared.reply.Reply.{Reply}
-use Rattle.http_wire.specs.Asking.{HasCome}
+use Rattle.http_wire.specs.Asking.{BreaksAnswer}
+use Rattle.http_wire.specs.Exchange.{Exchange}
 use Rattle.http_wire.specs.Fault.{NamesStream}
 use Rattle.http_wire.specs.Incoming.{FramedRequest, is_cut_by_fault}
 use Rattle.http_wire.specs.ReadOnWire.{ComesIn, TellsEnd}
@@ -33,16 +34,20 @@ abbrev pub turn_cut : Cut → Result (Option Ended) WireFault
 turn_cut cut.Ended = Ok (Some ended.Cut)
 turn_cut cut.Fault = Err fault.Read
 
--- A turn was finished by what came in, at this moment: whatever that was read from, with what is written now it is a turn.
--- Only a PATCH that a failed read cut makes it the reader's fault, and only a write that failed the writer's; and then
--- something had come that is answered.
-pub record FinishesTurn {A : Type 0} (steps : A → Request → ℕ → Reply → A → Type 0) (now : ℕ) (a : Ahead) (incoming : Incoming FramedRequest) (wrote writes : Option (List ℕ)) (failed : Bool) (before after : A)
-    (r : Result (Option Ended) WireFault) : Type 0 where
-  pub turn : (max : ℕ) (input said : List ℕ) → ComesIn max (record { input = input; text = said }) a.held incoming
-      → (text : List ℕ) × Appends wrote writes text × TakesTurn steps max now (record { input = input; text = said ++ text; before = before; after = after }) a.held r
-  pub came : (max : ℕ) (input said : List ℕ) → ComesIn max (record { input = input; text = said }) a.held incoming → IsErr r → HasCome max input
-  pub end : (remaining : Option (List ℕ)) → SeesEnd remaining a → TellsEnd a.ended (Ok incoming) → IfOk r (EndsTurnAtEnd remaining a)
-  pub ends : IfOk r EndsByTurn
-  pub reader : OnOk r (is_cut_by_fault incoming ≡ false)
-  pub writer : OnOk r (failed ≡ false)
-  pub fault : IfErr r (NamesStream (is_cut_by_fault incoming) failed)
+module _ {A : Type 0} (steps : A → Request → ℕ → Reply → A → Type 0) where
+  -- what a turn came to after its message had come: where a fault broke it off, that was while the message was answered
+  abbrev pub FinishesIn : ℕ → ℕ → Exchange A → List ℕ → Result (Option Ended) WireFault → Type 0
+  FinishesIn max now x held (Ok e) = TakesTurn steps max now x held (Ok e)
+  FinishesIn max now x held (Err fault) = BreaksAnswer steps max now x fault
+
+  -- A turn was finished by what came in, at this moment: whatever that was read from, with what is written now it is a turn.
+  -- Only a PATCH that a failed read cut makes it the reader's fault, and only a write that failed the writer's.
+  pub record FinishesTurn (now : ℕ) (a : Ahead) (incoming : Incoming FramedRequest) (wrote writes : Option (List ℕ)) (failed : Bool) (before after : A)
+      (r : Result (Option Ended) WireFault) : Type 0 where
+    pub turn : (max : ℕ) (input said : List ℕ) → ComesIn max (record { input = input; text = said }) a.held incoming
+        → (text : List ℕ) × Appends wrote writes text × FinishesIn max now (record { input = input; text = said ++ text; before = before; after = after }) a.held r
+    pub end : (remaining : Option (List ℕ)) → SeesEnd remaining a → TellsEnd a.ended (Ok incoming) → IfOk r (EndsTurnAtEnd remaining a)
+    pub ends : IfOk r EndsByTurn
+    pub reader : OnOk r (is_cut_by_fault incoming ≡ false)
+    pub writer : OnOk r (failed ≡ false)
+    pub fault : IfErr r (NamesStream (is_cut_by_fault incoming) failed)

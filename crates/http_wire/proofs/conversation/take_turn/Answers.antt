@@ -6,7 +6,7 @@ use Rattle.http_wire.specs.Exchange.{Exchange}
 use Rattle.http_wire.proofs.AheadLemmas.{Appends-more}
 use Rattle.http_wire.proofs.FinishLemmas.{Finishes-asked, IfErr-more, IfOk-when}
 use Rattle.http_wire.proofs.ConversationLemmas.{IfErr-from}
-use Rattle.http_wire.proofs.TurnLemmas.{BreaksTurn-front, TakesTurn-broken}
+use Rattle.http_wire.proofs.TurnLemmas.{BreaksTurn-front, TakesTurn-broken, TakesTurn-finished}
 use Rattle.http_wire.proofs.conversation.take_turn.Goals as goal
 
 pub returns-in_err-incoming-clause-turn : goal.returns-in_err-incoming-clause-turn
@@ -40,7 +40,7 @@ pub returns-clause-turn : goal.returns-clause-turn
 returns-clause-turn g c =
     let f = c.in_ok-incoming.ensures.reads in
     let t = c.finish_turn.ensures.finishes.turn c.args.max_size (c.args.buffers.now.inbox.held ++ f.0) f.1 f.4 in
-    rw c.finish_turn.ensures.inbox (asked c.moment-now.result c.moment-now.ensures (f.0, f.1 ++ t.0, f.2, Appends-more _ _ _ f.1 t.0 f.3 t.1, t.2))
+    rw c.finish_turn.ensures.inbox (asked c.moment-now.result c.moment-now.ensures (f.0, f.1 ++ t.0, f.2, Appends-more _ _ _ f.1 t.0 f.3 t.1, TakesTurn-finished g.A.Answer.steps c.args.max_size c.moment-now.result _ _ c.finish_turn.result t.2))
 
 pub returns-clause-end : goal.returns-clause-end
 returns-clause-end g c =
