@@ -54,7 +54,7 @@ pub IsFront-memory : (max : ℕ) (bytes : List ℕ) (p : Layout) (held : List �
 IsFront-memory max bytes p held b rest within some large =
     let f = refused Memory (closing p.framing) in
     let same : f ≡ refused Memory (closing (framing_of b.head)) = ap (λ x. refused Memory (closing x)) b.shows.framing in
-    subst (λ t. Begins max t f) (sym (b.begins rest)) (rw b.few (Some b.head, b.parses, inr (inr (p.body_len, b.shows.body_len, some, rw (length-take-le p.head_len held within) large), same)))
+    subst (λ t. Begins max t f) (sym (b.begins rest)) (rw b.few (Some b.head, b.parses, inr ((p.body_len, b.shows.body_len, some, rw (length-take-le p.head_len held within) large), same)))
 
 -- the request of the layout is that of the head
 pub request_at-shows : (max : ℕ) (text head body : List ℕ) (h : RequestHead) (p : Layout) → ShowsHead max head h p → take p.head_len text ≡ head → drop p.head_len text ≡ body

@@ -1,13 +1,11 @@
 -- What a head text begins, where it was parsed.
-use Rattle.std.proofs.Common.{◌≡◌, ◌≢◌, ℕ, List, [], false, Some, Ok, Err, Result, ap, inl, inr}
+use Rattle.std.proofs.Common.{◌≡◌, ℕ, List, false, Some, Ok, Err, Result, ap, inl}
 use Rattle.httparse.specs.Grammar.{RequestHead}
 use Rattle.http_wire.specs.HeadText.{has_many_lines}
-use Rattle.http_wire.specs.Front.{Parses, refused, closing, framing_of, judged, judged_front}
+use Rattle.http_wire.specs.Front.{Parses, refused, judged, judged_front}
 use Rattle.http_wire.specs.inside.HeadLayout.{JudgesHead, ReadsLayout}
-use Rattle.http_wire.specs.declared.framing.Framing.{Framing}
 use Rattle.http_wire.specs.declared.read.head.RefusedHead.{RefusedHead}
 use Rattle.http_wire.specs.declared.read.layout.Layout.{Layout}
-use Rattle.http_wire.specs.declared.refusal.WireRefusal.TheVariants.{Memory}
 
 -- a head text gives what its head is judged to be
 pub ReadsLayout-judged : (max : ℕ) (text : List ℕ) (h : RequestHead) (r : Result Layout RefusedHead) → has_many_lines text ≡ false → Parses text (Some h)
@@ -16,8 +14,3 @@ ReadsLayout-judged max text h (Ok p) few parses s = (few, (h, parses, s))
 ReadsLayout-judged max text h (Err e) few parses s = λ rest.
     let same : refused e.refusal e.framing ≡ judged_front h (judged max h) rest = rw s.0 (ap (refused e.refusal) s.1) in
     rw few (Some h, parses, inl same)
-
--- there may be no memory for the fields of a head that was parsed
-pub ReadsLayout-memory : (max : ℕ) (text : List ℕ) (h : RequestHead) (framing : Framing) → has_many_lines text ≡ false → Parses text (Some h) → h.fields ≢ []
-    → framing ≡ closing (framing_of h) → ReadsLayout max text (Err (record { refusal = Memory; framing = framing }))
-ReadsLayout-memory max text h framing few parses some same = λ rest. rw few (Some h, parses, inr (inl some, ap (refused Memory) same))

@@ -1,10 +1,10 @@
 pub mod AheadLemmas
 pub mod CarriedLemmas
 pub mod ConversationLemmas
-pub mod FieldsLemmas
 pub mod FindLemmas
 pub mod FinishLemmas
 pub mod FrontLemmas
+pub mod HeadFieldsLemmas
 pub mod HeadLemmas
 pub mod HeadTextLemmas
 pub mod LawsLemmas
@@ -13,4 +13,5 @@ pub mod OrderLemmas
 pub mod PageLemmas
 pub mod RangeLemmas
 pub mod ReplyLemmas
+pub mod ScanLemmas
 pub mod TurnLemmas

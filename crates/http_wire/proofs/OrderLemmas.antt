@@ -83,17 +83,16 @@ abbrev BeginsWholeFor : ℕ → List ℕ → List ℕ → Option WireRefusal →
 BeginsWholeFor max text rest why = (f : Front) × BeginsWhole max text rest f × (refusal_in f ≡ why)
 
 module _ (max : ℕ) (text rest : List ℕ) (why : Option WireRefusal) where
-  -- what follows memory for the fields
+  -- a head whose fields are tested
   judged-begins : (h : RequestHead) (r : Result ℕ WireRefusal) → judged max h ≡ r → Parses text (Some h) → After (result_err r) (memory (OutgrowsRoom max text h) done) why → BeginsWholeFor max text rest why
   judged-begins h (Err refusal) is parses q = (judged_front h (Err refusal) rest, (Some h, parses, inl (ap (λ r. judged_front h r rest) (sym is))), sym q)
-  judged-begins h (Ok n) is parses (inl lacks) = (refused Memory (closing (framing_of h)), (Some h, parses, inr (inr lacks.0, refl)), sym lacks.1)
+  judged-begins h (Ok n) is parses (inl lacks) = (refused Memory (closing (framing_of h)), (Some h, parses, inr (lacks.0, refl)), sym lacks.1)
   judged-begins h (Ok n) is parses (inr none) = (with_body h n rest, (Some h, parses, inl (ap (λ r. judged_front h r rest) (sym is))), unrefused h n rest ∙ sym none)
 
   head-begins : (parsed : Option RequestHead) → Parses text parsed → MatchBool (is_none parsed) (why ≡ Some Head) (IsReason (head_questions max text parsed) why) → BeginsWholeFor max text rest why
   unfolding judged_tests
   head-begins None parses q = (refused Head unknown_framing, (None, parses, inl refl), sym q)
-  head-begins (Some h) parses (inl lacks) = (refused Memory (closing (framing_of h)), (Some h, parses, inr (inl lacks.0, refl)), sym lacks.1)
-  head-begins (Some h) parses (inr q) =
+  head-begins (Some h) parses q =
       let later = memory (OutgrowsRoom max text h) done in
       judged-begins h (judged max h) refl parses (subst (λ o. After o later why) (sym (judged-first max h)) (tests-first (judged_tests max h) later why q))
 
@@ -119,15 +118,14 @@ module _ (max : ℕ) (text rest : List ℕ) (f : Front) where
   unfolding judged_tests
   later-reason h q =
       let later = memory (OutgrowsRoom max text h) done in
-      inr (first-tests (judged_tests max h) later (refusal_in f) (subst (λ o. After o later (refusal_in f)) (judged-first max h) q))
+      first-tests (judged_tests max h) later (refusal_in f) (subst (λ o. After o later (refusal_in f)) (judged-first max h) q)
 
   head-reason : (parsed : Option RequestHead) → (f ≡ parsed_front max parsed rest) ⊎ LacksMemory max text parsed f
       → MatchBool (is_none parsed) (refusal_in f ≡ Some Head) (IsReason (head_questions max text parsed) (refusal_in f))
   head-reason None (inl same) = ap refusal_in same
   head-reason None (inr lacks) = absurd lacks
   head-reason (Some h) (inl same) = later-reason h (judged-reason h (judged max h) same)
-  head-reason (Some h) (inr (inl takes, same)) = inl (takes, ap refusal_in same)
-  head-reason (Some h) (inr (inr outgrows, same)) =
+  head-reason (Some h) (inr (outgrows, same)) =
       let none = ap (result_err {T = ℕ} {E = WireRefusal}) outgrows.1 in
       later-reason h (subst (λ o. After o (memory (OutgrowsRoom max text h) done) (refusal_in f)) (sym none) (inl (outgrows, ap refusal_in same)))
 

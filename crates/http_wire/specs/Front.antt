@@ -1,6 +1,6 @@
 -- What the bytes of an input begin with: a message, or why there is none (RFC 9112, sections 2, 3, 5,
 -- 6 and 9.3; RFC 9110, section 10.1.1).
-use Rattle.std.specs.Prelude.{◌≡◌, ◌≢◌, ◌<◌, ◌≤◌, ◌+◌, ◌⊎◌, ℕ, Bool, true, false, ◌&&◌, ◌||◌, ◌==◌, nat_lt, nat_le, List, [], length, take, drop, codes, bytes_eq, if◌then◌else◌, MatchBool, Option, Some, None, Result, Ok, Err}
+use Rattle.std.specs.Prelude.{◌≡◌, ◌<◌, ◌≤◌, ◌+◌, ◌⊎◌, ℕ, Bool, true, false, ◌&&◌, ◌||◌, ◌==◌, nat_lt, nat_le, List, [], length, take, drop, codes, bytes_eq, if◌then◌else◌, MatchBool, Option, Some, None, Result, Ok, Err}
 use Rattle.httparse.specs.Grammar.{RequestHead, ReadsRequest}
 use Rattle.tus_text.specs.Path.{path_of}
 use Rattle.tus_steps.specs.declared.method.Method.{Method}
@@ -121,16 +121,10 @@ sure_room = 49152
 abbrev pub OutgrowsRoom : ℕ → List ℕ → RequestHead → Type 0
 OutgrowsRoom max text h = (n : ℕ) × (judged max h ≡ Ok n) × (0 < n) × (sure_room < length text + n)
 
--- the fields of a head may need memory: there are some
-abbrev pub TakesMemory : RequestHead → Type 0
-TakesMemory h = h.fields ≢ []
-
--- A head that was parsed is refused because there is no memory for its fields, of which it has some, or for
--- its body.
+-- A head that was parsed is refused because there is no memory for its body. The head itself takes none.
 abbrev pub LacksMemory : ℕ → List ℕ → Option RequestHead → Front → Type 0
 LacksMemory max text None f = ⊥
-LacksMemory max text (Some h) f =
-    (TakesMemory h ⊎ OutgrowsRoom max text h) × (f ≡ refused Memory (closing (framing_of h)))
+LacksMemory max text (Some h) f = OutgrowsRoom max text h × (f ≡ refused Memory (closing (framing_of h)))
 
 -- what a whole head text begins
 abbrev pub BeginsWhole : ℕ → List ℕ → List ℕ → Front → Type 0

@@ -2,7 +2,7 @@
 use Rattle.std.specs.Prelude.{◌≡◌, ◌⊎◌, ℕ, Bool, true, List, [], ◌∷◌, codes, MatchBool, Option, Some, None, is_none, ⊤}
 use Rattle.httparse.specs.Grammar.{RequestHead}
 use Rattle.http_wire.specs.Fields.{field_text}
-use Rattle.http_wire.specs.Front.{Front, message, refused, cut_patch, cut_other, clean_end, OutgrowsRoom, Parses, TakesMemory}
+use Rattle.http_wire.specs.Front.{Front, message, refused, cut_patch, cut_other, clean_end, OutgrowsRoom, Parses}
 use Rattle.http_wire.specs.HeadText.{HeadText, whole, too_long, cut, nothing, has_many_lines}
 use Rattle.http_wire.specs.Judge.{judge_tests}
 use Rattle.http_wire.specs.Refusal.{word_of}
@@ -33,13 +33,12 @@ abbrev pub tests_then : List (Bool × WireRefusal) → Questions → Questions
 tests_then [] later = later
 tests_then (t ∷ tests) later = test t.0 t.1 (tests_then tests later)
 
--- what is asked of a head that was parsed: is there memory for its fields, what they are tested for, and is there memory for
--- its body
+-- what is asked of a head that was parsed: what its fields are tested for, and is there memory for its body
 abbrev pub head_questions : ℕ → List ℕ → Option RequestHead → Questions
 head_questions max text None = done
 head_questions max text (Some h) =
     let field = λ (name : List ℕ). field_text name h.fields in
-    memory (TakesMemory h) (tests_then (judge_tests max h.minor (field (codes "host")) (field (codes "transfer-encoding")) (field (codes "content-length"))) (memory (OutgrowsRoom max text h) done))
+    tests_then (judge_tests max h.minor (field (codes "host")) (field (codes "transfer-encoding")) (field (codes "content-length"))) (memory (OutgrowsRoom max text h) done)
 
 -- what is asked of an input with this head text, which was parsed as this: is it too long, is it no head, and then of the head
 abbrev pub questions : ℕ → HeadText → Option RequestHead → Questions

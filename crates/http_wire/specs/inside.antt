@@ -1,6 +1,6 @@
 -- What only proofs and private functions need.
 pub mod Ahead
-pub mod FieldSpans
+pub mod HeadFields
 pub mod HeadLayout
 pub mod HeadSearch
 pub mod IncomingLayout

@@ -1,19 +1,17 @@
 ghost use Rattle.std.specs.Prelude.{◌≡◌, [], false, IfOk};
 
+use crate::read::head::FIELD_LIMIT;
 use crate::read::inbox::Inbox;
 use crate::write::page::Page;
-use http_header::HeaderMap;
-use httparse::spans::Span;
+use httparse::spans::{EMPTY_HEADER_SPAN, HeaderSpan};
 use std::alloc::{AllocError, Global};
 
-/// The memory that the messages of a connection share: what was read ahead, the fields of the message
-/// that was read last, and the page of the reply that is written; and where more of it is taken. After a
-/// connection they serve another ([`Wire::with_buffers`](crate::Wire::with_buffers)).
+/// The memory that the messages of a connection share: what was read ahead, where the fields of the head
+/// that was read last stand, and the page of the reply that is written. After a connection they serve another ([`Wire::with_buffers`](crate::Wire::with_buffers)).
 #[derive(Drop)]
 pub struct Buffers {
-    pub(crate) alloc: Global,
     pub(crate) inbox: Inbox,
-    pub(crate) found: HeaderMap<Span>,
+    pub(crate) spans: Box<[HeaderSpan; FIELD_LIMIT]>,
     pub(crate) page: Page,
 }
 
@@ -28,9 +26,8 @@ impl Buffers {
         let inbox = Inbox::new(alloc)?;
         let page = Page::new(alloc)?;
         Ok(Buffers {
-            alloc,
             inbox,
-            found: HeaderMap::empty(alloc),
+            spans: Box::new(alloc, [EMPTY_HEADER_SPAN; FIELD_LIMIT])?,
             page,
         })
     }

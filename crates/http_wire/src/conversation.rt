@@ -158,11 +158,10 @@ pub fn take_turn<R: Source, W: Sink, A: Answer, C: Clock>(
     ensures fault { IfErr result (NamesStream (R.has_failed reader.new) (W.has_failed writer.new)) }
 {
     let incoming = read_incoming(
-        buffers.alloc,
         reader,
         writer,
         &mut buffers.inbox,
-        &mut buffers.found,
+        &mut buffers.spans,
         max_size,
     )?;
     let now = clock.moment();

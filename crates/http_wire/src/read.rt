@@ -25,25 +25,22 @@ use crate::incoming::{Cut, Incoming};
 use crate::refusal::WireRefusal;
 use crate::source::{Sink, Source};
 use crate::write::send::put_all;
-use head::{UNKNOWN_FRAMING, closing, read_layout};
+use head::{FIELD_LIMIT, UNKNOWN_FRAMING, closing, read_layout};
 use head_search::{HeadFound, find_head};
-use http_header::HeaderMap;
-use httparse::spans::Span;
+use httparse::spans::HeaderSpan;
 use inbox::{Inbox, READ_SIZE};
 use layout::Layout;
-use std::alloc::Global;
 
 /// What a client that waits for it reads before it sends a body (RFC 9110, section 15.2.1).
 const CONTINUE: &[u8] = b"HTTP/1.1 100 Continue\r\n\r\n";
 
 /// Reads the next message. A body has at most `max_size` bytes. `100 Continue` is written where it is
-/// due, before the body is read. The error is `WireFault::Read` or `WireFault::Write`.
+/// due, before the body is read. `spans` is where the fields of a head are written. The error is `WireFault::Read` or `WireFault::Write`.
 pub fn read_incoming<R: Source, W: Sink>(
-    alloc: Global,
     reader: &mut R,
     writer: &mut W,
     inbox: &mut Inbox,
-    found: &mut HeaderMap<Span>,
+    spans: &mut [HeaderSpan; FIELD_LIMIT],
     max_size: u64,
 ) -> Result<Incoming<Layout>, WireFault>
     requires reader { R.has_failed reader.old ≡ false }
@@ -64,7 +61,7 @@ pub fn read_incoming<R: Source, W: Sink>(
     ensures fault { IfErr result (λ e. NamesStream (R.has_failed reader.new) (W.has_failed writer.new) e) }
 {
     match find_head(reader, inbox)? {
-        HeadFound::Whole(len) => match read_layout(alloc, &inbox.held()[..len], found, max_size) {
+        HeadFound::Whole(len) => match read_layout(&inbox.held()[..len], spans, max_size) {
             Ok(layout) => read_body(reader, writer, inbox, layout),
             Err(refused) => Ok(Incoming::Refused(refused.refusal, refused.framing)),
         },

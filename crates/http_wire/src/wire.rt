@@ -256,11 +256,10 @@ fn next_incoming<R: Source, W: Sink>(
     match *state {
         State::Open => {
             let incoming = read_incoming(
-                buffers.alloc,
                 reader,
                 writer,
                 &mut buffers.inbox,
-                &mut buffers.found,
+                &mut buffers.spans,
                 max_size,
             );
             *state = state_after(&incoming);

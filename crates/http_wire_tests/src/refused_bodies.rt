@@ -4,7 +4,7 @@
 ghost use Rattle.std.specs.Prelude.{IfSome, ◌≡◌, true};
 
 use crate::limits::UNKNOWN;
-use crate::refused_memory::{LACKING_CLOSES, Sheet, first_book, print_lacking, spend};
+use crate::refused_memory::{Sheet, first_book, print_lacking, spend};
 use crate::spoken::at;
 use http_wire::{Ended, Incoming, Tapped, Wire, WireFault, WireRefusal, serve};
 use std::alloc::Global;
@@ -16,6 +16,11 @@ use upload_book::Book;
 /// A PATCH of an upload that is not there.
 const LARGE: &[u8] = b"PATCH /files/acme/1 HTTP/1.1\r\nHost: x\r\nTus-Resumable: 1.0.0\r\n\
 Content-Type: application/offset+octet-stream\r\nUpload-Offset: 0\r\nContent-Length: 60000\r\n\r\n";
+
+/// Where memory is lacking for the body of a message.
+const LACKING_CLOSES: &[u8] = b"HTTP/1.1 503 Service Unavailable\r\n\
+Date: Thu, 01 Jan 1970 00:16:40 GMT\r\nTus-Resumable: 1.0.0\r\nContent-Type: text/plain\r\n\
+Content-Length: 7\r\nConnection: close\r\n\r\nmemory\n";
 
 /// How long its body is: longer than what the buffers of a new wire have room for.
 const BODY_LEN: usize = 60_000;

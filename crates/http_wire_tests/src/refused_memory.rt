@@ -1,8 +1,9 @@
-//! Refused memory. `rt try --test --fail-alloc N -- lacking_memory` runs these tests with the Nth allocation of each
-//! refused: the message that met it is answered 503, or the start says that memory is lacking; nothing is changed by
-//! it, and all goes on as ever. Before its conversation a test makes as many allocations as its name says, so that one
-//! build tries sixteen places: with 16, 32, 48 and so on for N it is every one. Each test prints whether memory was
-//! lacking. Reader and writer take no memory, so the first allocation is that of the book.
+//! Refused memory, at the start and in a step: a head takes none, and of a body `refused_bodies` has it. `rt try --test
+//! --fail-alloc N -- lacking_memory` runs these tests with the Nth allocation of each refused: the message that met it
+//! is answered 503, or the start says that memory is lacking; nothing is changed by it, and all goes on as ever. Before
+//! its conversation a test makes as many allocations as its name says, so that one build tries sixteen places: with 16,
+//! 32, 48 and so on for N it is every one. Each test prints whether memory was lacking. Reader and writer take no
+//! memory, so the first allocation is that of the book.
 
 use crate::concatenations::{
     CONTENT_OF_BOTH, CREATED_2, DELETE_2, PART_OF_2, PART_OF_5, PATCHED_TO_2,
@@ -10,7 +11,7 @@ use crate::concatenations::{
 use crate::conversations::{DELETED, NONE, PATCHED};
 use crate::plain::plain_conversation;
 use crate::spoken::{NUMBERS, at, charge_of, new_book, put};
-use http_wire::{Ended, Framing, Incoming, Tapped, Wire, WireFault, WireRefusal, converse};
+use http_wire::{Ended, Framing, Incoming, Tapped, Wire, WireFault, converse};
 use std::alloc::Global;
 use std::io;
 use std::io::{Print, Read, Write};
@@ -34,15 +35,6 @@ const LACKING_FOR_PATCH: &[u8] = b"HTTP/1.1 503 Service Unavailable\r\n\
 Date: Thu, 01 Jan 1970 00:16:40 GMT\r\nTus-Resumable: 1.0.0\r\n\
 Upload-Expires: Thu, 01 Jan 1970 01:16:40 GMT\r\nContent-Type: text/plain\r\nContent-Length: 7\r\n\r\n\
 memory\n";
-
-/// Where memory is lacking for the fields of a message, or for its body.
-pub const LACKING_CLOSES: &[u8] = b"HTTP/1.1 503 Service Unavailable\r\n\
-Date: Thu, 01 Jan 1970 00:16:40 GMT\r\nTus-Resumable: 1.0.0\r\nContent-Type: text/plain\r\n\
-Content-Length: 7\r\nConnection: close\r\n\r\nmemory\n";
-
-/// The same for a HEAD.
-const BARE_LACKING_CLOSES: &[u8] = b"HTTP/1.1 503 Service Unavailable\r\n\
-Date: Thu, 01 Jan 1970 00:16:40 GMT\r\nTus-Resumable: 1.0.0\r\nConnection: close\r\n\r\n";
 
 const POST_HELLO: &[u8] = b"POST /files/acme HTTP/1.1\r\nHost: x\r\nTus-Resumable: 1.0.0\r\n\
 Upload-Length: 5\r\nContent-Type: application/offset+octet-stream\r\nContent-Length: 5\r\n\r\nhello";
@@ -297,15 +289,6 @@ fn speak_plainly(rt: &impl Abort, alloc: Global, book: &mut Book, turns: &[Turn]
     text
 }
 
-/// What is written where memory is lacking for the fields of a turn's message.
-fn lacking_for_fields(turn: &Turn) -> &'static [u8] {
-    if turn.sent.starts_with(b"HEAD ") {
-        BARE_LACKING_CLOSES
-    } else {
-        LACKING_CLOSES
-    }
-}
-
 /// A wire over the messages of some turns.
 type TurnWire = Wire<Tapped<Messages>, Tapped<Sheet>>;
 
@@ -313,7 +296,6 @@ type TurnWire = Wire<Tapped<Messages>, Tapped<Sheet>>;
 #[derive(Drop)]
 enum Answer {
     Reply(Reply, Framing),
-    Refusal(WireRefusal, Framing),
     /// No message came.
     Nothing,
 }
@@ -325,7 +307,6 @@ fn answer_of(rt: &impl Abort, wire: &mut TurnWire, book: &mut Book) -> Answer {
             let reply = answer(book, &message.request(), at(1000));
             Answer::Reply(reply, message.framing())
         }
-        Incoming::Refused(refusal, framing) => Answer::Refusal(refusal, framing),
         _ => Answer::Nothing,
     }
 }
@@ -334,7 +315,6 @@ fn answer_of(rt: &impl Abort, wire: &mut TurnWire, book: &mut Book) -> Answer {
 fn write_answer(rt: &impl Abort, wire: &mut TurnWire, answer: &Answer) {
     let written = match answer {
         Answer::Reply(reply, framing) => wire.write_reply(reply, at(1000), *framing),
-        Answer::Refusal(refusal, framing) => wire.write_refusal(*refusal, at(1000), *framing),
         Answer::Nothing => Ok(()),
     };
     assert!(rt; written.is_ok());
@@ -344,7 +324,6 @@ fn write_answer(rt: &impl Abort, wire: &mut TurnWire, answer: &Answer) {
 fn is_of_memory(answer: &Answer) -> bool {
     match answer {
         Answer::Reply(Reply::Refused { refusal, .. }, _) => *refusal == Refusal::Memory,
-        Answer::Refusal(refusal, _) => *refusal == WireRefusal::Memory,
         _ => false,
     }
 }
@@ -375,10 +354,9 @@ fn answer_each(
     Ok(writer.inner)
 }
 
-/// Asserts that a reply says that memory is lacking, for a turn's step or for the fields of its message.
+/// Asserts that a reply says that memory is lacking for a turn's step.
 fn assert_lacking(rt: &impl Abort, count: usize, turn: &Turn, reply: &[u8]) {
-    let is_lacking = reply == turn.lacking || reply == lacking_for_fields(turn);
-    assert!(rt; is_lacking && !reply.is_empty(), "turn {count}");
+    assert!(rt; reply == turn.lacking && !reply.is_empty(), "turn {count}");
 }
 
 /// Speaks the turns on a wire, and asserts what is written. Gives how many were answered before the first for which
@@ -450,8 +428,7 @@ fn on_a_wire(rt: &impl Abort, alloc: Global, turns: &'static [Turn], book: &mut 
 }
 
 /// Asserts what a conversation wrote after whole turns, the next of which met a lack of memory: nothing, where that was
-/// for its buffers; a last reply, where it was for the fields of the message; or the reply for the step alone, and then
-/// what the plain program writes without that step.
+/// for its buffers; or the reply for the step alone, and then what the plain program writes without that step.
 fn assert_lacked(
     rt: &impl Abort,
     alloc: Global,
@@ -463,7 +440,6 @@ fn assert_lacked(
     let (turn, others) = turns.split_first().expect(rt, "a turn");
     match ended {
         Err(fault) => assert!(rt; fault == WireFault::Memory && rest.is_empty()),
-        Ok(Ended::Closed) => assert!(rt; rest == lacking_for_fields(turn)),
         Ok(ended) => {
             assert!(rt; ended == Ended::Input && !turn.lacking.is_empty());
             let after = rest.strip_prefix(turn.lacking).expect(rt, "a reply of 503");
@@ -478,8 +454,8 @@ fn assert_goes_on(rt: &impl Abort, alloc: Global, turns: &[Turn], text: &[u8], p
     assert!(rt; text == written.as_slice());
 }
 
-/// The turns in one conversation. Where memory is lacking for the fields of a message it ends, and where it is lacking
-/// for a step it goes on as the plain program does without that step. Says whether memory was lacking.
+/// The turns in one conversation. Where memory is lacking for a step it goes on as the plain program does without that
+/// step. Says whether memory was lacking.
 fn in_a_conversation(
     rt: &impl Abort,
     alloc: Global,

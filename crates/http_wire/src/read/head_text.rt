@@ -2,6 +2,8 @@ ghost use Rattle.std.specs.Prelude.{◌≡◌, ◌≤◌, length, IfSome, None};
 ghost use Rattle.http_wire.specs.HeadText.{head_len_after, is_line_end, blank_len, ends_empty_line, has_many_lines};
 ghost use Rattle.http_wire.specs.inside.Scan.{scanned};
 
+use memchr::memchr;
+
 /// The greatest number of bytes of a head, with the line ends before it.
 pub const HEAD_LIMIT: usize = 16_384;
 
@@ -26,27 +28,51 @@ impl Scan {
     }
 
     /// How many of `bytes`, which follow those seen before, reach to the end of the first empty line.
-    /// After `None` all of them are seen.
+    /// After `None` all of them are seen. It goes from one LF to the next.
     pub fn end_in(&mut self, bytes: &[u8]) -> Option<usize>
         ensures end { result ≡ head_len_after self.old.before self.old.last bytes.now }
         ensures within { IfSome result (λ n. n ≤ length bytes.now) }
         ensures seen { result ≡ None → self.new ≡ scanned self.old bytes.now }
     {
-        for (index, byte) in bytes.iter().enumerate() {
-            if self.ends_empty_line(*byte) {
-                return Some(index + 1);
+        let mut seen = 0;
+        while let Some(more) = memchr(b'\n', &bytes[seen..]) {
+            self.pass(&bytes[seen..seen + more]);
+            if self.ends_empty_line() {
+                return Some(seen + more + 1);
             }
             self.before = self.last;
-            self.last = *byte;
+            self.last = b'\n';
+            seen += more + 1;
         }
+        self.pass(&bytes[seen..]);
         None
     }
 
-    // Whether `byte`, the next one, ends an empty line.
-    fn ends_empty_line(&self, byte: u8) -> bool
-        ensures { result ≡ ends_empty_line self.now.before self.now.last byte }
+    // Goes past these bytes.
+    fn pass(&mut self, bytes: &[u8])
+        ensures { self.new ≡ scanned self.old bytes.now }
     {
-        byte == b'\n' && (self.last == b'\n' || (self.last == b'\r' && self.before == b'\n'))
+        if let Some((last, others)) = bytes.split_last() {
+            self.before = last_of(others, self.last);
+            self.last = *last;
+        }
+    }
+
+    // Whether an LF, as the next byte, ends an empty line.
+    fn ends_empty_line(&self) -> bool
+        ensures { result ≡ ends_empty_line self.now.before self.now.last 10 }
+    {
+        self.last == b'\n' || (self.last == b'\r' && self.before == b'\n')
+    }
+}
+
+// The last of these bytes, or `before` where there are none.
+fn last_of(bytes: &[u8], before: u8) -> u8
+    ensures { (s : Scan) → s.last ≡ before → result ≡ (scanned s bytes.now).last }
+{
+    match bytes.split_last() {
+        Some((byte, _)) => *byte,
+        None => before,
     }
 }
 
