@@ -1,5 +1,5 @@
 -- The laws of conversations, and of what an input begins with.
-use Rattle.std.proofs.Common.{◌≡◌, ◌≤◌, ◌⊎◌, ℕ, ◌+◌, true, false, List, [], length, drop, Option, None, Some, Result, Ok, Err, refl, sym, ap, ◌∙◌, subst, inl, inr, arith, le-leb, le-ltb, lt-ltb, length-drop}
+use Rattle.std.proofs.Common.{◌≡◌, ◌≤◌, ◌⊎◌, ℕ, ◌+◌, Bool, true, false, List, [], length, drop, Option, None, Some, Result, Ok, Err, refl, sym, ap, ◌∙◌, subst, inl, inr, arith, le-leb, le-ltb, lt-ltb, length-drop}
 use Rattle.std.proofs.lemmas.Bool.{cases_Bool, cases_lt}
 use Rattle.std.specs.Prelude.{codes}
 use Rattle.httparse.specs.Grammar.{RequestHead}
@@ -7,14 +7,16 @@ use Rattle.httparse.proofs.GrammarLemmas.{request_unique}
 use Rattle.tus_steps.specs.Request.{Request}
 use Rattle.tus_steps.specs.declared.reply.Reply.{Reply}
 use Rattle.tus_steps.specs.Field.{FieldText, is_absent}
+use Rattle.http_wire.specs.Asking.{asked, unasked}
 use Rattle.http_wire.specs.Conversation.{Conversation}
 use Rattle.http_wire.specs.Exchange.{followed}
 use Rattle.http_wire.specs.Fields.{field_text}
 use Rattle.http_wire.specs.Front.{Front, message, refused, cut_patch, cut_other, clean_end, Begins, BeginsWhole, LacksMemory, Parses, closing, framing_of, unknown_framing, judged, judged_front, parsed_front, with_body}
 use Rattle.http_wire.specs.HeadText.{HeadText, whole, too_long, cut, nothing, head_text, has_many_lines}
 use Rattle.http_wire.specs.Judge.{is_host_wrong, body_len, judge, sized}
-use Rattle.http_wire.specs.Laws.{InputsJoin, MessagesAreShort, OneFront, RefusesForMemory, TurnsJoin}
+use Rattle.http_wire.specs.Laws.{BodiesComeFirst, InputsJoin, MessagesAreShort, OneFront, RefusesForMemory, TurnsJoin}
 use Rattle.http_wire.specs.Turns.{Turns}
+use Rattle.http_wire.specs.declared.framing.Framing.{Framing}
 use Rattle.http_wire.specs.declared.refusal.WireRefusal.{WireRefusal}
 use Rattle.http_wire.specs.declared.refusal.WireRefusal.TheVariants.{Host, Coding, BodySize, Head, HeadSize}
 use Rattle.http_wire.proofs.FindLemmas.{whole_short}
@@ -69,6 +71,17 @@ Begins-unique max nothing f g b d = inl (b ∙ sym d)
 
 pub one_front : OneFront
 one_front max input f g b d = Begins-unique max (head_text input) f g b d
+
+-- a cut message that is not applied is no PATCH that is
+apart : (waiting : Bool) (request : Request) (framing : Framing) (waits : Bool) → (cut_other waiting ≡ cut_patch request framing waits) ⊎ (RefusesForMemory (cut_other waiting) ⊎ RefusesForMemory (cut_patch request framing waits)) → ⊥
+apart waiting request framing waits (inl same) = absurd cc
+apart waiting request framing waits (inr (inl (closes, same))) = absurd cc
+apart waiting request framing waits (inr (inr (closes, same))) = absurd cc
+
+pub bodies_come_first : {A C : Type 0} (steps : A → Request → ℕ → Reply → A → Type 0) (tells : C → ℕ → C → Type 0) → BodiesComeFirst steps tells
+bodies_come_first steps tells max before after x waiting here (asked now told h) =
+    absurd (apart waiting h.request h.framing h.waiting (one_front max x.input (cut_other waiting) (cut_patch h.request h.framing h.waiting) here h.front))
+bodies_come_first steps tells max before after x waiting here (unasked same kept front) = (same, kept)
 
 -- what follows a message
 abbrev rest_of : Front → List ℕ

@@ -4,13 +4,15 @@ use Rattle.httparse.specs.Grammar.{RequestHead}
 use Rattle.upload_book.specs.Order.{order, stand_in}
 use Rattle.tus_steps.specs.Request.{Request}
 use Rattle.tus_steps.specs.declared.reply.Reply.{Reply}
+use Rattle.http_wire.specs.Asking.{BreaksAsked}
 use Rattle.http_wire.specs.Conversation.{Conversation}
 use Rattle.http_wire.specs.Exchange.{Exchange, joined}
-use Rattle.http_wire.specs.Front.{Front, message, refused, Begins, IsFront}
+use Rattle.http_wire.specs.Front.{Front, message, refused, cut_other, Begins, IsFront}
 use Rattle.http_wire.specs.HeadText.{HeadText, head_limit}
 use Rattle.http_wire.specs.Questions.{IsParsed, IsReason, questions, refusal_in, words_of}
 use Rattle.http_wire.specs.Turns.{Turns}
 use Rattle.http_wire.specs.declared.conversation.Ended.{Ended}
+use Rattle.http_wire.specs.declared.fault.WireFault.TheVariants.{Read}
 use Rattle.http_wire.specs.declared.framing.Framing.{Framing}
 use Rattle.http_wire.specs.declared.refusal.WireRefusal.{WireRefusal}
 use Rattle.http_wire.specs.declared.refusal.WireRefusal.TheVariants.{Memory}
@@ -31,6 +33,13 @@ module _ {A : Type 0} (steps : A → Request → ℕ → Reply → A → Type 0)
   TurnsJoin =
       (max : ℕ) (before after : List ℕ) (x y : Exchange A) (rest : List ℕ) → y.before ≡ x.after
       → Turns steps max before x [] → Turns steps max after y rest → Turns steps max (before ++ after) (joined x y) rest
+
+-- Where a failed read cut a message that is not applied when it is cut, in its head or in its body, the clock was not asked,
+-- and nothing was answered: so no clock is asked between a head and such a body.
+abbrev pub BodiesComeFirst : {A C : Type 0} → (A → Request → ℕ → Reply → A → Type 0) → (C → ℕ → C → Type 0) → Type 0
+BodiesComeFirst {A} {C} steps tells =
+    (max : ℕ) (before after : C) (x : Exchange A) (waiting : Bool) → IsFront max x.input (cut_other waiting)
+    → BreaksAsked steps tells max before after x Read → (after ≡ before) × (x.after ≡ x.before)
 
 -- A message takes no more bytes of the input than a head may have, with the line ends before it, and the
 -- greatest body.

@@ -1,8 +1,9 @@
 //! Laws of the definitions that the contracts cite: each is the contract of a function that does
 //! nothing, and holds of every input.
-ghost use Rattle.http_wire.specs.Laws.{InputsJoin, MessagesAreShort, OneFront, TurnsJoin, WireFollowsOrder};
+ghost use Rattle.http_wire.specs.Laws.{BodiesComeFirst, InputsJoin, MessagesAreShort, OneFront, TurnsJoin, WireFollowsOrder};
 
 use crate::answer::Answer;
+use crate::clock::Clock;
 
 /// An input may come in parts. Where some bytes are whole messages after which the connection stays
 /// open, a conversation goes on with what comes later as one that begins there does, from the state
@@ -16,6 +17,12 @@ pub fn inputs_join<A: Answer>()
 /// refusal that memory is lacking.
 pub fn one_front()
     ensures { OneFront }
+{}
+
+/// Where a failed read cut a message that is not applied when it is cut, its clock had not been asked: none is asked
+/// between a head and its body.
+pub fn bodies_come_first<A: Answer, C: Clock>()
+    ensures { BodiesComeFirst A.steps C.tells }
 {}
 
 /// A message is at most 16,384 bytes of head, with the line ends before it, and the greatest body.
