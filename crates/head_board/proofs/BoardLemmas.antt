@@ -1,23 +1,31 @@
 -- What the writer's calls leave of a board.
-use Rattle.std.proofs.Common.{◌≡◌, ℕ, true, List, [], ◌∷◌, ◌++◌, fold, map, Result, Ok, Err, refl, sym, ap, subst, ◌∙◌}
+use Rattle.std.proofs.Common.{◌≡◌, ℕ, true, List, [], ◌∷◌, ◌++◌, fold, map, Some, Result, Ok, Err, refl, sym, ap, ap₂, subst, ◌∙◌}
+use Rattle.std.specs.Option.{option_map_or}
+use Rattle.std.proofs.lemmas.List.Sums.{fold-append}
 use Rattle.std.specs.Result.{IsOk, MatchResult}
 use Rattle.left_right.specs.Register.{TurnsAt}
+use Rattle.upload_book.specs.declared.board_line.Accounts.{Accounts}
 use Rattle.upload_book.specs.declared.board_line.BoardLine.{BoardLine}
+use Rattle.upload_book.specs.declared.head_note.HeadNote.{HeadNote}
+use Rattle.upload_book.specs.declared.head_note.NotedChange.{NotedChange}
 use Rattle.upload_book.specs.Events.{ChangeEvent, book_after_all, book_after_event}
+use Rattle.upload_book.specs.HeadNotes.{line_told}
 use Rattle.upload_book.specs.Heads.{Heads, apply_line, heads_of}
 use Rattle.upload_book.specs.HeadSteps.{MayFollow}
 use Rattle.upload_book.specs.PlainBook.{PlainBook, opening_book}
 use Rattle.upload_book.specs.Settings.{Settings}
 use Rattle.head_board.specs.Event.{Event}
+use Rattle.head_board.specs.declared.board_copy.Added.{Added}
 use Rattle.head_board.specs.declared.board_copy.Note.{Note}
-use Rattle.head_board.specs.declared.board_copy.Note.TheVariants.{Nothing, Adds}
+use Rattle.head_board.specs.declared.board_copy.Note.TheVariants.{Adds}
 use Rattle.head_board.specs.declared.board_copy.BoardCopy.{BoardCopy}
 use Rattle.head_board.specs.declared.board_copy.View.{View}
+use Rattle.head_board.specs.declared.coming_texts.ComingTexts.{ComingTexts}
 use Rattle.head_board.specs.inside.BoardRule.{IsAtRest}
 use Rattle.head_board.specs.inside.EventLog.{LogPrefix}
-use Rattle.head_board.specs.Events.{AllHappen, Happens, HaveHappened, IsLineOf, book_at, change_event}
-use Rattle.head_board.specs.Room.{heads_with}
-use Rattle.head_board.specs.inside.Showing.{Fits, IsConsistent, IsCurrent, IsNext, noted, view_of}
+use Rattle.head_board.specs.Events.{AllHappen, Happens, HaveHappened, IsNoteOfEvent, book_at, change_event}
+use Rattle.head_board.specs.Room.{heads_noted, heads_with}
+use Rattle.head_board.specs.inside.Showing.{Fits, IsConsistent, IsCurrent, IsNext, WithTexts, change_with, noted, view_of}
 use Rattle.head_board.proofs.LineLemmas.{lines_have_room}
 use Rattle.head_board.proofs.RuleLemmas.{begins, fits-next, shows}
 
@@ -26,15 +34,19 @@ pub at_ok : {X E : Type 0} (r : Result X E) (P : Type 0) (Q : E → Type 0) → 
 at_ok (Ok x) P Q ok m = m
 at_ok (Err e) P Q ok m = absurd (cc (ok))
 
+-- what is noted after something else
+pub noted-more : (s : BoardCopy) (pending more : List Note) (note : Note) → more ≡ pending ++ note ∷ [] → fold noted s more ≡ noted (fold noted s pending) note
+noted-more s pending more note is = ap (fold noted s) is ∙ fold-append noted s pending (note ∷ [])
+
 -- the first copy is shown once more
-pub begins-note : (seat : ℕ) (v : View) (s next : BoardCopy) (pending : List Note) → pending ≡ Nothing ∷ [] → next ≡ fold noted s pending → TurnsAt IsConsistent seat v s next (λ v x y w. w ≡ view_of y)
-begins-note seat v s next pending one is =
-    subst (λ (next : BoardCopy). TurnsAt IsConsistent seat v s next (λ v x y w. w ≡ view_of y)) (sym (is ∙ ap (fold noted s) one)) (begins seat v s)
+pub begins-note : (seat : ℕ) (v : View) (s next same : BoardCopy) → same ≡ s → next ≡ same → TurnsAt IsConsistent seat v s next (λ v x y w. w ≡ view_of y)
+begins-note seat v s next same one is =
+    subst (λ (next : BoardCopy). TurnsAt IsConsistent seat v s next (λ v x y w. w ≡ view_of y)) (sym (is ∙ one)) (begins seat v s)
 
 -- and then the writer knows which board it is
-pub begun-rest : (s shown : BoardCopy) (v : View) (pending left : List Note) → IsCurrent s → pending ≡ Nothing ∷ [] → shown ≡ fold noted s pending → left ≡ [] → v ≡ view_of shown → (shown ≡ s) × IsAtRest shown v left
-begun-rest s shown v pending left current one is none knows =
-    let same : shown ≡ s = is ∙ ap (fold noted s) one in (
+pub begun-rest : (s shown same : BoardCopy) (v : View) (left : List Note) → IsCurrent s → same ≡ s → shown ≡ same → left ≡ [] → v ≡ view_of shown → (shown ≡ s) × IsAtRest shown v left
+begun-rest s shown same v left current one is none knows =
+    let same : shown ≡ s = is ∙ one in (
       same,
       record {
         current = subst IsCurrent (sym same) current;
@@ -73,17 +85,23 @@ pub after-one : (b : PlainBook) (events : List Event) (e : Event) → book_after
 after-one b [] e = refl
 after-one b (x ∷ events) e = after-one (book_after_event b (change_event x)) events e
 
--- a current copy is current after the line of an event that happened
-pub current-added : (s : BoardCopy) (e : Event) (line : BoardLine) (after : LogPrefix) → IsCurrent s → after ≡ record s.seen { events = s.seen.events ++ e ∷ [] } → IsLineOf (book_at s.table.settings s.seen.events) e line
-    → IsNext s (noted s (Adds (record { line = line; after = after })))
-current-added s e line after current is told =
-    let before : PlainBook = book_at s.table.settings s.seen.events in
+-- a note that stands for a line on heads, on the same heads stands for it too
+noted-line : (h before : Heads) (note : HeadNote) (line : BoardLine) → h ≡ before → line_told before note ≡ Some line → heads_noted h note ≡ heads_with h line
+noted-line h before note line same told = ap (λ line. option_map_or (heads_with h) line h) (ap (λ h. line_told h note) same ∙ told)
+
+-- a current copy is current after the note of an event that happened
+pub current-noted : (s : BoardCopy) (e : Event) (note : HeadNote) (after : LogPrefix) (texts : ComingTexts) → IsCurrent s → after ≡ record s.seen { events = s.seen.events ++ e ∷ [] } → IsNoteOfEvent (book_at s.table.settings s.seen.events) e note
+    → IsNext s (record { table = heads_noted s.table note; seen = after; coming = texts })
+current-noted s e note after texts current is told =
+    let line : BoardLine = told.line in
     let events : after.events ≡ s.seen.events ++ e ∷ [] = ap (λ (t : LogPrefix). t.events) is in
     let may : MayFollow s.table line = subst (λ (h : Heads). MayFollow h line) (sym current.heads) told.leads.may in
-    let table : heads_with s.table line ≡ apply_line s.table line = rw (lines_have_room s.table line may) refl in
-    let settings : (heads_with s.table line).settings ≡ s.table.settings = ap (λ (h : Heads). h.settings) table in
-    let happened : HaveHappened s.table.settings after.events = subst (HaveHappened s.table.settings) (sym events) (happen-one (opening_book s.table.settings) s.seen.events e current.happened (line, told)) in
-    let heads : heads_with s.table line ≡ heads_of (book_at s.table.settings after.events) =
+    let table : heads_noted s.table note ≡ apply_line s.table line =
+    noted-line s.table (heads_of (book_at s.table.settings s.seen.events)) note line current.heads told.told ∙ rw (lines_have_room s.table line may) refl in
+    let settings : (heads_noted s.table note).settings ≡ s.table.settings = ap (λ (h : Heads). h.settings) table in
+    let happened : HaveHappened s.table.settings after.events =
+    subst (HaveHappened s.table.settings) (sym events) (happen-one (opening_book s.table.settings) s.seen.events e current.happened (line, record { is = told.is; leads = told.leads })) in
+    let heads : heads_noted s.table note ≡ heads_of (book_at s.table.settings after.events) =
     table ∙ ap (λ (h : Heads). apply_line h line) current.heads ∙ sym told.leads.heads ∙ sym (ap heads_of (ap (book_at s.table.settings) events ∙ after-one (opening_book s.table.settings) s.seen.events e)) in
     record {
       current = record {
@@ -93,3 +111,18 @@ current-added s e line after current is told =
       settings = settings;
       log = ap (λ (t : LogPrefix). t.book) is;
     }
+
+-- the copy after the last note of an event
+pub added-last : (s told : BoardCopy) (note : HeadNote) (a : Added) → WithTexts s told → change_with told.coming a.change ≡ note.change → a.accounts ≡ note.accounts
+    → noted told (Adds a) ≡ record { table = heads_noted s.table note; seen = a.after; coming = told.coming }
+added-last s told note a same change accounts =
+    let made : NotedChange → Accounts → HeadNote = λ change accounts. record { change = change; accounts = accounts } in
+    let copy : Heads → HeadNote → BoardCopy = λ table note. record { table = heads_noted table note; seen = a.after; coming = told.coming } in
+    ap₂ copy (ap (λ (s : BoardCopy). s.table) same) (ap₂ made change accounts)
+
+-- so that one is next to the copy before the notes
+pub shown-next : (s told next : BoardCopy) (pending : List Note) (note : HeadNote) (a : Added) → pending ≡ [] → WithTexts (fold noted s pending) told → change_with told.coming a.change ≡ note.change → a.accounts ≡ note.accounts → next ≡ noted told (Adds a)
+    → ((texts : ComingTexts) → IsNext s (record { table = heads_noted s.table note; seen = a.after; coming = texts })) → IsNext s next
+shown-next s told next pending note a none texts change accounts is after =
+    let same : WithTexts s told = subst (λ (t : BoardCopy). WithTexts t told) (ap (fold noted s) none) texts in
+    subst (IsNext s) (sym (is ∙ added-last s told note a same change accounts)) (after told.coming)

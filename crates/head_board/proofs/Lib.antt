@@ -5,4 +5,5 @@ pub mod LineLemmas
 pub mod LogLemmas
 pub mod RuleLemmas
 pub mod ReaderLemmas
+pub mod TextLemmas
 pub mod BoardLemmas

@@ -1,5 +1,5 @@
 -- The rows of a tenant, entry by entry.
-use Rattle.std.proofs.Common.{◌≡◌, ℕ, zero, suc, ◌+◌, ◌<◌, ◌≤◌, Bool, true, false, cond, not, eqb, List, [], ◌∷◌, ◌++◌, length, get_or, set, Option, Some, None, Ok, Err, inl, inr, refl, sym, ap, ap₂, subst, ◌∙◌, arith}
+use Rattle.std.proofs.Common.{◌≡◌, ℕ, zero, suc, ◌+◌, ◌<◌, ◌≤◌, Bool, true, false, cond, not, eqb, List, [], ◌∷◌, ◌++◌, length, get_or, set, Option, option_map, Some, None, Ok, Err, inl, inr, refl, sym, ap, ap₂, subst, ◌∙◌, arith}
 use Rattle.std.specs.List.{All, filter, position, remove}
 use Rattle.std.specs.List.Sorted.{IsStrictlyIncreasing}
 use Rattle.std.proofs.lemmas.List.{map-append}
@@ -66,6 +66,19 @@ AreBelow-set next rows id place e after row found read is are =
       ascending = subst (λ rows. IsStrictlyIncreasing (row_ids rows)) (sym (is_set rows id place e after row are.ascending found read is)) (subst IsStrictlyIncreasing (sym (ids_of-with_kept rows id row)) are.ascending);
       below = All-set P rows place after (subst P (sym is) (subst P (sym read) (All-get_or P rows place e at.0 are.below))) are.below;
     }
+
+-- the row at its place stands under its id,
+pub kept-placed : (rows : List (Entry HeadRow)) (id place : ℕ) (e : Entry HeadRow) → position (has_id id) rows ≡ Some place → e ≡ get_or rows place e → kept_in rows id ≡ Some e.kept
+kept-placed rows id place e found read =
+    kept_in-position rows id e ∙ ap (option_map (λ i. (get_or rows i e).kept)) found ∙ ap (λ (e : Entry HeadRow). Some e.kept) (sym read)
+
+-- and that is not the next one
+pub not-next : (next : ℕ) (rows : List (Entry HeadRow)) (id place : ℕ) (e : Entry HeadRow) → position (has_id id) rows ≡ Some place → AreBelow next rows → eqb id next ≡ false
+not-next next rows id place e found are =
+    let at = position-Some (has_id id) rows place e found in
+    let named : (get_or rows place e).id ≡ id = (let test : eqb (get_or rows place e).id id ≡ true = at.1 in grind (arith, nat_tests)) in
+    let below : (get_or rows place e).id < next = All-get_or (λ (e : Entry HeadRow). e.id < next) rows place e at.0 are.below in
+    grind (arith, nat_tests)
 
 -- a row is taken out under its id
 pub is_removed : (rows : List (Entry HeadRow)) (id place : ℕ) → IsStrictlyIncreasing (row_ids rows) → position (has_id id) rows ≡ Some place → remove rows place ≡ filter (λ e. not (eqb e.id id)) rows

@@ -1,18 +1,28 @@
 -- A table of heads, part by part.
-use Rattle.std.proofs.Common.{◌≡◌, ℕ, zero, suc, ◌+◌, ◌<◌, ◌≤◌, Bool, true, false, if◌then◌else◌, List, [], ◌∷◌, ◌++◌, map, take, drop, length, get_or, set, Some, slice_get, refl, add-one, sym, ap, ap₂, subst, ◌∙◌}
+use Rattle.std.proofs.Common.{◌≡◌, ℕ, zero, suc, ◌+◌, ◌<◌, ◌≤◌, Bool, true, false, if◌then◌else◌, List, [], ◌∷◌, ◌++◌, map, take, drop, length, get_or, set, Option, option_map, Some, None, eqb, leb, ltb, ◌&&◌, ◌||◌, slice_get, refl, add-one, sym, ap, ap₂, subst, ◌∙◌}
 use Rattle.std.specs.List.{All, range_with_len}
+use Rattle.std.specs.Option.{option_map_or}
 use Rattle.std.proofs.Math.ListN.{get_or-map}
 use Rattle.std.proofs.lemmas.List.{append-nil, drop_all, get_or_default, map-append, map-set, set-get_or, take_all}
 use Rattle.std.proofs.lemmas.List.Elements.{All-get_or, All-map, All-set}
 use Rattle.upload_book.specs.declared.board_line.Accounts.{Accounts}
+use Rattle.upload_book.specs.declared.board_line.HeadChange.{HeadChange}
+use Rattle.upload_book.specs.declared.board_line.HeadChange.TheVariants.{Put}
+use Rattle.upload_book.specs.declared.head_note.Growth.{Growth}
+use Rattle.upload_book.specs.declared.head_note.NotedChange.{NotedChange}
+use Rattle.upload_book.specs.declared.head_note.NotedChange.TheVariants.{Grown}
+use Rattle.upload_book.specs.declared.head_row.HeadRow.{HeadRow}
+use Rattle.upload_book.specs.declared.head_row.Name.{Name}
 use Rattle.upload_book.specs.declared.settings.TenantQuota.{TenantQuota}
 use Rattle.upload_book.specs.Charge.{charge_in}
-use Rattle.upload_book.specs.Heads.{HeadPart, Heads, accounts_of, head_part, head_part_at, heads_of, without_expired}
+use Rattle.upload_book.specs.HeadNotes.{change_told, row_grown}
+use Rattle.upload_book.specs.Heads.{HeadPart, Heads, accounts_of, head_part, head_part_at, heads_of, parts_after, without_expired}
 use Rattle.upload_book.specs.PlainBook.{opening_book, tenant_book}
 use Rattle.upload_book.specs.Settings.{Settings}
-use Rattle.upload_book.specs.TenantBook.{TenantBook, opening_part}
-use Rattle.head_board.specs.inside.Rows.{Rows}
-use Rattle.head_board.specs.inside.HeadTable.{opening_parts}
+use Rattle.upload_book.specs.TenantBook.{TenantBook, kept_in, opening_part, with_changed}
+use Rattle.head_board.specs.inside.Rows.{IsGrown, Rows}
+use Rattle.head_board.specs.inside.HeadTable.{is_taken, opening_parts, parts_noted}
+use Rattle.head_board.specs.Room.{has_room}
 
 -- a list of numbers that are all 0
 all_zero : (f : ℕ → ℕ) → ((k : ℕ) → f k ≡ 0) → (ks : List ℕ) → map f ks ≡ map (λ (k : ℕ). 0) ks
@@ -46,6 +56,11 @@ part-read s a parts t r within read =
     let none : Rows = record { part = opening_part 0; room = 0 } in
     get_or-map part_of parts t none ∙ ap part_of (get_or_default parts t none r within ∙ sym read)
 
+-- what is true of the second is true
+or-true : (b c : Bool) → (b || (true || c)) ≡ true
+or-true true c = refl
+or-true false c = refl
+
 -- the rows of a tenant change, or stay
 pub heads-put : (s : Settings) (a : Accounts) (parts : List Rows) (t place : ℕ) (r after : Rows) (f : HeadPart → HeadPart) (done : Bool) → place ≡ t → place < length parts → r ≡ get_or parts place r → after ≡ (if done then record r { part = f r.part } else r)
     → heads s a (set parts place after) ≡ (if done then record (heads s a parts) { tenants = set (heads s a parts).tenants t (f (head_part_at (heads s a parts) t)) } else heads s a parts)
@@ -66,6 +81,48 @@ room-put room parts place r after f done within read is all =
     kept : (done : Bool) → after ≡ (if done then record r { part = f r.part } else r) → after.room ≡ r.room
     kept true is = ap (λ (r : Rows). r.room) is
     kept false is = ap (λ (r : Rows). r.room) is
+
+-- something is told as this change of the heads
+module _ (h : Heads) (noted : NotedChange) (head : HeadChange) (told : change_told h noted ≡ Some head) where
+  taken-told : is_taken h noted ≡ has_room h head
+  taken-told = ap (λ change. option_map_or (has_room h) change false) told
+
+  parts-told : parts_noted h noted ≡ parts_after h head
+  parts-told = ap (λ change. option_map_or (parts_after h) change h.tenants) told
+
+-- the row of a tenant that grew, or did not stand
+module _ (s : Settings) (a : Accounts) (parts : List Rows) (name : Name) (growth : Growth) (place : ℕ) (r after : Rows) (same : place ≡ name.tenant) (within : place < length parts) (read : r ≡ get_or parts place r) where
+  part-here : head_part_at (heads s a parts) name.tenant ≡ r.part
+  part-here = ap (head_part_at (heads s a parts)) (sym same) ∙ part-read s a parts place r within read
+
+  pub heads-grown : (done : Bool) → IsGrown r name.id growth done after
+      → (done ≡ is_taken (heads s a parts) (Grown name growth))
+      × (heads s a (set parts place after) ≡ (if done then record (heads s a parts) { tenants = parts_noted (heads s a parts) (Grown name growth) } else heads s a parts))
+  heads-grown true grown =
+      let h : Heads = heads s a parts in
+      let row : HeadRow = row_grown growth grown.0 in
+      let put : HeadRow → HeadChange = λ row. Put name (row_grown growth row) in
+      let told : change_told h (Grown name growth) ≡ Some (Put name row) = ap (λ (part : HeadPart). option_map put (kept_in part.uploads name.id)) part-here ∙ ap (option_map put) grown.1 in
+      let apart : eqb name.id (head_part_at h name.tenant).next ≡ false = ap (λ (part : HeadPart). eqb name.id part.next) part-here ∙ grown.2 in
+      let room : has_room h (Put name row) ≡ true = rw apart (or-true (leb (length h.tenants) name.tenant) (ltb (length (head_part_at h name.tenant).uploads) s.numbers.uploads && leb (head_part_at h name.tenant).next s.numbers.last_id)) in
+      let with_parts : List HeadPart → Heads = λ parts. record h { tenants = parts } in
+      let put_there : parts_after h (Put name row) ≡ set h.tenants name.tenant (with_changed (head_part_at h name.tenant) name.id row) = rw apart refl in (
+        sym (taken-told h (Grown name growth) (Put name row) told ∙ room),
+        heads-put s a parts name.tenant place r after (λ part. with_changed part name.id row) true same within read grown.3
+            ∙ ap with_parts (sym (parts-told h (Grown name growth) (Put name row) told ∙ put_there)),
+      )
+  heads-grown false grown =
+      let h : Heads = heads s a parts in
+      let put : HeadRow → HeadChange = λ row. Put name (row_grown growth row) in
+      let told : change_told h (Grown name growth) ≡ None = ap (λ (part : HeadPart). option_map put (kept_in part.uploads name.id)) part-here ∙ ap (option_map put) grown.0 in (
+        sym (ap (λ change. option_map_or (has_room h) change false) told),
+        ap (heads s a) (ap (set parts place) (grown.1 ∙ read) ∙ set-get_or parts place r),
+      )
+
+  -- its room stays
+  pub room-grown : (room : ℕ) (done : Bool) → IsGrown r name.id growth done after → All (λ (r : Rows). r.room ≡ room) parts → All (λ (r : Rows). r.room ≡ room) (set parts place after)
+  room-grown room true grown all = room-put room parts place r after (λ part. with_changed part name.id (row_grown growth grown.0)) true within read grown.3 all
+  room-grown room false grown all = room-put room parts place r after (λ part. part) false within read grown.1 all
 
 -- the rows of a tenant without those that have expired
 abbrev pub swept : ℕ → Rows → Rows

@@ -3,6 +3,8 @@ use Rattle.std.specs.Prelude.{◌≡◌, List, [], ◌∷◌, map, Some, ⊤}
 use Rattle.upload_book.specs.Change.{line_of}
 use Rattle.upload_book.specs.declared.board_line.BoardLine.{BoardLine}
 use Rattle.upload_book.specs.Events.{ChangeEvent, book_after_all, book_after_event}
+use Rattle.upload_book.specs.declared.head_note.HeadNote.{HeadNote}
+use Rattle.upload_book.specs.HeadNotes.{IsNoteOf}
 use Rattle.upload_book.specs.Laws.{LeadsTo}
 use Rattle.upload_book.specs.PlainBook.{PlainBook, opening_book}
 use Rattle.upload_book.specs.Ready.{change_in, moment_in}
@@ -26,6 +28,10 @@ book_at s events = book_after_all (opening_book s) (map {A = Event} {B = ChangeE
 pub record IsLineOf (b : PlainBook) (e : Event) (line : BoardLine) : Type 0 where
   pub is : line_of b e.change e.now ≡ Some line
   pub leads : LeadsTo b line (book_after_event b (change_event e))
+
+-- the note tells what an event changes of the heads of a book, which accepts it
+abbrev pub IsNoteOfEvent : PlainBook → Event → HeadNote → Type 0
+IsNoteOfEvent b e note = IsNoteOf b e.change e.now note
 
 -- the event happened to the book: that accepted it, so it has a line
 abbrev pub Happens : PlainBook → Event → Type 0

@@ -1,8 +1,11 @@
--- Which changes a table of heads has room for, and what a line makes of it.
+-- Which changes a table of heads has room for, and what a line or a note makes of it.
 use Rattle.std.specs.Prelude.{ℕ, Bool, true, not, ◌==◌, ◌&&◌, ◌||◌, length, nat_le, nat_lt, if◌then◌else◌}
+use Rattle.std.specs.Option.{option_map_or}
 use Rattle.upload_book.specs.declared.board_line.BoardLine.{BoardLine}
 use Rattle.upload_book.specs.declared.board_line.HeadChange.{HeadChange}
 use Rattle.upload_book.specs.declared.board_line.HeadChange.TheVariants.{Put, Gone, Swept}
+use Rattle.upload_book.specs.declared.head_note.HeadNote.{HeadNote}
+use Rattle.upload_book.specs.HeadNotes.{line_told}
 use Rattle.upload_book.specs.Heads.{Heads, HeadPart, apply_line, head_part_at}
 
 -- A part with room for so many rows takes one under this id. For a new upload there must be room for one more row,
@@ -22,3 +25,7 @@ has_room h (Swept now) = true
 -- the heads after a line, which changes nothing where there is no room for it
 abbrev pub heads_with : Heads → BoardLine → Heads
 heads_with h line = if has_room h line.change then apply_line h line else h
+
+-- the heads after a note, which changes nothing where it stands for no line on them
+abbrev pub heads_noted : Heads → HeadNote → Heads
+heads_noted h note = option_map_or (heads_with h) (line_told h note) h

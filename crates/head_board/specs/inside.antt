@@ -2,5 +2,6 @@
 pub mod EventLog
 pub mod Rows
 pub mod HeadTable
+pub mod ComingTexts
 pub mod Showing
 pub mod BoardRule

@@ -1,12 +1,17 @@
-ghost use Rattle.std.specs.Prelude.{◌≡◌, ◌<◌, ◌^◌, ◌++◌, ◌∷◌, [], drop, fold, if◌then◌else◌, IfOk, MatchBool, true};
+ghost use Rattle.std.specs.Prelude.{◌≡◌, ◌+◌, ◌<◌, ◌≤◌, ◌^◌, ◌++◌, ◌∷◌, [], drop, fold, length, IfOk, MatchBool, true};
 ghost use mathlib.Core.List.{IsPrefix};
 ghost use Rattle.head_board.specs.Board.{BoardView};
-ghost use Rattle.head_board.specs.Events.{IsLineOf, book_at, event_of};
+ghost use Rattle.head_board.specs.declared.board_copy.Note.TheVariants.{More};
+ghost use Rattle.head_board.specs.declared.coming_texts.ComingTexts.{ComingTexts};
+ghost use Rattle.head_board.specs.Events.{IsNoteOfEvent, book_at, event_of};
+ghost use Rattle.head_board.specs.Room.{heads_noted};
 ghost use Rattle.head_board.specs.inside.BoardRule.{IsAtRest};
-ghost use Rattle.head_board.specs.inside.Showing.{noted, view_of, Fits, IsCurrent, IsNext};
+ghost use Rattle.head_board.specs.inside.ComingTexts.{text_in, text_room};
+ghost use Rattle.head_board.specs.inside.Showing.{change_with, noted, view_of, Fits, IsCurrent, IsNext, WithTexts};
 ghost use Rattle.left_right.specs.Sides.{view as known_at};
 
-use crate::board_copy::{Added, BoardCopy, Note};
+use crate::board_copy::{Added, BoardCopy, Note, SmallChange};
+use crate::coming_texts::{ComingTexts, PIECE, TextField};
 use crate::event::Coming;
 use crate::event_log::{LogWord, Opened, SeenEvents};
 use crate::head_reader::HeadReader;
@@ -16,7 +21,8 @@ use core::mem::replace_with;
 use std::alloc::{AllocError, Global};
 use std::marker::Model;
 use std::sync::Wait;
-use upload_book::{BoardLine, Settings};
+use tus_text::Text;
+use upload_book::{HeadNote, LentRow, NotedChange, Settings};
 
 /// The heads of a book as they are shown to readers, who need no lock. This is the writer's side. A contract sees the
 /// settings of the book, which log its events are in, and all events that were shown.
@@ -62,10 +68,12 @@ impl<W: Wait + Drop> Board<W> {
         let first = BoardCopy {
             table: HeadTable::new(alloc, settings)?,
             seen: seen.again(),
+            coming: ComingTexts::new(),
         };
         let second = BoardCopy {
             table: HeadTable::new(alloc, settings)?,
             seen: seen.again(),
+            coming: ComingTexts::new(),
         };
         let writer = BoardWriter::new(alloc, first, second, readers)?;
         let (writer, begun) = begun(&rt, writer);
@@ -81,21 +89,25 @@ impl<W: Wait + Drop> Board<W> {
         })
     }
 
-    /// Shows what will have happened once a change is made for which the book is ready, by the line that tells what it
-    /// changes of the heads: who reads from now on sees it. It waits for readers that still read the older copy.
+    /// Shows what will have happened once a change is made for which the book is ready, by the note of what it changes of
+    /// the heads: who reads from now on sees it. It waits for readers that still read the older copy.
     ///
-    /// Nothing is shown in part, and no memory is taken: room for two notes was made by [`Board::new`], and there are
-    /// never more. Were a note refused all the same, it would wait until there is room for it, and it waits until the log
-    /// has no more events than the board. No run waits for either, but no contract of the log or of the list of notes
-    /// tells that.
-    pub fn show(&mut self, coming: &Coming, line: BoardLine)
-        requires { IsLineOf (book_at self.old.settings self.old.events) (event_of coming.now) line }
+    /// Nothing is shown in part, and no memory is taken: room for the notes of two events was made by [`Board::new`], and
+    /// there are never more. Were a note refused all the same, it would wait until there is room for it, and it waits until
+    /// the log has no more events than the board. No run waits for either, but no contract of the log or of the list of
+    /// notes tells that.
+    pub fn show(&mut self, coming: &Coming, note: &HeadNote)
+        requires { IsNoteOfEvent (book_at self.old.settings self.old.events) (event_of coming.now) note.now }
         ensures { self.new ≡ record self.old { events = self.old.events ++ event_of coming.now ∷ [] } }
     {
         let after = self.seen.with(&self.rt, &self.word, coming);
         let next = after.again();
-        let note = Note::Adds(Added { line, after });
-        replace_with(&mut self.writer, Work { rt: &self.rt, note }, shown);
+        let work = Work {
+            rt: &self.rt,
+            note,
+            after,
+        };
+        replace_with(&mut self.writer, work, shown);
         self.seen = next;
     }
 
@@ -147,8 +159,12 @@ impl<W: Wait + Drop> Drop for Board<W> {
     }
 }
 
-// Shows the first copy twice more: so the writer knows which board it is, and has room for two notes. Says whether it
-// did.
+// The most notes of one event: the texts of a new upload come in pieces, the last of which may be short, after a note
+// that begins them and before the change.
+const MOST_NOTES: usize = 4 + 1024 / PIECE + 2048 / PIECE;
+
+// Shows the first copy twice more: so the writer knows which board it is, and has room for the notes of two events. Says
+// whether it did.
 fn begun<R: Wait>(rt: &R, writer: BoardWriter) -> (BoardWriter, bool)
     requires current { IsCurrent writer.desk.shown.value }
     requires pending { drop writer.behind writer.log.items ≡ [] }
@@ -161,7 +177,7 @@ fn begun<R: Wait>(rt: &R, writer: BoardWriter) -> (BoardWriter, bool)
     if !done {
         return (writer, false);
     }
-    if !append(&mut writer, Note::Nothing) {
+    if !make_room(&mut writer) {
         return (writer, false);
     }
     (published(rt, writer), true)
@@ -176,7 +192,7 @@ fn shown_first<R: Wait>(rt: &R, mut writer: BoardWriter) -> (BoardWriter, bool)
         × IsAtRest result.0.desk.shown.value (known_at result.0.desk.place) (drop result.0.behind result.0.log.items))
         (Unit {0}) }
 {
-    if !append(&mut writer, Note::Nothing) {
+    if !make_room(&mut writer) {
         return (writer, false);
     }
     let (writer, published) = writer.publish_as::<Begins, R>(rt);
@@ -184,37 +200,103 @@ fn shown_first<R: Wait>(rt: &R, mut writer: BoardWriter) -> (BoardWriter, bool)
     (writer, true)
 }
 
-// Adds a note to those that are to be shown. Says whether it did; else nothing changed.
-fn append(writer: &mut BoardWriter, note: Note) -> bool
+// Adds notes of nothing to those that are to be shown, as many as an event has at most. Says whether it added all.
+fn make_room(writer: &mut BoardWriter) -> bool
     ensures desk { writer.new.desk ≡ writer.old.desk }
-    ensures pending { drop writer.new.behind writer.new.log.items
-        ≡ (if result then drop writer.old.behind writer.old.log.items ++ note ∷ [] else drop writer.old.behind writer.old.log.items) }
+    ensures next { fold noted writer.new.desk.shown.value (drop writer.new.behind writer.new.log.items)
+        ≡ fold noted writer.old.desk.shown.value (drop writer.old.behind writer.old.log.items) }
 {
-    writer.append(note).is_ok()
+    for _ in 0..MOST_NOTES {
+        if writer.append(Note::Nothing).is_err() {
+            return false;
+        }
+    }
+    true
 }
 
-// What is to be noted, and the handle by which the writer waits.
-struct Work<'a, R> {
+// What an event changes and the events with it, and the handle by which the writer waits.
+struct Work<'a, 'b, R> {
     rt: &'a R,
-    note: Note,
+    note: &'a HeadNote<'b>,
+    after: SeenEvents,
 }
 
-// Notes something for both copies, and shows the one with it.
-fn shown<R: Wait>(mut writer: BoardWriter, work: Work<'_, R>) -> (BoardWriter, ())
+// Notes for both copies what an event changes, and shows the one with it.
+fn shown<R: Wait>(mut writer: BoardWriter, work: Work<'_, '_, R>) -> (BoardWriter, ())
     requires rest { IsAtRest writer.desk.shown.value (known_at writer.desk.place) (drop writer.behind writer.log.items) }
-    requires next { IsNext writer.desk.shown.value (noted writer.desk.shown.value work.note) }
+    requires next { (texts : ComingTexts) → IsNext writer.desk.shown.value (record {
+      table = heads_noted writer.desk.shown.value.table work.note.now;
+      seen = work.after;
+      coming = texts;
+    }) }
     ensures rest { IsAtRest result.0.desk.shown.value (known_at result.0.desk.place) (drop result.0.behind result.0.log.items) }
-    ensures value { result.0.desk.shown.value ≡ noted writer.desk.shown.value work.entry.note }
+    ensures next { IsNext writer.desk.shown.value result.0.desk.shown.value }
+    ensures seen { result.0.desk.shown.value.seen ≡ work.entry.after }
 {
-    let Work { rt, note } = work;
-    note_down(rt, &mut writer, note);
+    let Work { rt, note, after } = work;
+    let change = note_change(rt, &mut writer, &note.change);
+    let added = Added {
+        change,
+        accounts: note.accounts,
+        after,
+    };
+    note_down(rt, &mut writer, Note::Adds(added));
     (published(rt, writer), ())
+}
+
+// A change without its texts, of which both copies are told before.
+fn note_change<R: Wait>(rt: &R, writer: &mut BoardWriter, change: &NotedChange) -> SmallChange
+    ensures desk { writer.new.desk ≡ writer.old.desk }
+    ensures same { WithTexts (fold noted writer.old.desk.shown.value (drop writer.old.behind writer.old.log.items))
+        (fold noted writer.new.desk.shown.value (drop writer.new.behind writer.new.log.items)) }
+    ensures change { change_with (fold noted writer.new.desk.shown.value (drop writer.new.behind writer.new.log.items)).coming
+        result ≡ change.now }
+{
+    match change {
+        NotedChange::Created(tenant, row) => {
+            note_texts(rt, writer, row);
+            SmallChange::Created(*tenant, row.kind(), row.growth())
+        }
+        NotedChange::Grown(name, growth) => SmallChange::Grown(*name, *growth),
+        NotedChange::Gone(name) => SmallChange::Gone(*name),
+        NotedChange::Swept(now) => SmallChange::Swept(*now),
+    }
+}
+
+// Tells both copies the texts of a new upload.
+fn note_texts<R: Wait>(rt: &R, writer: &mut BoardWriter, row: &LentRow)
+    ensures desk { writer.new.desk ≡ writer.old.desk }
+    ensures texts { fold noted writer.new.desk.shown.value (drop writer.new.behind writer.new.log.items)
+        ≡ record (fold noted writer.old.desk.shown.value (drop writer.old.behind writer.old.log.items)) {
+          coming = record { metadata = row.now.metadata; concat = row.now.concat };
+        } }
+{
+    note_down(rt, writer, Note::NoTexts);
+    note_text(rt, writer, TextField::Metadata, row.metadata());
+    note_text(rt, writer, TextField::Concat, row.concat());
+}
+
+// Tells both copies one of the texts, piece by piece.
+fn note_text<R: Wait>(rt: &R, writer: &mut BoardWriter, field: TextField, text: &[u8])
+    requires { length (text_in (fold noted writer.old.desk.shown.value (drop writer.old.behind writer.old.log.items)).coming field)
+        + length text.now ≤ text_room field }
+    ensures desk { writer.new.desk ≡ writer.old.desk }
+    ensures text { fold noted writer.new.desk.shown.value (drop writer.new.behind writer.new.log.items)
+        ≡ noted (fold noted writer.old.desk.shown.value (drop writer.old.behind writer.old.log.items)) (More field text.now) }
+{
+    let mut rest = text;
+    while !rest.is_empty() {
+        let (piece, more) = rest.split_at(rest.len().min(PIECE));
+        note_down(rt, writer, Note::More(field, Text::of(piece)));
+        rest = more;
+    }
 }
 
 // Adds a note to those that are to be shown, as soon as there is room for it.
 fn note_down<R: Wait>(rt: &R, writer: &mut BoardWriter, mut note: Note)
     ensures desk { writer.new.desk ≡ writer.old.desk }
-    ensures pending { drop writer.new.behind writer.new.log.items ≡ drop writer.old.behind writer.old.log.items ++ note ∷ [] }
+    ensures next { fold noted writer.new.desk.shown.value (drop writer.new.behind writer.new.log.items)
+        ≡ noted (fold noted writer.old.desk.shown.value (drop writer.old.behind writer.old.log.items)) note }
 {
     for _ in rt.forever() {
         match writer.append(note) {

@@ -1,19 +1,39 @@
+ghost use Rattle.std.specs.Prelude.{◌≡◌};
+ghost use Rattle.head_board.specs.inside.Showing.{change_with, with_added};
+
+use crate::coming_texts::{ComingTexts, Piece, TextField};
 use crate::event_log::SeenEvents;
 use crate::head_table::HeadTable;
-use upload_book::{BoardLine, Settings};
+use upload_book::{Accounts, Growth, HeadNote, Kind, LentRow, Moment, Name, NotedChange, Settings};
 
-/// What readers read: the heads of the book, and the events of the log whose lines were applied to them. There are two
-/// copies: readers read one while the writer changes the other.
+/// What readers read: the heads of the book, and the events of the log whose changes were made to them. There are two
+/// copies: readers read one while the writer changes the other. Beside the heads each has room for the texts of the
+/// upload that is created next: they come in pieces, so that a note is small, and go from there to their row.
 #[derive(Drop)]
 pub struct BoardCopy {
     pub(crate) table: HeadTable,
     pub(crate) seen: SeenEvents,
+    pub(crate) coming: ComingTexts,
 }
 
-/// The line of an event, and the events of the log up to that one.
+/// What an event changes of the heads, where the texts of a new upload came before.
+#[derive(Clone, Copy, Debug)]
+pub enum SmallChange {
+    /// The tenant at this place has a new upload.
+    Created(u8, Kind, Growth),
+    /// The upload of this name is so far from now on.
+    Grown(Name, Growth),
+    /// The upload of this name has ended.
+    Gone(Name),
+    /// All uploads that have expired at this moment have ended.
+    Swept(Moment),
+}
+
+/// What an event changes of the heads, the accounts after it, and the events of the log up to that one.
 #[derive(Drop)]
 pub struct Added {
-    pub(crate) line: BoardLine,
+    pub(crate) change: SmallChange,
+    pub(crate) accounts: Accounts,
     pub(crate) after: SeenEvents,
 }
 
@@ -22,7 +42,11 @@ pub struct Added {
 pub enum Note {
     /// Nothing: it makes room for the notes to come.
     Nothing,
-    /// The line is applied.
+    /// Nothing came yet of the texts of the next new upload.
+    NoTexts,
+    /// More of one of them comes.
+    More(TextField, Piece),
+    /// The change is made.
     Adds(Added),
 }
 
@@ -40,4 +64,35 @@ pub struct View {
     pub(crate) knows: bool,
     pub(crate) settings: Settings,
     pub(crate) log: LogName,
+}
+
+impl SmallChange {
+    /// The change with the texts that came.
+    fn with<'a>(&self, texts: &'a ComingTexts) -> NotedChange<'a>
+        ensures { result ≡ change_with texts.now self.now }
+    {
+        match *self {
+            SmallChange::Created(tenant, kind, growth) => {
+                let row = LentRow::new(kind, growth, texts.metadata(), texts.concat());
+                NotedChange::Created(tenant, row)
+            }
+            SmallChange::Grown(name, growth) => NotedChange::Grown(name, growth),
+            SmallChange::Gone(name) => NotedChange::Gone(name),
+            SmallChange::Swept(now) => NotedChange::Swept(now),
+        }
+    }
+}
+
+impl BoardCopy {
+    /// Makes the change of an event.
+    pub(crate) fn add(&mut self, added: &Added)
+        ensures { self.new ≡ with_added self.old added.now }
+    {
+        let note = HeadNote {
+            change: added.change.with(&self.coming),
+            accounts: added.accounts,
+        };
+        self.table.apply(&note);
+        self.seen = added.after.again();
+    }
 }

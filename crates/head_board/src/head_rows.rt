@@ -2,7 +2,7 @@ ghost use Rattle.std.specs.Prelude.{◌≡◌, ◌<◌, ◌≤◌, ◌==◌, ◌
 ghost use Rattle.std.specs.List.{remove};
 ghost use Rattle.std.specs.List.Sorted.{IsStrictlyIncreasing};
 ghost use Rattle.head_board.specs.Room.{takes_row};
-ghost use Rattle.head_board.specs.inside.Rows.{fresh_with, row_ids};
+ghost use Rattle.head_board.specs.inside.Rows.{IsGrown, fresh_with, row_ids};
 ghost use Rattle.upload_book.specs.Heads.{with_row, without_expired};
 ghost use Rattle.upload_book.specs.Expiry.{has_expired};
 ghost use Rattle.upload_book.specs.TenantBook.{Entry, opening_part, visible_in, with_changed, with_new};
@@ -11,7 +11,7 @@ ghost use Rattle.upload_book.specs.Terminate.{without};
 use crate::kept_row::{KeptRow, empty_rows};
 use std::alloc::{AllocError, Global};
 use std::marker::Model;
-use upload_book::{HeadRow, Moment, Refusal};
+use upload_book::{Growth, HeadRow, LentRow, Moment, Refusal};
 
 /// The rows of a tenant's uploads by ascending id, the id that its next one gets, and boxes for as many more as it may
 /// have. Where a moment is known at which none of the rows has expired, it is kept: so most sweeps need not look at the
@@ -50,23 +50,18 @@ impl HeadRows {
         })
     }
 
-    /// Puts a row under an id: that of an upload which stands, or the next one. Says whether it did. It does not where
-    /// the upload is a new one and there is no room for it, or no id up to `last_id`, and then nothing changes.
-    pub(crate) fn put(&mut self, last_id: u64, id: u64, row: &HeadRow) -> bool
+    /// Puts the row of a new upload under the next id. Says whether it did. It does not where there is no room for it, or
+    /// no id up to `last_id`, and then nothing changes.
+    pub(crate) fn create(&mut self, last_id: u64, row: &LentRow) -> bool
         requires { last_id < 18446744073709551615 }
-        ensures put { result ≡ takes_row self.old.room last_id self.old.part id }
-        ensures after { self.new ≡ (if result then record self.old { part = with_row self.old.part id row.now } else self.old) }
+        ensures put { result ≡ takes_row self.old.room last_id self.old.part self.old.part.next }
+        ensures after { self.new ≡ (if result then record self.old { part = with_row self.old.part self.old.part.next row.now } else self.old) }
     {
-        if id == self.next {
-            self.add(last_id, row)
-        } else {
-            self.change(id, row);
-            true
-        }
+        self.add(last_id, row)
     }
 
     // Puts the row of a new upload.
-    fn add(&mut self, last_id: u64, row: &HeadRow) -> bool
+    fn add(&mut self, last_id: u64, row: &LentRow) -> bool
         requires { last_id < 18446744073709551615 }
         ensures { MatchBool result
             ((length self.old.part.uploads < self.old.room) × (self.old.part.next ≤ last_id)
@@ -82,18 +77,20 @@ impl HeadRows {
         };
         self.rows.push_reserved(KeptRow::new(self.next, place, row));
         self.next += 1;
-        self.fresh = fresh_with(self.fresh, row.expires);
+        self.fresh = fresh_with(self.fresh, row.growth().expires);
         true
     }
 
-    // Puts another row under the id of an upload, if it is there.
-    fn change(&mut self, id: u64, row: &HeadRow)
-        ensures { self.new ≡ record self.old { part = with_changed self.old.part id row.now } }
+    /// The upload under an id is so far from now on. Says whether it is there; else nothing changes. No row moves.
+    pub(crate) fn grow(&mut self, id: u64, growth: &Growth) -> bool
+        ensures { IsGrown self.old id growth.now result self.new }
     {
-        if let Some(place) = self.place(id) {
-            self.rows[place].set(row);
-            self.fresh = fresh_with(self.fresh, row.expires);
-        }
+        let Some(place) = self.place(id) else {
+            return false;
+        };
+        self.rows[place].grow(growth);
+        self.fresh = fresh_with(self.fresh, growth.expires);
+        true
     }
 
     /// Takes out the row under an id, if one is there.

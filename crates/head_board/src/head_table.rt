@@ -1,14 +1,18 @@
 ghost use Rattle.std.specs.Prelude.{◌≡◌, ◌<◌, length, map, set, All, IfOk, if◌then◌else◌};
-ghost use Rattle.head_board.specs.Room.{has_room, heads_with};
-ghost use Rattle.head_board.specs.inside.HeadTable.{opening_parts};
-ghost use Rattle.upload_book.specs.Heads.{head_part_at, heads_of, parts_after, shown, with_row, without_expired};
+ghost use Rattle.head_board.specs.Room.{heads_noted};
+ghost use Rattle.head_board.specs.inside.HeadTable.{is_taken, opening_parts, parts_noted};
+ghost use Rattle.upload_book.specs.declared.board_line.HeadChange.TheVariants as head;
+ghost use Rattle.upload_book.specs.declared.head_note.NotedChange.TheVariants.{Created, Grown};
+ghost use Rattle.upload_book.specs.Heads.{heads_of, parts_after, shown, without_expired};
 ghost use Rattle.upload_book.specs.PlainBook.{opening_book};
 ghost use Rattle.upload_book.specs.Terminate.{without};
 
 use crate::head_rows::HeadRows;
 use std::alloc::{AllocError, Global};
 use std::marker::Model;
-use upload_book::{Accounts, BoardLine, HeadChange, HeadRow, Moment, Name, Refusal, Settings};
+use upload_book::{
+    Accounts, Growth, HeadNote, HeadRow, LentRow, Moment, Name, NotedChange, Refusal, Settings,
+};
 
 /// The heads of a book once more, from which a HEAD can be answered beside the book: a row for each upload, and the
 /// accounts. It has room for as many rows of each tenant as the settings allow, so it takes no memory after it is made.
@@ -72,50 +76,64 @@ impl HeadTable {
         }
     }
 
-    /// Changes what a line says. A line for which there is no room changes nothing; one that may follow on these heads
-    /// always has room ([`crate::laws::lines_have_room`]). It takes no memory.
-    pub fn apply(&mut self, line: &BoardLine)
-        ensures { self.new ≡ heads_with self.old line.now }
+    /// Changes what a note says. One that stands for no line on these heads changes nothing, nor does one for which there
+    /// is no room: a line that may follow on these heads always has room ([`crate::laws::lines_have_room`]). It takes no
+    /// memory, and copies no text but those of a new upload.
+    pub fn apply(&mut self, note: &HeadNote)
+        ensures { self.new ≡ heads_noted self.old note.now }
     {
-        if self.change(&line.change) {
-            self.accounts = line.accounts;
+        if self.change(&note.change) {
+            self.accounts = note.accounts;
         }
     }
 
-    // Changes the rows, and says whether there is room for that.
-    fn change(&mut self, change: &HeadChange) -> bool
-        ensures there { result ≡ has_room self.old change.now }
-        ensures after { self.new ≡ (if result then record self.old { tenants = parts_after self.old change.now } else self.old) }
+    // Changes the rows, and says whether there is something to change, and room for it.
+    fn change(&mut self, change: &NotedChange) -> bool
+        ensures there { result ≡ is_taken self.old change.now }
+        ensures after { self.new ≡ (if result then record self.old { tenants = parts_noted self.old change.now } else self.old) }
     {
         match change {
-            HeadChange::Put(name, row) => self.put(name, row),
-            HeadChange::Gone(name) => {
+            NotedChange::Created(tenant, row) => self.create(*tenant, row),
+            NotedChange::Grown(name, growth) => self.grow(name, growth),
+            NotedChange::Gone(name) => {
                 self.remove(name);
                 true
             }
-            HeadChange::Swept(now) => {
+            NotedChange::Swept(now) => {
                 self.sweep(*now);
                 true
             }
         }
     }
 
-    // Puts a row under a name, if there is room for it.
-    fn put(&mut self, name: &Name, row: &HeadRow) -> bool
-        ensures there { result ≡ has_room self.old (HeadChange.Put name.now row.now) }
-        ensures after { self.new ≡ (if result then record self.old { tenants = parts_after self.old (HeadChange.Put name.now row.now) } else self.old) }
+    // Puts the row of a new upload of a tenant, if there is room for it.
+    fn create(&mut self, tenant: u8, row: &LentRow) -> bool
+        ensures there { result ≡ is_taken self.old (Created tenant row.now) }
+        ensures after { self.new ≡ (if result then record self.old { tenants = parts_noted self.old (Created tenant row.now) } else self.old) }
     {
-        let tenant = usize::from(name.tenant);
+        let tenant = usize::from(tenant);
         if tenant >= self.parts.len() {
             return true;
         }
         let last_id = self.settings.numbers().last_id;
-        self.parts[tenant].put(last_id, name.id, row)
+        self.parts[tenant].create(last_id, row)
+    }
+
+    // The upload of a name is so far from now on, if it is there.
+    fn grow(&mut self, name: &Name, growth: &Growth) -> bool
+        ensures there { result ≡ is_taken self.old (Grown name.now growth.now) }
+        ensures after { self.new ≡ (if result then record self.old { tenants = parts_noted self.old (Grown name.now growth.now) } else self.old) }
+    {
+        let tenant = usize::from(name.tenant);
+        if tenant >= self.parts.len() {
+            return false;
+        }
+        self.parts[tenant].grow(name.id, growth)
     }
 
     // Takes out the row under a name, if one is there.
     fn remove(&mut self, name: &Name)
-        ensures { self.new ≡ record self.old { tenants = parts_after self.old (HeadChange.Gone name.now) } }
+        ensures { self.new ≡ record self.old { tenants = parts_after self.old (head.Gone name.now) } }
     {
         let tenant = usize::from(name.tenant);
         if tenant < self.parts.len() {
@@ -125,7 +143,7 @@ impl HeadTable {
 
     // Takes out the rows of all uploads that have expired at this moment.
     fn sweep(&mut self, now: Moment)
-        ensures { self.new ≡ record self.old { tenants = parts_after self.old (HeadChange.Swept now) } }
+        ensures { self.new ≡ record self.old { tenants = parts_after self.old (head.Swept now) } }
     {
         for part in self.parts.iter_mut() {
             part.sweep(now);

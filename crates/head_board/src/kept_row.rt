@@ -1,10 +1,11 @@
 ghost use Rattle.std.specs.Prelude.{◌≡◌, IfOk, vec_len, vec_capacity, ◌≤◌};
 ghost use Rattle.upload_book.specs.Expiry.{has_expired};
+ghost use Rattle.upload_book.specs.HeadNotes.{row_grown};
 
 use std::alloc::{AllocError, Global};
 use std::marker::Model;
 use tus_text::Text;
-use upload_book::{HeadRow, Kind, Moment};
+use upload_book::{Growth, HeadRow, Kind, LentRow, Moment};
 
 /// The row of an upload under its id. It has room for texts of 3 KiB, so it lies in a box: rows move where one of
 /// them is taken out. A contract sees the id and the row.
@@ -24,19 +25,22 @@ impl Model for KeptRow {
 }
 
 impl KeptRow {
-    /// A row under an id, which is copied to where the box has its place.
-    pub(crate) fn new(id: u64, mut place: Box<HeadRow>, row: &HeadRow) -> KeptRow
+    /// A row under an id, whose texts are copied to where the box has its place.
+    pub(crate) fn new(id: u64, mut place: Box<HeadRow>, row: &LentRow) -> KeptRow
         ensures { result ≡ record { id = id; kept = row.now } }
     {
         set_row(&mut *place, row);
         KeptRow { id, row: place }
     }
 
-    /// Gets another row.
-    pub(crate) fn set(&mut self, row: &HeadRow)
-        ensures { self.new ≡ record self.old { kept = row.now } }
+    /// The upload is so far from now on. No text is copied.
+    pub(crate) fn grow(&mut self, growth: &Growth)
+        ensures { self.new ≡ record self.old { kept = row_grown growth.now self.old.kept } }
     {
-        set_row(&mut *self.row, row);
+        let row = &mut *self.row;
+        row.offset = growth.offset;
+        row.declared = growth.declared;
+        row.expires = growth.expires;
     }
 
     /// The id of the upload.
@@ -102,13 +106,14 @@ fn empty_row() -> HeadRow {
 }
 
 // Copies a row to another. Of the texts it copies the bytes that are used.
-fn set_row(to: &mut HeadRow, row: &HeadRow)
+fn set_row(to: &mut HeadRow, row: &LentRow)
     ensures { to.new ≡ row.now }
 {
-    to.kind = row.kind;
-    to.offset = row.offset;
-    to.declared = row.declared;
-    to.metadata.set(row.metadata.as_slice());
-    to.concat.set(row.concat.as_slice());
-    to.expires = row.expires;
+    let growth = row.growth();
+    to.kind = row.kind();
+    to.offset = growth.offset;
+    to.declared = growth.declared;
+    to.metadata.set(row.metadata());
+    to.concat.set(row.concat());
+    to.expires = growth.expires;
 }

@@ -4,6 +4,7 @@
 
 mod board;
 mod board_copy;
+mod coming_texts;
 mod event;
 mod event_log;
 mod head_reader;

@@ -19,9 +19,11 @@ impl Absorb<Note> for BoardCopy {
     ghost never_fails = { Unit {0} };
 
     fn absorb_first(&mut self, note: &Note, _other: &BoardCopy) -> Result<(), AllocError> {
-        if let Note::Adds(added) = note {
-            self.table.apply(&added.line);
-            self.seen = added.after.again();
+        match note {
+            Note::Nothing => {}
+            Note::NoTexts => self.coming.clear(),
+            Note::More(field, piece) => self.coming.add(*field, piece),
+            Note::Adds(added) => self.add(added),
         }
         Ok(())
     }

@@ -50,13 +50,13 @@ fn show_first<W: Wait + Drop>(rt: &impl Abort, board: &mut Board<W>, book: &mut 
     assert!(rt; book.settings().tenant_count() > 0);
     let ready = book.prepare(creation(), moment(rt, 1000));
     let ready = ready.expect(rt, "a book with room");
-    let line = ready.line(book);
+    let note = ready.note(book);
     board.show(
         &Coming {
             desk: 0,
             ready: &ready,
         },
-        line,
+        &note,
     );
 }
 

@@ -1,4 +1,4 @@
-//! A table of heads that follows lines.
+//! A table of heads that follows notes.
 
 ghost use Rattle.std.specs.Prelude.{◌≡◌};
 
@@ -6,17 +6,15 @@ use crate::settings::{moment, settings};
 use head_board::HeadTable;
 use std::process::Abort;
 use std::test::Fail;
-use tus_text::Text;
-use upload_book::HeadChange::{Gone, Put, Swept};
+use upload_book::NotedChange::{Created, Gone, Grown, Swept};
 use upload_book::{
-    Accounts, BoardLine, HeadChange, HeadRow, Kind, Moment, Name, Numbers, Refusal, Settings,
+    Accounts, Growth, HeadNote, HeadRow, Kind, LentRow, Moment, Name, NotedChange, Numbers,
+    Refusal, Settings,
 };
 
-/// A line of a change, after which so much was charged.
-pub fn line(change: HeadChange, charged: u64) -> BoardLine
-    ensures { result.change ≡ change }
-{
-    BoardLine {
+// The note of a change, after which so much was charged.
+fn note(change: NotedChange, charged: u64) -> HeadNote {
+    HeadNote {
         change,
         accounts: Accounts {
             charged,
@@ -33,16 +31,18 @@ pub fn name(tenant: u8, id: u64) -> Name
     Name { tenant, id }
 }
 
-/// A row of so many bytes of ten, with this metadata and this end.
-pub fn row(offset: u64, metadata: &'static [u8; 6], expires: Option<Moment>) -> HeadRow {
-    HeadRow {
-        kind: Kind::Plain,
+// So many bytes of ten, and this end.
+fn growth(offset: u64, expires: Option<Moment>) -> Growth {
+    Growth {
         offset,
         declared: Some(10),
-        metadata: Text::of(metadata),
-        concat: Text::empty(),
         expires,
     }
+}
+
+// A row of so many bytes of ten, with this metadata and this end.
+fn row(offset: u64, metadata: &'static [u8; 6], expires: Option<Moment>) -> LentRow<'static> {
+    LentRow::new(Kind::Plain, growth(offset, expires), metadata, b"")
 }
 
 /// Asserts the offset and the metadata that a HEAD of an upload finds, or why it finds none.
@@ -68,10 +68,12 @@ fn assert_row(rt: &impl Abort, row: &HeadRow, offset: u64, metadata: &[u8]) {
 // The tenant and the id of an upload.
 type Place = (u8, u64);
 
-// A line for a table, with how many blocks were charged after it, or what the table shows then.
+// A note for a table, with how many blocks were charged after it, or what the table shows then.
 enum Step {
-    // An upload has so many bytes, this metadata and this end.
-    Put(Place, u64, &'static [u8; 6], Option<u64>, u64),
+    // A tenant has a new upload of so many bytes, this metadata and this end.
+    Created(u8, u64, &'static [u8; 6], Option<u64>, u64),
+    // An upload has so many bytes and this end.
+    Grown(Place, u64, Option<u64>, u64),
     Gone(Place, u64),
     Swept(u64, u64),
     // At a second an upload has so many bytes and this metadata, or is not shown.
@@ -80,13 +82,13 @@ enum Step {
 
 static FOLLOWED: [Step; 16] = [
     Step::Shows((0, 1), 1000, Err(Refusal::Unknown)),
-    Step::Put((0, 1), 0, b"key QQ", Some(5000), 0),
+    Step::Created(0, 0, b"key QQ", Some(5000), 0),
     Step::Shows((0, 1), 1000, Ok((0, b"key QQ"))),
     Step::Shows((0, 1), 5000, Err(Refusal::Gone)),
-    Step::Put((0, 1), 5, b"key Qg", Some(5000), 2),
-    Step::Shows((0, 1), 1000, Ok((5, b"key Qg"))),
-    Step::Put((0, 2), 7, b"key Qw", None, 4),
-    Step::Put((1, 1), 9, b"key RA", Some(5000), 7),
+    Step::Grown((0, 1), 5, Some(5500), 2),
+    Step::Shows((0, 1), 5000, Ok((5, b"key QQ"))),
+    Step::Created(0, 7, b"key Qw", None, 4),
+    Step::Created(1, 9, b"key RA", Some(5000), 7),
     Step::Shows((0, 2), 1000, Ok((7, b"key Qw"))),
     Step::Shows((1, 1), 1000, Ok((9, b"key RA"))),
     Step::Gone((0, 1), 7),
@@ -108,18 +110,23 @@ fn assert_shows(
     assert_shown(rt, &table.look(&name, moment(rt, secs)), expected);
 }
 
-// Applies a line to a table, which then has what was charged after it.
-fn apply(rt: &impl Abort, table: &mut HeadTable, change: HeadChange, charged: u64) {
-    table.apply(&line(change, charged));
+// Applies a note to a table, which then has what was charged after it.
+fn apply(rt: &impl Abort, table: &mut HeadTable, change: NotedChange, charged: u64) {
+    table.apply(&note(change, charged));
     assert!(rt; table.accounts().charged == charged);
 }
 
 // Takes a table through one step.
 fn take(rt: &impl Abort, table: &mut HeadTable, step: &Step) {
     match step {
-        Step::Put((tenant, id), offset, metadata, expires, charged) => {
+        Step::Created(tenant, offset, metadata, expires, charged) => {
             let expires = expires.map(|end| moment(rt, end));
-            let change = Put(name(*tenant, *id), row(*offset, metadata, expires));
+            let change = Created(*tenant, row(*offset, metadata, expires));
+            apply(rt, table, change, *charged);
+        }
+        Step::Grown((tenant, id), offset, expires, charged) => {
+            let expires = expires.map(|end| moment(rt, end));
+            let change = Grown(name(*tenant, *id), growth(*offset, expires));
             apply(rt, table, change, *charged);
         }
         Step::Gone((tenant, id), charged) => apply(rt, table, Gone(name(*tenant, *id)), *charged),
@@ -131,7 +138,7 @@ fn take(rt: &impl Abort, table: &mut HeadTable, step: &Step) {
 }
 
 #[test]
-fn a_table_follows_its_lines(rt: HostRuntime) -> Result<(), Fail> {
+fn a_table_follows_its_notes(rt: HostRuntime) -> Result<(), Fail> {
     let mut table = HeadTable::new(rt.alloc(), &settings()?)?;
     for step in &FOLLOWED {
         take(&rt, &mut table, step);
@@ -155,23 +162,23 @@ fn narrow(uploads: u64, last_id: u64) -> Result<Settings, Fail> {
     Ok(Settings::new(numbers, &[(b"acme", 8)])?)
 }
 
-// A new upload of acme has so many bytes, and so many blocks were charged.
-fn put(table: &mut HeadTable, id: u64, metadata: &'static [u8; 6]) {
-    table.apply(&line(Put(name(0, id), row(id, metadata, None)), id));
+// A new upload of acme has as many bytes as blocks were charged.
+fn create(table: &mut HeadTable, charged: u64, metadata: &'static [u8; 6]) {
+    table.apply(&note(Created(0, row(charged, metadata, None)), charged));
 }
 
 // Of three new uploads a table has room for two: after the third it is as after the second.
 fn assert_two_fit(rt: &impl Abort, table: &mut HeadTable) {
-    put(table, 1, b"key QQ");
-    put(table, 2, b"key Qg");
-    put(table, 3, b"key Qw");
+    create(table, 1, b"key QQ");
+    create(table, 2, b"key Qg");
+    create(table, 3, b"key Qw");
     assert_shows(rt, table, name(0, 3), 1000, Err(Refusal::Unknown));
     assert_shows(rt, table, name(0, 2), 1000, Ok((2, b"key Qg")));
     assert!(rt; table.accounts().charged == 2);
 }
 
 #[test]
-fn a_line_without_room_changes_nothing(rt: HostRuntime) -> Result<(), Fail> {
+fn a_note_without_room_changes_nothing(rt: HostRuntime) -> Result<(), Fail> {
     let mut table = HeadTable::new(rt.alloc(), &narrow(2, 9)?)?;
     assert_two_fit(&rt, &mut table);
     let mut table = HeadTable::new(rt.alloc(), &narrow(9, 2)?)?;
@@ -180,10 +187,10 @@ fn a_line_without_room_changes_nothing(rt: HostRuntime) -> Result<(), Fail> {
 }
 
 // A new upload of acme is shown, and is gone once it ends.
-fn put_and_end(rt: &impl Abort, table: &mut HeadTable, id: u64) {
-    put(table, id, b"key QQ");
+fn create_and_end(rt: &impl Abort, table: &mut HeadTable, id: u64) {
+    create(table, id, b"key QQ");
     assert_shows(rt, table, name(0, id), 1000, Ok((id, b"key QQ")));
-    table.apply(&line(Gone(name(0, id)), id));
+    table.apply(&note(Gone(name(0, id)), id));
     assert_shows(rt, table, name(0, id), 1000, Err(Refusal::Gone));
 }
 
@@ -191,7 +198,7 @@ fn put_and_end(rt: &impl Abort, table: &mut HeadTable, id: u64) {
 fn a_box_serves_the_next_upload(rt: HostRuntime) -> Result<(), Fail> {
     let mut table = HeadTable::new(rt.alloc(), &narrow(1, 9)?)?;
     for id in 1..6 {
-        put_and_end(&rt, &mut table, id);
+        create_and_end(&rt, &mut table, id);
     }
     Ok(())
 }

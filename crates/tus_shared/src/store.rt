@@ -117,7 +117,7 @@ impl<C: Charges, R: Ledger, M: Ledger, B: Wait + Drop> Store<C, R, M, B> {
         }
     }
 
-    // Makes a change, and shows its line: the change is prepared, the line is shown, and then the change, which can no
+    // Makes a change, and shows its note: the change is prepared, the note is shown, and then the change, which can no
     // longer fail, is committed. So nothing is shown of a change that is not made.
     fn make(
         &mut self,
@@ -142,7 +142,7 @@ impl<C: Charges, R: Ledger, M: Ledger, B: Wait + Drop> Store<C, R, M, B> {
             Ok(ready) => ready,
             Err(refused) => return Err(refused),
         };
-        show_line(
+        show_note(
             &mut self.board,
             &self.book,
             &Coming {
@@ -163,13 +163,13 @@ impl<C: Charges, R: Ledger, M: Ledger, B: Wait + Drop> Store<C, R, M, B> {
     }
 }
 
-// Shows the line of a change for which the book is ready, on the board of the book.
-fn show_line<B: Wait + Drop>(board: &mut Board<B>, book: &Book, coming: &Coming)
+// Shows the note of a change for which the book is ready, on the board of the book.
+fn show_note<B: Wait + Drop>(board: &mut Board<B>, book: &Book, coming: &Coming)
     requires ready { IsReady book.now coming.now.ready.now }
     requires book { plain_of book.now ≡ book_at board.old.settings board.old.events }
     ensures line { (line : BoardLine) × IsLineOf (plain_of book.now) (event_of coming.now) line }
     ensures shown { board.new ≡ record board.old { events = board.old.events ++ event_of coming.now ∷ [] } }
 {
-    let line = coming.ready.line(book);
-    board.show(coming, line)
+    let note = coming.ready.note(book);
+    board.show(coming, &note)
 }

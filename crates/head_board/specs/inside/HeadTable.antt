@@ -1,9 +1,13 @@
 -- How a table keeps the heads of a book.
-use Rattle.std.specs.Prelude.{◌≡◌, List, map, All}
+use Rattle.std.specs.Prelude.{◌≡◌, Bool, false, List, map, All}
+use Rattle.std.specs.Option.{option_map_or}
 use Rattle.head_board.specs.declared.head_table.HeadTable.TheInside.{Inside}
 use Rattle.head_board.specs.inside.Rows.{Rows}
 use Rattle.upload_book.specs.declared.settings.TenantQuota.{TenantQuota}
-use Rattle.upload_book.specs.Heads.{Heads, HeadPart}
+use Rattle.upload_book.specs.declared.head_note.NotedChange.{NotedChange}
+use Rattle.upload_book.specs.HeadNotes.{change_told}
+use Rattle.upload_book.specs.Heads.{Heads, HeadPart, parts_after}
+use Rattle.head_board.specs.Room.{has_room}
 use Rattle.upload_book.specs.TenantBook.{opening_part}
 
 -- the tenants' parts at the start
@@ -21,3 +25,11 @@ heads_in t = record {
 -- each tenant has room for as many rows as the settings allow
 pub record IsHeadTable (t : Inside) : Type 0 where
   pub room : All (λ (r : Rows). r.room ≡ t.settings.numbers.uploads) t.parts.items
+
+-- something changes by what is noted, and there is room for it
+abbrev pub is_taken : Heads → NotedChange → Bool
+is_taken h change = option_map_or (has_room h) (change_told h change) false
+
+-- the tenants' parts after it
+abbrev pub parts_noted : Heads → NotedChange → List HeadPart
+parts_noted h change = option_map_or (parts_after h) (change_told h change) h.tenants

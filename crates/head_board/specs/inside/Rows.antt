@@ -1,11 +1,13 @@
 -- How a table keeps the rows of a tenant.
-use Rattle.std.specs.Prelude.{◌≡◌, ◌+◌, ◌<◌, ◌≤◌, ℕ, false, List, map, vec_len, vec_capacity, All, Option, Some, None, IfSome, if◌then◌else◌}
+use Rattle.std.specs.Prelude.{◌≡◌, ◌+◌, ◌<◌, ◌≤◌, ℕ, ◌==◌, Bool, true, false, List, map, vec_len, vec_capacity, All, Option, Some, None, IfSome, if◌then◌else◌}
 use Rattle.std.specs.List.Sorted.{IsStrictlyIncreasing}
 use Rattle.head_board.specs.declared.head_rows.HeadRows.TheInside.{Inside}
+use Rattle.upload_book.specs.declared.head_note.Growth.{Growth}
 use Rattle.upload_book.specs.declared.head_row.HeadRow.{HeadRow}
 use Rattle.upload_book.specs.Expiry.{has_expired}
+use Rattle.upload_book.specs.HeadNotes.{row_grown}
 use Rattle.upload_book.specs.Heads.{HeadPart}
-use Rattle.upload_book.specs.TenantBook.{Entry}
+use Rattle.upload_book.specs.TenantBook.{Entry, kept_in, with_changed}
 
 -- the tenant's part, and for how many rows there is room
 pub record Rows : Type 0 where
@@ -18,6 +20,12 @@ rows_of r = record {
   part = record { quota = r.quota; next = r.next; uploads = r.rows.items };
   room = vec_len r.rows + vec_len r.spare;
 }
+
+-- of a tenant's rows the one under an id grew, if it stands there, and no more changed
+abbrev pub IsGrown : Rows → ℕ → Growth → Bool → Rows → Type 0
+IsGrown before id growth true after =
+    (row : HeadRow) × (kept_in before.part.uploads id ≡ Some row) × ((id == before.part.next) ≡ false) × (after ≡ record before { part = with_changed before.part id (row_grown growth row) })
+IsGrown before id growth false after = (kept_in before.part.uploads id ≡ None) × (after ≡ before)
 
 -- the ids of rows
 abbrev pub row_ids : List (Entry HeadRow) → List ℕ

@@ -3,20 +3,54 @@ use Rattle.std.specs.Prelude.{◌≡◌, ℕ, true, false, List}
 use mathlib.Core.Option.{some}
 use lib.ListN.{get_elem?}
 use Rattle.logbook.specs.Pages.{Book}
+use Rattle.upload_book.specs.declared.head_note.NotedChange.{NotedChange}
+use Rattle.upload_book.specs.declared.head_note.NotedChange.TheVariants.{Created, Grown, Gone, Swept}
 use Rattle.upload_book.specs.Heads.{heads_of}
 use Rattle.head_board.specs.Events.{HaveHappened, book_at}
 use Rattle.head_board.specs.NoBoard.{no_settings}
+use Rattle.head_board.specs.declared.board_copy.Added.{Added}
+use Rattle.head_board.specs.declared.board_copy.BoardCopy.{BoardCopy}
 use Rattle.head_board.specs.declared.board_copy.LogName.{LogName}
 use Rattle.head_board.specs.declared.board_copy.Note.{Note}
-use Rattle.head_board.specs.declared.board_copy.Note.TheVariants.{Nothing, Adds}
-use Rattle.head_board.specs.declared.board_copy.BoardCopy.{BoardCopy}
+use Rattle.head_board.specs.declared.board_copy.Note.TheVariants.{Nothing, NoTexts, More, Adds}
+use Rattle.head_board.specs.declared.board_copy.SmallChange.{SmallChange}
+use Rattle.head_board.specs.declared.board_copy.SmallChange.TheVariants as small
 use Rattle.head_board.specs.declared.board_copy.View.{View}
-use Rattle.head_board.specs.Room.{heads_with}
+use Rattle.head_board.specs.declared.coming_texts.ComingTexts.{ComingTexts}
+use Rattle.head_board.specs.inside.ComingTexts.{no_texts, with_piece}
+use Rattle.head_board.specs.Room.{heads_noted}
+
+-- a change with the texts that came before it
+abbrev pub change_with : ComingTexts → SmallChange → NotedChange
+change_with texts (small.Created tenant kind growth) = Created tenant (record {
+  kind = kind;
+  offset = growth.offset;
+  declared = growth.declared;
+  metadata = texts.metadata;
+  concat = texts.concat;
+  expires = growth.expires;
+})
+change_with texts (small.Grown name growth) = Grown name growth
+change_with texts (small.Gone name) = Gone name
+change_with texts (small.Swept now) = Swept now
+
+-- the copy after the change of an event
+abbrev pub with_added : BoardCopy → Added → BoardCopy
+with_added s a = record s {
+  table = heads_noted s.table (record { change = change_with s.coming a.change; accounts = a.accounts });
+  seen = a.after;
+}
 
 -- the copy after a note
 abbrev pub noted : BoardCopy → Note → BoardCopy
 noted s Nothing = s
-noted s (Adds a) = record { table = heads_with s.table a.line; seen = a.after }
+noted s NoTexts = record s { coming = no_texts }
+noted s (More field piece) = record s { coming = with_piece s.coming field piece }
+noted s (Adds a) = with_added s a
+
+-- of two copies the second has the heads and the events of the first, and other texts to come
+abbrev pub WithTexts : BoardCopy → BoardCopy → Type 0
+WithTexts s other = other ≡ record s { coming = other.coming }
 
 -- the copy has the heads of the book after what happened
 pub record IsCurrent (s : BoardCopy) : Type 0 where

@@ -1,4 +1,5 @@
-use Rattle.std.proofs.Common.{◌≡◌, drop}
+use Rattle.std.proofs.Common.{◌≡◌, drop, fold}
+use Rattle.head_board.specs.inside.Showing.{noted}
 use Rattle.head_board.proofs.board.note_down.Given as goal
 
 abbrev pub invariant-loop : goal.invariant-loop

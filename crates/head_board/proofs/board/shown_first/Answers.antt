@@ -1,13 +1,11 @@
-use Rattle.std.proofs.Common.{◌≡◌, List, [], ◌∷◌, ◌++◌, ap, sym, subst, ◌∙◌}
-use Rattle.head_board.specs.declared.board_copy.Note.{Note}
-use Rattle.head_board.specs.declared.board_copy.Note.TheVariants.{Nothing}
-use Rattle.head_board.specs.inside.Showing.{IsCurrent}
+use Rattle.std.proofs.Common.{ap, fold, sym, subst, ◌∙◌}
+use Rattle.head_board.specs.inside.Showing.{IsCurrent, noted}
 use Rattle.head_board.proofs.BoardLemmas.{at_ok, begins-note, begun-rest}
 use Rattle.head_board.proofs.board.shown_first.Goals as goal
 
 pub publish_as-writer-requires : goal.publish_as-writer-requires
 publish_as-writer-requires g c next is =
-    let one = c.if-not-append.ensures.pending ∙ ap (λ (p : List Note). p ++ Nothing ∷ []) c.requires.pending in
+    let one = c.make_room.ensures.next ∙ ap (fold noted c.args.writer.desk.shown.value) c.requires.pending ∙ sym (ap (λ d. d.shown.value) c.make_room.ensures.desk) in
     begins-note _ _ _ next _ one is
 
 pub returns : goal.returns
@@ -15,7 +13,7 @@ returns g c =
     let published = c.publish_as-writer.ensures in
     let ok = published.succeeds tt in
     let values = at_ok _ _ _ ok published.values in
-    let one = c.if-not-append.ensures.pending ∙ ap (λ (p : List Note). p ++ Nothing ∷ []) c.requires.pending in
-    let same : c.append.new.writer.desk.shown.value ≡ c.args.writer.desk.shown.value = ap (λ d. d.shown.value) c.if-not-append.ensures.desk in
+    let same = ap (λ d. d.shown.value) c.make_room.ensures.desk in
+    let one = c.make_room.ensures.next ∙ ap (fold noted c.args.writer.desk.shown.value) c.requires.pending ∙ sym same in
     let rest = begun-rest _ _ _ _ _ (subst IsCurrent (sym same) c.requires.current) one values.0 values.1 (at_ok _ _ _ ok published.rule) in
     (rest.0 ∙ same, rest.1)

@@ -4,17 +4,16 @@ use Rattle.upload_book.specs.PlainBook.{PlainBook}
 use Rattle.upload_book.specs.Ready.{change_in, moment_in}
 use Rattle.upload_book.specs.Settings.{Settings}
 use Rattle.head_board.specs.Event.{Event}
-use Rattle.head_board.specs.Events.{IsLineOf, book_at}
+use Rattle.head_board.specs.Events.{IsNoteOfEvent, book_at}
 use Rattle.head_board_tests.proofs.boards.show_first.Goals as goal
 
 pub show-requires : goal.show-requires
 show-requires g c =
     let board = c.args.board.now in
-    let told = c.line-line.ensures in
     let before : plain_of c.prepare-ready.new.self ≡ book_at board.settings board.events =
     c.prepare-ready.ensures.plain ∙ c.requires.opened ∙ ap (book_at board.settings) (sym c.requires.new) in
     let event : Event = record { desk = 0; change = change_in c.expect-ready.result; now = moment_in c.expect-ready.result } in
-    subst (λ (b : PlainBook). IsLineOf b event c.line-line.result) before (record { is = told.value; leads = record { may = told.follows; heads = told.after } })
+    subst (λ (b : PlainBook). IsNoteOfEvent b event c.note-note.result) before c.note-note.ensures
 
 pub prepare-ready-requires : goal.prepare-ready-requires
 prepare-ready-requires g c =

@@ -12,13 +12,13 @@ pub invariant_of-self-2 : goal.invariant_of-self-2
 invariant_of-self-2 g c =
     let s = g.C.Charges.settings in
     let old = c.self.invariant in
-    let shown = c.show_line.ensures.shown in
-    let told = c.show_line.ensures.line in
+    let shown = c.show_note.ensures.shown in
+    let told = c.show_note.ensures.line in
     let after = c.commit-outcome.ensures.after in
     let at = shown-at s _ _ _ _ _ _ _ old.at c.prepare.ensures.plain told.1 shown after in
     let n = no-less _ _ _ _ told.1 after in
     record {
-      settings = ap (λ (b : PlainBook). b.settings) at.is ∙ at-settings s c.show_line.new.board.events;
+      settings = ap (λ (b : PlainBook). b.settings) at.is ∙ at-settings s c.show_note.new.board.events;
       board_settings = ap (λ (v : BoardView). v.settings) shown ∙ old.board_settings;
       board_log = ap (λ (v : BoardView). v.log) shown ∙ old.board_log;
       at = at;
@@ -43,7 +43,7 @@ pub invariant_of-desk-2 : goal.invariant_of-desk-2
 invariant_of-desk-2 g c =
     let s = g.C.Charges.settings in
     let i = c.desk.invariant in
-    let at = shown-at s _ _ _ _ _ _ _ c.self.invariant.at c.prepare.ensures.plain c.show_line.ensures.line.1 c.show_line.ensures.shown c.commit-outcome.ensures.after in
+    let at = shown-at s _ _ _ _ _ _ _ c.self.invariant.at c.prepare.ensures.plain c.show_note.ensures.line.1 c.show_note.ensures.shown c.commit-outcome.ensures.after in
     let seen = c.show_to-2.ensures.seen in
     record {
       settings_are = i.settings_are;
@@ -57,19 +57,19 @@ invariant_of-desk-2 g c =
 
 pub returns-clause-stays_happened : goal.returns-clause-stays_happened
 returns-clause-stays_happened g c =
-    let at = shown-at g.C.Charges.settings _ _ _ _ _ _ _ c.self.invariant.at c.prepare.ensures.plain c.show_line.ensures.line.1 c.show_line.ensures.shown c.commit-outcome.ensures.after in
+    let at = shown-at g.C.Charges.settings _ _ _ _ _ _ _ c.self.invariant.at c.prepare.ensures.plain c.show_note.ensures.line.1 c.show_note.ensures.shown c.commit-outcome.ensures.after in
     at.happened
 
 pub returns-clause-stays_lawful : goal.returns-clause-stays_lawful
 returns-clause-stays_lawful g c =
-    let at = shown-at g.C.Charges.settings _ _ _ _ _ _ _ c.self.invariant.at c.prepare.ensures.plain c.show_line.ensures.line.1 c.show_line.ensures.shown c.commit-outcome.ensures.after in
+    let at = shown-at g.C.Charges.settings _ _ _ _ _ _ _ c.self.invariant.at c.prepare.ensures.plain c.show_note.ensures.line.1 c.show_note.ensures.shown c.commit-outcome.ensures.after in
     subst IsLawful at.is c.charged_total.ensures.lawful
 
 pub returns-clause-moves : goal.returns-clause-moves
 returns-clause-moves g c =
     let s = g.C.Charges.settings in
-    let shown = c.show_line.ensures.shown in
-    let told = c.show_line.ensures.line in
+    let shown = c.show_note.ensures.shown in
+    let told = c.show_note.ensures.line in
     let after = c.commit-outcome.ensures.after in
     let old = c.self.invariant.at in
     let at = shown-at s _ _ _ _ _ _ _ old c.prepare.ensures.plain told.1 shown after in
