@@ -1,6 +1,6 @@
 pub mod RowLemmas
-pub mod FreshRows
 pub mod TableLemmas
+pub mod BoundLemmas
 pub mod LineLemmas
 pub mod LogLemmas
 pub mod RuleLemmas

@@ -16,6 +16,7 @@ use Rattle.head_board.specs.declared.board_copy.BoardCopy.{BoardCopy}
 use Rattle.head_board.specs.declared.board_copy.View.{View}
 use Rattle.head_board.specs.declared.head_reader.Found.{Found}
 use Rattle.head_board.specs.Events.{HaveHappened, book_at}
+use Rattle.head_board.specs.Expired.{NoneHasExpired}
 use Rattle.head_board.specs.inside.EventLog.{LogPrefix}
 use Rattle.head_board.specs.inside.Showing.{Fits, IsCurrent, log_of}
 
@@ -53,4 +54,19 @@ found-right v s seen name now (Some f) knows log current fits found =
       subst (λ (t : LogPrefix). IsPrefix seen.events t.events) (sym found.0) found.1,
       subst (λ (settings : Settings). HaveHappened settings f.seen.events) (sym right.0) (subst (λ (t : LogPrefix). HaveHappened s.table.settings t.events) (sym found.0) current.happened),
       found.2 ∙ ap (λ (h : Heads). shown h name now) heads ∙ shown-look (book_at v.settings f.seen.events) name now,
+    )
+
+-- a current copy tells of what has expired after what happened
+pub none-right : (v : View) (s : BoardCopy) (seen : LogPrefix) (now : ℕ) (found : Option LogPrefix) → v.knows ≡ true → log_of v.log ≡ seen.book → IsCurrent s → Fits v s
+    → IfSome found (λ f. (f ≡ s.seen) × IsPrefix seen.events s.seen.events × NoneHasExpired now s.table)
+    → IfSome found (λ f. (f.book ≡ seen.book) × IsPrefix seen.events f.events × HaveHappened v.settings f.events × NoneHasExpired now (heads_of (book_at v.settings f.events)))
+none-right v s seen now None knows log current fits found = tt
+none-right v s seen now (Some f) knows log current fits found =
+    let right = fits knows in
+    let heads : s.table ≡ heads_of (book_at v.settings f.events) =
+    current.heads ∙ ap₂ (λ (settings : Settings) (t : LogPrefix). heads_of (book_at settings t.events)) (sym right.0) (sym found.0) in (
+      ap (λ (t : LogPrefix). t.book) found.0 ∙ sym right.1 ∙ log,
+      subst (λ (t : LogPrefix). IsPrefix seen.events t.events) (sym found.0) found.1,
+      subst (λ (settings : Settings). HaveHappened settings f.events) (sym right.0) (subst (λ (t : LogPrefix). HaveHappened s.table.settings t.events) (sym found.0) current.happened),
+      subst (λ (h : Heads). NoneHasExpired now h) heads found.2,
     )

@@ -1,13 +1,12 @@
 -- The texts of a new upload, piece by piece.
-use Rattle.std.proofs.Common.{◌≡◌, ℕ, ◌+◌, ◌≤◌, true, leb, List, [], ◌++◌, length, cond, refl, ap, ap₂, sym, ◌∙◌, arith}
+use Rattle.std.proofs.Common.{◌≡◌, ℕ, ◌+◌, ◌≤◌, true, leb, List, [], ◌++◌, length, refl, ap, ap₂, sym, ◌∙◌, arith}
 use Rattle.std.proofs.lemmas.Bool.Decides.{nat_tests}
 use Rattle.std.proofs.lemmas.List.{append_assoc, append-nil, length-append}
 use Rattle.head_board.specs.declared.board_copy.BoardCopy.{BoardCopy}
 use Rattle.head_board.specs.declared.board_copy.Note.TheVariants.{More, NoTexts}
-use Rattle.head_board.specs.declared.coming_texts.ComingTexts.{ComingTexts}
 use Rattle.head_board.specs.declared.coming_texts.TextField.{TextField}
 use Rattle.head_board.specs.declared.coming_texts.TextField.TheVariants.{Concat, Metadata}
-use Rattle.head_board.specs.inside.ComingTexts.{text_in, text_room, with_bytes, with_piece}
+use Rattle.head_board.specs.inside.ComingTexts.{text_in, text_room, with_bytes}
 use Rattle.head_board.specs.inside.Showing.{noted}
 
 -- bytes for which there is room come after those before

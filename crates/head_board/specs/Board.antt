@@ -5,11 +5,13 @@ use Rattle.logbook.specs.Pages.{Book}
 use Rattle.upload_book.specs.declared.head_row.HeadRow.{HeadRow}
 use Rattle.upload_book.specs.declared.head_row.Name.{Name}
 use Rattle.upload_book.specs.declared.refusal.Refusal.{Refusal}
+use Rattle.upload_book.specs.Heads.{heads_of}
 use Rattle.upload_book.specs.Look.{look_answer}
 use Rattle.upload_book.specs.PlainBook.{answer_of}
 use Rattle.upload_book.specs.Settings.{Settings}
 use Rattle.head_board.specs.Event.{Event}
 use Rattle.head_board.specs.Events.{HaveHappened, book_at}
+use Rattle.head_board.specs.Expired.{NoneHasExpired}
 
 -- The settings of the book, the log of the events that were shown, and events of it: at the board all that were shown,
 -- at a reader those that it has seen.
@@ -24,3 +26,9 @@ pub record ReadsHead (s : Settings) (seen events : List Event) (name : Name) (no
   pub begins : IsPrefix seen events
   pub happened : HaveHappened s events
   pub tells : row ≡ answer_of (book_at s events) name.tenant (look_answer name.id now)
+
+-- Who has seen some events reads that no upload has expired at a moment: none has after events that begin with these.
+pub record SeesNoneExpired (s : Settings) (seen events : List Event) (now : ℕ) : Type 0 where
+  pub begins : IsPrefix seen events
+  pub happened : HaveHappened s events
+  pub none : NoneHasExpired now (heads_of (book_at s events))

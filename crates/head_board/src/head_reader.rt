@@ -1,10 +1,11 @@
-ghost use Rattle.std.specs.Prelude.{◌≡◌, true, IfSome, IfNone};
+ghost use Rattle.std.specs.Prelude.{◌≡◌, true, false, IfSome, IfNone};
 ghost use mathlib.Core.List.{IsPrefix};
-ghost use Rattle.head_board.specs.Board.{ReadsHead};
+ghost use Rattle.head_board.specs.Board.{ReadsHead, SeesNoneExpired};
 ghost use Rattle.head_board.specs.Events.{HaveHappened, book_at};
+ghost use Rattle.head_board.specs.Expired.{NoneHasExpired};
 ghost use Rattle.head_board.specs.inside.Showing.{log_of};
 ghost use Rattle.left_right.specs.Sides.{view as known_at};
-ghost use Rattle.upload_book.specs.Heads.{shown};
+ghost use Rattle.upload_book.specs.Heads.{heads_of, shown};
 ghost use Rattle.upload_book.specs.Look.{look_answer};
 ghost use Rattle.upload_book.specs.PlainBook.{answer_of};
 
@@ -45,6 +46,13 @@ impl Model for HeadReader {
 struct HeadQuery {
     seen: SeenEvents,
     name: Name,
+    moment: Moment,
+}
+
+// What is asked: after which events, and whether an upload has expired when.
+#[derive(Drop)]
+struct EndQuery {
+    seen: SeenEvents,
     moment: Moment,
 }
 
@@ -101,6 +109,27 @@ impl HeadReader {
         self.seen = found.seen;
         Some(found.row)
     }
+
+    /// Whether an upload of the book may have expired at this moment. If not, none has after events that begin with those
+    /// which the reader has seen, and it has seen these then. If one may, or the board was not entered, the reader is as
+    /// it was. It takes no lock and no memory, waits for nobody, and looks at one number.
+    pub fn may_expire(&mut self, now: Moment) -> bool
+        ensures none { result ≡ false → SeesNoneExpired self.old.settings self.old.events self.new.events now }
+        ensures board { self.new ≡ record self.old { events = self.new.events } }
+        ensures stays { result ≡ true → self.new ≡ self.old }
+    {
+        let query = EndQuery {
+            seen: self.seen.again(),
+            moment: now,
+        };
+        match replace_with(&mut self.reader, query, read_ends) {
+            Some(seen) => {
+                self.seen = seen;
+                false
+            }
+            None => true,
+        }
+    }
 }
 
 // Enters the board, and reads what it shows, unless that has fewer events than were seen. The place is the same after
@@ -139,4 +168,39 @@ fn found_on(copy: &BoardCopy, query: &HeadQuery) -> Option<Found>
         row: copy.table.look(&query.name, query.moment),
         seen: copy.seen.again(),
     })
+}
+
+// Enters the board, and tells the events after which no upload has expired, where it shows that. The place is the same
+// after it.
+fn read_ends(reader: BoardReader, query: EndQuery) -> (BoardReader, Option<SeenEvents>)
+    requires knows { (known_at reader.place).knows ≡ true }
+    requires log { log_of (known_at reader.place).log ≡ query.seen.book }
+    ensures place { known_at result.0.place ≡ known_at reader.place }
+    ensures none { IfSome result.1 (λ seen.
+        (seen.book ≡ query.seen.book)
+        × IsPrefix query.seen.events seen.events
+        × HaveHappened (known_at reader.place).settings seen.events
+        × NoneHasExpired query.moment (heads_of (book_at (known_at reader.place).settings seen.events))) }
+{
+    match reader.enter_as::<Enters>() {
+        Ok(reading) => {
+            let seen = seen_unexpired(reading.get(), &query);
+            (reading.leave(), seen)
+        }
+        Err(reader) => (reader, None),
+    }
+}
+
+// The events of a copy by which no upload has expired, unless that has fewer than were seen.
+fn seen_unexpired(copy: &BoardCopy, query: &EndQuery) -> Option<SeenEvents>
+    requires { copy.now.seen.book ≡ query.now.seen.book }
+    ensures { IfSome result (λ seen.
+        (seen ≡ copy.now.seen)
+        × IsPrefix query.now.seen.events copy.now.seen.events
+        × NoneHasExpired query.now.moment copy.now.table) }
+{
+    if !query.seen.begins(&copy.seen) || copy.table.may_expire(query.moment) {
+        return None;
+    }
+    Some(copy.seen.again())
 }

@@ -2,27 +2,26 @@ ghost use Rattle.std.specs.Prelude.{◌≡◌, ◌<◌, ◌≤◌, ◌==◌, ◌
 ghost use Rattle.std.specs.List.{remove};
 ghost use Rattle.std.specs.List.Sorted.{IsStrictlyIncreasing};
 ghost use Rattle.head_board.specs.Room.{takes_row};
-ghost use Rattle.head_board.specs.inside.Rows.{IsGrown, fresh_with, row_ids};
+ghost use Rattle.head_board.specs.inside.Rows.{AreBounded, IsGrown, row_ids};
 ghost use Rattle.upload_book.specs.Heads.{with_row, without_expired};
 ghost use Rattle.upload_book.specs.Expiry.{has_expired};
 ghost use Rattle.upload_book.specs.TenantBook.{Entry, opening_part, visible_in, with_changed, with_new};
 ghost use Rattle.upload_book.specs.Terminate.{without};
 
+use crate::first_end::earlier;
 use crate::kept_row::{KeptRow, empty_rows};
 use std::alloc::{AllocError, Global};
 use std::marker::Model;
 use upload_book::{Growth, HeadRow, LentRow, Moment, Refusal};
 
 /// The rows of a tenant's uploads by ascending id, the id that its next one gets, and boxes for as many more as it may
-/// have. Where a moment is known at which none of the rows has expired, it is kept: so most sweeps need not look at the
-/// rows. A contract sees the tenant's part of the heads, and for how many rows there is room.
+/// have. A contract sees the tenant's part of the heads, and for how many rows there is room.
 #[derive(Drop)]
 pub(crate) struct HeadRows {
     quota: u64,
     next: u64,
     rows: Vec<KeptRow>,
     spare: Vec<Box<HeadRow>>,
-    fresh: Option<Moment>,
 }
 
 impl Model for HeadRows {
@@ -46,7 +45,6 @@ impl HeadRows {
             next: 1,
             rows: Vec::with_capacity(alloc, room)?,
             spare: empty_rows(alloc, room)?,
-            fresh: None,
         })
     }
 
@@ -77,7 +75,6 @@ impl HeadRows {
         };
         self.rows.push_reserved(KeptRow::new(self.next, place, row));
         self.next += 1;
-        self.fresh = fresh_with(self.fresh, row.growth().expires);
         true
     }
 
@@ -89,7 +86,6 @@ impl HeadRows {
             return false;
         };
         self.rows[place].grow(growth);
-        self.fresh = fresh_with(self.fresh, growth.expires);
         true
     }
 
@@ -102,14 +98,10 @@ impl HeadRows {
         }
     }
 
-    /// Takes out the rows of all uploads that have expired at this moment. It looks at none of them where it is known
-    /// that none has.
+    /// Takes out the rows of all uploads that have expired at this moment.
     pub(crate) fn sweep(&mut self, now: Moment)
         ensures { self.new ≡ record self.old { part = without_expired now self.old.part } }
     {
-        if self.is_fresh(now) {
-            return;
-        }
         let mut place = 0;
         while place < self.count() {
             if self.has_expired(place, now) {
@@ -118,7 +110,6 @@ impl HeadRows {
                 place += 1;
             }
         }
-        self.fresh = Some(now);
     }
 
     /// What a HEAD of this id finds at this moment: Unknown where the id was never given, Gone where its upload has
@@ -139,14 +130,15 @@ impl HeadRows {
         Ok(row.copied())
     }
 
-    // Whether it is known that none of the rows has expired at this moment.
-    fn is_fresh(&self, now: Moment) -> bool
-        ensures { result ≡ true → without_expired now self.now.part ≡ self.now.part }
+    /// When the first of the uploads expires, if one does.
+    pub(crate) fn first_end(&self) -> Option<Moment>
+        ensures { AreBounded result self.now.part.uploads }
     {
-        match self.fresh {
-            Some(fresh) => now <= fresh,
-            None => false,
+        let mut first = None;
+        for row in self.rows.iter() {
+            first = earlier(first, row.expires());
         }
+        first
     }
 
     // How many rows there are.
@@ -181,15 +173,5 @@ impl HeadRows {
     {
         let row = self.rows.remove(place);
         self.spare.push_reserved(row.into_box());
-    }
-}
-
-// A moment at which no row has expired, where that stays so with one more row, which has this end.
-fn fresh_with(fresh: Option<Moment>, end: Option<Moment>) -> Option<Moment>
-    ensures { result ≡ fresh_with fresh end }
-{
-    match fresh {
-        Some(now) if !end.is_some_and(|end| end <= now) => fresh,
-        _ => None,
     }
 }

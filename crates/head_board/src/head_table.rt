@@ -1,12 +1,15 @@
-ghost use Rattle.std.specs.Prelude.{◌≡◌, ◌<◌, length, map, set, All, IfOk, if◌then◌else◌};
+ghost use Rattle.std.specs.Prelude.{◌≡◌, ◌<◌, false, length, map, set, All, IfOk, if◌then◌else◌};
+ghost use Rattle.head_board.specs.Expired.{NoneHasExpired};
 ghost use Rattle.head_board.specs.Room.{heads_noted};
 ghost use Rattle.head_board.specs.inside.HeadTable.{is_taken, opening_parts, parts_noted};
+ghost use Rattle.head_board.specs.inside.Rows.{AreBounded};
 ghost use Rattle.upload_book.specs.declared.board_line.HeadChange.TheVariants as head;
 ghost use Rattle.upload_book.specs.declared.head_note.NotedChange.TheVariants.{Created, Grown};
-ghost use Rattle.upload_book.specs.Heads.{heads_of, parts_after, shown, without_expired};
+ghost use Rattle.upload_book.specs.Heads.{HeadPart, heads_of, parts_after, shown, without_expired};
 ghost use Rattle.upload_book.specs.PlainBook.{opening_book};
 ghost use Rattle.upload_book.specs.Terminate.{without};
 
+use crate::first_end::earlier;
 use crate::head_rows::HeadRows;
 use std::alloc::{AllocError, Global};
 use std::marker::Model;
@@ -15,12 +18,14 @@ use upload_book::{
 };
 
 /// The heads of a book once more, from which a HEAD can be answered beside the book: a row for each upload, and the
-/// accounts. It has room for as many rows of each tenant as the settings allow, so it takes no memory after it is made.
+/// accounts. It has room for as many rows of each tenant as the settings allow, so it takes no memory after it is made. It
+/// keeps a moment before which no row expires, so that most sweeps look at no row.
 #[derive(Drop)]
 pub struct HeadTable {
     settings: Settings,
     parts: Vec<HeadRows>,
     accounts: Accounts,
+    first_end: Option<Moment>,
 }
 
 impl Model for HeadTable {
@@ -48,6 +53,7 @@ impl HeadTable {
                 released: 0,
                 charge: [0; 16],
             },
+            first_end: None,
         })
     }
 
@@ -73,6 +79,16 @@ impl HeadTable {
         match self.parts.get(usize::from(name.tenant)) {
             Some(part) => part.look(name.id, now),
             None => Err(Refusal::Unknown),
+        }
+    }
+
+    /// Whether an upload may have expired at this moment: if not, none has. It looks at one number.
+    pub fn may_expire(&self, now: Moment) -> bool
+        ensures { result ≡ false → NoneHasExpired now self.now }
+    {
+        match self.first_end {
+            Some(end) => end <= now,
+            None => false,
         }
     }
 
@@ -116,6 +132,7 @@ impl HeadTable {
             return true;
         }
         let last_id = self.settings.numbers().last_id;
+        self.first_end = earlier(self.first_end, row.growth().expires);
         self.parts[tenant].create(last_id, row)
     }
 
@@ -128,6 +145,7 @@ impl HeadTable {
         if tenant >= self.parts.len() {
             return false;
         }
+        self.first_end = earlier(self.first_end, growth.expires);
         self.parts[tenant].grow(name.id, growth)
     }
 
@@ -141,13 +159,35 @@ impl HeadTable {
         }
     }
 
-    // Takes out the rows of all uploads that have expired at this moment.
+    // Takes out the rows of all uploads that have expired at this moment. It looks at one number where that tells that
+    // none has, and else at all rows.
     fn sweep(&mut self, now: Moment)
+        ensures { self.new ≡ record self.old { tenants = parts_after self.old (head.Swept now) } }
+    {
+        if self.may_expire(now) {
+            self.sweep_parts(now);
+            self.first_end = self.earliest_end();
+        }
+    }
+
+    // The same, where a row may have expired.
+    fn sweep_parts(&mut self, now: Moment)
         ensures { self.new ≡ record self.old { tenants = parts_after self.old (head.Swept now) } }
     {
         for part in self.parts.iter_mut() {
             part.sweep(now);
         }
+    }
+
+    // When the first of all uploads expires, if one does.
+    fn earliest_end(&self) -> Option<Moment>
+        ensures { All (λ (part : HeadPart). AreBounded result part.uploads) self.now.tenants }
+    {
+        let mut first = None;
+        for part in self.parts.iter() {
+            first = earlier(first, part.first_end());
+        }
+        first
     }
 }
 

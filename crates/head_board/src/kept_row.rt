@@ -65,6 +65,13 @@ impl KeptRow {
         }
     }
 
+    /// When the upload expires, if it does.
+    pub(crate) fn expires(&self) -> Option<Moment>
+        ensures { result ≡ self.now.kept.expires }
+    {
+        self.row.expires
+    }
+
     /// Whether the upload has expired at this moment.
     pub(crate) fn has_expired(&self, now: Moment) -> bool
         ensures { result ≡ has_expired now self.now.kept.expires }

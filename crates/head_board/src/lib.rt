@@ -7,6 +7,7 @@ mod board_copy;
 mod coming_texts;
 mod event;
 mod event_log;
+mod first_end;
 mod head_reader;
 mod head_rows;
 mod head_table;

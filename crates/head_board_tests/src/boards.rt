@@ -71,6 +71,8 @@ fn readers_see_what_is_shown(rt: HostRuntime) -> Result<(), Fail> {
     show_first(&rt, &mut board, &mut book);
     assert_seen(&rt, &mut one, Ok(5));
     assert_seen(&rt, &mut other, Ok(5));
+    assert!(rt; !one.may_expire(moment(&rt, 4599)));
+    assert!(rt; one.may_expire(moment(&rt, 4600)));
     drop(board);
     assert!(rt; one.look(&name(0, 1), moment(&rt, 1000)).is_none());
     Ok(())

@@ -2,7 +2,7 @@
 use Rattle.std.specs.Prelude.{◌≡◌, Bool, false, List, map, All}
 use Rattle.std.specs.Option.{option_map_or}
 use Rattle.head_board.specs.declared.head_table.HeadTable.TheInside.{Inside}
-use Rattle.head_board.specs.inside.Rows.{Rows}
+use Rattle.head_board.specs.inside.Rows.{AreBounded, Rows}
 use Rattle.upload_book.specs.declared.settings.TenantQuota.{TenantQuota}
 use Rattle.upload_book.specs.declared.head_note.NotedChange.{NotedChange}
 use Rattle.upload_book.specs.HeadNotes.{change_told}
@@ -22,9 +22,11 @@ heads_in t = record {
   accounts = t.accounts;
 }
 
--- each tenant has room for as many rows as the settings allow
+-- Each tenant has room for as many rows as the settings allow, and none of all rows ends before the bound that is kept: so
+-- a sweep at a moment before it has nothing to do.
 pub record IsHeadTable (t : Inside) : Type 0 where
   pub room : All (λ (r : Rows). r.room ≡ t.settings.numbers.uploads) t.parts.items
+  pub bound : All (λ (r : Rows). AreBounded t.first_end r.part.uploads) t.parts.items
 
 -- something changes by what is noted, and there is room for it
 abbrev pub is_taken : Heads → NotedChange → Bool

@@ -1,5 +1,5 @@
 -- How a table keeps the rows of a tenant.
-use Rattle.std.specs.Prelude.{◌≡◌, ◌+◌, ◌<◌, ◌≤◌, ℕ, ◌==◌, Bool, true, false, List, map, vec_len, vec_capacity, All, Option, Some, None, IfSome, if◌then◌else◌}
+use Rattle.std.specs.Prelude.{◌≡◌, ◌+◌, ◌<◌, ◌≤◌, ℕ, ◌==◌, Bool, true, false, List, map, vec_len, vec_capacity, All, Option, Some, None, min, ⊤}
 use Rattle.std.specs.List.Sorted.{IsStrictlyIncreasing}
 use Rattle.head_board.specs.declared.head_rows.HeadRows.TheInside.{Inside}
 use Rattle.upload_book.specs.declared.head_note.Growth.{Growth}
@@ -36,19 +36,29 @@ pub record AreBelow (next : ℕ) (rows : List (Entry HeadRow)) : Type 0 where
   pub ascending : IsStrictlyIncreasing (row_ids rows)
   pub below : All (λ (e : Entry HeadRow). e.id < next) rows
 
--- a moment at which no row has expired, where that stays so with one more row, which has this end
-abbrev pub fresh_with : Option ℕ → Option ℕ → Option ℕ
-fresh_with None end = None
-fresh_with (Some now) end = if has_expired now end then None else Some now
+-- the earlier of two ends, where there are any
+abbrev pub earlier : Option ℕ → Option ℕ → Option ℕ
+earlier None end = end
+earlier (Some end) None = Some end
+earlier (Some one) (Some other) = Some (min one other)
 
--- at the moment, if there is one, none of the rows has expired
-abbrev pub AreFresh : Option ℕ → List (Entry HeadRow) → Type 0
-AreFresh fresh rows = IfSome fresh (λ now. All (λ (e : Entry HeadRow). has_expired now e.kept.expires ≡ false) rows)
+-- an end is not before a bound; where there is no bound, there is no end
+abbrev pub IsNotBefore : Option ℕ → Option ℕ → Type 0
+IsNotBefore bound None = ⊤
+IsNotBefore None (Some end) = ⊥
+IsNotBefore (Some bound) (Some end) = bound ≤ end
 
--- Each of the two lists has room for all boxes, so that none is ever lost; the ids are as they should be; and none has
--- expired where that is known.
+-- no row ends before a bound
+abbrev pub AreBounded : Option ℕ → List (Entry HeadRow) → Type 0
+AreBounded bound rows = All (λ (e : Entry HeadRow). IsNotBefore bound e.kept.expires) rows
+
+-- no row has expired at a moment
+abbrev pub AreFresh : ℕ → List (Entry HeadRow) → Type 0
+AreFresh now rows = All (λ (e : Entry HeadRow). has_expired now e.kept.expires ≡ false) rows
+
+-- Each of the two lists has room for all boxes, so that none is ever lost; and the ids are as they should
+-- be.
 pub record AreRows (r : Inside) : Type 0 where
   pub rows : vec_len r.rows + vec_len r.spare ≤ vec_capacity r.rows
   pub spare : vec_len r.rows + vec_len r.spare ≤ vec_capacity r.spare
   pub ids : AreBelow r.next r.rows.items
-  pub fresh : AreFresh r.fresh r.rows.items

@@ -1,5 +1,4 @@
-use Rattle.std.proofs.Common.{◌≡◌, drop, fold}
-use Rattle.head_board.specs.inside.Showing.{noted}
+use Rattle.std.proofs.Common.{◌≡◌, drop}
 use Rattle.head_board.proofs.board.note_down.Given as goal
 
 abbrev pub invariant-loop : goal.invariant-loop

@@ -1,5 +1,4 @@
 use Rattle.std.proofs.Common.{arith}
-use Rattle.head_board.proofs.FreshRows.{AreFresh-push}
 use Rattle.head_board.proofs.RowLemmas.{AreBelow-push}
 use Rattle.head_board.proofs.head_rows.HeadRows.add.Goals as goal
 
@@ -8,5 +7,4 @@ invariant_of-self-2 c = record {
   rows = omega (arith, c.in-Some.ensures.cases, c.push_reserved.ensures.len, c.push_reserved.ensures.capacity);
   spare = omega (arith, c.in-Some.ensures.cases, c.push_reserved.ensures.len, c.in-Some.ensures.capacity);
   ids = rw (c.push_reserved.ensures.items, c.new.ensures) (AreBelow-push c.self.inside.next c.self.inside.rows.items c.args.row.now c.self.invariant.ids);
-  fresh = rw (c.push_reserved.ensures.items, c.new.ensures, c.fresh_with-self-inside.ensures, c.growth.ensures) (AreFresh-push c.self.inside.fresh c.self.inside.rows.items (record { id = c.self.inside.next; kept = c.args.row.now }) c.self.invariant.fresh);
 }

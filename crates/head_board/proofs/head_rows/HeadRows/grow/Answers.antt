@@ -1,9 +1,5 @@
-use Rattle.std.proofs.Common.{set, refl, sym, ap, subst, ◌∙◌}
-use Rattle.upload_book.specs.declared.head_row.HeadRow.{HeadRow}
+use Rattle.std.proofs.Common.{refl, sym, ◌∙◌}
 use Rattle.upload_book.specs.HeadNotes.{row_grown}
-use Rattle.upload_book.specs.TenantBook.{Entry}
-use Rattle.head_board.specs.inside.Rows.{fresh_with, AreFresh}
-use Rattle.head_board.proofs.FreshRows.{AreFresh-set}
 use Rattle.head_board.proofs.RowLemmas.{is_absent, is_set, kept-placed, not-next, AreBelow-set}
 use Rattle.head_board.proofs.head_rows.HeadRows.grow.Goals as goal
 
@@ -12,7 +8,6 @@ invariant_of-self c = record {
   rows = c.self.invariant.rows;
   spare = c.self.invariant.spare;
   ids = AreBelow-set c.self.inside.next c.self.inside.rows.items c.args.id c.in-Some.place c.index_mut.result.now c.grow.new.self (row_grown c.args.growth.now c.index_mut.result.now.kept) (sym (rw (← c.self.view_is) at c.in-Some.ensures.place)) c.index_mut.ensures.value c.grow.ensures c.self.invariant.ids;
-  fresh = rw c.fresh_with-self-inside.ensures (subst (λ end. AreFresh (fresh_with c.self.inside.fresh end) (set c.self.inside.rows.items c.in-Some.place c.grow.new.self)) (ap (λ (e : Entry HeadRow). e.kept.expires) c.grow.ensures) (AreFresh-set c.self.inside.fresh c.self.inside.rows.items c.in-Some.place c.grow.new.self c.self.invariant.fresh));
 }
 
 pub returns : goal.returns

@@ -1,6 +1,4 @@
-use Rattle.std.proofs.Common.{refl, arith, ap, sym, ◌∙◌}
-use Rattle.upload_book.specs.Heads.{HeadPart}
-use Rattle.head_board.specs.inside.Rows.{Rows}
+use Rattle.std.proofs.Common.{refl, arith, sym, ◌∙◌}
 use Rattle.head_board.proofs.RowLemmas.{IsSweptTo-all, IsSweptTo-out, IsSweptTo-passed}
 use Rattle.head_board.proofs.head_rows.HeadRows.sweep.Goals as goal
 
@@ -21,10 +19,6 @@ pub loop-place-preserved : goal.loop-place-preserved
 loop-place-preserved c =
     IsSweptTo-passed c.args.self.now c.loop-place.self c.args.now c.loop-place.place c.loop-place.invariant (omega (arith, c.count.ensures)) (λ d. sym c.if-has_expired.false ∙ c.has_expired.ensures d)
 
-pub returns-then-is_fresh : goal.returns-then-is_fresh
-returns-then-is_fresh c =
-    sym (ap (λ (part : HeadPart). let q : Rows = record c.args.self.now { part = part } in q) (c.is_fresh.ensures c.if-is_fresh.true))
-
 pub returns : goal.returns
 returns c =
-    c.self.view_is ∙ IsSweptTo-all c.args.self.now c.loop-place.self c.args.now c.loop-place.place c.loop-place.invariant (omega (arith, c.count.ensures))
+    IsSweptTo-all c.args.self.now c.loop-place.self c.args.now c.loop-place.place c.loop-place.invariant (omega (arith, c.count.ensures))

@@ -1,6 +1,5 @@
 use Rattle.std.proofs.Common.{sym, subst, arith}
-use Rattle.head_board.specs.inside.Rows.{AreBelow, AreFresh}
-use Rattle.head_board.proofs.FreshRows.{AreFresh-remove}
+use Rattle.head_board.specs.inside.Rows.{AreBelow}
 use Rattle.head_board.proofs.RowLemmas.{AreBelow-remove}
 use Rattle.head_board.proofs.head_rows.HeadRows.take_out.Goals as goal
 
@@ -9,5 +8,4 @@ invariant_of-self c = record {
   rows = omega (arith, c.remove-row.ensures.len, c.remove-row.ensures.capacity, c.push_reserved.ensures.len);
   spare = omega (arith, c.remove-row.ensures.len, c.push_reserved.ensures.len, c.push_reserved.ensures.capacity);
   ids = subst (AreBelow c.self.inside.next) (sym c.remove-row.ensures.items) (AreBelow-remove c.self.inside.next c.self.inside.rows.items c.args.place c.remove-row.result (rw (← c.self.view_is) at c.requires) c.self.invariant.ids);
-  fresh = subst (AreFresh c.self.inside.fresh) (sym c.remove-row.ensures.items) (AreFresh-remove c.self.inside.fresh c.self.inside.rows.items c.args.place c.self.invariant.fresh);
 }

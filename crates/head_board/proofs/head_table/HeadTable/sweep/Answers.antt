@@ -1,31 +1,18 @@
-use Rattle.std.proofs.Common.{◌≡◌, List, length, map, set, ap, sym, subst, ◌∙◌}
-use Rattle.std.specs.List.{All}
-use Rattle.std.specs.Vec.{with_items}
-use Rattle.std.proofs.lemmas.List.{with_items_is}
-use Rattle.std.proofs.lemmas.List.Edits.{map_over_more}
+use Rattle.std.proofs.Common.{List, ap, sym}
 use Rattle.upload_book.specs.Heads.{HeadPart, Heads}
-use Rattle.head_board.specs.inside.Rows.{Rows}
-use Rattle.head_board.proofs.TableLemmas.{heads-swept, room-swept, swept, swept-all}
+use Rattle.head_board.specs.inside.Rows.{AreBounded, Rows}
+use Rattle.head_board.proofs.BoundLemmas.{All-unmap, fresh-heads}
 use Rattle.head_board.proofs.head_table.HeadTable.sweep.Goals as goal
-
--- all rows are swept
-all : (c : goal.After-self-1) → (with_items c.self.inside.parts c.loop-part.part-items).items ≡ map {A = Rows} {B = Rows} (swept c.args.now) c.self.inside.parts.items
-all c =
-    with_items_is c.self.inside.parts c.loop-part.part-items (c.loop-part.auto.part-items ∙ ap length c.deref_mut-part-items.ensures.value ∙ sym c.self.inside.parts.ok.0)
-    ∙ swept-all c.args.now c.deref_mut-part-items.result.now c.loop-part.part-items c.loop-part.part-index c.loop-part.invariant c.loop-part-test.false
-    ∙ ap (map {A = Rows} {B = Rows} (swept c.args.now)) c.deref_mut-part-items.ensures.value
 
 pub invariant_of-self : goal.invariant_of-self
 invariant_of-self c =
-    let room = c.self.inside.settings.numbers.uploads in
-    record { room = subst (All (λ (r : Rows). r.room ≡ room)) (sym (all c)) (room-swept c.args.now room c.self.inside.parts.items c.self.invariant.room) }
+    let first = c.earliest_end-self-inside in
+    record {
+      room = c.self.invariant.room;
+      bound = All-unmap (λ (part : HeadPart). AreBounded first.result part.uploads) (λ (r : Rows). r.part) c.self.inside.parts.items (rw (← c.self.view_is) at first.ensures);
+    }
 
-pub loop-part-preserved : goal.loop-part-preserved
-loop-part-preserved c =
-    ap (λ (r : Rows). set c.loop-part.part-items c.loop-part.part-index r) (c.sweep.ensures ∙ ap (swept c.args.now) (sym c.part-item.is))
-    ∙ map_over_more (swept c.args.now) c.deref_mut-part-items.result.now c.loop-part.part-items c.loop-part.part-index c.part-item.result c.loop-part-test.true c.loop-part.invariant c.part-item.is
-
-pub returns : goal.returns
-returns c =
-    let heads : List HeadPart → Heads = λ tenants. record { settings = c.self.inside.settings; tenants = tenants; accounts = c.self.inside.accounts } in
-    rw (← c.self.view_is) (ap heads (ap (map {A = Rows} {B = HeadPart} (λ r. r.part)) (all c) ∙ heads-swept c.args.now c.self.inside.parts.items))
+pub returns-else-may_expire : goal.returns-else-may_expire
+returns-else-may_expire c =
+    let h = c.args.self.now in
+    ap (λ (tenants : List HeadPart). let after : Heads = record h { tenants = tenants } in after) (sym (fresh-heads c.args.now h.tenants (c.may_expire.ensures c.if-may_expire.false)))

@@ -1,7 +1,7 @@
 use Rattle.std.proofs.Common.{◌≡◌, ◌++◌, map, take, drop}
 use Rattle.head_board.proofs.TableLemmas.{swept}
 use Rattle.head_board.specs.inside.Rows.{Rows}
-use Rattle.head_board.proofs.head_table.HeadTable.sweep.Given as goal
+use Rattle.head_board.proofs.head_table.HeadTable.sweep_parts.Given as goal
 
 -- the tenants before this one are swept
 abbrev pub invariant-loop-part : goal.invariant-loop-part
