@@ -1,4 +1,4 @@
-//! The heads of a book, shown to readers that take no lock. A board gets each change of the book as one line, and no
+//! The heads of a book, shown to readers that take no lock. A board gets a note of each change of the book, and no
 //! reader falls behind what it has seen.
 #![tactic(auto)]
 

@@ -1,4 +1,5 @@
--- When the clock is asked for the moment of a message: after it has come. Where a fault comes first, the clock is not asked.
+-- When the clock is asked for the moment of a message: after it has come. Where a fault comes first, the clock is not asked; but
+-- for a PATCH that a failed read cut and that is applied: it has come as far as it will.
 use Rattle.std.specs.Prelude.{◌≡◌, ℕ, Bool, List, ◌++◌}
 use Rattle.tus_steps.specs.Request.{Request}
 use Rattle.tus_steps.specs.declared.reply.Reply.{Reply}

@@ -1,4 +1,4 @@
-ghost use Rattle.std.specs.Prelude.{◌≡◌, [], false, IfOk};
+ghost use Rattle.std.specs.Prelude.{◌≡◌, ◌≢◌, [], false, true, IfOk};
 
 use crate::read::head::FIELD_LIMIT;
 use crate::read::inbox::Inbox;
@@ -7,12 +7,15 @@ use httparse::spans::{EMPTY_HEADER_SPAN, HeaderSpan};
 use std::alloc::{AllocError, Global};
 
 /// The memory that the messages of a connection share: what was read ahead, where the fields of the head
-/// that was read last stand, and the page of the reply that is written. After a connection they serve another ([`Wire::with_buffers`](crate::Wire::with_buffers)).
+/// that was read last stand, and the page of the reply that is written. After a connection they serve another
+/// ([`Wire::with_buffers`](crate::Wire::with_buffers)).
 #[derive(Drop)]
 pub struct Buffers {
     pub(crate) inbox: Inbox,
     pub(crate) spans: Box<[HeaderSpan; FIELD_LIMIT]>,
     pub(crate) page: Page,
+    // Whether the last message was refused: what followed its head was not read.
+    pub(crate) is_refused: bool,
 }
 
 impl Buffers {
@@ -29,6 +32,7 @@ impl Buffers {
             inbox,
             spans: Box::new(alloc, [EMPTY_HEADER_SPAN; FIELD_LIMIT])?,
             page,
+            is_refused: false,
         })
     }
 
@@ -37,5 +41,13 @@ impl Buffers {
         ensures { result ≡ self.now.inbox.room }
     {
         self.inbox.room()
+    }
+
+    /// Whether the client may have sent bytes that belong to no message which was answered: the last message was refused,
+    /// and its rest not read, or bytes of a next one are held.
+    pub fn has_rest(&self) -> bool
+        ensures held { self.now.inbox.held ≢ [] → result ≡ true }
+    {
+        self.is_refused || !self.inbox.held().is_empty()
     }
 }

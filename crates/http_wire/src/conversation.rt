@@ -191,6 +191,7 @@ fn finish_turn<W: Sink, A: Answer>(
             turn_after(written, layout.framing.close)
         }
         Incoming::Refused(refusal, framing) => {
+            buffers.is_refused = true;
             let written = write_refusal(writer, &mut buffers.page, refusal, now, framing);
             turn_after(written, true)
         }

@@ -20,7 +20,7 @@ pub fn one_front()
 {}
 
 /// Where a failed read cut a message that is not applied when it is cut, its clock had not been asked: none is asked
-/// between a head and its body.
+/// between a head and such a body.
 pub fn bodies_come_first<A: Answer, C: Clock>()
     ensures { BodiesComeFirst A.steps C.tells }
 {}

@@ -8,7 +8,7 @@ use std::fmt;
 /// word.
 #[derive(Clone, Copy, Debug, PartialEq, Eq)]
 pub enum WireRefusal {
-    /// The fields or the body found no memory.
+    /// The body found no memory.
     Memory,
     /// The head is none of a request, as `httparse` reads it, with at most 64 fields.
     Head,

@@ -99,6 +99,7 @@ impl<R: Source + Drop, W: Sink + Drop> Wire<R, W> {
     {
         let mut buffers = buffers;
         buffers.inbox.renew();
+        buffers.is_refused = false;
         Wire {
             reader,
             writer,

@@ -277,6 +277,28 @@ fn left_buffers(rt: &impl Abort, alloc: Global) -> Buffers {
     buffers
 }
 
+const CLOSING: &[u8] = b"OPTIONS * HTTP/1.1\r\nHost: x\r\nConnection: close\r\n\r\n";
+
+/// What the buffers of a wire on which these messages came, in one read, tell after a conversation that closed.
+fn has_rest_after(rt: &impl Abort, alloc: Global, sent: &[&[u8]]) -> bool {
+    let all = joined(rt, alloc, sent);
+    let mut book = new_book(rt, alloc);
+    let mut wire = new_wire(rt, alloc, Input::new(&all, usize::MAX), Output::new(alloc));
+    let ended = Ok(Ended::Closed);
+    assert_served(rt, "a close", &mut wire, &mut book, &mut at(1000), 4, ended);
+    let (_, _, buffers) = wire.into_parts();
+    buffers.has_rest()
+}
+
+/// Nothing is left after a close that the client asked for; something may be after a refusal, and where more came.
+#[test]
+fn what_is_left_after_a_close(rt: HostRuntime) {
+    let alloc = rt.alloc();
+    assert!(rt; !has_rest_after(&rt, alloc, &[POST, CLOSING]), "asked for");
+    assert!(rt; has_rest_after(&rt, alloc, &[CHUNKED]), "a refusal");
+    assert!(rt; has_rest_after(&rt, alloc, &[CLOSING, POST]), "more came");
+}
+
 #[test]
 fn known_bytes(rt: HostRuntime) {
     let all = joined(&rt, rt.alloc(), &FIRST_UPLOAD);

@@ -7,13 +7,13 @@ use crate::charges::Charges;
 use crate::desk::Desk;
 use std::sync::ledger::Ledger;
 use tus_steps::Asked;
-use upload_book::{Change, HeadRow, Moment, Name};
+use upload_book::{Change, FirstChunk, HeadRow, Moment, Name, NewUpload};
 
 impl<C: Charges, R: Ledger, M: Ledger> Desk<C, R, M> {
     /// Does of what a request asks for what can be done without the lock, so that the lock is held for less. The SHA-1 of a
-    /// body is computed where it came with one, unless the heads tell that it will not be compared. For a GET as much
-    /// memory is reserved as the heads tell that it needs; there may be too little. What is asked for stays what it is.
-    /// It takes no lock, and waits for nobody.
+    /// body is computed where it came with one: that of a PATCH where the heads tell that it will be compared, that of a
+    /// creation where its own fields do. For a GET as much memory is reserved as the heads tell that it needs; there may be
+    /// too little. What is asked for stays what it is. It takes no lock, and waits for nobody.
     pub(crate) fn work_ahead(&mut self, asked: &mut Asked, now: Moment) -> Vec<u8>
         ensures asked { asked.new ≡ asked.old }
         ensures alone { OnlySeesMore self.old self.new }
@@ -46,13 +46,15 @@ impl<C: Charges, R: Ledger, M: Ledger> Desk<C, R, M> {
         }
     }
 
-    // Whether the bytes of a change may come to be compared with a checksum, as far as the heads tell.
+    // Whether the bytes of a change may come to be compared with a checksum, as far as can be told without the book.
     fn may_compare(&mut self, change: &Change, now: Moment) -> bool
         ensures alone { OnlySeesMore self.old self.new }
         ensures begins { IsPrefix self.old.seen self.new.seen }
     {
         match change {
-            Change::Create { first, .. } => first.check.is_some(),
+            Change::Create { new, first, .. } => {
+                may_compare_first(self.settings.numbers().max_size, new, first)
+            }
             Change::Append { name, chunk } if chunk.check.is_some() => {
                 match self.read_board(name, now) {
                     Some(Ok(row)) => chunk
@@ -64,6 +66,13 @@ impl<C: Charges, R: Ledger, M: Ledger> Desk<C, R, M> {
             _ => false,
         }
     }
+}
+
+// Whether the first bytes of a new upload may come to be compared with a checksum: they are of the type that is wanted, and
+// not too many.
+fn may_compare_first(max_size: u64, new: &NewUpload, first: &FirstChunk) -> bool {
+    let most = new.length.unwrap_or(max_size).min(max_size);
+    first.check.is_some() && first.typed && first.bytes.len() as u64 <= most
 }
 
 // How many bytes an upload has that is complete; else none.

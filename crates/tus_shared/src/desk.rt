@@ -1,7 +1,7 @@
-ghost use Rattle.std.specs.Prelude.{◌≡◌, ◌⊎◌, ◌≤◌, ℕ, [], Err, IfNone, IfSome, Ok, length, vec_capacity};
+ghost use Rattle.std.specs.Prelude.{◌≡◌, ◌⊎◌, ◌≤◌, [], Err, IfNone, IfSome, false, length, true, vec_capacity};
 ghost use mathlib.Core.List.{IsPrefix};
 ghost use Rattle.tus_steps.specs.Changing.{IsFound};
-ghost use Rattle.head_board.specs.Board.{ReadsHead};
+ghost use Rattle.head_board.specs.Board.{ReadsHead, SeesNoneExpired};
 ghost use Rattle.tus_shared.specs.Answers.{Answers, AnswersBatch, AnswersTurn, OnlySeesMore, SeesHead, Sweeps};
 ghost use Rattle.upload_book.specs.declared.refusal.Refusal.TheVariants.{Board, Unknown};
 
@@ -116,6 +116,17 @@ impl<C: Charges, R: Ledger, M: Ledger> Desk<C, R, M> {
         ensures stays { IfNone result (self.new ≡ self.old) }
     {
         self.reader.look(name, now)
+    }
+
+    /// Whether an upload may have expired at this moment, by what the board shows. If not, none has after events that begin
+    /// with all that this desk has seen, and it has seen these then. If one may, or the board was not entered, the desk
+    /// stays. It takes no lock and no memory, and waits for nobody.
+    pub fn may_sweep(&mut self, now: Moment) -> bool
+        ensures none { result ≡ false → SeesNoneExpired C.settings self.old.seen self.new.seen now }
+        ensures alone { OnlySeesMore self.old self.new }
+        ensures stays { result ≡ true → self.new ≡ self.old }
+    {
+        self.reader.may_expire(now)
     }
 
     /// Answers a turn, and passes the gate on the way: at `Before`, then with the lock at `Locked`, if it takes the

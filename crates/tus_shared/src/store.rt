@@ -1,14 +1,16 @@
-ghost use Rattle.std.specs.Prelude.{◌≡◌, ◌++◌, ◌∷◌, [], length};
+ghost use Rattle.std.specs.Prelude.{◌≡◌, ◌++◌, ◌∷◌, [], length, vec_capacity};
 ghost use mathlib.Core.List.{IsPrefix};
 ghost use Rattle.head_board.specs.Events.{HaveHappened, IsLineOf, book_at, event_of};
 ghost use Rattle.tus_steps.specs.Changing.{IsFound};
-ghost use Rattle.tus_steps.specs.Step.{IsStep};
+ghost use Rattle.tus_steps.specs.declared.asked.Asked.TheVariants as asks;
+ghost use Rattle.tus_steps.specs.Step.{IsContentReply, IsStep};
 ghost use Rattle.tus_shared.specs.Desk.{Moves};
 ghost use Rattle.tus_shared.specs.Headline.{Headline};
 ghost use Rattle.tus_shared.specs.Steps.{AddsChange, IsDone, IsSweep};
 ghost use Rattle.upload_book.specs.Book.{plain_of};
 ghost use Rattle.upload_book.specs.Change.{CanBeMade};
 ghost use Rattle.upload_book.specs.declared.board_line.BoardLine.{BoardLine};
+ghost use Rattle.upload_book.specs.declared.head_row.Name.{Name};
 ghost use Rattle.upload_book.specs.Lawful.{IsLawful};
 ghost use Rattle.upload_book.specs.Ready.{IsReady};
 
@@ -63,7 +65,7 @@ impl<C: Charges, R: Ledger, M: Ledger, B: Wait + Drop> Store<C, R, M, B> {
 
     /// Answers a request at a desk and applies it to the book, as the plain book does at this moment
     /// ([`tus_steps::answer`]). What it asks for was found before the lock was taken ([`tus_steps::asked_of`], under the
-    /// settings of the desk), and so was the room into which the bytes of a GET are copied. A change that is accepted is the next event, made at this desk. The desk has seen all events
+    /// settings of the desk), and so was the room into which the bytes of a GET are copied: memory lacks for these only where it is too small. A change that is accepted is the next event, made at this desk. The desk has seen all events
     /// after it, and its shares rise by what the request charges and releases, and by that event. The shares of other desks
     /// stay, since no other desk is lent.
     pub fn step(
@@ -84,6 +86,8 @@ impl<C: Charges, R: Ledger, M: Ledger, B: Wait + Drop> Store<C, R, M, B> {
         ensures adds { AddsChange C.settings self.old desk.old.number request.now now result self.new }
         ensures moves { Moves C.settings self.old self.new desk.old desk.new }
         ensures seen { desk.new.seen ≡ self.new }
+        ensures room { (name : Name) → asked.entry ≡ asks.Content name
+            → IsContentReply (book_at C.settings self.old) request.now now name (vec_capacity room) result }
     {
         match asked {
             Asked::Change(asked) => {

@@ -4,7 +4,7 @@
 
 ghost use Rattle.std.specs.Prelude.{◌≡◌};
 
-use crate::requests::Asked::Post;
+use crate::requests::Asked::Described;
 use crate::requests::{Answer, NUMBERS, answer_by, answer_of, moment, settings_of, turn};
 use std::alloc::Global;
 use std::marker::Brand;
@@ -13,26 +13,40 @@ use std::sync::Wait;
 use std::sync::ledger::{Blank, Ledger};
 use std::test::Fail;
 use tus_shared::{Charges, Desk, Opened, Shared};
-use upload_book::{Name, Numbers, Settings};
+use upload_book::{HeadRow, Name, Numbers, Refusal, Settings};
 
-// A desk makes an upload, and tells its id.
+// A key without a value, as long as metadata may be.
+static LONGEST: [u8; 1024] = [b'x'; 1024];
+
+// A desk makes an upload whose texts are as long as they may be, and tells its id.
 fn create<C: Charges, R: Ledger, M: Ledger, W: Wait + Abort>(
     rt: &W,
     shared: &Shared<C, R, M, &W>,
     desk: &mut Desk<C, R, M>,
     id: u64,
 ) {
-    let creation = turn(rt, Post(b"10"));
+    let creation = turn(rt, Described(b"10", &LONGEST));
     let reply = desk.call(rt, shared, &creation.request, creation.now);
     assert!(rt; answer_by(&reply).is(Answer::Created(id, None, Some(4600))));
 }
 
 const EMPTY: Answer<'static> = Answer::Row(0, Some(10), b"", Some(4600));
 
+// Whether a HEAD tells the longest metadata.
+fn has_longest(row: &Result<HeadRow, Refusal>) -> bool {
+    match row {
+        Ok(row) => row.metadata.as_slice() == &LONGEST[..],
+        Err(_) => false,
+    }
+}
+
 // A desk answers a HEAD of an upload without bytes.
 fn look<C: Charges, R: Ledger, M: Ledger>(rt: &impl Abort, desk: &mut Desk<C, R, M>, id: u64) {
     let row = desk.head(&Name { tenant: 0, id }, moment(rt, 1000));
-    assert!(rt; answer_of(&row).is(EMPTY), "upload {id}");
+    assert!(rt;
+        answer_of(&row).is(EMPTY) && has_longest(&row),
+        "upload {id}"
+    );
 }
 
 // A sweep at a desk ends one upload.

@@ -1,7 +1,7 @@
 //! Refused memory at a desk. `rt try --test --fail-alloc N -- lacking_memory` runs these tests with the Nth allocation of
-//! each refused: the opening says so, or the request that met it is refused and nothing is changed by it. Before its
-//! requests a test makes as many allocations as its name says, so that one build tries sixteen places: with 16,
-//! 32, 48 and so on for N it is every one. Each test prints whether memory was lacking.
+//! each refused: the opening says so, or the request that met it is refused and nothing is changed by it; but for the room of
+//! a GET, which is asked for once more. Before its requests a test makes as many allocations as its name says, so that one
+//! build tries sixteen places: with 16, 32, 48 and so on for N it is every one. Each test prints whether memory was lacking.
 
 ghost use Rattle.std.specs.Prelude.{◌≡◌};
 

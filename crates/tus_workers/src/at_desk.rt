@@ -1,6 +1,7 @@
-ghost use Rattle.std.specs.Prelude.{◌≡◌, ℕ};
-ghost use Rattle.tus_shared.specs.Answers.{AnswersTurn};
+ghost use Rattle.std.specs.Prelude.{◌≡◌, ◌⊎◌, ℕ};
+ghost use Rattle.tus_workers.specs.Serving.{ServesTurn, SweepsExpired};
 
+use crate::sweeping::sweep_expired;
 use http_wire::Answer;
 use std::sync::Wait;
 use std::sync::ledger::Ledger;
@@ -8,7 +9,9 @@ use tus_shared::{Charges, Desk, Gate, Shared};
 use tus_steps::{Reply, Request};
 use upload_book::Moment;
 
-/// A desk, as what answers the requests of one connection. It may wait for the other desks of its store.
+/// A desk, as what answers the requests of one connection. Uploads that have expired are ended before a request is answered
+/// that is no HEAD: at most once in each second, and where the heads tell that there may be some. So they don't keep
+/// their quota while connections last, and no HEAD waits for that. It may wait for the other desks of its store.
 #[derive(Drop)]
 pub struct AtDesk<'a, C: Charges, R: Ledger, M: Ledger, W: Wait, B: Wait + Drop, G: Gate> {
     rt: &'a W,
@@ -17,6 +20,8 @@ pub struct AtDesk<'a, C: Charges, R: Ledger, M: Ledger, W: Wait, B: Wait + Drop,
     gate: &'a G,
     // How many requests were answered.
     turn: usize,
+    // The last moment at which it asked whether uploads have expired.
+    asked: Option<Moment>,
 }
 
 impl<'a, C: Charges, R: Ledger, M: Ledger, W: Wait, B: Wait + Drop, G: Gate> AtDesk<
@@ -38,7 +43,19 @@ impl<'a, C: Charges, R: Ledger, M: Ledger, W: Wait, B: Wait + Drop, G: Gate> AtD
             shared,
             gate,
             turn: 0,
+            asked: None,
         }
+    }
+
+    // Ends the uploads that have expired at this moment, unless it was asked for that before.
+    fn sweep_once(&mut self, now: Moment)
+        ensures { SweepsExpired C.settings now self.old.desk self.new.desk ⊎ (self.new.desk ≡ self.old.desk) }
+    {
+        if self.asked == Some(now) {
+            return;
+        }
+        self.asked = Some(now);
+        sweep_expired(self.rt, &mut self.desk, self.shared, now);
     }
 
     /// The desk, for the next connection.
@@ -53,13 +70,16 @@ impl<'a, C: Charges, R: Ledger, M: Ledger, W: Wait, B: Wait + Drop, G: Gate> Ans
     for AtDesk<'a, C, R, M, W, B, G> {
     ghost max_size = { λ _. C.settings.numbers.max_size };
 
-    ghost steps = { λ old request now reply new. AnswersTurn C.settings request now reply old.desk new.desk };
+    ghost steps = { λ old request now reply new. ServesTurn C.settings request now reply old.desk new.desk };
 
     fn max_size(&self) -> u64 {
         self.desk.settings().numbers().max_size
     }
 
     fn answer(&mut self, request: &Request, now: Moment) -> Reply {
+        if !request.method.is_head() {
+            self.sweep_once(now);
+        }
         let turn = self.turn;
         self.turn = turn.saturating_add(1);
         self.desk

@@ -7,6 +7,7 @@ mod connection;
 mod loopback;
 mod machine_clock;
 mod stream;
+mod sweeping;
 mod work_options;
 mod worker;
 mod workers;

@@ -4,7 +4,7 @@ ghost use Rattle.std.specs.Io.KnownBytes.{Appends, Consumes};
 ghost use Rattle.http_wire.specs.Clock.{AreTold, IsTimed, Tells};
 ghost use Rattle.http_wire.specs.Fault.{NamesStream};
 ghost use Rattle.http_wire.specs.Turns.{Breaks, Converses, IsReadWhen};
-ghost use Rattle.tus_shared.specs.Answers.{AnswersTurn};
+ghost use Rattle.tus_workers.specs.Serving.{ServesTurn};
 
 use crate::at_desk::AtDesk;
 use http_wire::{Answer, Buffers, Clock, Ended, Sink, Source, Wire, WireFault, serve};
@@ -30,7 +30,8 @@ pub struct ServedStream<C: Charges, R: Ledger, M: Ledger, I, O> {
 /// may be `WireFault::Read` or `WireFault::Write`; the steps that were made before it stay.
 ///
 /// Each reply is that of a turn at the desk ([`Desk::answer`]): a HEAD is answered beside the lock, and all else is the plain
-/// book's step on some lawful book, of which the desk counts what it charged and released. Nobody can say what the other
+/// book's step on some lawful book, of which the desk counts what it charged and released. Before a request that is no HEAD
+/// the uploads that have expired may be ended. Nobody can say what the other
 /// desks did meanwhile, but the events on which the replies rest only grow. Desk and buffers are given back, for the next
 /// connection.
 pub fn serve_stream<
@@ -59,14 +60,14 @@ pub fn serve_stream<
         × AreTold K.tells clock.old clock.new 4096 e moments × (got text : List ℕ)
         × Consumes (I.remaining reader) (I.remaining result.reader) got
         × Appends (O.contents writer) (O.contents result.writer) text
-        × Converses (λ old request now reply new. AnswersTurn C.settings request now reply old new) C.settings.numbers.max_size moments
+        × Converses (λ old request now reply new. ServesTurn C.settings request now reply old new) C.settings.numbers.max_size moments
         (record { input = got; text = text; before = desk; after = result.desk }) e) }
     ensures breaks { IfErr result.ended (λ f. (moments : List ℕ) × (last : K)
         × (length moments < 4096) × Tells K.tells clock.old moments last
         × IsTimed K.tells last clock.new (IsErr result.ended) (λ now. (got text : List ℕ)
         × Consumes (I.remaining reader) (I.remaining result.reader) got
         × Appends (O.contents writer) (O.contents result.writer) text
-        × Breaks (λ old request now reply new. AnswersTurn C.settings request now reply old new) C.settings.numbers.max_size (moments ++ now ∷ [])
+        × Breaks (λ old request now reply new. ServesTurn C.settings request now reply old new) C.settings.numbers.max_size (moments ++ now ∷ [])
         (record { input = got; text = text; before = desk; after = result.desk }) f)) }
     ensures read { IfOk result.ended (λ e. IsReadWhen e (I.remaining result.reader)) }
     ensures fault { IfErr result.ended (NamesStream (I.has_failed result.reader) (O.has_failed result.writer)) }

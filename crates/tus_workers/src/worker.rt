@@ -14,7 +14,7 @@ pub struct Worker<C: Charges, R: Ledger, M: Ledger, A: Accept> {
     pub acceptor: A,
 }
 
-/// A worker for each of the desks, with an acceptor at the listener. They stand in `workers`, an empty
+/// A worker for each of the desks, in their order, with an acceptor at the listener. They stand in `workers`, an empty
 /// list that has room for them. The error says that an acceptor could not be had.
 pub fn hire<L: Listener, C: Charges, R: Ledger, M: Ledger>(
     listener: &L,
@@ -25,6 +25,7 @@ where
     L::Acceptor: Drop,
     requires empty { workers.items ≡ [] }
     requires room { vec_len desks ≤ vec_capacity workers }
+    ensures desks { IfOk result (λ workers. map (λ w. w.desk) workers.items ≡ desks.items) }
     ensures count { IfOk result (λ workers. vec_len workers ≡ vec_len desks) }
     ensures alive { IfOk result (λ workers. All (λ w. L.Acceptor.has_failed w.acceptor ≡ false) workers.items) }
     ensures new { IfOk result (λ workers. All (λ w. L.Acceptor.accepted w.acceptor ≡ 0) workers.items) }

@@ -5,10 +5,11 @@ use crate::accept::Accept;
 use crate::connection::Connection;
 use crate::machine_clock::MachineClock;
 use crate::stream::{ServedStream, serve_stream};
+use crate::sweeping::sweep_expired;
 use crate::work_options::WorkOptions;
 use crate::worker::Worker;
 use core::mem::replace_with;
-use http_wire::{Buffers, Clock, Ended, Tapped};
+use http_wire::{Buffers, Clock, Ended, Tapped, WireFault};
 use std::alloc::Global;
 use std::io::{Eprint, Read};
 use std::net::{Shutdown, TcpStream};
@@ -98,7 +99,8 @@ impl<'a, C: Charges, R: Ledger, M: Ledger, H: Wait + Eprint + time::Clock, B: Wa
         }
     }
 
-    /// Accepts as many connections as the options say, sweeps after each accept, and serves one after another.
+    /// Accepts as many connections as the options say, and serves one after another. After each accept it ends the uploads
+    /// that have expired, where there may be some.
     /// A fault of a connection ends that connection alone; where an accept fails, the worker ends, and says so on
     /// standard error.
     pub fn work<A: Accept>(&self, worker: &mut Worker<C, R, M, A>)
@@ -117,7 +119,7 @@ impl<'a, C: Charges, R: Ledger, M: Ledger, H: Wait + Eprint + time::Clock, B: Wa
                 );
                 return;
             };
-            let _ = worker.desk.sweep(self.rt, self.shared, clock.moment());
+            sweep_expired(self.rt, &mut worker.desk, self.shared, clock.moment());
             buffers = replace_with(&mut worker.desk, buffers, |desk, buffers| {
                 self.attend(&stream, desk, buffers, &mut clock)
             });
@@ -164,7 +166,7 @@ impl<'a, C: Charges, R: Ledger, M: Ledger, H: Wait + Eprint + time::Clock, B: Wa
             &NoGate,
         );
         self.open.fetch_sub(1, Ordering::Relaxed);
-        if let Ok(Ended::Closed | Ended::Moments) = ended {
+        if may_be_unread(&ended, &buffers) {
             self.linger(stream);
         }
         if buffers.room() <= ROOM_KEPT {
@@ -207,5 +209,15 @@ impl<'a, C: Charges, R: Ledger, M: Ledger, H: Wait + Eprint + time::Clock, B: Wa
                 _ => return,
             }
         }
+    }
+}
+
+// Whether the client of a connection that ended may have sent what nobody read. It has not where it asked for the close
+// itself and all that came was answered.
+fn may_be_unread(ended: &Result<Ended, WireFault>, buffers: &Buffers) -> bool {
+    match ended {
+        Ok(Ended::Closed) => buffers.has_rest(),
+        Ok(Ended::Moments) => true,
+        Ok(Ended::Input | Ended::Cut) | Err(_) => false,
     }
 }

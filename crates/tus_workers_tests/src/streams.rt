@@ -2,9 +2,11 @@
 
 ghost use Rattle.std.specs.Prelude.{◌≡◌};
 
-use crate::opening::{assert_balance, moment, settings};
-use crate::texts::{CREATED, CUT_PATCH, HEAD, LOOKED, LOOKED_CUT, PATCH, PATCHED, POST};
-use http_wire::{Buffers, Ended, Tapped, WireFault};
+use crate::opening::{assert_balance, settings};
+use crate::texts::{
+    CREATED, CUT_PATCH, DELETE, GONE, HEAD, LOOKED, LOOKED_CUT, PATCH, PATCHED, POST,
+};
+use http_wire::{Buffers, Clock, Ended, Tapped, WireFault};
 use std::alloc::Global;
 use std::io;
 use std::io::{ErrorKind, Read, Write};
@@ -15,7 +17,10 @@ use std::sync::ledger::{Blank, Ledger};
 use std::test::Fail;
 use tus_shared::{Charges, Desk, NoGate, Opened, Shared, settle};
 use tus_workers::{ServedStream, serve_stream};
-use upload_book::Settings;
+use upload_book::{Moment, Settings};
+
+/// The last second that a moment may be.
+const LAST_SECOND: u64 = 253_402_300_799;
 
 // A reader of some pieces, at most one of them a read. Where `fails`, the read after the last of them fails, and else it is
 // at the end.
@@ -57,9 +62,27 @@ impl Write for Output {
     }
 }
 
-// What a client sends, how its connection ends, and what is written to it.
+// A clock that tells these seconds, one after another, and the last of them from then on.
+#[derive(Drop)]
+struct Seconds {
+    told: &'static [u64],
+    next: usize,
+}
+
+impl Clock for Seconds {
+    ghost tells = { λ before now after. Unit {0} };
+
+    fn moment(&mut self) -> Moment {
+        let second = self.told.get(self.next).or(self.told.last());
+        self.next = self.next.saturating_add(1);
+        Moment::new(second.copied().unwrap_or(0).min(LAST_SECOND)).unwrap()
+    }
+}
+
+// What a client sends and when each message has come, how its connection ends, and what is written to it.
 struct Row {
     pieces: &'static [&'static [u8]],
+    seconds: &'static [u64],
     fails: bool,
     ended: Result<Ended, WireFault>,
     written: &'static [&'static [u8]],
@@ -67,6 +90,7 @@ struct Row {
 
 static FIRST_UPLOAD: [Row; 1] = [Row {
     pieces: &[POST, PATCH, HEAD],
+    seconds: &[1000],
     fails: false,
     ended: Ok(Ended::Input),
     written: &[CREATED, PATCHED, LOOKED],
@@ -76,17 +100,29 @@ static FIRST_UPLOAD: [Row; 1] = [Row {
 static READ_FAULT: [Row; 2] = [
     Row {
         pieces: &[POST, CUT_PATCH],
+        seconds: &[1000],
         fails: true,
         ended: Err(WireFault::Read),
         written: &[CREATED],
     },
     Row {
         pieces: &[HEAD],
+        seconds: &[1000],
         fails: false,
         ended: Ok(Ended::Input),
         written: &[LOOKED_CUT],
     },
 ];
+
+// An upload expires while its connection lasts. It is ended before the next request that is no HEAD, so its blocks are
+// released.
+static EXPIRED: [Row; 1] = [Row {
+    pieces: &[POST, PATCH, DELETE],
+    seconds: &[1000, 1000, 5000],
+    fails: false,
+    ended: Ok(Ended::Input),
+    written: &[CREATED, PATCHED, GONE],
+}];
 
 // Asserts that these texts were written, one after another, and nothing else.
 fn assert_written(rt: &impl Abort, written: &[u8], texts: &[&[u8]]) {
@@ -112,7 +148,10 @@ fn serve_row<C: Charges, R: Ledger, M: Ledger, W: Wait + Abort>(
         fails: row.fails,
     });
     let writer = Tapped::new(Output(Vec::new(alloc)));
-    let mut clock = moment(rt);
+    let mut clock = Seconds {
+        told: row.seconds,
+        next: 0,
+    };
     let served = serve_stream(
         rt, buffers, reader, writer, desk, shared, &mut clock, &NoGate,
     );
@@ -187,4 +226,9 @@ fn the_first_upload(rt: HostRuntime) -> Result<(), Fail> {
 #[test]
 fn a_read_that_fails_in_a_body_keeps_what_came(rt: HostRuntime) -> Result<(), Fail> {
     serve(&rt, rt.alloc(), &READ_FAULT, [1, 0, 1])
+}
+
+#[test]
+fn an_upload_that_expires_while_a_connection_lasts(rt: HostRuntime) -> Result<(), Fail> {
+    serve(&rt, rt.alloc(), &EXPIRED, [2, 2, 0])
 }

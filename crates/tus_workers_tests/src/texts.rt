@@ -14,6 +14,13 @@ he";
 
 pub const HEAD: &[u8] = b"HEAD /files/acme/1 HTTP/1.1\r\nHost: x\r\nTus-Resumable: 1.0.0\r\n\r\n";
 
+pub const DELETE: &[u8] =
+    b"DELETE /files/acme/1 HTTP/1.1\r\nHost: x\r\nTus-Resumable: 1.0.0\r\n\r\n";
+
+/// What a DELETE gets at the moment 5000, when the upload has expired.
+pub const GONE: &[u8] = b"HTTP/1.1 410 Gone\r\nDate: Thu, 01 Jan 1970 01:23:20 GMT\r\n\
+Tus-Resumable: 1.0.0\r\nContent-Type: text/plain\r\nContent-Length: 5\r\n\r\ngone\n";
+
 pub const CREATED: &[u8] = b"HTTP/1.1 201 Created\r\nDate: Thu, 01 Jan 1970 00:16:40 GMT\r\n\
 Tus-Resumable: 1.0.0\r\nLocation: /files/acme/1\r\n\
 Upload-Expires: Thu, 01 Jan 1970 01:16:40 GMT\r\nContent-Length: 0\r\n\r\n";

@@ -5,7 +5,7 @@ use Rattle.http_wire.specs.Turns.{Breaks, Converses}
 use Rattle.http_wire.proofs.CarriedLemmas.{Breaks-carried, Converses-carried}
 use Rattle.http_wire.proofs.ConversationLemmas.{timed_weaker}
 use Rattle.tus_shared.specs.Desk.{Desk}
-use Rattle.tus_shared.specs.Answers.{AnswersTurn}
+use Rattle.tus_workers.specs.Serving.{ServesTurn}
 use Rattle.tus_steps.specs.Request.{Request}
 use Rattle.tus_steps.specs.declared.reply.Reply.{Reply}
 use Rattle.tus_workers.proofs.stream.serve_stream.Goals as goal
@@ -13,7 +13,7 @@ use Rattle.tus_workers.proofs.stream.serve_stream.Goals as goal
 pub returns-clause-converses : goal.returns-clause-converses
 returns-clause-converses g c =
     let parts = c.into_parts-reader.ensures in
-    let steps : Desk → Request → ℕ → Reply → Desk → Type 0 = λ old request now reply new. AnswersTurn g.C.Charges.settings request now reply old new in
+    let steps : Desk → Request → ℕ → Reply → Desk → Type 0 = λ old request now reply new. ServesTurn g.C.Charges.settings request now reply old new in
     let max = g.C.Charges.settings.numbers.max_size in
     IfOk-weaker c.serve-ended.result _ _ (λ e h. (
       h.0,
@@ -29,7 +29,7 @@ returns-clause-converses g c =
 pub returns-clause-breaks : goal.returns-clause-breaks
 returns-clause-breaks g c =
     let parts = c.into_parts-reader.ensures in
-    let steps : Desk → Request → ℕ → Reply → Desk → Type 0 = λ old request now reply new. AnswersTurn g.C.Charges.settings request now reply old new in
+    let steps : Desk → Request → ℕ → Reply → Desk → Type 0 = λ old request now reply new. ServesTurn g.C.Charges.settings request now reply old new in
     let max = g.C.Charges.settings.numbers.max_size in
     IfErr-weaker c.serve-ended.result _ _ (λ f h. (
       h.0,

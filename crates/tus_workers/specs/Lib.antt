@@ -1,0 +1,2 @@
+-- What a worker serves.
+pub mod Serving
