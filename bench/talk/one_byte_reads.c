@@ -27,3 +27,11 @@ __attribute__((destructor)) static void report(void)
         fclose(file);
     }
 }
+
+/* The program ends so, and then no destructor runs. */
+void _exit(int status)
+{
+    report();
+    for (;;)
+        syscall(SYS_exit_group, status);
+}
