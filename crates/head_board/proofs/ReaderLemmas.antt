@@ -18,7 +18,7 @@ use Rattle.head_board.specs.declared.head_reader.Found.{Found}
 use Rattle.head_board.specs.Events.{HaveHappened, book_at}
 use Rattle.head_board.specs.Expired.{NoneHasExpired}
 use Rattle.head_board.specs.inside.EventLog.{LogPrefix}
-use Rattle.head_board.specs.inside.Showing.{Fits, IsCurrent, log_of}
+use Rattle.head_board.specs.inside.Showing.{IsFound, log_of}
 
 -- what is found of an upload is what is found of its row
 visible-row : (now : ℕ) (o : Option Upload) → visible (λ (row : HeadRow). row.expires) now (option_map head_row_of o) ≡ row_of (visible (λ (u : Upload). u.expires) now o)
@@ -40,33 +40,37 @@ look-part part id now = by_test (is_given part id)
 shown-look : (b : PlainBook) (name : Name) (now : ℕ) → shown (heads_of b) name now ≡ answer_of b name.tenant (look_answer name.id now)
 shown-look b name now = ap (λ (part : HeadPart). visible_in (λ (row : HeadRow). row.expires) part name.id now) (head_part-tenant b name.tenant) ∙ look-part (tenant_book b name.tenant) name.id now
 
--- a current copy tells what the book does after what happened
-pub found-right : (v : View) (s : BoardCopy) (seen : LogPrefix) (name : Name) (now : ℕ) (found : Option Found) → v.knows ≡ true → log_of v.log ≡ seen.book → IsCurrent s → Fits v s
-    → IfSome found (λ f. (f.seen ≡ s.seen) × IsPrefix seen.events s.seen.events × (f.row ≡ shown s.table name now))
-    → IfSome found (λ f. (f.seen.book ≡ seen.book) × IsPrefix seen.events f.seen.events × HaveHappened v.settings f.seen.events
-    × (f.row ≡ answer_of (book_at v.settings f.seen.events) name.tenant (look_answer name.id now)))
-found-right v s seen name now None knows log current fits found = tt
-found-right v s seen name now (Some f) knows log current fits found =
-    let right = fits knows in
-    let heads : s.table ≡ heads_of (book_at v.settings f.seen.events) =
-    current.heads ∙ ap₂ (λ (settings : Settings) (t : LogPrefix). heads_of (book_at settings t.events)) (sym right.0) (sym found.0) in (
-      ap (λ (t : LogPrefix). t.book) found.0 ∙ sym right.1 ∙ log,
-      subst (λ (t : LogPrefix). IsPrefix seen.events t.events) (sym found.0) found.1,
-      subst (λ (settings : Settings). HaveHappened settings f.seen.events) (sym right.0) (subst (λ (t : LogPrefix). HaveHappened s.table.settings t.events) (sym found.0) current.happened),
-      found.2 ∙ ap (λ (h : Heads). shown h name now) heads ∙ shown-look (book_at v.settings f.seen.events) name now,
-    )
+-- a copy that was found has the heads of the book after its events
+found-heads : (v : View) (s : BoardCopy) (seen events : LogPrefix) → v.knows ≡ true → IsFound v seen s → events ≡ s.seen → s.table ≡ heads_of (book_at v.settings events.events)
+found-heads v s seen events knows there is =
+    there.current.heads ∙ ap₂ (λ (settings : Settings) (t : LogPrefix). heads_of (book_at settings t.events)) (sym (there.fits knows).0) (sym is)
 
--- a current copy tells of what has expired after what happened
-pub none-right : (v : View) (s : BoardCopy) (seen : LogPrefix) (now : ℕ) (found : Option LogPrefix) → v.knows ≡ true → log_of v.log ≡ seen.book → IsCurrent s → Fits v s
-    → IfSome found (λ f. (f ≡ s.seen) × IsPrefix seen.events s.seen.events × NoneHasExpired now s.table)
+-- its events happened to the book
+found-happened : (v : View) (s : BoardCopy) (seen events : LogPrefix) → v.knows ≡ true → IsFound v seen s → events ≡ s.seen → HaveHappened v.settings events.events
+found-happened v s seen events knows there is =
+    subst (λ (settings : Settings). HaveHappened settings events.events) (sym (there.fits knows).0)
+    (subst (λ (t : LogPrefix). HaveHappened s.table.settings t.events) (sym is) there.current.happened)
+
+-- it tells what the book does after what happened
+pub found-right : (v : View) (s : BoardCopy) (seen : LogPrefix) (name : Name) (now : ℕ) (f : Found) → v.knows ≡ true → log_of v.log ≡ seen.book → IsFound v seen s
+    → f.seen ≡ s.seen → f.row ≡ shown s.table name now
+    → (f.seen.book ≡ seen.book) × IsPrefix seen.events f.seen.events × HaveHappened v.settings f.seen.events
+    × (f.row ≡ answer_of (book_at v.settings f.seen.events) name.tenant (look_answer name.id now))
+found-right v s seen name now f knows log there is row = (
+  ap (λ (t : LogPrefix). t.book) is ∙ sym (there.fits knows).1 ∙ log,
+  subst (λ (t : LogPrefix). IsPrefix seen.events t.events) (sym is) there.begins,
+  found-happened v s seen f.seen knows there is,
+  row ∙ ap (λ (h : Heads). shown h name now) (found-heads v s seen f.seen knows there is) ∙ shown-look (book_at v.settings f.seen.events) name now,
+)
+
+-- and what has expired after what happened
+pub none-right : (v : View) (s : BoardCopy) (seen : LogPrefix) (now : ℕ) (found : Option LogPrefix) → v.knows ≡ true → log_of v.log ≡ seen.book → IsFound v seen s
+    → IfSome found (λ f. (f ≡ s.seen) × NoneHasExpired now s.table)
     → IfSome found (λ f. (f.book ≡ seen.book) × IsPrefix seen.events f.events × HaveHappened v.settings f.events × NoneHasExpired now (heads_of (book_at v.settings f.events)))
-none-right v s seen now None knows log current fits found = tt
-none-right v s seen now (Some f) knows log current fits found =
-    let right = fits knows in
-    let heads : s.table ≡ heads_of (book_at v.settings f.events) =
-    current.heads ∙ ap₂ (λ (settings : Settings) (t : LogPrefix). heads_of (book_at settings t.events)) (sym right.0) (sym found.0) in (
-      ap (λ (t : LogPrefix). t.book) found.0 ∙ sym right.1 ∙ log,
-      subst (λ (t : LogPrefix). IsPrefix seen.events t.events) (sym found.0) found.1,
-      subst (λ (settings : Settings). HaveHappened settings f.events) (sym right.0) (subst (λ (t : LogPrefix). HaveHappened s.table.settings t.events) (sym found.0) current.happened),
-      subst (λ (h : Heads). NoneHasExpired now h) heads found.2,
-    )
+none-right v s seen now None knows log there found = tt
+none-right v s seen now (Some f) knows log there found = (
+  ap (λ (t : LogPrefix). t.book) found.0 ∙ sym (there.fits knows).1 ∙ log,
+  subst (λ (t : LogPrefix). IsPrefix seen.events t.events) (sym found.0) there.begins,
+  found-happened v s seen f knows there found.0,
+  subst (λ (h : Heads). NoneHasExpired now h) (found-heads v s seen f knows there found.0) found.1,
+)

@@ -1,5 +1,5 @@
 -- What is seen of a board and of its readers.
-use Rattle.std.specs.Prelude.{◌≡◌, ℕ, List, Result}
+use Rattle.std.specs.Prelude.{◌≡◌, ℕ, Bool, false, List, Result}
 use mathlib.Core.List.{IsPrefix}
 use Rattle.logbook.specs.Pages.{Book}
 use Rattle.upload_book.specs.declared.head_row.HeadRow.{HeadRow}
@@ -13,12 +13,24 @@ use Rattle.head_board.specs.Event.{Event}
 use Rattle.head_board.specs.Events.{HaveHappened, book_at}
 use Rattle.head_board.specs.Expired.{NoneHasExpired}
 
--- The settings of the book, the log of the events that were shown, and events of it: at the board all that were shown,
--- at a reader those that it has seen.
+-- The settings of the book, the log of the events that were shown, and all of these.
 pub record BoardView : Type 0 where
   pub settings : Settings
   pub log : Book
   pub events : List Event
+
+-- The same at a reader, which has seen some of the events; and whether it has missed the board. It has once an entry of it
+-- found that the board had been let go, or showed fewer events than the reader had seen. No entry does while there is the
+-- board.
+pub record ReaderView : Type 0 where
+  pub settings : Settings
+  pub log : Book
+  pub events : List Event
+  pub missed : Bool
+
+-- a reader that has seen all events which were shown
+abbrev pub new_reader : BoardView → ReaderView
+new_reader b = record { settings = b.settings; log = b.log; events = b.events; missed = false }
 
 -- Who has seen some events reads a head: the answer is the one that the plain book gives after events that begin with
 -- these.

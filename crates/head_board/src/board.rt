@@ -1,6 +1,6 @@
 ghost use Rattle.std.specs.Prelude.{◌≡◌, ◌+◌, ◌<◌, ◌≤◌, ◌^◌, ◌++◌, ◌∷◌, [], drop, fold, length, IfOk, MatchBool, true};
 ghost use mathlib.Core.List.{IsPrefix};
-ghost use Rattle.head_board.specs.Board.{BoardView};
+ghost use Rattle.head_board.specs.Board.{BoardView, new_reader};
 ghost use Rattle.head_board.specs.declared.board_copy.Note.TheVariants.{More};
 ghost use Rattle.head_board.specs.declared.coming_texts.ComingTexts.{ComingTexts};
 ghost use Rattle.head_board.specs.Events.{IsNoteOfEvent, book_at, event_of};
@@ -135,10 +135,10 @@ impl<W: Wait + Drop> Board<W> {
         unreachable!()
     }
 
-    /// A new reader of the board, which has seen all events that were shown. The error is that there are as many readers
+    /// A new reader of the board, which has seen all events that were shown, and has not missed the board. The error is that there are as many readers
     /// as there is room for, or that memory was lacking.
     pub fn reader(&mut self) -> Result<HeadReader, AllocError>
-        ensures reader { IfOk result (λ r. r ≡ self.old) }
+        ensures reader { IfOk result (λ r. r ≡ new_reader self.old) }
         ensures board { self.new ≡ self.old }
     {
         let mut reader = self.writer.factory().reader()?;

@@ -1,4 +1,4 @@
-ghost use Rattle.std.specs.Prelude.{◌≡◌, ◌++◌, ◌∷◌, [], IfSome, IsTrue};
+ghost use Rattle.std.specs.Prelude.{◌≡◌, ◌++◌, ◌∷◌, [], IfSome, IsTrue, false};
 ghost use mathlib.Core.List.{IsPrefix};
 ghost use Rattle.head_board.specs.Events.{event_of};
 ghost use Rattle.head_board.specs.inside.EventLog.{word_of};
@@ -89,10 +89,11 @@ impl SeenEvents {
         }
     }
 
-    /// Whether no more was seen than at the other place, whose events then begin with these.
+    /// Whether no more was seen than at the other place: exactly then its events begin with these.
     pub fn begins(&self, other: &SeenEvents) -> bool
         requires { self.now.book ≡ other.now.book }
-        ensures { IsTrue result → IsPrefix self.now.events other.now.events }
+        ensures begins { IsTrue result → IsPrefix self.now.events other.now.events }
+        ensures more { result ≡ false → ¬ (IsPrefix self.now.events other.now.events) }
     {
         let mut both = self.seen.again();
         both.learn(&other.seen);

@@ -1,4 +1,4 @@
-ghost use Rattle.std.specs.Prelude.{◌≡◌, true, false, IfSome, IfNone};
+ghost use Rattle.std.specs.Prelude.{◌≡◌, false, true, IfNone, IfOk, IfSome};
 ghost use mathlib.Core.List.{IsPrefix};
 ghost use Rattle.head_board.specs.Board.{ReadsHead, SeesNoneExpired};
 ghost use Rattle.head_board.specs.Events.{HaveHappened, book_at};
@@ -10,32 +10,36 @@ ghost use Rattle.upload_book.specs.Look.{look_answer};
 ghost use Rattle.upload_book.specs.PlainBook.{answer_of};
 
 use crate::board_copy::BoardCopy;
+use crate::entering::{Missed, enter};
 use crate::event_log::SeenEvents;
-use crate::showing::{BoardReader, Enters};
+use crate::showing::BoardReader;
 use core::mem::replace_with;
 use std::marker::Model;
 use upload_book::{HeadRow, Moment, Name, Refusal};
 
 /// A reader of the heads that a board shows, which needs no lock. A contract sees the settings of the book, which log
-/// the events of the board are in, and the events that the reader has seen: all that it reads is at least as new.
+/// the events of the board are in, the events that the reader has seen, and whether it has missed the board: all that it
+/// reads is at least as new as these.
 #[derive(Drop)]
 pub struct HeadReader {
     reader: BoardReader,
     seen: SeenEvents,
+    missed: Option<Missed>,
 }
 
 impl Model for HeadReader {
-    ghost use Rattle.std.specs.Prelude.{◌≡◌, true};
-    ghost use Rattle.head_board.specs.Board.{BoardView};
+    ghost use Rattle.std.specs.Prelude.{◌≡◌, is_some, true};
+    ghost use Rattle.head_board.specs.Board.{ReaderView};
     ghost use Rattle.head_board.specs.inside.Showing.{log_of};
     ghost use Rattle.left_right.specs.Sides.{view as known_at};
 
-    ghost Value = { BoardView };
+    ghost Value = { ReaderView };
 
     ghost view = { λ r. record {
       settings = (known_at r.reader.place).settings;
       log = r.seen.book;
       events = r.seen.events;
+      missed = is_some r.missed;
     } };
 
     ghost invariant = { λ r. ((known_at r.reader.place).knows ≡ true) × (log_of (known_at r.reader.place).log ≡ r.seen.book) };
@@ -64,13 +68,17 @@ struct Found {
 }
 
 impl HeadReader {
-    /// A reader at a place that knows its board, which has seen these events.
+    /// A reader at a place that knows its board, which has seen these events, and has not missed the board.
     pub(crate) fn new(reader: BoardReader, seen: SeenEvents) -> HeadReader
         requires knows { (known_at reader.place).knows ≡ true }
         requires log { log_of (known_at reader.place).log ≡ seen.book }
-        ensures { result ≡ record { settings = (known_at reader.place).settings; log = seen.book; events = seen.events } }
+        ensures { result ≡ record { settings = (known_at reader.place).settings; log = seen.book; events = seen.events; missed = false } }
     {
-        HeadReader { reader, seen }
+        HeadReader {
+            reader,
+            seen,
+            missed: None,
+        }
     }
 
     /// The events that it has seen.
@@ -93,113 +101,117 @@ impl HeadReader {
     /// reader has seen, and the reader has seen the events of the answer then. It takes no lock and no memory, and waits
     /// for nobody.
     ///
-    /// `None`, with the reader as it was, says that the board was not entered: it has been let go, or it shows fewer
-    /// events than the reader has seen, which happens in no run.
+    /// `None` says that the reader has missed the board: an entry found that it has been let go, or that it shows fewer
+    /// events than the reader has seen, which happens in no run. All else of the reader is as it was.
     pub fn look(&mut self, name: &Name, now: Moment) -> Option<Result<HeadRow, Refusal>>
         ensures reads { IfSome result (ReadsHead self.old.settings self.old.events self.new.events name.now now) }
-        ensures board { self.new ≡ record self.old { events = self.new.events } }
-        ensures stays { IfNone result (self.new ≡ self.old) }
+        ensures sees { IfSome result (λ row. self.new ≡ record self.old { events = self.new.events }) }
+        ensures misses { IfNone result (self.new ≡ record self.old { missed = true }) }
     {
         let query = HeadQuery {
             seen: self.seen.again(),
             name: *name,
             moment: now,
         };
-        let found = replace_with(&mut self.reader, query, read_head)?;
-        self.seen = found.seen;
-        Some(found.row)
+        match replace_with(&mut self.reader, query, read_head) {
+            Ok(found) => {
+                self.seen = found.seen;
+                Some(found.row)
+            }
+            Err(missed) => {
+                self.missed = Some(missed);
+                None
+            }
+        }
     }
 
     /// Whether an upload of the book may have expired at this moment. If not, none has after events that begin with those
-    /// which the reader has seen, and it has seen these then. If one may, or the board was not entered, the reader is as
-    /// it was. It takes no lock and no memory, waits for nobody, and looks at one number.
+    /// which the reader has seen, and it has seen these then. If one may, it has seen no more than it had, and may have
+    /// missed the board. It takes no lock and no memory, waits for nobody, and looks at one number.
     pub fn may_expire(&mut self, now: Moment) -> bool
         ensures none { result ≡ false → SeesNoneExpired self.old.settings self.old.events self.new.events now }
-        ensures board { self.new ≡ record self.old { events = self.new.events } }
-        ensures stays { result ≡ true → self.new ≡ self.old }
+        ensures sees { result ≡ false → self.new ≡ record self.old { events = self.new.events } }
+        ensures stays { result ≡ true → self.new ≡ record self.old { missed = self.new.missed } }
+        ensures missed { self.old.missed ≡ true → self.new.missed ≡ true }
     {
         let query = EndQuery {
             seen: self.seen.again(),
             moment: now,
         };
         match replace_with(&mut self.reader, query, read_ends) {
-            Some(seen) => {
+            Ok(Some(seen)) => {
                 self.seen = seen;
                 false
             }
-            None => true,
+            Ok(None) => true,
+            Err(missed) => {
+                self.missed = Some(missed);
+                true
+            }
         }
     }
 }
 
-// Enters the board, and reads what it shows, unless that has fewer events than were seen. The place is the same after
-// it.
-fn read_head(reader: BoardReader, query: HeadQuery) -> (BoardReader, Option<Found>)
+// Enters the board, and reads what it shows. The place is the same after it.
+fn read_head(reader: BoardReader, query: HeadQuery) -> (BoardReader, Result<Found, Missed>)
     requires knows { (known_at reader.place).knows ≡ true }
     requires log { log_of (known_at reader.place).log ≡ query.seen.book }
     ensures place { known_at result.0.place ≡ known_at reader.place }
-    ensures found { IfSome result.1 (λ found.
+    ensures found { IfOk result.1 (λ found.
         (found.seen.book ≡ query.seen.book)
         × IsPrefix query.seen.events found.seen.events
         × HaveHappened (known_at reader.place).settings found.seen.events
         × (found.row ≡ answer_of (book_at (known_at reader.place).settings found.seen.events) query.name.tenant (look_answer query.name.id query.moment))) }
 {
-    match reader.enter_as::<Enters>() {
+    match enter(reader, &query.seen) {
         Ok(reading) => {
             let found = found_on(reading.get(), &query);
-            (reading.leave(), found)
+            (reading.leave(), Ok(found))
         }
-        Err(reader) => (reader, None),
+        Err((reader, missed)) => (reader, Err(missed)),
     }
 }
 
-// What a copy tells, unless it has fewer events than were seen.
-fn found_on(copy: &BoardCopy, query: &HeadQuery) -> Option<Found>
-    requires { copy.now.seen.book ≡ query.now.seen.book }
-    ensures { IfSome result (λ found.
-        (found.seen ≡ copy.now.seen)
-        × IsPrefix query.now.seen.events copy.now.seen.events
-        × (found.row ≡ shown copy.now.table query.now.name query.now.moment)) }
+// What a copy tells.
+fn found_on(copy: &BoardCopy, query: &HeadQuery) -> Found
+    ensures seen { result.seen ≡ copy.now.seen }
+    ensures row { result.row ≡ shown copy.now.table query.now.name query.now.moment }
 {
-    if !query.seen.begins(&copy.seen) {
-        return None;
-    }
-    Some(Found {
+    Found {
         row: copy.table.look(&query.name, query.moment),
         seen: copy.seen.again(),
-    })
+    }
 }
 
 // Enters the board, and tells the events after which no upload has expired, where it shows that. The place is the same
 // after it.
-fn read_ends(reader: BoardReader, query: EndQuery) -> (BoardReader, Option<SeenEvents>)
+fn read_ends(
+    reader: BoardReader,
+    query: EndQuery,
+) -> (BoardReader, Result<Option<SeenEvents>, Missed>)
     requires knows { (known_at reader.place).knows ≡ true }
     requires log { log_of (known_at reader.place).log ≡ query.seen.book }
     ensures place { known_at result.0.place ≡ known_at reader.place }
-    ensures none { IfSome result.1 (λ seen.
+    ensures none { IfOk result.1 (λ seen. IfSome seen (λ seen.
         (seen.book ≡ query.seen.book)
         × IsPrefix query.seen.events seen.events
         × HaveHappened (known_at reader.place).settings seen.events
-        × NoneHasExpired query.moment (heads_of (book_at (known_at reader.place).settings seen.events))) }
+        × NoneHasExpired query.moment (heads_of (book_at (known_at reader.place).settings seen.events)))) }
 {
-    match reader.enter_as::<Enters>() {
+    match enter(reader, &query.seen) {
         Ok(reading) => {
-            let seen = seen_unexpired(reading.get(), &query);
-            (reading.leave(), seen)
+            let seen = seen_unexpired(reading.get(), query.moment);
+            (reading.leave(), Ok(seen))
         }
-        Err(reader) => (reader, None),
+        Err((reader, missed)) => (reader, Err(missed)),
     }
 }
 
-// The events of a copy by which no upload has expired, unless that has fewer than were seen.
-fn seen_unexpired(copy: &BoardCopy, query: &EndQuery) -> Option<SeenEvents>
-    requires { copy.now.seen.book ≡ query.now.seen.book }
-    ensures { IfSome result (λ seen.
-        (seen ≡ copy.now.seen)
-        × IsPrefix query.now.seen.events copy.now.seen.events
-        × NoneHasExpired query.now.moment copy.now.table) }
+// The events of a copy, if no upload has expired by them.
+fn seen_unexpired(copy: &BoardCopy, now: Moment) -> Option<SeenEvents>
+    ensures { IfSome result (λ seen. (seen ≡ copy.now.seen) × NoneHasExpired now copy.now.table) }
 {
-    if !query.seen.begins(&copy.seen) || copy.table.may_expire(query.moment) {
+    if copy.table.may_expire(now) {
         return None;
     }
     Some(copy.seen.again())

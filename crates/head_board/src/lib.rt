@@ -5,6 +5,7 @@
 mod board;
 mod board_copy;
 mod coming_texts;
+mod entering;
 mod event;
 mod event_log;
 mod first_end;

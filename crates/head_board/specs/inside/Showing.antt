@@ -1,5 +1,6 @@
 -- What readers read, and the rule that it keeps.
 use Rattle.std.specs.Prelude.{◌≡◌, ℕ, true, false, List}
+use mathlib.Core.List.{IsPrefix}
 use mathlib.Core.Option.{some}
 use lib.ListN.{get_elem?}
 use Rattle.logbook.specs.Pages.{Book}
@@ -8,6 +9,7 @@ use Rattle.upload_book.specs.declared.head_note.NotedChange.TheVariants.{Created
 use Rattle.upload_book.specs.Heads.{heads_of}
 use Rattle.head_board.specs.Events.{HaveHappened, book_at}
 use Rattle.head_board.specs.NoBoard.{no_settings}
+use Rattle.head_board.specs.inside.EventLog.{LogPrefix}
 use Rattle.head_board.specs.declared.board_copy.Added.{Added}
 use Rattle.head_board.specs.declared.board_copy.BoardCopy.{BoardCopy}
 use Rattle.head_board.specs.declared.board_copy.LogName.{LogName}
@@ -90,6 +92,12 @@ view_of s = record {
 -- what is known, if it is, is right
 abbrev pub Fits : View → BoardCopy → Type 0
 Fits v s = v.knows ≡ true → (v.settings ≡ s.table.settings) × (log_of v.log ≡ s.seen.book)
+
+-- what a reader finds that has seen some events: a current copy, of the board that it knows, with these events at least
+pub record IsFound (v : View) (seen : LogPrefix) (s : BoardCopy) : Type 0 where
+  pub current : IsCurrent s
+  pub fits : Fits v s
+  pub begins : IsPrefix seen.events s.seen.events
 
 -- the rule of the board: the copy is current, and what each place knows is right; no clause compares two places
 pub record IsConsistent (s : BoardCopy) (views : List View) : Type 0 where
