@@ -1,5 +1,5 @@
 -- What a change does at a store, and which step of a request that is.
-use Rattle.std.proofs.Common.{◌≡◌, ℕ, ◌+◌, ◌≤◌, List, [], ◌∷◌, ◌++◌, Option, Some, None, option_map, Result, Ok, Err, IsOk, IsErr, IsSome, inl, inr, length, length-append, refl, sym, ap, subst, ◌∙◌, arith}
+use Rattle.std.proofs.Common.{◌≡◌, ℕ, ◌+◌, ◌≤◌, List, [], ◌∷◌, ◌++◌, Option, Result, Ok, Err, IsOk, IsErr, inl, inr, length, length-append, refl, sym, ap, subst, ◌∙◌}
 use Rattle.upload_book.specs.Change.{MayLackFor, book_after_change, change_answer, change_lacking}
 use Rattle.upload_book.specs.declared.append.Refused.{Refused}
 use Rattle.upload_book.specs.declared.board_line.BoardLine.{BoardLine}
@@ -16,7 +16,7 @@ use Rattle.tus_steps.specs.Step.{IsStep}
 use Rattle.head_board.specs.Board.{BoardView}
 use Rattle.head_board.specs.Event.{Event}
 use Rattle.head_board.specs.Events.{IsLineOf, book_at}
-use Rattle.tus_shared.specs.Steps.{IsDone, IsNextEvent}
+use Rattle.tus_shared.specs.Steps.{IsDone}
 use Rattle.tus_shared.specs.Store.{IsBookAt}
 use Rattle.tus_shared.proofs.EventLemmas.{at-one, book-one}
 

@@ -1,5 +1,5 @@
 -- A HEAD as a turn of a desk: it changes nothing.
-use Rattle.std.proofs.Common.{◌≡◌, ℕ, ◌+◌, true, false, List, [], Option, None, Result, Ok, Err, IsErr, length, refl, sym, ap, subst, ◌∙◌}
+use Rattle.std.proofs.Common.{◌≡◌, ℕ, ◌+◌, Bool, true, false, List, Option, Some, None, IfSome, IfNone, Result, Ok, Err, IsErr, length, refl, sym, ap, ap₂, subst, ◌∙◌}
 use mathlib.Core.List.{IsPrefix}
 use Rattle.upload_book.specs.declared.head_row.HeadRow.{HeadRow}
 use Rattle.upload_book.specs.declared.head_row.Name.{Name}
@@ -22,7 +22,7 @@ use Rattle.tus_steps.specs.Step.{IsStep}
 use Rattle.head_board.specs.Board.{ReadsHead}
 use Rattle.head_board.specs.Event.{Event}
 use Rattle.head_board.specs.Events.{HaveHappened, book_at}
-use Rattle.tus_shared.specs.Answers.{Answers, IsRefusedHead, OnlySeesMore}
+use Rattle.tus_shared.specs.Answers.{Answers, IsRefusedHead, IsUploadHead, MissesBoard, OnlyLooks, OnlySeesMore}
 use Rattle.tus_shared.specs.Desk.{Desk, Moves}
 use Rattle.tus_shared.specs.Steps.{AddsBy, AddsChange}
 use Rattle.tus_steps.proofs.AskedLemmas.{look-step, refused-step}
@@ -46,6 +46,23 @@ sees-more s old new same = record {
   made = ap (λ (d : Desk). d.made + length new.seen) same;
 }
 
+-- a desk that read the board or missed it only looked at it
+pub looks-at : (s : Settings) (name : Name) (now : ℕ) (row : Option (Result HeadRow Refusal)) (old new : Desk) → IfSome row (ReadsHead s old.seen new.seen name now)
+    → IfSome row (λ (r : Result HeadRow Refusal). OnlySeesMore old new) → IfNone row (MissesBoard old new) → OnlyLooks old new
+looks-at s name now (Some row) old new reads sees misses = record {
+  alone = sees ∙ ap (λ (missed : Bool). let desk : Desk = record old { seen = new.seen; missed = missed } in desk) (sym (ap (λ (d : Desk). d.missed) sees));
+  begins = reads.begins;
+  missed = λ before. ap (λ (d : Desk). d.missed) sees ∙ before;
+}
+looks-at s name now None old new reads sees misses = record {
+  alone =
+      misses
+      ∙ ap₂ (λ (seen : List Event) (missed : Bool). let desk : Desk = record old { seen = seen; missed = missed } in desk)
+      (sym (ap (λ (d : Desk). d.seen) misses)) (sym (ap (λ (d : Desk). d.missed) misses));
+  begins = subst (IsPrefix old.seen) (sym (ap (λ (d : Desk). d.seen) misses)) (prefix-self old.seen);
+  missed = λ before. ap (λ (d : Desk). d.missed) misses;
+}
+
 -- what the board tells of an upload is the answer to a HEAD of it
 pub head-answers : (s : Settings) (r : Request) (now : ℕ) (name : Name) (row : Result HeadRow Refusal) (old new : Desk) → asked.Look name ≡ asked_in s r
     → ReadsHead s old.seen new.seen name now row → OnlySeesMore old new → Answers s r now (head_reply row) old new
@@ -59,13 +76,13 @@ head-answers s r now name row old new is reads alone = record {
   moves = sees-more s old new alone;
 }
 
--- a desk that sees more first, and then answers
-pub sees-first : (s : Settings) (r : Request) (now : ℕ) (reply : Reply) (old ready new : Desk) → OnlySeesMore old ready → IsPrefix old.seen ready.seen → Answers s r now reply ready new → Answers s r now reply old new
-sees-first s r now reply old ready new alone begins answers =
-    let seen : Answers s r now reply (record old { seen = ready.seen }) new = subst (λ (d : Desk). Answers s r now reply d new) alone answers in
+-- a desk that looks first, and then answers
+pub sees-first : (s : Settings) (r : Request) (now : ℕ) (reply : Reply) (old ready new : Desk) → OnlyLooks old ready → Answers s r now reply ready new → Answers s r now reply old new
+sees-first s r now reply old ready new looks answers =
+    let seen : Answers s r now reply (record old { seen = ready.seen; missed = ready.missed }) new = subst (λ (d : Desk). Answers s r now reply d new) looks.alone answers in
     record {
       before = seen.before;
-      begins = prefix-on old.seen ready.seen seen.before begins seen.begins;
+      begins = prefix-on old.seen ready.seen seen.before looks.begins seen.begins;
       happened = seen.happened;
       step = seen.step;
       adds = seen.adds;
@@ -105,3 +122,7 @@ refused-asks s r asks is head = by_answer (operation_of s r) refl head.refused
     by_answer : (op : Result Operation Refusal) → operation_of s r ≡ op → IsErr op → (told : Reply) × (asks ≡ asked.Refused told)
     by_answer (Ok op) found refused = absurd (cc refused)
     by_answer (Err why) found refused = (refusing r why None, is ∙ rw (no-options r.method head.head, found) refl)
+
+-- a HEAD of an upload asks for what stands of it
+pub head-asks : (s : Settings) (r : Request) (asks : Asked) → asks ≡ asked_in s r → (head : IsUploadHead s r) → asks ≡ asked.Look head.name
+head-asks s r asks is head = is ∙ rw (no-options r.method head.head, head.looks) refl

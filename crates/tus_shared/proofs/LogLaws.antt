@@ -1,7 +1,6 @@
 -- That all desks answer in one list of events.
-use Rattle.std.proofs.Common.{◌≡◌, ℕ, List, [], ◌∷◌, ◌++◌, append_assoc, Option, Some, None, inl, inr, ap, sym, subst, ◌∙◌}
+use Rattle.std.proofs.Common.{ℕ, List, [], ◌∷◌, ◌++◌, append_assoc, Option, Some, None, inl, inr, ap, sym, subst, ◌∙◌}
 use Rattle.std.proofs.lemmas.List.{append-nil}
-use Rattle.std.specs.List.{All}
 use Rattle.std.proofs.lemmas.List.Elements.{All-head, All-tail}
 use mathlib.Core.List.{IsPrefix}
 use Rattle.upload_book.specs.PlainBook.{PlainBook}
@@ -12,7 +11,7 @@ use Rattle.tus_steps.specs.declared.reply.Reply.{Reply}
 use Rattle.tus_steps.specs.Request.{Request}
 use Rattle.head_board.specs.Event.{Event}
 use Rattle.head_board.specs.Events.{book_at}
-use Rattle.tus_shared.specs.Answers.{AllFour, Answers, AnswersBatch, AnswersTurn}
+use Rattle.tus_shared.specs.Answers.{Answers, AnswersBatch}
 use Rattle.tus_shared.specs.Desk.{Desk}
 use Rattle.tus_shared.specs.Laws.{AreAnsweredIn, OneLog}
 use Rattle.tus_shared.specs.Steps.{AddsBy}

@@ -1,5 +1,5 @@
 -- What a reply tells of an upload, the book has after the step; and what it has later.
-use Rattle.std.proofs.Common.{◌≡◌, ℕ, ◌<◌, ◌≤◌, Bool, true, false, List, [], ◌∷◌, length, set, Option, Some, None, Result, Ok, Err, option_map, ◌++◌, inl, inr, refl, sym, ap, ap₂, subst, ◌∙◌, arith}
+use Rattle.std.proofs.Common.{◌≡◌, ℕ, ◌≤◌, Bool, true, false, List, [], ◌∷◌, Option, Some, None, Result, Ok, Err, option_map, inl, inr, refl, sym, ap, ap₂, subst, ◌∙◌, arith}
 use Rattle.std.specs.Bool.{MatchBool}
 use Rattle.std.proofs.lemmas.List.{get_or-set_same}
 use mathlib.Core.List.{IsPrefix}
@@ -32,7 +32,7 @@ use Rattle.tus_steps.specs.Method.{is_options}
 use Rattle.tus_steps.specs.Operation.{operation_of}
 use Rattle.tus_steps.specs.Reply.{append_reply, head_reply}
 use Rattle.tus_steps.specs.Request.{Request}
-use Rattle.tus_steps.specs.Step.{IsStep, IsStepBy}
+use Rattle.tus_steps.specs.Step.{IsStepBy}
 use Rattle.head_board.specs.Event.{Event}
 use Rattle.head_board.specs.Events.{HaveHappened, book_at}
 use Rattle.head_board.specs.Laws.{IsLaterBook}

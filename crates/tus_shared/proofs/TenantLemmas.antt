@@ -6,7 +6,7 @@ use Rattle.std.proofs.lemmas.Bool.{le-ltb}
 use Rattle.upload_book.specs.declared.head_row.Name.{Name}
 use Rattle.upload_book.specs.declared.refusal.Refusal.TheVariants.{Unknown}
 use Rattle.upload_book.specs.Look.{look_answer}
-use Rattle.upload_book.specs.PlainBook.{PlainBook, answer_of}
+use Rattle.upload_book.specs.PlainBook.{answer_of}
 use Rattle.upload_book.specs.Settings.{Settings}
 use Rattle.upload_book.specs.TenantBook.{is_given, opening_part}
 use Rattle.upload_book.specs.Upload.{Upload}

@@ -1,9 +1,10 @@
 -- What a desk answers. Nobody knows what happened to the book behind a lock before the lock is taken. So a reply is that of
 -- the plain book after some events, which begin with those that the desk has seen.
-use Rattle.std.specs.Prelude.{◌≡◌, ◌⊎◌, ⊤, ℕ, true, List, [], ◌∷◌, Result, Err, IsErr}
+use Rattle.std.specs.Prelude.{◌≡◌, ◌⊎◌, ⊤, ℕ, true, List, [], ◌∷◌, Result, Ok, Err, IsErr}
 use mathlib.Core.List.{IsPrefix}
 use Rattle.upload_book.specs.declared.head_row.HeadRow.{HeadRow}
 use Rattle.upload_book.specs.declared.head_row.Name.{Name}
+use Rattle.upload_book.specs.declared.operation.Operation.TheVariants.{Look}
 use Rattle.upload_book.specs.declared.refusal.Refusal.{Refusal}
 use Rattle.upload_book.specs.declared.refusal.Refusal.TheVariants.{Board}
 use Rattle.upload_book.specs.declared.sweep.Swept.{Swept}
@@ -43,22 +44,39 @@ pub record Sweeps (s : Settings) (now : ℕ) (swept : Swept) (old new : Desk) : 
 abbrev pub OnlySeesMore : Desk → Desk → Type 0
 OnlySeesMore old new = new ≡ record old { seen = new.seen }
 
+-- the desk has missed the board, and else is as it was
+abbrev pub MissesBoard : Desk → Desk → Type 0
+MissesBoard old new = new ≡ record old { missed = true }
+
+-- The desk looked at the board, and did nothing else: it may have seen more, and it may have missed the board.
+pub record OnlyLooks (old new : Desk) : Type 0 where
+  pub alone : new ≡ record old { seen = new.seen; missed = new.missed }
+  pub begins : IsPrefix old.seen new.seen
+  pub missed : old.missed ≡ true → new.missed ≡ true
+
 -- A HEAD of an upload at a desk reads the board, where it finds events that begin with those which the desk has seen, and
--- the desk has seen these then; or the board was not entered, and the desk stays.
+-- the desk has seen these then; or the desk has missed the board.
 abbrev pub SeesHead : Settings → Name → ℕ → Result HeadRow Refusal → Desk → Desk → Type 0
 SeesHead s name now row old new =
-    (ReadsHead s old.seen new.seen name now row × OnlySeesMore old new) ⊎ ((row ≡ Err Board) × (new ≡ old))
+    (ReadsHead s old.seen new.seen name now row × OnlySeesMore old new) ⊎ ((row ≡ Err Board) × MissesBoard old new)
 
 -- the request is a HEAD that is refused before any upload is looked at
 pub record IsRefusedHead (s : Settings) (request : Request) : Type 0 where
   pub head : is_head request.method ≡ true
   pub refused : IsErr (operation_of s request)
 
+-- the request is a HEAD of an upload
+pub record IsUploadHead (s : Settings) (request : Request) : Type 0 where
+  pub head : is_head request.method ≡ true
+  pub name : Name
+  pub looks : operation_of s request ≡ Ok (Look name)
+
 -- What a desk answers to a turn, with the lock or beside it: a HEAD that is refused before any upload is looked at looks at
--- nothing, and the desk stays.
+-- nothing, and the desk stays; and a HEAD of an upload makes no step with the lock, unless the desk has missed the board.
 pub record AnswersTurn (s : Settings) (request : Request) (now : ℕ) (reply : Reply) (old new : Desk) : Type 0 where
   pub answers : Answers s request now reply old new
   pub unseen : IsRefusedHead s request → new ≡ old
+  pub beside : IsUploadHead s request → (new.steps ≡ old.steps) ⊎ (new.missed ≡ true)
 
 -- The replies to a batch at a desk, one for each of its turns, in their order: each turn is answered at the desk as the
 -- one before left it.

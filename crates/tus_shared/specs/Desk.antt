@@ -1,21 +1,28 @@
 -- What is seen of a desk.
-use Rattle.std.specs.Prelude.{◌≡◌, ℕ, zero, suc, ◌+◌, List, [], ◌∷◌, ◌++◌, length}
+use Rattle.std.specs.Prelude.{◌≡◌, ℕ, zero, suc, ◌+◌, ◌%◌, ◌^◌, Bool, false, List, [], ◌∷◌, ◌++◌, length}
 use Rattle.upload_book.specs.Settings.{Settings}
 use Rattle.head_board.specs.Event.{Event}
 use Rattle.head_board.specs.Events.{book_at}
 
 -- Its number among the desks of one opening, from 0; its three shares: how many blocks the steps that it made charged,
--- how many they released, and how many of them changed the book; and the events that it has seen.
+-- how many they released, and how many of them changed the book; the events that it has seen; whether its reader has missed
+-- the board (`head_board/specs/Board`); and how many steps it made with the lock, counted in a word.
 pub record Desk : Type 0 where
   pub number : ℕ
   pub charged : ℕ
   pub released : ℕ
   pub made : ℕ
   pub seen : List Event
+  pub missed : Bool
+  pub steps : ℕ
 
 -- a desk that has made no step
 abbrev pub new_desk : ℕ → Desk
-new_desk number = record { number = number; charged = 0; released = 0; made = 0; seen = [] }
+new_desk number = record { number = number; charged = 0; released = 0; made = 0; seen = []; missed = false; steps = 0 }
+
+-- the count after this one: after the last that a word holds comes 0
+abbrev pub next_count : ℕ → ℕ
+next_count n = (n + 1) % 2 ^ 64
 
 -- the new desks of the numbers below an end, in their order
 abbrev pub new_desks : ℕ → List Desk

@@ -1,7 +1,6 @@
 //! What a desk does of a request before it takes the lock.
 ghost use Rattle.std.specs.Prelude.{◌≡◌};
-ghost use mathlib.Core.List.{IsPrefix};
-ghost use Rattle.tus_shared.specs.Answers.{OnlySeesMore};
+ghost use Rattle.tus_shared.specs.Answers.{OnlyLooks};
 
 use crate::charges::Charges;
 use crate::desk::Desk;
@@ -16,8 +15,7 @@ impl<C: Charges, R: Ledger, M: Ledger> Desk<C, R, M> {
     /// too little. What is asked for stays what it is. It takes no lock, and waits for nobody.
     pub(crate) fn work_ahead(&mut self, asked: &mut Asked, now: Moment) -> Vec<u8>
         ensures asked { asked.new ≡ asked.old }
-        ensures alone { OnlySeesMore self.old self.new }
-        ensures begins { IsPrefix self.old.seen self.new.seen }
+        ensures desk { OnlyLooks self.old self.new }
     {
         match asked {
             Asked::Content(name) => return self.room_for(name, now),
@@ -33,8 +31,7 @@ impl<C: Charges, R: Ledger, M: Ledger> Desk<C, R, M> {
 
     // Memory for the bytes of an upload that is complete, as far as the heads tell and there is some.
     fn room_for(&mut self, name: &Name, now: Moment) -> Vec<u8>
-        ensures alone { OnlySeesMore self.old self.new }
-        ensures begins { IsPrefix self.old.seen self.new.seen }
+        ensures { OnlyLooks self.old self.new }
     {
         let len = match self.read_board(name, now) {
             Some(Ok(row)) => len_of_whole(&row),
@@ -48,8 +45,7 @@ impl<C: Charges, R: Ledger, M: Ledger> Desk<C, R, M> {
 
     // Whether the bytes of a change may come to be compared with a checksum, as far as can be told without the book.
     fn may_compare(&mut self, change: &Change, now: Moment) -> bool
-        ensures alone { OnlySeesMore self.old self.new }
-        ensures begins { IsPrefix self.old.seen self.new.seen }
+        ensures { OnlyLooks self.old self.new }
     {
         match change {
             Change::Create { new, first, .. } => {

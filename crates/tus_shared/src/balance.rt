@@ -104,6 +104,7 @@ fn gather<C: Charges, R: Ledger, M: Ledger, B: Wait + Drop>(
             released: its_released,
             made: its_made,
             mut reader,
+            steps: _,
         } = desk;
         board.show_to(&mut reader);
         charged.merge(its_charged);

@@ -1,8 +1,8 @@
 ghost use Rattle.std.specs.Prelude.{◌≡◌, ◌⊎◌, ◌≤◌, [], Err, IfNone, IfSome, false, length, true, vec_capacity};
-ghost use mathlib.Core.List.{IsPrefix};
 ghost use Rattle.tus_steps.specs.Changing.{IsFound};
+ghost use Rattle.tus_steps.specs.declared.asked.Asked.TheVariants as asks;
 ghost use Rattle.head_board.specs.Board.{ReadsHead, SeesNoneExpired};
-ghost use Rattle.tus_shared.specs.Answers.{Answers, AnswersBatch, AnswersTurn, OnlySeesMore, SeesHead, Sweeps};
+ghost use Rattle.tus_shared.specs.Answers.{Answers, AnswersBatch, AnswersTurn, MissesBoard, OnlySeesMore, SeesHead, Sweeps};
 ghost use Rattle.upload_book.specs.declared.refusal.Refusal.TheVariants.{Board, Unknown};
 
 use crate::charges::Charges;
@@ -19,8 +19,8 @@ use upload_book::{HeadRow, Moment, Name, Refusal, Settings, Swept};
 
 /// One of the desks that an opening gives, at which one thread answers its requests. It counts in three shares how many
 /// blocks its own steps charged, how many they released, and how many of them changed the book, and has a reader of the
-/// board. A contract sees the desk's number, these counts, and the events that the desk has seen: each later answer is at
-/// least as new.
+/// board; and it counts how many steps it made with the lock. A contract sees the desk's number, these counts, the events
+/// that the desk has seen, and whether it has missed the board: each later answer is at least as new as these events.
 #[derive(Drop)]
 pub struct Desk<C: Charges, R: Ledger, M: Ledger> {
     pub(crate) alloc: Global,
@@ -30,6 +30,7 @@ pub struct Desk<C: Charges, R: Ledger, M: Ledger> {
     pub(crate) released: Share<R>,
     pub(crate) made: Share<M>,
     pub(crate) reader: HeadReader,
+    pub(crate) steps: u64,
 }
 
 impl<C: Charges, R: Ledger, M: Ledger> Model for Desk<C, R, M> {
@@ -44,6 +45,8 @@ impl<C: Charges, R: Ledger, M: Ledger> Model for Desk<C, R, M> {
       released = d.released.amount;
       made = d.made.amount;
       seen = d.reader.events;
+      missed = d.reader.missed;
+      steps = d.steps;
     } };
 
     ghost invariant = { λ d. IsDesk C.settings C.log d.settings d.reader d.charged.parts d.released.parts d.made.parts };
@@ -92,7 +95,7 @@ impl<C: Charges, R: Ledger, M: Ledger> Desk<C, R, M> {
     /// or never had the id, and as Gone where the upload has ended or expired. The desk's counts stay. It takes no lock
     /// and no memory, and waits for nobody.
     ///
-    /// Board, with the desk as it was, says that the board was not entered, which happens in no run.
+    /// Board says that the desk has missed the board, which happens in no run; all else of the desk is as it was.
     pub fn head(&mut self, name: &Name, now: Moment) -> Result<HeadRow, Refusal>
         ensures head { SeesHead C.settings name.now now result self.old self.new }
         ensures no_tenant { length C.settings.tenants ≤ name.now.tenant
@@ -104,34 +107,33 @@ impl<C: Charges, R: Ledger, M: Ledger> Desk<C, R, M> {
         row
     }
 
-    // What the board tells of an upload; nothing, where it was not entered, and then the desk stays.
+    // What the board tells of an upload; nothing, where the desk has missed it.
     pub(crate) fn read_board(
         &mut self,
         name: &Name,
         now: Moment,
     ) -> Option<Result<HeadRow, Refusal>>
         ensures reads { IfSome result (ReadsHead C.settings self.old.seen self.new.seen name.now now) }
-        ensures alone { OnlySeesMore self.old self.new }
-        ensures begins { IsPrefix self.old.seen self.new.seen }
-        ensures stays { IfNone result (self.new ≡ self.old) }
+        ensures sees { IfSome result (λ row. OnlySeesMore self.old self.new) }
+        ensures misses { IfNone result (MissesBoard self.old self.new) }
     {
         self.reader.look(name, now)
     }
 
     /// Whether an upload may have expired at this moment, by what the board shows. If not, none has after events that begin
-    /// with all that this desk has seen, and it has seen these then. If one may, or the board was not entered, the desk
-    /// stays. It takes no lock and no memory, and waits for nobody.
+    /// with all that this desk has seen, and it has seen these then. If one may, the desk is as it was, but that it may have
+    /// missed the board. It takes no lock and no memory, and waits for nobody.
     pub fn may_sweep(&mut self, now: Moment) -> bool
         ensures none { result ≡ false → SeesNoneExpired C.settings self.old.seen self.new.seen now }
-        ensures alone { OnlySeesMore self.old self.new }
-        ensures stays { result ≡ true → self.new ≡ self.old }
+        ensures alone { result ≡ false → OnlySeesMore self.old self.new }
+        ensures stays { result ≡ true → self.new ≡ record self.old { missed = self.new.missed } }
     {
         self.reader.may_expire(now)
     }
 
     /// Answers a turn, and passes the gate on the way: at `Before`, then with the lock at `Locked`, if it takes the
     /// lock, then without it at `Answered`. A HEAD is answered as [`Desk::head`] tells, without the lock; all else, and
-    /// a HEAD where the board was not entered, as [`Desk::call`] does. The number of the turn is for the gate alone.
+    /// a HEAD where the desk has missed the board, as [`Desk::call`] does. The number of the turn is for the gate alone.
     pub fn answer<W: Wait, B: Wait + Drop, G: Gate>(
         &mut self,
         rt: &W,
@@ -163,15 +165,33 @@ impl<C: Charges, R: Ledger, M: Ledger> Desk<C, R, M> {
     {
         let mut ids = PartIds::new();
         match asked_of(&self.settings, request, &mut ids) {
-            Asked::Look(name) => match self.read_board(&name, now) {
-                Some(row) => head_reply(row),
-                None => {
-                    let asked = Asked::Look(name);
-                    self.answer_locked(rt, shared, request, asked, now, turn, gate)
-                }
-            },
+            Asked::Look(name) => self.reply_to_head(rt, shared, request, name, now, turn, gate),
             Asked::Refused(reply) if request.method.is_head() => reply,
             asked => self.answer_locked(rt, shared, request, asked, now, turn, gate),
+        }
+    }
+
+    // The reply to a HEAD of an upload: from the board, or with the lock where the desk has missed that.
+    fn reply_to_head<W: Wait, B: Wait + Drop, G: Gate>(
+        &mut self,
+        rt: &W,
+        shared: &Shared<C, R, M, B>,
+        request: &Request,
+        name: Name,
+        now: Moment,
+        turn: usize,
+        gate: &G,
+    ) -> Reply
+        requires found { IsFound C.settings request.now (asks.Look name) }
+        ensures answers { Answers C.settings request.now now result self.old self.new }
+        ensures beside { (self.new.steps ≡ self.old.steps) ⊎ (self.new.missed ≡ true) }
+    {
+        match self.read_board(&name, now) {
+            Some(row) => head_reply(row),
+            None => {
+                let asked = Asked::Look(name);
+                self.answer_locked(rt, shared, request, asked, now, turn, gate)
+            }
         }
     }
 
@@ -187,7 +207,8 @@ impl<C: Charges, R: Ledger, M: Ledger> Desk<C, R, M> {
         gate: &G,
     ) -> Reply
         requires found { IsFound C.settings request.now asked }
-        ensures { Answers C.settings request.now now result self.old self.new }
+        ensures answers { Answers C.settings request.now now result self.old self.new }
+        ensures missed { self.old.missed ≡ true → self.new.missed ≡ true }
     {
         let room = self.work_ahead(&mut asked, now);
         self.step_locked(rt, shared, request, asked, room, now, turn, gate)
@@ -206,7 +227,8 @@ impl<C: Charges, R: Ledger, M: Ledger> Desk<C, R, M> {
         gate: &G,
     ) -> Reply
         requires found { IsFound C.settings request.now asked }
-        ensures { Answers C.settings request.now now result self.old self.new }
+        ensures answers { Answers C.settings request.now now result self.old self.new }
+        ensures missed { self.new.missed ≡ self.old.missed }
     {
         let mut store = shared.store.lock(rt);
         gate.pass(self.number, turn, Stop::Locked);

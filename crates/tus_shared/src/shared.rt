@@ -178,6 +178,7 @@ fn open_desks<C: Charges, R: Ledger, M: Ledger, B: Wait + Drop>(
             released: released.part(),
             made: made.part(),
             reader,
+            steps: 0,
         });
     }
     Ok(desks)

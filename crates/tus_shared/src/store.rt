@@ -4,7 +4,7 @@ ghost use Rattle.head_board.specs.Events.{HaveHappened, IsLineOf, book_at, event
 ghost use Rattle.tus_steps.specs.Changing.{IsFound};
 ghost use Rattle.tus_steps.specs.declared.asked.Asked.TheVariants as asks;
 ghost use Rattle.tus_steps.specs.Step.{IsContentReply, IsStep};
-ghost use Rattle.tus_shared.specs.Desk.{Moves};
+ghost use Rattle.tus_shared.specs.Desk.{Moves, next_count};
 ghost use Rattle.tus_shared.specs.Headline.{Headline};
 ghost use Rattle.tus_shared.specs.Steps.{AddsChange, IsDone, IsSweep};
 ghost use Rattle.upload_book.specs.Book.{plain_of};
@@ -66,8 +66,8 @@ impl<C: Charges, R: Ledger, M: Ledger, B: Wait + Drop> Store<C, R, M, B> {
     /// Answers a request at a desk and applies it to the book, as the plain book does at this moment
     /// ([`tus_steps::answer`]). What it asks for was found before the lock was taken ([`tus_steps::asked_of`], under the
     /// settings of the desk), and so was the room into which the bytes of a GET are copied: memory lacks for these only where it is too small. A change that is accepted is the next event, made at this desk. The desk has seen all events
-    /// after it, and its shares rise by what the request charges and releases, and by that event. The shares of other desks
-    /// stay, since no other desk is lent.
+    /// after it, and its shares rise by what the request charges and releases, and by that event. The step is counted at the
+    /// desk. The shares of other desks stay, since no other desk is lent.
     pub fn step(
         &mut self,
         desk: &mut Desk<C, R, M>,
@@ -86,25 +86,25 @@ impl<C: Charges, R: Ledger, M: Ledger, B: Wait + Drop> Store<C, R, M, B> {
         ensures adds { AddsChange C.settings self.old desk.old.number request.now now result self.new }
         ensures moves { Moves C.settings self.old self.new desk.old desk.new }
         ensures seen { desk.new.seen ≡ self.new }
+        ensures counted { desk.new.steps ≡ next_count desk.old.steps }
+        ensures missed { desk.new.missed ≡ desk.old.missed }
         ensures room { (name : Name) → asked.entry ≡ asks.Content name
             → IsContentReply (book_at C.settings self.old) request.now now name (vec_capacity room) result }
     {
+        self.begin(desk);
         match asked {
             Asked::Change(asked) => {
                 let offset = asked.offset;
                 let outcome = self.make(desk, asked.change, now);
                 change_reply(request, offset, outcome)
             }
-            asked => {
-                self.board.show_to(&mut desk.reader);
-                answer_asked(self.headline(), request, asked, now, room)
-            }
+            asked => answer_asked(self.headline(), request, asked, now, room),
         }
     }
 
     /// Ends all uploads that have expired at this moment, as the plain book's sweep does. That is the next event, made at
     /// this desk, also where none has expired. The desk has seen all events after it, and its shares rise by what that
-    /// releases, and by that event.
+    /// releases, and by that event. The step is counted at the desk.
     pub fn sweep(&mut self, desk: &mut Desk<C, R, M>, now: Moment) -> Swept
         ensures happened { HaveHappened C.settings self.old }
         ensures stays_happened { HaveHappened C.settings self.new }
@@ -114,32 +114,45 @@ impl<C: Charges, R: Ledger, M: Ledger, B: Wait + Drop> Store<C, R, M, B> {
         ensures sweep { IsSweep C.settings self.old desk.old.number now result self.new }
         ensures moves { Moves C.settings self.old self.new desk.old desk.new }
         ensures seen { desk.new.seen ≡ self.new }
+        ensures counted { desk.new.steps ≡ next_count desk.old.steps }
+        ensures missed { desk.new.missed ≡ desk.old.missed }
     {
+        self.begin(desk);
         match self.make(desk, Change::Sweep, now) {
             Ok(Outcome::Swept(swept)) => swept,
             Ok(_) | Err(_) => unreachable!("a sweep is never refused, and gives what it ended"),
         }
     }
 
-    // Makes a change, and shows its note: the change is prepared, the note is shown, and then the change, which can no
-    // longer fail, is committed. So nothing is shown of a change that is not made.
+    // Begins a step of a desk, which is counted there: the desk has seen all events then.
+    fn begin(&self, desk: &mut Desk<C, R, M>)
+        ensures begins { IsPrefix desk.old.seen self.now }
+        ensures desk { desk.new ≡ record desk.old { seen = self.now; steps = next_count desk.old.steps } }
+    {
+        self.board.show_to(&mut desk.reader);
+        desk.steps = desk.steps.wrapping_add(1);
+    }
+
+    // Makes a change at a desk that has seen all events, and shows its note: the change is prepared, the note is shown, and
+    // then the change, which can no longer fail, is committed. So nothing is shown of a change that is not made.
     fn make(
         &mut self,
         desk: &mut Desk<C, R, M>,
         change: Change,
         now: Moment,
     ) -> Result<Outcome, Refused>
-        requires { CanBeMade (length C.settings.tenants) change }
+        requires change { CanBeMade (length C.settings.tenants) change }
+        requires seen { desk.old.seen ≡ self.old }
         ensures happened { HaveHappened C.settings self.old }
         ensures stays_happened { HaveHappened C.settings self.new }
         ensures lawful { IsLawful (book_at C.settings self.old) }
         ensures stays_lawful { IsLawful (book_at C.settings self.new) }
-        ensures begins { IsPrefix desk.old.seen self.old }
         ensures done { IsDone (book_at C.settings self.old) self.old desk.old.number change.entry now result self.new }
         ensures moves { Moves C.settings self.old self.new desk.old desk.new }
         ensures seen { desk.new.seen ≡ self.new }
+        ensures steps { desk.new.steps ≡ desk.old.steps }
+        ensures missed { desk.new.missed ≡ desk.old.missed }
     {
-        self.board.show_to(&mut desk.reader);
         // the contract of this call tells that the book is lawful
         let _lawful = self.book.settings();
         let ready = match self.book.prepare(change, now) {

@@ -1,5 +1,5 @@
 use Rattle.std.proofs.Common.{ap, ◌∙◌, arith}
-use Rattle.head_board.specs.Board.{BoardView}
+use Rattle.head_board.specs.Board.{ReaderView, new_reader}
 use Rattle.tus_shared.proofs.SharesLemmas.{new_desks-next}
 use Rattle.tus_shared.proofs.shared.open_desks.Goals as goal
 
@@ -22,8 +22,9 @@ loop-number-preserved g c =
         rest = c.part-in-loop-number-2.ensures.none_left;
       },
       c.in-Ok-reader.ensures.board ∙ i.3,
-      new_desks-next _ _ _ _ _ _ _ c.push_reserved.ensures.items i.4 c.part.ensures.amount c.part-in-loop-number.ensures.amount c.part-in-loop-number-2.ensures.amount
-          (ap (λ (b : BoardView). b.events) (c.in-Ok-reader.ensures.reader ∙ i.3 ∙ c.requires.board)),
+      new_desks-next _ _ _ _ _ _ _ _ c.push_reserved.ensures.items i.4 c.part.ensures.amount c.part-in-loop-number.ensures.amount c.part-in-loop-number-2.ensures.amount
+          (ap (λ (r : ReaderView). r.events) (c.in-Ok-reader.ensures.reader ∙ ap new_reader (i.3 ∙ c.requires.board)))
+          (ap (λ (r : ReaderView). r.missed) c.in-Ok-reader.ensures.reader),
       omega (arith, c.push_reserved.ensures.len, i.5),
       omega (arith, c.push_reserved.ensures.capacity, i.6),
     )

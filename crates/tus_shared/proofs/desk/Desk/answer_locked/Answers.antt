@@ -1,7 +1,7 @@
 use Rattle.tus_shared.proofs.HeadLemmas.{sees-first}
 use Rattle.tus_shared.proofs.desk.Desk.answer_locked.Goals as goal
 
-pub returns : goal.returns
-returns g c =
+pub returns-clause-answers : goal.returns-clause-answers
+returns-clause-answers g c =
     let ahead = c.work_ahead-room in
-    sees-first g.C.Charges.settings c.args.request.now c.args.now c.step_locked.result c.args.self.now ahead.new.self c.step_locked.new.self ahead.ensures.alone ahead.ensures.begins c.step_locked.ensures
+    sees-first g.C.Charges.settings c.args.request.now c.args.now c.step_locked.result c.args.self.now ahead.new.self c.step_locked.new.self ahead.ensures.desk c.step_locked.ensures.answers

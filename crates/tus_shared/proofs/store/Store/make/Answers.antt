@@ -1,9 +1,8 @@
-use Rattle.std.proofs.Common.{◌≡◌, ◌+◌, ap, length, refl, sym, subst, ◌∙◌, arith}
-use Rattle.upload_book.specs.Book.{plain_of}
+use Rattle.std.proofs.Common.{ap, refl, sym, subst, ◌∙◌, arith}
 use Rattle.upload_book.specs.Lawful.{IsLawful}
 use Rattle.upload_book.specs.PlainBook.{PlainBook}
-use Rattle.head_board.specs.Board.{BoardView}
-use Rattle.head_board.specs.Events.{HaveHappened, book_at}
+use Rattle.head_board.specs.Board.{BoardView, ReaderView}
+use Rattle.head_board.specs.Events.{HaveHappened}
 use Rattle.tus_shared.proofs.ChangeLemmas.{no-less, shown-at, shown-one}
 use Rattle.tus_shared.proofs.EventLemmas.{at-settings}
 use Rattle.tus_shared.proofs.store.Store.make.Goals as goal
@@ -39,17 +38,17 @@ invariant_of-self-2 g c =
       };
     }
 
-pub invariant_of-desk-2 : goal.invariant_of-desk-2
-invariant_of-desk-2 g c =
+pub invariant_of-desk : goal.invariant_of-desk
+invariant_of-desk g c =
     let s = g.C.Charges.settings in
     let i = c.desk.invariant in
     let at = shown-at s _ _ _ _ _ _ _ c.self.invariant.at c.prepare.ensures.plain c.show_note.ensures.line.1 c.show_note.ensures.shown c.commit-outcome.ensures.after in
-    let seen = c.show_to-2.ensures.seen in
+    let seen = c.show_to.ensures.seen in
     record {
       settings_are = i.settings_are;
-      reader_settings = ap (λ (v : BoardView). v.settings) seen ∙ ap (λ (v : BoardView). v.settings) c.show_to.ensures.seen ∙ i.reader_settings;
-      reader_log = ap (λ (v : BoardView). v.log) seen ∙ ap (λ (v : BoardView). v.log) c.show_to.ensures.seen ∙ i.reader_log;
-      happened = subst (λ (v : BoardView). HaveHappened s v.events) (sym seen) at.happened;
+      reader_settings = ap (λ (v : ReaderView). v.settings) seen ∙ i.reader_settings;
+      reader_log = ap (λ (v : ReaderView). v.log) seen ∙ i.reader_log;
+      happened = subst (λ (v : ReaderView). HaveHappened s v.events) (sym seen) at.happened;
       charged_part = c.add.ensures.parts ∙ i.charged_part;
       released_part = c.add-2.ensures.parts ∙ i.released_part;
       made_part = c.add-3.ensures.parts ∙ i.made_part;
