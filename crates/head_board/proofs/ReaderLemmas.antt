@@ -15,6 +15,7 @@ use Rattle.upload_book.proofs.Heads.HeadParts.{head_part-tenant, row-kept}
 use Rattle.head_board.specs.declared.board_copy.BoardCopy.{BoardCopy}
 use Rattle.head_board.specs.declared.board_copy.View.{View}
 use Rattle.head_board.specs.declared.head_reader.Found.{Found}
+use Rattle.head_board.specs.Board.{row_read}
 use Rattle.head_board.specs.Events.{HaveHappened, book_at}
 use Rattle.head_board.specs.Expired.{NoneHasExpired}
 use Rattle.head_board.specs.inside.EventLog.{LogPrefix}
@@ -52,15 +53,15 @@ found-happened v s seen events knows there is =
     (subst (λ (t : LogPrefix). HaveHappened s.table.settings t.events) (sym is) there.current.happened)
 
 -- it tells what the book does after what happened
-pub found-right : (v : View) (s : BoardCopy) (seen : LogPrefix) (name : Name) (now : ℕ) (f : Found) → v.knows ≡ true → log_of v.log ≡ seen.book → IsFound v seen s
-    → f.seen ≡ s.seen → f.row ≡ shown s.table name now
+pub found-right : (v : View) (s : BoardCopy) (seen : LogPrefix) (name : Name) (now : ℕ) (f : Found) (row : HeadRow) → v.knows ≡ true → log_of v.log ≡ seen.book → IsFound v seen s
+    → f.seen ≡ s.seen → row_read f.read row ≡ shown s.table name now
     → (f.seen.book ≡ seen.book) × IsPrefix seen.events f.seen.events × HaveHappened v.settings f.seen.events
-    × (f.row ≡ answer_of (book_at v.settings f.seen.events) name.tenant (look_answer name.id now))
-found-right v s seen name now f knows log there is row = (
+    × (row_read f.read row ≡ answer_of (book_at v.settings f.seen.events) name.tenant (look_answer name.id now))
+found-right v s seen name now f row knows log there is told = (
   ap (λ (t : LogPrefix). t.book) is ∙ sym (there.fits knows).1 ∙ log,
   subst (λ (t : LogPrefix). IsPrefix seen.events t.events) (sym is) there.begins,
   found-happened v s seen f.seen knows there is,
-  row ∙ ap (λ (h : Heads). shown h name now) (found-heads v s seen f.seen knows there is) ∙ shown-look (book_at v.settings f.seen.events) name now,
+  told ∙ ap (λ (h : Heads). shown h name now) (found-heads v s seen f.seen knows there is) ∙ shown-look (book_at v.settings f.seen.events) name now,
 )
 
 -- and what has expired after what happened

@@ -1,5 +1,5 @@
 -- What is seen of a board and of its readers.
-use Rattle.std.specs.Prelude.{◌≡◌, ℕ, Bool, false, List, Result}
+use Rattle.std.specs.Prelude.{◌≡◌, ℕ, Bool, false, List, Result, Ok, Err, ⊤}
 use mathlib.Core.List.{IsPrefix}
 use Rattle.logbook.specs.Pages.{Book}
 use Rattle.upload_book.specs.declared.head_row.HeadRow.{HeadRow}
@@ -31,6 +31,11 @@ pub record ReaderView : Type 0 where
 -- a reader that has seen all events which were shown
 abbrev pub new_reader : BoardView → ReaderView
 new_reader b = record { settings = b.settings; log = b.log; events = b.events; missed = false }
+
+-- what was read of an upload: a row, which lies in its place, or why there is none
+abbrev pub row_read : Result ⊤ Refusal → HeadRow → Result HeadRow Refusal
+row_read (Ok read) row = Ok row
+row_read (Err why) row = Err why
 
 -- Who has seen some events reads a head: the answer is the one that the plain book gives after events that begin with
 -- these.

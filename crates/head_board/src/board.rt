@@ -22,7 +22,7 @@ use std::alloc::{AllocError, Global};
 use std::marker::Model;
 use std::sync::Wait;
 use tus_text::Text;
-use upload_book::{HeadNote, LentRow, NotedChange, Settings};
+use upload_book::{HeadNote, HeadRow, LentRow, NotedChange, Settings};
 
 /// The heads of a book as they are shown to readers, who need no lock. This is the writer's side. A contract sees the
 /// settings of the book, which log its events are in, and all events that were shown.
@@ -135,15 +135,15 @@ impl<W: Wait + Drop> Board<W> {
         unreachable!()
     }
 
-    /// A new reader of the board, which has seen all events that were shown, and has not missed the board. The error is that there are as many readers
-    /// as there is room for, or that memory was lacking.
-    pub fn reader(&mut self) -> Result<HeadReader, AllocError>
+    /// A new reader of the board, which has seen all events that were shown, and has not missed the board; with a place for
+    /// the rows that it reads. The error is that there are as many readers as there is room for, or that memory was lacking.
+    pub fn reader(&mut self, row: Box<HeadRow>) -> Result<HeadReader, AllocError>
         ensures reader { IfOk result (λ r. r ≡ new_reader self.old) }
         ensures board { self.new ≡ self.old }
     {
         let mut reader = self.writer.factory().reader()?;
         reader.learn::<Learns>(self.writer.tell::<Tells>());
-        Ok(HeadReader::new(reader, self.seen.again()))
+        Ok(HeadReader::new(reader, row, self.seen.again()))
     }
 }
 

@@ -1,6 +1,6 @@
-ghost use Rattle.std.specs.Prelude.{◌≡◌, false, true, IfNone, IfOk, IfSome};
+ghost use Rattle.std.specs.Prelude.{◌≡◌, false, true, IfNone, IfOk, IfSome, Ok, Some};
 ghost use mathlib.Core.List.{IsPrefix};
-ghost use Rattle.head_board.specs.Board.{ReadsHead, SeesNoneExpired};
+ghost use Rattle.head_board.specs.Board.{ReadsHead, SeesNoneExpired, row_read};
 ghost use Rattle.head_board.specs.Events.{HaveHappened, book_at};
 ghost use Rattle.head_board.specs.Expired.{NoneHasExpired};
 ghost use Rattle.head_board.specs.inside.Showing.{log_of};
@@ -22,7 +22,7 @@ use upload_book::{HeadRow, Moment, Name, Refusal};
 /// reads is at least as new as these.
 #[derive(Drop)]
 pub struct HeadReader {
-    reader: BoardReader,
+    seat: Seat,
     seen: SeenEvents,
     missed: Option<Missed>,
 }
@@ -36,13 +36,20 @@ impl Model for HeadReader {
     ghost Value = { ReaderView };
 
     ghost view = { λ r. record {
-      settings = (known_at r.reader.place).settings;
+      settings = (known_at r.seat.reader.place).settings;
       log = r.seen.book;
       events = r.seen.events;
       missed = is_some r.missed;
     } };
 
-    ghost invariant = { λ r. ((known_at r.reader.place).knows ≡ true) × (log_of (known_at r.reader.place).log ≡ r.seen.book) };
+    ghost invariant = { λ r. ((known_at r.seat.reader.place).knows ≡ true) × (log_of (known_at r.seat.reader.place).log ≡ r.seen.book) };
+}
+
+// Where a reader reads: its place at the board, and a place for the row that it reads there.
+#[derive(Drop)]
+struct Seat {
+    reader: BoardReader,
+    row: Box<HeadRow>,
 }
 
 // What is asked: after which events, of which upload, and when.
@@ -60,22 +67,23 @@ struct EndQuery {
     moment: Moment,
 }
 
-// What is found: the answer, and the events on which that rests.
+// What is found: whether a row was read, and the events on which that rests.
 #[derive(Drop)]
 struct Found {
-    row: Result<HeadRow, Refusal>,
+    read: Result<(), Refusal>,
     seen: SeenEvents,
 }
 
 impl HeadReader {
-    /// A reader at a place that knows its board, which has seen these events, and has not missed the board.
-    pub(crate) fn new(reader: BoardReader, seen: SeenEvents) -> HeadReader
+    /// A reader at a place that knows its board, which has seen these events, and has not missed the board; with a place
+    /// for a row.
+    pub(crate) fn new(reader: BoardReader, row: Box<HeadRow>, seen: SeenEvents) -> HeadReader
         requires knows { (known_at reader.place).knows ≡ true }
         requires log { log_of (known_at reader.place).log ≡ seen.book }
         ensures { result ≡ record { settings = (known_at reader.place).settings; log = seen.book; events = seen.events; missed = false } }
     {
         HeadReader {
-            reader,
+            seat: Seat { reader, row },
             seen,
             missed: None,
         }
@@ -96,27 +104,37 @@ impl HeadReader {
         self.seen = seen;
     }
 
-    /// What the board tells of an upload at this moment: Unknown where the name's tenant is not there or never had the
-    /// id, Gone where the upload has ended or expired, and else its row. The answer is at least as new as what the
-    /// reader has seen, and the reader has seen the events of the answer then. It takes no lock and no memory, and waits
-    /// for nobody.
+    /// Reads what the board tells of an upload at this moment: Unknown where the name's tenant is not there or never had
+    /// the id, Gone where the upload has ended or expired, and else its row, which is put to `row`; else that stays. The
+    /// answer is at least as new as what the reader has seen, and the reader has seen the events of the answer then. It
+    /// takes no lock and no memory, and waits for nobody.
     ///
     /// `None` says that the reader has missed the board: an entry found that it has been let go, or that it shows fewer
     /// events than the reader has seen, which happens in no run. All else of the reader is as it was.
-    pub fn look(&mut self, name: &Name, now: Moment) -> Option<Result<HeadRow, Refusal>>
-        ensures reads { IfSome result (ReadsHead self.old.settings self.old.events self.new.events name.now now) }
-        ensures sees { IfSome result (λ row. self.new ≡ record self.old { events = self.new.events }) }
+    pub fn look(
+        &mut self,
+        name: &Name,
+        now: Moment,
+        row: &mut HeadRow,
+    ) -> Option<Result<(), Refusal>>
+        ensures reads { IfSome result (λ read.
+            ReadsHead self.old.settings self.old.events self.new.events name.now now (row_read read row.new)) }
+        ensures sees { IfSome result (λ read. self.new ≡ record self.old { events = self.new.events }) }
         ensures misses { IfNone result (self.new ≡ record self.old { missed = true }) }
+        ensures row { ¬ (result ≡ Some (Ok tt)) → row.new ≡ row.old }
     {
         let query = HeadQuery {
             seen: self.seen.again(),
             name: *name,
             moment: now,
         };
-        match replace_with(&mut self.reader, query, read_head) {
+        match replace_with(&mut self.seat, query, read_head) {
             Ok(found) => {
                 self.seen = found.seen;
-                Some(found.row)
+                if found.read.is_ok() {
+                    row.set(&self.seat.row.lent());
+                }
+                Some(found.read)
             }
             Err(missed) => {
                 self.missed = Some(missed);
@@ -138,7 +156,7 @@ impl HeadReader {
             seen: self.seen.again(),
             moment: now,
         };
-        match replace_with(&mut self.reader, query, read_ends) {
+        match replace_with(&mut self.seat, query, read_ends) {
             Ok(Some(seen)) => {
                 self.seen = seen;
                 false
@@ -152,58 +170,67 @@ impl HeadReader {
     }
 }
 
-// Enters the board, and reads what it shows. The place is the same after it.
-fn read_head(reader: BoardReader, query: HeadQuery) -> (BoardReader, Result<Found, Missed>)
-    requires knows { (known_at reader.place).knows ≡ true }
-    requires log { log_of (known_at reader.place).log ≡ query.seen.book }
-    ensures place { known_at result.0.place ≡ known_at reader.place }
+// Enters the board, and reads what it shows, with the row put to its place. The place at the board is the same after it.
+fn read_head(seat: Seat, query: HeadQuery) -> (Seat, Result<Found, Missed>)
+    requires knows { (known_at seat.reader.place).knows ≡ true }
+    requires log { log_of (known_at seat.reader.place).log ≡ query.seen.book }
+    ensures place { known_at result.0.reader.place ≡ known_at seat.reader.place }
     ensures found { IfOk result.1 (λ found.
         (found.seen.book ≡ query.seen.book)
         × IsPrefix query.seen.events found.seen.events
-        × HaveHappened (known_at reader.place).settings found.seen.events
-        × (found.row ≡ answer_of (book_at (known_at reader.place).settings found.seen.events) query.name.tenant (look_answer query.name.id query.moment))) }
+        × HaveHappened (known_at seat.reader.place).settings found.seen.events
+        × (row_read found.read result.0.row.value
+        ≡ answer_of (book_at (known_at seat.reader.place).settings found.seen.events) query.name.tenant (look_answer query.name.id query.moment))) }
 {
+    let Seat { reader, mut row } = seat;
     match enter(reader, &query.seen) {
         Ok(reading) => {
-            let found = found_on(reading.get(), &query);
-            (reading.leave(), Ok(found))
+            let found = found_on(reading.get(), &query, &mut row);
+            let reader = reading.leave();
+            (Seat { reader, row }, Ok(found))
         }
-        Err((reader, missed)) => (reader, Err(missed)),
+        Err((reader, missed)) => (Seat { reader, row }, Err(missed)),
     }
 }
 
-// What a copy tells.
-fn found_on(copy: &BoardCopy, query: &HeadQuery) -> Found
+// What a copy tells, with the row put to its place.
+fn found_on(copy: &BoardCopy, query: &HeadQuery, row: &mut HeadRow) -> Found
     ensures seen { result.seen ≡ copy.now.seen }
-    ensures row { result.row ≡ shown copy.now.table query.now.name query.now.moment }
+    ensures row { row_read result.read row.new ≡ shown copy.now.table query.now.name query.now.moment }
 {
+    let read = match copy.table.look(&query.name, query.moment) {
+        Ok(told) => {
+            row.set(&told);
+            Ok(())
+        }
+        Err(refusal) => Err(refusal),
+    };
     Found {
-        row: copy.table.look(&query.name, query.moment),
+        read,
         seen: copy.seen.again(),
     }
 }
 
 // Enters the board, and tells the events after which no upload has expired, where it shows that. The place is the same
 // after it.
-fn read_ends(
-    reader: BoardReader,
-    query: EndQuery,
-) -> (BoardReader, Result<Option<SeenEvents>, Missed>)
-    requires knows { (known_at reader.place).knows ≡ true }
-    requires log { log_of (known_at reader.place).log ≡ query.seen.book }
-    ensures place { known_at result.0.place ≡ known_at reader.place }
+fn read_ends(seat: Seat, query: EndQuery) -> (Seat, Result<Option<SeenEvents>, Missed>)
+    requires knows { (known_at seat.reader.place).knows ≡ true }
+    requires log { log_of (known_at seat.reader.place).log ≡ query.seen.book }
+    ensures place { known_at result.0.reader.place ≡ known_at seat.reader.place }
     ensures none { IfOk result.1 (λ seen. IfSome seen (λ seen.
         (seen.book ≡ query.seen.book)
         × IsPrefix query.seen.events seen.events
-        × HaveHappened (known_at reader.place).settings seen.events
-        × NoneHasExpired query.moment (heads_of (book_at (known_at reader.place).settings seen.events)))) }
+        × HaveHappened (known_at seat.reader.place).settings seen.events
+        × NoneHasExpired query.moment (heads_of (book_at (known_at seat.reader.place).settings seen.events)))) }
 {
+    let Seat { reader, row } = seat;
     match enter(reader, &query.seen) {
         Ok(reading) => {
             let seen = seen_unexpired(reading.get(), query.moment);
-            (reading.leave(), Ok(seen))
+            let reader = reading.leave();
+            (Seat { reader, row }, Ok(seen))
         }
-        Err((reader, missed)) => (reader, Err(missed)),
+        Err((reader, missed)) => (Seat { reader, row }, Err(missed)),
     }
 }
 

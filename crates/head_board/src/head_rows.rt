@@ -113,8 +113,8 @@ impl HeadRows {
     }
 
     /// What a HEAD of this id finds at this moment: Unknown where the id was never given, Gone where its upload has
-    /// ended or expired, and else its row.
-    pub(crate) fn look(&self, id: u64, now: Moment) -> Result<HeadRow, Refusal>
+    /// ended or expired, and else its row, whose texts are lent.
+    pub(crate) fn look(&self, id: u64, now: Moment) -> Result<LentRow<'_>, Refusal>
         ensures { result ≡ visible_in (λ row. row.expires) self.now.part id now }
     {
         if id == 0 || self.next <= id {
@@ -127,7 +127,7 @@ impl HeadRows {
         if row.has_expired(now) {
             return Err(Refusal::Gone);
         }
-        Ok(row.copied())
+        Ok(row.lent())
     }
 
     /// When the first of the uploads expires, if one does.

@@ -72,8 +72,8 @@ impl HeadTable {
     }
 
     /// What a HEAD of an upload finds at this moment: Unknown where its tenant is not there or never had the id, Gone
-    /// where the upload has ended or expired, and else its row. It takes no memory.
-    pub fn look(&self, name: &Name, now: Moment) -> Result<HeadRow, Refusal>
+    /// where the upload has ended or expired, and else its row, whose texts are lent. It takes no memory.
+    pub fn look(&self, name: &Name, now: Moment) -> Result<LentRow<'_>, Refusal>
         ensures { result ≡ shown self.now name.now now }
     {
         match self.parts.get(usize::from(name.tenant)) {

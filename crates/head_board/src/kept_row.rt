@@ -4,8 +4,7 @@ ghost use Rattle.upload_book.specs.HeadNotes.{row_grown};
 
 use std::alloc::{AllocError, Global};
 use std::marker::Model;
-use tus_text::Text;
-use upload_book::{Growth, HeadRow, Kind, LentRow, Moment};
+use upload_book::{Growth, HeadRow, LentRow, Moment};
 
 /// The row of an upload under its id. It has room for texts of 3 KiB, so it lies in a box: rows move where one of
 /// them is taken out. A contract sees the id and the row.
@@ -29,7 +28,7 @@ impl KeptRow {
     pub(crate) fn new(id: u64, mut place: Box<HeadRow>, row: &LentRow) -> KeptRow
         ensures { result ≡ record { id = id; kept = row.now } }
     {
-        set_row(&mut *place, row);
+        place.set(row);
         KeptRow { id, row: place }
     }
 
@@ -50,19 +49,11 @@ impl KeptRow {
         self.id
     }
 
-    /// The row once more.
-    pub(crate) fn copied(&self) -> HeadRow
+    /// The row, whose texts are lent.
+    pub(crate) fn lent(&self) -> LentRow<'_>
         ensures { result ≡ self.now.kept }
     {
-        let row = &*self.row;
-        HeadRow {
-            kind: row.kind,
-            offset: row.offset,
-            declared: row.declared,
-            metadata: row.metadata.copied(),
-            concat: row.concat.copied(),
-            expires: row.expires,
-        }
+        self.row.lent()
     }
 
     /// When the upload expires, if it does.
@@ -95,32 +86,7 @@ pub(crate) fn empty_rows(alloc: Global, count: usize) -> Result<Vec<Box<HeadRow>
 {
     let mut rows = Vec::with_capacity(alloc, count)?;
     for _ in 0..count {
-        rows.push_reserved(Box::new(alloc, empty_row())?);
+        rows.push_reserved(Box::new(alloc, HeadRow::empty())?);
     }
     Ok(rows)
-}
-
-// A row of nothing.
-fn empty_row() -> HeadRow {
-    HeadRow {
-        kind: Kind::Plain,
-        offset: 0,
-        declared: None,
-        metadata: Text::empty(),
-        concat: Text::empty(),
-        expires: None,
-    }
-}
-
-// Copies a row to another. Of the texts it copies the bytes that are used.
-fn set_row(to: &mut HeadRow, row: &LentRow)
-    ensures { to.new ≡ row.now }
-{
-    let growth = row.growth();
-    to.kind = row.kind();
-    to.offset = growth.offset;
-    to.declared = growth.declared;
-    to.metadata.set(row.metadata());
-    to.concat.set(row.concat());
-    to.expires = growth.expires;
 }

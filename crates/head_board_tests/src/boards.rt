@@ -8,16 +8,24 @@ ghost use Rattle.upload_book.specs.PlainBook.{opening_book};
 use crate::settings::{moment, settings};
 use crate::tables::{assert_shown, name};
 use head_board::{Board, Coming, HeadReader, Opened};
+use std::alloc::{AllocError, Global};
 use std::process::Abort;
 use std::sync::Wait;
 use std::test::Fail;
-use upload_book::{Book, Change, FirstChunk, NewUpload, Payload, Refusal};
+use upload_book::{Book, Change, FirstChunk, HeadRow, NewUpload, Payload, Refusal};
+
+// A place for the rows of a reader.
+fn place(alloc: Global) -> Result<Box<HeadRow>, AllocError> {
+    Box::new(alloc, HeadRow::empty())
+}
 
 // A reader finds the offset of acme's first upload, or why there is none.
 fn assert_seen(rt: &impl Abort, reader: &mut HeadReader, expected: Result<u64, Refusal>) {
-    let found = reader.look(&name(0, 1), moment(rt, 1000));
+    let mut row = HeadRow::empty();
+    let read = reader.look(&name(0, 1), moment(rt, 1000), &mut row);
     let expected = expected.map(|offset| (offset, &b""[..]));
-    assert_shown(rt, &found.expect(rt, "entered"), expected);
+    let found = read.expect(rt, "entered").map(|()| row.lent());
+    assert_shown(rt, &found, expected);
 }
 
 // The creation of an upload that begins with five bytes.
@@ -65,8 +73,8 @@ fn readers_see_what_is_shown(rt: HostRuntime) -> Result<(), Fail> {
     let settings = settings()?;
     let mut board = Board::new(rt.alloc(), &rt, &settings, 2, Opened::new())?;
     let mut book = Book::new(rt.alloc(), settings)?;
-    let mut one = board.reader()?;
-    let mut other = board.reader()?;
+    let mut one = board.reader(place(rt.alloc())?)?;
+    let mut other = board.reader(place(rt.alloc())?)?;
     assert_seen(&rt, &mut one, Err(Refusal::Unknown));
     show_first(&rt, &mut board, &mut book);
     assert_seen(&rt, &mut one, Ok(5));
@@ -74,21 +82,21 @@ fn readers_see_what_is_shown(rt: HostRuntime) -> Result<(), Fail> {
     assert!(rt; !one.may_expire(moment(&rt, 4599)));
     assert!(rt; one.may_expire(moment(&rt, 4600)));
     drop(board);
-    assert!(rt; one.look(&name(0, 1), moment(&rt, 1000)).is_none());
+    assert!(rt; one.look(&name(0, 1), moment(&rt, 1000), &mut HeadRow::empty()).is_none());
     Ok(())
 }
 
 // There is room for one more reader of a board.
-fn has_room<W: Wait + Drop>(board: &mut Board<W>) -> bool {
-    board.reader().is_ok()
+fn has_room<W: Wait + Drop>(alloc: Global, board: &mut Board<W>) -> Result<bool, AllocError> {
+    Ok(board.reader(place(alloc)?).is_ok())
 }
 
 #[test]
 fn a_board_has_room_for_its_readers(rt: HostRuntime) -> Result<(), Fail> {
     let mut board = Board::new(rt.alloc(), &rt, &settings()?, 1, Opened::new())?;
-    let reader = board.reader()?;
-    assert!(rt; !has_room(&mut board));
+    let reader = board.reader(place(rt.alloc())?)?;
+    assert!(rt; !has_room(rt.alloc(), &mut board)?);
     drop(reader);
-    assert!(rt; has_room(&mut board));
+    assert!(rt; has_room(rt.alloc(), &mut board)?);
     Ok(())
 }

@@ -8,7 +8,7 @@ use std::process::Abort;
 use std::test::Fail;
 use upload_book::NotedChange::{Created, Gone, Grown, Swept};
 use upload_book::{
-    Accounts, Growth, HeadNote, HeadRow, Kind, LentRow, Moment, Name, NotedChange, Numbers,
+    Accounts, Growth, HeadNote, Kind, LentRow, Moment, Name, NotedChange, Numbers,
     Refusal, Settings,
 };
 
@@ -48,7 +48,7 @@ fn row(offset: u64, metadata: &'static [u8; 6], expires: Option<Moment>) -> Lent
 /// Asserts the offset and the metadata that a HEAD of an upload finds, or why it finds none.
 pub fn assert_shown(
     rt: &impl Abort,
-    found: &Result<HeadRow, Refusal>,
+    found: &Result<LentRow, Refusal>,
     expected: Result<(u64, &[u8]), Refusal>,
 ) {
     match (found, expected) {
@@ -59,10 +59,11 @@ pub fn assert_shown(
 }
 
 // A row of so many bytes of ten has this metadata.
-fn assert_row(rt: &impl Abort, row: &HeadRow, offset: u64, metadata: &[u8]) {
-    assert!(rt; row.offset == offset);
-    assert!(rt; row.declared == Some(10));
-    assert!(rt; row.metadata.as_slice() == metadata);
+fn assert_row(rt: &impl Abort, row: &LentRow, offset: u64, metadata: &[u8]) {
+    let growth = row.growth();
+    assert!(rt; growth.offset == offset);
+    assert!(rt; growth.declared == Some(10));
+    assert!(rt; row.metadata() == metadata);
 }
 
 // The tenant and the id of an upload.

@@ -2,9 +2,10 @@ ghost use Rattle.std.specs.Prelude.{◌≡◌, ◌<◌, ◌^◌, ℕ};
 ghost use Rattle.tus_steps.specs.Request as spec;
 ghost use Rattle.http_wire.specs.BookStep.{BookStep};
 ghost use Rattle.tus_steps.specs.declared.reply.Reply.{Reply};
+ghost use Rattle.tus_steps.specs.PlacedReply.{reply_in};
 ghost use Rattle.upload_book.specs.Book.{StoredBook, plain_of};
 
-use tus_steps::{Reply, Request};
+use tus_steps::{PlacedReply, Request, answer_in_place};
 use upload_book::{Book, Moment};
 
 /// What answers the requests of a connection: a book, or anything else that makes a step for each
@@ -21,9 +22,9 @@ pub trait Answer {
         ensures value { result ≡ max_size self.now }
         ensures range { result < 2 ^ 31 };
 
-    /// Makes the step of a request at its moment, and gives the reply.
-    fn answer(&mut self, request: &Request, now: Moment) -> Reply
-        ensures { steps self.old request.now now result self.new };
+    /// Makes the step of a request at its moment, and puts the reply to its place.
+    fn answer(&mut self, request: &Request, now: Moment, reply: &mut PlacedReply)
+        ensures { steps self.old request.now now (reply_in reply.new) self.new };
 }
 
 impl Answer for Book {
@@ -35,9 +36,7 @@ impl Answer for Book {
         self.settings().numbers().max_size
     }
 
-    // A reply is large: inlined, it is not moved once more.
-    #[inline(always)]
-    fn answer(&mut self, request: &Request, now: Moment) -> Reply {
-        tus_steps::answer(self, request, now)
+    fn answer(&mut self, request: &Request, now: Moment, reply: &mut PlacedReply) {
+        answer_in_place(self, request, now, reply);
     }
 }

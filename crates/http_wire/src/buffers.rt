@@ -5,14 +5,16 @@ use crate::read::inbox::Inbox;
 use crate::write::page::Page;
 use httparse::spans::{EMPTY_HEADER_SPAN, HeaderSpan};
 use std::alloc::{AllocError, Global};
+use tus_steps::PlacedReply;
 
 /// The memory that the messages of a connection share: what was read ahead, where the fields of the head
-/// that was read last stand, and the page of the reply that is written. After a connection they serve another
+/// that was read last stand, a reply in its place, and the page on which it is written. After a connection they serve another
 /// ([`Wire::with_buffers`](crate::Wire::with_buffers)).
 #[derive(Drop)]
 pub struct Buffers {
     pub(crate) inbox: Inbox,
     pub(crate) spans: Box<[HeaderSpan; FIELD_LIMIT]>,
+    pub(crate) reply: Box<PlacedReply>,
     pub(crate) page: Page,
     // Whether the last message was refused: what followed its head was not read.
     pub(crate) is_refused: bool,
@@ -31,6 +33,7 @@ impl Buffers {
         Ok(Buffers {
             inbox,
             spans: Box::new(alloc, [EMPTY_HEADER_SPAN; FIELD_LIMIT])?,
+            reply: Box::new(alloc, PlacedReply::new())?,
             page,
             is_refused: false,
         })

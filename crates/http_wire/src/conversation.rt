@@ -225,7 +225,7 @@ fn turn_cut(why: Cut) -> Result<Option<Ended>, WireFault>
 }
 
 // Makes the step of a message that the buffers lend and writes its reply. The step stays where the reply could not
-// be written.
+// be written. The bytes of a GET are let go once they are sent.
 fn answer_message<W: Sink, A: Answer>(
     writer: &mut W,
     buffers: &mut Buffers,
@@ -241,15 +241,26 @@ fn answer_message<W: Sink, A: Answer>(
         × Writes (W.contents writer.old) (W.contents writer.new) (W.has_failed writer.new)
         (reply_text reply now layout.now.framing) result }
 {
-    let reply = answerer.answer(&request_in(layout, buffers.inbox.lent()), now);
-    write_reply(writer, &mut buffers.page, &reply, now, layout.framing)
+    let request = request_in(layout, buffers.inbox.lent());
+    answerer.answer(&request, now, &mut buffers.reply);
+    let written = write_reply(
+        writer,
+        &mut buffers.page,
+        &buffers.reply,
+        now,
+        layout.framing,
+    );
+    buffers.reply.let_go();
+    written
 }
 
 // Makes the step of a PATCH whose body was cut, with the bytes that came. It gets no reply.
-fn apply_cut<A: Answer>(buffers: &Buffers, answerer: &mut A, layout: Layout, now: Moment)
-    requires { IsMessage layout buffers.now.inbox.lent }
-    ensures { (reply : Reply)
-        × A.steps answerer.old (request_at layout buffers.now.inbox.lent) now reply answerer.new }
+fn apply_cut<A: Answer>(buffers: &mut Buffers, answerer: &mut A, layout: Layout, now: Moment)
+    requires { IsMessage layout buffers.old.inbox.lent }
+    ensures inbox { buffers.new.inbox ≡ buffers.old.inbox }
+    ensures step { (reply : Reply)
+        × A.steps answerer.old (request_at layout buffers.old.inbox.lent) now reply answerer.new }
 {
-    let _ = answerer.answer(&request_in(&layout, buffers.inbox.lent()), now);
+    let request = request_in(&layout, buffers.inbox.lent());
+    answerer.answer(&request, now, &mut buffers.reply);
 }

@@ -13,6 +13,7 @@ ghost use Rattle.http_wire.specs.Streams.{streams};
 ghost use Rattle.http_wire.specs.TurnOnWire.{TurnOn};
 ghost use Rattle.http_wire.specs.WireState.{fresh_wire, state_after};
 ghost use Rattle.http_wire.specs.inside.WireModel.{wire_of, IsSound};
+ghost use Rattle.tus_steps.specs.PlacedReply.{reply_in};
 
 use crate::answer::Answer;
 use crate::buffers::Buffers;
@@ -30,7 +31,7 @@ use crate::source::{Sink, Source};
 use crate::write::{write_refusal, write_reply};
 use std::alloc::Global;
 use std::marker::Model;
-use tus_steps::Reply;
+use tus_steps::PlacedReply;
 use upload_book::Moment;
 
 /// What a wire still does.
@@ -186,12 +187,12 @@ impl<R: Source + Drop, W: Sink + Drop> Wire<R, W> {
     /// `WireFault::Failed`.
     pub fn write_reply(
         &mut self,
-        reply: &Reply,
+        reply: &PlacedReply,
         now: Moment,
         framing: Framing,
     ) -> Result<(), WireFault>
         ensures { WritesOn (streams R.remaining R.has_failed W.contents W.has_failed)
-            (reply_text reply.now now framing) self.old self.new result }
+            (reply_text (reply_in reply.now) now framing) self.old self.new result }
     {
         if self.state == State::Failed {
             return Err(WireFault::Failed);

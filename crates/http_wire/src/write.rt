@@ -2,6 +2,7 @@
 ghost use Rattle.std.specs.Prelude.{◌≡◌, ◌++◌, false};
 ghost use Rattle.http_wire.specs.ReplyText.{reply_text, refusal_text};
 ghost use Rattle.http_wire.specs.Writes.{Writes};
+ghost use Rattle.tus_steps.specs.PlacedReply.{reply_in};
 
 pub mod last_date;
 pub mod own_fields;
@@ -16,7 +17,7 @@ use crate::source::Sink;
 use page::{PAGE_SIZE, Page};
 use reply::{content_of, put_refusal, put_reply};
 use send::{put_all, put_both};
-use tus_steps::Reply;
+use tus_steps::PlacedReply;
 use upload_book::Moment;
 
 /// Writes the reply to a message at the message's moment: one page, and after it the bytes of an upload, from
@@ -25,13 +26,13 @@ use upload_book::Moment;
 pub fn write_reply<W: Sink>(
     writer: &mut W,
     page: &mut Page,
-    reply: &Reply,
+    reply: &PlacedReply,
     now: Moment,
     framing: Framing,
 ) -> Result<(), WireFault>
     requires { W.has_failed writer.old ≡ false }
     ensures { Writes (W.contents writer.old) (W.contents writer.new) (W.has_failed writer.new)
-        (reply_text reply.now now framing) result }
+        (reply_text (reply_in reply.now) now framing) result }
 {
     put_reply(page, reply, now, framing);
     write_with(writer, page, content_of(reply, framing))

@@ -13,7 +13,7 @@ use crate::wires::{MemoryWire, assert_end, assert_served, assert_turn, assert_wr
 use http_wire::{Ended, Framing, WireFault, WireRefusal};
 use std::alloc::Global;
 use std::process::Abort;
-use tus_steps::Reply;
+use tus_steps::{PlacedReply, Reply};
 use upload_book::Book;
 
 /// A reader of these bytes, one a read, of which the read after `reads` of them fails.
@@ -45,7 +45,7 @@ fn assert_failed(rt: &impl Abort, what: &str, wire: &mut MemoryWire<'_>, book: &
     assert_end(rt, what, wire, Err(failed));
     let refused = wire.write_refusal(WireRefusal::Head, at(1000), CLOSING);
     assert!(rt; refused == Err(failed), "{what}: a refusal");
-    let replied = wire.write_reply(&Reply::Deleted, at(1000), CLOSING);
+    let replied = wire.write_reply(&PlacedReply::of(Reply::Deleted), at(1000), CLOSING);
     assert!(rt; replied == Err(failed), "{what}: a reply");
 }
 

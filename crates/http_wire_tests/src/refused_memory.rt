@@ -16,7 +16,7 @@ use std::alloc::Global;
 use std::io;
 use std::io::{Print, Read, Write};
 use std::process::Abort;
-use tus_steps::{Reply, answer};
+use tus_steps::{PlacedReply, ReplyKind, answer};
 use upload_book::{Book, Moment, Name, Refusal, Settings};
 
 /// A message, its reply, and what is written in place of that where memory is lacking for its step: nothing where its
@@ -295,7 +295,7 @@ type TurnWire = Wire<Tapped<Messages>, Tapped<Sheet>>;
 /// What a message on a wire is answered with, and how that is framed.
 #[derive(Drop)]
 enum Answer {
-    Reply(Reply, Framing),
+    Reply(PlacedReply, Framing),
     /// No message came.
     Nothing,
 }
@@ -305,7 +305,7 @@ fn answer_of(rt: &impl Abort, wire: &mut TurnWire, book: &mut Book) -> Answer {
     match wire.read_request().expect(rt, "a read") {
         Incoming::Message(message) => {
             let reply = answer(book, &message.request(), at(1000));
-            Answer::Reply(reply, message.framing())
+            Answer::Reply(PlacedReply::of(reply), message.framing())
         }
         _ => Answer::Nothing,
     }
@@ -320,11 +320,22 @@ fn write_answer(rt: &impl Abort, wire: &mut TurnWire, answer: &Answer) {
     assert!(rt; written.is_ok());
 }
 
+// Whether a reply refuses for want of memory.
+fn is_memory(kind: &ReplyKind) -> bool {
+    matches!(
+        kind,
+        ReplyKind::Refused {
+            refusal: Refusal::Memory,
+            ..
+        }
+    )
+}
+
 /// Whether an answer says that memory is lacking.
 fn is_of_memory(answer: &Answer) -> bool {
     match answer {
-        Answer::Reply(Reply::Refused { refusal, .. }, _) => *refusal == Refusal::Memory,
-        _ => false,
+        Answer::Reply(reply, _) => is_memory(&reply.kind),
+        Answer::Nothing => false,
     }
 }
 

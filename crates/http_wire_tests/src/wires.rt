@@ -8,7 +8,7 @@ use http_wire::{
 };
 use std::alloc::Global;
 use std::process::Abort;
-use tus_steps::{Reply, answer};
+use tus_steps::{PlacedReply, answer};
 use upload_book::{Book, Moment};
 
 /// A wire over a reader and a writer in memory.
@@ -79,11 +79,15 @@ pub fn assert_served(
 }
 
 /// What a book answers to the next message on a wire, and how the reply is framed.
-fn answer_of(rt: &impl Abort, wire: &mut MemoryWire<'_>, book: &mut Book) -> (Reply, Framing) {
+fn answer_of(
+    rt: &impl Abort,
+    wire: &mut MemoryWire<'_>,
+    book: &mut Book,
+) -> (PlacedReply, Framing) {
     match wire.read_request().expect(rt, "a read") {
         Incoming::Message(message) => {
             let reply = answer(book, &message.request(), at(1000));
-            (reply, message.framing())
+            (PlacedReply::of(reply), message.framing())
         }
         _ => panic!(rt; "a message was sent"),
     }

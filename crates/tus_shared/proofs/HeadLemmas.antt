@@ -1,5 +1,6 @@
 -- A HEAD as a turn of a desk: it changes nothing.
 use Rattle.std.proofs.Common.{◌≡◌, ℕ, ◌+◌, Bool, true, false, List, Option, Some, None, IfSome, IfNone, Result, Ok, Err, IsErr, length, refl, sym, ap, ap₂, subst, ◌∙◌}
+use Rattle.std.specs.Prelude.{⊤}
 use mathlib.Core.List.{IsPrefix}
 use Rattle.upload_book.specs.declared.head_row.HeadRow.{HeadRow}
 use Rattle.upload_book.specs.declared.head_row.Name.{Name}
@@ -19,7 +20,7 @@ use Rattle.tus_steps.specs.Operation.{operation_of}
 use Rattle.tus_steps.specs.Reply.{head_reply, refusing}
 use Rattle.tus_steps.specs.Request.{Request}
 use Rattle.tus_steps.specs.Step.{IsStep}
-use Rattle.head_board.specs.Board.{ReadsHead}
+use Rattle.head_board.specs.Board.{ReadsHead, row_read}
 use Rattle.head_board.specs.Event.{Event}
 use Rattle.head_board.specs.Events.{HaveHappened, book_at}
 use Rattle.tus_shared.specs.Answers.{Answers, IsRefusedHead, IsUploadHead, MissesBoard, OnlyLooks, OnlySeesMore}
@@ -47,14 +48,15 @@ sees-more s old new same = record {
 }
 
 -- a desk that read the board or missed it only looked at it
-pub looks-at : (s : Settings) (name : Name) (now : ℕ) (row : Option (Result HeadRow Refusal)) (old new : Desk) → IfSome row (ReadsHead s old.seen new.seen name now)
-    → IfSome row (λ (r : Result HeadRow Refusal). OnlySeesMore old new) → IfNone row (MissesBoard old new) → OnlyLooks old new
-looks-at s name now (Some row) old new reads sees misses = record {
+pub looks-at : (s : Settings) (name : Name) (now : ℕ) (read : Option (Result ⊤ Refusal)) (row : HeadRow) (old new : Desk)
+    → IfSome read (λ (r : Result ⊤ Refusal). ReadsHead s old.seen new.seen name now (row_read r row))
+    → IfSome read (λ (r : Result ⊤ Refusal). OnlySeesMore old new) → IfNone read (MissesBoard old new) → OnlyLooks old new
+looks-at s name now (Some read) row old new reads sees misses = record {
   alone = sees ∙ ap (λ (missed : Bool). let desk : Desk = record old { seen = new.seen; missed = missed } in desk) (sym (ap (λ (d : Desk). d.missed) sees));
   begins = reads.begins;
   missed = λ before. ap (λ (d : Desk). d.missed) sees ∙ before;
 }
-looks-at s name now None old new reads sees misses = record {
+looks-at s name now None row old new reads sees misses = record {
   alone =
       misses
       ∙ ap₂ (λ (seen : List Event) (missed : Bool). let desk : Desk = record old { seen = seen; missed = missed } in desk)
@@ -95,13 +97,13 @@ sees-first s r now reply old ready new looks answers =
     }
 
 -- a request that is refused before the book is asked changes nothing, at a desk that has seen what happened
-pub refused-answers : (s : Settings) (r : Request) (now : ℕ) (reply : Reply) (desk : Desk) → asked.Refused reply ≡ asked_in s r → HaveHappened s desk.seen → Answers s r now reply desk desk
-refused-answers s r now reply desk is happened = record {
+pub refused-answers : (s : Settings) (r : Request) (now : ℕ) (why : Refusal) (desk : Desk) → asked.Refused why ≡ asked_in s r → HaveHappened s desk.seen → Answers s r now (refusing r why None) desk desk
+refused-answers s r now why desk is happened = record {
   before = desk.seen;
   begins = prefix-self desk.seen;
   happened = happened;
-  step = refused-step (book_at s desk.seen) r now reply (asked-at s desk.seen r (asked.Refused reply) is);
-  adds = adds-nothing s desk.seen desk.number r now reply (ap change_in (sym is));
+  step = refused-step (book_at s desk.seen) r now why (asked-at s desk.seen r (asked.Refused why) is);
+  adds = adds-nothing s desk.seen desk.number r now (refusing r why None) (ap change_in (sym is));
   moves = record { number = refl; charged = refl; released = refl; made = refl };
 }
 
@@ -116,12 +118,12 @@ no-options method.Options head = absurd (cc head)
 no-options method.Other head = refl
 
 -- a HEAD that is refused before any upload is looked at asks for nothing else
-pub refused-asks : (s : Settings) (r : Request) (asks : Asked) → asks ≡ asked_in s r → IsRefusedHead s r → (told : Reply) × (asks ≡ asked.Refused told)
+pub refused-asks : (s : Settings) (r : Request) (asks : Asked) → asks ≡ asked_in s r → IsRefusedHead s r → (why : Refusal) × (asks ≡ asked.Refused why)
 refused-asks s r asks is head = by_answer (operation_of s r) refl head.refused
   where
-    by_answer : (op : Result Operation Refusal) → operation_of s r ≡ op → IsErr op → (told : Reply) × (asks ≡ asked.Refused told)
+    by_answer : (op : Result Operation Refusal) → operation_of s r ≡ op → IsErr op → (why : Refusal) × (asks ≡ asked.Refused why)
     by_answer (Ok op) found refused = absurd (cc refused)
-    by_answer (Err why) found refused = (refusing r why None, is ∙ rw (no-options r.method head.head, found) refl)
+    by_answer (Err why) found refused = (why, is ∙ rw (no-options r.method head.head, found) refl)
 
 -- a HEAD of an upload asks for what stands of it
 pub head-asks : (s : Settings) (r : Request) (asks : Asked) → asks ≡ asked_in s r → (head : IsUploadHead s r) → asks ≡ asked.Look head.name

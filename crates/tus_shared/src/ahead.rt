@@ -12,15 +12,20 @@ impl<C: Charges, R: Ledger, M: Ledger> Desk<C, R, M> {
     /// Does of what a request asks for what can be done without the lock, so that the lock is held for less. The SHA-1 of a
     /// body is computed where it came with one: that of a PATCH where the heads tell that it will be compared, that of a
     /// creation where its own fields do. For a GET as much memory is reserved as the heads tell that it needs; there may be
-    /// too little. What is asked for stays what it is. It takes no lock, and waits for nobody.
-    pub(crate) fn work_ahead(&mut self, asked: &mut Asked, now: Moment) -> Vec<u8>
+    /// too little. What is asked for stays what it is; a row that is read goes to `row`. It takes no lock, and waits for nobody.
+    pub(crate) fn work_ahead(
+        &mut self,
+        asked: &mut Asked,
+        now: Moment,
+        row: &mut HeadRow,
+    ) -> Vec<u8>
         ensures asked { asked.new ≡ asked.old }
         ensures desk { OnlyLooks self.old self.new }
     {
         match asked {
-            Asked::Content(name) => return self.room_for(name, now),
+            Asked::Content(name) => return self.room_for(name, now, row),
             Asked::Change(asked) => {
-                if self.may_compare(&asked.change, now) {
+                if self.may_compare(&asked.change, now, row) {
                     asked.change.digest();
                 }
             }
@@ -30,11 +35,11 @@ impl<C: Charges, R: Ledger, M: Ledger> Desk<C, R, M> {
     }
 
     // Memory for the bytes of an upload that is complete, as far as the heads tell and there is some.
-    fn room_for(&mut self, name: &Name, now: Moment) -> Vec<u8>
+    fn room_for(&mut self, name: &Name, now: Moment, row: &mut HeadRow) -> Vec<u8>
         ensures { OnlyLooks self.old self.new }
     {
-        let len = match self.read_board(name, now) {
-            Some(Ok(row)) => len_of_whole(&row),
+        let len = match self.read_board(name, now, row) {
+            Some(Ok(())) => len_of_whole(row),
             _ => 0,
         };
         match Vec::with_capacity(self.alloc, len as usize) {
@@ -44,7 +49,7 @@ impl<C: Charges, R: Ledger, M: Ledger> Desk<C, R, M> {
     }
 
     // Whether the bytes of a change may come to be compared with a checksum, as far as can be told without the book.
-    fn may_compare(&mut self, change: &Change, now: Moment) -> bool
+    fn may_compare(&mut self, change: &Change, now: Moment, row: &mut HeadRow) -> bool
         ensures { OnlyLooks self.old self.new }
     {
         match change {
@@ -52,10 +57,8 @@ impl<C: Charges, R: Ledger, M: Ledger> Desk<C, R, M> {
                 may_compare_first(self.settings.numbers().max_size, new, first)
             }
             Change::Append { name, chunk } if chunk.check.is_some() => {
-                match self.read_board(name, now) {
-                    Some(Ok(row)) => chunk
-                        .refusal_by_row(self.settings.numbers(), &row)
-                        .is_none(),
+                match self.read_board(name, now, row) {
+                    Some(Ok(())) => chunk.refusal_by_row(self.settings.numbers(), row).is_none(),
                     _ => false,
                 }
             }

@@ -1,7 +1,8 @@
 ghost use Rattle.std.specs.Prelude.{◌≡◌, ◌⊎◌, ◌≤◌, [], Err, IfNone, IfSome, false, length, true, vec_capacity};
 ghost use Rattle.tus_steps.specs.Changing.{IsFound};
 ghost use Rattle.tus_steps.specs.declared.asked.Asked.TheVariants as asks;
-ghost use Rattle.head_board.specs.Board.{ReadsHead, SeesNoneExpired};
+ghost use Rattle.tus_steps.specs.PlacedReply.{reply_in};
+ghost use Rattle.head_board.specs.Board.{ReadsHead, SeesNoneExpired, row_read};
 ghost use Rattle.tus_shared.specs.Answers.{Answers, AnswersBatch, AnswersTurn, MissesBoard, OnlySeesMore, SeesHead, Sweeps};
 ghost use Rattle.upload_book.specs.declared.refusal.Refusal.TheVariants.{Board, Unknown};
 
@@ -14,7 +15,7 @@ use std::alloc::Global;
 use std::marker::Model;
 use std::sync::Wait;
 use std::sync::ledger::{Ledger, Share};
-use tus_steps::{Asked, PartIds, Reply, Request, asked_of, head_reply};
+use tus_steps::{Asked, PartIds, PlacedReply, Reply, ReplyKind, Request, asked_of};
 use upload_book::{HeadRow, Moment, Name, Refusal, Settings, Swept};
 
 /// One of the desks that an opening gives, at which one thread answers its requests. It counts in three shares how many
@@ -74,7 +75,9 @@ impl<C: Charges, R: Ledger, M: Ledger> Desk<C, R, M> {
     {
         let mut ids = PartIds::new();
         let asked = asked_of(&self.settings, request, &mut ids);
-        self.answer_locked(rt, shared, request, asked, now, 0, &NoGate)
+        let mut reply = PlacedReply::new();
+        self.answer_locked(rt, shared, request, asked, now, 0, &NoGate, &mut reply);
+        reply.into_reply()
     }
 
     /// Takes the lock for a sweep at this moment ([`crate::Store::sweep`]), and tells what it ended. It may wait for other
@@ -101,23 +104,27 @@ impl<C: Charges, R: Ledger, M: Ledger> Desk<C, R, M> {
         ensures no_tenant { length C.settings.tenants ≤ name.now.tenant
             → (result ≡ Err Unknown) ⊎ (result ≡ Err Board) }
     {
-        let Some(row) = self.read_board(name, now) else {
-            return Err(Refusal::Board);
-        };
-        row
+        let mut row = HeadRow::empty();
+        match self.read_board(name, now, &mut row) {
+            Some(Ok(())) => Ok(row),
+            Some(Err(refusal)) => Err(refusal),
+            None => Err(Refusal::Board),
+        }
     }
 
-    // What the board tells of an upload; nothing, where the desk has missed it.
+    // Reads what the board tells of an upload: its row, which is put to `row`, or why there is none; nothing, where the desk
+    // has missed it.
     pub(crate) fn read_board(
         &mut self,
         name: &Name,
         now: Moment,
-    ) -> Option<Result<HeadRow, Refusal>>
-        ensures reads { IfSome result (ReadsHead C.settings self.old.seen self.new.seen name.now now) }
-        ensures sees { IfSome result (λ row. OnlySeesMore self.old self.new) }
+        row: &mut HeadRow,
+    ) -> Option<Result<(), Refusal>>
+        ensures reads { IfSome result (λ read. ReadsHead C.settings self.old.seen self.new.seen name.now now (row_read read row.new)) }
+        ensures sees { IfSome result (λ read. OnlySeesMore self.old self.new) }
         ensures misses { IfNone result (MissesBoard self.old self.new) }
     {
-        self.reader.look(name, now)
+        self.reader.look(name, now, row)
     }
 
     /// Whether an upload may have expired at this moment, by what the board shows. If not, none has after events that begin
@@ -145,13 +152,30 @@ impl<C: Charges, R: Ledger, M: Ledger> Desk<C, R, M> {
     ) -> Reply
         ensures { AnswersTurn C.settings request.now now result self.old self.new }
     {
-        gate.pass(self.number, turn, Stop::Before);
-        let reply = self.reply_to(rt, shared, request, now, turn, gate);
-        gate.pass(self.number, turn, Stop::Answered);
-        reply
+        let mut reply = PlacedReply::new();
+        self.answer_in_place(rt, shared, request, now, turn, gate, &mut reply);
+        reply.into_reply()
     }
 
-    // The reply to a turn, without the first stop and the last.
+    /// The same, with the reply put to its place.
+    pub fn answer_in_place<W: Wait, B: Wait + Drop, G: Gate>(
+        &mut self,
+        rt: &W,
+        shared: &Shared<C, R, M, B>,
+        request: &Request,
+        now: Moment,
+        turn: usize,
+        gate: &G,
+        reply: &mut PlacedReply,
+    )
+        ensures { AnswersTurn C.settings request.now now (reply_in reply.new) self.old self.new }
+    {
+        gate.pass(self.number, turn, Stop::Before);
+        self.reply_to(rt, shared, request, now, turn, gate, reply);
+        gate.pass(self.number, turn, Stop::Answered);
+    }
+
+    // Replies to a turn, without the first stop and the last.
     fn reply_to<W: Wait, B: Wait + Drop, G: Gate>(
         &mut self,
         rt: &W,
@@ -160,18 +184,23 @@ impl<C: Charges, R: Ledger, M: Ledger> Desk<C, R, M> {
         now: Moment,
         turn: usize,
         gate: &G,
-    ) -> Reply
-        ensures { AnswersTurn C.settings request.now now result self.old self.new }
+        reply: &mut PlacedReply,
+    )
+        ensures { AnswersTurn C.settings request.now now (reply_in reply.new) self.old self.new }
     {
         let mut ids = PartIds::new();
         match asked_of(&self.settings, request, &mut ids) {
-            Asked::Look(name) => self.reply_to_head(rt, shared, request, name, now, turn, gate),
-            Asked::Refused(reply) if request.method.is_head() => reply,
-            asked => self.answer_locked(rt, shared, request, asked, now, turn, gate),
+            Asked::Look(name) => {
+                self.reply_to_head(rt, shared, request, name, now, turn, gate, reply);
+            }
+            Asked::Refused(refusal) if request.method.is_head() => {
+                reply.refuse(request, refusal, None);
+            }
+            asked => self.answer_locked(rt, shared, request, asked, now, turn, gate, reply),
         }
     }
 
-    // The reply to a HEAD of an upload: from the board, or with the lock where the desk has missed that.
+    // Replies to a HEAD of an upload: from the board, or with the lock where the desk has missed that.
     fn reply_to_head<W: Wait, B: Wait + Drop, G: Gate>(
         &mut self,
         rt: &W,
@@ -181,21 +210,23 @@ impl<C: Charges, R: Ledger, M: Ledger> Desk<C, R, M> {
         now: Moment,
         turn: usize,
         gate: &G,
-    ) -> Reply
+        reply: &mut PlacedReply,
+    )
         requires found { IsFound C.settings request.now (asks.Look name) }
-        ensures answers { Answers C.settings request.now now result self.old self.new }
+        ensures answers { Answers C.settings request.now now (reply_in reply.new) self.old self.new }
         ensures beside { (self.new.steps ≡ self.old.steps) ⊎ (self.new.missed ≡ true) }
     {
-        match self.read_board(&name, now) {
-            Some(row) => head_reply(row),
+        match self.read_board(&name, now, &mut reply.row) {
+            Some(Ok(())) => reply.kind = ReplyKind::Head,
+            Some(Err(refusal)) => reply.refuse_head(refusal),
             None => {
                 let asked = Asked::Look(name);
-                self.answer_locked(rt, shared, request, asked, now, turn, gate)
+                self.answer_locked(rt, shared, request, asked, now, turn, gate, reply);
             }
         }
     }
 
-    // The reply to what a turn asks for, with the lock. What can be done without it is done before it is taken.
+    // Replies to what a turn asks for, with the lock. What can be done without it is done before it is taken.
     fn answer_locked<W: Wait, B: Wait + Drop, G: Gate>(
         &mut self,
         rt: &W,
@@ -205,13 +236,14 @@ impl<C: Charges, R: Ledger, M: Ledger> Desk<C, R, M> {
         now: Moment,
         turn: usize,
         gate: &G,
-    ) -> Reply
+        reply: &mut PlacedReply,
+    )
         requires found { IsFound C.settings request.now asked }
-        ensures answers { Answers C.settings request.now now result self.old self.new }
+        ensures answers { Answers C.settings request.now now (reply_in reply.new) self.old self.new }
         ensures missed { self.old.missed ≡ true → self.new.missed ≡ true }
     {
-        let room = self.work_ahead(&mut asked, now);
-        self.step_locked(rt, shared, request, asked, room, now, turn, gate)
+        let room = self.work_ahead(&mut asked, now, &mut reply.row);
+        self.step_locked(rt, shared, request, asked, room, now, turn, gate, reply);
     }
 
     // The step of a turn, with the lock.
@@ -225,14 +257,15 @@ impl<C: Charges, R: Ledger, M: Ledger> Desk<C, R, M> {
         now: Moment,
         turn: usize,
         gate: &G,
-    ) -> Reply
+        reply: &mut PlacedReply,
+    )
         requires found { IsFound C.settings request.now asked }
-        ensures answers { Answers C.settings request.now now result self.old self.new }
+        ensures answers { Answers C.settings request.now now (reply_in reply.new) self.old self.new }
         ensures missed { self.new.missed ≡ self.old.missed }
     {
         let mut store = shared.store.lock(rt);
         gate.pass(self.number, turn, Stop::Locked);
-        store.step(self, request, asked, room, now)
+        store.step(self, request, asked, room, now, reply);
     }
 
     // Answers the turns of a batch, one after another, and gives their replies in a list that has room for

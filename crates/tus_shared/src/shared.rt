@@ -16,7 +16,7 @@ use head_board::{Board, Opened};
 use std::alloc::Global;
 use std::sync::ledger::{Blank, Ledger};
 use std::sync::{Mutex, Wait};
-use upload_book::{Book, Settings};
+use upload_book::{Book, HeadRow, Settings};
 
 /// The most desks of one opening.
 pub const DESKS_MAX: usize = 16;
@@ -167,7 +167,10 @@ fn open_desks<C: Charges, R: Ledger, M: Ledger, B: Wait + Drop>(
         return Err(OpenFault::Memory);
     };
     for number in 0..count {
-        let Ok(reader) = board.reader() else {
+        let Ok(row) = Box::new(alloc, HeadRow::empty()) else {
+            return Err(OpenFault::Memory);
+        };
+        let Ok(reader) = board.reader(row) else {
             return Err(OpenFault::Board);
         };
         desks.push_reserved(Desk {

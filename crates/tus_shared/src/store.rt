@@ -3,6 +3,7 @@ ghost use mathlib.Core.List.{IsPrefix};
 ghost use Rattle.head_board.specs.Events.{HaveHappened, IsLineOf, book_at, event_of};
 ghost use Rattle.tus_steps.specs.Changing.{IsFound};
 ghost use Rattle.tus_steps.specs.declared.asked.Asked.TheVariants as asks;
+ghost use Rattle.tus_steps.specs.PlacedReply.{reply_in};
 ghost use Rattle.tus_steps.specs.Step.{IsContentReply, IsStep};
 ghost use Rattle.tus_shared.specs.Desk.{Moves, next_count};
 ghost use Rattle.tus_shared.specs.Headline.{Headline};
@@ -21,7 +22,7 @@ use head_board::{Board, Coming};
 use std::marker::Model;
 use std::sync::Wait;
 use std::sync::ledger::Ledger;
-use tus_steps::{Asked, Reply, Request, answer_asked, change_reply};
+use tus_steps::{Asked, PlacedReply, Request, answer_asked};
 use upload_book::{Book, Change, Moment, Outcome, Ready, Refused, Swept};
 
 /// What stands behind the lock: the book, the board that shows its heads, and the books of three ledgers, whose totals
@@ -75,30 +76,31 @@ impl<C: Charges, R: Ledger, M: Ledger, B: Wait + Drop> Store<C, R, M, B> {
         asked: Asked,
         room: Vec<u8>,
         now: Moment,
-    ) -> Reply
+        reply: &mut PlacedReply,
+    )
         requires found { IsFound C.settings request.now asked }
         ensures happened { HaveHappened C.settings self.old }
         ensures stays_happened { HaveHappened C.settings self.new }
         ensures lawful { IsLawful (book_at C.settings self.old) }
         ensures stays_lawful { IsLawful (book_at C.settings self.new) }
         ensures begins { IsPrefix desk.old.seen self.old }
-        ensures step { IsStep (book_at C.settings self.old) request.now now result (book_at C.settings self.new) }
-        ensures adds { AddsChange C.settings self.old desk.old.number request.now now result self.new }
+        ensures step { IsStep (book_at C.settings self.old) request.now now (reply_in reply.new) (book_at C.settings self.new) }
+        ensures adds { AddsChange C.settings self.old desk.old.number request.now now (reply_in reply.new) self.new }
         ensures moves { Moves C.settings self.old self.new desk.old desk.new }
         ensures seen { desk.new.seen ≡ self.new }
         ensures counted { desk.new.steps ≡ next_count desk.old.steps }
         ensures missed { desk.new.missed ≡ desk.old.missed }
         ensures room { (name : Name) → asked.entry ≡ asks.Content name
-            → IsContentReply (book_at C.settings self.old) request.now now name (vec_capacity room) result }
+            → IsContentReply (book_at C.settings self.old) request.now now name (vec_capacity room) (reply_in reply.new) }
     {
         self.begin(desk);
         match asked {
             Asked::Change(asked) => {
                 let offset = asked.offset;
                 let outcome = self.make(desk, asked.change, now);
-                change_reply(request, offset, outcome)
+                reply.put_change(request, offset, outcome);
             }
-            asked => answer_asked(self.headline(), request, asked, now, room),
+            asked => answer_asked(self.headline(), request, asked, now, room, reply),
         }
     }
 

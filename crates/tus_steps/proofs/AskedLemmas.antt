@@ -42,7 +42,7 @@ found-options s r options = record {
 }
 
 -- one that is refused before the book is asked,
-pub found-refused : (s : Settings) (r : Request) (why : Refusal) → is_options r.method ≡ false → operation_of s r ≡ Err why → IsFound s r (asked.Refused (refusing r why None))
+pub found-refused : (s : Settings) (r : Request) (why : Refusal) → is_options r.method ≡ false → operation_of s r ≡ Err why → IsFound s r (asked.Refused why)
 found-refused s r why other asks = record {
   is = rw (other, asks) refl;
   ready = tt;
@@ -60,7 +60,7 @@ found-asked s r op other asks ready = record {
 -- what is no change has none
 pub asks-none : (asks : Asked) → ((change : ChangeOf) → asks ≡ asked.Change change → ⊥) → change_in asks ≡ None
 asks-none asked.Options other = refl
-asks-none (asked.Refused told) other = refl
+asks-none (asked.Refused why) other = refl
 asks-none (asked.Look name) other = refl
 asks-none (asked.Content name) other = refl
 asks-none (asked.Change change) other = absurd (other change refl)
@@ -68,13 +68,13 @@ asks-none (asked.Change change) other = absurd (other change refl)
 -- What a request asks for, by its operation: one for a change is none of the others.
 abbrev pub IsAsked : Settings → Request → Asked → Type 0
 IsAsked s r asked.Options = is_options r.method ≡ true
-IsAsked s r (asked.Refused told) = (is_options r.method ≡ false) × (why : Refusal) × (operation_of s r ≡ Err why) × (told ≡ refusing r why None)
+IsAsked s r (asked.Refused why) = (is_options r.method ≡ false) × (operation_of s r ≡ Err why)
 IsAsked s r (asked.Look name) = (is_options r.method ≡ false) × (operation_of s r ≡ Ok (operation.Look name))
 IsAsked s r (asked.Content name) = (is_options r.method ≡ false) × (operation_of s r ≡ Ok (operation.Content name))
 IsAsked s r (asked.Change change) = is_options r.method ≡ false
 
-asks-by : (s : Settings) (r : Request) (asks : Result Operation Refusal) → is_options r.method ≡ false → operation_of s r ≡ asks → IsAsked s r (asked_by r asks)
-asks-by s r (Err why) other is = (other, why, is, refl)
+asks-by : (s : Settings) (r : Request) (asks : Result Operation Refusal) → is_options r.method ≡ false → operation_of s r ≡ asks → IsAsked s r (asked_by asks)
+asks-by s r (Err why) other is = (other, is)
 asks-by s r (Ok (operation.Create tenant new)) other is = other
 asks-by s r (Ok (operation.CreateWith tenant new first)) other is = other
 asks-by s r (Ok (operation.Concat tenant new)) other is = other
@@ -89,7 +89,7 @@ asks-in s r asks is = elim (cases_Bool (is_options r.method)) [
       let found : asked_in s r ≡ asked.Options = rw options refl in
       subst (IsAsked s r) (sym (is ∙ found)) options
   | inr other ↦
-      let found : asked_in s r ≡ asked_by r (operation_of s r) = rw other refl in
+      let found : asked_in s r ≡ asked_by (operation_of s r) = rw other refl in
       subst (IsAsked s r) (sym (is ∙ found)) (asks-by s r (operation_of s r) other refl)
 ]
 
@@ -105,10 +105,10 @@ module _ (b : PlainBook) (r : Request) (now : ℕ) where
   options-step is = let options = asks-in b.settings r asked.Options is in rw options (refl, refl)
 
   -- one that is refused,
-  pub refused-step : (told : Reply) → asked.Refused told ≡ asked_in b.settings r → IsStep b r now told b
-  refused-step told is =
-      let asks = asks-in b.settings r (asked.Refused told) is in
-      rw (asks.0, asks.2) (asks.3, refl)
+  pub refused-step : (why : Refusal) → asked.Refused why ≡ asked_in b.settings r → IsStep b r now (refusing r why None) b
+  refused-step why is =
+      let asks = asks-in b.settings r (asked.Refused why) is in
+      rw (asks.0, asks.1) (refl, refl)
 
   -- a HEAD,
   pub look-step : (name : Name) → asked.Look name ≡ asked_in b.settings r → IsStep b r now (head_reply (answer_of b name.tenant (look_answer name.id now))) b

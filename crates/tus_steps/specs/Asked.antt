@@ -12,7 +12,6 @@ use Rattle.tus_steps.specs.declared.asked.Asked.TheVariants.{Options, Refused, L
 use Rattle.tus_steps.specs.declared.requested_change.ChangeOf.{ChangeOf}
 use Rattle.tus_steps.specs.Method.{is_options}
 use Rattle.tus_steps.specs.Operation.{operation_of}
-use Rattle.tus_steps.specs.Reply.{refusing}
 use Rattle.tus_steps.specs.Request.{Request}
 
 -- what an operation is: a creation that carries nothing has no first bytes, and its reply does not tell how many there are
@@ -27,13 +26,13 @@ asked_for (operation.Append name chunk) = Change (record { change = change.Appen
 asked_for (operation.Terminate name) = Change (record { change = change.Terminate name; offset = None })
 
 -- the same of a request for an operation, or for none for this reason
-abbrev pub asked_by : Request → Result Operation Refusal → Asked
-asked_by r (Ok op) = asked_for op
-asked_by r (Err why) = Refused (refusing r why None)
+abbrev pub asked_by : Result Operation Refusal → Asked
+asked_by (Ok op) = asked_for op
+asked_by (Err why) = Refused why
 
 -- what a request asks for under these settings
 abbrev pub asked_in : Settings → Request → Asked
-asked_in s r = if is_options r.method then Options else asked_by r (operation_of s r)
+asked_in s r = if is_options r.method then Options else asked_by (operation_of s r)
 
 -- the change that is asked for, if it is one
 abbrev pub change_in : Asked → Option ChangeOf

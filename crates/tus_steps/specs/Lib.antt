@@ -7,6 +7,7 @@ pub mod Route
 pub mod Creation
 pub mod Operation
 pub mod Reply
+pub mod PlacedReply
 pub mod Step
 pub mod Asked
 pub mod Changing

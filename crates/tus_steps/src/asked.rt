@@ -3,25 +3,25 @@ ghost use Rattle.tus_steps.specs.Asked.{asked_for as asked_for_operation, asked_
 ghost use Rattle.tus_steps.specs.Changing.{IsFound};
 ghost use Rattle.tus_steps.specs.declared.asked.Asked.TheVariants as asks;
 ghost use Rattle.tus_steps.specs.Operation.{CanBeAsked};
+ghost use Rattle.tus_steps.specs.PlacedReply.{reply_in};
 ghost use Rattle.tus_steps.specs.Step.{IsContentReply, IsStep};
 ghost use Rattle.upload_book.specs.Book.{plain_of};
 ghost use Rattle.upload_book.specs.Change.{CanBeMade};
 ghost use Rattle.upload_book.specs.declared.head_row.Name.{Name};
 
 use crate::creation::PartIds;
-use crate::head::head_reply;
-use crate::reply::Reply;
+use crate::placed_reply::{PlacedReply, ReplyKind};
 use crate::request::Request;
 use crate::requested_change::ChangeOf;
-use upload_book::{Book, Change, FirstChunk, Moment, Name, Operation, Settings};
+use upload_book::{Book, Change, FirstChunk, Moment, Name, Operation, Refusal, Settings};
 
 /// What a request asks for, as it is found before any book is at hand.
 #[derive(Drop)]
 pub enum Asked<'a> {
     /// To be told what the server can do.
     Options,
-    /// Nothing: it is refused before the book is asked, with this reply.
-    Refused(Reply),
+    /// Nothing: it is refused before the book is asked.
+    Refused(Refusal),
     /// To see what stands of the upload of this name, which may not be there: it is a HEAD.
     Look(Name),
     /// The bytes of the upload of this name, which may not be there: it is a GET.
@@ -51,7 +51,7 @@ where
     }
     match request.operation(settings, ids) {
         Ok(operation) => asked_for(operation),
-        Err(refusal) => Asked::Refused(Reply::refusing(request, refusal, None)),
+        Err(refusal) => Asked::Refused(refusal),
     }
 }
 
@@ -89,20 +89,22 @@ pub fn answer_asked(
     asked: Asked,
     now: Moment,
     room: Vec<u8>,
-) -> Reply
+    reply: &mut PlacedReply,
+)
     requires found { asked ≡ asked_in (plain_of book.now).settings request.now }
     requires stays { change_in asked ≡ None }
-    ensures step { IsStep (plain_of book.now) request.now now result (plain_of book.now) }
+    ensures step { IsStep (plain_of book.now) request.now now (reply_in reply.new) (plain_of book.now) }
     ensures room { (name : Name) → asked.entry ≡ asks.Content name
-        → IsContentReply (plain_of book.now) request.now now name (vec_capacity room) result }
+        → IsContentReply (plain_of book.now) request.now now name (vec_capacity room) (reply_in reply.new) }
 {
     match asked {
-        Asked::Options => Reply::Options {
-            max_size: book.settings().numbers().max_size,
-        },
-        Asked::Refused(reply) => reply,
-        Asked::Look(name) => head_reply(book.look(&name, now)),
-        Asked::Content(name) => Reply::to_content(request, book.content(&name, now, room)),
+        Asked::Options => {
+            let max_size = book.settings().numbers().max_size;
+            reply.kind = ReplyKind::Options { max_size };
+        }
+        Asked::Refused(refusal) => reply.refuse(request, refusal, None),
+        Asked::Look(name) => reply.put_head(book.look_lent(&name, now)),
+        Asked::Content(name) => reply.put_content(request, book.content(&name, now, room)),
         Asked::Change(_) => unreachable!("a change is made, and not only answered"),
     }
 }

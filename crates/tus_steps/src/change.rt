@@ -6,6 +6,7 @@ ghost use Rattle.upload_book.specs.PlainBook.{PlainBook};
 
 use crate::asked::{Asked, asked_of};
 use crate::creation::PartIds;
+use crate::placed_reply::PlacedReply;
 use crate::reply::Reply;
 use crate::request::Request;
 use crate::requested_change::ChangeOf;
@@ -44,10 +45,7 @@ pub fn change_reply(
 ) -> Reply
     ensures { result ≡ reply_to request.now offset outcome }
 {
-    match outcome {
-        Ok(Outcome::Created(created)) => Reply::to_creation(request, offset, Ok(created)),
-        Ok(Outcome::Appended(appended)) => Reply::to_append(request, Ok(appended)),
-        Ok(Outcome::Removed(_)) | Ok(Outcome::Swept(_)) => Reply::Deleted,
-        Err(refused) => Reply::refusing(request, refused.refusal, refused.expires),
-    }
+    let mut reply = PlacedReply::new();
+    reply.put_change(request, offset, outcome);
+    reply.into_reply()
 }

@@ -1,6 +1,6 @@
 use crate::request::Request;
-use tus_text::{Tenant, Text};
-use upload_book::{Appended, Content, Created, HeadRow, Moment, Refusal, Refused};
+use tus_text::Tenant;
+use upload_book::{Content, HeadRow, Moment, Refusal};
 
 /// What the path of a request names, as far as a reply tells it.
 #[derive(Clone, Copy, Debug, PartialEq, Eq)]
@@ -57,7 +57,7 @@ pub enum Reply {
 
 impl Reply {
     ghost use Rattle.std.specs.Prelude.{◌≡◌};
-    ghost use Rattle.tus_steps.specs.Reply.{refusing, creation_reply, content_reply, append_reply};
+    ghost use Rattle.tus_steps.specs.Reply.{refusing};
 
     /// The reply that refuses the request, and tells when its upload expires.
     pub fn refusing(request: &Request, refusal: Refusal, expires: Option<Moment>) -> Reply
@@ -68,48 +68,6 @@ impl Reply {
             head: request.method.is_head(),
             place: request.place(),
             expires,
-        }
-    }
-
-    /// The reply to a creation, which tells this offset.
-    pub fn to_creation(
-        request: &Request,
-        offset: Option<u64>,
-        outcome: Result<Created, Refusal>,
-    ) -> Reply
-        ensures { result ≡ creation_reply request.now offset outcome }
-    {
-        match outcome {
-            Ok(created) => Reply::Created {
-                tenant: request.tenant_name().map_or(Text::empty(), Text::copied),
-                id: created.name.id,
-                offset,
-                expires: created.expires,
-            },
-            Err(refusal) => Reply::refusing(request, refusal, None),
-        }
-    }
-
-    /// The reply to a GET.
-    pub fn to_content(request: &Request, outcome: Result<Content, Refusal>) -> Reply
-        ensures { result ≡ content_reply request.now outcome }
-    {
-        match outcome {
-            Ok(content) => Reply::Content(content),
-            Err(refusal) => Reply::refusing(request, refusal, None),
-        }
-    }
-
-    /// The reply to a PATCH.
-    pub fn to_append(request: &Request, outcome: Result<Appended, Refused>) -> Reply
-        ensures { result ≡ append_reply request.now outcome }
-    {
-        match outcome {
-            Ok(appended) => Reply::Patched {
-                offset: appended.offset,
-                expires: appended.expires,
-            },
-            Err(refused) => Reply::refusing(request, refused.refusal, refused.expires),
         }
     }
 }

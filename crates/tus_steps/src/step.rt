@@ -2,12 +2,13 @@ ghost use Rattle.std.specs.Prelude.{◌≡◌, Err, IfErr, IfOk, Ok, OnErr, OnOk
 ghost use Rattle.upload_book.specs.Book.{plain_of};
 ghost use Rattle.upload_book.specs.Change.{CanBeMade, MayLackFor, book_after_change, change_answer, change_lacking};
 ghost use Rattle.upload_book.specs.Refusal.{IsAnswer};
+ghost use Rattle.tus_steps.specs.PlacedReply.{reply_in};
 ghost use Rattle.tus_steps.specs.Reply.{IsRefusing};
 ghost use Rattle.tus_steps.specs.Step.{IsStep};
 
 use crate::asked::{Asked, answer_asked, asked_of};
-use crate::change::change_reply;
 use crate::creation::PartIds;
+use crate::placed_reply::PlacedReply;
 use crate::reply::Reply;
 use crate::request::Request;
 use upload_book::{Book, Change, Moment, Outcome, Refused};
@@ -21,14 +22,25 @@ pub fn answer(book: &mut Book, request: &Request, now: Moment) -> Reply
     ensures refused { IsRefusing result → book.new ≡ book.old }
     ensures settings { (plain_of book.new).settings ≡ (plain_of book.old).settings }
 {
+    let mut reply = PlacedReply::new();
+    answer_in_place(book, request, now, &mut reply);
+    reply.into_reply()
+}
+
+/// The same, with the reply put to its place.
+pub fn answer_in_place(book: &mut Book, request: &Request, now: Moment, reply: &mut PlacedReply)
+    ensures step { IsStep (plain_of book.old) request.now now (reply_in reply.new) (plain_of book.new) }
+    ensures refused { IsRefusing (reply_in reply.new) → book.new ≡ book.old }
+    ensures settings { (plain_of book.new).settings ≡ (plain_of book.old).settings }
+{
     let mut ids = PartIds::new();
     match asked_of(book.settings(), request, &mut ids) {
         Asked::Change(asked) => {
             let offset = asked.offset;
             let outcome = make(book, asked.change, now);
-            change_reply(request, offset, outcome)
+            reply.put_change(request, offset, outcome);
         }
-        asked => answer_asked(book, request, asked, now, book.no_room()),
+        asked => answer_asked(book, request, asked, now, book.no_room(), reply),
     }
 }
 

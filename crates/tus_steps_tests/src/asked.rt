@@ -6,15 +6,16 @@ use std::process::Abort;
 use std::test::Fail;
 use tus_steps::Field::{Absent, One};
 use tus_steps::{
-    Asked, ChangeOf, Method, PartIds, Reply, Request, TusFields, answer, answer_asked, asked_of,
+    Asked, ChangeOf, Method, PartIds, PlacedReply, Reply, Request, TusFields, answer, answer_asked,
+    asked_of,
 };
 use upload_book::{Book, Change, Moment, Name, Refusal, Settings};
 
-/// What `asked_of` finds, with a reply as what it tells, and a change as which it is.
+/// What `asked_of` finds, with a change as which it is.
 #[derive(Clone, Copy, PartialEq, Eq)]
-enum Found<'a> {
+enum Found {
     Options,
-    Refused(Told<'a>),
+    Refused(Refusal),
     Look(Name),
     Content(Name),
     /// With the offset that its reply tells.
@@ -26,17 +27,17 @@ enum Found<'a> {
     Sweep,
 }
 
-fn found_by<'a>(asked: &'a Asked) -> Found<'a> {
+fn found_by(asked: &Asked) -> Found {
     match asked {
         Asked::Options => Found::Options,
-        Asked::Refused(reply) => Found::Refused(told_by(reply)),
+        Asked::Refused(refusal) => Found::Refused(*refusal),
         Asked::Look(name) => Found::Look(*name),
         Asked::Content(name) => Found::Content(*name),
         Asked::Change(asked) => change_by(asked),
     }
 }
 
-fn change_by<'a>(asked: &ChangeOf) -> Found<'a> {
+fn change_by(asked: &ChangeOf) -> Found {
     match &asked.change {
         Change::Create { .. } => Found::Create(asked.offset),
         Change::Concat { new, .. } => Found::Concat(new.parts.len()),
@@ -56,7 +57,7 @@ static FOUND: [(Sent, Found); 9] = [
     ),
     (
         sent!(Post b"/files/acme" [] b""),
-        Found::Refused(Told::Refused(Refusal::Field, None)),
+        Found::Refused(Refusal::Field),
     ),
     (HEAD, Found::Look(FIRST)),
     (
@@ -103,7 +104,11 @@ fn reply_to(book: &Book, request: &Request, now: Moment) -> Option<Reply> {
     let mut ids = PartIds::new();
     match asked_of(book.settings(), request, &mut ids) {
         Asked::Change(_) => None,
-        asked => Some(answer_asked(book, request, asked, now, book.no_room())),
+        asked => {
+            let mut reply = PlacedReply::new();
+            answer_asked(book, request, asked, now, book.no_room(), &mut reply);
+            Some(reply.into_reply())
+        }
     }
 }
 

@@ -6,7 +6,7 @@ use http_wire::Answer;
 use std::sync::Wait;
 use std::sync::ledger::Ledger;
 use tus_shared::{Charges, Desk, Gate, Shared};
-use tus_steps::{Reply, Request};
+use tus_steps::{PlacedReply, Request};
 use upload_book::Moment;
 
 /// A desk, as what answers the requests of one connection. Uploads that have expired are ended before a request is answered
@@ -76,13 +76,13 @@ impl<'a, C: Charges, R: Ledger, M: Ledger, W: Wait, B: Wait + Drop, G: Gate> Ans
         self.desk.settings().numbers().max_size
     }
 
-    fn answer(&mut self, request: &Request, now: Moment) -> Reply {
+    fn answer(&mut self, request: &Request, now: Moment, reply: &mut PlacedReply) {
         if !request.method.is_head() {
             self.sweep_once(now);
         }
         let turn = self.turn;
         self.turn = turn.saturating_add(1);
         self.desk
-            .answer(self.rt, self.shared, request, now, turn, self.gate)
+            .answer_in_place(self.rt, self.shared, request, now, turn, self.gate, reply);
     }
 }

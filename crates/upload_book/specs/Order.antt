@@ -9,7 +9,7 @@ abbrev pub order : List (List ℕ)
 order =
     codes "head-size"  -- the head has more than 16,384 bytes, line ends before it included, or more than 64 lines of fields
     ∷ codes "head"  -- it is no head of a request with at most 64 fields
-    ∷ codes "memory"  -- its fields find no memory
+    ∷ codes "memory"  -- its fields find no memory; never answered, since no head takes memory
     ∷ codes "host"  -- HTTP/1.1 without Host, or two or more Host fields
     ∷ codes "coding"  -- there is a Transfer-Encoding
     ∷ codes "content-length"  -- two or more Content-Length fields, or one that is no number

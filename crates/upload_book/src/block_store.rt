@@ -23,7 +23,8 @@ ghost use Rattle.upload_book.specs.TenantBook.{visible_upload, with_new};
 ghost use Rattle.upload_book.specs.Upload.{content_of, head_row_of, offset_of};
 
 use crate::create::NewUpload;
-use crate::head_row::{HeadRow, Name};
+use crate::head_row::Name;
+use crate::lent_row::LentRow;
 use crate::moment::Moment;
 use crate::parts_seen::PartsSeen;
 use crate::piece::UnheldPiece;
@@ -218,8 +219,8 @@ impl BlockStore {
         self.stored_tenants[tenant].uploads[place].expires()
     }
 
-    /// What a HEAD tells of the upload at a place.
-    pub(crate) fn head_row(&self, tenant: usize, place: usize) -> HeadRow
+    /// What a HEAD tells of the upload at a place, whose texts are lent.
+    pub(crate) fn head_row(&self, tenant: usize, place: usize) -> LentRow<'_>
         requires tenant { tenant < length self.now.stored_tenants }
         requires place { place < length (stored_tenant_at self.now tenant).uploads }
         ensures { result ≡ head_row_of (upload_at self.now tenant place) }

@@ -90,7 +90,7 @@ impl<'a> LentRow<'a> {
     }
 
     /// The row with texts of its own, which are copied.
-    pub(crate) fn copied(&self) -> HeadRow
+    pub fn copied(&self) -> HeadRow
         ensures { result ≡ self.now }
     {
         HeadRow {
@@ -101,5 +101,49 @@ impl<'a> LentRow<'a> {
             concat: Text::of(self.concat),
             expires: self.growth.expires,
         }
+    }
+}
+
+impl HeadRow {
+    /// A row of nothing: a place for the rows to come.
+    pub fn empty() -> HeadRow {
+        HeadRow {
+            kind: Kind::Plain,
+            offset: 0,
+            declared: None,
+            metadata: Text::empty(),
+            concat: Text::empty(),
+            expires: None,
+        }
+    }
+
+    /// The same row, whose texts are lent.
+    pub fn lent(&self) -> LentRow<'_>
+        ensures { result ≡ self.now }
+    {
+        let growth = Growth {
+            offset: self.offset,
+            declared: self.declared,
+            expires: self.expires,
+        };
+        LentRow::new(
+            self.kind,
+            growth,
+            self.metadata.as_slice(),
+            self.concat.as_slice(),
+        )
+    }
+
+    /// Becomes this row. Of the texts it copies the bytes that are used, to where its own lie.
+    pub fn set(&mut self, row: &LentRow)
+        ensures { self.new ≡ row.now }
+    {
+        let growth = row.growth();
+        self.kind = row.kind();
+        self.offset = growth.offset;
+        self.declared = growth.declared;
+        self.metadata.set(row.metadata());
+        self.concat.set(row.concat());
+        self.expires = growth.expires;
     }
 }

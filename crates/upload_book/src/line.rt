@@ -106,7 +106,8 @@ impl Book {
         let _in_range = self.settings.numbers();
         let before = self
             .store
-            .head_row(usize::from(ready.name.tenant), ready.place);
+            .head_row(usize::from(ready.name.tenant), ready.place)
+            .copied();
         let row = HeadRow {
             offset: ready.after.offset,
             declared: ready.after.declared,

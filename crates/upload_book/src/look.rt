@@ -5,6 +5,7 @@ ghost use Rattle.upload_book.specs.PlainBook.{answer_of};
 
 use crate::book::Book;
 use crate::head_row::{HeadRow, Name};
+use crate::lent_row::LentRow;
 use crate::moment::Moment;
 use crate::refusal::Refusal;
 
@@ -13,6 +14,13 @@ impl Book {
     /// and as Gone where the upload has ended or expired. It goes over the tenant's uploads once, and
     /// takes no memory.
     pub fn look(&self, name: &Name, now: Moment) -> Result<HeadRow, Refusal>
+        ensures { result ≡ answer_of (plain_of self.now) name.now.tenant (look_answer name.now.id now) }
+    {
+        Ok(self.look_lent(name, now)?.copied())
+    }
+
+    /// The same, with the texts lent: so nothing is copied.
+    pub fn look_lent(&self, name: &Name, now: Moment) -> Result<LentRow<'_>, Refusal>
         ensures { result ≡ answer_of (plain_of self.now) name.now.tenant (look_answer name.now.id now) }
     {
         let place = self.store.place(name, now)?;

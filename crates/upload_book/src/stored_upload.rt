@@ -19,8 +19,10 @@ use crate::charge_after::Ended;
 use crate::concat::NewFinal;
 use crate::create::NewUpload;
 use crate::expiry::has_expired;
-use crate::head_row::{HeadRow, Kind};
+use crate::head_note::Growth;
+use crate::head_row::Kind;
 use crate::held_bytes::HeldBytes;
+use crate::lent_row::LentRow;
 use crate::moment::Moment;
 use crate::piece::{Piece, UnheldPiece};
 use crate::pieces::{give_back_each, price_from, read_each};
@@ -166,19 +168,22 @@ impl StoredUpload {
         }
     }
 
-    /// What a HEAD tells of the upload.
-    pub(crate) fn head_row(&self) -> HeadRow
+    /// What a HEAD tells of the upload, whose texts are lent.
+    pub(crate) fn head_row(&self) -> LentRow<'_>
         ensures { (p : Blocks) → ReadsWhole p self.now.kept.pieces
             → result ≡ head_row_of (upload_of p self.now.kept) }
     {
-        HeadRow {
-            kind: self.kind(),
+        let growth = Growth {
             offset: self.offset(),
             declared: self.declared,
-            metadata: self.texts.metadata.copied(),
-            concat: self.texts.concat.copied(),
             expires: self.expires,
-        }
+        };
+        LentRow::new(
+            self.kind(),
+            growth,
+            self.texts.metadata.as_slice(),
+            self.texts.concat.as_slice(),
+        )
     }
 
     /// How far the upload is.

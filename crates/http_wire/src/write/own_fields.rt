@@ -1,17 +1,18 @@
 //! The fields of a reply of the steps, in their order.
 ghost use Rattle.std.specs.Prelude.{◌≡◌, ◌+◌, ◌≤◌, ◌++◌, length, codes};
 ghost use Rattle.http_wire.specs.ReplyText.{own_fields, length_line, declared_line, upload_path, tells_version, extensions_in, max_size_in, algorithms_in, allowed_in, location_in, offset_in, metadata_in, concat_in, expires_in, is_uncached, line, text_line};
+ghost use Rattle.tus_steps.specs.PlacedReply.{reply_in};
 
 use crate::write::page::{FIELDS_MAX, LINE_MAX, OPENING_MAX, Page, SHORT_MAX};
 use itoa::Buffer;
-use tus_steps::{Place, Reply};
+use tus_steps::{Place, PlacedReply, ReplyKind};
 use upload_book::{Moment, Refusal};
 
 /// Puts the fields of a reply of the steps.
 #[tactic(auto, unfolding(crate::specs::ReplyText::own_fields))]
-pub fn put_own_fields(page: &mut Page, reply: &Reply)
+pub fn put_own_fields(page: &mut Page, reply: &PlacedReply)
     requires { length page.old ≤ OPENING_MAX }
-    ensures text { page.new ≡ page.old ++ own_fields reply.now }
+    ensures text { page.new ≡ page.old ++ own_fields (reply_in reply.now) }
     ensures len { length page.new ≤ FIELDS_MAX }
 {
     page.put_line_if(tells_version(reply), b"Tus-Version", b"1.0.0");
@@ -28,13 +29,13 @@ pub fn put_own_fields(page: &mut Page, reply: &Reply)
     page.put_line_if(is_uncached(reply), b"Cache-Control", b"no-store");
 }
 
-fn tells_version(reply: &Reply) -> bool
-    ensures { result ≡ tells_version reply.now }
+fn tells_version(reply: &PlacedReply) -> bool
+    ensures { result ≡ tells_version (reply_in reply.now) }
 {
     matches!(
-        reply,
-        Reply::Options { .. }
-            | Reply::Refused {
+        &reply.kind,
+        ReplyKind::Options { .. }
+            | ReplyKind::Refused {
                 refusal: Refusal::Version,
                 ..
             }
@@ -42,49 +43,49 @@ fn tells_version(reply: &Reply) -> bool
 }
 
 // What is served beside the core protocol.
-fn extensions_in(reply: &Reply) -> &'static [u8]
-    ensures text { result.now ≡ extensions_in reply.now }
+fn extensions_in(reply: &PlacedReply) -> &'static [u8]
+    ensures text { result.now ≡ extensions_in (reply_in reply.now) }
     ensures len { length result.now ≤ 97 }
 {
-    match reply {
-        Reply::Options { .. } =>
+    match &reply.kind {
+        ReplyKind::Options { .. } =>
             b"creation,creation-defer-length,expiration,termination,concatenation,checksum,creation-with-upload",
         _ => b"",
     }
 }
 
-fn max_size_in(reply: &Reply) -> Option<u64>
-    ensures { result ≡ max_size_in reply.now }
+fn max_size_in(reply: &PlacedReply) -> Option<u64>
+    ensures { result ≡ max_size_in (reply_in reply.now) }
 {
-    match reply {
-        Reply::Options { max_size } => Some(*max_size),
+    match &reply.kind {
+        ReplyKind::Options { max_size } => Some(*max_size),
         _ => None,
     }
 }
 
 // By which algorithms a checksum may be.
-fn algorithms_in(reply: &Reply) -> &'static [u8]
-    ensures text { result.now ≡ algorithms_in reply.now }
+fn algorithms_in(reply: &PlacedReply) -> &'static [u8]
+    ensures text { result.now ≡ algorithms_in (reply_in reply.now) }
     ensures len { length result.now ≤ 4 }
 {
-    match reply {
-        Reply::Options { .. } => b"sha1",
+    match &reply.kind {
+        ReplyKind::Options { .. } => b"sha1",
         _ => b"",
     }
 }
 
 // The methods that the place allows, where the method was refused.
-fn allowed_in(reply: &Reply) -> &'static [u8]
-    ensures text { result.now ≡ allowed_in reply.now }
+fn allowed_in(reply: &PlacedReply) -> &'static [u8]
+    ensures text { result.now ≡ allowed_in (reply_in reply.now) }
     ensures len { length result.now ≤ 40 }
 {
-    match reply {
-        Reply::Refused {
+    match &reply.kind {
+        ReplyKind::Refused {
             refusal: Refusal::Method,
             place: Place::Create,
             ..
         } => b"POST, OPTIONS",
-        Reply::Refused {
+        ReplyKind::Refused {
             refusal: Refusal::Method,
             place: Place::Upload,
             ..
@@ -94,13 +95,13 @@ fn allowed_in(reply: &Reply) -> &'static [u8]
 }
 
 #[tactic(auto, unfolding(crate::specs::ReplyText::text_line))]
-fn put_location(page: &mut Page, reply: &Reply)
+fn put_location(page: &mut Page, reply: &PlacedReply)
     requires { length page.old ≤ SHORT_MAX }
-    ensures text { page.new ≡ page.old ++ text_line (codes "Location") (location_in reply.now) }
+    ensures text { page.new ≡ page.old ++ text_line (codes "Location") (location_in (reply_in reply.now)) }
     ensures len { length page.new ≤ length page.old + LINE_MAX }
 {
-    match reply {
-        Reply::Created { tenant, id, .. } => put_path(page, tenant.as_slice(), *id),
+    match &reply.kind {
+        ReplyKind::Created { tenant, id, .. } => put_path(page, tenant.as_slice(), *id),
         _ => {}
     }
 }
@@ -121,25 +122,25 @@ fn put_path(page: &mut Page, tenant: &[u8], id: u64)
     page.put(b"\r\n");
 }
 
-fn offset_in(reply: &Reply) -> Option<u64>
-    ensures { result ≡ offset_in reply.now }
+fn offset_in(reply: &PlacedReply) -> Option<u64>
+    ensures { result ≡ offset_in (reply_in reply.now) }
 {
-    match reply {
-        Reply::Created { offset, .. } => *offset,
-        Reply::Head(row) => Some(row.offset),
-        Reply::Patched { offset, .. } => Some(*offset),
+    match &reply.kind {
+        ReplyKind::Created { offset, .. } => *offset,
+        ReplyKind::Head => Some(reply.row.offset),
+        ReplyKind::Patched { offset, .. } => Some(*offset),
         _ => None,
     }
 }
 
 #[tactic(auto, unfolding(crate::specs::ReplyText::length_line))]
-fn put_length(page: &mut Page, reply: &Reply)
+fn put_length(page: &mut Page, reply: &PlacedReply)
     requires { length page.old ≤ SHORT_MAX }
-    ensures text { page.new ≡ page.old ++ length_line reply.now }
+    ensures text { page.new ≡ page.old ++ length_line (reply_in reply.now) }
     ensures len { length page.new ≤ length page.old + LINE_MAX }
 {
-    match reply {
-        Reply::Head(row) => put_declared(page, row.declared),
+    match &reply.kind {
+        ReplyKind::Head => put_declared(page, reply.row.declared),
         _ => {}
     }
 }
@@ -156,43 +157,43 @@ fn put_declared(page: &mut Page, declared: Option<u64>)
     }
 }
 
-fn metadata_in(reply: &Reply) -> &[u8]
-    ensures text { result.now ≡ metadata_in reply.now }
+fn metadata_in(reply: &PlacedReply) -> &[u8]
+    ensures text { result.now ≡ metadata_in (reply_in reply.now) }
     ensures len { length result.now ≤ 1024 }
 {
-    match reply {
-        Reply::Head(row) => row.metadata.as_slice(),
+    match &reply.kind {
+        ReplyKind::Head => reply.row.metadata.as_slice(),
         _ => b"",
     }
 }
 
-fn concat_in(reply: &Reply) -> &[u8]
-    ensures text { result.now ≡ concat_in reply.now }
+fn concat_in(reply: &PlacedReply) -> &[u8]
+    ensures text { result.now ≡ concat_in (reply_in reply.now) }
     ensures len { length result.now ≤ 2048 }
 {
-    match reply {
-        Reply::Head(row) => row.concat.as_slice(),
+    match &reply.kind {
+        ReplyKind::Head => reply.row.concat.as_slice(),
         _ => b"",
     }
 }
 
-fn expires_in(reply: &Reply) -> Option<Moment>
-    ensures { result ≡ expires_in reply.now }
+fn expires_in(reply: &PlacedReply) -> Option<Moment>
+    ensures { result ≡ expires_in (reply_in reply.now) }
 {
-    match reply {
-        Reply::Created { expires, .. } => *expires,
-        Reply::Patched { expires, .. } => *expires,
-        Reply::Refused { expires, .. } => *expires,
+    match &reply.kind {
+        ReplyKind::Created { expires, .. } => *expires,
+        ReplyKind::Patched { expires, .. } => *expires,
+        ReplyKind::Refused { expires, .. } => *expires,
         _ => None,
     }
 }
 
-fn is_uncached(reply: &Reply) -> bool
-    ensures { result ≡ is_uncached reply.now }
+fn is_uncached(reply: &PlacedReply) -> bool
+    ensures { result ≡ is_uncached (reply_in reply.now) }
 {
-    match reply {
-        Reply::Head(_) => true,
-        Reply::Refused { head, .. } => *head,
+    match &reply.kind {
+        ReplyKind::Head => true,
+        ReplyKind::Refused { head, .. } => *head,
         _ => false,
     }
 }

@@ -3,20 +3,21 @@ ghost use Rattle.std.specs.Prelude.{◌≡◌, ◌+◌, ◌≤◌, ◌++◌, len
 ghost use Rattle.http_wire.specs.inside.ReplyPage.{page_text, content_sent, word_in};
 ghost use Rattle.http_wire.specs.ReplyText.{status_line, reason_in, reasons, opening, ending, content_fields, word_body, body_in, media_in, reply_status, refusal_text};
 ghost use Rattle.http_wire.specs.Refusal as wire;
+ghost use Rattle.tus_steps.specs.PlacedReply.{reply_in};
 
 use crate::framing::Framing;
 use crate::refusal::WireRefusal;
 use crate::write::own_fields::put_own_fields;
 use crate::write::page::{CONTENT_MAX, ENDING_MAX, FIELDS_MAX, HEAD_MAX, OPENING_MAX, Page};
 use itoa::Buffer;
-use tus_steps::Reply;
+use tus_steps::{PlacedReply, ReplyKind};
 use upload_book::Moment;
 
 /// Puts the bytes of a reply at the moment of its message, but for the bytes of an upload: those are
 /// `content_of` it.
 #[tactic(auto, unfolding(crate::specs::ReplyText::reply_head))]
-pub fn put_reply(page: &mut Page, reply: &Reply, now: Moment, framing: Framing)
-    ensures { page.new ≡ page_text reply.now now framing }
+pub fn put_reply(page: &mut Page, reply: &PlacedReply, now: Moment, framing: Framing)
+    ensures { page.new ≡ page_text (reply_in reply.now) now framing }
 {
     page.clear();
     let status = status_of(reply);
@@ -30,11 +31,11 @@ pub fn put_reply(page: &mut Page, reply: &Reply, now: Moment, framing: Framing)
 }
 
 /// The bytes of the upload that a reply sends after what is put on its page.
-pub fn content_of(reply: &Reply, framing: Framing) -> &[u8]
-    ensures { result.now ≡ content_sent reply.now framing }
+pub fn content_of(reply: &PlacedReply, framing: Framing) -> &[u8]
+    ensures { result.now ≡ content_sent (reply_in reply.now) framing }
 {
-    match reply {
-        Reply::Content(content) if !framing.bare => content.as_slice(),
+    match &reply.kind {
+        ReplyKind::Content(content) if !framing.bare => content.as_slice(),
         _ => b"",
     }
 }
@@ -114,45 +115,45 @@ fn reason(status: u16) -> &'static [u8]
     }
 }
 
-fn status_of(reply: &Reply) -> u16
-    ensures { result ≡ reply_status reply.now }
+fn status_of(reply: &PlacedReply) -> u16
+    ensures { result ≡ reply_status (reply_in reply.now) }
 {
-    match reply {
-        Reply::Created { .. } => 201,
-        Reply::Head(_) | Reply::Content(_) => 200,
-        Reply::Options { .. } | Reply::Patched { .. } | Reply::Deleted => 204,
-        Reply::Refused { refusal, .. } => refusal.status(),
+    match &reply.kind {
+        ReplyKind::Created { .. } => 201,
+        ReplyKind::Head | ReplyKind::Content(_) => 200,
+        ReplyKind::Options { .. } | ReplyKind::Patched { .. } | ReplyKind::Deleted => 204,
+        ReplyKind::Refused { refusal, .. } => refusal.status(),
     }
 }
 
 // What the body of a reply is.
-fn media_in(reply: &Reply) -> &'static [u8]
-    ensures text { result.now ≡ media_in reply.now }
+fn media_in(reply: &PlacedReply) -> &'static [u8]
+    ensures text { result.now ≡ media_in (reply_in reply.now) }
     ensures len { length result.now ≤ 24 }
 {
-    match reply {
-        Reply::Content(_) => b"application/octet-stream",
-        Reply::Refused { .. } => b"text/plain",
+    match &reply.kind {
+        ReplyKind::Content(_) => b"application/octet-stream",
+        ReplyKind::Refused { .. } => b"text/plain",
         _ => b"",
     }
 }
 
-fn body_len(reply: &Reply) -> u64
-    ensures { result ≡ length (body_in reply.now) }
+fn body_len(reply: &PlacedReply) -> u64
+    ensures { result ≡ length (body_in (reply_in reply.now)) }
 {
-    match reply {
-        Reply::Content(content) => content.as_slice().len() as u64,
-        Reply::Refused { refusal, .. } => refusal.word().len() as u64 + 1,
+    match &reply.kind {
+        ReplyKind::Content(content) => content.as_slice().len() as u64,
+        ReplyKind::Refused { refusal, .. } => refusal.word().len() as u64 + 1,
         _ => 0,
     }
 }
 
 // The word of a reply that refuses.
-fn put_word_of(page: &mut Page, reply: &Reply)
+fn put_word_of(page: &mut Page, reply: &PlacedReply)
     requires { length page.old ≤ HEAD_MAX }
-    ensures { page.new ≡ page.old ++ word_in reply.now }
+    ensures { page.new ≡ page.old ++ word_in (reply_in reply.now) }
 {
-    if let Reply::Refused { refusal, .. } = reply {
+    if let ReplyKind::Refused { refusal, .. } = &reply.kind {
         put_word(page, refusal.word().as_bytes());
     }
 }

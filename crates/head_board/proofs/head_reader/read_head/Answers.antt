@@ -6,7 +6,7 @@ use Rattle.head_board.proofs.head_reader.read_head.Goals as goal
 
 pub returns-in-Ok-clause-found : goal.returns-in-Ok-clause-found
 returns-in-Ok-clause-found c =
-    let v = view c.args.reader.place in
+    let v = view c.args.seat.reader.place in
     let query = c.args.query in
     let found = c.found_on-found in
-    found-right v c.get.result.now query.seen query.name query.moment found.result c.requires.knows c.requires.log (subst (IsFound v query.seen) (sym c.get.ensures) c.in-Ok.ensures.found) found.ensures.seen found.ensures.row
+    found-right v c.get.result.now query.seen query.name query.moment found.result c.found_on-found.new.row c.requires.knows c.requires.log (subst (IsFound v query.seen) (sym c.get.ensures) c.in-Ok.ensures.found) found.ensures.seen found.ensures.row

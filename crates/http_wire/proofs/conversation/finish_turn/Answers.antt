@@ -13,7 +13,7 @@ returns-in-Refused-clause-finishes g c =
 
 pub returns-in-CutPatch-clause-finishes : goal.returns-in-CutPatch-clause-finishes
 returns-in-CutPatch-clause-finishes g c =
-    let step = c.apply_cut.ensures in
+    let step = c.apply_cut.ensures.step in
     rw (c.turn_cut.ensures, c.in-CutPatch.is) (Finishes-cut_patch g.A.Answer.steps c.args.now c.args.buffers.now.inbox c.in-CutPatch.layout c.in-CutPatch.why step.0 _ _ _ _ step.1 c.requires.writer)
 
 pub returns-in-CutOther-clause-finishes : goal.returns-in-CutOther-clause-finishes

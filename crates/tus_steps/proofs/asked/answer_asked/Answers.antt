@@ -5,12 +5,12 @@ use Rattle.tus_steps.proofs.asked.answer_asked.Goals as goal
 
 pub returns-in-Refused-clause-step : goal.returns-in-Refused-clause-step
 returns-in-Refused-clause-step c =
-    refused-step (plain_of c.args.book.now) c.args.request.now c.args.now c.in-Refused.reply (sym c.in-Refused.is ∙ c.requires.found)
+    rw c.refuse.ensures (refused-step (plain_of c.args.book.now) c.args.request.now c.args.now c.in-Refused.refusal (sym c.in-Refused.is ∙ c.requires.found))
 
 pub returns-in-Look-clause-step : goal.returns-in-Look-clause-step
 returns-in-Look-clause-step c =
-    rw (c.head_reply.ensures, c.look.ensures) (look-step (plain_of c.args.book.now) c.args.request.now c.args.now c.in-Look.name (sym c.in-Look.is ∙ c.requires.found))
+    rw (c.put_head.ensures, c.look_lent.ensures) (look-step (plain_of c.args.book.now) c.args.request.now c.args.now c.in-Look.name (sym c.in-Look.is ∙ c.requires.found))
 
 pub returns-in-Content-clause-step : goal.returns-in-Content-clause-step
 returns-in-Content-clause-step c =
-    rw c.to_content.ensures (content-step (plain_of c.args.book.now) c.args.request.now c.args.now c.in-Content.name (vec_capacity c.args.room) c.content.result (sym c.in-Content.is ∙ c.requires.found) c.content.ensures)
+    rw c.put_content.ensures (content-step (plain_of c.args.book.now) c.args.request.now c.args.now c.in-Content.name (vec_capacity c.args.room) c.content.result (sym c.in-Content.is ∙ c.requires.found) c.content.ensures)

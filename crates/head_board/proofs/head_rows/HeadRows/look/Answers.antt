@@ -5,7 +5,7 @@ use Rattle.head_board.proofs.head_rows.HeadRows.look.Goals as goal
 
 pub returns : goal.returns
 returns c =
-    rw (← c.self.view_is) (ap Ok c.copied.ensures ∙ sym (look-found (rows_of c.self.inside).part c.args.id c.args.now c.in-Some.place c.index-row.result.now (omega arith) (omega arith) (sym (rw (← c.self.view_is) at c.in-Some.ensures.place)) c.index-row.ensures (sym c.has_expired.ensures ∙ c.if-has_expired.false)))
+    rw (← c.self.view_is) (ap Ok c.lent.ensures ∙ sym (look-found (rows_of c.self.inside).part c.args.id c.args.now c.in-Some.place c.index-row.result.now (omega arith) (omega arith) (sym (rw (← c.self.view_is) at c.in-Some.ensures.place)) c.index-row.ensures (sym c.has_expired.ensures ∙ c.if-has_expired.false)))
 
 pub returns-then-has_expired : goal.returns-then-has_expired
 returns-then-has_expired c =

@@ -11,11 +11,11 @@ returns-in-Refused g c =
     let r = c.args.request.now in
     let is = subst (λ (s : Settings). c.asked_of.result ≡ asked_in s r) c.self.invariant.settings_are c.asked_of.ensures.is in
     let happened : HaveHappened s c.args.self.now.seen = rw (← c.self.view_is) c.self.invariant.happened in
-    record {
-      answers = refused-answers s r c.args.now c.in-Refused.reply c.args.self.now (sym c.in-Refused.is ∙ is) happened;
+    rw c.refuse.ensures (record {
+      answers = refused-answers s r c.args.now c.in-Refused.refusal c.args.self.now (sym c.in-Refused.is ∙ is) happened;
       unseen = λ head. refl;
       beside = λ head. inl refl;
-    }
+    })
 
 pub returns-in_default : goal.returns-in_default
 returns-in_default g c =

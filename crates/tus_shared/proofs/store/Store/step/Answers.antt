@@ -15,7 +15,7 @@ returns-in-Change-clause-step g c =
     let before = book_at s c.args.self.now in
     let found = c.requires.found.step before c.args.now c.make-outcome.ensures.lawful (at-settings s c.args.self.now) in
     let steps : IsStepOf before c.args.request.now c.args.now c.in-Change.asked = subst (λ (asks : Asked). IsChangeStep before c.args.request.now c.args.now (change_in asks)) c.in-Change.is found in
-    rw c.change_reply.ensures (done-step s c.args.self.now c.make-outcome.new.self c.begin.new.desk.number c.args.request.now c.args.now c.in-Change.asked c.make-outcome.result steps c.make-outcome.ensures.done)
+    rw c.put_change.ensures (done-step s c.args.self.now c.make-outcome.new.self c.begin.new.desk.number c.args.request.now c.args.now c.in-Change.asked c.make-outcome.result steps c.make-outcome.ensures.done)
 
 pub answer_asked-requires-clause-found : goal.answer_asked-requires-clause-found
 answer_asked-requires-clause-found g c =

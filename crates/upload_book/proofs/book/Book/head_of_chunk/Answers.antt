@@ -10,6 +10,6 @@ pub returns : goal.returns
 returns c =
     let b = c.args.self.now in
     let r = c.args.ready.now in
-    let row = c.head_row-before.ensures ∙ ap₂ (λ (b : StoredBook) t. head_row_of (upload_at b.store t r.place)) c.self.view_is c.from.ensures in
+    let row = (c.copied-before.ensures ∙ c.head_row.ensures) ∙ ap₂ (λ (b : StoredBook) t. head_row_of (upload_at b.store t r.place)) c.self.view_is c.from.ensures in
     let later : HeadRow → HeadRow = λ row. record row { offset = r.after.offset; declared = r.after.declared; expires = r.after.expires } in
-    chunk-head b r (subst IsBook c.self.view_is c.self.invariant) c.requires (later c.head_row-before.result) (ap later row)
+    chunk-head b r (subst IsBook c.self.view_is c.self.invariant) c.requires (later c.copied-before.result) (ap later row)

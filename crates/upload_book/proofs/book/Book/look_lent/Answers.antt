@@ -3,7 +3,7 @@ use Rattle.std.proofs.lemmas.Result.{err_from_is_err_and}
 use Rattle.upload_book.specs.Look.{look_answer, row_of}
 use Rattle.upload_book.specs.contracts.book.Book.{the_view}
 use Rattle.upload_book.proofs.Steps.BookSteps.{answer-plain}
-use Rattle.upload_book.proofs.book.Book.look.Goals as goal
+use Rattle.upload_book.proofs.book.Book.look_lent.Goals as goal
 
 pub returns-in_err-place : goal.returns-in_err-place
 returns-in_err-place c =
