@@ -1,154 +1,76 @@
--- The search for a head, one read after another.
-use Rattle.std.proofs.Common.{◌≡◌, ◌⊎◌, ◌≢◌, Bool, ◌==◌, ℕ, suc, ◌+◌, ◌-◌, ◌<◌, ◌≤◌, min, nat_le, if◌then◌else◌, true, false, List, [], ◌∷◌, ◌++◌, Result, Ok, Err, OnErr, length, take, drop, Option, None, Some, option_map, refl, sym, ap, ◌∙◌, arith, inl, inr, true≢false, ne_eqb, le-leb, length-append, append-nil, append_assoc, take-append-drop, length-drop, length-take-le, add-zero, zero-add, take_all}
-use Rattle.std.proofs.lemmas.Bool.{cases_lt, lt-leb}
+-- The search for a head, one look after another.
+use Rattle.std.proofs.Common.{◌≡◌, Bool, ℕ, zero, suc, ◌+◌, ◌-◌, ◌<◌, ◌≤◌, nat_le, if◌then◌else◌, true, false, List, [], ◌∷◌, ◌++◌, Result, Ok, Err, OnErr, length, take, drop, Option, None, Some, option_map, refl, sym, ap, ◌∙◌, arith, inl, inr, one-add, le-leb, length-append, append-nil, append_assoc, take-append-drop, length-drop, length-take-le, add-zero, zero-add, take_all}
+use Rattle.std.proofs.lemmas.Bool.{cases_Bool, cases_lt, lt-leb}
 use Rattle.std.proofs.lemmas.List.{take-append-le, drop-append-le}
 use Rattle.http_wire.specs.inside.Ahead.{Ahead}
-use Rattle.http_wire.specs.inside.HeadSearch.{Skips, IsUnfinished}
-use Rattle.http_wire.specs.HeadText.{HeadText, whole, too_long, cut, nothing, head_limit, head_len_after, head_len, text_at, blank_len, head_text}
+use Rattle.http_wire.specs.inside.HeadSearch.{FindsSoFar, IsUnfinished, NeedsMore, Searched, Searching, head_from, scan_start, search_start}
+use Rattle.http_wire.specs.HeadText.{HeadText, whole, too_long, cut, nothing, head_limit, is_line_end, head_len_after, head_len, text_at, blank_len, head_text}
 use Rattle.http_wire.specs.inside.Scan.{scanned}
 use Rattle.http_wire.specs.declared.read.head_text.Scan.{Scan}
-use Rattle.http_wire.proofs.HeadTextLemmas.{head_len_after-append, head_len_after-pos, head_len_after-within, head_len_after-later, text_at-long, text_at-min, blank_len-all, blank_len-some}
-
--- the head at the start of bytes before which some line ends were skipped
-abbrev pub head_from : ℕ → List ℕ → HeadText
-head_from skipped input = let text = drop (blank_len input) input in text_at (skipped + blank_len input) text (head_len text)
+use Rattle.http_wire.specs.declared.read.head_search.Search.{Search}
+use Rattle.http_wire.proofs.HeadTextLemmas.{head_len_after-append, head_len_after-within, head_len_after-later, text_at-long}
+use Rattle.http_wire.proofs.ScanLemmas.{scanned-append}
 
 longer : (start read got rest : List ℕ) → (start ++ (read ++ got)) ++ rest ≡ (start ++ read) ++ (got ++ rest)
 longer start read got rest = ap (λ l. l ++ rest) (sym (append_assoc start read got)) ∙ append_assoc (start ++ read) got rest
 
--- line ends were skipped in some bytes, and these are left, which may begin with more of them
-abbrev pub SkipsSoFar : List ℕ → List ℕ → ℕ → Type 0
-SkipsSoFar bytes held skipped = (rest : List ℕ) → head_text (bytes ++ rest) ≡ head_from skipped (held ++ rest)
-
--- the same, where these begin with something else
-abbrev pub FindsSoFar : List ℕ → List ℕ → ℕ → Type 0
-FindsSoFar bytes held skipped = (rest : List ℕ) → head_text (bytes ++ rest) ≡ text_at skipped (held ++ rest) (head_len (held ++ rest))
-
-pub SkipsSoFar-start : (held : List ℕ) → SkipsSoFar (held ++ []) held 0
-SkipsSoFar-start held rest =
+pub FindsSoFar-start : (held : List ℕ) → FindsSoFar (held ++ []) held 0
+FindsSoFar-start held rest =
     let text = drop (blank_len (held ++ rest)) (held ++ rest) in
     ap (λ l. head_text (l ++ rest)) (append-nil held) ∙ ap (λ n. text_at n text (head_len text)) (sym (zero-add (blank_len (held ++ rest))))
 
--- some more bytes came
-pub SkipsSoFar-more : (start read held got all : List ℕ) (skipped : ℕ) → SkipsSoFar (start ++ read) held skipped → all ≡ held ++ got → SkipsSoFar (start ++ (read ++ got)) all skipped
-SkipsSoFar-more start read held got all skipped h e rest =
-    rw e (ap head_text (longer start read got rest) ∙ h (got ++ rest) ∙ ap (head_from skipped) (sym (append_assoc held got rest)))
-
-pub FindsSoFar-more : (start read held got all : List ℕ) (skipped : ℕ) → FindsSoFar (start ++ read) held skipped → all ≡ held ++ got → FindsSoFar (start ++ (read ++ got)) all skipped
-FindsSoFar-more start read held got all skipped h e rest =
-    rw e (ap head_text (longer start read got rest) ∙ h (got ++ rest) ∙ ap (λ l. text_at skipped l (head_len l)) (sym (append_assoc held got rest)))
-
-drop_past : (xs ys : List ℕ) (n : ℕ) → drop (length xs + n) (xs ++ ys) ≡ drop n ys
-drop_past [] ys n = ap (λ k. drop k ys) (zero-add n)
-drop_past (x ∷ xs) ys n =
-    let one : length (x ∷ xs) + n ≡ suc (length xs + n) = omega arith in
-    ap (λ k. drop k (x ∷ (xs ++ ys))) one ∙ drop_past xs ys n
-
--- all that was left were line ends
-pub SkipsSoFar-all : (bytes held : List ℕ) (skipped : ℕ) → SkipsSoFar bytes held skipped → drop (blank_len held) held ≡ [] → SkipsSoFar bytes [] (skipped + blank_len held)
-SkipsSoFar-all bytes held skipped h e rest =
-    let all = blank_len-all held rest e in
-    let text : drop (blank_len (held ++ rest)) (held ++ rest) ≡ drop (blank_len rest) rest =
-    ap (λ n. drop n (held ++ rest)) all.1 ∙ drop_past held rest (blank_len rest) in
-    let count : skipped + blank_len (held ++ rest) ≡ skipped + blank_len held + blank_len rest = omega (arith, all.0, all.1) in
-    h rest ∙ ap (λ l. text_at (skipped + blank_len (held ++ rest)) l (head_len l)) text
-    ∙ ap (λ n. text_at n (drop (blank_len rest) rest) (head_len (drop (blank_len rest) rest))) count
-
-pub SkipsSoFar-skipped : (bytes before held : List ℕ) (skipped blank : ℕ) → SkipsSoFar bytes before skipped → blank ≡ blank_len before → held ≡ drop blank before
-    → held ≡ [] → SkipsSoFar bytes held (skipped + blank)
-SkipsSoFar-skipped bytes before held skipped blank h e is none =
-    rw (none, e) (SkipsSoFar-all bytes before skipped h (ap (λ n. drop n before) (sym e) ∙ sym is ∙ none))
-
--- something else was found
-pub FindsSoFar-found : (bytes held : List ℕ) (skipped : ℕ) → SkipsSoFar bytes held skipped → 0 < length (drop (blank_len held) held)
-    → FindsSoFar bytes (drop (blank_len held) held) (skipped + blank_len held)
-FindsSoFar-found bytes held skipped h found rest =
-    let same = blank_len-some held rest found in
-    let inside : blank_len held ≤ length held = within held (blank_len held) found in
-    let text : drop (blank_len (held ++ rest)) (held ++ rest) ≡ drop (blank_len held) held ++ rest =
-    ap (λ n. drop n (held ++ rest)) same ∙ drop-append-le (blank_len held) held rest inside in
-    h rest ∙ ap (λ n. text_at (skipped + n) (drop (blank_len (held ++ rest)) (held ++ rest)) (head_len (drop (blank_len (held ++ rest)) (held ++ rest)))) same
-    ∙ ap (λ l. text_at (skipped + blank_len held) l (head_len l)) text
+-- the line ends at the start of what is left are skipped
+head_from-passed : (skipped : ℕ) (held rest : List ℕ) → head_from skipped (held ++ rest) ≡ head_from (skipped + blank_len held) (drop (blank_len held) held ++ rest)
+head_from-passed skipped [] rest = ap (λ n. head_from n rest) (sym (add-zero skipped))
+head_from-passed skipped (b ∷ held) rest =
+    elim (cases_Bool (is_line_end b)) [
+      | inl t ↦ rw t (one (blank_len (held ++ rest)) ∙ head_from-passed (skipped + 1) held rest ∙ later (blank_len held))
+      | inr f ↦ rw f (rw f (ap (λ n. text_at (n + 0) (b ∷ (held ++ rest)) (head_len (b ∷ (held ++ rest)))) (sym (add-zero skipped))))
+    ]
   where
-    within : (xs : List ℕ) (n : ℕ) → 0 < length (drop n xs) → n ≤ length xs
-    within xs n p = omega (arith, length-drop n xs)
+    one : (n : ℕ) → text_at (skipped + (1 + n)) (drop (1 + n) (b ∷ (held ++ rest))) (head_len (drop (1 + n) (b ∷ (held ++ rest)))) ≡ text_at ((skipped + 1) + n) (drop n (held ++ rest)) (head_len (drop n (held ++ rest)))
+    one n =
+        let count : skipped + (1 + n) ≡ (skipped + 1) + n = omega arith in
+        let left : drop (1 + n) (b ∷ (held ++ rest)) ≡ drop n (held ++ rest) = ap (λ k. drop k (b ∷ (held ++ rest))) (one-add n) in
+        rw (count, left) refl
 
--- more line ends than a head may have
-pub FindsSoFar-many : (bytes : List ℕ) (skipped : ℕ) → SkipsSoFar bytes [] skipped → head_limit ≤ skipped → FindsSoFar bytes [] skipped
-FindsSoFar-many bytes skipped h many rest =
-    h rest ∙ text_at-long (skipped + blank_len rest) [] (drop (blank_len rest) rest) refl (omega (arith, many))
-    ∙ sym (text_at-long skipped [] rest refl (omega (arith, many)))
+    later : (n : ℕ) → head_from ((skipped + 1) + n) (drop n held ++ rest) ≡ head_from (skipped + (1 + n)) (drop (1 + n) (b ∷ held) ++ rest)
+    later n =
+        let count : (skipped + 1) + n ≡ skipped + (1 + n) = omega arith in
+        let left : drop n held ≡ drop (1 + n) (b ∷ held) = ap (λ k. drop k (b ∷ held)) (sym (one-add n)) in
+        rw (count, left) refl
 
--- the bytes alone, with nothing after them
-alone : (bytes held : List ℕ) (skipped : ℕ) → FindsSoFar bytes held skipped → head_text bytes ≡ text_at skipped held (head_len held)
-alone bytes held skipped h =
-    ap head_text (sym (append-nil bytes)) ∙ h [] ∙ ap (λ l. text_at skipped l (head_len l)) (append-nil held)
+pub FindsSoFar-passed : (bytes held : List ℕ) (skipped : ℕ) → FindsSoFar bytes held skipped → FindsSoFar bytes (drop (blank_len held) held) (skipped + blank_len held)
+FindsSoFar-passed bytes held skipped h rest = h rest ∙ head_from-passed skipped held rest
 
-to_min : (bytes held : List ℕ) (skipped : ℕ) → FindsSoFar bytes held skipped → FindsSoFar bytes held (min skipped head_limit)
-to_min bytes held skipped h rest = h rest ∙ text_at-min skipped (held ++ rest)
-
--- the line ends were skipped
-pub Skips-from : (bytes before : List ℕ) (a : Ahead) (skipped : ℕ) → SkipsSoFar bytes before skipped → a.held ≡ drop (blank_len before) before
-    → (a.held ≡ [] → (head_limit ≤ skipped + blank_len before) ⊎ (a.ended ≡ true)) → Skips bytes a (min (skipped + blank_len before) head_limit)
-Skips-from bytes before a skipped h is stops =
-    by a.held is stops
-  where
-    total : ℕ
-    total = skipped + blank_len before
-
-    end : (held : List ℕ) → (held ≡ [] → (head_limit ≤ total) ⊎ (a.ended ≡ true)) → held ≡ [] → (head_limit ≤ min total head_limit) ⊎ (a.ended ≡ true)
-    end held s e = elim (s e) [
-      | inl many ↦ inl (omega (arith, many))
-      | inr ended ↦ inr ended
+-- then no line end is left at the start
+pub blank_len-passed : (held : List ℕ) → blank_len (drop (blank_len held) held) ≡ 0
+blank_len-passed [] = refl
+blank_len-passed (b ∷ held) =
+    elim (cases_Bool (is_line_end b)) [
+      | inl t ↦ rw t (ap (λ k. blank_len (drop k (b ∷ held))) (one-add (blank_len held)) ∙ blank_len-passed held)
+      | inr f ↦ rw f (rw f refl)
     ]
 
-    none : (held : List ℕ) → held ≡ [] → [] ≡ drop (blank_len before) before → head_text bytes ≡ text_at (min total head_limit) held (head_len held)
-    none held e e2 =
-        let all = SkipsSoFar-all bytes before skipped h (sym e2) in
-        rw e (ap head_text (sym (append-nil bytes)) ∙ all [] ∙ ap (λ n. text_at n [] None) (add-zero total) ∙ text_at-min total [])
+-- and what follows changes that only where nothing is left
+blank_len-begun : (b : ℕ) (held rest : List ℕ) → blank_len (b ∷ held) ≡ 0 → blank_len (b ∷ (held ++ rest)) ≡ 0
+blank_len-begun b held rest e =
+    elim (cases_Bool (is_line_end b)) [
+      | inl t ↦ absurd (omega (arith, (rw t at e)))
+      | inr f ↦ rw f refl
+    ]
 
-    later : (held : List ℕ) → held ≡ [] → [] ≡ drop (blank_len before) before → (held ≡ [] → head_limit ≤ min total head_limit) → FindsSoFar bytes held (min total head_limit)
-    later held e e2 many =
-        let enough = many e in
-        rw e (to_min bytes [] total (FindsSoFar-many bytes total (SkipsSoFar-all bytes before skipped h (sym e2)) (omega (arith, enough))))
+-- where something is left, it begins the head
+head_from-begun : (skipped b : ℕ) (held rest : List ℕ) → blank_len (b ∷ held) ≡ 0
+    → head_from skipped (b ∷ (held ++ rest)) ≡ text_at skipped (b ∷ (held ++ rest)) (head_len (b ∷ (held ++ rest)))
+head_from-begun skipped b held rest e =
+    let text = b ∷ (held ++ rest) in
+    ap (λ n. text_at (skipped + n) (drop n text) (head_len (drop n text))) (blank_len-begun b held rest e) ∙ ap (λ n. text_at n text (head_len text)) (add-zero skipped)
 
-    by : (held : List ℕ) → held ≡ drop (blank_len before) before → (held ≡ [] → (head_limit ≤ total) ⊎ (a.ended ≡ true)) → Skips bytes (record a { held = held }) (min total head_limit)
-    by [] e s = record { here = none [] refl e; later = later [] refl e; end = end [] s }
-    by (b ∷ held) e s =
-        let some = rw (← e) at (FindsSoFar-found bytes before skipped h (rw (← e) (omega arith))) in
-        record { here = alone bytes (b ∷ held) (min total head_limit) (to_min bytes (b ∷ held) total some); later = λ _. to_min bytes (b ∷ held) total some; end = end (b ∷ held) s }
-
--- only line ends came
-pub IsUnfinished-blank : (bytes held : List ℕ) (skipped : ℕ) → SkipsSoFar bytes held skipped → held ≡ [] → skipped < head_limit → IsUnfinished bytes
-IsUnfinished-blank bytes held skipped h none few =
-    inr (ap head_text (sym (append-nil bytes)) ∙ h [] ∙ rw none (rw (lt-leb head_limit (skipped + 0) (omega (arith, few))) refl))
-
--- what a test for no bytes tells
-pub none_held : (r : Bool) (all held : List ℕ) → r ≡ (length all == 0) → all ≡ held → r ≡ true → held ≡ []
-none_held r [] held e same t = sym same
-none_held r (b ∷ all) held e same t = absurd (true≢false (sym t ∙ e ∙ ne_eqb (length (b ∷ all)) 0 (omega arith)))
-
-pub some_held : (r : Bool) (all held : List ℕ) → r ≡ (length all == 0) → all ≡ held → r ≡ false → held ≢ []
-some_held r [] held e same f none = true≢false (sym e ∙ f)
-some_held r (b ∷ all) held e same f none = absurd cc
-
--- what holds is so at an error
-pub OnErr-from : {T E : Type 0} (r : Result T E) (P : Type 0) → P → OnErr r P
-OnErr-from (Ok x) P p = tt
-OnErr-from (Err e) P p = p
-
-abbrev pub scan_start : Scan
-scan_start = record { before = 0; last = 0 }
-
-pub scanned-append : (s : Scan) (xs ys : List ℕ) → scanned s (xs ++ ys) ≡ scanned (scanned s xs) ys
-scanned-append s [] ys = refl
-scanned-append s (b ∷ xs) ys = scanned-append (record { before = s.last; last = b }) xs ys
-
--- the first bytes that are held were searched, and no head ends in them
-pub record Searched (s : Scan) (seen : ℕ) (held : List ℕ) : Type 0 where
-  pub within : seen ≤ length held
-  pub none : head_len (take seen held) ≡ None
-  pub scan : s ≡ scanned (record { before = 0; last = 0 }) (take seen held)
+-- some more bytes came
+FindsSoFar-more : (start read held got all : List ℕ) (skipped : ℕ) → FindsSoFar (start ++ read) held skipped → all ≡ held ++ got → FindsSoFar (start ++ (read ++ got)) all skipped
+FindsSoFar-more start read held got all skipped h e rest =
+    rw e (ap head_text (longer start read got rest) ∙ h (got ++ rest) ∙ ap (head_from skipped) (sym (append_assoc held got rest)))
 
 -- the search of the rest
 whole_len : (s : Scan) (seen : ℕ) (held : List ℕ) → Searched s seen held
@@ -173,60 +95,123 @@ Searched-all s next seen held h none is = record {
       ∙ sym (scanned-append scan_start (take seen held) (drop seen held)) ∙ ap (scanned scan_start) (take-append-drop seen held));
 }
 
--- some more bytes came
-pub Searched-more : (s : Scan) (held got all : List ℕ) → Searched s (length held) held → all ≡ held ++ got → Searched s (length held) all
-Searched-more s held got all h e =
-    let same : take (length held) all ≡ take (length held) held = ap (take (length held)) e ∙ take-append-le (length held) held got (omega arith) in
+-- no head ends in bytes that were all searched
+pub all_none : (held : List ℕ) (s : Scan) → Searched s (length held) held → head_len held ≡ None
+all_none held s h = ap head_len (sym (take_all (length held) held (omega arith))) ∙ h.none
+
+-- a search that begins
+pub Searching-start : (held : List ℕ) → Searching (held ++ []) held search_start
+Searching-start held = record {
+  finds = FindsSoFar-start held;
+  searched = record { within = omega arith; none = refl; scan = refl };
+  begun = λ some. absurd (omega (arith, some));
+}
+
+-- the line ends before the head were skipped
+pub Searching-passed : (bytes before held : List ℕ) (s : Search) → Searching bytes before s → held ≡ drop (blank_len before) before
+    → Searching bytes held (record s { skipped = s.skipped + blank_len before })
+Searching-passed bytes before held s h e = record {
+  finds = rw e (FindsSoFar-passed bytes before s.skipped h.finds);
+  searched = rw e (searched s.seen refl);
+  begun = λ _. rw e (blank_len-passed before);
+}
+  where
+    searched : (seen : ℕ) → s.seen ≡ seen → Searched s.scan seen (drop (blank_len before) before)
+    searched zero is = record { within = omega arith; none = refl; scan = h.searched.scan ∙ ap (λ n. scanned scan_start (take n before)) is }
+    searched (suc n) is =
+        let none : blank_len before ≡ 0 = h.begun (omega (arith, is)) in
+        rw none (rw is at h.searched)
+
+-- the same, by what a look found of them
+pub Searching-skipped : (bytes before shown held : List ℕ) (s : Search) (blank : ℕ) → Searching bytes before s → shown ≡ before
+    → ((0 < s.seen → blank_len shown ≡ 0) → blank ≡ blank_len shown) → held ≡ drop blank before
+    → Searching bytes held (record s { skipped = s.skipped + blank }) × (blank_len held ≡ 0)
+Searching-skipped bytes before shown held s blank h same count left =
+    let all : blank ≡ blank_len before = count (rw same h.begun) ∙ ap blank_len same in
+    let is : held ≡ drop (blank_len before) before = left ∙ ap (λ n. drop n before) all in
+    (rw all (Searching-passed bytes before held s h is), rw is (blank_len-passed before))
+
+-- more bytes came
+pub Searching-more : (start read held got all : List ℕ) (s : Search) → Searching (start ++ read) held s → all ≡ held ++ got → Searching (start ++ (read ++ got)) all s
+Searching-more start read held got all s h e =
+    let same : take s.seen all ≡ take s.seen held = ap (take s.seen) e ∙ take-append-le s.seen held got h.searched.within in
     record {
-      within = rw e (omega (arith, length-append held got));
-      none = rw same h.none;
-      scan = rw same h.scan;
+      finds = FindsSoFar-more start read held got all s.skipped h.finds e;
+      searched = record {
+        within = rw e (omega (arith, length-append held got, h.searched.within));
+        none = rw same h.searched.none;
+        scan = rw same h.searched.scan;
+      };
+      begun = λ some. rw e (begun held (omega (arith, some, h.searched.within)) (h.begun some));
     }
+  where
+    begun : (xs : List ℕ) → 0 < length xs → blank_len xs ≡ 0 → blank_len (xs ++ got) ≡ 0
+    begun [] some e2 = absurd (omega (arith, some))
+    begun (b ∷ xs) some e2 = blank_len-begun b xs got e2
 
 -- a head that is no longer than a head may be
-pub IsHeadFound-whole : (bytes held : List ℕ) (skipped n : ℕ) → FindsSoFar bytes held skipped → head_len held ≡ Some n → n ≤ length held → skipped + n ≤ head_limit
+pub IsHeadFound-whole : (bytes held : List ℕ) (skipped n : ℕ) → FindsSoFar bytes held skipped → blank_len held ≡ 0 → head_len held ≡ Some n → skipped + n ≤ head_limit
     → (rest : List ℕ) → head_text (bytes ++ rest) ≡ whole (take n held) (drop n held ++ rest)
-IsHeadFound-whole bytes held skipped n h is within short rest =
-    let len = head_len_after-append 0 0 held rest n is in
-    h rest ∙ ap (text_at skipped (held ++ rest)) len
-    ∙ rw (le-leb (skipped + n) head_limit short, take-append-le n held rest within, drop-append-le n held rest within) refl
+IsHeadFound-whole bytes [] skipped n h begun is short rest = absurd cc
+IsHeadFound-whole bytes (b ∷ held) skipped n h begun is short rest =
+    let len = head_len_after-append 0 0 (b ∷ held) rest n is in
+    let within = head_len_after-within 0 0 (b ∷ held) n is in
+    h rest ∙ head_from-begun skipped b held rest begun ∙ ap (text_at skipped (b ∷ (held ++ rest))) len
+    ∙ rw (le-leb (skipped + n) head_limit short, take-append-le n (b ∷ held) rest within, drop-append-le n (b ∷ held) rest within) refl
 
 -- one that is longer
-pub IsHeadFound-longer : (bytes held : List ℕ) (skipped n : ℕ) → FindsSoFar bytes held skipped → head_len held ≡ Some n → head_limit < skipped + n
+pub IsHeadFound-longer : (bytes held : List ℕ) (skipped n : ℕ) → FindsSoFar bytes held skipped → blank_len held ≡ 0 → head_len held ≡ Some n → head_limit < skipped + n
     → (rest : List ℕ) → head_text (bytes ++ rest) ≡ too_long
-IsHeadFound-longer bytes held skipped n h is long rest =
-    let len = head_len_after-append 0 0 held rest n is in
-    h rest ∙ ap (text_at skipped (held ++ rest)) len ∙ rw (lt-leb (skipped + n) head_limit long) refl
+IsHeadFound-longer bytes [] skipped n h begun is long rest = absurd cc
+IsHeadFound-longer bytes (b ∷ held) skipped n h begun is long rest =
+    let len = head_len_after-append 0 0 (b ∷ held) rest n is in
+    h rest ∙ head_from-begun skipped b held rest begun ∙ ap (text_at skipped (b ∷ (held ++ rest))) len ∙ rw (lt-leb (skipped + n) head_limit long) refl
 
 -- more bytes than a head may have, and no end
-pub IsHeadFound-endless : (bytes held : List ℕ) (skipped : ℕ) → FindsSoFar bytes held skipped → head_len held ≡ None → head_limit ≤ skipped + length held
+pub IsHeadFound-endless : (bytes held : List ℕ) (skipped : ℕ) → FindsSoFar bytes held skipped → blank_len held ≡ 0 → head_len held ≡ None → head_limit ≤ skipped + length held
     → (rest : List ℕ) → head_text (bytes ++ rest) ≡ too_long
-IsHeadFound-endless bytes held skipped h none long rest = h rest ∙ text_at-long skipped held rest none long
+IsHeadFound-endless bytes [] skipped h begun none long rest =
+    h rest ∙ text_at-long (skipped + blank_len rest) [] (drop (blank_len rest) rest) refl (omega (arith, long))
+IsHeadFound-endless bytes (b ∷ held) skipped h begun none long rest = h rest ∙ head_from-begun skipped b held rest begun ∙ text_at-long skipped (b ∷ held) rest none long
+
+-- the bytes alone, with nothing after them
+alone : (bytes held : List ℕ) (skipped : ℕ) → FindsSoFar bytes held skipped → head_text bytes ≡ head_from skipped held
+alone bytes held skipped h = ap head_text (sym (append-nil bytes)) ∙ h [] ∙ ap (head_from skipped) (append-nil held)
 
 -- the end of the input inside a head
-pub IsHeadFound-cut : (bytes held : List ℕ) (skipped : ℕ) → FindsSoFar bytes held skipped → head_len held ≡ None → skipped + length held < head_limit → held ≢ []
+pub IsHeadFound-cut : (bytes held : List ℕ) (skipped : ℕ) → FindsSoFar bytes held skipped → blank_len held ≡ 0 → head_len held ≡ None → skipped + length held < head_limit → 0 < length held
     → head_text bytes ≡ cut
-IsHeadFound-cut bytes [] skipped h none short some = absurd (some refl)
-IsHeadFound-cut bytes (b ∷ held) skipped h none short some =
-    alone bytes (b ∷ held) skipped h ∙ ap (text_at skipped (b ∷ held)) none ∙ rw (lt-leb head_limit (skipped + length (b ∷ held)) short) refl
+IsHeadFound-cut bytes [] skipped h begun none short some = absurd (omega (arith, some))
+IsHeadFound-cut bytes (b ∷ held) skipped h begun none short some =
+    let text = ap (λ l. b ∷ l) (append-nil held) in
+    ap head_text (sym (append-nil bytes)) ∙ h [] ∙ head_from-begun skipped b held [] begun ∙ ap (λ l. text_at skipped l (head_len l)) text
+    ∙ ap (text_at skipped (b ∷ held)) none ∙ rw (lt-leb head_limit (skipped + length (b ∷ held)) short) refl
+
+-- the end of the input before one
+pub IsHeadFound-nothing : (bytes held : List ℕ) (skipped : ℕ) → FindsSoFar bytes held skipped → skipped < head_limit → length held ≡ 0 → head_text bytes ≡ nothing
+IsHeadFound-nothing bytes [] skipped h few none = alone bytes [] skipped h ∙ rw (lt-leb head_limit (skipped + 0) (omega (arith, few))) refl
+IsHeadFound-nothing bytes (b ∷ held) skipped h few none = absurd (omega (arith, none))
+
+-- more is needed, so the bytes have no whole head yet
+pub Searching-unfinished : (bytes : List ℕ) (a : Ahead) (s : Search) → Searching bytes a.held s → NeedsMore a s → IsUnfinished bytes
+Searching-unfinished bytes a s h needs =
+    by s.seen refl
+  where
+    none : head_len a.held ≡ None
+    none = all_none a.held s.scan (rw needs.seen at h.searched)
+
+    by : (n : ℕ) → s.seen ≡ n → IsUnfinished bytes
+    by zero is = inr (IsHeadFound-nothing bytes a.held s.skipped h.finds (omega (arith, needs.few)) (sym needs.seen ∙ is))
+    by (suc n) is = inl (IsHeadFound-cut bytes a.held s.skipped h.finds (h.begun (omega (arith, is))) none (omega (arith, needs.seen, needs.few)) (omega (arith, needs.seen, is)))
 
 -- the bytes that were not seen yet
 pub unseen : (seen : ℕ) (bytes held : List ℕ) → bytes ≡ held → take (length bytes - seen) (drop seen bytes) ≡ drop seen held
 unseen seen bytes held e = rw e (take_all (length held - seen) (drop seen held) (omega (arith, length-drop seen held)))
 
-pub unseen_within : (seen more : ℕ) (held : List ℕ) → seen ≤ length held → more ≤ length (drop seen held) → seen + more ≤ length held
-unseen_within seen more held h k = omega (arith, length-drop seen held, h, k)
-
-pub some_grown : (held got all : List ℕ) → held ≢ [] → all ≡ held ++ got → all ≢ []
-some_grown [] got all some e none = some refl
-some_grown (b ∷ held) got all some e none = cons (sym none ∙ e)
-  where
-    cons : [] ≡ b ∷ (held ++ got) → ⊥
-    cons k = absurd cc
-
--- no head ends in bytes that were all searched
-pub all_none : (held : List ℕ) (s : Scan) → Searched s (length held) held → head_len held ≡ None
-all_none held s h = ap head_len (sym (take_all (length held) held (omega arith))) ∙ h.none
+-- what holds is so at an error
+pub OnErr-from : {T E : Type 0} (r : Result T E) (P : Type 0) → P → OnErr r P
+OnErr-from (Ok x) P p = tt
+OnErr-from (Err e) P p = p
 
 -- a head's text, where more bytes follow
 abbrev followed_text : List ℕ → HeadText → HeadText
@@ -282,10 +267,8 @@ head_text-append input more text rest is =
 
     kept : (n : ℕ) → head_len held ≡ Some n → blank_len input + n ≤ head_limit → whole (take n held) (drop n held) ≡ whole text rest → head_text (input ++ more) ≡ whole text (rest ++ more)
     kept n len short same =
-        let some = head_len_after-pos 0 0 held n len in
-        let within = head_len_after-within 0 0 held n len in
-        let found = FindsSoFar-found (input ++ []) input 0 (SkipsSoFar-start input) (omega (arith, some, within)) in
-        let stays = IsHeadFound-whole (input ++ []) held (0 + blank_len input) n found len within (omega (arith, short)) more in
+        let found = FindsSoFar-passed (input ++ []) input 0 (FindsSoFar-start input) in
+        let stays = IsHeadFound-whole (input ++ []) held (0 + blank_len input) n found (blank_len-passed input) len (omega (arith, short)) more in
         ap (λ l. head_text (l ++ more)) (sym (append-nil input)) ∙ stays ∙ ap (followed_text more) same
 
 -- so the bytes are at most those of a head and what follows it

@@ -1,7 +1,7 @@
 -- What is determined of a head stays when more bytes follow.
-use Rattle.std.proofs.Common.{◌≡◌, ℕ, suc, ◌+◌, ◌<◌, ◌≤◌, min, List, [], ◌∷◌, ◌++◌, length, drop, Option, None, Some, option_map, refl, sym, ap, ◌∙◌, arith, inl, inr, one-add, le-leb, length-append, zero-add}
-use Rattle.std.proofs.lemmas.Bool.{cases_Bool, cases_lt, lt-leb}
-use Rattle.http_wire.specs.HeadText.{too_long, head_limit, is_line_end, ends_empty_line, head_len_after, head_len, text_at, blank_len}
+use Rattle.std.proofs.Common.{◌≡◌, ℕ, suc, ◌+◌, ◌<◌, ◌≤◌, List, [], ◌∷◌, ◌++◌, length, Option, None, Some, option_map, refl, sym, ap, ◌∙◌, arith, inl, inr, le-leb, length-append, zero-add}
+use Rattle.std.proofs.lemmas.Bool.{cases_Bool, lt-leb}
+use Rattle.http_wire.specs.HeadText.{too_long, head_limit, ends_empty_line, head_len_after, head_len, text_at}
 use Rattle.http_wire.specs.inside.Scan.{scanned}
 use Rattle.http_wire.specs.declared.read.head_text.Scan.{Scan}
 
@@ -110,43 +110,3 @@ text_at-long skipped held rest e long =
         let beyond = far (head_len_after (scanned start held).before (scanned start held).last rest) n
         (head_len_after-pos (scanned start held).before (scanned start held).last rest) (sym is ∙ later) in
         rw (lt-leb (skipped + n) head_limit (omega (arith, beyond))) refl
-
--- as many line ends as a head may have are as good as more
-pub text_at-min : (skipped : ℕ) (text : List ℕ) → text_at skipped text (head_len text) ≡ text_at (min skipped head_limit) text (head_len text)
-text_at-min skipped text =
-    elim (cases_lt skipped head_limit) [
-      | inl small ↦ ap (λ k. text_at k text (head_len text)) (same small)
-      | inr large ↦ text_at-long skipped [] text refl (omega (arith, large)) ∙ sym (text_at-long (min skipped head_limit) [] text refl (omega (arith, large)))
-    ]
-  where
-    same : skipped < head_limit → skipped ≡ min skipped head_limit
-    same h = omega arith
-
--- the line ends at the start, where all bytes so far are line ends
-pub blank_len-all : (xs ys : List ℕ) → drop (blank_len xs) xs ≡ [] → (blank_len xs ≡ length xs) × (blank_len (xs ++ ys) ≡ length xs + blank_len ys)
-blank_len-all [] ys e = (refl, sym (zero-add (blank_len ys)))
-blank_len-all (b ∷ xs) ys e =
-    elim (cases_Bool (is_line_end b)) [
-      | inl t ↦
-          let more = blank_len-all xs ys (shorter (blank_len xs) (rw t at e)) in
-          (rw t (omega (arith, more.0)), rw t (omega (arith, more.1)))
-      | inr f ↦ absurd (full (rw f at e))
-    ]
-  where
-    shorter : (n : ℕ) → drop (1 + n) (b ∷ xs) ≡ [] → drop n xs ≡ []
-    shorter n h = rw (one-add n) at h
-
-    full : drop 0 (b ∷ xs) ≡ [] → ⊥
-    full h = absurd cc
-
--- the same where something else was found
-pub blank_len-some : (xs ys : List ℕ) → 0 < length (drop (blank_len xs) xs) → blank_len (xs ++ ys) ≡ blank_len xs
-blank_len-some [] ys h = absurd (omega arith)
-blank_len-some (b ∷ xs) ys h =
-    elim (cases_Bool (is_line_end b)) [
-      | inl t ↦ rw t (ap (λ n. 1 + n) (blank_len-some xs ys (shorter (blank_len xs) (rw t at h))))
-      | inr f ↦ rw f refl
-    ]
-  where
-    shorter : (n : ℕ) → 0 < length (drop (1 + n) (b ∷ xs)) → 0 < length (drop n xs)
-    shorter n h2 = rw (one-add n) at h2

@@ -1,12 +1,13 @@
 //! The search for the head of the next message.
-ghost use Rattle.std.specs.Prelude.{◌≡◌, ◌≤◌, ◌++◌, ℕ, List, true, false, IfOk, OnOk, OnErr, IfErr};
+ghost use Rattle.std.specs.Prelude.{◌≡◌, ◌≤◌, ◌<◌, ◌+◌, ◌++◌, ℕ, List, true, false, length, IfOk, OnOk, OnErr, IfErr, IfSome, IfNone};
 ghost use Rattle.std.specs.Io.KnownBytes.{Consumes};
+ghost use Rattle.http_wire.specs.HeadText.{blank_len};
 ghost use Rattle.http_wire.specs.inside.Ahead.{SeesEnd, StopsAtEnd};
-ghost use Rattle.http_wire.specs.inside.HeadSearch.{BreaksHead, IsHeadFound, IsHeldBy, Skips};
+ghost use Rattle.http_wire.specs.inside.HeadSearch.{BreaksHead, IsHeadFound, IsHeldBy, LooksFor, NeedsMore, Searching, search_start};
 
 use crate::fault::WireFault;
 use crate::read::head_text::{HEAD_LIMIT, Scan, count_blank};
-use crate::read::inbox::Inbox;
+use crate::read::inbox::{Inbox, READ_SIZE};
 use crate::source::Source;
 
 /// The head that the input begins with.
@@ -18,10 +19,85 @@ pub enum HeadFound {
     Nothing,
 }
 
+/// A search for the head of the next message in what an inbox holds. It touches no reader: each look goes on where the
+/// last one stopped, and none looks at a byte that was seen before.
+#[derive(Clone, Copy)]
+pub struct Search {
+    /// How far the search for the end of the head has come.
+    pub scan: Scan,
+    /// How many of the bytes that are held were searched: the head so far.
+    pub seen: usize,
+    /// How many line ends before the head were skipped.
+    pub skipped: usize,
+}
+
+impl Search {
+    /// A search that saw no byte yet.
+    pub fn new() -> Self
+        ensures { result ≡ search_start }
+    {
+        Search {
+            scan: Scan::new(),
+            seen: 0,
+            skipped: 0,
+        }
+    }
+
+    /// Looks for the head in what is held. After `None` more has to be read: all that is held was seen, it is a part of a
+    /// head or nothing, and there is room for a read.
+    pub fn look(&mut self, inbox: &mut Inbox) -> Option<HeadFound>
+        requires seen { self.old.seen ≤ length inbox.old.held }
+        requires few { self.old.skipped < HEAD_LIMIT }
+        ensures finds { (bytes : List ℕ) → Searching bytes inbox.old.held self.old
+            → LooksFor bytes inbox.new self.new result }
+        ensures within { IfSome result (IsHeldBy inbox.new) }
+        ensures more { IfNone result (NeedsMore inbox.new self.new) }
+        ensures room { IfNone result (length inbox.new.held + READ_SIZE ≤ inbox.new.room) }
+        ensures kept { self.new.skipped + length inbox.new.held ≡ self.old.skipped + length inbox.old.held }
+        ensures ended { inbox.new.ended ≡ inbox.old.ended }
+    {
+        let blank = self.blank_in(inbox.held());
+        inbox.skip(blank);
+        self.skipped += blank;
+        let held = inbox.held();
+        let unseen = &held[self.seen..];
+        if let Some(more) = self.scan.end_in(unseen) {
+            let len = self.seen + more;
+            return Some(if self.skipped + len <= HEAD_LIMIT {
+                HeadFound::Whole(len)
+            } else {
+                HeadFound::TooLong
+            });
+        }
+        self.seen = held.len();
+        if self.skipped + self.seen >= HEAD_LIMIT {
+            return Some(HeadFound::TooLong);
+        }
+        if !inbox.is_ended() {
+            return None;
+        }
+        Some(if self.seen == 0 {
+            HeadFound::Nothing
+        } else {
+            HeadFound::Cut
+        })
+    }
+
+    // How many line ends stand before the head at the start of what is held. Where a part of it was seen, these were
+    // skipped.
+    fn blank_in(&self, held: &[u8]) -> usize
+        ensures blank { (0 < self.now.seen → blank_len held.now ≡ 0) → result ≡ blank_len held.now }
+        ensures within { result ≤ length held.now }
+        ensures seen { self.now.seen ≤ length held.now → result + self.now.seen ≤ length held.now }
+    {
+        if self.seen > 0 { 0 } else { count_blank(held) }
+    }
+}
+
 /// Reads until a head is held, or there can be none.
 pub fn find_head<R: Source>(reader: &mut R, inbox: &mut Inbox) -> Result<HeadFound, WireFault>
     requires { R.has_failed reader.old ≡ false }
-    ensures within { IfOk result (λ h. IsHeldBy inbox.new.held h) }
+    ensures within { IfOk result (IsHeldBy inbox.new) }
     ensures found { IfOk result (λ h. (got : List ℕ)
         × Consumes (R.remaining reader.old) (R.remaining reader.new) got
         × IsHeadFound (inbox.old.held ++ got) inbox.new h) }
@@ -35,62 +111,10 @@ pub fn find_head<R: Source>(reader: &mut R, inbox: &mut Inbox) -> Result<HeadFou
     ensures failed { OnErr result (R.has_failed reader.new ≡ true) }
     ensures fault { IfErr result (λ e. e ≡ WireFault.Read) }
 {
-    let skipped = skip_blank(reader, inbox)?;
-    if inbox.held().is_empty() {
-        return Ok(if skipped >= HEAD_LIMIT {
-            HeadFound::TooLong
-        } else {
-            HeadFound::Nothing
-        });
-    }
-    let mut scan = Scan::new();
-    let mut seen = 0;
+    let mut search = Search::new();
     loop {
-        let held = inbox.held();
-        if let Some(more) = scan.end_in(&held[seen..]) {
-            let len = seen + more;
-            return Ok(if skipped + len <= HEAD_LIMIT {
-                HeadFound::Whole(len)
-            } else {
-                HeadFound::TooLong
-            });
-        }
-        seen = held.len();
-        if skipped + seen >= HEAD_LIMIT {
-            return Ok(HeadFound::TooLong);
-        }
-        if inbox.is_ended() {
-            return Ok(HeadFound::Cut);
-        }
-        inbox.fill(reader)?;
-    }
-}
-
-// Skips the line ends before a message, and gives their number, at most that of a head's bytes. Then
-// something else is held, or the input has ended, or they are as many as a head has bytes.
-fn skip_blank<R: Source>(reader: &mut R, inbox: &mut Inbox) -> Result<usize, WireFault>
-    requires { R.has_failed reader.old ≡ false }
-    ensures few { IfOk result (λ n. n ≤ HEAD_LIMIT) }
-    ensures skips { IfOk result (λ n. (got : List ℕ)
-        × Consumes (R.remaining reader.old) (R.remaining reader.new) got
-        × Skips (inbox.old.held ++ got) inbox.new n) }
-    ensures end { OnOk result (SeesEnd (R.remaining reader.old) inbox.old
-        → SeesEnd (R.remaining reader.new) inbox.new) }
-    ensures stops { StopsAtEnd reader.old reader.new inbox.old inbox.new }
-    ensures unended { OnErr result (inbox.new.ended ≡ false) }
-    ensures unfinished { OnErr result (BreaksHead (R.remaining reader.old) (R.remaining reader.new)
-        inbox.old.held) }
-    ensures alive { OnOk result (R.has_failed reader.new ≡ false) }
-    ensures failed { OnErr result (R.has_failed reader.new ≡ true) }
-    ensures fault { IfErr result (λ e. e ≡ WireFault.Read) }
-{
-    let mut skipped = 0;
-    loop {
-        let blank = count_blank(inbox.held());
-        inbox.skip(blank);
-        skipped += blank;
-        if !inbox.held().is_empty() || inbox.is_ended() || skipped >= HEAD_LIMIT {
-            return Ok(skipped.min(HEAD_LIMIT));
+        if let Some(found) = search.look(inbox) {
+            return Ok(found);
         }
         inbox.fill(reader)?;
     }

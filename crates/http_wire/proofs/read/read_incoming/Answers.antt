@@ -51,4 +51,4 @@ returns-in-Err-clause-reads g c =
 pub returns-in-Cut-clause-reads : goal.returns-in-Cut-clause-reads
 returns-in-Cut-clause-reads g c =
     let found = rw c.in-Cut.is at c.in_ok-len.ensures.found in
-    (found.0, [], found.1, Appends-none (g.W.Sink.contents c.args.writer.now), (false, refl, IsFront-cut c.args.max_size (c.args.inbox.now.held ++ found.0) found.2.0))
+    (found.0, [], found.1, Appends-none (g.W.Sink.contents c.args.writer.now), (false, refl, IsFront-cut c.args.max_size (c.args.inbox.now.held ++ found.0) found.2))
