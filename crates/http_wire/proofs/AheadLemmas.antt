@@ -12,6 +12,11 @@ pub OnErr-known : {T E P : Type 0} (r : Result T E) → is_err r ≡ true → On
 OnErr-known (Ok x) is h = absurd cc
 OnErr-known (Err e) is h = h
 
+-- and what holds of a value where there is one
+pub OnOk-known : {T E P : Type 0} (r : Result T E) → is_err r ≡ false → OnOk r P → P
+OnOk-known (Ok x) is h = h
+OnOk-known (Err e) is h = absurd cc
+
 -- bytes that stay are bytes of which none were taken
 pub Consumes-from_keeps : (before after : Option (List ℕ)) → Keeps before after → Consumes before after []
 Consumes-from_keeps None after h = tt

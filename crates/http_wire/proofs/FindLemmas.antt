@@ -1,5 +1,5 @@
 -- The search for a head, one look after another.
-use Rattle.std.proofs.Common.{◌≡◌, Bool, ℕ, zero, suc, ◌+◌, ◌-◌, ◌<◌, ◌≤◌, nat_le, if◌then◌else◌, true, false, List, [], ◌∷◌, ◌++◌, Result, Ok, Err, OnErr, length, take, drop, Option, None, Some, option_map, refl, sym, ap, ◌∙◌, arith, inl, inr, one-add, le-leb, length-append, append-nil, append_assoc, take-append-drop, length-drop, length-take-le, add-zero, zero-add, take_all}
+use Rattle.std.proofs.Common.{◌≡◌, Bool, ℕ, zero, suc, ◌+◌, ◌-◌, ◌<◌, ◌≤◌, nat_le, if◌then◌else◌, true, false, List, [], ◌∷◌, ◌++◌, length, take, drop, Option, None, Some, option_map, refl, sym, ap, ◌∙◌, arith, inl, inr, one-add, le-leb, length-append, append-nil, append_assoc, take-append-drop, length-drop, length-take-le, add-zero, zero-add, take_all}
 use Rattle.std.proofs.lemmas.Bool.{cases_Bool, cases_lt, lt-leb}
 use Rattle.std.proofs.lemmas.List.{take-append-le, drop-append-le}
 use Rattle.http_wire.specs.inside.Ahead.{Ahead}
@@ -14,7 +14,7 @@ use Rattle.http_wire.proofs.ScanLemmas.{scanned-append}
 longer : (start read got rest : List ℕ) → (start ++ (read ++ got)) ++ rest ≡ (start ++ read) ++ (got ++ rest)
 longer start read got rest = ap (λ l. l ++ rest) (sym (append_assoc start read got)) ∙ append_assoc (start ++ read) got rest
 
-pub FindsSoFar-start : (held : List ℕ) → FindsSoFar (held ++ []) held 0
+FindsSoFar-start : (held : List ℕ) → FindsSoFar (held ++ []) held 0
 FindsSoFar-start held rest =
     let text = drop (blank_len (held ++ rest)) (held ++ rest) in
     ap (λ l. head_text (l ++ rest)) (append-nil held) ∙ ap (λ n. text_at n text (head_len text)) (sym (zero-add (blank_len (held ++ rest))))
@@ -40,11 +40,11 @@ head_from-passed skipped (b ∷ held) rest =
         let left : drop n held ≡ drop (1 + n) (b ∷ held) = ap (λ k. drop k (b ∷ held)) (sym (one-add n)) in
         rw (count, left) refl
 
-pub FindsSoFar-passed : (bytes held : List ℕ) (skipped : ℕ) → FindsSoFar bytes held skipped → FindsSoFar bytes (drop (blank_len held) held) (skipped + blank_len held)
+FindsSoFar-passed : (bytes held : List ℕ) (skipped : ℕ) → FindsSoFar bytes held skipped → FindsSoFar bytes (drop (blank_len held) held) (skipped + blank_len held)
 FindsSoFar-passed bytes held skipped h rest = h rest ∙ head_from-passed skipped held rest
 
 -- then no line end is left at the start
-pub blank_len-passed : (held : List ℕ) → blank_len (drop (blank_len held) held) ≡ 0
+blank_len-passed : (held : List ℕ) → blank_len (drop (blank_len held) held) ≡ 0
 blank_len-passed [] = refl
 blank_len-passed (b ∷ held) =
     elim (cases_Bool (is_line_end b)) [
@@ -108,7 +108,7 @@ Searching-start held = record {
 }
 
 -- the line ends before the head were skipped
-pub Searching-passed : (bytes before held : List ℕ) (s : Search) → Searching bytes before s → held ≡ drop (blank_len before) before
+Searching-passed : (bytes before held : List ℕ) (s : Search) → Searching bytes before s → held ≡ drop (blank_len before) before
     → Searching bytes held (record s { skipped = s.skipped + blank_len before })
 Searching-passed bytes before held s h e = record {
   finds = rw e (FindsSoFar-passed bytes before s.skipped h.finds);
@@ -207,11 +207,6 @@ Searching-unfinished bytes a s h needs =
 -- the bytes that were not seen yet
 pub unseen : (seen : ℕ) (bytes held : List ℕ) → bytes ≡ held → take (length bytes - seen) (drop seen bytes) ≡ drop seen held
 unseen seen bytes held e = rw e (take_all (length held - seen) (drop seen held) (omega (arith, length-drop seen held)))
-
--- what holds is so at an error
-pub OnErr-from : {T E : Type 0} (r : Result T E) (P : Type 0) → P → OnErr r P
-OnErr-from (Ok x) P p = tt
-OnErr-from (Err e) P p = p
 
 -- a head's text, where more bytes follow
 abbrev followed_text : List ℕ → HeadText → HeadText

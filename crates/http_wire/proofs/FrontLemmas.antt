@@ -13,7 +13,7 @@ use Rattle.http_wire.specs.Front.{Front, Begins, BeginsWhole, IsFront, LacksMemo
 use Rattle.http_wire.specs.Layout.{field_at, request_at}
 use Rattle.http_wire.specs.inside.HeadLayout.{ShowsHead, BeginsHead, ReadsLayout}
 use Rattle.http_wire.specs.inside.IncomingLayout.{ReadsIncoming}
-use Rattle.http_wire.specs.ReadOnWire.{waits}
+use Rattle.http_wire.specs.ReadOnWire.{BreaksFront, waits}
 use Rattle.http_wire.specs.inside.HeadSearch.{IsUnfinished}
 use Rattle.http_wire.specs.HeadText.{HeadText, whole, too_long, cut, nothing, head_text, has_many_lines}
 use Rattle.http_wire.specs.declared.read.layout.Layout.{Layout}
@@ -132,9 +132,6 @@ pub IsFront-waits : (max : ℕ) (bytes : List ℕ) (p : Layout) (held : List ℕ
 IsFront-waits max bytes p held b w =
     (with_body b.head p.body_len (drop p.head_len held), alone max bytes p held b, waits-with_body b.head p.body_len (drop p.head_len held) (sym b.shows.is_waiting ∙ w))
 
-pub held_in : (n : ℕ) (held got all : List ℕ) → n ≤ length held → all ≡ held ++ got → n ≤ length all
-held_in n held got all h e = rw e (omega (arith, length-append held got, h))
-
 -- the write of `100 Continue` failed
 pub ReadsIncoming-unwritten : (max : ℕ) (bytes : List ℕ) (a : Ahead) (r : Result (Incoming Layout) WireFault) (e : WireFault) (n : ℕ) → r ≡ Err e → e ≡ Write
     → (f : Front) → IsFront max bytes f → waits f ≡ true → ReadsIncoming max (record { input = bytes; text = take n (continue_text true) }) a r
@@ -166,10 +163,9 @@ pub IsFront-cut : (max : ℕ) (bytes : List ℕ) → head_text bytes ≡ cut →
 IsFront-cut max bytes e = subst (λ t. Begins max t (cut_other false)) (sym e) refl
 
 -- a read failed before a whole head came
-pub ReadsIncoming-unfinished : (max : ℕ) (bytes : List ℕ) (a : Ahead) (r : Result (Incoming Layout) WireFault) (e : WireFault) → r ≡ Err e → e ≡ Read
-    → IsUnfinished bytes → ReadsIncoming max (record { input = bytes; text = [] }) a r
-ReadsIncoming-unfinished max bytes a r e is is_read (inl c) = rw (is, is_read) (inl (false, refl, IsFront-cut max bytes c))
-ReadsIncoming-unfinished max bytes a r e is is_read (inr n) = rw (is, is_read) (inr (refl, subst (λ t. Begins max t clean_end) (sym n) refl))
+pub BreaksFront-unfinished : (max : ℕ) (bytes said : List ℕ) → said ≡ [] → IsUnfinished bytes → BreaksFront max (record { input = bytes; text = said }) Read
+BreaksFront-unfinished max bytes said e (inl c) = inl (false, e, IsFront-cut max bytes c)
+BreaksFront-unfinished max bytes said e (inr n) = inr (e, subst (λ t. Begins max t clean_end) (sym n) refl)
 
 -- what an input begins with, where more bytes follow a message
 abbrev pub followed : List ℕ → Front → Front

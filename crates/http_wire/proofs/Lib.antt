@@ -14,4 +14,5 @@ pub mod PageLemmas
 pub mod RangeLemmas
 pub mod ReplyLemmas
 pub mod ScanLemmas
+pub mod StageLemmas
 pub mod TurnLemmas

@@ -6,5 +6,6 @@ pub mod HeadSearch
 pub mod IncomingLayout
 pub mod ReplyPage
 pub mod Scan
+pub mod Standing
 pub mod TurnFinish
 pub mod WireModel

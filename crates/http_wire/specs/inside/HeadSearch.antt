@@ -1,6 +1,5 @@
 -- A head that was found by reading, and how far the search for it has come.
 use Rattle.std.specs.Prelude.{◌≡◌, ◌≤◌, ◌<◌, ◌+◌, ◌⊎◌, ℕ, true, false, List, ◌++◌, length, take, drop, Option, Some, None, ⊤}
-use Rattle.std.specs.Io.KnownBytes.{Consumes}
 use Rattle.http_wire.specs.inside.Ahead.{Ahead}
 use Rattle.http_wire.specs.inside.Scan.{scanned}
 use Rattle.http_wire.specs.HeadText.{HeadText, head_limit, head_len, text_at, blank_len, head_text, whole, too_long, cut, nothing}
@@ -66,7 +65,3 @@ LooksFor bytes a s (Some found) = IsHeadFound bytes a found
 -- some bytes have no whole head, and no head that is too long
 abbrev pub IsUnfinished : List ℕ → Type 0
 IsUnfinished bytes = (head_text bytes ≡ cut) ⊎ (head_text bytes ≡ nothing)
-
--- a read failed before a whole head was there, after these bytes
-abbrev pub BreaksHead : Option (List ℕ) → Option (List ℕ) → List ℕ → Type 0
-BreaksHead before after held = (got : List ℕ) × Consumes before after got × IsUnfinished (held ++ got)

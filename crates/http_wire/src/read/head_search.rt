@@ -1,14 +1,10 @@
 //! The search for the head of the next message.
-ghost use Rattle.std.specs.Prelude.{◌≡◌, ◌≤◌, ◌<◌, ◌+◌, ◌++◌, ℕ, List, true, false, length, IfOk, OnOk, OnErr, IfErr, IfSome, IfNone};
-ghost use Rattle.std.specs.Io.KnownBytes.{Consumes};
+ghost use Rattle.std.specs.Prelude.{◌≡◌, ◌≤◌, ◌<◌, ◌+◌, ℕ, List, length, IfSome, IfNone};
 ghost use Rattle.http_wire.specs.HeadText.{blank_len};
-ghost use Rattle.http_wire.specs.inside.Ahead.{SeesEnd, StopsAtEnd};
-ghost use Rattle.http_wire.specs.inside.HeadSearch.{BreaksHead, IsHeadFound, IsHeldBy, LooksFor, NeedsMore, Searching, search_start};
+ghost use Rattle.http_wire.specs.inside.HeadSearch.{IsHeldBy, LooksFor, NeedsMore, Searching, search_start};
 
-use crate::fault::WireFault;
 use crate::read::head_text::{HEAD_LIMIT, Scan, count_blank};
 use crate::read::inbox::{Inbox, READ_SIZE};
-use crate::source::Source;
 
 /// The head that the input begins with.
 #[derive(Clone, Copy)]
@@ -91,31 +87,5 @@ impl Search {
         ensures seen { self.now.seen ≤ length held.now → result + self.now.seen ≤ length held.now }
     {
         if self.seen > 0 { 0 } else { count_blank(held) }
-    }
-}
-
-/// Reads until a head is held, or there can be none.
-pub fn find_head<R: Source>(reader: &mut R, inbox: &mut Inbox) -> Result<HeadFound, WireFault>
-    requires { R.has_failed reader.old ≡ false }
-    ensures within { IfOk result (IsHeldBy inbox.new) }
-    ensures found { IfOk result (λ h. (got : List ℕ)
-        × Consumes (R.remaining reader.old) (R.remaining reader.new) got
-        × IsHeadFound (inbox.old.held ++ got) inbox.new h) }
-    ensures end { OnOk result (SeesEnd (R.remaining reader.old) inbox.old
-        → SeesEnd (R.remaining reader.new) inbox.new) }
-    ensures stops { StopsAtEnd reader.old reader.new inbox.old inbox.new }
-    ensures unended { OnErr result (inbox.new.ended ≡ false) }
-    ensures unfinished { OnErr result (BreaksHead (R.remaining reader.old) (R.remaining reader.new)
-        inbox.old.held) }
-    ensures alive { OnOk result (R.has_failed reader.new ≡ false) }
-    ensures failed { OnErr result (R.has_failed reader.new ≡ true) }
-    ensures fault { IfErr result (λ e. e ≡ WireFault.Read) }
-{
-    let mut search = Search::new();
-    loop {
-        if let Some(found) = search.look(inbox) {
-            return Ok(found);
-        }
-        inbox.fill(reader)?;
     }
 }

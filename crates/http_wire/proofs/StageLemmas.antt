@@ -1,0 +1,64 @@
+-- A reading of a message, look by look and read by read.
+use Rattle.std.proofs.Common.{◌≡◌, ◌+◌, ℕ, Bool, true, false, List, [], ◌++◌, Result, Ok, Err, IfOk, IfErr, refl, subst, arith, length-append, append_assoc}
+use Rattle.std.specs.Prelude.{if◌then◌else◌}
+use Rattle.http_wire.specs.Conversation.{continue_text}
+use Rattle.http_wire.specs.Front.{Front, IsFront}
+use Rattle.http_wire.specs.ReadOnWire.{waits}
+use Rattle.http_wire.specs.inside.Ahead.{Ahead}
+use Rattle.http_wire.specs.inside.HeadLayout.{BeginsHead}
+use Rattle.http_wire.specs.inside.Standing.{Fits, Standing, Wants, missing}
+use Rattle.http_wire.specs.declared.read.stage.Stage.{Stage}
+use Rattle.http_wire.specs.declared.read.stage.Stage.TheVariants.{Head, Body}
+use Rattle.http_wire.proofs.FindLemmas.{Searching-more}
+use Rattle.http_wire.proofs.FrontLemmas.{BeginsHead-more, IsFront-waits}
+
+-- more bytes came
+pub Standing-more : (max : ℕ) (start read got said : List ℕ) (old new : Ahead) (s : Stage) → Standing max (start ++ read) said old s → Fits old s → new.held ≡ old.held ++ got
+    → Standing max (start ++ (read ++ got)) said new s
+Standing-more max start read got said old new (Head s) h fits e = (h.0, Searching-more start read old.held got new.held s h.1 e)
+Standing-more max start read got said old new (Body p) h fits e =
+    (h.0, subst (λ i. BeginsHead max i p new.held) (append_assoc start read got) (BeginsHead-more max (start ++ read) p old.held got new.held h.1 fits.held e))
+
+-- the same bytes are held
+pub Standing-kept : (max : ℕ) (bytes said : List ℕ) (old new : Ahead) (s : Stage) → Standing max bytes said old s → new.held ≡ old.held → Standing max bytes said new s
+Standing-kept max bytes said old new (Head s) h e = rw e h
+Standing-kept max bytes said old new (Body p) h e = rw e h
+
+pub Fits-more : (got : List ℕ) (old new : Ahead) (s : Stage) → Fits old s → new.held ≡ old.held ++ got → new.room ≡ old.room → Fits new s
+Fits-more got old new (Head s) fits e room = (fits.0, rw e (omega (arith, length-append old.held got, fits.1)))
+Fits-more got old new (Body p) fits e room = record {
+  head = fits.head;
+  body = fits.body;
+  held = rw e (omega (arith, length-append old.held got, fits.held));
+  room = rw room fits.room;
+  within = fits.within;
+}
+
+pub Wants-unended : (a : Ahead) (s : Stage) → Wants a s → a.ended ≡ false
+Wants-unended a (Head s) w = w.unended
+Wants-unended a (Body p) w = w.1
+
+-- a client that waits is told to go on, and what came is a message that waits
+pub Standing-waits : (max : ℕ) (bytes : List ℕ) (a : Ahead) (s : Stage) → Standing max bytes (continue_text true) a s → (f : Front) × IsFront max bytes f × (waits f ≡ true)
+Standing-waits max bytes a (Head s) h = absurd (said h.0)
+  where
+    said : continue_text true ≡ [] → ⊥
+    said e = absurd cc
+Standing-waits max bytes a (Body p) h = IsFront-waits max bytes p a.held h.1 (is_waiting p.is_waiting h.0)
+  where
+    is_waiting : (w : Bool) → continue_text true ≡ continue_text w → w ≡ true
+    is_waiting true e = refl
+    is_waiting false e = absurd cc
+
+-- the bytes that may still come, and the end
+abbrev pub still : Ahead → Stage → ℕ
+still a s = missing a s + (if a.ended then 0 else 1)
+
+-- what holds of what was given, from what held of it
+pub IfOk-from : {T E : Type 0} {P Q : T → Type 0} (r : Result T E) → IfOk r P → ((x : T) → P x → Q x) → IfOk r Q
+IfOk-from (Ok x) p all = all x p
+IfOk-from (Err e) p all = tt
+
+pub IfErr-from : {T E : Type 0} {P Q : E → Type 0} (r : Result T E) → IfErr r P → ((e : E) → P e → Q e) → IfErr r Q
+IfErr-from (Ok x) p all = tt
+IfErr-from (Err e) p all = all e p

@@ -1,0 +1,75 @@
+-- How far the reading of a message has come, and what a look at the bytes that came tells.
+use Rattle.std.specs.Prelude.{◌≡◌, ◌≤◌, ◌<◌, ◌+◌, ◌-◌, ◌^◌, ℕ, true, false, List, [], length, Ok, ⊤}
+use Rattle.http_wire.specs.Conversation.{continue_text}
+use Rattle.http_wire.specs.HeadText.{head_limit}
+use Rattle.http_wire.specs.Incoming.{is_cut_by_fault, map_incoming}
+use Rattle.http_wire.specs.Layout.{IsLayoutWithin, framed_at}
+use Rattle.http_wire.specs.ReadOnWire.{ComesIn, TellsEnd}
+use Rattle.http_wire.specs.inside.Ahead.{Ahead}
+use Rattle.http_wire.specs.inside.HeadLayout.{BeginsHead}
+use Rattle.http_wire.specs.inside.HeadSearch.{NeedsMore, Searching}
+use Rattle.http_wire.specs.inside.IncomingLayout.{IsLent}
+use Rattle.http_wire.specs.declared.incoming.Incoming.{Incoming}
+use Rattle.http_wire.specs.declared.read.inbox.TheConstants.{READ_SIZE}
+use Rattle.http_wire.specs.declared.read.layout.Layout.{Layout}
+use Rattle.http_wire.specs.declared.read.stage.Looked.{Looked}
+use Rattle.http_wire.specs.declared.read.stage.Looked.TheVariants.{More, Continue, Came}
+use Rattle.http_wire.specs.declared.read.stage.Stage.{Stage}
+use Rattle.http_wire.specs.declared.read.stage.Stage.TheVariants.{Head, Body}
+
+-- Some bytes came, of which these are held, and this was said meanwhile: nothing while the head is searched, and
+-- `100 Continue` before the body, where the client waits for it.
+abbrev pub Standing : ℕ → List ℕ → List ℕ → Ahead → Stage → Type 0
+Standing max bytes said a (Head s) = (said ≡ []) × Searching bytes a.held s
+Standing max bytes said a (Body p) = (said ≡ continue_text p.is_waiting) × BeginsHead max bytes p a.held
+
+-- with these bytes, and with this said meanwhile, this came in, which the inbox lends
+abbrev pub Comes : ℕ → List ℕ → List ℕ → Ahead → Incoming Layout → Type 0
+Comes max bytes said a i = ComesIn max (record { input = bytes; text = said }) a.held (map_incoming (framed_at a.lent) i)
+
+-- what a look came to: more is needed; `100 Continue` is due, before which nothing was said; or something came in
+abbrev pub LooksOn : ℕ → List ℕ → List ℕ → Ahead → Stage → Looked → Type 0
+LooksOn max bytes said a stage More = Standing max bytes said a stage
+LooksOn max bytes said a stage Continue = (said ≡ []) × Standing max bytes (continue_text true) a stage
+LooksOn max bytes said a stage (Came i) = Comes max bytes said a i
+
+-- the head of this layout is held, and there is room for its message and for a read after it
+pub record HasRoom (a : Ahead) (p : Layout) : Type 0 where
+  pub head : p.head_len ≤ head_limit
+  pub body : p.body_len < 2 ^ 31
+  pub held : p.head_len ≤ length a.held
+  pub room : p.head_len + p.body_len + READ_SIZE ≤ a.room
+  pub within : IsLayoutWithin p.head_len p
+
+-- a reading may stand so over this inbox
+abbrev pub Fits : Ahead → Stage → Type 0
+Fits a (Head s) = (s.skipped < head_limit) × (s.seen ≤ length a.held)
+Fits a (Body p) = HasRoom a p
+
+-- it needs more bytes, and there may be some
+abbrev pub Wants : Ahead → Stage → Type 0
+Wants a (Head s) = NeedsMore a s
+Wants a (Body p) = (length a.held < p.head_len + p.body_len) × (a.ended ≡ false)
+
+-- What came in is lent where it is a message or a cut PATCH. It is cut or nothing only at the reader's end.
+pub record Arrives (a : Ahead) (i : Incoming Layout) : Type 0 where
+  pub lent : IsLent a.lent i
+  pub tells_end : TellsEnd a.ended (Ok (map_incoming (framed_at a.lent) i))
+  pub whole : is_cut_by_fault (map_incoming (framed_at a.lent) i) ≡ false
+
+-- what a look leaves: where more is needed, there is room for a read
+abbrev pub Leaves : Ahead → Stage → Looked → Type 0
+Leaves a stage More = Fits a stage × Wants a stage × (length a.held + READ_SIZE ≤ a.room)
+Leaves a stage Continue = Fits a stage
+Leaves a stage (Came i) = Arrives a i
+
+-- how many bytes may still come; a head counts for more than any body
+abbrev pub missing : Ahead → Stage → ℕ
+missing a (Head s) = 2 ^ 32 + (head_limit - (s.skipped + length a.held))
+missing a (Body p) = (p.head_len + p.body_len) - length a.held
+
+-- a look brings the reading no further from its end, and `100 Continue` brings it nearer
+abbrev pub IsNearer : ℕ → Ahead → Stage → Looked → Type 0
+IsNearer before a stage More = missing a stage ≤ before
+IsNearer before a stage Continue = missing a stage < before
+IsNearer before a stage (Came i) = ⊤
