@@ -51,11 +51,11 @@ abbrev pub Wants : Ahead → Stage → Type 0
 Wants a (Head s) = NeedsMore a s
 Wants a (Body p) = (length a.held < p.head_len + p.body_len) × (a.ended ≡ false)
 
--- What came in is lent where it is a message or a cut PATCH. It is cut or nothing only at the reader's end.
+-- What came in is lent where it is a message or a cut PATCH. It is cut, or nothing, only at the reader's end, and by no read that failed.
 pub record Arrives (a : Ahead) (i : Incoming Layout) : Type 0 where
   pub lent : IsLent a.lent i
   pub tells_end : TellsEnd a.ended (Ok (map_incoming (framed_at a.lent) i))
-  pub whole : is_cut_by_fault (map_incoming (framed_at a.lent) i) ≡ false
+  pub unbroken : is_cut_by_fault (map_incoming (framed_at a.lent) i) ≡ false
 
 -- what a look leaves: where more is needed, there is room for a read
 abbrev pub Leaves : Ahead → Stage → Looked → Type 0

@@ -127,7 +127,7 @@ fn judge_head(
     ensures room { IfOk result (HasRoom inbox.new) }
     ensures comes { IfErr result (λ i. (bytes : List ℕ) → IsHeadFound bytes inbox.old found
         → Comes max_size bytes [] inbox.new i) }
-    ensures whole { IfErr result (Arrives inbox.new) }
+    ensures arrives { IfErr result (Arrives inbox.new) }
     ensures ended { inbox.new.ended ≡ inbox.old.ended }
 {
     match found {
@@ -151,7 +151,7 @@ fn make_room(inbox: &mut Inbox, layout: Layout) -> Result<Layout, Incoming<Layou
     ensures room { IfOk result (HasRoom inbox.new) }
     ensures comes { IfErr result (λ i. (max : ℕ) (bytes : List ℕ) → BeginsHead max bytes layout inbox.old.held
         → Comes max bytes [] inbox.new i) }
-    ensures whole { IfErr result (Arrives inbox.new) }
+    ensures arrives { IfErr result (Arrives inbox.new) }
     ensures held { inbox.new.held ≡ inbox.old.held }
     ensures ended { inbox.new.ended ≡ inbox.old.ended }
 {
