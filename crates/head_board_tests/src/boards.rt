@@ -82,7 +82,10 @@ fn readers_see_what_is_shown(rt: HostRuntime) -> Result<(), Fail> {
     assert!(rt; !one.may_expire(moment(&rt, 4599)));
     assert!(rt; one.may_expire(moment(&rt, 4600)));
     drop(board);
-    assert!(rt; one.look(&name(0, 1), moment(&rt, 1000), &mut HeadRow::empty()).is_none());
+    assert!(rt;
+        one.look(&name(0, 1), moment(&rt, 1000), &mut HeadRow::empty())
+            .is_none()
+    );
     Ok(())
 }
 

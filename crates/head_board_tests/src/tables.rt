@@ -8,8 +8,8 @@ use std::process::Abort;
 use std::test::Fail;
 use upload_book::NotedChange::{Created, Gone, Grown, Swept};
 use upload_book::{
-    Accounts, Growth, HeadNote, Kind, LentRow, Moment, Name, NotedChange, Numbers,
-    Refusal, Settings,
+    Accounts, Growth, HeadNote, Kind, LentRow, Moment, Name, NotedChange, Numbers, Refusal,
+    Settings,
 };
 
 // The note of a change, after which so much was charged.

@@ -67,6 +67,7 @@ module _ {W E : Type 0} (kind : ErrorKind) (status : ℕ) (writer : StreamUse W)
     pub untouched : IsUntouched writer
     pub line : WritesLine errors Memory
 
+  -- the run explained itself in one of these three ways
   abbrev pub Explains : Type 0
   Explains = ((text : List ℕ) × Tells text) ⊎ RefusesUntold ⊎ EndsForMemory
 

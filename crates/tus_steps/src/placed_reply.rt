@@ -7,9 +7,7 @@ ghost use Rattle.tus_steps.specs.Reply.{content_reply, creation_reply, head_repl
 use crate::reply::{Place, Reply};
 use crate::request::Request;
 use tus_text::{Tenant, Text};
-use upload_book::{
-    Content, Created, HeadRow, LentRow, Moment, Outcome, Refusal, Refused,
-};
+use upload_book::{Content, Created, HeadRow, LentRow, Moment, Outcome, Refusal, Refused};
 
 /// What a [`Reply`] is, but for the row of a HEAD: so it is small.
 #[derive(Drop)]

@@ -13,8 +13,8 @@ abbrev pub SweepsExpired : Settings → ℕ → Desk → Desk → Type 0
 SweepsExpired s now old new =
     ((swept : Swept) × Sweeps s now swept old new) ⊎ (SeesNoneExpired s old.seen new.seen now × OnlySeesMore old new)
 
--- The desk answers a request at a moment, and before that it may have ended the uploads that had expired then: so an upload
--- that is over keeps nothing of its tenant's quota from the request.
+-- The desk answers a request at a moment. Before that it may have ended the uploads that had expired then, or read that there
+-- were none; nothing here demands that it does.
 abbrev pub ServesTurn : Settings → Request → ℕ → Reply → Desk → Desk → Type 0
 ServesTurn s request now reply old new =
     (ready : Desk) × (SweepsExpired s now old ready ⊎ (ready ≡ old)) × AnswersTurn s request now reply ready new
