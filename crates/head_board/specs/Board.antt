@@ -19,8 +19,8 @@ pub record BoardView : Type 0 where
   pub log : Book
   pub events : List Event
 
--- The same at a reader, which has seen some of the events; and whether it has missed the board. It has once an entry of it
--- found that the board had been let go, or showed fewer events than the reader had seen. No entry does while there is the
+-- The same at a reader, which has seen some of the events; and whether it has missed the board. It has from
+-- the first entry on that found that the board had been let go, or showed fewer events than the reader had seen. No entry does while there is the
 -- board.
 pub record ReaderView : Type 0 where
   pub settings : Settings

@@ -13,7 +13,7 @@ use left_right::reader::Reading;
 pub type BoardReading = Reading<BoardCopy, View, OneBoard>;
 
 /// An entry that was missed: it found that the board has been let go, or that it shows fewer events than were seen. Only
-/// [`enter`] makes one, so who has one has tried.
+/// this file makes one, after it has tried.
 #[derive(Drop)]
 pub struct Missed(());
 

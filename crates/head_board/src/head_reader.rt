@@ -18,7 +18,7 @@ use std::marker::Model;
 use upload_book::{HeadRow, Moment, Name, Refusal};
 
 /// A reader of the heads that a board shows, which needs no lock. A contract sees the settings of the book, which log
-/// the events of the board are in, the events that the reader has seen, and whether it has missed the board: all that it
+/// the events of the board are in, whether the reader has missed the board, and the events that it has seen: all that it
 /// reads is at least as new as these.
 #[derive(Drop)]
 pub struct HeadReader {
@@ -105,12 +105,12 @@ impl HeadReader {
     }
 
     /// Reads what the board tells of an upload at this moment: Unknown where the name's tenant is not there or never had
-    /// the id, Gone where the upload has ended or expired, and else its row, which is put to `row`; else that stays. The
-    /// answer is at least as new as what the reader has seen, and the reader has seen the events of the answer then. It
-    /// takes no lock and no memory, and waits for nobody.
+    /// the id, Gone where the upload has ended or expired, and else its row, which is put to `row`. Without a row, `row`
+    /// stays. The answer is at least as new as what the reader has seen, and the reader has seen the events of the answer
+    /// then. It takes no lock and no memory, and waits for nobody.
     ///
-    /// `None` says that the reader has missed the board: an entry found that it has been let go, or that it shows fewer
-    /// events than the reader has seen, which happens in no run. All else of the reader is as it was.
+    /// `None` says that the reader has missed the board: an entry found that it has been let go, or, as no run does, that it
+    /// shows fewer events than the reader has seen. All else of the reader is as it was.
     pub fn look(
         &mut self,
         name: &Name,

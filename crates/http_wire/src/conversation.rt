@@ -11,6 +11,8 @@ ghost use Rattle.http_wire.specs.Layout.{IsMessage, framed_at, request_at};
 ghost use Rattle.http_wire.specs.inside.IncomingLayout.{IsLent};
 ghost use Rattle.http_wire.specs.ReplyText.{reply_text};
 ghost use Rattle.tus_steps.specs.declared.reply.Reply.{Reply};
+ghost use Rattle.tus_steps.specs.declared.reply.Reply.TheVariants.{Deleted};
+ghost use Rattle.tus_steps.specs.PlacedReply.{reply_in};
 ghost use Rattle.http_wire.specs.Fault.{NamesStream, NamesOrMemory};
 ghost use Rattle.http_wire.specs.Writes.{Writes};
 
@@ -240,6 +242,7 @@ fn answer_message<W: Sink, A: Answer>(
         × A.steps answerer.old (request_at layout.now buffers.old.inbox.lent) now reply answerer.new
         × Writes (W.contents writer.old) (W.contents writer.new) (W.has_failed writer.new)
         (reply_text reply now layout.now.framing) result }
+    ensures let_go { reply_in buffers.new.reply.value ≡ Deleted }
 {
     let request = request_in(layout, buffers.inbox.lent());
     answerer.answer(&request, now, &mut buffers.reply);

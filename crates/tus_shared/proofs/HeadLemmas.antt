@@ -1,6 +1,6 @@
 -- A HEAD as a turn of a desk: it changes nothing.
 use Rattle.std.proofs.Common.{◌≡◌, ℕ, ◌+◌, Bool, true, false, List, Option, Some, None, IfSome, IfNone, Result, Ok, Err, IsErr, length, refl, sym, ap, ap₂, subst, ◌∙◌}
-use Rattle.std.specs.Prelude.{⊤}
+use Rattle.std.specs.Prelude.{◌⊎◌, ⊤}
 use mathlib.Core.List.{IsPrefix}
 use Rattle.upload_book.specs.declared.head_row.HeadRow.{HeadRow}
 use Rattle.upload_book.specs.declared.head_row.Name.{Name}
@@ -23,10 +23,10 @@ use Rattle.tus_steps.specs.Step.{IsStep}
 use Rattle.head_board.specs.Board.{ReadsHead, row_read}
 use Rattle.head_board.specs.Event.{Event}
 use Rattle.head_board.specs.Events.{HaveHappened, book_at}
-use Rattle.tus_shared.specs.Answers.{Answers, IsRefusedHead, IsUploadHead, MissesBoard, OnlyLooks, OnlySeesMore}
+use Rattle.tus_shared.specs.Answers.{Answers, AnswersTurn, IsRefusedHead, IsUploadHead, MissesBoard, OnlyLooks, OnlySeesMore}
 use Rattle.tus_shared.specs.Desk.{Desk, Moves}
 use Rattle.tus_shared.specs.Steps.{AddsBy, AddsChange}
-use Rattle.tus_steps.proofs.AskedLemmas.{look-step, refused-step}
+use Rattle.tus_steps.proofs.AskedLemmas.{asks-in, look-step, refused-step}
 use Rattle.tus_shared.proofs.EventLemmas.{at-settings}
 use Rattle.tus_shared.proofs.LogLaws.{prefix-on, prefix-self}
 
@@ -78,6 +78,18 @@ head-answers s r now name row old new is reads alone = record {
   moves = sees-more s old new alone;
 }
 
+-- a desk that answers a HEAD of an upload, without the lock or after it has missed the board
+pub head-turn : (s : Settings) (r : Request) (now : ℕ) (name : Name) (reply : Reply) (old new : Desk) → asked.Look name ≡ asked_in s r
+    → Answers s r now reply old new → (new.steps ≡ old.steps) ⊎ (new.missed ≡ true) → AnswersTurn s r now reply old new
+head-turn s r now name reply old new is answers beside =
+    let looks = (asks-in s r (asked.Look name) is).1 in
+    record {
+      answers = answers;
+      unseen = λ refused. absurd (cc (subst IsErr looks refused.refused));
+      beside = λ head. beside;
+      counted = λ other refused. absurd (other (name, looks));
+    }
+
 -- a desk that looks first, and then answers
 pub sees-first : (s : Settings) (r : Request) (now : ℕ) (reply : Reply) (old ready new : Desk) → OnlyLooks old ready → Answers s r now reply ready new → Answers s r now reply old new
 sees-first s r now reply old ready new looks answers =
@@ -124,6 +136,10 @@ refused-asks s r asks is head = by_answer (operation_of s r) refl head.refused
     by_answer : (op : Result Operation Refusal) → operation_of s r ≡ op → IsErr op → (why : Refusal) × (asks ≡ asked.Refused why)
     by_answer (Ok op) found refused = absurd (cc refused)
     by_answer (Err why) found refused = (why, is ∙ rw (no-options r.method head.head, found) refl)
+
+-- a HEAD that is found to be refused
+pub is-refused-head : (s : Settings) (r : Request) (why : Refusal) → asked.Refused why ≡ asked_in s r → is_head r.method ≡ true → IsRefusedHead s r
+is-refused-head s r why is head = record { head = head; refused = subst IsErr (sym (asks-in s r (asked.Refused why) is).1) refl }
 
 -- a HEAD of an upload asks for what stands of it
 pub head-asks : (s : Settings) (r : Request) (asks : Asked) → asks ≡ asked_in s r → (head : IsUploadHead s r) → asks ≡ asked.Look head.name

@@ -17,7 +17,7 @@ use Rattle.tus_steps.specs.Step.{IsStep}
 use Rattle.head_board.specs.Board.{ReadsHead}
 use Rattle.head_board.specs.Event.{Event}
 use Rattle.head_board.specs.Events.{HaveHappened, book_at}
-use Rattle.tus_shared.specs.Desk.{Desk, Moves}
+use Rattle.tus_shared.specs.Desk.{Desk, Moves, next_count}
 use Rattle.tus_shared.specs.Steps.{AddsChange, IsSweep}
 use Rattle.tus_shared.specs.Turn.{Turn}
 
@@ -71,12 +71,18 @@ pub record IsUploadHead (s : Settings) (request : Request) : Type 0 where
   pub name : Name
   pub looks : operation_of s request ≡ Ok (Look name)
 
+-- the request asks what stands of an upload, as HEADs alone do
+abbrev pub AsksToLook : Settings → Request → Type 0
+AsksToLook s request = (name : Name) × (operation_of s request ≡ Ok (Look name))
+
 -- What a desk answers to a turn, with the lock or beside it: a HEAD that is refused before any upload is looked at looks at
--- nothing, and the desk stays; and a HEAD of an upload makes no step with the lock, unless the desk has missed the board.
+-- nothing, and the desk stays; a HEAD of an upload makes no step with the lock, unless the desk has missed the board; and all
+-- else makes one.
 pub record AnswersTurn (s : Settings) (request : Request) (now : ℕ) (reply : Reply) (old new : Desk) : Type 0 where
   pub answers : Answers s request now reply old new
   pub unseen : IsRefusedHead s request → new ≡ old
   pub beside : IsUploadHead s request → (new.steps ≡ old.steps) ⊎ (new.missed ≡ true)
+  pub counted : ¬ (AsksToLook s request) → ¬ (IsRefusedHead s request) → new.steps ≡ next_count old.steps
 
 -- The replies to a batch at a desk, one for each of its turns, in their order: each turn is answered at the desk as the
 -- one before left it.

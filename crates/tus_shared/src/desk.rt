@@ -4,6 +4,7 @@ ghost use Rattle.tus_steps.specs.declared.asked.Asked.TheVariants as asks;
 ghost use Rattle.tus_steps.specs.PlacedReply.{reply_in};
 ghost use Rattle.head_board.specs.Board.{ReadsHead, SeesNoneExpired, row_read};
 ghost use Rattle.tus_shared.specs.Answers.{Answers, AnswersBatch, AnswersTurn, MissesBoard, OnlySeesMore, SeesHead, Sweeps};
+ghost use Rattle.tus_shared.specs.Desk.{next_count};
 ghost use Rattle.upload_book.specs.declared.refusal.Refusal.TheVariants.{Board, Unknown};
 
 use crate::charges::Charges;
@@ -20,8 +21,8 @@ use upload_book::{HeadRow, Moment, Name, Refusal, Settings, Swept};
 
 /// One of the desks that an opening gives, at which one thread answers its requests. It counts in three shares how many
 /// blocks its own steps charged, how many they released, and how many of them changed the book, and has a reader of the
-/// board; and it counts how many steps it made with the lock. A contract sees the desk's number, these counts, the events
-/// that the desk has seen, and whether it has missed the board: each later answer is at least as new as these events.
+/// board; and it counts how many steps it made with the lock. A contract sees the desk's number, these counts, whether it has
+/// missed the board, and the events that it has seen: each later answer is at least as new as these.
 #[derive(Drop)]
 pub struct Desk<C: Charges, R: Ledger, M: Ledger> {
     pub(crate) alloc: Global,
@@ -71,7 +72,8 @@ impl<C: Charges, R: Ledger, M: Ledger> Desk<C, R, M> {
         request: &Request,
         now: Moment,
     ) -> Reply
-        ensures { Answers C.settings request.now now result self.old self.new }
+        ensures answers { Answers C.settings request.now now result self.old self.new }
+        ensures counted { self.new.steps ≡ next_count self.old.steps }
     {
         let mut ids = PartIds::new();
         let asked = asked_of(&self.settings, request, &mut ids);
@@ -88,7 +90,8 @@ impl<C: Charges, R: Ledger, M: Ledger> Desk<C, R, M> {
         shared: &Shared<C, R, M, B>,
         now: Moment,
     ) -> Swept
-        ensures { Sweeps C.settings now result self.old self.new }
+        ensures sweeps { Sweeps C.settings now result self.old self.new }
+        ensures counted { self.new.steps ≡ next_count self.old.steps }
     {
         shared.store.lock(rt).sweep(self, now)
     }
@@ -134,13 +137,15 @@ impl<C: Charges, R: Ledger, M: Ledger> Desk<C, R, M> {
         ensures none { result ≡ false → SeesNoneExpired C.settings self.old.seen self.new.seen now }
         ensures alone { result ≡ false → OnlySeesMore self.old self.new }
         ensures stays { result ≡ true → self.new ≡ record self.old { missed = self.new.missed } }
+        ensures missed { self.old.missed ≡ true → self.new.missed ≡ true }
     {
         self.reader.may_expire(now)
     }
 
     /// Answers a turn, and passes the gate on the way: at `Before`, then with the lock at `Locked`, if it takes the
-    /// lock, then without it at `Answered`. A HEAD is answered as [`Desk::head`] tells, without the lock; all else, and
-    /// a HEAD where the desk has missed the board, as [`Desk::call`] does. The number of the turn is for the gate alone.
+    /// lock, then without it at `Answered`. A HEAD of an upload is answered as [`Desk::head`] tells, without the lock, and
+    /// one that is refused before that looks at nothing. All else, and a HEAD of an upload where the desk has missed the
+    /// board, is answered as [`Desk::call`] does. The number of the turn is for the gate alone.
     pub fn answer<W: Wait, B: Wait + Drop, G: Gate>(
         &mut self,
         rt: &W,
@@ -213,8 +218,7 @@ impl<C: Charges, R: Ledger, M: Ledger> Desk<C, R, M> {
         reply: &mut PlacedReply,
     )
         requires found { IsFound C.settings request.now (asks.Look name) }
-        ensures answers { Answers C.settings request.now now (reply_in reply.new) self.old self.new }
-        ensures beside { (self.new.steps ≡ self.old.steps) ⊎ (self.new.missed ≡ true) }
+        ensures { AnswersTurn C.settings request.now now (reply_in reply.new) self.old self.new }
     {
         match self.read_board(&name, now, &mut reply.row) {
             Some(Ok(())) => reply.kind = ReplyKind::Head,
@@ -241,6 +245,7 @@ impl<C: Charges, R: Ledger, M: Ledger> Desk<C, R, M> {
         requires found { IsFound C.settings request.now asked }
         ensures answers { Answers C.settings request.now now (reply_in reply.new) self.old self.new }
         ensures missed { self.old.missed ≡ true → self.new.missed ≡ true }
+        ensures counted { self.new.steps ≡ next_count self.old.steps }
     {
         let room = self.work_ahead(&mut asked, now, &mut reply.row);
         self.step_locked(rt, shared, request, asked, room, now, turn, gate, reply);
@@ -262,6 +267,7 @@ impl<C: Charges, R: Ledger, M: Ledger> Desk<C, R, M> {
         requires found { IsFound C.settings request.now asked }
         ensures answers { Answers C.settings request.now now (reply_in reply.new) self.old self.new }
         ensures missed { self.new.missed ≡ self.old.missed }
+        ensures counted { self.new.steps ≡ next_count self.old.steps }
     {
         let mut store = shared.store.lock(rt);
         gate.pass(self.number, turn, Stop::Locked);

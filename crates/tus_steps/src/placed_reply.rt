@@ -49,8 +49,8 @@ pub enum ReplyKind {
     },
 }
 
-/// A reply in its place, for one after another: it stands for the [`Reply`] that has `row` where `kind` is a HEAD's. The row
-/// stays where it lies, so no reply moves one, and a reply without one touches none.
+/// A place for replies, one after another: it stands for the [`Reply`] of this `kind`, with `row` where that is a HEAD's. No
+/// reply moves the row; where the kind is another, what lies there means nothing.
 #[derive(Drop)]
 pub struct PlacedReply {
     pub kind: ReplyKind,

@@ -1,8 +1,9 @@
 -- What a desk does for a message that a worker read.
-use Rattle.std.specs.Prelude.{◌≡◌, ◌⊎◌, ℕ}
+use Rattle.std.specs.Prelude.{◌≡◌, ◌⊎◌, ℕ, true}
 use Rattle.upload_book.specs.declared.sweep.Swept.{Swept}
 use Rattle.upload_book.specs.Settings.{Settings}
 use Rattle.tus_steps.specs.declared.reply.Reply.{Reply}
+use Rattle.tus_steps.specs.Method.{is_head}
 use Rattle.tus_steps.specs.Request.{Request}
 use Rattle.head_board.specs.Board.{SeesNoneExpired}
 use Rattle.tus_shared.specs.Answers.{AnswersTurn, OnlySeesMore, Sweeps}
@@ -14,7 +15,9 @@ SweepsExpired s now old new =
     ((swept : Swept) × Sweeps s now swept old new) ⊎ (SeesNoneExpired s old.seen new.seen now × OnlySeesMore old new)
 
 -- The desk answers a request at a moment. Before that it may have ended the uploads that had expired then, or read that there
--- were none; nothing here demands that it does.
-abbrev pub ServesTurn : Settings → Request → ℕ → Reply → Desk → Desk → Type 0
-ServesTurn s request now reply old new =
-    (ready : Desk) × (SweepsExpired s now old ready ⊎ (ready ≡ old)) × AnswersTurn s request now reply ready new
+-- were none; nothing here demands that it does. Before a HEAD it does neither, so a HEAD waits for no sweep.
+pub record ServesTurn (s : Settings) (request : Request) (now : ℕ) (reply : Reply) (old new : Desk) : Type 0 where
+  pub ready : Desk
+  pub sweeps : SweepsExpired s now old ready ⊎ (ready ≡ old)
+  pub head : is_head request.method ≡ true → ready ≡ old
+  pub answers : AnswersTurn s request now reply ready new

@@ -8,7 +8,7 @@ use Rattle.http_wire.specs.declared.read.head_search.HeadFound.TheVariants.{Whol
 use Rattle.http_wire.specs.declared.read.head_search.Search.{Search}
 use Rattle.http_wire.specs.declared.read.head_text.Scan.{Scan}
 
--- a whole head is held, and is no longer than a head may be; one that is cut or is not there is so at the end
+-- A whole head is held, and is no longer than a head may be. One is cut, or none is there, only at the end of the input.
 abbrev pub IsHeldBy : Ahead → HeadFound → Type 0
 IsHeldBy a (Whole n) = (n ≤ length a.held) × (n ≤ head_limit)
 IsHeldBy a TooLong = ⊤

@@ -51,7 +51,8 @@ abbrev pub Wants : Ahead → Stage → Type 0
 Wants a (Head s) = NeedsMore a s
 Wants a (Body p) = (length a.held < p.head_len + p.body_len) × (a.ended ≡ false)
 
--- What came in is lent where it is a message or a cut PATCH. It is cut, or nothing, only at the reader's end, and by no read that failed.
+-- A message and a cut PATCH are lent. A cut one, and a clean end, come only at the reader's end; no look tells of a failed
+-- read.
 pub record Arrives (a : Ahead) (i : Incoming Layout) : Type 0 where
   pub lent : IsLent a.lent i
   pub tells_end : TellsEnd a.ended (Ok (map_incoming (framed_at a.lent) i))

@@ -2,7 +2,7 @@ use Rattle.std.proofs.Common.{◌≡◌, inl, rules, refl, sym, subst, ◌∙◌
 use Rattle.upload_book.specs.Settings.{Settings}
 use Rattle.tus_steps.specs.Asked.{asked_in}
 use Rattle.head_board.specs.Events.{HaveHappened}
-use Rattle.tus_shared.proofs.HeadLemmas.{head-asks, refused-answers, refused-asks}
+use Rattle.tus_shared.proofs.HeadLemmas.{head-asks, is-refused-head, refused-answers, refused-asks}
 use Rattle.tus_shared.proofs.desk.Desk.reply_to.Goals as goal
 
 pub returns-in-Refused : goal.returns-in-Refused
@@ -15,6 +15,7 @@ returns-in-Refused g c =
       answers = refused-answers s r c.args.now c.in-Refused.refusal c.args.self.now (sym c.in-Refused.is ∙ is) happened;
       unseen = λ head. refl;
       beside = λ head. inl refl;
+      counted = λ other refused. absurd (refused (is-refused-head s r c.in-Refused.refusal (sym c.in-Refused.is ∙ is) (rw (← c.request.view_is) (sym c.is_head.ensures ∙ c.if-is_head.true))));
     })
 
 pub returns-in_default : goal.returns-in_default
@@ -30,4 +31,5 @@ returns-in_default g c =
       beside = λ head.
           let asks = head-asks s r c.asked_of.result is head in
           search rules;
+      counted = λ other refused. c.answer_locked.ensures.counted;
     }
