@@ -16,7 +16,7 @@ use upload_book::{Book, Change, FirstChunk, HeadRow, NewUpload, Payload, Refusal
 
 // A place for the rows of a reader.
 fn place(alloc: Global) -> Result<Box<HeadRow>, AllocError> {
-    Box::new(alloc, HeadRow::empty())
+    Ok(Box::new(alloc, HeadRow::empty())?)
 }
 
 // A reader finds the offset of acme's first upload, or why there is none.
