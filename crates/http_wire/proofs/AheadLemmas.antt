@@ -1,11 +1,8 @@
 -- What reads and writes do to known bytes, one call after another.
-use Rattle.std.proofs.Common.{◌≡◌, Bool, subst, ℕ, refl, ◌+◌, ◌≤◌, List, [], ◌++◌, Option, Some, None, Result, Ok, Err, is_err, true, false, true≢false, OnOk, OnErr, length, take, drop, sym, ap, ◌∙◌, append-nil, append_assoc, arith, length-append}
-use Rattle.std.proofs.Math.Seq.{take-add, take-append-add}
-use Rattle.std.proofs.lemmas.List.{take-append-le}
+use Rattle.std.proofs.Common.{◌≡◌, ℕ, refl, ◌+◌, List, [], ◌++◌, Option, Some, None, Result, Ok, Err, is_err, true, false, true≢false, IfOk, IfSome, OnOk, OnErr, subst, take, drop, sym, ap, ◌∙◌, append-nil, append_assoc}
+use Rattle.std.proofs.Math.Seq.{take-add}
 use Rattle.std.specs.Io.KnownBytes.{Appends, Consumes, Keeps}
 use Rattle.http_wire.specs.inside.Ahead.{Ahead, StopsAtEnd}
-use Rattle.http_wire.specs.Writes.{Writes}
-use Rattle.http_wire.specs.declared.fault.WireFault.{WireFault}
 
 -- what holds of an error holds where there is one
 pub OnErr-known : {T E P : Type 0} (r : Result T E) → is_err r ≡ true → OnErr r P → P
@@ -16,6 +13,27 @@ OnErr-known (Err e) is h = h
 pub OnOk-known : {T E P : Type 0} (r : Result T E) → is_err r ≡ false → OnOk r P → P
 OnOk-known (Ok x) is h = h
 OnOk-known (Err e) is h = absurd cc
+
+pub IfOk-known : {T E : Type 0} (P : T → Type 0) (r : Result T E) → is_err r ≡ false → IfOk r P → (x : T) × (r ≡ Ok x) × P x
+IfOk-known P (Ok x) is h = (x, refl, h)
+IfOk-known P (Err e) is h = absurd cc
+
+-- two facts of one value
+pub IfOk-both : {T E : Type 0} (P Q : T → Type 0) (r : Result T E) → IfOk r P → IfOk r Q → IfOk r (λ x. P x × Q x)
+IfOk-both P Q (Ok x) p q = (p, q)
+IfOk-both P Q (Err e) p q = tt
+
+pub IfSome-known : {T : Type 0} (P : T → Type 0) (o : Option T) (x : T) → o ≡ Some x → IfSome o P → P x
+IfSome-known P o x is h = subst (λ o. IfSome o P) is h
+
+-- what holds anyway holds of an error, and of a value
+pub OnErr-always : {T E P : Type 0} (r : Result T E) → P → OnErr r P
+OnErr-always (Ok x) h = tt
+OnErr-always (Err e) h = h
+
+pub OnOk-always : {T E P : Type 0} (r : Result T E) → P → OnOk r P
+OnOk-always (Ok x) h = h
+OnOk-always (Err e) h = tt
 
 -- bytes that stay are bytes of which none were taken
 pub Consumes-from_keeps : (before after : Option (List ℕ)) → Keeps before after → Consumes before after []
@@ -34,18 +52,6 @@ Appends-more None y z a b h k = tt
 Appends-more (Some xs) None z a b h k = absurd h
 Appends-more (Some xs) (Some ys) None a b h k = absurd k
 Appends-more (Some xs) (Some ys) (Some zs) a b h k = k ∙ ap (λ l. l ++ b) h ∙ append_assoc xs a b
-
--- two pieces of a text were written
-Appends-both : {T : Type 0} (r : Result T WireFault) (x y z : Option (List ℕ)) (first rest : List ℕ) → Appends x y first → OnOk r (Appends y z rest) → OnOk r (Appends x z (first ++ rest))
-Appends-both (Ok done) x y z first rest h k = Appends-more x y z first rest h k
-Appends-both (Err e) x y z first rest h k = tt
-
--- the first piece was written, and a prefix of the rest
-Appends-rest : {T : Type 0} (r : Result T WireFault) (x y z : Option (List ℕ)) (first rest : List ℕ) → Appends x y first
-    → OnErr r ((n : ℕ) × (n ≤ length rest) × Appends y z (take n rest)) → OnErr r ((n : ℕ) × (n ≤ length (first ++ rest)) × Appends x z (take n (first ++ rest)))
-Appends-rest (Ok done) x y z first rest h k = tt
-Appends-rest (Err e) x y z first rest h k =
-    (length first + k.0, omega (arith, length-append first rest, k.1), rw (take-append-add first rest k.0) (Appends-more x y z first (take k.0 rest) h k.2))
 
 -- a write of a prefix of what was left of some bytes
 pub Appends-step : (x y z : Option (List ℕ)) (bytes : List ℕ) (done n : ℕ) → Appends x y (take done bytes) → Appends y z (take n (drop done bytes))
@@ -74,25 +80,3 @@ Consumes-kept (Some xs) (Some ys) (Some zs) a h k = h ∙ ap (λ l. a ++ l) (sym
 -- the end was not seen yet, so it was not seen before
 pub StopsAtEnd-open : {R : Type 0} (before here after : R) (old held new : Ahead) → StopsAtEnd before here old held → held.ended ≡ false → StopsAtEnd before after old new
 StopsAtEnd-open before here after old held new stops unended seen = absurd (true≢false (sym (stops seen).1 ∙ unended))
-
--- the first of two pieces was not written whole
-pub Writes-first : {T U : Type 0} (r : Result U WireFault) (e given : WireFault) (x y : Option (List ℕ)) (failed : Bool) (first rest : List ℕ) → r ≡ Err e → e ≡ given
-    → Writes {T = T} x y failed first (Err given) → Writes x y failed (first ++ rest) r
-Writes-first r e given x y failed first rest is same w =
-    let written = w.prefix in
-    subst (λ (s : Result _ WireFault). Writes x y failed (first ++ rest) s) (sym is) (record {
-      all = tt;
-      prefix = (written.0, omega (arith, length-append first rest, written.1), rw (take-append-le written.0 first rest written.1) written.2);
-      failed = w.failed;
-      fault = same ∙ w.fault;
-    })
-
--- the first piece was written, and then the rest
-pub Writes-rest : {T : Type 0} (r : Result T WireFault) (x y z : Option (List ℕ)) (failed : Bool) (first rest : List ℕ) → Appends x y first → Writes y z failed rest r
-    → Writes x z failed (first ++ rest) r
-Writes-rest r x y z failed first rest h w = record {
-  all = Appends-both r x y z first rest h w.all;
-  prefix = Appends-rest r x y z first rest h w.prefix;
-  failed = w.failed;
-  fault = w.fault;
-}

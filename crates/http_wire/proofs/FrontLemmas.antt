@@ -8,11 +8,9 @@ use Rattle.tus_steps.specs.Field.{FieldText}
 use Rattle.tus_steps.specs.Method.{is_applied_when_cut}
 use Rattle.tus_steps.specs.Request.{Request}
 use Rattle.http_wire.specs.inside.Ahead.{Ahead}
-use Rattle.http_wire.specs.Conversation.{continue_text}
 use Rattle.http_wire.specs.Front.{Front, Begins, BeginsWhole, IsFront, LacksMemory, message, refused, cut_patch, cut_other, clean_end, closing, framing_of, unknown_framing, sure_room, method_in, is_waiting, request_of, tus_fields, with_body, judged, judged_front, parsed_front}
 use Rattle.http_wire.specs.Layout.{field_at, request_at}
 use Rattle.http_wire.specs.inside.HeadLayout.{ShowsHead, BeginsHead, ReadsLayout}
-use Rattle.http_wire.specs.inside.IncomingLayout.{ReadsIncoming}
 use Rattle.http_wire.specs.ReadOnWire.{BreaksFront, waits}
 use Rattle.http_wire.specs.inside.HeadSearch.{IsUnfinished}
 use Rattle.http_wire.specs.HeadText.{HeadText, whole, too_long, cut, nothing, head_text, has_many_lines}
@@ -20,9 +18,7 @@ use Rattle.http_wire.specs.declared.read.layout.Layout.{Layout}
 use Rattle.http_wire.specs.declared.refusal.WireRefusal.{WireRefusal}
 use Rattle.http_wire.specs.declared.refusal.WireRefusal.TheVariants.{Memory, HeadSize}
 use Rattle.http_wire.specs.declared.framing.Framing.{Framing}
-use Rattle.http_wire.specs.declared.incoming.Incoming.{Incoming}
-use Rattle.http_wire.specs.declared.fault.WireFault.{WireFault}
-use Rattle.http_wire.specs.declared.fault.WireFault.TheVariants.{Read, Write}
+use Rattle.http_wire.specs.declared.fault.WireFault.TheVariants.{Read}
 use Rattle.http_wire.proofs.FindLemmas.{head_text-append}
 
 -- more bytes came
@@ -131,11 +127,6 @@ pub IsFront-waits : (max : ℕ) (bytes : List ℕ) (p : Layout) (held : List ℕ
     → (f : Front) × IsFront max bytes f × (waits f ≡ true)
 IsFront-waits max bytes p held b w =
     (with_body b.head p.body_len (drop p.head_len held), alone max bytes p held b, waits-with_body b.head p.body_len (drop p.head_len held) (sym b.shows.is_waiting ∙ w))
-
--- the write of `100 Continue` failed
-pub ReadsIncoming-unwritten : (max : ℕ) (bytes : List ℕ) (a : Ahead) (r : Result (Incoming Layout) WireFault) (e : WireFault) (n : ℕ) → r ≡ Err e → e ≡ Write
-    → (f : Front) → IsFront max bytes f → waits f ≡ true → ReadsIncoming max (record { input = bytes; text = take n (continue_text true) }) a r
-ReadsIncoming-unwritten max bytes a r e n is is_write f front w = rw (is, is_write) (f, front, w, (n, refl))
 
 -- a head that was found and read
 pub BeginsHead-found : (max : ℕ) (bytes held found : List ℕ) (len : ℕ) (p : Layout) → found ≡ held → len ≤ length held → p.head_len ≡ length (take len found)

@@ -12,7 +12,7 @@ use Rattle.httparse.specs.declared.spans.Span.{Span}
 use Rattle.httparse.specs.declared.spans.HeaderSpan.{HeaderSpan}
 use Rattle.httparse.specs.Grammar.{Field}
 use Rattle.httparse.specs.Spans.{IsHeaderWithin, IsWithin, header_bytes, name_and_value, span_bytes}
-use Rattle.http_wire.specs.Connection.{closes, has_close}
+use Rattle.http_wire.specs.ConnectionFields.{closes, has_close}
 use Rattle.http_wire.specs.Fields.{field_of_values}
 use Rattle.http_wire.specs.Layout.{IsInside, field_at}
 use Rattle.http_wire.proofs.NameLemmas.{All-spans_named, map-spans_named}

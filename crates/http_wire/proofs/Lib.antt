@@ -1,6 +1,7 @@
 pub mod AheadLemmas
 pub mod CarriedLemmas
 pub mod ConversationLemmas
+pub mod DrivingLemmas
 pub mod FindLemmas
 pub mod FinishLemmas
 pub mod FrontLemmas
@@ -11,8 +12,12 @@ pub mod LawsLemmas
 pub mod NameLemmas
 pub mod OrderLemmas
 pub mod PageLemmas
+pub mod PastLemmas
+pub mod PhaseLemmas
 pub mod RangeLemmas
 pub mod ReplyLemmas
 pub mod ScanLemmas
+pub mod SendLemmas
 pub mod StageLemmas
 pub mod TurnLemmas
+pub mod WireLemmas

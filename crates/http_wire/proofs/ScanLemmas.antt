@@ -82,9 +82,6 @@ pub record IsSearching (old : Scan) (bytes : List ℕ) (s : Scan) (seen : ℕ) :
   pub ends : head_len_after old.before old.last bytes ≡ option_map (λ n. seen + n) (head_len_after s.before s.last (drop seen bytes))
   pub sees : scanned old bytes ≡ scanned s (drop seen bytes)
 
-pub searching_from : (old : Scan) (bytes : List ℕ) → IsSearching old bytes old 0
-searching_from old bytes = record { within = omega arith; ends = sym (map_zero (head_len_after old.before old.last bytes)); sees = refl }
-
 module _ (old : Scan) (bytes : List ℕ) (s : Scan) (seen : ℕ) (so_far : IsSearching old bytes s seen) where
   -- no LF is left
   pub ends_nowhere : IsFirstByte (is_byte 10) (drop seen bytes) None → head_len_after old.before old.last bytes ≡ None

@@ -1,16 +1,21 @@
 -- A reading of a message, look by look and read by read.
-use Rattle.std.proofs.Common.{◌≡◌, ◌+◌, ℕ, Bool, true, false, List, [], ◌++◌, Result, Ok, Err, IfOk, IfErr, refl, subst, arith, length-append, append_assoc}
-use Rattle.std.specs.Prelude.{if◌then◌else◌}
+use Rattle.std.proofs.Common.{◌≡◌, ℕ, Bool, true, false, List, [], ◌++◌, Result, Ok, Err, IfOk, IfErr, inl, inr, refl, subst, arith, length-append, append_assoc}
 use Rattle.http_wire.specs.Conversation.{continue_text}
-use Rattle.http_wire.specs.Front.{Front, IsFront}
+use Rattle.tus_steps.specs.Method.{is_applied_when_cut}
+use Rattle.tus_steps.specs.declared.method.Method.{Method}
+use Rattle.http_wire.specs.Front.{Front, clean_end, cut_other, IsFront}
+use Rattle.http_wire.specs.Layout.{field_at}
+use Rattle.http_wire.specs.OnConnection.{HasNoMessage}
+use Rattle.http_wire.specs.declared.read.fields.FieldSpan.{FieldSpan}
+use Rattle.http_wire.specs.declared.read.fields.FieldSpan.TheVariants.{Absent, One, Many}
 use Rattle.http_wire.specs.ReadOnWire.{waits}
 use Rattle.http_wire.specs.inside.Ahead.{Ahead}
 use Rattle.http_wire.specs.inside.HeadLayout.{BeginsHead}
-use Rattle.http_wire.specs.inside.Standing.{Fits, Standing, Wants, missing}
+use Rattle.http_wire.specs.inside.Standing.{Fits, Standing, Wants}
 use Rattle.http_wire.specs.declared.read.stage.Stage.{Stage}
 use Rattle.http_wire.specs.declared.read.stage.Stage.TheVariants.{Head, Body}
-use Rattle.http_wire.proofs.FindLemmas.{Searching-more}
-use Rattle.http_wire.proofs.FrontLemmas.{BeginsHead-more, IsFront-waits}
+use Rattle.http_wire.proofs.FindLemmas.{Searching-more, Searching-unfinished}
+use Rattle.http_wire.proofs.FrontLemmas.{BeginsHead-more, BreaksFront-unfinished, IsFront-cut_other, IsFront-cut_patch, IsFront-waits}
 
 -- more bytes came
 pub Standing-more : (max : ℕ) (start read got said : List ℕ) (old new : Ahead) (s : Stage) → Standing max (start ++ read) said old s → Fits old s → new.held ≡ old.held ++ got
@@ -50,9 +55,23 @@ Standing-waits max bytes a (Body p) h = IsFront-waits max bytes p a.held h.1 (is
     is_waiting true e = refl
     is_waiting false e = absurd cc
 
--- the bytes that may still come, and the end
-abbrev pub still : Ahead → Stage → ℕ
-still a s = missing a s + (if a.ended then 0 else 1)
+-- whether a message with this method and this field is applied when it is cut
+applied : (m : Method) (f : FieldSpan) → (b : Bool) × ((head : List ℕ) → is_applied_when_cut m (field_at head f) ≡ b)
+applied m Absent = (is_applied_when_cut m (field_at [] Absent), λ head. refl)
+applied m (One span) = (is_applied_when_cut m (field_at [] (One span)), λ head. refl)
+applied m Many = (is_applied_when_cut m (field_at [] Many), λ head. refl)
+
+-- where more is needed, there is no message yet
+pub Standing-unfinished : (max : ℕ) (bytes said : List ℕ) (a : Ahead) (s : Stage) → Standing max bytes said a s → Fits a s → Wants a s → HasNoMessage max bytes
+Standing-unfinished max bytes said a (Head s) h fits wants = elim (BreaksFront-unfinished max bytes said h.0 (Searching-unfinished bytes a s h.1 wants)) [
+  | inl cut ↦ (cut_other cut.0, cut.2, tt)
+  | inr none ↦ (clean_end, none.1, tt)
+]
+Standing-unfinished max bytes said a (Body p) h fits wants = by (applied p.method p.fields.checksum)
+  where
+    by : (b : Bool) × ((head : List ℕ) → is_applied_when_cut p.method (field_at head p.fields.checksum) ≡ b) → HasNoMessage max bytes
+    by (true, is) = (_, IsFront-cut_patch max bytes p a.held h.1 (record a { lent = a.held }) wants.0 fits.held is refl, tt)
+    by (false, is) = (_, IsFront-cut_other max bytes p a.held h.1 wants.0 fits.held is, tt)
 
 -- what holds of what was given, from what held of it
 pub IfOk-from : {T E : Type 0} {P Q : T → Type 0} (r : Result T E) → IfOk r P → ((x : T) → P x → Q x) → IfOk r Q

@@ -10,7 +10,7 @@ use Rattle.tus_steps.specs.Request.{Request}
 use Rattle.tus_steps.specs.Method.{is_applied_when_cut, is_head}
 use Rattle.tus_steps.specs.declared.tus_fields.TusFields.{TusFields}
 use Rattle.tus_steps.specs.TusFields.{fields_by}
-use Rattle.http_wire.specs.Connection.{closes, asks_to_continue}
+use Rattle.http_wire.specs.ConnectionFields.{closes, asks_to_continue}
 use Rattle.http_wire.specs.Fields.{values_named, field_text}
 use Rattle.http_wire.specs.HeadText.{field_limit, HeadText, whole, too_long, cut, nothing, head_text, has_many_lines}
 use Rattle.http_wire.specs.Judge.{judge}

@@ -1,7 +1,8 @@
 pub mod Asking
 pub mod BookStep
 pub mod Clock
-pub mod Connection
+pub mod ConnectionCalls
+pub mod ConnectionFields
 pub mod Conversation
 pub mod Exchange
 pub mod Fault
@@ -13,7 +14,9 @@ pub mod Judge
 pub mod Laws
 pub mod Layout
 pub mod Message
+pub mod OnConnection
 pub mod OnWire
+pub mod Past
 pub mod Questions
 pub mod ReadOnWire
 pub mod Refusal

@@ -41,6 +41,14 @@ waits (cut_patch request framing waiting) = waiting
 waits (cut_other waiting) = waiting
 waits clean_end = false
 
+-- there is no whole message, and none that is refused
+abbrev pub IsCut : Front → Type 0
+IsCut (message request framing waiting rest) = ⊥
+IsCut (refused why framing) = ⊥
+IsCut (cut_patch request framing waiting) = ⊤
+IsCut (cut_other waiting) = ⊤
+IsCut clean_end = ⊤
+
 -- A read failed, and the bytes that were read would be cut as a whole input, or nothing; or the write of `100 Continue`
 -- failed, and a prefix of it was written.
 abbrev pub BreaksFront : ℕ → Intake → WireFault → Type 0

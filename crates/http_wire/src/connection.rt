@@ -1,30 +1,502 @@
-ghost use Rattle.std.specs.Prelude.{◌≡◌};
-ghost use Rattle.tus_steps.specs.Field.{text_of};
-ghost use Rattle.http_wire.specs.Connection.{is_close, has_close, asks_to_continue};
+//! A connection that holds no stream: what its client sends is put in, and what it is to be sent is taken out.
+ghost use Rattle.std.specs.Prelude.{◌≡◌, ◌≢◌, ◌⊎◌, ◌≤◌, ◌<◌, ◌^◌, ◌++◌, ℕ, List, [], Ok, true, false, length, drop, take, IfOk, OnOk, OnErr, IfSome, is_err, option_map};
+ghost use Rattle.std.specs.Bool.{OnFalse, OnTrue};
+ghost use Rattle.std.specs.Io.KnownBytes.{Appends, Consumes, IsAtEnd, Keeps};
+ghost use Rattle.http_wire.specs.ConnectionCalls.{BreaksTo, Puts, Sends, Takes};
+ghost use Rattle.http_wire.specs.Incoming.{map_incoming, is_cut_by_fault};
+ghost use Rattle.http_wire.specs.Layout.{framed_at};
+ghost use Rattle.http_wire.specs.Message.{framed};
+ghost use Rattle.http_wire.specs.OnConnection.{HasNoMessage, IsFresh, IsIdle, OnConnection, Stands, StandsIn, at_start, body_held, ended_in, is_looking, left, left_in, looking_again, owed_in, passed_over, phase_after, turn_end, unless_pending, wanted, wanted_in};
+ghost use Rattle.http_wire.specs.Past.{Answering, Follows, HasPast, Past, noted, nothing_yet};
+ghost use Rattle.http_wire.specs.ReadOnWire.{TellsEnd};
+ghost use Rattle.http_wire.specs.ReplyText.{refusal_text, reply_text};
+ghost use Rattle.http_wire.specs.Streams.{took_nothing};
+ghost use Rattle.http_wire.specs.Writes.{Writes};
+ghost use Rattle.http_wire.specs.inside.IncomingLayout.{IsLent};
+ghost use Rattle.http_wire.specs.inside.Phases.{map_phase, IsPhase};
+ghost use Rattle.http_wire.specs.inside.Sending.{empty_outbox};
+ghost use Rattle.http_wire.specs.inside.Standing.{Fits, Standing, Wants as WantsMore};
+ghost use Rattle.http_wire.specs.inside.TurnFinish.{AnswersTurn};
+ghost use Rattle.http_wire.specs.declared.phase.Phase.TheVariants.{Looking, Waiting};
+ghost use Rattle.http_wire.specs.declared.read.stage.Stage.TheVariants.{Head};
+ghost use Rattle.http_wire.specs.inside.HeadSearch.{search_start};
+ghost use Rattle.tus_steps.specs.PlacedReply.{reply_in};
+ghost use Rattle.tus_steps.specs.declared.reply.Reply.TheVariants.{Deleted};
 
-use tus_steps::{Field, trim_blanks};
+use crate::answer::Answer;
+use crate::buffers::Buffers;
+use crate::conversation::Ended;
+use crate::fault::WireFault;
+use crate::framing::Framing;
+use crate::incoming::Incoming;
+use crate::message::Message;
+use crate::phase::Phase;
+use crate::read::inbox::Inbox;
+use crate::read::layout::Layout;
+use crate::read::stage::{Looked, Stage};
+use crate::refusal::WireRefusal;
+use crate::replying::answer_incoming;
+use crate::source::{Sink, Source};
+use crate::write::outbox::Outbox;
+use crate::write::send::flush;
+use std::alloc::{AllocError, Global};
+use std::io;
+use std::marker::Model;
+use tus_steps::PlacedReply;
+use upload_book::Moment;
 
-/// Whether the value of a Connection field has the token `close`.
-pub fn has_close(value: &[u8]) -> bool
-    ensures { result ≡ has_close value.now }
-{
-    value
-        .split(|byte| *byte == b',')
-        .any(|token| is_close(token))
+/// What a connection wants at some point.
+#[derive(Clone, Copy, Debug, PartialEq, Eq)]
+pub enum Wants {
+    /// To read: bytes of a message, or the end of the input.
+    Read,
+    /// To write what is pending.
+    Write,
+    /// An answer to what came in.
+    Answer,
+    /// Nothing more: the conversation is over, and all of it was sent.
+    Nothing,
 }
 
-/// Whether the Expect field is one `100-continue`. Any other is ignored.
-pub fn asks_to_continue(expect: Field<'_>) -> bool
-    ensures { result ≡ asks_to_continue (text_of expect.entry) }
-{
-    match expect {
-        Field::One(value) => value.eq_ignore_ascii_case(b"100-continue"),
-        Field::Absent | Field::Many => false,
+/// A connection: what came of its client's messages, and what is to be sent. It holds no stream. A caller asks what it wants,
+/// and does that: a read into it, a write of what is pending, or an answer to what came in. Each call makes at most one read
+/// or one write, and waits only where the stream or the answerer does. After a write that failed it is let go.
+///
+/// A contract sees what it holds, how far it has come, what is to be sent, and the most bytes of a body.
+#[derive(Drop)]
+pub struct Connection {
+    buffers: Buffers,
+    phase: Phase<Layout>,
+    max_size: u64,
+}
+
+impl Model for Connection {
+    ghost use Rattle.http_wire.specs.Layout.{framed_at};
+    ghost use Rattle.http_wire.specs.OnConnection.{OnConnection};
+    ghost use Rattle.http_wire.specs.inside.Phases.{map_phase, IsConnection};
+
+    ghost Value = { OnConnection };
+
+    ghost view = { λ c. record {
+      inbox = c.buffers.inbox;
+      phase = map_phase (framed_at c.buffers.inbox.lent) c.phase;
+      outbox = c.buffers.outbox;
+      max_size = c.max_size;
+    } };
+
+    ghost invariant = { λ c. IsConnection c.buffers.inbox c.phase c.max_size };
+}
+
+impl Connection {
+    /// A connection of which nothing was read. A body has at most `max_size` bytes, below 2^31. The error is that memory is
+    /// lacking.
+    pub fn new(alloc: Global, max_size: u64) -> Result<Self, AllocError>
+        requires { max_size < 2 ^ 31 }
+        ensures fresh { IfOk result IsFresh }
+        ensures begins { IfOk result (HasPast nothing_yet) }
+        ensures size { IfOk result (λ c. c.max_size ≡ max_size) }
+    {
+        let buffers = Buffers::new(alloc)?;
+        Ok(Connection::with_buffers(buffers, max_size))
+    }
+
+    /// The same over buffers that another connection has left, so that it takes no memory. What they hold is neither read
+    /// nor sent.
+    pub fn with_buffers(buffers: Buffers, max_size: u64) -> Self
+        requires { max_size < 2 ^ 31 }
+        ensures fresh { IsFresh result }
+        ensures begins { HasPast nothing_yet result }
+        ensures size { result.max_size ≡ max_size }
+    {
+        let mut buffers = buffers;
+        buffers.renew();
+        Connection {
+            buffers,
+            phase: Phase::start(),
+            max_size,
+        }
+    }
+
+    /// Whether all that was read was answered, and all answers were sent: then nothing is in its buffers, and a new connection
+    /// over others goes on where this one is. So a silent client costs no buffers. It is not idle where the input ended, nor
+    /// where line ends came before the next message, which count for its head.
+    pub fn is_idle(&self) -> bool
+        ensures idle { OnTrue result (IsIdle self.now) }
+        ensures busy { OnFalse result (IsIdle self.now → ⊥) }
+        ensures renews { OnTrue result ((p : Past) (c : OnConnection) → HasPast p self.now → IsFresh c
+            → c.max_size ≡ self.now.max_size → HasPast p c) }
+    {
+        is_at_start(&self.phase) && is_empty(&self.buffers)
+    }
+
+    /// How many bytes it holds of a body that has not come whole, as far as `wants` has looked: 0 for a head, and once a message
+    /// came in.
+    pub fn body_held(&self) -> usize
+        ensures { result ≡ body_held self.now.inbox self.now.phase }
+    {
+        match &self.phase {
+            Phase::Looking(Stage::Body(layout)) | Phase::Waiting(Stage::Body(layout)) => {
+                let held = self.buffers.inbox.held().len();
+                held.saturating_sub(layout.head_len)
+            }
+            _ => 0,
+        }
+    }
+
+    /// For how many bytes of messages its buffers have memory: 65,536 at first. It grows with the greatest body that came, and
+    /// never shrinks.
+    pub fn room(&self) -> usize
+        ensures { result ≡ self.now.inbox.room }
+    {
+        self.buffers.room()
+    }
+
+    /// The buffers. What they hold is lost.
+    pub fn into_buffers(self) -> Buffers
+        ensures { result.inbox ≡ self.inbox }
+    {
+        self.buffers
+    }
+
+    /// Looks at what came since the last look, and tells what the connection wants then. `100 Continue` is put to what is
+    /// to be sent where it is due, once for a message: its head was judged, and its body was not looked for. A body for which
+    /// there is no memory is refused (503), only where head and body have more than 49,152 bytes. It wants to read
+    /// only while the input has not ended, nothing is pending, and no whole message is held. It wants an answer before it
+    /// wants to write, as long as at most 8,192 bytes are pending; where more are, it does not look.
+    pub fn wants(&mut self) -> Wants
+        ensures wants { result ≡ wanted self.new }
+        ensures stands { (bytes said : List ℕ) → Stands bytes said self.old
+            → (put : List ℕ) × (self.new.outbox.pending ≡ self.old.outbox.pending ++ put)
+            × Stands bytes (said ++ put) self.new }
+        ensures past { (p : Past) → HasPast p self.old → HasPast p self.new }
+        ensures still { is_looking self.old.phase ≡ false → self.new ≡ self.old }
+        ensures same { is_looking self.new.phase ≡ false → self.new.outbox ≡ self.old.outbox }
+        ensures looks { self.old.outbox.has_room ≡ true → is_looking self.new.phase ≡ true
+            → self.new.outbox.pending ≢ self.old.outbox.pending }
+        ensures needs { result ≡ Wants.Read → (bytes said : List ℕ) → Stands bytes said self.new
+            → HasNoMessage self.new.max_size bytes }
+        ensures few { result ≡ Wants.Answer → length self.new.outbox.pending ≤ 8192 }
+        ensures some { result ≡ Wants.Write → self.new.outbox.pending ≢ [] }
+        ensures nearer { left self.new ≤ left self.old }
+        ensures unended { result ≡ Wants.Read → self.new.inbox.ended ≡ false }
+        ensures ended { self.new.inbox.ended ≡ self.old.inbox.ended }
+        ensures tells_end { IfSome (owed_in self.new.phase) (λ i. TellsEnd self.new.inbox.ended (Ok i)) }
+        ensures unbroken { is_looking self.old.phase ≡ true
+            → IfSome (owed_in self.new.phase) (λ i. is_cut_by_fault i ≡ false) }
+        ensures size { self.new.max_size ≡ self.old.max_size }
+    {
+        if let Phase::Looking(stage) = &self.phase {
+            self.phase = look_on(*stage, &mut self.buffers, self.max_size);
+            return wants_at(&self.phase, &self.buffers.outbox);
+        }
+        wants_at(&self.phase, &self.buffers.outbox)
+    }
+
+    /// Reads once, where it wants to read. `Ok` gives how many bytes came; 0 tells that the input ended. An error is the
+    /// reader's, and then nothing came and it still wants to read. Where the error tells that nothing had come yet, it may
+    /// read again, by a [`Tapped`](crate::Tapped) made anew, since one remembers any error; else [`Connection::fail`] tells
+    /// the connection.
+    pub fn read_from<R: Source>(&mut self, reader: &mut R) -> io::Result<usize>
+        requires alive { R.has_failed reader.old ≡ false }
+        requires wants { wanted self.old ≡ Wants.Read }
+        ensures takes { IfOk result (λ n. (got : List ℕ) × (length got ≡ n)
+            × Consumes (R.remaining reader.old) (R.remaining reader.new) got × Takes got self.old self.new) }
+        ensures end { IfOk result (λ n. n ≡ 0 → IsAtEnd (R.remaining reader.new)) }
+        ensures nearer { OnOk result (left self.new < left self.old) }
+        ensures room { self.new.inbox.room ≡ self.old.inbox.room }
+        ensures fits { length self.new.inbox.held ≤ self.new.inbox.room }
+        ensures none { OnErr result (Keeps (R.remaining reader.old) (R.remaining reader.new)
+            × (self.new ≡ record self.old { inbox = record self.old.inbox { lent = [] } })) }
+        ensures kept { OnErr result ((p : Past) → HasPast p self.old → HasPast p self.new) }
+        ensures failed { R.has_failed reader.new ≡ is_err result }
+    {
+        let count = self.buffers.inbox.fill(reader)?;
+        if let Phase::Waiting(stage) = &self.phase {
+            self.phase = Phase::Looking(*stage);
+        }
+        Ok(count)
+    }
+
+    /// Tells that the input ended, where it wants to read: no more of it will be read.
+    pub fn end(&mut self)
+        requires { wanted self.old ≡ Wants.Read }
+        ensures past { (p : Past) → HasPast p self.old → HasPast p self.new }
+        ensures stands { (bytes said : List ℕ) → Stands bytes said self.old → Stands bytes said self.new }
+        ensures inbox { self.new.inbox ≡ record self.old.inbox { ended = true } }
+        ensures phase { self.new.phase ≡ looking_again self.old.phase }
+        ensures nearer { left self.new < left self.old }
+        ensures outbox { self.new.outbox ≡ self.old.outbox }
+        ensures size { self.new.max_size ≡ self.old.max_size }
+    {
+        if let Phase::Waiting(stage) = &self.phase {
+            let stage = *stage;
+            self.buffers.inbox.end();
+            self.phase = Phase::Looking(stage);
+        }
+    }
+
+    /// Tells that a read failed, where it wants to read: nothing more will come. A PATCH that is applied when it is cut is
+    /// owed its step; of any other message nothing is, and the conversation is over, with `WireFault::Read`.
+    pub fn fail(&mut self)
+        requires { wanted self.old ≡ Wants.Read }
+        ensures breaks { (bytes said : List ℕ) → Stands bytes said self.old
+            → BreaksTo self.old.max_size bytes said self.new.inbox self.new.phase }
+        ensures past { (p : Past) → HasPast p self.old → HasPast p self.new }
+        ensures tells_end { IfSome (owed_in self.new.phase) (λ i. TellsEnd self.new.inbox.ended (Ok i)) }
+        ensures outbox { self.new.outbox ≡ self.old.outbox }
+        ensures ended { self.new.inbox.ended ≡ self.old.inbox.ended }
+        ensures size { self.new.max_size ≡ self.old.max_size }
+    {
+        if let Phase::Waiting(stage) = &self.phase {
+            self.phase = broken(*stage, &mut self.buffers.inbox);
+        }
+    }
+
+    /// What came in and is owed an answer; a message is lent.
+    pub fn incoming(&self) -> Option<Incoming<Message<'_>>>
+        ensures { option_map (map_incoming framed) result ≡ owed_in self.now.phase }
+    {
+        match &self.phase {
+            Phase::Owing(incoming) => Some(lend_message(incoming, &self.buffers.inbox)),
+            _ => None,
+        }
+    }
+
+    /// Lets what came in be answered at its moment, and puts the answer behind what is pending; then it may look for the next
+    /// message, or the conversation is over. A refusal is put, and closes. A PATCH that was cut is applied with the bytes that
+    /// came, and gets no reply, as the end and any other message that was cut. Each takes a moment.
+    pub fn answer<A: Answer>(&mut self, answerer: &mut A, now: Moment)
+        requires { wanted self.old ≡ Wants.Answer }
+        ensures answers { IfSome (owed_in self.old.phase) (λ i. (put : List ℕ)
+            × (self.new.outbox.pending ≡ self.old.outbox.pending ++ put)
+            × AnswersTurn A.steps now self.old.inbox i put answerer.old answerer.new (turn_end i)) }
+        ensures past { (p : Past) → HasPast p self.old → (answered : List Answering)
+            × Follows A.steps answerer.old answered answerer.new × HasPast (noted p now answered) self.new }
+        ensures phase { IfSome (owed_in self.old.phase) (λ i. self.new.phase ≡ phase_after (turn_end i)) }
+        ensures inbox { self.new.inbox ≡ self.old.inbox }
+        ensures size { self.new.max_size ≡ self.old.max_size }
+    {
+        if let Phase::Owing(incoming) = &self.phase {
+            let turn = answer_incoming(&mut self.buffers, answerer, incoming, now);
+            self.phase = Phase::after(turn);
+        }
+    }
+
+    // Leaves a message that came in without an answer, and begins with the next.
+    pub(crate) fn pass_over(&mut self)
+        ensures { self.new ≡ record self.old { phase = passed_over self.old.phase } }
+    {
+        if let Phase::Owing(Incoming::Message(_)) = &self.phase {
+            self.phase = Phase::start();
+        }
+    }
+
+    /// How the conversation ended; `Ok(None)` while it lasts. Its last reply may still be pending. The error is
+    /// `WireFault::Read`: a read failed.
+    pub fn ended(&self) -> Result<Option<Ended>, WireFault>
+        ensures { result ≡ ended_in self.now.phase }
+    {
+        match &self.phase {
+            Phase::Over(Ok(ended)) => Ok(Some(*ended)),
+            Phase::Over(Err(fault)) => Err(*fault),
+            _ => Ok(None),
+        }
     }
 }
 
-fn is_close(token: &[u8]) -> bool
-    ensures { result ≡ is_close token.now }
+impl Connection {
+    /// The next bytes that are pending: a front of all of them, which is empty only where nothing is.
+    pub fn pending(&self) -> &[u8]
+        ensures front { (rest : List ℕ) × (self.now.outbox.pending ≡ result.now ++ rest) }
+        ensures some { result.now ≡ [] → self.now.outbox.pending ≡ [] }
+    {
+        self.buffers.outbox.pending()
+    }
+
+    /// How many bytes are pending in all, those of an upload included.
+    pub fn pending_len(&self) -> usize
+        ensures { result ≡ length self.now.outbox.pending }
+    {
+        self.buffers.outbox.len()
+    }
+
+    /// Drops the first bytes that are pending, which were sent; `count` is at most all that is.
+    pub fn sent(&mut self, count: usize)
+        requires { count ≤ length self.old.outbox.pending }
+        ensures { Sends count self.old self.new }
+    {
+        self.buffers.outbox.sent(count);
+    }
+
+    /// Writes once what is pending, of which there is some. `Ok` gives how many bytes were taken: these are no longer
+    /// pending. Where it is 0, the writer has failed, as after an error, and nothing changed. Where an error tells that there
+    /// is no room yet, it may be written again, by a [`Tapped`](crate::Tapped) made anew.
+    pub fn write_to<W: Sink>(&mut self, writer: &mut W) -> io::Result<usize>
+        requires alive { W.has_failed writer.old ≡ false }
+        requires some { self.old.outbox.pending ≢ [] }
+        ensures wrote { IfOk result (λ n. (n ≤ length self.old.outbox.pending) × Sends n self.old self.new
+            × Appends (W.contents writer.old) (W.contents writer.new) (take n self.old.outbox.pending)) }
+        ensures none { OnErr result (Appends (W.contents writer.old) (W.contents writer.new) []
+            × (self.new ≡ self.old)) }
+        ensures failed { W.has_failed writer.new ≡ took_nothing result self.old.outbox.pending }
+    {
+        self.buffers.outbox.write_to(writer)
+    }
+}
+
+// What the drivers that wait need besides.
+impl Connection {
+    // Puts the reply to a message at the message's moment behind what is pending, whatever is owed. The bytes of an upload are
+    // taken out of the reply; what is in its place then answers no request.
+    pub(crate) fn put_reply(&mut self, reply: &mut PlacedReply, now: Moment, framing: Framing)
+        requires { self.old.outbox.has_room ≡ true }
+        ensures puts { Puts (reply_text (reply_in reply.old) now framing) self.old self.new }
+        ensures gone { reply_in reply.new ≡ Deleted }
+    {
+        self.buffers.outbox.put_reply(reply, now, framing);
+    }
+
+    // The same for a refusal of the wire.
+    pub(crate) fn put_refusal(&mut self, refusal: WireRefusal, now: Moment, framing: Framing)
+        requires { self.old.outbox.has_room ≡ true }
+        ensures { Puts (refusal_text refusal now framing) self.old self.new }
+    {
+        self.buffers.outbox.put_refusal(refusal, now, framing);
+    }
+
+    // Writes all that is pending, however long that takes. The error is `WireFault::Write`; what was not sent then is
+    // dropped.
+    pub(crate) fn flush<W: Sink>(&mut self, writer: &mut W) -> Result<(), WireFault>
+        requires { W.has_failed writer.old ≡ false }
+        ensures writes { Writes (W.contents writer.old) (W.contents writer.new) (W.has_failed writer.new)
+            self.old.outbox.pending result }
+        ensures sent { self.new ≡ record self.old { outbox = empty_outbox } }
+        ensures some { OnErr result (self.old.outbox.pending ≢ []) }
+    {
+        flush(writer, &mut self.buffers.outbox)
+    }
+}
+
+// Looks at what came of a message, and puts `100 Continue` where it is due. Where there is no room for that, it looks later.
+fn look_on(stage: Stage, buffers: &mut Buffers, max_size: u64) -> Phase<Layout>
+    requires size { max_size < 2 ^ 31 }
+    requires fits { Fits buffers.old.inbox stage }
+    ensures stands { (bytes said : List ℕ) → Standing max_size bytes said buffers.old.inbox stage
+        → (put : List ℕ) × (buffers.new.outbox.pending ≡ buffers.old.outbox.pending ++ put)
+        × StandsIn max_size bytes (said ++ put) buffers.new.inbox (map_phase (framed_at buffers.new.inbox.lent) result) }
+    ensures phase { IsPhase buffers.new.inbox result }
+    ensures some { is_looking result ≡ true → buffers.new.outbox.pending ≢ [] }
+    ensures same { is_looking result ≡ false → buffers.new.outbox ≡ buffers.old.outbox }
+    ensures looks { buffers.old.outbox.has_room ≡ true → is_looking result ≡ true
+        → buffers.new.outbox.pending ≢ buffers.old.outbox.pending }
+    ensures nearer { left_in buffers.new.inbox (map_phase (framed_at buffers.new.inbox.lent) result) buffers.new.outbox.pending
+        ≤ left_in buffers.old.inbox (Looking stage) buffers.old.outbox.pending }
+    ensures unbroken { IfSome (owed_in (map_phase (framed_at buffers.new.inbox.lent) result))
+        (λ i. is_cut_by_fault i ≡ false) }
+    ensures ended { buffers.new.inbox.ended ≡ buffers.old.inbox.ended }
 {
-    trim_blanks(token).eq_ignore_ascii_case(b"close")
+    if !buffers.outbox.has_room() {
+        return Phase::Looking(stage);
+    }
+    let mut stage = stage;
+    match stage.look(&mut buffers.inbox, &mut buffers.spans, max_size) {
+        Looked::More => Phase::Waiting(stage),
+        Looked::Continue => {
+            buffers.outbox.put_continue();
+            Phase::Looking(stage)
+        }
+        Looked::Came(incoming) => Phase::Owing(incoming),
+    }
+}
+
+// What a connection wants at this phase.
+fn wants_at(phase: &Phase<Layout>, outbox: &Outbox) -> Wants
+    ensures wants { (text : List ℕ) → result ≡ wanted_in outbox.now (map_phase (framed_at text) phase.now) }
+    ensures some { is_looking phase.now ≡ false → result ≡ Wants.Write → outbox.now.pending ≢ [] }
+    ensures few { result ≡ Wants.Answer → length outbox.now.pending ≤ 8192 }
+{
+    match phase {
+        Phase::Looking(_) => Wants::Write,
+        Phase::Waiting(_) => unless_pending(outbox, Wants::Read),
+        Phase::Owing(_) => {
+            if outbox.has_room() {
+                Wants::Answer
+            } else {
+                Wants::Write
+            }
+        }
+        Phase::Over(_) => unless_pending(outbox, Wants::Nothing),
+    }
+}
+
+// This, unless something is to be sent first.
+fn unless_pending(outbox: &Outbox, wants: Wants) -> Wants
+    ensures { result ≡ unless_pending outbox.now.pending wants }
+{
+    if outbox.is_empty() {
+        wants
+    } else {
+        Wants::Write
+    }
+}
+
+// What a read that failed leaves of a message.
+fn broken(stage: Stage, inbox: &mut Inbox) -> Phase<Layout>
+    requires fits { Fits inbox.old stage }
+    requires wants { WantsMore inbox.old stage }
+    ensures breaks { (max : ℕ) (bytes said : List ℕ) → Standing max bytes said inbox.old stage
+        → BreaksTo max bytes said inbox.new (map_phase (framed_at inbox.new.lent) result) }
+    ensures phase { IsPhase inbox.new result }
+    ensures ended { inbox.new.ended ≡ inbox.old.ended }
+{
+    match stage.break_off(inbox) {
+        Ok(incoming) => Phase::Owing(incoming),
+        Err(fault) => Phase::Over(Err(fault)),
+    }
+}
+
+// What came in, with the bytes of a message as the inbox lends them.
+fn lend_message<'i>(incoming: &Incoming<Layout>, inbox: &'i Inbox) -> Incoming<Message<'i>>
+    requires { IsLent inbox.now.lent incoming.now }
+    ensures { map_incoming framed result ≡ map_incoming (framed_at inbox.now.lent) incoming.now }
+{
+    match incoming {
+        Incoming::Message(layout) => Incoming::Message(Message {
+            layout: *layout,
+            text: inbox.lent(),
+        }),
+        Incoming::CutPatch(layout, why) => Incoming::CutPatch(
+            Message {
+                layout: *layout,
+                text: inbox.lent(),
+            },
+            *why,
+        ),
+        Incoming::CutOther => Incoming::CutOther,
+        Incoming::Refused(refusal, framing) => Incoming::Refused(*refusal, *framing),
+        Incoming::End => Incoming::End,
+    }
+}
+
+// Whether no byte of a message was seen.
+fn is_at_start(phase: &Phase<Layout>) -> bool
+    ensures start { OnTrue result ((phase.now ≡ at_start) ⊎ (phase.now ≡ Waiting (Head search_start))) }
+    ensures other { OnFalse result (((phase.now ≡ at_start) ⊎ (phase.now ≡ Waiting (Head search_start))) → ⊥) }
+{
+    match phase {
+        Phase::Looking(Stage::Head(search)) | Phase::Waiting(Stage::Head(search)) =>
+            search.is_new(),
+        _ => false,
+    }
+}
+
+// Whether nothing is held, and nothing is pending, and the input has not ended.
+fn is_empty(buffers: &Buffers) -> bool
+    ensures held { OnTrue result (buffers.now.inbox.held ≡ []) }
+    ensures unended { OnTrue result (buffers.now.inbox.ended ≡ false) }
+    ensures sent { OnTrue result (buffers.now.outbox ≡ empty_outbox) }
+    ensures other { OnFalse result (buffers.now.inbox.held ≡ [] → buffers.now.inbox.ended ≡ false
+        → buffers.now.outbox ≡ empty_outbox → ⊥) }
+{
+    buffers.inbox.held().is_empty() && !buffers.inbox.is_ended() && buffers.outbox.is_empty()
 }

@@ -10,7 +10,7 @@ pub enum Incoming<M: Drop> {
     CutPatch(M, Cut),
     /// Any other message that was cut. It gets no reply.
     CutOther,
-    /// A request that the wire refuses. It is answered by `write_refusal`.
+    /// A request that the wire refuses. It is answered by `Connection::answer`, or by `Wire::write_refusal`.
     Refused(WireRefusal, Framing),
     /// The end of the input, with no byte of a message before it, or of a wire that reads no more.
     End,

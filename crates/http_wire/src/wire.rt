@@ -1,34 +1,31 @@
-ghost use Rattle.std.specs.Prelude.{◌≡◌, ◌<◌, ◌^◌, ℕ, List, false, IfOk, IfErr};
+ghost use Rattle.std.specs.Prelude.{◌≡◌, ◌<◌, ◌^◌, false, IfOk, IfErr};
 ghost use Rattle.std.specs.Bool.{OnTrue};
 ghost use Rattle.std.specs.Borrow.{sem};
 ghost use Rattle.std.specs.Io.BufRead.{Rests};
-ghost use Rattle.http_wire.specs.Incoming.{map_incoming, map_read};
-ghost use Rattle.http_wire.specs.Layout.{framed_at};
+ghost use Rattle.http_wire.specs.Incoming.{map_read};
 ghost use Rattle.http_wire.specs.Message.{framed};
-ghost use Rattle.http_wire.specs.inside.IncomingLayout.{IsLent};
 ghost use Rattle.http_wire.specs.ReadOnWire.{ReadsOn};
 ghost use Rattle.http_wire.specs.WriteOnWire.{WritesOn};
 ghost use Rattle.http_wire.specs.ReplyText.{reply_text, refusal_text};
 ghost use Rattle.http_wire.specs.Streams.{streams};
 ghost use Rattle.http_wire.specs.TurnOnWire.{TurnOn};
 ghost use Rattle.http_wire.specs.WireState.{fresh_wire, state_after};
-ghost use Rattle.http_wire.specs.inside.WireModel.{wire_of, IsSound};
+ghost use Rattle.http_wire.specs.inside.WireModel.{wire_of, IsWire, read_by};
 ghost use Rattle.tus_steps.specs.PlacedReply.{reply_in};
+ghost use Rattle.tus_steps.specs.declared.reply.Reply.TheVariants.{Deleted};
 
 use crate::answer::Answer;
 use crate::buffers::Buffers;
 use crate::clock::Clock;
+use crate::connection::Connection;
 use crate::conversation::{Ended, take_turn};
+use crate::driving::await_incoming;
 use crate::fault::WireFault;
 use crate::framing::Framing;
 use crate::incoming::{Cut, Incoming};
 use crate::message::Message;
-use crate::read::inbox::Inbox;
-use crate::read::layout::Layout;
-use crate::read::read_incoming;
 use crate::refusal::WireRefusal;
 use crate::source::{Sink, Source};
-use crate::write::{write_refusal, write_reply};
 use std::alloc::Global;
 use std::marker::Model;
 use tus_steps::PlacedReply;
@@ -53,8 +50,7 @@ enum State {
 pub struct Wire<R: Source + Drop, W: Sink + Drop> {
     reader: R,
     writer: W,
-    buffers: Buffers,
-    max_size: u64,
+    connection: Connection,
     state: State,
 }
 
@@ -66,12 +62,12 @@ impl<R: Source + Drop, W: Sink + Drop> Model for Wire<R, W> {
     ghost coded = { wire_code R.code W.code };
 
     ghost use Rattle.http_wire.specs.Streams.{streams};
-    ghost use Rattle.http_wire.specs.inside.WireModel.{wire_of, IsSound};
+    ghost use Rattle.http_wire.specs.inside.WireModel.{wire_of, IsWire};
 
-    ghost view = { λ w. wire_of w.reader w.writer w.buffers.inbox w.max_size w.state };
+    ghost view = { λ w. wire_of w.reader w.writer w.connection w.state };
 
-    ghost invariant = { λ w. IsSound (streams R.remaining R.has_failed W.contents W.has_failed)
-        (wire_of w.reader w.writer w.buffers.inbox w.max_size w.state) };
+    ghost invariant = { λ w. IsWire (streams R.remaining R.has_failed W.contents W.has_failed)
+        w.reader w.writer w.connection w.state };
 }
 
 impl<R: Source + Drop, W: Sink + Drop> Wire<R, W> {
@@ -98,14 +94,10 @@ impl<R: Source + Drop, W: Sink + Drop> Wire<R, W> {
         requires size { max_size < 2 ^ 31 }
         ensures { result ≡ fresh_wire reader writer max_size }
     {
-        let mut buffers = buffers;
-        buffers.inbox.renew();
-        buffers.is_refused = false;
         Wire {
             reader,
             writer,
-            buffers,
-            max_size,
+            connection: Connection::with_buffers(buffers, max_size),
             state: State::Open,
         }
     }
@@ -115,7 +107,7 @@ impl<R: Source + Drop, W: Sink + Drop> Wire<R, W> {
         ensures reader { result.0 ≡ self.reader }
         ensures writer { result.1 ≡ self.writer }
     {
-        (self.reader, self.writer, self.buffers)
+        (self.reader, self.writer, self.connection.into_buffers())
     }
 
     /// Whether it still reads. Then it also writes, and nothing has failed.
@@ -136,14 +128,22 @@ impl<R: Source + Drop, W: Sink + Drop> Wire<R, W> {
             (λ new. ReadsOn (streams R.remaining R.has_failed W.contents W.has_failed)
             self.old new (map_read framed result))) }
     {
-        let incoming = next_incoming(
-            &mut self.reader,
-            &mut self.writer,
-            &mut self.buffers,
-            self.max_size,
-            &mut self.state,
-        )?;
-        Ok(lend_message(incoming, &self.buffers.inbox))
+        match self.state {
+            State::Open => {
+                next_incoming(
+                    &mut self.reader,
+                    &mut self.writer,
+                    &mut self.connection,
+                    &mut self.state,
+                )?;
+                match self.connection.incoming() {
+                    Some(incoming) => Ok(incoming),
+                    None => Ok(Incoming::End),
+                }
+            }
+            State::Ended => Ok(Incoming::End),
+            State::Failed => Err(WireFault::Failed),
+        }
     }
 
     /// Takes a turn: reads the next message, asks the clock for its moment, lets `answerer` answer it and
@@ -165,8 +165,7 @@ impl<R: Source + Drop, W: Sink + Drop> Wire<R, W> {
                 let turn = take_turn(
                     &mut self.reader,
                     &mut self.writer,
-                    &mut self.buffers,
-                    self.max_size,
+                    &mut self.connection,
                     answerer,
                     clock,
                 );
@@ -182,28 +181,26 @@ impl<R: Source + Drop, W: Sink + Drop> Wire<R, W> {
         }
     }
 
-    /// Writes the reply to a message that came at this moment. The error is `WireFault::Write` where a
-    /// write failed, and then a prefix of it was written and every later call gives
+    /// Writes the reply to a message that came at this moment. The bytes of an upload are freed once they are
+    /// written, and in every case what is in the reply's place then answers no request. The error is
+    /// `WireFault::Write` where a write failed, and then a prefix of it was written and every later call gives
     /// `WireFault::Failed`.
     pub fn write_reply(
         &mut self,
-        reply: &PlacedReply,
+        reply: &mut PlacedReply,
         now: Moment,
         framing: Framing,
     ) -> Result<(), WireFault>
-        ensures { WritesOn (streams R.remaining R.has_failed W.contents W.has_failed)
-            (reply_text (reply_in reply.now) now framing) self.old self.new result }
+        ensures writes { WritesOn (streams R.remaining R.has_failed W.contents W.has_failed)
+            (reply_text (reply_in reply.old) now framing) self.old self.new result }
+        ensures gone { reply_in reply.new ≡ Deleted }
     {
         if self.state == State::Failed {
+            reply.let_go();
             return Err(WireFault::Failed);
         }
-        let written = write_reply(
-            &mut self.writer,
-            &mut self.buffers.page,
-            reply,
-            now,
-            framing,
-        );
+        self.connection.put_reply(reply, now, framing);
+        let written = self.connection.flush(&mut self.writer);
         if written.is_err() {
             self.state = State::Failed;
         }
@@ -223,13 +220,8 @@ impl<R: Source + Drop, W: Sink + Drop> Wire<R, W> {
         if self.state == State::Failed {
             return Err(WireFault::Failed);
         }
-        let written = write_refusal(
-            &mut self.writer,
-            &mut self.buffers.page,
-            refusal,
-            now,
-            framing,
-        );
+        self.connection.put_refusal(refusal, now, framing);
+        let written = self.connection.flush(&mut self.writer);
         if written.is_err() {
             self.state = State::Failed;
         }
@@ -237,76 +229,38 @@ impl<R: Source + Drop, W: Sink + Drop> Wire<R, W> {
     }
 }
 
-// Reads the next message of a wire that has these, where it still reads.
+// Reads the next message of a wire that has these, and reads.
 fn next_incoming<R: Source, W: Sink>(
     reader: &mut R,
     writer: &mut W,
-    buffers: &mut Buffers,
-    max_size: u64,
+    connection: &mut Connection,
     state: &mut State,
-) -> Result<Incoming<Layout>, WireFault>
-    requires { IsSound (streams R.remaining R.has_failed W.contents W.has_failed)
-        (wire_of reader.old writer.old buffers.old.inbox max_size state.old) }
-    ensures sound { IsSound (streams R.remaining R.has_failed W.contents W.has_failed)
-        (wire_of reader.new writer.new buffers.new.inbox max_size state.new) }
+) -> Result<(), WireFault>
+    requires open { state.old ≡ State.Open }
+    requires wire { IsWire (streams R.remaining R.has_failed W.contents W.has_failed)
+        reader.old writer.old connection.old state.old }
+    ensures wire { IsWire (streams R.remaining R.has_failed W.contents W.has_failed)
+        reader.new writer.new connection.new state.new }
     ensures reads { ReadsOn (streams R.remaining R.has_failed W.contents W.has_failed)
-        (wire_of reader.old writer.old buffers.old.inbox max_size state.old)
-        (wire_of reader.new writer.new buffers.new.inbox max_size state.new)
-        (map_read (framed_at buffers.new.inbox.lent) result) }
-    ensures lent { IfOk result (IsLent buffers.new.inbox.lent) }
+        (wire_of reader.old writer.old connection.old state.old)
+        (wire_of reader.new writer.new connection.new state.new)
+        (read_by result connection.new) }
 {
-    match *state {
-        State::Open => {
-            let incoming = read_incoming(
-                reader,
-                writer,
-                &mut buffers.inbox,
-                &mut buffers.spans,
-                max_size,
-            );
-            *state = state_after(&incoming);
-            incoming
-        }
-        State::Ended => Ok(Incoming::End),
-        State::Failed => Err(WireFault::Failed),
-    }
+    let came = await_incoming(reader, writer, connection);
+    *state = state_after(&came, connection);
+    came
 }
 
 // What a wire still does after it read this.
-fn state_after(incoming: &Result<Incoming<Layout>, WireFault>) -> State
-    ensures { (text : List ℕ) → result ≡ state_after (map_read (framed_at text) incoming.now) }
+fn state_after(came: &Result<(), WireFault>, connection: &Connection) -> State
+    ensures { result ≡ state_after (read_by came.now connection.now) }
 {
-    match incoming {
-        Ok(Incoming::Message(_)) => State::Open,
-        Ok(Incoming::CutPatch(_, Cut::Fault)) | Err(_) => State::Failed,
-        Ok(
-            Incoming::Refused(..)
-            | Incoming::CutPatch(_, Cut::Ended)
-            | Incoming::CutOther
-            | Incoming::End,
-        ) => { State::Ended }
+    if came.is_err() {
+        return State::Failed;
     }
-}
-
-// What was read, with the bytes of a message as the inbox lends them.
-fn lend_message(incoming: Incoming<Layout>, inbox: &Inbox) -> Incoming<Message<'_>>
-    requires { IsLent inbox.now.lent incoming }
-    ensures { map_incoming framed result ≡ map_incoming (framed_at inbox.now.lent) incoming }
-{
-    match incoming {
-        Incoming::Message(layout) => Incoming::Message(Message {
-            layout,
-            text: inbox.lent(),
-        }),
-        Incoming::CutPatch(layout, why) => Incoming::CutPatch(
-            Message {
-                layout,
-                text: inbox.lent(),
-            },
-            why,
-        ),
-        Incoming::CutOther => Incoming::CutOther,
-        Incoming::Refused(refusal, framing) => Incoming::Refused(refusal, framing),
-        Incoming::End => Incoming::End,
+    match connection.incoming() {
+        Some(Incoming::Message(_)) => State::Open,
+        Some(Incoming::CutPatch(_, Cut::Fault)) => State::Failed,
+        _ => State::Ended,
     }
 }

@@ -45,7 +45,8 @@ fn assert_failed(rt: &impl Abort, what: &str, wire: &mut MemoryWire<'_>, book: &
     assert_end(rt, what, wire, Err(failed));
     let refused = wire.write_refusal(WireRefusal::Head, at(1000), CLOSING);
     assert!(rt; refused == Err(failed), "{what}: a refusal");
-    let replied = wire.write_reply(&PlacedReply::of(Reply::Deleted), at(1000), CLOSING);
+    let mut reply = PlacedReply::of(Reply::Deleted);
+    let replied = wire.write_reply(&mut reply, at(1000), CLOSING);
     assert!(rt; replied == Err(failed), "{what}: a reply");
 }
 

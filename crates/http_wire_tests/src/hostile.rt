@@ -11,25 +11,25 @@ use upload_book::{Moment, Numbers};
 const CONVERSATIONS: u64 = 3_000;
 
 /// A book for few uploads, so that many conversations go beyond their number.
-const NUMBERS: Numbers = Numbers {
+pub const NUMBERS: Numbers = Numbers {
     uploads: 3,
     ..OTHERS
 };
 
 /// A generator of numbers: xorshift, by Marsaglia.
 #[derive(Clone, Copy)]
-struct Dice {
+pub struct Dice {
     state: u64,
 }
 
 impl Dice {
-    fn new(seed: u64) -> Self {
+    pub fn new(seed: u64) -> Self {
         let state = seed.wrapping_mul(0x9E37_79B9_7F4A_7C15) | 1;
         Dice { state }
     }
 
     /// A number below `sides`; 0 where there is no such number.
-    fn roll(&mut self, sides: usize) -> usize {
+    pub fn roll(&mut self, sides: usize) -> usize {
         self.state ^= self.state << 13;
         self.state ^= self.state >> 7;
         self.state ^= self.state << 17;
@@ -234,8 +234,8 @@ fn put_hostile(rt: &impl Abort, dice: &mut Dice, text: &mut Vec<u8>) {
     put(rt, text, body);
 }
 
-// A text of some messages, which may be cut, or have one byte more or another.
-fn text_of(rt: &impl Abort, alloc: Global, dice: &mut Dice) -> Vec<u8> {
+/// A text of some messages, which may be cut, or have one byte more or another.
+pub fn text_of(rt: &impl Abort, alloc: Global, dice: &mut Dice) -> Vec<u8> {
     let mut text = Vec::new(alloc);
     for place in pick(dice, &BEGINNINGS, &[]) {
         put_message(rt, *place, &mut text);
@@ -264,7 +264,7 @@ fn spoil(rt: &impl Abort, dice: &mut Dice, text: &mut Vec<u8>) {
 }
 
 /// The moments of a conversation's messages: later ones, the same, earlier ones, and some after expiries.
-fn moments() -> [Moment; 8] {
+pub fn moments() -> [Moment; 8] {
     [
         at(1000),
         at(1000),

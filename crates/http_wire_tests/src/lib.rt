@@ -8,9 +8,13 @@ mod checksums;
 #[cfg(test)]
 mod concatenations;
 #[cfg(test)]
+mod connections;
+#[cfg(test)]
 mod conversations;
 #[cfg(test)]
 mod creations;
+#[cfg(test)]
+mod driven;
 #[cfg(test)]
 mod faults;
 #[cfg(test)]
@@ -33,5 +37,7 @@ mod refused_memory;
 mod replies;
 #[cfg(test)]
 mod spoken;
+#[cfg(test)]
+mod wanted;
 #[cfg(test)]
 mod wires;

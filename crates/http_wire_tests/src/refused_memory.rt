@@ -312,7 +312,7 @@ fn answer_of(rt: &impl Abort, wire: &mut TurnWire, book: &mut Book) -> Answer {
 }
 
 /// Writes an answer on a wire.
-fn write_answer(rt: &impl Abort, wire: &mut TurnWire, answer: &Answer) {
+fn write_answer(rt: &impl Abort, wire: &mut TurnWire, answer: &mut Answer) {
     let written = match answer {
         Answer::Reply(reply, framing) => wire.write_reply(reply, at(1000), *framing),
         Answer::Nothing => Ok(()),
@@ -341,9 +341,10 @@ fn is_of_memory(answer: &Answer) -> bool {
 
 /// Answers the next message on a wire, and says whether memory was lacking for it.
 fn answer_next(rt: &impl Abort, wire: &mut TurnWire, book: &mut Book) -> bool {
-    let answer = answer_of(rt, wire, book);
-    write_answer(rt, wire, &answer);
-    is_of_memory(&answer)
+    let mut answer = answer_of(rt, wire, book);
+    let lacking = is_of_memory(&answer);
+    write_answer(rt, wire, &mut answer);
+    lacking
 }
 
 /// Answers the messages of the turns on a wire, up to the first for which memory is lacking, and gives what was written.

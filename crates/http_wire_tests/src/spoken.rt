@@ -99,7 +99,7 @@ pub fn charge_of(rt: &impl Abort, book: &Book, tenant: &[u8]) -> u64 {
 }
 
 /// How many bytes the first upload of acme has, where there is one.
-fn offset_of(book: &Book) -> Option<u64> {
+pub fn offset_of(book: &Book) -> Option<u64> {
     let name = Name { tenant: 0, id: 1 };
     match book.look(&name, at(1000)) {
         Ok(row) => Some(row.offset),

@@ -95,8 +95,8 @@ fn answer_of(
 
 /// Reads a message and writes its reply.
 fn answer_one(rt: &impl Abort, wire: &mut MemoryWire<'_>, book: &mut Book) {
-    let (reply, framing) = answer_of(rt, wire, book);
-    let written = wire.write_reply(&reply, at(1000), framing);
+    let (mut reply, framing) = answer_of(rt, wire, book);
+    let written = wire.write_reply(&mut reply, at(1000), framing);
     assert!(rt; written.is_ok(), "a reply");
 }
 

@@ -3,7 +3,6 @@
 
 mod accept;
 mod at_desk;
-mod connection;
 mod loopback;
 mod machine_clock;
 mod stream;
@@ -11,6 +10,7 @@ mod sweeping;
 mod work_options;
 mod worker;
 mod workers;
+mod yielding;
 
 pub use accept::{Accept, Listener};
 pub use loopback::{Loopback, LoopbackAcceptor};

@@ -2,12 +2,12 @@
 ghost use Rattle.std.specs.Prelude.{◌≡◌, ◌≤◌, false, All, IfSome};
 
 use crate::accept::Accept;
-use crate::connection::Connection;
 use crate::machine_clock::MachineClock;
 use crate::stream::{ServedStream, serve_stream};
 use crate::sweeping::sweep_expired;
 use crate::work_options::WorkOptions;
 use crate::worker::Worker;
+use crate::yielding::YieldingStream;
 use core::mem::replace_with;
 use http_wire::{Buffers, Clock, Ended, Tapped, WireFault};
 use std::alloc::Global;
@@ -146,7 +146,7 @@ impl<'a, C: Charges, R: Ledger, M: Ledger, H: Wait + Eprint + time::Clock, B: Wa
         };
         self.prepare(stream);
         self.open.fetch_add(1, Ordering::Relaxed);
-        let connection = Connection::new(stream, &self.open);
+        let connection = YieldingStream::new(stream, &self.open);
         let reader = Tapped::new(&connection);
         let writer = Tapped::new(&connection);
         let ServedStream {

@@ -6,7 +6,7 @@ use Rattle.httparse.specs.declared.spans.Span.{Span}
 use Rattle.httparse.specs.declared.spans.HeaderSpan.{HeaderSpan}
 use Rattle.httparse.specs.Grammar.{Field}
 use Rattle.tus_steps.specs.TusFields.{EachField, fields_by, map_fields}
-use Rattle.http_wire.specs.Connection.{closes, has_close}
+use Rattle.http_wire.specs.ConnectionFields.{closes, has_close}
 use Rattle.http_wire.specs.Fields.{field_text, values_named}
 use Rattle.http_wire.specs.Layout.{IsInside, field_at}
 use Rattle.http_wire.specs.declared.read.fields.FieldName.{FieldName}

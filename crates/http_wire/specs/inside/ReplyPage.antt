@@ -1,4 +1,4 @@
--- How a reply is sent: what is put on a page, and after it the bytes of an upload, which are not copied.
+-- How a reply is sent: what it puts on a page, and the bytes of an upload that come after it.
 use Rattle.std.specs.Prelude.{ℕ, List, [], ◌++◌}
 use Rattle.upload_book.specs.Refusal.{word_of}
 use Rattle.tus_steps.specs.declared.reply.Reply.{Reply}
@@ -11,15 +11,15 @@ abbrev pub word_in : Reply → List ℕ
 word_in (Refused why head at expires) = word_body (word_of why)
 word_in _ = []
 
--- a body that is not
+-- a body that comes after it
 abbrev pub content_in : Reply → List ℕ
 content_in (Content bytes) = bytes
 content_in _ = []
 
--- the page of a reply
+-- what a reply puts on a page
 abbrev pub page_text : Reply → ℕ → Framing → List ℕ
 page_text r now framing = reply_head r now framing ++ body_sent (is_bare framing (reply_status r)) (word_in r)
 
--- what follows the page
+-- what comes after it
 abbrev pub content_sent : Reply → Framing → List ℕ
 content_sent r framing = body_sent framing.bare (content_in r)

@@ -1,5 +1,6 @@
 -- How far the reading of a message has come, and what a look at the bytes that came tells.
 use Rattle.std.specs.Prelude.{◌≡◌, ◌≤◌, ◌<◌, ◌+◌, ◌-◌, ◌^◌, ℕ, true, false, List, [], length, Ok, ⊤}
+use Rattle.std.specs.Prelude.{if◌then◌else◌}
 use Rattle.http_wire.specs.Conversation.{continue_text}
 use Rattle.http_wire.specs.HeadText.{head_limit}
 use Rattle.http_wire.specs.Incoming.{is_cut_by_fault, map_incoming}
@@ -74,3 +75,7 @@ abbrev pub IsNearer : ℕ → Ahead → Stage → Looked → Type 0
 IsNearer before a stage More = missing a stage ≤ before
 IsNearer before a stage Continue = missing a stage < before
 IsNearer before a stage (Came i) = ⊤
+
+-- the bytes that may still come, and the end
+abbrev pub still : Ahead → Stage → ℕ
+still a s = missing a s + (if a.ended then 0 else 1)

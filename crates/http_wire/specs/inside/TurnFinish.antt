@@ -1,5 +1,6 @@
--- The second half of a turn, after its message was read: a request is answered or refused, and the conversation goes on or ends.
-use Rattle.std.specs.Prelude.{ℕ, List, Option, Some, None, ◌≡◌, Bool, true, false, ◌++◌, Result, Ok, Err, OnOk, IfOk, IfErr}
+-- The second half of a turn, after its message was read: a request is answered or refused, and once that is sent the
+-- conversation goes on or ends.
+use Rattle.std.specs.Prelude.{ℕ, List, [], take, Option, Some, None, ◌≡◌, ◌≢◌, Bool, true, false, ◌++◌, Result, Ok, Err, OnOk, IfOk, IfErr}
 use Rattle.http_wire.specs.inside.Ahead.{Ahead, SeesEnd}
 use Rattle.http_wire.specs.declared.conversation.Ended.{Ended}
 use Rattle.http_wire.specs.declared.conversation.Ended.TheVariants as ended
@@ -23,11 +24,10 @@ abbrev pub EndsTurnAtEnd : Option (List ℕ) → Ahead → Option Ended → Type
 EndsTurnAtEnd remaining a None = SeesEnd remaining a
 EndsTurnAtEnd remaining a (Some e) = IsReadWhen e remaining
 
--- how a turn ends after its reply was written, or was not: with the connection, where that closes
-abbrev pub turn_after : {T : Type 0} → Result T WireFault → Bool → Result (Option Ended) WireFault
-turn_after (Ok written) true = Ok (Some ended.Closed)
-turn_after (Ok written) false = Ok None
-turn_after (Err why) close = Err why
+-- how a turn ends once its reply is sent: with the connection, where that closes
+abbrev pub ended_after : Bool → Option Ended
+ended_after true = Some ended.Closed
+ended_after false = None
 
 -- how a turn ends whose body was cut
 abbrev pub turn_cut : Cut → Result (Option Ended) WireFault
@@ -39,6 +39,20 @@ module _ {A : Type 0} (steps : A → Request → ℕ → Reply → A → Type 0)
   abbrev pub FinishesIn : ℕ → ℕ → Exchange A → List ℕ → Result (Option Ended) WireFault → Type 0
   FinishesIn max now x held (Ok e) = TakesTurn steps max now x held (Ok e)
   FinishesIn max now x held (Err fault) = BreaksAnswer steps max now x fault
+
+  -- What came in was answered at this moment, and this is pending now. Whatever that was read from: once all that is pending
+  -- is sent, it is a turn; and where a write fails after a front of it, a turn that was broken off. Only a PATCH that a failed
+  -- read cut makes it the reader's fault, and then nothing is pending.
+  pub record AnswersTurn (now : ℕ) (a : Ahead) (incoming : Incoming FramedRequest) (pending : List ℕ) (before after : A) (r : Result (Option Ended) WireFault) : Type 0 where
+    pub sent : (max : ℕ) (input said : List ℕ) → ComesIn max (record { input = input; text = said }) a.held incoming
+        → FinishesIn max now (record { input = input; text = said ++ pending; before = before; after = after }) a.held r
+    pub unsent : (max n : ℕ) (input said : List ℕ) → ComesIn max (record { input = input; text = said }) a.held incoming → pending ≢ []
+        → BreaksAnswer steps max now (record { input = input; text = said ++ take n pending; before = before; after = after }) fault.Write
+    pub silent : is_cut_by_fault incoming ≡ true → pending ≡ []
+    pub end : (remaining : Option (List ℕ)) → SeesEnd remaining a → TellsEnd a.ended (Ok incoming) → IfOk r (EndsTurnAtEnd remaining a)
+    pub ends : IfOk r EndsByTurn
+    pub reader : OnOk r (is_cut_by_fault incoming ≡ false)
+    pub fault : IfErr r (NamesStream (is_cut_by_fault incoming) false)
 
   -- A turn was finished by what came in, at this moment: whatever that was read from, with what is written now it is a turn.
   -- Only a PATCH that a failed read cut makes it the reader's fault, and only a write that failed the writer's.

@@ -1,21 +1,26 @@
 -- How a wire is seen by its contracts, and what holds of every wire.
-use Rattle.std.specs.Prelude.{◌≡◌, ◌<◌, ◌^◌, ℕ, true, false}
+use Rattle.std.specs.Prelude.{◌≡◌, ◌<◌, ◌^◌, true, false, Option, Some, None, Result, Ok, Err}
 use Rattle.std.specs.Io.KnownBytes.{IsAtEnd}
 use Rattle.http_wire.specs.OnWire.{OnWire}
 use Rattle.http_wire.specs.Streams.{Streams}
 use Rattle.http_wire.specs.WireState.{is_open, is_alive}
 use Rattle.http_wire.specs.declared.wire.State.{State}
-use Rattle.http_wire.specs.inside.Ahead.{Ahead}
+use Rattle.http_wire.specs.Incoming.{FramedRequest}
+use Rattle.http_wire.specs.OnConnection.{OnConnection, at_start, owed_in, passed_over}
+use Rattle.http_wire.specs.declared.fault.WireFault.{WireFault}
+use Rattle.http_wire.specs.declared.incoming.Incoming.{Incoming}
+use Rattle.http_wire.specs.declared.incoming.Incoming.TheVariants.{End}
+use Rattle.http_wire.specs.inside.Sending.{empty_outbox}
 
 module _ {R W : Type 0} where
-  -- the wire of this reader and this writer, an inbox that holds this, and a state
-  abbrev pub wire_of : R → W → Ahead → ℕ → State → OnWire R W
-  wire_of reader writer inbox max_size state = record {
+  -- the wire of this reader and this writer, a connection, and a state
+  abbrev pub wire_of : R → W → OnConnection → State → OnWire R W
+  wire_of reader writer c state = record {
     reader = reader;
     writer = writer;
-    held = inbox.held;
-    ended = inbox.ended;
-    max_size = max_size;
+    held = c.inbox.held;
+    ended = c.inbox.ended;
+    max_size = c.max_size;
     reads = is_open state;
     writes = is_alive state;
   }
@@ -28,3 +33,20 @@ module _ {R W : Type 0} where
     pub reader_alive : w.reads ≡ true → s.read_failed w.reader ≡ false
     pub writer_alive : w.writes ≡ true → s.write_failed w.writer ≡ false
     pub end : w.reads ≡ true → w.ended ≡ true → IsAtEnd (s.remaining w.reader)
+
+  -- The same of its parts; nothing is left to be sent, and while it reads, the next message begins, unless one that came in is
+  -- left as it is.
+  pub record IsWire (s : Streams R W) (reader : R) (writer : W) (c : OnConnection) (state : State) : Type 0 where
+    pub sound : IsSound s (wire_of reader writer c state)
+    pub sent : c.outbox ≡ empty_outbox
+    pub starts : is_open state ≡ true → passed_over c.phase ≡ at_start
+
+-- what came in, or the end where nothing did
+abbrev pub or_end : Option (Incoming FramedRequest) → Incoming FramedRequest
+or_end (Some i) = i
+or_end None = End
+
+-- what the reading of the next message gave, which the connection owes an answer
+abbrev pub read_by : Result Unit WireFault → OnConnection → Result (Incoming FramedRequest) WireFault
+read_by (Ok done) c = Ok (or_end (owed_in c.phase))
+read_by (Err fault) c = Err fault

@@ -4,7 +4,7 @@ ghost use Rattle.http_wire.specs.Fields.{lowercase};
 ghost use Rattle.http_wire.specs.Layout.{IsInside, field_at};
 ghost use Rattle.http_wire.specs.inside.HeadFields.{added, field_named, first_named, head_fields, of_length, with_field, with_named};
 
-use crate::connection::has_close;
+use crate::read::connection_fields::has_close;
 use httparse::spans::{HeaderSpan, Span};
 use tus_steps::{Field, TusFields};
 

@@ -7,8 +7,8 @@ ghost use Rattle.http_wire.specs.inside.HeadLayout.{HasLine, IsLine, JudgesHead,
 ghost use Rattle.tus_steps.specs.Field.{text_of};
 ghost use Rattle.http_wire.specs.Front.{Parses, method_of, method_by, closing, unknown_framing};
 
-use crate::connection::asks_to_continue;
 use crate::framing::Framing;
+use crate::read::connection_fields::asks_to_continue;
 use crate::read::fields::{HeadFields, gather};
 use crate::read::head_text::has_many_lines;
 use crate::read::judge::judge;

@@ -1,5 +1,6 @@
 //! The search for the head of the next message.
-ghost use Rattle.std.specs.Prelude.{◌≡◌, ◌≤◌, ◌<◌, ◌+◌, ℕ, List, length, IfSome, IfNone};
+ghost use Rattle.std.specs.Prelude.{◌≡◌, ◌≢◌, ◌≤◌, ◌<◌, ◌+◌, ℕ, List, length, IfSome, IfNone};
+ghost use Rattle.std.specs.Bool.{OnFalse, OnTrue};
 ghost use Rattle.http_wire.specs.HeadText.{blank_len};
 ghost use Rattle.http_wire.specs.inside.HeadSearch.{IsHeldBy, LooksFor, NeedsMore, Searching, search_start};
 
@@ -17,7 +18,7 @@ pub enum HeadFound {
 
 /// A search for the head of the next message in what an inbox holds. It touches no reader: each look goes on where the
 /// last one stopped, and none looks at a byte that was seen before.
-#[derive(Clone, Copy)]
+#[derive(Clone, Copy, PartialEq, Eq)]
 pub struct Search {
     /// How far the search for the end of the head has come.
     pub scan: Scan,
@@ -37,6 +38,14 @@ impl Search {
             seen: 0,
             skipped: 0,
         }
+    }
+
+    /// Whether it saw no byte yet.
+    pub fn is_new(&self) -> bool
+        ensures new { OnTrue result (self.now ≡ search_start) }
+        ensures other { OnFalse result (self.now ≢ search_start) }
+    {
+        *self == Search::new()
     }
 
     /// Looks for the head in what is held. After `None` more has to be read: all that is held was seen, it is a part of a

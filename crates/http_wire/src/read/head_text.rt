@@ -12,7 +12,7 @@ const LINE_LIMIT: usize = 66;
 
 /// How far the search for the end of a head has come: the last two bytes that it saw. Bytes that come
 /// later are searched from there on, and none is looked at twice.
-#[derive(Clone, Copy)]
+#[derive(Clone, Copy, PartialEq, Eq)]
 pub struct Scan {
     pub before: u8,
     pub last: u8,

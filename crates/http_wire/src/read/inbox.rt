@@ -1,9 +1,8 @@
-ghost use Rattle.std.specs.Prelude.{◌≡◌, ◌⊎◌, ◌+◌, ◌^◌, ◌<◌, ◌≤◌, ◌++◌, [], true, false, length, take, drop, IfOk, OnOk, OnErr, IfErr, is_err, slice_range, vec_len, vec_capacity};
+ghost use Rattle.std.specs.Prelude.{◌≡◌, ◌⊎◌, ◌↔◌, ◌+◌, ◌^◌, ◌<◌, ◌≤◌, ◌++◌, [], true, false, length, take, drop, IfOk, OnOk, OnErr, IfErr, is_err, slice_range, vec_len, vec_capacity};
 ghost use Rattle.std.specs.Int.{IsNextPowerOfTwo};
 ghost use Rattle.std.specs.Io.KnownBytes.{Consumes, Keeps, IsAtEnd};
 ghost use Rattle.http_wire.specs.inside.Ahead.{Ahead, Grew};
 
-use crate::fault::WireFault;
 use crate::source::Source;
 use std::alloc::{AllocError, Global};
 use std::io;
@@ -109,6 +108,13 @@ impl Inbox {
         self.ended
     }
 
+    /// Ends the input here: no more of it will be read.
+    pub fn end(&mut self)
+        ensures { self.new ≡ record self.old { ended = true } }
+    {
+        self.ended = true;
+    }
+
     /// Drops the first `count` bytes that are held, and what is lent.
     pub fn skip(&mut self, count: usize)
         requires { count ≤ length self.old.held }
@@ -166,22 +172,20 @@ impl Inbox {
         Ok(())
     }
 
-    /// Reads once, in place of what was lent. After `Ok`, either bytes came or the reader gave its
-    /// end. The error is `WireFault::Read`, and then nothing came.
-    pub fn fill<R: Source>(&mut self, reader: &mut R) -> Result<(), WireFault>
+    /// Reads once, in place of what was lent, and gives how many bytes came: none where the reader gave its end. The error
+    /// is the reader's, and then nothing came.
+    pub fn fill<R: Source>(&mut self, reader: &mut R) -> io::Result<usize>
         requires alive { R.has_failed reader.old ≡ false }
         requires unended { self.old.ended ≡ false }
         requires room { length self.old.held + READ_SIZE ≤ self.old.room }
         ensures grew { Grew (R.remaining reader.old) (R.remaining reader.new) self.old self.new }
+        ensures count { IfOk result (λ n. length self.new.held ≡ length self.old.held + n) }
+        ensures ended { IfOk result (λ n. (n ≡ 0) ↔ (self.new.ended ≡ true)) }
         ensures lent { self.new.lent ≡ [] }
         ensures room { self.new.room ≡ self.old.room }
-        ensures more { OnOk result (self.new.ended ≡ false
-            → length self.old.held < length self.new.held) }
-        ensures end { OnOk result (self.new.ended ≡ true
-            → (self.new.held ≡ self.old.held) × IsAtEnd (R.remaining reader.new)) }
-        ensures alive { OnOk result (R.has_failed reader.new ≡ false) }
-        ensures failed { OnErr result (R.has_failed reader.new ≡ true) }
-        ensures fault { IfErr result (λ e. e ≡ WireFault.Read) }
+        ensures fits { length self.new.held ≤ self.new.room }
+        ensures end { OnOk result (self.new.ended ≡ true → IsAtEnd (R.remaining reader.new)) }
+        ensures failed { R.has_failed reader.new ≡ is_err result }
         ensures unread { OnErr result ((self.new.held ≡ self.old.held)
             × (self.new.ended ≡ self.old.ended)
             × Keeps (R.remaining reader.old) (R.remaining reader.new)) }
@@ -192,14 +196,10 @@ impl Inbox {
         self.start = self.at;
         self.end = self.at + count;
         widen(&mut self.buffer, self.end, needed, self.room);
-        match read_after(reader, &mut self.buffer, self.end) {
-            Ok(more) => {
-                self.ended = more == 0;
-                self.end += more;
-                Ok(())
-            }
-            Err(_) => Err(WireFault::Read),
-        }
+        let more = read_after(reader, &mut self.buffer, self.end)?;
+        self.ended = more == 0;
+        self.end += more;
+        Ok(more)
     }
 }
 

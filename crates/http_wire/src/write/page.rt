@@ -8,11 +8,17 @@ use std::marker::Model;
 use tus_text::write_expires;
 use upload_book::Moment;
 
-/// The most bytes that a page takes: more than [`HEAD_MAX`] and the word of a refusal.
-pub const PAGE_SIZE: usize = 8192;
+/// The most bytes of earlier replies on a page when one more begins.
+pub const EARLIER_MAX: usize = 8_192;
 
-/// The most bytes of the lines that every reply begins with: its status, date and version.
-pub const OPENING_MAX: usize = 200;
+/// The most bytes that one reply takes of a page: more than its head and the word of a refusal.
+pub const REPLY_MAX: usize = 8_192;
+
+/// The most bytes that a page takes. The bounds of a page below count a reply behind [`EARLIER_MAX`] bytes of others.
+pub const PAGE_SIZE: usize = EARLIER_MAX + REPLY_MAX;
+
+/// The most bytes of a page with the lines that every reply begins with: its status, date and version.
+pub const OPENING_MAX: usize = EARLIER_MAX + 200;
 
 /// The most bytes of the line of a number, a date or a path.
 pub const LINE_MAX: usize = 100;
@@ -31,11 +37,11 @@ pub const CONTENT_MAX: usize = LINE_MAX;
 /// The most bytes of what ends a head: the lines of the body, that of the connection and the empty line.
 pub const ENDING_MAX: usize = CONTENT_MAX + LINE_MAX;
 
-/// The most bytes of the head of a reply.
+/// The most bytes of a page with the head of a reply.
 pub const HEAD_MAX: usize = FIELDS_MAX + ENDING_MAX;
 
-/// Where a reply is put together before it is written. Its memory is taken once, so that no reply
-/// needs any. A contract sees the bytes that were put.
+/// Where replies are put together, one behind the other, before they are written. Its memory is taken once, so that no
+/// reply needs any. A contract sees the bytes that were put.
 #[derive(Drop)]
 pub struct Page {
     text: Vec<u8>,

@@ -1,6 +1,6 @@
 //! The bytes of the replies, put on a page; the bytes of an upload are not copied to it.
 ghost use Rattle.std.specs.Prelude.{◌≡◌, ◌+◌, ◌≤◌, ◌++◌, length, codes};
-ghost use Rattle.http_wire.specs.inside.ReplyPage.{page_text, content_sent, word_in};
+ghost use Rattle.http_wire.specs.inside.ReplyPage.{page_text, word_in};
 ghost use Rattle.http_wire.specs.ReplyText.{status_line, reason_in, reasons, opening, ending, content_fields, word_body, body_in, media_in, reply_status, refusal_text};
 ghost use Rattle.http_wire.specs.Refusal as wire;
 ghost use Rattle.tus_steps.specs.PlacedReply.{reply_in};
@@ -8,18 +8,20 @@ ghost use Rattle.tus_steps.specs.PlacedReply.{reply_in};
 use crate::framing::Framing;
 use crate::refusal::WireRefusal;
 use crate::write::own_fields::put_own_fields;
-use crate::write::page::{CONTENT_MAX, ENDING_MAX, FIELDS_MAX, HEAD_MAX, OPENING_MAX, Page};
+use crate::write::page::{
+    CONTENT_MAX, EARLIER_MAX, ENDING_MAX, FIELDS_MAX, HEAD_MAX, OPENING_MAX, Page,
+};
 use itoa::Buffer;
 use tus_steps::{PlacedReply, ReplyKind};
 use upload_book::Moment;
 
-/// Puts the bytes of a reply at the moment of its message, but for the bytes of an upload: those are
-/// `content_of` it.
+/// Puts the bytes of a reply at the moment of its message behind the earlier ones, but for the bytes of an upload, which
+/// follow the page.
 #[tactic(auto, unfolding(crate::specs::ReplyText::reply_head))]
 pub fn put_reply(page: &mut Page, reply: &PlacedReply, now: Moment, framing: Framing)
-    ensures { page.new ≡ page_text (reply_in reply.now) now framing }
+    requires { length page.old ≤ EARLIER_MAX }
+    ensures { page.new ≡ page.old ++ page_text (reply_in reply.now) now framing }
 {
-    page.clear();
     let status = status_of(reply);
     put_opening(page, status, now);
     put_own_fields(page, reply);
@@ -30,22 +32,12 @@ pub fn put_reply(page: &mut Page, reply: &PlacedReply, now: Moment, framing: Fra
     }
 }
 
-/// The bytes of the upload that a reply sends after what is put on its page.
-pub fn content_of(reply: &PlacedReply, framing: Framing) -> &[u8]
-    ensures { result.now ≡ content_sent (reply_in reply.now) framing }
-{
-    match &reply.kind {
-        ReplyKind::Content(content) if !framing.bare => content.as_slice(),
-        _ => b"",
-    }
-}
-
-/// Puts the bytes of a refusal of the wire at the moment of its message.
+/// Puts the bytes of a refusal of the wire at the moment of its message behind the earlier ones.
 #[tactic(auto, unfolding(crate::specs::ReplyText::refusal_text))]
 pub fn put_refusal(page: &mut Page, refusal: WireRefusal, now: Moment, framing: Framing)
-    ensures { page.new ≡ refusal_text refusal now framing }
+    requires { length page.old ≤ EARLIER_MAX }
+    ensures { page.new ≡ page.old ++ refusal_text refusal now framing }
 {
-    page.clear();
     let status = refusal.status();
     put_opening(page, status, now);
     let bare = framing.bare || status == 204;
@@ -65,7 +57,7 @@ pub fn put_refusal(page: &mut Page, refusal: WireRefusal, now: Moment, framing: 
 // The lines that every reply begins with.
 #[tactic(auto, unfolding(crate::specs::ReplyText::opening))]
 fn put_opening(page: &mut Page, status: u16, now: Moment)
-    requires { length page.old ≤ 0 }
+    requires { length page.old ≤ EARLIER_MAX }
     ensures text { page.new ≡ page.old ++ opening status now }
     ensures len { length page.new ≤ OPENING_MAX }
 {
@@ -77,9 +69,9 @@ fn put_opening(page: &mut Page, status: u16, now: Moment)
 
 #[tactic(auto, unfolding(crate::specs::ReplyText::status_line))]
 fn put_status_line(page: &mut Page, status: u16)
-    requires { length page.old ≤ 0 }
+    requires { length page.old ≤ EARLIER_MAX }
     ensures text { page.new ≡ page.old ++ status_line status }
-    ensures len { length page.new ≤ 64 }
+    ensures len { length page.new ≤ EARLIER_MAX + 64 }
 {
     page.put(b"HTTP/1.1 ");
     let mut digits = Buffer::new();

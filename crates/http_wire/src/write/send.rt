@@ -1,8 +1,10 @@
-ghost use Rattle.std.specs.Prelude.{◌≡◌, ◌++◌, false};
+ghost use Rattle.std.specs.Prelude.{◌≡◌, ◌≢◌, [], false, drop, IfOk, OnErr};
 ghost use Rattle.http_wire.specs.Writes.{Writes};
+ghost use Rattle.http_wire.specs.inside.Sending.{empty_outbox, TakesSome};
 
 use crate::fault::WireFault;
 use crate::source::Sink;
+use crate::write::outbox::Outbox;
 
 /// Writes all of `bytes`. The error is `WireFault::Write`, and then only a prefix of them was written.
 pub fn put_all<W: Sink>(writer: &mut W, bytes: &[u8]) -> Result<(), WireFault>
@@ -13,22 +15,62 @@ pub fn put_all<W: Sink>(writer: &mut W, bytes: &[u8]) -> Result<(), WireFault>
     let mut done = 0;
     while done < bytes.len() {
         let (_, rest) = bytes.split_at(done);
-        match writer.write(rest) {
-            Ok(0) => return Err(WireFault::Write),
-            Ok(count) => done += count,
-            Err(_) => return Err(WireFault::Write),
-        }
+        done += write_some(writer, rest)?;
     }
     Ok(())
 }
 
-/// Writes all of `first`, and then all of `rest`. The error is `WireFault::Write`, and then only a front
-/// of the two was written.
-pub fn put_both<W: Sink>(writer: &mut W, first: &[u8], rest: &[u8]) -> Result<(), WireFault>
+/// Writes all that is pending, piece by piece. The error is `WireFault::Write`, and then only a prefix of it was written.
+/// What was not sent then is dropped, since nothing more is written. Where nothing is pending there is no error.
+pub fn flush<W: Sink>(writer: &mut W, outbox: &mut Outbox) -> Result<(), WireFault>
     requires { W.has_failed writer.old ≡ false }
-    ensures { Writes (W.contents writer.old) (W.contents writer.new) (W.has_failed writer.new)
-        (first.now ++ rest.now) result }
+    ensures writes { Writes (W.contents writer.old) (W.contents writer.new) (W.has_failed writer.new)
+        outbox.old.pending result }
+    ensures empty { outbox.new ≡ empty_outbox }
+    ensures some { OnErr result (outbox.old.pending ≢ []) }
 {
-    put_all(writer, first)?;
-    put_all(writer, rest)
+    let written = send_pending(writer, outbox);
+    outbox.clear();
+    written
+}
+
+// The same, but what was not sent stays.
+fn send_pending<W: Sink>(writer: &mut W, outbox: &mut Outbox) -> Result<(), WireFault>
+    requires { W.has_failed writer.old ≡ false }
+    ensures writes { Writes (W.contents writer.old) (W.contents writer.new) (W.has_failed writer.new)
+        outbox.old.pending result }
+    ensures some { OnErr result (outbox.old.pending ≢ []) }
+{
+    while !outbox.is_empty() {
+        send_some(writer, outbox)?;
+    }
+    Ok(())
+}
+
+// Makes one write of what is pending, and gives how many bytes it took. The error is `WireFault::Write`.
+fn send_some<W: Sink>(writer: &mut W, outbox: &mut Outbox) -> Result<usize, WireFault>
+    requires alive { W.has_failed writer.old ≡ false }
+    requires some { outbox.old.pending ≢ [] }
+    ensures takes { TakesSome (W.contents writer.old) (W.contents writer.new) (W.has_failed writer.new)
+        outbox.old.pending result }
+    ensures left { IfOk result (λ n. outbox.new.pending ≡ drop n outbox.old.pending) }
+{
+    match outbox.write_to(writer) {
+        Ok(0) | Err(_) => Err(WireFault::Write),
+        Ok(count) => Ok(count),
+    }
+}
+
+// Writes some of these bytes, and gives their number. The error is `WireFault::Write`.
+fn write_some<W: Sink>(writer: &mut W, bytes: &[u8]) -> Result<usize, WireFault>
+    requires alive { W.has_failed writer.old ≡ false }
+    requires some { bytes.now ≢ [] }
+    ensures { TakesSome (W.contents writer.old) (W.contents writer.new) (W.has_failed writer.new)
+        bytes.now result }
+{
+    match writer.write(bytes) {
+        Ok(0) => Err(WireFault::Write),
+        Ok(count) => Ok(count),
+        Err(_) => Err(WireFault::Write),
+    }
 }

@@ -1,25 +1,19 @@
-use Rattle.std.proofs.Common.{refl}
-use Rattle.http_wire.proofs.FinishLemmas.{Finishes-message, Finishes-refused, Finishes-cut_patch, Finishes-cut_other, Finishes-end}
+use Rattle.std.proofs.Common.{ap, ◌∙◌}
+use Rattle.std.proofs.lemmas.Result.{err_from_is_err_and}
+use Rattle.http_wire.specs.OnConnection.{OnConnection, ended_in}
+use Rattle.http_wire.specs.inside.Sending.{OnOutbox}
+use Rattle.http_wire.proofs.FinishLemmas.{Finishes-answered, Finishes-broken}
 use Rattle.http_wire.proofs.conversation.finish_turn.Goals as goal
 
-pub returns-in-Message-clause-finishes : goal.returns-in-Message-clause-finishes
-returns-in-Message-clause-finishes g c =
-    let step = c.answer_message-written.ensures.answers in
-    rw (c.turn_after.ensures, c.in-Message.is) (Finishes-message g.A.Answer.steps c.args.now c.args.buffers.now.inbox c.in-Message.layout step.0 _ _ _ _ _ c.answer_message-written.result c.in-Message.layout.framing.close refl step.1 step.2)
+pub returns-clause-finishes : goal.returns-clause-finishes
+returns-clause-finishes g c =
+    let answered = c.answer.ensures in
+    let wrote = c.in_ok-flush.ensures.writes in
+    Finishes-answered g.A.Answer.steps c.args.now c.args.connection.now.inbox _ _ _ _ _ _ _ _ c.answer.new.self.phase c.ended.result answered.answers answered.phase (ap (λ (o : OnOutbox). o.pending) c.requires.sent)
+    wrote.all wrote.failed (c.ended.ensures ∙ ap (λ (o : OnConnection). ended_in o.phase) c.flush.ensures.sent)
 
-pub returns-in-Refused-clause-finishes : goal.returns-in-Refused-clause-finishes
-returns-in-Refused-clause-finishes g c =
-    rw (c.turn_after-in-Refused.ensures, c.in-Refused.is) (Finishes-refused g.A.Answer.steps c.args.now c.args.buffers.now.inbox c.in-Refused.refusal c.in-Refused.framing _ _ _ _ c.write_refusal-written.result c.write_refusal-written.ensures)
-
-pub returns-in-CutPatch-clause-finishes : goal.returns-in-CutPatch-clause-finishes
-returns-in-CutPatch-clause-finishes g c =
-    let step = c.apply_cut.ensures.step in
-    rw (c.turn_cut.ensures, c.in-CutPatch.is) (Finishes-cut_patch g.A.Answer.steps c.args.now c.args.buffers.now.inbox c.in-CutPatch.layout c.in-CutPatch.why step.0 _ _ _ _ step.1 c.requires.writer)
-
-pub returns-in-CutOther-clause-finishes : goal.returns-in-CutOther-clause-finishes
-returns-in-CutOther-clause-finishes g c =
-    rw c.in-CutOther.is (Finishes-cut_other g.A.Answer.steps c.args.now c.args.buffers.now.inbox _ _ _ c.requires.writer)
-
-pub returns-in-End-clause-finishes : goal.returns-in-End-clause-finishes
-returns-in-End-clause-finishes g c =
-    rw c.in-End.is (Finishes-end g.A.Answer.steps c.args.now c.args.buffers.now.inbox _ _ _ c.requires.writer)
+pub returns-in_err-flush-clause-finishes : goal.returns-in_err-flush-clause-finishes
+returns-in_err-flush-clause-finishes g c =
+    let p = err_from_is_err_and c.from_residual.result c.from_residual.ensures.1 in
+    let failed = c.in_err-flush.ensures in
+    Finishes-broken g.A.Answer.steps c.args.now c.args.connection.now.inbox _ _ _ _ _ _ _ _ c.from_residual.result p.0 c.in_err-flush.field-0.0 p.1 p.2 c.answer.ensures.answers (ap (λ (o : OnOutbox). o.pending) c.requires.sent) failed.writes failed.some

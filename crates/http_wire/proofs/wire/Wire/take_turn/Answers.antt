@@ -1,4 +1,4 @@
-use Rattle.std.proofs.Common.{rules, ◌≡◌, true, List, ℕ, Option, Some, None, Result, Ok, Err, IfOk, is_ok, true≢false, refl, ap, sym, ◌∙◌}
+use Rattle.std.proofs.Common.{rules, ◌≡◌, true, List, ℕ, Option, Some, None, Result, Ok, Err, IfOk, is_ok, true≢false, ap, sym, ◌∙◌}
 use Rattle.http_wire.specs.TurnOnWire.{EndsAtEnd, goes_on}
 use Rattle.http_wire.specs.WireState.{is_open, is_alive}
 use Rattle.http_wire.specs.declared.conversation.Ended.{Ended}
@@ -34,14 +34,14 @@ returns-after-turn g c =
         reading = λ _. record {
           turn = turn.turn;
           asked = turn.asked;
-          end = ends _ c.take_turn-turn.new.buffers.inbox c.take_turn-turn.result (c.self.invariant.end reading) turn.end;
+          end = ends _ c.take_turn-turn.new.connection.inbox c.take_turn-turn.result (c.self.invariant.sound.end reading) turn.end;
           ends = turn.ends;
           stops = turn.stops;
           reader = turn.reader;
           writer = turn.writer;
           fault = turn.fault;
-          alive = (c.self.invariant.reader_alive reading, c.self.invariant.writer_alive alive);
-          size = refl;
+          alive = (c.self.invariant.sound.reader_alive reading, c.self.invariant.sound.writer_alive alive);
+          size = turn.size;
           reads = reads;
           writes = writes;
         };

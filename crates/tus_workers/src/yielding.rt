@@ -1,4 +1,4 @@
-//! A connection as its worker reads and writes it.
+//! The stream of a connection as its worker reads and writes it.
 
 use std::cell::Cell;
 use std::io;
@@ -13,7 +13,7 @@ const CROWD: u64 = 3;
 /// The stream of a connection. Where many connections are open, it lets other threads run before the first byte of each
 /// message: when its turn comes back, the message is often there, and the thread need not sleep.
 #[derive(Drop)]
-pub struct Connection<'s, 'o> {
+pub struct YieldingStream<'s, 'o> {
     stream: &'s TcpStream,
     // How many connections are open.
     open: &'o AtomicU64,
@@ -22,10 +22,10 @@ pub struct Connection<'s, 'o> {
     between: Cell<bool>,
 }
 
-impl<'s, 'o> Connection<'s, 'o> {
-    /// A connection of which nothing was read.
+impl<'s, 'o> YieldingStream<'s, 'o> {
+    /// A stream of which nothing was read.
     pub fn new(stream: &'s TcpStream, open: &'o AtomicU64) -> Self {
-        Connection {
+        YieldingStream {
             stream,
             open,
             between: Cell::new(true),
@@ -33,7 +33,7 @@ impl<'s, 'o> Connection<'s, 'o> {
     }
 }
 
-impl Read for &Connection<'_, '_> {
+impl Read for &YieldingStream<'_, '_> {
     fn read(&mut self, buf: &mut [u8]) -> io::Result<usize> {
         if self.between.replace(false) && self.open.load(Ordering::Relaxed) > CROWD {
             yield_now();
@@ -43,7 +43,7 @@ impl Read for &Connection<'_, '_> {
     }
 }
 
-impl Write for &Connection<'_, '_> {
+impl Write for &YieldingStream<'_, '_> {
     fn write(&mut self, buf: &[u8]) -> io::Result<usize> {
         self.between.set(true);
         let mut stream = self.stream;

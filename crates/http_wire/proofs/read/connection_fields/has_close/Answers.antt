@@ -2,8 +2,8 @@ use Rattle.std.proofs.Common.{rules}
 use Rattle.std.specs.Prelude.{◌==◌}
 use Rattle.std.proofs.lemmas.Iterator.Search.{any_from_yields_List}
 use Rattle.std.proofs.lemmas.Iterator.Splits.{YieldsList-from_slice_split}
-use Rattle.http_wire.specs.Connection.{is_close}
-use Rattle.http_wire.proofs.connection.has_close.Goals as goal
+use Rattle.http_wire.specs.ConnectionFields.{is_close}
+use Rattle.http_wire.proofs.read.connection_fields.has_close.Goals as goal
 
 pub returns : goal.returns
 returns c =

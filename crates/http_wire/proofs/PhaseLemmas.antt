@@ -1,0 +1,143 @@
+-- How far a connection has come, after each of its calls.
+use Rattle.std.proofs.Common.{◌≡◌, ◌≢◌, ◌↔◌, false, IfSome, ◌+◌, ◌∷◌, ◌++◌, ℕ, Bool, true, List, [], length, Option, Some, None, Result, Ok, Err, refl, ap, ◌∙◌, ◌<◌, ◌^◌, sym, subst, arith, length-append}
+use Rattle.http_wire.specs.Incoming.{FramedRequest}
+use Rattle.std.specs.Prelude.{if◌then◌else◌}
+use Rattle.http_wire.specs.ConnectionCalls.{Takes}
+use Rattle.http_wire.specs.Layout.{framed_at}
+use Rattle.http_wire.specs.OnConnection.{HasNoMessage, StandsIn, at_start, is_looking, owed_in, phase_after, unless_pending, wanted_in}
+use Rattle.http_wire.specs.Past.{HasPast, Past}
+use Rattle.http_wire.specs.ReadOnWire.{TellsEnd}
+use Rattle.http_wire.specs.declared.connection.Wants.TheVariants as wants
+use Rattle.http_wire.specs.declared.conversation.Ended.{Ended}
+use Rattle.http_wire.specs.declared.fault.WireFault.{WireFault}
+use Rattle.http_wire.specs.declared.phase.Phase.{Phase}
+use Rattle.http_wire.specs.declared.phase.Phase.TheVariants.{Looking, Waiting, Owing, Over}
+use Rattle.http_wire.specs.declared.read.layout.Layout.{Layout}
+use Rattle.http_wire.specs.declared.read.stage.Stage.{Stage}
+use Rattle.http_wire.specs.inside.Ahead.{Ahead}
+use Rattle.http_wire.specs.inside.Phases.{map_phase, IsConnection, IsPhase}
+use Rattle.http_wire.specs.inside.Sending.{OnOutbox}
+use Rattle.http_wire.proofs.PastLemmas.{Past-kept, Past-took}
+use Rattle.http_wire.proofs.StageLemmas.{Standing-more, Standing-unfinished, Wants-unended}
+
+-- the start of a message may stand over any inbox
+pub IsConnection-start : (a : Ahead) (p : Phase Layout) (max : ℕ) → max < 2 ^ 31 → p ≡ at_start → IsConnection a p max
+IsConnection-start a p max size is = record {
+  size = size;
+  phase = subst (IsPhase a) (sym is) (omega arith, omega arith);
+}
+
+-- and so may what follows a turn
+pub IsConnection-after : (a : Ahead) (p : Phase Layout) (max : ℕ) (turn : Result (Option Ended) WireFault) → max < 2 ^ 31 → p ≡ phase_after turn → IsConnection a p max
+IsConnection-after a p max (Ok None) size is = IsConnection-start a p max size is
+IsConnection-after a p max (Ok (Some e)) size is = record { size = size; phase = subst (IsPhase a) (sym is) tt }
+IsConnection-after a p max (Err fault) size is = record { size = size; phase = subst (IsPhase a) (sym is) tt }
+
+-- it tells of no message
+pub map-after : (f : Layout → FramedRequest) (p : Phase Layout) (turn : Result (Option Ended) WireFault) → p ≡ phase_after turn → map_phase f p ≡ phase_after turn
+map-after f p (Ok None) is = subst (λ q. map_phase f q ≡ at_start) (sym is) refl
+map-after f p (Ok (Some e)) is = subst (λ q. map_phase f q ≡ Over (Ok e)) (sym is) refl
+map-after f p (Err fault) is = subst (λ q. map_phase f q ≡ Over (Err fault)) (sym is) refl
+
+-- so many bytes came as what is held was lengthened by
+pub came-len : (old got new : List ℕ) (n : ℕ) → new ≡ old ++ got → length new ≡ length old + n → length got ≡ n
+came-len old got new n is len = omega (arith, len, ap length is, length-append old got)
+
+-- none came where none were counted
+none-of : (got : List ℕ) (n : ℕ) → length got ≡ n → n ≡ 0 → got ≡ []
+none-of [] n len zero = refl
+none-of (b ∷ got) n len zero = absurd (omega (arith, len, zero))
+
+pub none-came : (old got new : List ℕ) (n : ℕ) (ended : Bool) → new ≡ old ++ got → length new ≡ length old + n → ((n ≡ 0) ↔ (ended ≡ true)) → (got ≡ []) ↔ (ended ≡ true)
+none-came old got new n ended is len ends =
+    let same = came-len old got new n is len in
+    ((λ none. ends.0 (sym same ∙ ap length none)), (λ e. none-of got n same (ends.1 e)))
+
+-- one read at a message for which more is needed
+pub Takes-read : (got : List ℕ) (f : Layout → FramedRequest) (p : Phase Layout) (s : Stage) (old new : Ahead) (o : OnOutbox) (max : ℕ) → p ≡ Waiting s → IsPhase old p
+    → new.held ≡ old.held ++ got → ((got ≡ []) ↔ (new.ended ≡ true))
+    → Takes got (record { inbox = old; phase = map_phase f p; outbox = o; max_size = max }) (record { inbox = new; phase = Looking s; outbox = o; max_size = max })
+Takes-read got f (Looking t) s old new o max is at held ended = absurd cc
+Takes-read got f (Waiting t) s old new o max is at held ended = record {
+  stands = λ bytes said h. Standing-more max [] bytes got said old new s (subst (λ p. StandsIn max bytes said old (map_phase f p)) is h) (subst (IsPhase old) is at).0 held;
+  held = held;
+  ended = ended;
+  looks = refl;
+  past = λ q h. Past-took q got (record { inbox = old; phase = map_phase f (Waiting t); outbox = o; max_size = max }) (record { inbox = new; phase = Looking s; outbox = o; max_size = max }) (λ bytes said stands. Standing-more max [] bytes got said old new s (subst (λ p. StandsIn max bytes said old (map_phase f p)) is stands) (subst (IsPhase old) is at).0 held) refl refl h;
+  outbox = refl;
+  size = refl;
+}
+Takes-read got f (Owing i) s old new o max is at held ended = absurd cc
+Takes-read got f (Over r) s old new o max is at held ended = absurd cc
+
+-- some bytes behind others are some
+pub some-behind : (old new : List ℕ) (b : ℕ) (rest : List ℕ) → new ≡ old ++ b ∷ rest → new ≢ []
+some-behind [] new b rest is none = absurd cc
+some-behind (x ∷ old) new b rest is none = absurd cc
+
+-- what is no look at a message is none
+pub not-looking : (p : Phase Layout) → ((s : Stage) → p ≡ Looking s → ⊥) → is_looking p ≡ false
+not-looking (Looking s) other = absurd (other s refl)
+not-looking (Waiting s) other = refl
+not-looking (Owing i) other = refl
+not-looking (Over r) other = refl
+
+-- nor does it tell of one that is, whatever is told of messages
+pub same-looking : (f : Layout → FramedRequest) (p : Phase Layout) → is_looking (map_phase f p) ≡ is_looking p
+same-looking f (Looking s) = refl
+same-looking f (Waiting s) = refl
+same-looking f (Owing i) = refl
+same-looking f (Over r) = refl
+
+-- a connection wants to read only where more of a message is needed
+pub reads-waiting : (o : OnOutbox) (p : Phase FramedRequest) → wanted_in o p ≡ wants.Read → (s : Stage) × (p ≡ Waiting s)
+reads-waiting o (Looking s) reads = absurd cc
+reads-waiting o (Waiting s) reads = (s, refl)
+reads-waiting o (Owing i) reads = absurd (owes o.has_room reads)
+  where
+    owes : (room : Bool) → (if room then wants.Answer else wants.Write) ≡ wants.Read → ⊥
+    owes true is = absurd cc
+    owes false is = absurd cc
+reads-waiting o (Over r) reads = absurd (over o.pending reads)
+  where
+    over : (pending : List ℕ) → unless_pending pending wants.Nothing ≡ wants.Read → ⊥
+    over [] is = absurd cc
+    over (b ∷ rest) is = absurd cc
+
+-- whatever is told of messages
+waits-anyway : (f : Layout → FramedRequest) (p : Phase Layout) (s : Stage) → map_phase f p ≡ Waiting s → p ≡ Waiting s
+waits-anyway f (Looking t) s is = absurd cc
+waits-anyway f (Waiting t) s is = ap Waiting cc
+waits-anyway f (Owing i) s is = absurd cc
+waits-anyway f (Over r) s is = absurd cc
+
+-- so it wants to read only before the end of the input
+pub reads-unended : (f : Layout → FramedRequest) (a : Ahead) (p : Phase Layout) (o : OnOutbox) → IsPhase a p → wanted_in o (map_phase f p) ≡ wants.Read → a.ended ≡ false
+reads-unended f a p o at reads =
+    let waits = reads-waiting o (map_phase f p) reads in
+    Wants-unended a waits.0 (subst (IsPhase a) (waits-anyway f p waits.0 waits.1) at).1
+
+-- and only where no whole message is held
+pub reads-unfinished : (f : Layout → FramedRequest) (a : Ahead) (p : Phase Layout) (o : OnOutbox) (max : ℕ) (bytes said : List ℕ) → IsPhase a p → wanted_in o (map_phase f p) ≡ wants.Read
+    → StandsIn max bytes said a (map_phase f p) → HasNoMessage max bytes
+reads-unfinished f a p o max bytes said at reads stands =
+    let waits = reads-waiting o (map_phase f p) reads in
+    let phase = subst (IsPhase a) (waits-anyway f p waits.0 waits.1) at in
+    Standing-unfinished max bytes said a waits.0 (subst (StandsIn max bytes said a) waits.1 stands) phase.0 phase.1
+
+-- a read that brought nothing leaves the past as it is
+pub Past-unread : (p : Past) (q : Phase Layout) (f g : Layout → FramedRequest) (old new : Ahead) (o : OnOutbox) (max : ℕ) → wanted_in o (map_phase f q) ≡ wants.Read → new.held ≡ old.held
+    → HasPast p (record { inbox = old; phase = map_phase f q; outbox = o; max_size = max }) → HasPast p (record { inbox = new; phase = map_phase g q; outbox = o; max_size = max })
+Past-unread p q f g old new o max reads held past =
+    let waits = reads-waiting o (map_phase f q) reads in
+    let is = waits-anyway f q waits.0 waits.1 in
+    subst (λ q. HasPast p (record { inbox = new; phase = map_phase g q; outbox = o; max_size = max })) (sym is)
+    (Past-kept p (record { inbox = old; phase = Waiting waits.0; outbox = o; max_size = max }) new held
+    (subst (λ q. HasPast p (record { inbox = old; phase = map_phase f q; outbox = o; max_size = max })) is past))
+
+-- what was cut by the end came at the end
+pub owed-tells : (a : Ahead) (p : Phase Layout) → IsPhase a p → IfSome (owed_in (map_phase (framed_at a.lent) p)) (λ i. TellsEnd a.ended (Ok i))
+owed-tells a (Looking s) at = tt
+owed-tells a (Waiting s) at = tt
+owed-tells a (Owing i) at = at.1
+owed-tells a (Over r) at = tt

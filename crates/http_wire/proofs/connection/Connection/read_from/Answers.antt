@@ -1,0 +1,28 @@
+use Rattle.std.proofs.Common.{◌≡◌, ap, is_err, sym, subst}
+use Rattle.http_wire.specs.Layout.{framed_at}
+use Rattle.http_wire.specs.OnConnection.{OnConnection, wanted}
+use Rattle.http_wire.specs.Past.{HasPast}
+use Rattle.http_wire.specs.declared.connection.Wants.TheVariants as wants
+use Rattle.http_wire.proofs.AheadLemmas.{OnErr-always, OnErr-known}
+use Rattle.http_wire.proofs.PhaseLemmas.{Past-unread, Takes-read, came-len, none-came}
+use Rattle.http_wire.proofs.connection.Connection.read_from.Goals as goal
+
+pub returns-in-Waiting-clause-takes : goal.returns-in-Waiting-clause-takes
+returns-in-Waiting-clause-takes g c =
+    let grew = c.fill.ensures.grew in
+    let count = c.in_ok-count.ensures.count in
+    let held = c.self.inside.buffers.inbox.held in
+    let new = c.fill.new.self.held in
+    rw (← c.self.view_is) (
+      grew.0,
+      came-len held grew.0 new c.in_ok-count.count grew.1 count,
+      grew.2,
+      Takes-read grew.0 (framed_at c.self.inside.buffers.inbox.lent) c.self.inside.phase c.in-Waiting.stage c.self.inside.buffers.inbox c.fill.new.self _ _ c.in-Waiting.is c.self.invariant.phase grew.1
+          (none-came held grew.0 new c.in_ok-count.count _ grew.1 count c.in_ok-count.ensures.ended),
+    )
+
+pub returns-in_err-count-clause-kept : goal.returns-in_err-count-clause-kept
+returns-in_err-count-clause-kept g c =
+    let unread = OnErr-known c.fill.result (ap is_err c.in_err-count.was) c.fill.ensures.unread in
+    let reads = subst (λ (o : OnConnection). wanted o ≡ wants.Read) (sym c.self.view_is) c.requires.wants in
+    OnErr-always c.from_residual.result (λ p h. Past-unread p c.self.inside.phase (framed_at c.self.inside.buffers.inbox.lent) _ c.self.inside.buffers.inbox c.fill.new.self _ _ reads unread.0 (subst (HasPast p) (sym c.self.view_is) h))

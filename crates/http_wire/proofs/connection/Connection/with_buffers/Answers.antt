@@ -1,0 +1,5 @@
+use Rattle.http_wire.proofs.PhaseLemmas.{IsConnection-start}
+use Rattle.http_wire.proofs.connection.Connection.with_buffers.Goals as goal
+
+pub invariant_of-result : goal.invariant_of-result
+invariant_of-result c = IsConnection-start _ _ _ c.requires c.start.ensures

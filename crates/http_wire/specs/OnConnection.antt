@@ -1,0 +1,161 @@
+-- A connection as its callers see it: what it holds of what was read, how far it has come, and what is to be sent.
+use Rattle.std.specs.Prelude.{◌≡◌, ℕ, Bool, true, false, List, [], ◌∷◌, ◌+◌, ◌-◌, ◌⊎◌, length, Option, Some, None, Result, Ok, Err}
+use Rattle.std.specs.Prelude.{if◌then◌else◌}
+use Rattle.http_wire.specs.Front.{Front, IsFront}
+use Rattle.http_wire.specs.Incoming.{FramedRequest}
+use Rattle.http_wire.specs.ReadOnWire.{ComesIn, IsCut}
+use Rattle.http_wire.specs.declared.connection.Wants.{Wants}
+use Rattle.http_wire.specs.declared.connection.Wants.TheVariants as wants
+use Rattle.http_wire.specs.declared.conversation.Ended.{Ended}
+use Rattle.http_wire.specs.declared.conversation.Ended.TheVariants as ended
+use Rattle.http_wire.specs.declared.fault.WireFault.{WireFault}
+use Rattle.http_wire.specs.declared.incoming.Incoming.{Incoming}
+use Rattle.http_wire.specs.declared.incoming.Incoming.TheVariants.{Message, CutPatch, CutOther, Refused, End}
+use Rattle.http_wire.specs.declared.phase.Phase.{Phase}
+use Rattle.http_wire.specs.declared.phase.Phase.TheVariants.{Looking, Waiting, Owing, Over}
+use Rattle.http_wire.specs.declared.read.stage.Stage.TheVariants.{Body, Head}
+use Rattle.http_wire.specs.inside.Ahead.{Ahead}
+use Rattle.http_wire.specs.inside.HeadSearch.{search_start}
+use Rattle.http_wire.specs.inside.Sending.{OnOutbox, empty_outbox}
+use Rattle.http_wire.specs.inside.Standing.{Standing, still}
+use Rattle.http_wire.specs.inside.TurnFinish.{ended_after, turn_cut}
+
+-- what was read and belongs to no message that was answered, how far it has come with it, what is to be sent, and the most
+-- bytes of a body
+pub record OnConnection : Type 0 where
+  pub inbox : Ahead
+  pub phase : Phase FramedRequest
+  pub outbox : OnOutbox
+  pub max_size : ℕ
+
+-- this, unless something is to be sent first
+abbrev pub unless_pending : List ℕ → Wants → Wants
+unless_pending [] w = w
+unless_pending (b ∷ rest) w = wants.Write
+
+-- What it wants, once it was asked and has looked: to write what is pending before it reads more, so that it holds no more than
+-- it sends; and an answer to what came in, unless there is no room for one. Where it may look on, there is no room for what it
+-- may find, or `100 Continue` was put, and it writes first.
+abbrev pub wanted_in : OnOutbox → Phase FramedRequest → Wants
+wanted_in o (Looking s) = wants.Write
+wanted_in o (Waiting s) = unless_pending o.pending wants.Read
+wanted_in o (Owing i) = if o.has_room then wants.Answer else wants.Write
+wanted_in o (Over r) = unless_pending o.pending wants.Nothing
+
+abbrev pub wanted : OnConnection → Wants
+wanted c = wanted_in c.outbox c.phase
+
+-- the start of a message
+abbrev pub at_start : {M : Type 0} → Phase M
+at_start = Looking (Head search_start)
+
+-- nothing was read or is to be sent
+pub record IsFresh (c : OnConnection) : Type 0 where
+  pub held : c.inbox.held ≡ []
+  pub unended : c.inbox.ended ≡ false
+  pub phase : c.phase ≡ at_start
+  pub outbox : c.outbox ≡ empty_outbox
+
+-- all that was read was answered, and all answers were sent
+pub record IsIdle (c : OnConnection) : Type 0 where
+  pub held : c.inbox.held ≡ []
+  pub unended : c.inbox.ended ≡ false
+  pub phase : (c.phase ≡ at_start) ⊎ (c.phase ≡ Waiting (Head search_start))
+  pub outbox : c.outbox ≡ empty_outbox
+
+-- how a turn ends once what came in was answered
+abbrev pub turn_end : Incoming FramedRequest → Result (Option Ended) WireFault
+turn_end (Message m) = Ok (ended_after m.framing.close)
+turn_end (CutPatch m why) = turn_cut why
+turn_end CutOther = Ok (Some ended.Cut)
+turn_end (Refused why framing) = Ok (Some ended.Closed)
+turn_end End = Ok (Some ended.Input)
+
+-- what follows a turn
+abbrev pub phase_after : {M : Type 0} → Result (Option Ended) WireFault → Phase M
+phase_after (Ok None) = at_start
+phase_after (Ok (Some e)) = Over (Ok e)
+phase_after (Err fault) = Over (Err fault)
+
+-- how the conversation ended, where it has
+abbrev pub ended_in : Phase FramedRequest → Result (Option Ended) WireFault
+ended_in (Looking s) = Ok None
+ended_in (Waiting s) = Ok None
+ended_in (Owing i) = Ok None
+ended_in (Over (Ok e)) = Ok (Some e)
+ended_in (Over (Err fault)) = Err fault
+
+-- what is owed an answer
+abbrev pub owed_in : Phase FramedRequest → Option (Incoming FramedRequest)
+owed_in (Looking s) = None
+owed_in (Waiting s) = None
+owed_in (Owing i) = Some i
+owed_in (Over r) = None
+
+-- These bytes came since the last message that was answered, and this was said meanwhile; where a message came in, it is what
+-- they begin with.
+abbrev pub StandsIn : ℕ → List ℕ → List ℕ → Ahead → Phase FramedRequest → Type 0
+StandsIn max bytes said a (Looking s) = Standing max bytes said a s
+StandsIn max bytes said a (Waiting s) = Standing max bytes said a s
+StandsIn max bytes said a (Owing i) = ComesIn max (record { input = bytes; text = said }) a.held i
+StandsIn max bytes said a (Over r) = ⊥
+
+abbrev pub Stands : List ℕ → List ℕ → OnConnection → Type 0
+Stands bytes said c = StandsIn c.max_size bytes said c.inbox c.phase
+
+-- a connection looks at a message
+abbrev pub is_looking : {M : Type 0} → Phase M → Bool
+is_looking (Looking s) = true
+is_looking (Waiting s) = false
+is_looking (Owing i) = false
+is_looking (Over r) = false
+
+-- it looks again, where it waited for more
+abbrev pub looking_again : {M : Type 0} → Phase M → Phase M
+looking_again (Looking s) = Looking s
+looking_again (Waiting s) = Looking s
+looking_again (Owing i) = Owing i
+looking_again (Over r) = Over r
+
+-- the next message, in place of one that came in
+abbrev pub passed_over : Phase FramedRequest → Phase FramedRequest
+passed_over (Looking s) = Looking s
+passed_over (Waiting s) = Waiting s
+passed_over (Owing (Message m)) = at_start
+passed_over (Owing (CutPatch m why)) = Owing (CutPatch m why)
+passed_over (Owing CutOther) = Owing CutOther
+passed_over (Owing (Refused why framing)) = Owing (Refused why framing)
+passed_over (Owing End) = Owing End
+passed_over (Over r) = Over r
+
+-- how many bytes may still come of a message, and the end
+abbrev pub coming : Ahead → Phase FramedRequest → ℕ
+coming a (Looking s) = still a s
+coming a (Waiting s) = still a s
+coming a (Owing i) = 0
+coming a (Over r) = 0
+
+-- how many bytes are held of a body that has not come whole
+abbrev pub body_held : Ahead → Phase FramedRequest → ℕ
+body_held a (Looking (Head s)) = 0
+body_held a (Looking (Body p)) = length a.held - p.head_len
+body_held a (Waiting (Head s)) = 0
+body_held a (Waiting (Body p)) = length a.held - p.head_len
+body_held a (Owing i) = 0
+body_held a (Over r) = 0
+
+-- something is pending
+abbrev pub one_if_pending : List ℕ → ℕ
+one_if_pending [] = 0
+one_if_pending (b ∷ rest) = 1
+
+-- how much is left to do before an answer is owed, or nothing more is wanted
+abbrev pub left_in : Ahead → Phase FramedRequest → List ℕ → ℕ
+left_in a phase pending = (coming a phase + coming a phase) + one_if_pending pending
+
+abbrev pub left : OnConnection → ℕ
+left c = left_in c.inbox c.phase c.outbox.pending
+
+-- some bytes are no whole message, nor is a message in them that is refused
+abbrev pub HasNoMessage : ℕ → List ℕ → Type 0
+HasNoMessage max bytes = (f : Front) × IsFront max bytes f × IsCut f

@@ -1,0 +1,31 @@
+-- What holds of every connection at each phase.
+use Rattle.std.specs.Prelude.{⊤, ◌≤◌, ◌<◌, ◌+◌, ◌^◌, ℕ, length, Ok}
+use Rattle.http_wire.specs.Incoming.{map_incoming}
+use Rattle.http_wire.specs.Layout.{framed_at}
+use Rattle.http_wire.specs.ReadOnWire.{TellsEnd}
+use Rattle.http_wire.specs.declared.phase.Phase.{Phase}
+use Rattle.http_wire.specs.declared.phase.Phase.TheVariants.{Looking, Waiting, Owing, Over}
+use Rattle.http_wire.specs.declared.read.inbox.TheConstants.{READ_SIZE}
+use Rattle.http_wire.specs.declared.read.layout.Layout.{Layout}
+use Rattle.http_wire.specs.inside.Ahead.{Ahead}
+use Rattle.http_wire.specs.inside.IncomingLayout.{IsLent}
+use Rattle.http_wire.specs.inside.Standing.{Fits, Wants}
+
+-- the same with what f gives of the message that came in
+abbrev pub map_phase : {M N : Type 0} → (M → N) → Phase M → Phase N
+map_phase f (Looking s) = Looking s
+map_phase f (Waiting s) = Waiting s
+map_phase f (Owing i) = Owing (map_incoming f i)
+map_phase f (Over r) = Over r
+
+-- A reading that may stand so over this inbox; where it waits, there is room for a read; a message that came in is lent, and
+-- one that was cut by the end came at the end.
+abbrev pub IsPhase : Ahead → Phase Layout → Type 0
+IsPhase a (Looking s) = Fits a s
+IsPhase a (Waiting s) = Fits a s × Wants a s × (length a.held + READ_SIZE ≤ a.room)
+IsPhase a (Owing i) = IsLent a.lent i × TellsEnd a.ended (Ok (map_incoming (framed_at a.lent) i))
+IsPhase a (Over r) = ⊤
+
+pub record IsConnection (a : Ahead) (p : Phase Layout) (max : ℕ) : Type 0 where
+  pub size : max < 2 ^ 31
+  pub phase : IsPhase a p

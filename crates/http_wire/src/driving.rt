@@ -1,0 +1,56 @@
+//! A connection over a reader and a writer that wait.
+ghost use Rattle.std.specs.Prelude.{◌≡◌, ◌++◌, ℕ, List, Err, false, OnOk, IfErr};
+ghost use Rattle.std.specs.Io.KnownBytes.{Appends, Consumes};
+ghost use Rattle.http_wire.specs.Fault.{NamesStream};
+ghost use Rattle.http_wire.specs.ReadOnWire.{BreaksFront, TellsEnd};
+ghost use Rattle.http_wire.specs.inside.Ahead.{SeesEnd, StopsAtEnd};
+ghost use Rattle.http_wire.specs.inside.Driving.{CameIn, IsBetween};
+ghost use Rattle.http_wire.specs.inside.Sending.{empty_outbox};
+
+use crate::connection::{Connection, Wants};
+use crate::fault::WireFault;
+use crate::source::{Sink, Source};
+
+/// Reads until the next message, or what comes in its place, has come in and is owed an answer, and writes `100 Continue`
+/// where it is due. A message that came in before is left as it is. The error is `WireFault::Read` or `WireFault::Write`.
+pub fn await_incoming<R: Source, W: Sink>(
+    reader: &mut R,
+    writer: &mut W,
+    connection: &mut Connection,
+) -> Result<(), WireFault>
+    requires reader { R.has_failed reader.old ≡ false }
+    requires writer { W.has_failed writer.old ≡ false }
+    requires between { IsBetween connection.old }
+    ensures comes { OnOk result ((got text : List ℕ)
+        × Consumes (R.remaining reader.old) (R.remaining reader.new) got
+        × Appends (W.contents writer.old) (W.contents writer.new) text
+        × CameIn (connection.old.inbox.held ++ got) text (R.has_failed reader.new) connection.new) }
+    ensures breaks { IfErr result (λ f. (got text : List ℕ)
+        × Consumes (R.remaining reader.old) (R.remaining reader.new) got
+        × Appends (W.contents writer.old) (W.contents writer.new) text
+        × BreaksFront connection.old.max_size
+        (record { input = connection.old.inbox.held ++ got; text = text }) f) }
+    ensures end { OnOk result (SeesEnd (R.remaining reader.old) connection.old.inbox
+        → SeesEnd (R.remaining reader.new) connection.new.inbox) }
+    ensures tells_end { IfErr result (λ f. TellsEnd connection.new.inbox.ended (Err f)) }
+    ensures stops { StopsAtEnd reader.old reader.new connection.old.inbox connection.new.inbox }
+    ensures sent { connection.new.outbox ≡ empty_outbox }
+    ensures size { connection.new.max_size ≡ connection.old.max_size }
+    ensures writer { OnOk result (W.has_failed writer.new ≡ false) }
+    ensures fault { IfErr result (λ e. NamesStream (R.has_failed reader.new) (W.has_failed writer.new) e) }
+{
+    connection.pass_over();
+    loop {
+        match connection.wants() {
+            Wants::Read => {
+                if connection.read_from(reader).is_err() {
+                    connection.fail();
+                    connection.ended()?;
+                    return Ok(());
+                }
+            }
+            Wants::Write => connection.flush(writer)?,
+            Wants::Answer | Wants::Nothing => return Ok(()),
+        }
+    }
+}

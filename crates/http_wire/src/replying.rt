@@ -1,0 +1,109 @@
+//! The answer to what came in: the step of a message, and what is to be sent of it.
+ghost use Rattle.std.specs.Prelude.{◌≡◌, ◌++◌, List, ℕ, true};
+ghost use Rattle.http_wire.specs.Incoming.{map_incoming};
+ghost use Rattle.http_wire.specs.Layout.{IsMessage, framed_at, request_at};
+ghost use Rattle.http_wire.specs.OnConnection.{turn_end};
+ghost use Rattle.http_wire.specs.Past.{Answering, Follows, Notes};
+ghost use Rattle.http_wire.specs.ReplyText.{reply_text};
+ghost use Rattle.http_wire.specs.inside.IncomingLayout.{IsLent};
+ghost use Rattle.http_wire.specs.inside.TurnFinish.{AnswersTurn, ended_after, turn_cut};
+ghost use Rattle.tus_steps.specs.PlacedReply.{reply_in};
+ghost use Rattle.tus_steps.specs.declared.reply.Reply.{Reply};
+ghost use Rattle.tus_steps.specs.declared.reply.Reply.TheVariants.{Deleted};
+
+use crate::answer::Answer;
+use crate::buffers::Buffers;
+use crate::conversation::Ended;
+use crate::fault::WireFault;
+use crate::incoming::{Cut, Incoming};
+use crate::read::layout::Layout;
+use crate::read::request::request_in;
+use upload_book::Moment;
+
+/// Lets what the buffers lend be answered, puts the answer behind what is pending, and tells how the turn ends once that is
+/// sent.
+pub fn answer_incoming<A: Answer>(
+    buffers: &mut Buffers,
+    answerer: &mut A,
+    incoming: &Incoming<Layout>,
+    now: Moment,
+) -> Result<Option<Ended>, WireFault>
+    requires lent { IsLent buffers.old.inbox.lent incoming.now }
+    requires room { buffers.old.outbox.has_room ≡ true }
+    ensures inbox { buffers.new.inbox ≡ buffers.old.inbox }
+    ensures answers { (put : List ℕ)
+        × (buffers.new.outbox.pending ≡ buffers.old.outbox.pending ++ put)
+        × AnswersTurn A.steps now buffers.old.inbox (map_incoming (framed_at buffers.old.inbox.lent) incoming.now)
+        put answerer.old answerer.new result
+        × (answered : List Answering) × Follows A.steps answerer.old answered answerer.new
+        × ((before : List Answering) → AnswersTurn Notes now buffers.old.inbox
+        (map_incoming (framed_at buffers.old.inbox.lent) incoming.now) put before (before ++ answered) result) }
+    ensures end { result ≡ turn_end (map_incoming (framed_at buffers.old.inbox.lent) incoming.now) }
+{
+    match incoming {
+        Incoming::Message(layout) => {
+            answer_message(buffers, answerer, layout, now);
+            Ok(ended_after(layout.framing.close))
+        }
+        Incoming::Refused(refusal, framing) => {
+            buffers.is_refused = true;
+            buffers.outbox.put_refusal(*refusal, now, *framing);
+            Ok(ended_after(true))
+        }
+        Incoming::CutPatch(layout, why) => {
+            apply_cut(buffers, answerer, layout, now);
+            turn_cut(*why)
+        }
+        Incoming::CutOther => Ok(Some(Ended::Cut)),
+        Incoming::End => Ok(Some(Ended::Input)),
+    }
+}
+
+// How a turn ends once its reply is sent: with the connection, where that closes.
+fn ended_after(close: bool) -> Option<Ended>
+    ensures { result ≡ ended_after close }
+{
+    if close { Some(Ended::Closed) } else { None }
+}
+
+// How a turn ends whose body was cut.
+fn turn_cut(why: Cut) -> Result<Option<Ended>, WireFault>
+    ensures { result ≡ turn_cut why }
+{
+    match why {
+        Cut::Ended => Ok(Some(Ended::Cut)),
+        Cut::Fault => Err(WireFault::Read),
+    }
+}
+
+// Makes the step of a message that the buffers lend, and puts its reply. The step stays where the reply can't be written.
+fn answer_message<A: Answer>(buffers: &mut Buffers, answerer: &mut A, layout: &Layout, now: Moment)
+    requires message { IsMessage layout.now buffers.old.inbox.lent }
+    requires room { buffers.old.outbox.has_room ≡ true }
+    ensures inbox { buffers.new.inbox ≡ buffers.old.inbox }
+    ensures answers { (reply : Reply)
+        × A.steps answerer.old (request_at layout.now buffers.old.inbox.lent) now reply answerer.new
+        × (buffers.new.outbox.pending
+        ≡ buffers.old.outbox.pending ++ reply_text reply now layout.now.framing) }
+    ensures let_go { reply_in buffers.new.reply.value ≡ Deleted }
+{
+    let request = request_in(layout, buffers.inbox.lent());
+    answerer.answer(&request, now, &mut buffers.reply);
+    buffers
+        .outbox
+        .put_reply(&mut buffers.reply, now, layout.framing);
+}
+
+// Makes the step of a PATCH whose body was cut, with the bytes that came. It gets no reply: what was put in its place is let go.
+fn apply_cut<A: Answer>(buffers: &mut Buffers, answerer: &mut A, layout: &Layout, now: Moment)
+    requires { IsMessage layout.now buffers.old.inbox.lent }
+    ensures inbox { buffers.new.inbox ≡ buffers.old.inbox }
+    ensures outbox { buffers.new.outbox ≡ buffers.old.outbox }
+    ensures step { (reply : Reply)
+        × A.steps answerer.old (request_at layout.now buffers.old.inbox.lent) now reply answerer.new }
+    ensures let_go { reply_in buffers.new.reply.value ≡ Deleted }
+{
+    let request = request_in(layout, buffers.inbox.lent());
+    answerer.answer(&request, now, &mut buffers.reply);
+    buffers.reply.let_go();
+}

@@ -1,0 +1,257 @@
+//! Connections over streams that would block before each piece: however their bytes are cut, the conversation is the
+//! same. Replies to messages that came together leave together.
+
+use crate::conversations::{CREATED, FIRST_UPLOAD, POST, REPLIES};
+use crate::driven::{Arriving, Leaving, Pieces, drive};
+use crate::hostile::{Dice, NUMBERS as HOSTILE_NUMBERS, moments, text_of};
+use crate::plain::plain_conversation;
+use crate::spoken::{
+    Expected, Spoken, assert_spoken, at, at_1000, book_with, charge_of, joined, new_book,
+    offset_of, put,
+};
+use http_wire::{Buffers, Connection, Ended, Tapped, Wants};
+use std::alloc::Global;
+use std::process::Abort;
+use upload_book::Book;
+
+/// All that there is, as one piece.
+const WHOLE: Pieces = Pieces::Each(usize::MAX);
+
+/// Asserts that the first upload is as expected over streams of these pieces.
+fn assert_first_upload(rt: &impl Abort, alloc: Global, what: &str, reads: Pieces, writes: Pieces) {
+    let sent = joined(rt, alloc, &FIRST_UPLOAD);
+    let written = joined(rt, alloc, &REPLIES);
+    let expected = Expected {
+        text: &written,
+        ended: Ok(Ended::Input),
+        offset: Some(5),
+    };
+    let mut book = new_book(rt, alloc);
+    let mut connection = Connection::new(alloc, 64).expect(rt, "memory");
+    let mut reader = Arriving::new(&sent, reads);
+    let mut writer = Leaving::new(alloc, writes);
+    let ended = drive(
+        rt,
+        &mut connection,
+        &mut reader,
+        &mut writer,
+        &mut book,
+        &at_1000(),
+    );
+    let spoken = Spoken {
+        text: writer.written,
+        ended,
+        offset: offset_of(&book),
+        rest: b"",
+    };
+    assert_spoken(rt, what, &spoken, &expected);
+}
+
+#[test]
+fn an_input_cut_in_two(rt: HostRuntime) {
+    let len = joined(&rt, rt.alloc(), &FIRST_UPLOAD).len();
+    for place in 1..len {
+        let what = format!(in rt.alloc(); "cut at {place}").expect(&rt, "memory");
+        assert_first_upload(&rt, rt.alloc(), &what, Pieces::Two(place), WHOLE);
+    }
+}
+
+#[test]
+fn an_output_taken_in_two(rt: HostRuntime) {
+    let len = joined(&rt, rt.alloc(), &REPLIES).len();
+    for place in 1..len {
+        let what = format!(in rt.alloc(); "taken up to {place}").expect(&rt, "memory");
+        assert_first_upload(&rt, rt.alloc(), &what, WHOLE, Pieces::Two(place));
+    }
+}
+
+#[test]
+fn small_pieces(rt: HostRuntime) {
+    for count in [1, 7, 4_096] {
+        let what = format!(in rt.alloc(); "{count} bytes a read").expect(&rt, "memory");
+        let (reads, writes) = (Pieces::Each(count), Pieces::Each(1));
+        assert_first_upload(&rt, rt.alloc(), &what, reads, writes);
+    }
+}
+
+/// A HEAD of an upload that there is not, and its reply, which has 110 bytes.
+const MISSED: &[u8] = b"HEAD /files/acme/9 HTTP/1.1\r\nHost: x\r\nTus-Resumable: 1.0.0\r\n\r\n";
+
+const MISSING: &[u8] = b"HTTP/1.1 404 Not Found\r\nDate: Thu, 01 Jan 1970 00:16:40 GMT\r\n\
+Tus-Resumable: 1.0.0\r\nCache-Control: no-store\r\n\r\n";
+
+/// So many times these bytes.
+fn repeated(rt: &impl Abort, alloc: Global, bytes: &[u8], times: usize) -> Vec<u8> {
+    let mut all = Vec::new(alloc);
+    for _ in 0..times {
+        put(rt, &mut all, bytes);
+    }
+    all
+}
+
+/// In how many writes the replies to so many HEADs leave that came in one read, where a write takes all.
+fn writes_of(rt: &impl Abort, alloc: Global, heads: usize) -> u64 {
+    let sent = repeated(rt, alloc, MISSED, heads);
+    let mut connection = Connection::new(alloc, 64).expect(rt, "memory");
+    let mut reader = Arriving::new(&sent, WHOLE);
+    let mut writer = Leaving::new(alloc, WHOLE);
+    let mut book = new_book(rt, alloc);
+    let moments = [at(1000); 160];
+    let ended = drive(
+        rt,
+        &mut connection,
+        &mut reader,
+        &mut writer,
+        &mut book,
+        &moments,
+    );
+    assert!(rt; ended == Ok(Ended::Input), "{heads} HEADs: end");
+    let written = repeated(rt, alloc, MISSING, heads);
+    assert!(rt;
+        writer.written.as_slice() == written.as_slice(),
+        "{heads} HEADs: text"
+    );
+    writer.writes
+}
+
+/// A reply is put where no more than 8,192 bytes wait before it: 74 of these have 8,140 bytes, and 75 have 8,250.
+static TOGETHER: [(usize, u64); 5] = [(1, 1), (75, 1), (76, 2), (150, 2), (151, 3)];
+
+#[test]
+fn replies_leave_together(rt: HostRuntime) {
+    for (heads, writes) in &TOGETHER {
+        assert_eq!(rt;
+            writes_of(&rt, rt.alloc(), *heads),
+            *writes,
+            "{heads} HEADs"
+        );
+    }
+}
+
+/// Lets a message that came in be answered at moment 1000.
+pub fn answer_next(rt: &impl Abort, what: &str, connection: &mut Connection, book: &mut Book) {
+    match connection.wants() {
+        Wants::Answer => connection.answer(book, at(1000)),
+        wants => panic!(rt; "{what}: {wants:?} in place of an answer"),
+    }
+}
+
+/// Puts bytes into a connection that wants to read; none are the end of the input.
+pub fn take_in(rt: &impl Abort, what: &str, connection: &mut Connection, bytes: &[u8]) {
+    match connection.wants() {
+        Wants::Read => {}
+        wants => panic!(rt; "{what}: {wants:?} in place of a read"),
+    }
+    let read = connection.read_from(&mut Tapped::new(bytes));
+    assert!(rt; read.ok() == Some(bytes.len()), "{what}: a read");
+}
+
+/// Takes up to so many of the bytes that are pending, as sent.
+pub fn take_out(connection: &mut Connection, most: usize) {
+    let count = connection.pending().len().min(most);
+    connection.sent(count);
+}
+
+/// Asserts what a connection wants.
+pub fn assert_wants(rt: &impl Abort, what: &str, connection: &mut Connection, expected: Wants) {
+    assert_eq!(rt; connection.wants(), expected, "{what}");
+}
+
+/// Where there is no room for one more reply, the connection wants to write, and the next message waits until all of it
+/// is sent, but for the last byte too.
+#[test]
+fn no_room_for_one_more(rt: HostRuntime) {
+    let sent = repeated(&rt, rt.alloc(), MISSED, 76);
+    let mut book = new_book(&rt, rt.alloc());
+    let mut connection = Connection::new(rt.alloc(), 64).expect(&rt, "memory");
+    take_in(&rt, "76 HEADs", &mut connection, &sent);
+    for _ in 0..75 {
+        answer_next(&rt, "room", &mut connection, &mut book);
+    }
+    assert_wants(&rt, "no room", &mut connection, Wants::Write);
+    assert!(rt; connection.pending_len() == 8_250, "no room");
+    take_out(&mut connection, 8_249);
+    assert_wants(&rt, "one byte is left", &mut connection, Wants::Write);
+    take_out(&mut connection, 1);
+    assert_wants(&rt, "room again", &mut connection, Wants::Answer);
+}
+
+/// A message that came with the one before it is answered while some of the reply to that is still pending.
+#[test]
+fn answers_stand_behind_what_is_pending(rt: HostRuntime) {
+    let sent = joined(&rt, rt.alloc(), &[POST, MISSED]);
+    let mut book = new_book(&rt, rt.alloc());
+    let mut connection = Connection::new(rt.alloc(), 64).expect(&rt, "memory");
+    take_in(&rt, "two messages", &mut connection, &sent);
+    answer_next(&rt, "the first", &mut connection, &mut book);
+    take_out(&mut connection, 10);
+    answer_next(&rt, "the second", &mut connection, &mut book);
+    let (_, rest) = CREATED.split_at(10);
+    let expected = joined(&rt, rt.alloc(), &[rest, MISSING]);
+    assert_eq!(rt; connection.pending(), expected.as_slice());
+}
+
+/// How many conversations are tried.
+const CONVERSATIONS: u64 = 3_000;
+
+/// The conversation of a text with a book over these buffers, in pieces by chance.
+fn speak_in_pieces(
+    rt: &impl Abort,
+    alloc: Global,
+    mut dice: Dice,
+    buffers: Buffers,
+    text: &[u8],
+    book: &mut Book,
+) -> (Spoken<'static>, Buffers) {
+    let (reads, writes) = (dice.roll(60), dice.roll(60));
+    let mut connection = Connection::with_buffers(buffers, 64);
+    let mut reader = Arriving::new(text, Pieces::Chance(dice, reads));
+    let mut writer = Leaving::new(alloc, Pieces::Chance(dice, writes));
+    let ended = drive(
+        rt,
+        &mut connection,
+        &mut reader,
+        &mut writer,
+        book,
+        &moments(),
+    );
+    let spoken = Spoken {
+        text: writer.written,
+        ended,
+        offset: offset_of(book),
+        rest: b"",
+    };
+    (spoken, connection.into_buffers())
+}
+
+/// Asserts that the conversation of a seed over these buffers is the plain program's, and leaves the same in its book.
+fn check_conversation(rt: &impl Abort, alloc: Global, seed: u64, buffers: Buffers) -> Buffers {
+    let what = format!(in alloc; "conversation {seed}").expect(rt, "memory");
+    let mut dice = Dice::new(seed);
+    let sent = text_of(rt, alloc, &mut dice);
+    let mut book = book_with(rt, alloc, HOSTILE_NUMBERS);
+    let (spoken, buffers) = speak_in_pieces(rt, alloc, dice, buffers, &sent, &mut book);
+    let mut plain_book = book_with(rt, alloc, HOSTILE_NUMBERS);
+    let (text, ended) = plain_conversation(rt, alloc, &sent, &mut plain_book, &moments());
+    let expected = Expected {
+        text: &text,
+        ended: Ok(ended),
+        offset: offset_of(&plain_book),
+    };
+    assert_spoken(rt, &what, &spoken, &expected);
+    for tenant in [b"acme", b"beta"] {
+        let charge = charge_of(rt, &book, tenant);
+        let plain = charge_of(rt, &plain_book, tenant);
+        assert_eq!(rt; charge, plain, "{what}: charge");
+    }
+    buffers
+}
+
+/// One connection's buffers pass to the next.
+#[test]
+fn random_conversations_in_random_pieces(rt: HostRuntime) {
+    let mut buffers = Buffers::new(rt.alloc()).expect(&rt, "memory");
+    for seed in 1..=CONVERSATIONS {
+        buffers = check_conversation(&rt, rt.alloc(), seed, buffers);
+    }
+}
