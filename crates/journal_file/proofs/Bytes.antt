@@ -1,0 +1,146 @@
+-- Bytes that are written over zeros, as lists: what is there, and what a crash leaves.
+use Rattle.std.proofs.Common.{◌≡◌, ◌⊎◌, ℕ, zero, suc, ◌+◌, ◌-◌, ◌<◌, ◌≤◌, List, ◌++◌, length, get_or, take, drop, refl, sym, ap, ◌∙◌, arith, length-append, inl, inr}
+use Rattle.std.proofs.lemmas.Bool.{cases_lt}
+use Rattle.std.proofs.lemmas.List.{ext_get_or, get_or_append_left, get_or-append-add, get_or-take, length-take, length-replicate, replicate-append-replicate, take-append-drop}
+use Rattle.sqlite_disk.specs.Disk.{Holds, Mixed, Torn}
+use Rattle.journal_frames.specs.Crash.{zeros}
+use Rattle.journal_file.specs.Journal.{MayLose}
+
+pub Torn-refl : (at n : ℕ) (file : List ℕ) → Torn at n file file
+Torn-refl at n file = record { no_shorter = omega arith; no_longer = omega arith; below = λ i within before. refl; above = λ i within behind. refl }
+
+pub zeros-at : (n i : ℕ) → get_or (zeros n) i 0 ≡ 0
+zeros-at zero i = refl
+zeros-at (suc n) zero = refl
+zeros-at (suc n) (suc i) = zeros-at n i
+
+-- in front of the place, at the place with so many bytes behind it, or behind these
+data Place (at n i : ℕ) : Type 0 where
+  in_front : i < at → Place at n i
+  at_place : (j : ℕ) → j < n → i ≡ at + j → Place at n i
+  behind : (j : ℕ) → i ≡ at + (n + j) → Place at n i
+
+place : (at n i : ℕ) → Place at n i
+place at n i = elim (cases_lt i at) [
+  | inl lt ↦ in_front lt
+  | inr le ↦ elim (cases_lt i (at + n)) [
+    | inl lt ↦ at_place (i - at) (omega arith) (omega arith)
+    | inr far ↦ behind (i - at - n) (omega arith)
+  ]
+]
+
+-- what stands at a place of bytes behind others
+at-front : (front others : List ℕ) (i : ℕ) → i < length front → get_or (front ++ others) i 0 ≡ get_or front i 0
+at-front front others i lt = get_or_append_left front others 0 i lt
+
+at-second : (front bytes others : List ℕ) (j : ℕ) → j < length bytes → get_or (front ++ (bytes ++ others)) (length front + j) 0 ≡ get_or bytes j 0
+at-second front bytes others j lt = get_or-append-add front (bytes ++ others) j 0 ∙ get_or_append_left bytes others 0 j lt
+
+at-third : (front bytes others : List ℕ) (j : ℕ) → get_or (front ++ (bytes ++ others)) (length front + (length bytes + j)) 0 ≡ get_or others j 0
+at-third front bytes others j = get_or-append-add front (bytes ++ others) (length bytes + j) 0 ∙ get_or-append-add bytes others j 0
+
+-- what was written over as many bytes stands there
+pub overwritten : (front middle bytes others seen : List ℕ) → length middle ≡ length bytes → Torn (length front) (length bytes) (front ++ (middle ++ others)) seen → (0 < length bytes → Holds seen (length front) bytes) → seen ≡ front ++ (bytes ++ others)
+overwritten front middle bytes others seen same_len torn holds = ext_get_or 0 seen (front ++ (bytes ++ others)) len each
+  where
+    len_old : length (front ++ (middle ++ others)) ≡ length front + (length bytes + length others)
+    len_old = omega (arith, length-append front (middle ++ others), length-append middle others)
+
+    len_new : length (front ++ (bytes ++ others)) ≡ length front + (length bytes + length others)
+    len_new = omega (arith, length-append front (bytes ++ others), length-append bytes others)
+
+    len : length seen ≡ length (front ++ (bytes ++ others))
+    len = omega (arith, torn.no_shorter, torn.no_longer, len_old, len_new)
+
+    each : (i : ℕ) → i < length seen → get_or seen i 0 ≡ get_or (front ++ (bytes ++ others)) i 0
+    each i within = elim (place (length front) (length bytes) i) [
+      | in_front lt ↦ torn.below i (omega (arith, len_old)) lt ∙ at-front front (middle ++ others) i lt ∙ sym (at-front front (bytes ++ others) i lt)
+      | at_place j lt is ↦
+          let here : get_or seen (length front + j) 0 ≡ get_or bytes j 0 = (holds (omega arith)).each j lt in
+          rw is (here ∙ sym (at-second front bytes others j lt))
+      | behind j is ↦
+          let kept : get_or seen (length front + (length bytes + j)) 0 ≡ get_or (front ++ (middle ++ others)) (length front + (length bytes + j)) 0 = torn.above (length front + (length bytes + j)) (omega (arith, len_old, len_new)) (omega arith) in
+          let old : get_or (front ++ (middle ++ others)) (length front + (length bytes + j)) 0 ≡ get_or others j 0 = ap (λ (n : ℕ). get_or (front ++ (middle ++ others)) (length front + (n + j)) 0) (sym same_len) ∙ at-third front middle others j in
+          rw is (kept ∙ old ∙ sym (at-third front bytes others j))
+    ]
+
+-- so many zeros, where others stand
+pub zeros-split : (n k : ℕ) → k ≤ n → zeros n ≡ zeros k ++ zeros (n - k)
+zeros-split n k le = ap zeros (omega arith) ∙ sym (replicate-append-replicate k (n - k) 0)
+
+-- a file that grew
+pub grown : (old seen : List ℕ) (n : ℕ) → Torn (length old) n old seen → (0 < n → Holds seen (length old) (zeros n)) → seen ≡ old ++ zeros n
+grown old seen n torn holds = ext_get_or 0 seen (old ++ zeros n) len each
+  where
+    len_new : length (old ++ zeros n) ≡ length old + n
+    len_new = omega (arith, length-append old (zeros n), length-replicate {A = ℕ} n 0)
+
+    len : length seen ≡ length (old ++ zeros n)
+    len = elim (cases_lt 0 n) [
+      | inl some ↦ omega (arith, torn.no_longer, (holds some).within, length-replicate {A = ℕ} n 0, len_new)
+      | inr none ↦ omega (arith, torn.no_shorter, torn.no_longer, len_new)
+    ]
+
+    each : (i : ℕ) → i < length seen → get_or seen i 0 ≡ get_or (old ++ zeros n) i 0
+    each i within = elim (place (length old) n i) [
+      | in_front lt ↦ torn.below i lt lt ∙ sym (at-front old (zeros n) i lt)
+      | at_place j lt is ↦
+          let here : get_or seen (length old + j) 0 ≡ get_or (zeros n) j 0 = (holds (omega arith)).each j (omega (arith, length-replicate {A = ℕ} n 0)) in
+          rw is (here ∙ sym (get_or-append-add old (zeros n) j 0))
+      | behind j is ↦ absurd (omega (arith, len_new, len))
+    ]
+
+-- what a crash leaves of a file that was to grow begins with what was there
+pub grown_torn : (at n : ℕ) (old left : List ℕ) → length old ≡ at → Torn at n old left → left ≡ old ++ drop (length old) left
+grown_torn at n old left is torn = sym (take-append-drop (length old) left) ∙ ap (λ (t : List ℕ). t ++ drop (length old) left) front
+  where
+    front : take (length old) left ≡ old
+    front = ext_get_or 0 (take (length old) left) old (omega (arith, length-take (length old) left, torn.no_shorter)) each
+      where
+        each : (i : ℕ) → i < length (take (length old) left) → get_or (take (length old) left) i 0 ≡ get_or old i 0
+        each i lt =
+            let below : i < length old = omega (arith, length-take (length old) left) in
+            get_or-take (length old) left i 0 below ∙ torn.below i below (omega arith)
+
+module _ (front bytes : List ℕ) (n : ℕ) (room : length bytes ≤ n) where
+  length-old : length (front ++ zeros n) ≡ length front + n
+  length-old = omega (arith, length-append front (zeros n), length-replicate {A = ℕ} n 0)
+
+  length-new : length (front ++ (bytes ++ zeros (n - length bytes))) ≡ length front + n
+  length-new = omega (arith, length-append front (bytes ++ zeros (n - length bytes)), length-append bytes (zeros (n - length bytes)), length-replicate {A = ℕ} (n - length bytes) 0)
+
+  -- a crash may lose what was written
+  pub lost_after : (synced : ℕ) (before left : List ℕ) → synced ≤ length front → MayLose synced (front ++ zeros n) before → Mixed (length front) bytes before left → MayLose synced (front ++ (bytes ++ zeros (n - length bytes))) left
+  lost_after synced before left less loss mixed = record {
+    len = omega (arith, mixed.torn.no_shorter, mixed.torn.no_longer, loss.len, length-old, length-new);
+    same = λ i lt.
+        mixed.torn.below i (omega (arith, loss.len, length-old)) (omega arith)
+        ∙ loss.same i lt
+        ∙ at-front front (zeros n) i (omega arith)
+        ∙ sym (at-front front (bytes ++ zeros (n - length bytes)) i (omega arith));
+    each = each;
+  }
+    where
+      each : (i : ℕ) → i < length (front ++ (bytes ++ zeros (n - length bytes))) → (get_or left i 0 ≡ get_or (front ++ (bytes ++ zeros (n - length bytes))) i 0) ⊎ (get_or left i 0 ≡ 0)
+      each i within = elim (place (length front) (length bytes) i) [
+        | in_front lt ↦
+            let kept : get_or left i 0 ≡ get_or before i 0 = mixed.torn.below i (omega (arith, loss.len, length-old)) lt in
+            elim (loss.each i (omega (arith, length-old))) [
+              | inl same ↦ inl (kept ∙ same ∙ at-front front (zeros n) i lt ∙ sym (at-front front (bytes ++ zeros (n - length bytes)) i lt))
+              | inr none ↦ inr (kept ∙ none)
+            ]
+        | at_place j lt is ↦
+            let was : get_or before (length front + j) 0 ≡ 0 = was_zero (length front + j) j refl (omega arith) in
+            rw is (elim (mixed.each j lt (omega (arith, loss.len, length-old))) [
+              | inl kept ↦ inr (kept ∙ was)
+              | inr written ↦ inl (written ∙ sym (at-second front bytes (zeros (n - length bytes)) j lt))
+            ])
+        | behind j is ↦
+            let kept : get_or left (length front + (length bytes + j)) 0 ≡ get_or before (length front + (length bytes + j)) 0 = mixed.torn.above (length front + (length bytes + j)) (omega (arith, loss.len, length-old, length-new)) (omega arith) in
+            rw is (inr (kept ∙ was_zero (length front + (length bytes + j)) (length bytes + j) refl (omega (arith, length-new))))
+      ]
+        where
+          was_zero : (k j : ℕ) → k ≡ length front + j → j < n → get_or before k 0 ≡ 0
+          was_zero k j is lt =
+              let none : get_or (front ++ zeros n) k 0 ≡ 0 = rw is (get_or-append-add front (zeros n) j 0 ∙ zeros-at n j) in
+              elim (loss.each k (omega (arith, length-old))) [ inl same ↦ same ∙ none | inr lost ↦ lost ]

@@ -1,0 +1,4 @@
+pub mod Bytes
+pub mod JournalLemmas
+pub mod Losses
+pub mod RecoverLemmas

@@ -1,0 +1,18 @@
+use Rattle.std.proofs.Common.{refl}
+use Rattle.journal_file.proofs.JournalLemmas.{extend_crash, extend_keeps, journal_leaves}
+use Rattle.journal_file.proofs.journal.Journal.extend.Goals as goal
+
+pub returns-clause-extended : goal.returns-clause-extended
+returns-clause-extended g c = λ synced unsynced is. extend_keeps c.args.self.now _ synced unsynced c.args.more is refl refl refl c.fill.ensures.others c.in_ok-fill.ensures.filled c.in_ok-fill.ensures.synced
+
+pub returns-clause-any_crash : goal.returns-clause-any_crash
+returns-clause-any_crash g c = λ synced unsynced is left may. extend_crash c.args.self.now _ synced unsynced c.args.more is c.fill.ensures.crash left may
+
+pub returns-in_err-fill-clause-any_crash : goal.returns-in_err-fill-clause-any_crash
+returns-in_err-fill-clause-any_crash g c = λ synced unsynced is left may. extend_crash c.args.self.now _ synced unsynced c.args.more is c.fill.ensures.crash left may
+
+pub returns-then-more-len-clause-any_crash : goal.returns-then-more-len-clause-any_crash
+returns-then-more-len-clause-any_crash g c = λ synced unsynced is. journal_leaves c.args.self.now synced unsynced is
+
+pub returns-in_err-check_disk-clause-any_crash : goal.returns-in_err-check_disk-clause-any_crash
+returns-in_err-check_disk-clause-any_crash g c = λ synced unsynced is. journal_leaves c.args.self.now synced unsynced is

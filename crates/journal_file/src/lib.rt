@@ -1,0 +1,11 @@
+//! A journal in one file: payloads as frames over zeros, synced when the caller says so, and read again after a crash.
+#![tactic(auto)]
+
+mod error;
+mod filling;
+mod journal;
+mod recovered;
+
+pub use error::JournalError;
+pub use journal::{Journal, NotOpened, Opened};
+pub use recovered::{Recovered, recover};

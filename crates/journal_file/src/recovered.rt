@@ -1,0 +1,106 @@
+ghost use Rattle.std.specs.Prelude.{◌≡◌, ◌≢◌, ◌⊎◌, ◌+◌, ◌^◌, ◌<◌, ◌≤◌, ℕ, List, true, false, length, ⊤, IsTrue, IfErr, IfOk, IsErrOf, OnErr, OnOk};
+ghost use Rattle.sqlite_disk.specs.Disk.{MoreFaults, Only};
+ghost use Rattle.journal_frames.specs.Frames.{recovered, tail_of};
+ghost use Rattle.journal_frames.specs.declared.tail.Tail.TheVariants.{Torn};
+ghost use Rattle.journal_file.specs.JournalError.{IsReason};
+ghost use Rattle.journal_file.specs.Recovered.{EndsAt, IsRecovered};
+
+use crate::error::JournalError;
+use crate::filling::{check_disk, fill, sync_disk};
+use journal_frames::{Frames, Tail};
+use sqlite_disk::Disk;
+use std::alloc::Global;
+
+/// What was found in a file that a crash may have left.
+#[derive(Drop)]
+pub struct Recovered {
+    /// The frames of all payloads that are recovered of the file.
+    pub frames: Vec<u8>,
+    /// How many zeros stand behind them now.
+    pub blank: usize,
+}
+
+/// Reads the file of a journal under this key, writes zeros over what a crash left behind its whole frames, and syncs. It
+/// may crash too, and be called again.
+///
+/// `Err` is Unusable; Damaged, where no crash leaves such a file of a journal under this key; NotMixing; Memory; or
+/// Disk. Where it is Damaged nothing was written.
+pub fn recover<D: Disk>(alloc: Global, disk: &mut D, key: u64) -> Result<Recovered, JournalError>
+    // Where the disk told no lie, these are all payloads that are recovered of the file.
+    ensures recovered { IfOk result (λ found. IsTrue (D.is_clean disk.new)
+        → IsRecovered key (D.seen disk.old) (D.seen disk.new) found) }
+    ensures synced { OnOk result (Only (D.seen disk.new) (D.may_leave disk.new)) }
+    ensures usable { OnOk result (IsTrue (D.is_usable disk.new)) }
+    ensures room { IfOk result (λ found. 16 ≤ found.blank) }
+    // A damaged file is left as it reads.
+    ensures damaged { IsErrOf result JournalError.Damaged → D.seen disk.new ≡ D.seen disk.old }
+    // A crash meanwhile leaves what one could have left before, or the same payloads.
+    ensures any_crash { IsTrue (D.is_clean disk.new)
+        → (c : List ℕ) → D.may_leave disk.new c
+        → D.may_leave disk.old c ⊎ (recovered key c ≡ recovered key (D.seen disk.old)) }
+    ensures clean { IsTrue (D.is_clean disk.new) → IsTrue (D.is_clean disk.old) }
+    ensures why { IfErr result (IsReason (record {
+      no_room = ⊥;
+      is_usable = D.is_usable disk.old;
+      is_mixing = false;
+      damaged = IsTrue (D.is_clean disk.new) → tail_of key (D.seen disk.old) ≢ Torn;
+      memory = ⊤;
+      disk = MoreFaults (D.faults disk.old) (D.faults disk.new);
+    })) }
+{
+    let mut frames = read_synced(alloc, disk)?;
+    let end = end_of_frames(key, &frames)?;
+    let blank = frames.len() - end;
+    check_disk(disk)?;
+    fill(alloc, disk, end, blank)?;
+    frames.truncate(end);
+    Ok(Recovered { frames, blank })
+}
+
+// Syncs the file and reads all of it.
+fn read_synced<D: Disk>(alloc: Global, disk: &mut D) -> Result<Vec<u8>, JournalError>
+    ensures bytes { IfOk result (λ file. IsTrue (D.is_clean disk.new) → file.items ≡ D.seen disk.old) }
+    ensures seen { D.seen disk.new ≡ D.seen disk.old }
+    ensures usable { OnOk result (IsTrue (D.is_usable disk.new)) }
+    ensures synced { OnOk result (Only (D.seen disk.old) (D.may_leave disk.new)) }
+    ensures crash { (c : List ℕ) → D.may_leave disk.new c → D.may_leave disk.old c }
+    ensures clean { IsTrue (D.is_clean disk.new) → IsTrue (D.is_clean disk.old) }
+    ensures faults { OnOk result (D.faults disk.new ≡ D.faults disk.old) }
+    ensures why { IfErr result (IsReason (record {
+      no_room = ⊥;
+      is_usable = D.is_usable disk.old;
+      is_mixing = true;
+      damaged = ⊥;
+      memory = ⊤;
+      disk = MoreFaults (D.faults disk.old) (D.faults disk.new);
+    })) }
+{
+    sync_disk(disk)?;
+    let len = disk.len()?;
+    let mut file = vec![in alloc; 0u8; len]?;
+    disk.read_at(0, &mut file)?;
+    Ok(file)
+}
+
+// Where the whole frames of a file end, if a torn tail stands behind them.
+fn end_of_frames(key: u64, file: &[u8]) -> Result<usize, JournalError>
+    ensures found { IfOk result (EndsAt key file.now) }
+    ensures room { IfOk result (λ end. end + 16 ≤ length file.now) }
+    ensures why { IfErr result (IsReason (record {
+      no_room = ⊥;
+      is_usable = true;
+      is_mixing = true;
+      damaged = tail_of key file.now ≢ Torn;
+      memory = ⊥;
+      disk = ⊥;
+    })) }
+{
+    let mut frames = Frames::new(key, file);
+    'frames: loop {
+        match frames.next() {
+            Ok(_) => {}
+            Err(Tail::Torn) => return Ok(file.len() - frames.rest.len()),
+            Err(_) => return Err(JournalError::Damaged),
+        }
+    }
+}

@@ -1,0 +1,8 @@
+pub mod CrashLemmas
+pub mod Fronts
+pub mod Headers
+pub mod Losses
+pub mod Readings
+pub mod Sums
+pub mod TornTails
+pub mod WholeFrames

@@ -1,0 +1,127 @@
+-- Each field that was written is read again, whatever stands behind it; and so are changes.
+use Rattle.std.proofs.Common.{◌≡◌, ℕ, suc, ◌≤◌, Bool, true, false, ltb, List, [], ◌∷◌, ◌++◌, length, Option, Some, None, refl, sym, ap, ◌∙◌, append_assoc, arith, length-append}
+use Rattle.std.specs.Prelude.{IfSome}
+use Rattle.std.specs.Int.{w64, from_be_bytes}
+use Rattle.std.specs.List.{flat_map, AllByRecursion}
+use Rattle.std.proofs.lemmas.Bool.{le-ltb}
+use Rattle.std.proofs.lemmas.List.{append-nil, take_at, drop_at}
+use Rattle.std.proofs.lemmas.List.Concat.{flat_map-cons}
+use Rattle.std.proofs.lemmas.Nat.{from_be_bytes-to_be_bytes_8}
+use Rattle.tus_text.specs.declared.checksum.Checksum.{Checksum}
+use Rattle.tus_text.specs.declared.checksum.Checksum.TheVariants.{Sha1, Other}
+use Rattle.upload_book.specs.Chunk.{Chunk}
+use Rattle.upload_book.specs.FirstChunk.{FirstChunk}
+use Rattle.upload_book.specs.NewFinal.{NewFinal}
+use Rattle.upload_book.specs.NewUpload.{NewUpload}
+use Rattle.upload_book.specs.declared.change.Change.{Change}
+use Rattle.upload_book.specs.declared.change.Change.TheVariants.{Create, Append, Concat, Terminate, Sweep}
+use Rattle.upload_book.specs.declared.head_row.Name.{Name}
+use Rattle.journal_records.specs.Laws.{RecordsAreReadAgain}
+use Rattle.journal_records.specs.Reading.{number_at, bytes_at, flag_at, optional_at, text_at, check_at, name_at, ids_at, parts_at, upload_at, first_at, chunk_at, final_at, create_at, append_at, concat_at, terminate_at, change_at, moment_at, record_at}
+use Rattle.journal_records.specs.Records.{number, flag, optional, text, check, name_bytes, parts, upload_bytes, first_bytes, chunk_bytes, final_bytes, change_bytes, IsNumber, FitsCheck, FitsUpload, FitsChunk, FitsFinal, FitsChange}
+
+-- ---- fields
+
+number_word : (n : ℕ) (word rest : List ℕ) → IsNumber n → word ≡ number n → number_at (word ++ rest) ≡ Some (n, rest)
+unfolding number_at
+number_word n word rest fits is =
+    let eight : length word ≡ 8 = ap length is in
+    let long : ltb (length (word ++ rest)) 8 ≡ false = le-ltb _ _ (omega (arith, length-append word rest)) in
+    let read : from_be_bytes w64 word ≡ n = ap (from_be_bytes w64) is ∙ from_be_bytes-to_be_bytes_8 n fits in
+    rw (long, take_at word rest 8 eight, drop_at word rest 8 eight, read) refl
+
+number_again : (n : ℕ) (rest : List ℕ) → IsNumber n → number_at (number n ++ rest) ≡ Some (n, rest)
+number_again n rest fits = number_word n (number n) rest fits refl
+
+bytes_again : (bytes rest : List ℕ) (n : ℕ) → length bytes ≡ n → bytes_at n (bytes ++ rest) ≡ Some (bytes, rest)
+unfolding bytes_at
+bytes_again bytes rest n is =
+    let long : ltb (length (bytes ++ rest)) n ≡ false = le-ltb _ _ (omega (arith, length-append bytes rest)) in
+    rw (long, take_at bytes rest n is, drop_at bytes rest n is) refl
+
+flag_again : (b : Bool) (rest : List ℕ) → flag_at (flag b ++ rest) ≡ Some (b, rest)
+unfolding flag_at
+flag_again false rest = refl
+flag_again true rest = refl
+
+optional_again : (o : Option ℕ) (rest : List ℕ) → IfSome o IsNumber → optional_at (optional o ++ rest) ≡ Some (o, rest)
+unfolding optional_at
+optional_again None rest fits = refl
+optional_again (Some n) rest fits = rw (number_again n rest fits) refl
+
+text_again : (bytes rest : List ℕ) → IsNumber (length bytes) → text_at (text bytes ++ rest) ≡ Some (bytes, rest)
+unfolding text_at
+text_again bytes rest fits = ap text_at (append_assoc (number (length bytes)) bytes rest) ∙ rw (number_again (length bytes) (bytes ++ rest) fits) (bytes_again bytes rest (length bytes) refl)
+
+check_again : (told : Option Checksum) (rest : List ℕ) → FitsCheck told → check_at (check told ++ rest) ≡ Some (told, rest)
+unfolding check_at
+check_again None rest fits = refl
+check_again (Some (Sha1 digest)) rest fits = rw (bytes_again digest rest 20 fits) refl
+check_again (Some Other) rest fits = refl
+
+name_again : (name : Name) (rest : List ℕ) → IsNumber name.id → name_at (name_bytes name ++ rest) ≡ Some (name, rest)
+unfolding name_at
+name_again name rest fits = rw (number_again name.id rest fits) refl
+
+ids_again : (ids : List (Option ℕ)) (rest : List ℕ) → AllByRecursion (λ id. IfSome id IsNumber) ids → ids_at (length ids) (flat_map optional ids ++ rest) ≡ Some (ids, rest)
+unfolding ids_at
+ids_again [] rest fits = refl
+ids_again (id ∷ ids) rest fits =
+    let regrouped : flat_map optional (id ∷ ids) ++ rest ≡ optional id ++ (flat_map optional ids ++ rest) = ap (λ (x : List ℕ). x ++ rest) (flat_map-cons optional id ids) ∙ append_assoc (optional id) (flat_map optional ids) rest in
+    ap (ids_at (suc (length ids))) regrouped ∙ rw (optional_again id (flat_map optional ids ++ rest) fits.0, ids_again ids rest fits.1) refl
+
+parts_again : (ids : List (Option ℕ)) (rest : List ℕ) → length ids ≤ 32 → AllByRecursion (λ id. IfSome id IsNumber) ids → parts_at (parts ids ++ rest) ≡ Some (ids, rest)
+unfolding parts_at
+parts_again ids rest few fits =
+    let small : ltb 32 (length ids) ≡ false = le-ltb _ _ few in
+    ap parts_at (append_assoc (number (length ids)) (flat_map optional ids) rest) ∙ rw (number_again (length ids) (flat_map optional ids ++ rest) (omega (arith, few)), small) (ids_again ids rest fits)
+
+-- ---- changes
+
+upload_again : (new : NewUpload) (rest : List ℕ) → FitsUpload new → upload_at (upload_bytes new ++ rest) ≡ Some (new, rest)
+unfolding upload_at upload_bytes
+upload_again new rest fits =
+    let a = flag new.partial in
+    let b = optional new.length in
+    let d = text new.metadata in
+    let e = text new.concat in
+    let regrouped : (a ++ b ++ d ++ e) ++ rest ≡ a ++ (b ++ (d ++ (e ++ rest))) = append_assoc (a ++ b ++ d) e rest ∙ append_assoc (a ++ b) d (e ++ rest) ∙ append_assoc a b (d ++ (e ++ rest)) in
+    ap upload_at regrouped
+    ∙ rw (flag_again new.partial (b ++ (d ++ (e ++ rest))), optional_again new.length (d ++ (e ++ rest)) fits.told, text_again new.metadata (e ++ rest) fits.metadata, text_again new.concat rest fits.concat) refl
+
+first_again : (first : FirstChunk) → FitsCheck first.check → first_at (first_bytes first) ≡ Some first
+unfolding first_at first_bytes
+first_again first fits =
+    ap first_at (append_assoc (flag first.typed) (check first.check) first.bytes) ∙ rw (flag_again first.typed (check first.check ++ first.bytes), check_again first.check first.bytes fits) refl
+
+chunk_again : (chunk : Chunk) → FitsChunk chunk → chunk_at (chunk_bytes chunk) ≡ Some chunk
+unfolding chunk_at chunk_bytes
+chunk_again chunk fits =
+    let a = number chunk.offset in
+    let b = optional chunk.length in
+    let d = flag chunk.typed in
+    let e = check chunk.check in
+    let regrouped : a ++ b ++ d ++ e ++ chunk.bytes ≡ a ++ (b ++ (d ++ (e ++ chunk.bytes))) = append_assoc (a ++ b ++ d) e chunk.bytes ∙ append_assoc (a ++ b) d (e ++ chunk.bytes) ∙ append_assoc a b (d ++ (e ++ chunk.bytes)) in
+    ap chunk_at regrouped
+    ∙ rw (number_again chunk.offset (b ++ (d ++ (e ++ chunk.bytes))) fits.offset, optional_again chunk.length (d ++ (e ++ chunk.bytes)) fits.told, flag_again chunk.typed (e ++ chunk.bytes), check_again chunk.check chunk.bytes fits.check) refl
+
+final_again : (new : NewFinal) → FitsFinal new → final_at (final_bytes new) ≡ Some new
+unfolding final_at final_bytes
+final_again new fits =
+    ap final_at (append_assoc (parts new.parts) (text new.metadata) new.concat) ∙ rw (parts_again new.parts (text new.metadata ++ new.concat) fits.few fits.parts, text_again new.metadata new.concat fits.metadata) refl
+
+change_again : (change : Change) → FitsChange change → change_at (change_bytes change) ≡ Some change
+unfolding change_at create_at append_at concat_at terminate_at
+change_again (Create tenant new first) fits = rw (upload_again new (first_bytes first) fits.0, first_again first fits.1) refl
+change_again (Append name chunk) fits = rw (name_again name (chunk_bytes chunk) fits.0, chunk_again chunk fits.1) refl
+change_again (Concat tenant new) fits = rw (final_again new fits) refl
+change_again (Terminate name) fits =
+    let read : name_at (name_bytes name) ≡ Some (name, []) = ap name_at (sym (append-nil (name_bytes name))) ∙ name_again name [] fits in
+    rw read refl
+change_again Sweep fits = refl
+
+pub record_again : RecordsAreReadAgain
+unfolding record_at moment_at
+record_again now change within fits =
+    let short : ltb 253402300799 now ≡ false = le-ltb _ _ within in
+    rw (number_again now (change_bytes change) (omega (arith, within)), short, change_again change fits) refl

@@ -1,0 +1,3 @@
+pub mod Again
+pub mod Parts
+pub mod Spelled

@@ -1,0 +1,314 @@
+-- Each field that is read is spelled so; and so are changes.
+use Rattle.std.proofs.Common.{◌≡◌, ◌⊎◌, ℕ, zero, suc, ◌+◌, ◌^◌, ◌<◌, ◌≤◌, Bool, true, false, cond, ltb, eqb, List, [], ◌∷◌, ◌++◌, length, take, drop, Option, Some, None, refl, sym, ap, subst, ◌∙◌, append_assoc, arith, inl, inr}
+use Rattle.std.specs.Prelude.{IfSome}
+use Rattle.std.specs.Int.{w64, from_be_bytes}
+use Rattle.std.specs.List.{flat_map, AllByRecursion}
+use Rattle.std.proofs.lemmas.Bool.{cases_lt, ltb-false, eqb-true}
+use Rattle.std.proofs.lemmas.List.{append-nil, get_or-drop, get_or-take, get_or_past, length-take, take-append-drop}
+use Rattle.std.proofs.lemmas.List.Concat.{flat_map-cons}
+use Rattle.std.proofs.lemmas.Nat.{be_bytes_8}
+use Rattle.tus_text.specs.declared.checksum.Checksum.{Checksum}
+use Rattle.tus_text.specs.declared.checksum.Checksum.TheVariants.{Sha1, Other}
+use Rattle.upload_book.specs.Chunk.{Chunk}
+use Rattle.upload_book.specs.FirstChunk.{FirstChunk}
+use Rattle.upload_book.specs.NewFinal.{NewFinal}
+use Rattle.upload_book.specs.NewUpload.{NewUpload}
+use Rattle.upload_book.specs.declared.change.Change.{Change}
+use Rattle.upload_book.specs.declared.change.Change.TheVariants.{Create, Append, Concat, Terminate, Sweep}
+use Rattle.upload_book.specs.declared.head_row.Name.{Name}
+use Rattle.journal_records.specs.Laws.{RecordsAreSpelledSo}
+use Rattle.journal_records.specs.Reading.{◌>>=◌, byte_at, number_at, bytes_at, flag_at, optional_at, text_at, check_at, name_at, ids_at, parts_at, upload_at, first_at, chunk_at, final_at, at_end, create_at, append_at, concat_at, terminate_at, sweep_at, other_at, change_at, moment_at, record_at}
+use Rattle.journal_records.specs.Records.{AreBytes, number, flag, optional, text, check, name_bytes, parts, upload_bytes, first_bytes, chunk_bytes, final_bytes, change_bytes, record_bytes, IsNumber, FitsCheck, FitsUpload, FitsChunk, FitsFinal, FitsChange}
+
+AreBytes-drop : (n : ℕ) (bytes : List ℕ) → AreBytes bytes → AreBytes (drop n bytes)
+AreBytes-drop n bytes are i = rw get_or-drop (are (n + i))
+
+AreBytes-take : (n : ℕ) (bytes : List ℕ) → AreBytes bytes → AreBytes (take n bytes)
+AreBytes-take n bytes are i =
+    elim (cases_lt i n) [
+      | inl lt ↦ rw (get_or-take n bytes i 0 lt) (are i)
+      | inr le ↦ rw (get_or_past (take n bytes) i 0 (omega (arith, length-take n bytes))) (omega arith)
+    ]
+
+AreBytes-rest : (b : ℕ) (bytes : List ℕ) → AreBytes (b ∷ bytes) → AreBytes bytes
+AreBytes-rest b bytes are i = are (suc i)
+
+-- the value of a step that found one
+bind_some : {A B : Type 0} (o : Option A) (f : A → Option B) (y : B) → (o >>= f) ≡ Some y → (x : A) × (o ≡ Some x) × (f x ≡ Some y)
+bind_some (Some x) f y is = (x, refl, is)
+bind_some None f y is = absurd cc
+
+-- a test that did not refuse
+not_none : {A : Type 0} (b : Bool) (o : Option A) (y : A) → cond b None o ≡ Some y → (b ≡ false) × (o ≡ Some y)
+not_none true o y is = absurd cc
+not_none false o y is = (refl, is)
+
+abbrev some : {A : Type 0} → A → Option A
+some x = Some x
+
+some_is : {A : Type 0} (x y : A) → some x ≡ some y → x ≡ y
+some_is x y is = cc
+
+-- what a reader took from the front
+record Takes (bytes text rest : List ℕ) : Type 0 where
+  parts : bytes ≡ text ++ rest
+  rest_are : AreBytes rest
+
+then_takes : (a x b y c : List ℕ) → Takes a x b → Takes b y c → Takes a (x ++ y) c
+then_takes a x b y c p q = record { parts = p.parts ∙ ap (λ (t : List ℕ). x ++ t) q.parts ∙ sym (append_assoc x y c); rest_are = q.rest_are }
+
+-- ---- fields
+
+byte_takes : (bytes : List ℕ) (x : ℕ × List ℕ) → AreBytes bytes → byte_at bytes ≡ Some x → Takes bytes (x.0 ∷ []) x.1
+byte_takes [] x are is = absurd cc
+byte_takes (b ∷ rest) x are is = subst (λ (y : ℕ × List ℕ). Takes (b ∷ rest) (y.0 ∷ []) y.1) (some_is (b, rest) x is) (record { parts = refl; rest_are = AreBytes-rest b rest are })
+
+number_takes : (bytes : List ℕ) (x : ℕ × List ℕ) → AreBytes bytes → number_at bytes ≡ Some x → Takes bytes (number x.0) x.1 × IsNumber x.0
+unfolding number_at
+number_takes bytes x are is =
+    let a = not_none (ltb (length bytes) 8) (Some (from_be_bytes w64 (take 8 bytes), drop 8 bytes)) x is in
+    let long : 8 ≤ length bytes = ltb-false _ _ a.0 in
+    let front = take 8 bytes in
+    let n = from_be_bytes w64 front in
+    let are_front = AreBytes-take 8 bytes are in
+    let spelled : number n ≡ front = be_bytes_8 front n (omega (arith, length-take 8 bytes)) are_front refl in
+    let below : n < 2 ^ 64 = omega (arith, are_front 0, are_front 1, are_front 2, are_front 3, are_front 4, are_front 5, are_front 6, are_front 7) in
+    subst (λ (y : ℕ × List ℕ). Takes bytes (number y.0) y.1 × IsNumber y.0) (some_is (n, drop 8 bytes) x a.1)
+    (record { parts = sym (take-append-drop 8 bytes) ∙ ap (λ (t : List ℕ). t ++ drop 8 bytes) (sym spelled); rest_are = AreBytes-drop 8 bytes are }, below)
+
+bytes_takes : (n : ℕ) (bytes : List ℕ) (x : List ℕ × List ℕ) → AreBytes bytes → bytes_at n bytes ≡ Some x → Takes bytes x.0 x.1 × (length x.0 ≡ n)
+unfolding bytes_at
+bytes_takes n bytes x are is =
+    let a = not_none (ltb (length bytes) n) (Some (take n bytes, drop n bytes)) x is in
+    let long : n ≤ length bytes = ltb-false _ _ a.0 in
+    subst (λ (y : List ℕ × List ℕ). Takes bytes y.0 y.1 × (length y.0 ≡ n)) (some_is (take n bytes, drop n bytes) x a.1)
+    (record { parts = sym (take-append-drop n bytes); rest_are = AreBytes-drop n bytes are }, omega (arith, length-take n bytes))
+
+flag_takes : (bytes : List ℕ) (x : Bool × List ℕ) → AreBytes bytes → flag_at bytes ≡ Some x → Takes bytes (flag x.0) x.1
+unfolding flag_at
+flag_takes [] x are is = absurd cc
+flag_takes (zero ∷ rest) x are is = subst (λ (y : Bool × List ℕ). Takes (0 ∷ rest) (flag y.0) y.1) (some_is (false, rest) x is) (record { parts = refl; rest_are = AreBytes-rest 0 rest are })
+flag_takes (suc zero ∷ rest) x are is = subst (λ (y : Bool × List ℕ). Takes (1 ∷ rest) (flag y.0) y.1) (some_is (true, rest) x is) (record { parts = refl; rest_are = AreBytes-rest 1 rest are })
+flag_takes (suc (suc b) ∷ rest) x are is = absurd cc
+
+optional_takes : (bytes : List ℕ) (x : Option ℕ × List ℕ) → AreBytes bytes → optional_at bytes ≡ Some x → Takes bytes (optional x.0) x.1 × IfSome x.0 IsNumber
+unfolding optional_at
+optional_takes [] x are is = absurd cc
+optional_takes (zero ∷ rest) x are is = subst (λ (y : Option ℕ × List ℕ). Takes (0 ∷ rest) (optional y.0) y.1 × IfSome y.0 IsNumber) (some_is (None, rest) x is) (record { parts = refl; rest_are = AreBytes-rest 0 rest are }, tt)
+optional_takes (suc zero ∷ rest) x are is =
+    let a = bind_some (number_at rest) (λ n. Some (Some n.0, n.1)) x is in
+    let t = number_takes rest a.0 (AreBytes-rest 1 rest are) a.1 in
+    subst (λ (y : Option ℕ × List ℕ). Takes (1 ∷ rest) (optional y.0) y.1 × IfSome y.0 IsNumber) (some_is (Some a.0.0, a.0.1) x a.2) (record { parts = ap (λ (w : List ℕ). 1 ∷ w) t.0.parts; rest_are = t.0.rest_are }, t.1)
+optional_takes (suc (suc b) ∷ rest) x are is = absurd cc
+
+text_takes : (bytes : List ℕ) (x : List ℕ × List ℕ) → AreBytes bytes → text_at bytes ≡ Some x → Takes bytes (text x.0) x.1 × IsNumber (length x.0)
+unfolding text_at
+text_takes bytes x are is =
+    let a = bind_some (number_at bytes) (λ n. bytes_at n.0 n.1) x is in
+    let t = number_takes bytes a.0 are a.1 in
+    let b = bytes_takes a.0.0 a.0.1 x t.0.rest_are a.2 in
+    (subst (λ (n : ℕ). Takes bytes (number n ++ x.0) x.1) (sym b.1) (then_takes bytes (number a.0.0) a.0.1 x.0 x.1 t.0 b.0), subst IsNumber (sym b.1) t.1)
+
+check_takes : (bytes : List ℕ) (x : Option Checksum × List ℕ) → AreBytes bytes → check_at bytes ≡ Some x → Takes bytes (check x.0) x.1 × FitsCheck x.0
+unfolding check_at
+check_takes [] x are is = absurd cc
+check_takes (zero ∷ rest) x are is = subst (λ (y : Option Checksum × List ℕ). Takes (0 ∷ rest) (check y.0) y.1 × FitsCheck y.0) (some_is (None, rest) x is) (record { parts = refl; rest_are = AreBytes-rest 0 rest are }, tt)
+check_takes (suc zero ∷ rest) x are is =
+    let a = bind_some (bytes_at 20 rest) (λ digest. Some (Some (Sha1 digest.0), digest.1)) x is in
+    let t = bytes_takes 20 rest a.0 (AreBytes-rest 1 rest are) a.1 in
+    subst (λ (y : Option Checksum × List ℕ). Takes (1 ∷ rest) (check y.0) y.1 × FitsCheck y.0) (some_is (Some (Sha1 a.0.0), a.0.1) x a.2) (record { parts = ap (λ (w : List ℕ). 1 ∷ w) t.0.parts; rest_are = t.0.rest_are }, t.1)
+check_takes (suc (suc zero) ∷ rest) x are is = subst (λ (y : Option Checksum × List ℕ). Takes (2 ∷ rest) (check y.0) y.1 × FitsCheck y.0) (some_is (Some Other, rest) x is) (record { parts = refl; rest_are = AreBytes-rest 2 rest are }, tt)
+check_takes (suc (suc (suc b)) ∷ rest) x are is = absurd cc
+
+name_takes : (bytes : List ℕ) (x : Name × List ℕ) → AreBytes bytes → name_at bytes ≡ Some x → Takes bytes (name_bytes x.0) x.1 × IsNumber x.0.id
+unfolding name_at
+name_takes bytes x are is =
+    let a = bind_some (byte_at bytes) (λ tenant. number_at tenant.1 >>= λ id. Some (record { tenant = tenant.0; id = id.0 }, id.1)) x is in
+    let b = bind_some (number_at a.0.1) (λ id. Some (record { tenant = a.0.0; id = id.0 }, id.1)) x a.2 in
+    let first = byte_takes bytes a.0 are a.1 in
+    let second = number_takes a.0.1 b.0 first.rest_are b.1 in
+    let made : Name × List ℕ = (record { tenant = a.0.0; id = b.0.0 }, b.0.1) in
+    subst (λ (y : Name × List ℕ). Takes bytes (name_bytes y.0) y.1 × IsNumber y.0.id) (some_is made x b.2) (then_takes bytes (a.0.0 ∷ []) a.0.1 (number b.0.0) b.0.1 first second.0, second.1)
+
+ids_take : (n : ℕ) (bytes : List ℕ) (x : List (Option ℕ) × List ℕ) → AreBytes bytes → ids_at n bytes ≡ Some x → Takes bytes (flat_map optional x.0) x.1 × (length x.0 ≡ n) × AllByRecursion (λ id. IfSome id IsNumber) x.0
+unfolding ids_at
+ids_take zero bytes x are is = subst (λ (y : List (Option ℕ) × List ℕ). Takes bytes (flat_map optional y.0) y.1 × (length y.0 ≡ 0) × AllByRecursion (λ id. IfSome id IsNumber) y.0) (some_is ([], bytes) x is) (record { parts = refl; rest_are = are }, refl, tt)
+ids_take (suc n) bytes x are is =
+    let a = bind_some (optional_at bytes) (λ first. ids_at n first.1 >>= λ others. Some (first.0 ∷ others.0, others.1)) x is in
+    let b = bind_some (ids_at n a.0.1) (λ others. Some (a.0.0 ∷ others.0, others.1)) x a.2 in
+    let first = optional_takes bytes a.0 are a.1 in
+    let second = ids_take n a.0.1 b.0 first.0.rest_are b.1 in
+    let both = then_takes bytes (optional a.0.0) a.0.1 (flat_map optional b.0.0) b.0.1 first.0 second.0 in
+    let made : List (Option ℕ) × List ℕ = (a.0.0 ∷ b.0.0, b.0.1) in
+    subst (λ (y : List (Option ℕ) × List ℕ). Takes bytes (flat_map optional y.0) y.1 × (length y.0 ≡ suc n) × AllByRecursion (λ id. IfSome id IsNumber) y.0) (some_is made x b.2) (rw flat_map-cons both, ap suc second.1, (first.1, second.2))
+
+parts_take : (bytes : List ℕ) (x : List (Option ℕ) × List ℕ) → AreBytes bytes → parts_at bytes ≡ Some x → Takes bytes (parts x.0) x.1 × (length x.0 ≤ 32) × AllByRecursion (λ id. IfSome id IsNumber) x.0
+unfolding parts_at
+parts_take bytes x are is =
+    let a = bind_some (number_at bytes) (λ n. cond (ltb 32 n.0) None (ids_at n.0 n.1)) x is in
+    let b = not_none (ltb 32 a.0.0) (ids_at a.0.0 a.0.1) x a.2 in
+    let few : a.0.0 ≤ 32 = ltb-false _ _ b.0 in
+    let first = number_takes bytes a.0 are a.1 in
+    let second = ids_take a.0.0 a.0.1 x first.0.rest_are b.1 in
+    (subst (λ (n : ℕ). Takes bytes (number n ++ flat_map optional x.0) x.1) (sym second.1) (then_takes bytes (number a.0.0) a.0.1 (flat_map optional x.0) x.1 first.0 second.0), omega (arith, second.1), second.2)
+
+-- ---- changes
+
+upload_takes : (bytes : List ℕ) (x : NewUpload × List ℕ) → AreBytes bytes → upload_at bytes ≡ Some x → Takes bytes (upload_bytes x.0) x.1 × FitsUpload x.0
+unfolding upload_at upload_bytes
+upload_takes bytes x are is =
+    let a = bind_some (flag_at bytes) (λ partial. optional_at partial.1 >>= λ told. text_at told.1 >>= λ metadata. text_at metadata.1 >>= λ concat. Some (record { partial = partial.0; length = told.0; metadata = metadata.0; concat = concat.0 }, concat.1)) x is in
+    let b = bind_some (optional_at a.0.1) (λ told. text_at told.1 >>= λ metadata. text_at metadata.1 >>= λ concat. Some (record { partial = a.0.0; length = told.0; metadata = metadata.0; concat = concat.0 }, concat.1)) x a.2 in
+    let d = bind_some (text_at b.0.1) (λ metadata. text_at metadata.1 >>= λ concat. Some (record { partial = a.0.0; length = b.0.0; metadata = metadata.0; concat = concat.0 }, concat.1)) x b.2 in
+    let e = bind_some (text_at d.0.1) (λ concat. Some (record { partial = a.0.0; length = b.0.0; metadata = d.0.0; concat = concat.0 }, concat.1)) x d.2 in
+    let t0 = flag_takes bytes a.0 are a.1 in
+    let t1 = optional_takes a.0.1 b.0 t0.rest_are b.1 in
+    let t2 = text_takes b.0.1 d.0 t1.0.rest_are d.1 in
+    let t3 = text_takes d.0.1 e.0 t2.0.rest_are e.1 in
+    let u1 = then_takes bytes (flag a.0.0) a.0.1 (optional b.0.0) b.0.1 t0 t1.0 in
+    let u2 = then_takes bytes (flag a.0.0 ++ optional b.0.0) b.0.1 (text d.0.0) d.0.1 u1 t2.0 in
+    let u3 = then_takes bytes (flag a.0.0 ++ optional b.0.0 ++ text d.0.0) d.0.1 (text e.0.0) e.0.1 u2 t3.0 in
+    let made : NewUpload × List ℕ = (record { partial = a.0.0; length = b.0.0; metadata = d.0.0; concat = e.0.0 }, e.0.1) in
+    subst (λ (y : NewUpload × List ℕ). Takes bytes (upload_bytes y.0) y.1 × FitsUpload y.0) (some_is made x e.2) (u3, record { told = t1.1; metadata = t2.1; concat = t3.1 })
+
+first_spelled : (bytes : List ℕ) (x : FirstChunk) → AreBytes bytes → first_at bytes ≡ Some x → (bytes ≡ first_bytes x) × FitsCheck x.check
+unfolding first_at first_bytes
+first_spelled bytes x are is =
+    let a = bind_some (flag_at bytes) (λ typed. check_at typed.1 >>= λ told. Some (record { typed = typed.0; check = told.0; bytes = told.1 })) x is in
+    let b = bind_some (check_at a.0.1) (λ told. Some (record { typed = a.0.0; check = told.0; bytes = told.1 })) x a.2 in
+    let t0 = flag_takes bytes a.0 are a.1 in
+    let t1 = check_takes a.0.1 b.0 t0.rest_are b.1 in
+    let made : FirstChunk = record { typed = a.0.0; check = b.0.0; bytes = b.0.1 } in
+    subst (λ (y : FirstChunk). (bytes ≡ first_bytes y) × FitsCheck y.check) (some_is made x b.2) ((then_takes bytes (flag a.0.0) a.0.1 (check b.0.0) b.0.1 t0 t1.0).parts, t1.1)
+
+chunk_spelled : (bytes : List ℕ) (x : Chunk) → AreBytes bytes → chunk_at bytes ≡ Some x → (bytes ≡ chunk_bytes x) × FitsChunk x
+unfolding chunk_at chunk_bytes
+chunk_spelled bytes x are is =
+    let a = bind_some (number_at bytes) (λ offset. optional_at offset.1 >>= λ told. flag_at told.1 >>= λ typed. check_at typed.1 >>= λ sum. Some (record { offset = offset.0; length = told.0; typed = typed.0; check = sum.0; bytes = sum.1 })) x is in
+    let b = bind_some (optional_at a.0.1) (λ told. flag_at told.1 >>= λ typed. check_at typed.1 >>= λ sum. Some (record { offset = a.0.0; length = told.0; typed = typed.0; check = sum.0; bytes = sum.1 })) x a.2 in
+    let d = bind_some (flag_at b.0.1) (λ typed. check_at typed.1 >>= λ sum. Some (record { offset = a.0.0; length = b.0.0; typed = typed.0; check = sum.0; bytes = sum.1 })) x b.2 in
+    let e = bind_some (check_at d.0.1) (λ sum. Some (record { offset = a.0.0; length = b.0.0; typed = d.0.0; check = sum.0; bytes = sum.1 })) x d.2 in
+    let t0 = number_takes bytes a.0 are a.1 in
+    let t1 = optional_takes a.0.1 b.0 t0.0.rest_are b.1 in
+    let t2 = flag_takes b.0.1 d.0 t1.0.rest_are d.1 in
+    let t3 = check_takes d.0.1 e.0 t2.rest_are e.1 in
+    let u1 = then_takes bytes (number a.0.0) a.0.1 (optional b.0.0) b.0.1 t0.0 t1.0 in
+    let u2 = then_takes bytes (number a.0.0 ++ optional b.0.0) b.0.1 (flag d.0.0) d.0.1 u1 t2 in
+    let u3 = then_takes bytes (number a.0.0 ++ optional b.0.0 ++ flag d.0.0) d.0.1 (check e.0.0) e.0.1 u2 t3.0 in
+    let made : Chunk = record { offset = a.0.0; length = b.0.0; typed = d.0.0; check = e.0.0; bytes = e.0.1 } in
+    subst (λ (y : Chunk). (bytes ≡ chunk_bytes y) × FitsChunk y) (some_is made x e.2) (u3.parts, record { offset = t0.1; told = t1.1; check = t3.1 })
+
+final_spelled : (bytes : List ℕ) (x : NewFinal) → AreBytes bytes → final_at bytes ≡ Some x → (bytes ≡ final_bytes x) × FitsFinal x
+unfolding final_at final_bytes
+final_spelled bytes x are is =
+    let a = bind_some (parts_at bytes) (λ ids. text_at ids.1 >>= λ metadata. Some (record { parts = ids.0; metadata = metadata.0; concat = metadata.1 })) x is in
+    let b = bind_some (text_at a.0.1) (λ metadata. Some (record { parts = a.0.0; metadata = metadata.0; concat = metadata.1 })) x a.2 in
+    let t0 = parts_take bytes a.0 are a.1 in
+    let t1 = text_takes a.0.1 b.0 t0.0.rest_are b.1 in
+    let made : NewFinal = record { parts = a.0.0; metadata = b.0.0; concat = b.0.1 } in
+    subst (λ (y : NewFinal). (bytes ≡ final_bytes y) × FitsFinal y) (some_is made x b.2) ((then_takes bytes (parts a.0.0) a.0.1 (text b.0.0) b.0.1 t0.0 t1.0).parts, record { few = t0.1; parts = t0.2; metadata = t1.1 })
+
+-- the fields of a change are spelled so behind its kind
+abbrev Spelled : ℕ → List ℕ → Change → Type 0
+Spelled kind fields change = (kind ∷ fields ≡ change_bytes change) × FitsChange change
+
+create_spelled : (bytes : List ℕ) (x : Change) → AreBytes bytes → create_at bytes ≡ Some x → Spelled 0 bytes x
+unfolding create_at
+create_spelled bytes x are is =
+    let a = bind_some (byte_at bytes) (λ tenant. upload_at tenant.1 >>= λ new. first_at new.1 >>= λ first. Some (Create tenant.0 new.0 first)) x is in
+    let b = bind_some (upload_at a.0.1) (λ new. first_at new.1 >>= λ first. Some (Create a.0.0 new.0 first)) x a.2 in
+    let d = bind_some (first_at b.0.1) (λ first. Some (Create a.0.0 b.0.0 first)) x b.2 in
+    let t0 = byte_takes bytes a.0 are a.1 in
+    let t1 = upload_takes a.0.1 b.0 t0.rest_are b.1 in
+    let t2 = first_spelled b.0.1 d.0 t1.0.rest_are d.1 in
+    let whole : bytes ≡ a.0.0 ∷ (upload_bytes b.0.0 ++ first_bytes d.0) = t0.parts ∙ ap (λ (t : List ℕ). a.0.0 ∷ t) (t1.0.parts ∙ ap (λ (t : List ℕ). upload_bytes b.0.0 ++ t) t2.0) in
+    subst (Spelled 0 bytes) (some_is (Create a.0.0 b.0.0 d.0) x d.2) (ap (λ (t : List ℕ). 0 ∷ t) whole, (t1.1, t2.1))
+
+append_spelled : (bytes : List ℕ) (x : Change) → AreBytes bytes → append_at bytes ≡ Some x → Spelled 1 bytes x
+unfolding append_at
+append_spelled bytes x are is =
+    let a = bind_some (name_at bytes) (λ name. chunk_at name.1 >>= λ chunk. Some (Append name.0 chunk)) x is in
+    let b = bind_some (chunk_at a.0.1) (λ chunk. Some (Append a.0.0 chunk)) x a.2 in
+    let t0 = name_takes bytes a.0 are a.1 in
+    let t1 = chunk_spelled a.0.1 b.0 t0.0.rest_are b.1 in
+    let whole : bytes ≡ name_bytes a.0.0 ++ chunk_bytes b.0 = t0.0.parts ∙ ap (λ (t : List ℕ). name_bytes a.0.0 ++ t) t1.0 in
+    subst (Spelled 1 bytes) (some_is (Append a.0.0 b.0) x b.2) (ap (λ (t : List ℕ). 1 ∷ t) whole, (t0.1, t1.1))
+
+concat_spelled : (bytes : List ℕ) (x : Change) → AreBytes bytes → concat_at bytes ≡ Some x → Spelled 2 bytes x
+unfolding concat_at
+concat_spelled bytes x are is =
+    let a = bind_some (byte_at bytes) (λ tenant. final_at tenant.1 >>= λ new. Some (Concat tenant.0 new)) x is in
+    let b = bind_some (final_at a.0.1) (λ new. Some (Concat a.0.0 new)) x a.2 in
+    let t0 = byte_takes bytes a.0 are a.1 in
+    let t1 = final_spelled a.0.1 b.0 t0.rest_are b.1 in
+    let whole : bytes ≡ a.0.0 ∷ final_bytes b.0 = t0.parts ∙ ap (λ (t : List ℕ). a.0.0 ∷ t) t1.0 in
+    subst (Spelled 2 bytes) (some_is (Concat a.0.0 b.0) x b.2) (ap (λ (t : List ℕ). 2 ∷ t) whole, t1.1)
+
+end_spelled : (name : Name) (rest : List ℕ) (x : Name) → at_end (name, rest) ≡ Some x → (rest ≡ []) × (name ≡ x)
+end_spelled name [] x is = (refl, some_is name x is)
+end_spelled name (b ∷ rest) x is = absurd cc
+
+terminate_spelled : (bytes : List ℕ) (x : Change) → AreBytes bytes → terminate_at bytes ≡ Some x → Spelled 3 bytes x
+unfolding terminate_at
+terminate_spelled bytes x are is =
+    let a = bind_some (name_at bytes) (λ name. at_end name >>= λ ended. Some (Terminate ended)) x is in
+    let b = bind_some (at_end a.0) (λ ended. Some (Terminate ended)) x a.2 in
+    let t0 = name_takes bytes a.0 are a.1 in
+    let e = end_spelled a.0.0 a.0.1 b.0 b.1 in
+    let whole : bytes ≡ name_bytes a.0.0 = t0.0.parts ∙ ap (λ (t : List ℕ). name_bytes a.0.0 ++ t) e.0 ∙ append-nil (name_bytes a.0.0) in
+    subst (Spelled 3 bytes) (ap (λ (n : Name). Terminate n) e.1 ∙ some_is (Terminate b.0) x b.2) (ap (λ (t : List ℕ). 3 ∷ t) whole, t0.1)
+
+sweep_spelled : (bytes : List ℕ) (x : Change) → sweep_at bytes ≡ Some x → Spelled 4 bytes x
+sweep_spelled [] x is = subst (Spelled 4 []) (some_is Sweep x is) (refl, tt)
+sweep_spelled (b ∷ rest) x is = absurd cc
+
+-- which way a test went
+chosen : {A : Type 0} (b : Bool) (o p : Option A) (y : A) → cond b o p ≡ Some y → ((b ≡ true) × (o ≡ Some y)) ⊎ ((b ≡ false) × (p ≡ Some y))
+chosen true o p y is = inl (refl, is)
+chosen false o p y is = inr (refl, is)
+
+other_spelled : (kind : ℕ) (fields : List ℕ) (x : Change) → AreBytes fields → other_at kind fields ≡ Some x → Spelled kind fields x
+other_spelled kind fields x are is = elim (chosen (eqb kind 0) (create_at fields) (cond (eqb kind 1) (append_at fields) (cond (eqb kind 3) (terminate_at fields) (cond (eqb kind 4) (sweep_at fields) None))) x is) [
+  | inl here ↦ subst (λ (k : ℕ). Spelled k fields x) (sym (eqb-true _ _ here.0)) (create_spelled fields x are here.1)
+  | inr a ↦ elim (chosen (eqb kind 1) (append_at fields) (cond (eqb kind 3) (terminate_at fields) (cond (eqb kind 4) (sweep_at fields) None)) x a.1) [
+    | inl here ↦ subst (λ (k : ℕ). Spelled k fields x) (sym (eqb-true _ _ here.0)) (append_spelled fields x are here.1)
+    | inr b ↦ elim (chosen (eqb kind 3) (terminate_at fields) (cond (eqb kind 4) (sweep_at fields) None) x b.1) [
+      | inl here ↦ subst (λ (k : ℕ). Spelled k fields x) (sym (eqb-true _ _ here.0)) (terminate_spelled fields x are here.1)
+      | inr d ↦ elim (chosen (eqb kind 4) (sweep_at fields) None x d.1) [
+        | inl here ↦ subst (λ (k : ℕ). Spelled k fields x) (sym (eqb-true _ _ here.0)) (sweep_spelled fields x here.1)
+        | inr none ↦ absurd (no_change none.1)
+      ]
+    ]
+  ]
+]
+  where
+    no_change : None ≡ some x → ⊥
+    no_change same = cc
+
+change_spelled : (bytes : List ℕ) (x : Change) → AreBytes bytes → change_at bytes ≡ Some x → (bytes ≡ change_bytes x) × FitsChange x
+unfolding change_at
+change_spelled bytes x are is =
+    let a = bind_some (byte_at bytes) (λ kind. cond (eqb kind.0 2) (concat_at kind.1) (other_at kind.0 kind.1)) x is in
+    let t0 = byte_takes bytes a.0 are a.1 in
+    let spelled : Spelled a.0.0 a.0.1 x = elim (chosen (eqb a.0.0 2) (concat_at a.0.1) (other_at a.0.0 a.0.1) x a.2) [
+      | inl here ↦ subst (λ (k : ℕ). Spelled k a.0.1 x) (sym (eqb-true _ _ here.0)) (concat_spelled a.0.1 x t0.rest_are here.1)
+      | inr other ↦ other_spelled a.0.0 a.0.1 x t0.rest_are other.1
+    ] in
+    (t0.parts ∙ spelled.0, spelled.1)
+
+pub record_spelled : RecordsAreSpelledSo
+unfolding record_at moment_at
+record_spelled bytes now change are is =
+    let a = bind_some (moment_at bytes) (λ moment. change_at moment.1 >>= λ found. Some (moment.0, found)) (now, change) is in
+    let b = bind_some (change_at a.0.1) (λ found. Some (a.0.0, found)) (now, change) a.2 in
+    let d = bind_some (number_at bytes) (λ secs. cond (ltb 253402300799 secs.0) None (Some (secs.0, secs.1))) a.0 a.1 in
+    let e = not_none (ltb 253402300799 d.0.0) (Some (d.0.0, d.0.1)) a.0 d.2 in
+    let t0 = number_takes bytes d.0 are d.1 in
+    let within : d.0.0 ≤ 253402300799 = ltb-false _ _ e.0 in
+    let same : (d.0.0, d.0.1) ≡ a.0 = some_is (d.0.0, d.0.1) a.0 e.1 in
+    let rest_is : d.0.1 ≡ a.0.1 = ap (λ (p : ℕ × List ℕ). p.1) same in
+    let moment_is : d.0.0 ≡ a.0.0 = ap (λ (p : ℕ × List ℕ). p.0) same in
+    let t1 = change_spelled a.0.1 b.0 (subst AreBytes rest_is t0.0.rest_are) b.1 in
+    let whole : bytes ≡ number a.0.0 ++ change_bytes b.0 = t0.0.parts ∙ ap (λ (t : List ℕ). number d.0.0 ++ t) (rest_is ∙ t1.0) ∙ ap (λ (n : ℕ). number n ++ change_bytes b.0) moment_is in
+    let found : (a.0.0, b.0) ≡ (now, change) = some_is (a.0.0, b.0) (now, change) b.2 in
+    subst (λ (p : ℕ × Change). (bytes ≡ record_bytes p.0 p.1) × (p.0 ≤ 253402300799) × FitsChange p.1) found (whole, omega (arith, moment_is), t1.1)

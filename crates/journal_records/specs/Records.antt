@@ -1,0 +1,108 @@
+-- A change of the book and its moment, as bytes.
+use Rattle.std.specs.Prelude.{◌≡◌, ℕ, ◌<◌, ◌≤◌, ◌^◌, Bool, true, false, List, [], ◌∷◌, ◌++◌, length, slice_index, Option, Some, None, IfSome, ⊤}
+use Rattle.std.specs.Int.{w64, to_be_bytes}
+use Rattle.std.specs.List.{flat_map, AllByRecursion}
+use Rattle.tus_text.specs.declared.checksum.Checksum.{Checksum}
+use Rattle.tus_text.specs.declared.checksum.Checksum.TheVariants.{Sha1, Other}
+use Rattle.upload_book.specs.Chunk.{Chunk}
+use Rattle.upload_book.specs.FirstChunk.{FirstChunk}
+use Rattle.upload_book.specs.NewFinal.{NewFinal}
+use Rattle.upload_book.specs.NewUpload.{NewUpload}
+use Rattle.upload_book.specs.declared.change.Change.{Change}
+use Rattle.upload_book.specs.declared.change.Change.TheVariants.{Create, Append, Concat, Terminate, Sweep}
+use Rattle.upload_book.specs.declared.head_row.Name.{Name}
+
+-- ---- fields
+
+-- eight bytes, the highest first
+abbrev pub number : ℕ → List ℕ
+number n = to_be_bytes w64 n
+
+abbrev pub flag : Bool → List ℕ
+flag false = 0 ∷ []
+flag true = 1 ∷ []
+
+-- a flag, and the number where there is one
+abbrev pub optional : Option ℕ → List ℕ
+optional None = 0 ∷ []
+optional (Some n) = 1 ∷ number n
+
+-- how many bytes, and these
+abbrev pub text : List ℕ → List ℕ
+text bytes = number (length bytes) ++ bytes
+
+-- none, or SHA-1 with its 20 bytes, or another algorithm
+abbrev pub check : Option Checksum → List ℕ
+check None = 0 ∷ []
+check (Some (Sha1 digest)) = 1 ∷ digest
+check (Some Other) = 2 ∷ []
+
+abbrev pub name_bytes : Name → List ℕ
+name_bytes name = name.tenant ∷ number name.id
+
+-- how many parts, and each
+abbrev pub parts : List (Option ℕ) → List ℕ
+parts ids = number (length ids) ++ flat_map optional ids
+
+-- ---- changes
+
+unfoldable pub upload_bytes : NewUpload → List ℕ
+upload_bytes new = flag new.partial ++ optional new.length ++ text new.metadata ++ text new.concat
+
+unfoldable pub first_bytes : FirstChunk → List ℕ
+first_bytes first = flag first.typed ++ check first.check ++ first.bytes
+
+unfoldable pub chunk_bytes : Chunk → List ℕ
+chunk_bytes chunk = number chunk.offset ++ optional chunk.length ++ flag chunk.typed ++ check chunk.check ++ chunk.bytes
+
+unfoldable pub final_bytes : NewFinal → List ℕ
+final_bytes new = parts new.parts ++ text new.metadata ++ new.concat
+
+-- a byte for which change it is, and its fields
+abbrev pub change_bytes : Change → List ℕ
+change_bytes (Create tenant new first) = 0 ∷ tenant ∷ (upload_bytes new ++ first_bytes first)
+change_bytes (Append name chunk) = 1 ∷ (name_bytes name ++ chunk_bytes chunk)
+change_bytes (Concat tenant new) = 2 ∷ tenant ∷ final_bytes new
+change_bytes (Terminate name) = 3 ∷ name_bytes name
+change_bytes Sweep = 4 ∷ []
+
+-- a change and its moment: the moment first
+abbrev pub record_bytes : ℕ → Change → List ℕ
+record_bytes now change = number now ++ change_bytes change
+
+-- each of them is a byte
+abbrev pub AreBytes : List ℕ → Type 0
+AreBytes bytes = (i : ℕ) → slice_index bytes i < 256
+
+-- ---- what can be written so
+
+abbrev pub IsNumber : ℕ → Type 0
+IsNumber n = n < 2 ^ 64
+
+abbrev pub FitsCheck : Option Checksum → Type 0
+FitsCheck None = ⊤
+FitsCheck (Some (Sha1 digest)) = length digest ≡ 20
+FitsCheck (Some Other) = ⊤
+
+pub record FitsUpload (new : NewUpload) : Type 0 where
+  pub told : IfSome new.length IsNumber
+  pub metadata : IsNumber (length new.metadata)
+  pub concat : IsNumber (length new.concat)
+
+pub record FitsChunk (chunk : Chunk) : Type 0 where
+  pub offset : IsNumber chunk.offset
+  pub told : IfSome chunk.length IsNumber
+  pub check : FitsCheck chunk.check
+
+pub record FitsFinal (new : NewFinal) : Type 0 where
+  pub few : length new.parts ≤ 32
+  pub parts : AllByRecursion (λ id. IfSome id IsNumber) new.parts
+  pub metadata : IsNumber (length new.metadata)
+
+-- its numbers fit their eight bytes, a SHA-1 has 20 bytes, and a concatenation has at most 32 parts
+abbrev pub FitsChange : Change → Type 0
+FitsChange (Create tenant new first) = FitsUpload new × FitsCheck first.check
+FitsChange (Append name chunk) = IsNumber name.id × FitsChunk chunk
+FitsChange (Concat tenant new) = FitsFinal new
+FitsChange (Terminate name) = IsNumber name.id
+FitsChange Sweep = ⊤

@@ -1,0 +1,12 @@
+//! Each change of the book and its moment as a record of bytes, and records read again exactly.
+#![tactic(auto)]
+
+mod fields;
+mod kinds;
+mod laws;
+mod reader;
+mod writer;
+
+pub use laws::{records_are_read_again, records_are_spelled_so};
+pub use reader::{PARTS_MAX, PartIds, Record, read_record};
+pub use writer::with_record;

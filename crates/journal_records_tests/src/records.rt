@@ -1,0 +1,150 @@
+//! One record of each change, as bytes that were written by hand.
+use journal_records::{PartIds, read_record, with_record};
+use std::alloc::Global;
+use std::process::Abort;
+use std::test::Fail;
+use tus_text::Checksum;
+use upload_book::{Change, Chunk, FirstChunk, Moment, Name, NewFinal, NewUpload, Payload};
+
+// The second 258 since 1970.
+const MOMENT: u64 = 258;
+
+fn moment(rt: &impl Abort) -> Moment {
+    let Some(moment) = Moment::new(MOMENT) else {
+        panic!(rt; "no moment");
+    };
+    moment
+}
+
+// The change makes these bytes behind others.
+fn assert_written(
+    rt: &impl Abort,
+    alloc: Global,
+    change: &Change,
+    bytes: &[u8],
+) -> Result<(), Fail> {
+    let out = Vec::from_slice(alloc, b"..")?;
+    let written = with_record(out, moment(rt), change)?;
+    assert!(rt; written.len() == bytes.len() + 2);
+    assert!(rt; written.starts_with(b".."));
+    assert!(rt; written.ends_with(bytes));
+    Ok(())
+}
+
+// What is read of these bytes makes them again.
+fn assert_read(rt: &impl Abort, alloc: Global, bytes: &[u8]) -> Result<(), Fail> {
+    let mut parts = PartIds::new();
+    let Some(record) = read_record(bytes, &mut parts) else {
+        panic!(rt; "no record");
+    };
+    assert!(rt; record.now.secs() == MOMENT);
+    assert_written(rt, alloc, &record.change, bytes)
+}
+
+#[test]
+fn a_creation(rt: HostRuntime) -> Result<(), Fail> {
+    let bytes = [
+        0, 0, 0, 0, 0, 0, 1, 2, // the moment
+        0, // a creation
+        3, // the tenant
+        1, // a part
+        1, 0, 0, 0, 0, 0, 0, 0, 5, // of five bytes
+        0, 0, 0, 0, 0, 0, 0, 1, b'k', // metadata
+        0, 0, 0, 0, 0, 0, 0, 7, b'p', b'a', b'r', b't', b'i', b'a', b'l', // Upload-Concat
+        1, // the content type of a PATCH
+        2, // a checksum by another algorithm
+        b'a', b'b',
+    ];
+    let change = Change::Create {
+        tenant: 3,
+        new: NewUpload {
+            partial: true,
+            length: Some(5),
+            metadata: b"k",
+            concat: b"partial",
+        },
+        first: FirstChunk {
+            typed: true,
+            check: Some(Checksum::Other),
+            bytes: Payload::new(b"ab"),
+        },
+    };
+    assert_written(&rt, rt.alloc(), &change, &bytes)?;
+    assert_read(&rt, rt.alloc(), &bytes)
+}
+
+const DIGEST: [u8; 20] = [
+    10, 11, 12, 13, 14, 15, 16, 17, 18, 19, 20, 21, 22, 23, 24, 25, 26, 27, 28, 29,
+];
+
+#[test]
+fn a_patch(rt: HostRuntime) -> Result<(), Fail> {
+    let bytes = [
+        0, 0, 0, 0, 0, 0, 1, 2, // the moment
+        1, // a PATCH
+        0, 0, 0, 0, 0, 0, 0, 1, 0, // tenant and id
+        0, 0, 0, 0, 0, 0, 0, 9, // the offset
+        0, // no length
+        0, // another content type
+        1, 10, 11, 12, 13, 14, 15, 16, 17, 18, 19, 20, 21, 22, 23, 24, 25, 26, 27, 28, 29, // SHA-1
+        b'x',
+    ];
+    let change = Change::Append {
+        name: Name { tenant: 0, id: 256 },
+        chunk: Chunk {
+            offset: 9,
+            length: None,
+            typed: false,
+            check: Some(Checksum::Sha1(DIGEST)),
+            bytes: Payload::new(b"x"),
+        },
+    };
+    assert_written(&rt, rt.alloc(), &change, &bytes)?;
+    assert_read(&rt, rt.alloc(), &bytes)
+}
+
+#[test]
+fn a_concatenation(rt: HostRuntime) -> Result<(), Fail> {
+    let bytes = [
+        0, 0, 0, 0, 0, 0, 1, 2, // the moment
+        2, // a concatenation
+        15, // the tenant
+        0, 0, 0, 0, 0, 0, 0, 2, // two parts
+        1, 0, 0, 0, 0, 0, 0, 0, 7, // one by its id
+        0, // one of another tenant
+        0, 0, 0, 0, 0, 0, 0, 0, // no metadata
+        b'f', b'i', b'n', b'a', b'l', b';',
+    ];
+    let change = Change::Concat {
+        tenant: 15,
+        new: NewFinal {
+            parts: &[Some(7), None],
+            metadata: b"",
+            concat: b"final;",
+        },
+    };
+    assert_written(&rt, rt.alloc(), &change, &bytes)?;
+    assert_read(&rt, rt.alloc(), &bytes)
+}
+
+#[test]
+fn an_end(rt: HostRuntime) -> Result<(), Fail> {
+    let bytes = [
+        0, 0, 0, 0, 0, 0, 1, 2, // the moment
+        3, // a DELETE
+        255, 255, 255, 255, 255, 255, 255, 255, 255, // tenant and id
+    ];
+    let change = Change::Terminate(Name {
+        tenant: 255,
+        id: u64::MAX,
+    });
+    assert_written(&rt, rt.alloc(), &change, &bytes)?;
+    assert_read(&rt, rt.alloc(), &bytes)
+}
+
+#[test]
+fn a_sweep(rt: HostRuntime) -> Result<(), Fail> {
+    let bytes = [0, 0, 0, 0, 0, 0, 1, 2, 4];
+    assert_written(&rt, rt.alloc(), &Change::Sweep, &bytes)?;
+    assert_read(&rt, rt.alloc(), &bytes)
+}
