@@ -245,6 +245,14 @@ fn fail_read(rt: &impl Abort, what: &str, connection: &mut Connection) {
     }
 }
 
+/// Tells a connection that wants to read that its input ended.
+fn end_input(rt: &impl Abort, what: &str, connection: &mut Connection) {
+    match connection.wants() {
+        Wants::Read => connection.end(),
+        wants => panic!(rt; "{what}: {wants:?} in place of a read"),
+    }
+}
+
 /// A connection that has answered a first POST, and sent the reply.
 fn after_a_post(rt: &impl Abort, alloc: Global, book: &mut Book) -> Connection {
     let mut connection = Connection::new(alloc, 64).expect(rt, "memory");
@@ -335,7 +343,7 @@ fn what_a_connection_holds(rt: HostRuntime) {
     assert_wants(&rt, "a part", &mut connection, Wants::Read);
     assert!(rt; !connection.is_idle(), "a part is held");
     assert_eq!(rt; connection.body_held(), 2, "a part");
-    connection.end();
+    end_input(&rt, "a part", &mut connection);
     answer_next(&rt, "a part", &mut connection, &mut book);
     assert_eq!(rt; connection.ended(), Ok(Some(Ended::Cut)), "end");
     assert_eq!(rt; offset_of(&book), Some(2), "offset");
