@@ -1,4 +1,4 @@
-/* Clients of one kind, each on a connection and a thread of its own. Prints how many requests were answered.
+/* Clients of one kind, each on a connection and a thread of its own, at most 64. Prints how many requests were answered.
  *
  *     load heads   PORT CONNECTIONS SECONDS PATH     HEADs of this path, one after another
  *     load patches PORT CONNECTIONS SECONDS SIZE     PATCHes of so many bytes, sixteen to an upload, which is created before

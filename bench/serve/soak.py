@@ -3,7 +3,7 @@
 
     bench/serve/soak.py PROGRAM [SECONDS]
 
-starts the program with 16 workers and keeps 16 connections busy for so long (600 seconds unless said), each with
+starts the program with 16 workers and keeps 500 connections busy for so long (600 seconds unless said), each with
 uploads of its own. Every reply is compared with what the client expects, and the bytes of each upload that is
 downloaded with those that were sent. At the end the server's last line has to say what the clients counted.
 """
@@ -16,9 +16,11 @@ import threading
 import time
 
 BLOCK = 4096
-CONNECTIONS = 1024
-CLIENTS = 16
-TENANTS = ['acme', 'beta', 'gamma', 'delta']
+CONNECTIONS = 4096
+WORKERS = 16
+CLIENTS = 500
+TENANTS = [f'tenant-{number}' for number in range(16)]
+UPLOADS = 2
 TYPE = 'application/offset+octet-stream'
 
 
@@ -84,7 +86,7 @@ class Client(threading.Thread):
         offset = len(upload['bytes'])
         left = upload['length'] - offset
         body = self.random.randbytes(min(left, self.random.choice([left, self.random.randrange(0, left + 1)])))
-        if body and self.random.random() < 0.05:
+        if body and self.random.random() < 0.02:
             return self.cut(path, offset, body)
         status, headers, _ = self.ask('PATCH', path, {'Upload-Offset': str(offset), 'Content-Type': TYPE}, body)
         self.expect(204, status, 'PATCH')
@@ -140,15 +142,15 @@ class Client(threading.Thread):
         paths = list(self.uploads)
         open_paths = [p for p in paths if len(self.uploads[p]['bytes']) < self.uploads[p]['length']]
         what = self.random.random()
-        if len(paths) > 12 or (paths and what < 0.15):
+        if len(paths) >= UPLOADS and what < 0.4 or (paths and what < 0.15):
             self.delete(self.random.choice(paths))
         elif open_paths and what < 0.6:
             self.send(self.random.choice(open_paths))
         elif paths and what < 0.75:
             self.look(self.random.choice(paths))
-        elif what < 0.85:
+        elif len(paths) < UPLOADS and what < 0.85:
             self.concatenate()
-        else:
+        elif len(paths) < UPLOADS:
             self.create()
 
     def run(self):
@@ -166,8 +168,8 @@ class Client(threading.Thread):
 def main():
     program, seconds = sys.argv[1], int(sys.argv[2]) if len(sys.argv) > 2 else 600
     server = subprocess.Popen(
-        [program, 'serve', '--workers', str(CLIENTS), '--connections', str(CONNECTIONS), '--blocks', '65536',
-         *(f'{tenant}:16384' for tenant in TENANTS)], stdout=subprocess.PIPE, text=True)
+        [program, 'serve', '--workers', str(WORKERS), '--connections', str(CONNECTIONS), '--at-once', str(CLIENTS), '--blocks', '131072',
+         *(f'{tenant}:8192' for tenant in TENANTS)], stdout=subprocess.PIPE, text=True)
     port = int(server.stdout.readline().rsplit(':', 1)[1])
     clients = [Client(number, port, time.monotonic() + seconds) for number in range(CLIENTS)]
     for client in clients:
@@ -175,7 +177,7 @@ def main():
     for client in clients:
         client.join()
     # The workers end after all of their connections.
-    for _ in range(CLIENTS * CONNECTIONS - sum(client.opened for client in clients)):
+    for _ in range(WORKERS * CONNECTIONS - sum(client.opened for client in clients)):
         socket.create_connection(('127.0.0.1', port)).close()
     told = server.stdout.readline().strip()
     charged, released = sum(c.charged for c in clients), sum(c.released for c in clients)

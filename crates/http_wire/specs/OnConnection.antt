@@ -3,6 +3,7 @@ use Rattle.std.specs.Prelude.{◌≡◌, ℕ, Bool, true, false, List, [], ◌�
 use Rattle.std.specs.Prelude.{if◌then◌else◌}
 use Rattle.http_wire.specs.Front.{Front, IsFront}
 use Rattle.http_wire.specs.Incoming.{FramedRequest}
+use Rattle.http_wire.specs.Layout.{framed_at}
 use Rattle.http_wire.specs.ReadOnWire.{ComesIn, IsCut}
 use Rattle.http_wire.specs.declared.connection.Wants.{Wants}
 use Rattle.http_wire.specs.declared.connection.Wants.TheVariants as wants
@@ -143,6 +144,15 @@ body_held a (Waiting (Head s)) = 0
 body_held a (Waiting (Body p)) = length a.held - p.head_len
 body_held a (Owing i) = 0
 body_held a (Over r) = 0
+
+-- the message whose head was read and whose body has not come whole, with what came of it
+abbrev pub under_way : Ahead → Phase FramedRequest → Option FramedRequest
+under_way a (Looking (Head s)) = None
+under_way a (Looking (Body p)) = Some (framed_at a.held p)
+under_way a (Waiting (Head s)) = None
+under_way a (Waiting (Body p)) = Some (framed_at a.held p)
+under_way a (Owing i) = None
+under_way a (Over r) = None
 
 -- something is pending
 abbrev pub one_if_pending : List ℕ → ℕ

@@ -6,7 +6,7 @@ ghost use Rattle.http_wire.specs.ConnectionCalls.{BreaksTo, Puts, Sends, Takes};
 ghost use Rattle.http_wire.specs.Incoming.{map_incoming, is_cut_by_fault};
 ghost use Rattle.http_wire.specs.Layout.{framed_at};
 ghost use Rattle.http_wire.specs.Message.{framed};
-ghost use Rattle.http_wire.specs.OnConnection.{HasNoMessage, IsFresh, IsIdle, OnConnection, Stands, StandsIn, at_start, body_held, ended_in, is_looking, left, left_in, looking_again, owed_in, passed_over, phase_after, turn_end, unless_pending, wanted, wanted_in};
+ghost use Rattle.http_wire.specs.OnConnection.{HasNoMessage, IsFresh, IsIdle, OnConnection, Stands, StandsIn, at_start, body_held, ended_in, is_looking, left, left_in, looking_again, owed_in, passed_over, phase_after, turn_end, under_way, unless_pending, wanted, wanted_in};
 ghost use Rattle.http_wire.specs.Past.{Answering, Follows, HasPast, Past, noted, nothing_yet};
 ghost use Rattle.http_wire.specs.ReadOnWire.{TellsEnd};
 ghost use Rattle.http_wire.specs.ReplyText.{refusal_text, reply_text};
@@ -15,7 +15,7 @@ ghost use Rattle.http_wire.specs.Writes.{Writes};
 ghost use Rattle.http_wire.specs.inside.IncomingLayout.{IsLent};
 ghost use Rattle.http_wire.specs.inside.Phases.{map_phase, IsPhase};
 ghost use Rattle.http_wire.specs.inside.Sending.{empty_outbox};
-ghost use Rattle.http_wire.specs.inside.Standing.{Fits, Standing, Wants as WantsMore};
+ghost use Rattle.http_wire.specs.inside.Standing.{Fits, HasRoom, Standing, Wants as WantsMore};
 ghost use Rattle.http_wire.specs.inside.TurnFinish.{AnswersTurn};
 ghost use Rattle.http_wire.specs.declared.phase.Phase.TheVariants.{Looking, Waiting};
 ghost use Rattle.http_wire.specs.declared.read.stage.Stage.TheVariants.{Head};
@@ -140,6 +140,19 @@ impl Connection {
                 held.saturating_sub(layout.head_len)
             }
             _ => 0,
+        }
+    }
+
+    /// A message whose head was read and whose body has not come whole, as far as `wants` has looked. It is lent with the
+    /// bytes of its body that came so far. None while a head is read, and once a message came in.
+    pub fn under_way(&self) -> Option<Message<'_>>
+        ensures { option_map framed result ≡ under_way self.now.inbox self.now.phase }
+    {
+        match &self.phase {
+            Phase::Looking(Stage::Body(layout)) | Phase::Waiting(Stage::Body(layout)) => Some(
+                lend_held(layout, &self.buffers.inbox),
+            ),
+            _ => None,
         }
     }
 
@@ -475,6 +488,17 @@ fn lend_message<'i>(incoming: &Incoming<Layout>, inbox: &'i Inbox) -> Incoming<M
         Incoming::CutOther => Incoming::CutOther,
         Incoming::Refused(refusal, framing) => Incoming::Refused(*refusal, *framing),
         Incoming::End => Incoming::End,
+    }
+}
+
+// A message whose body is under way, with all that is held of it.
+fn lend_held<'i>(layout: &Layout, inbox: &'i Inbox) -> Message<'i>
+    requires { HasRoom inbox.now layout.now }
+    ensures { framed result ≡ framed_at inbox.now.held layout.now }
+{
+    Message {
+        layout: *layout,
+        text: inbox.held(),
     }
 }
 

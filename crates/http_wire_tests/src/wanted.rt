@@ -320,6 +320,14 @@ fn is_body(connection: &Connection, body: &[u8]) -> bool {
     }
 }
 
+/// Whether a message is under way of whose body this came.
+fn is_under_way(connection: &Connection, body: &[u8]) -> bool {
+    match connection.under_way() {
+        Some(message) => message.request().body == body,
+        None => false,
+    }
+}
+
 /// Why what came in is refused, where it is.
 fn refusal_of(connection: &Connection) -> Option<WireRefusal> {
     match connection.incoming() {
@@ -337,12 +345,14 @@ fn what_a_connection_holds(rt: HostRuntime) {
     assert_wants(&rt, "silent", &mut connection, Wants::Read);
     assert!(rt; connection.is_idle(), "a look changes nothing");
     assert_eq!(rt; connection.room(), 65_536, "room");
+    assert!(rt; connection.under_way().is_none(), "silent");
     let mut connection = Connection::with_buffers(connection.into_buffers(), 64);
     let (part, _) = PATCH.split_at(PATCH.len() - 3);
     take_in(&rt, "a part", &mut connection, part);
     assert_wants(&rt, "a part", &mut connection, Wants::Read);
     assert!(rt; !connection.is_idle(), "a part is held");
     assert_eq!(rt; connection.body_held(), 2, "a part");
+    assert!(rt; is_under_way(&connection, b"he"), "a part");
     end_input(&rt, "a part", &mut connection);
     answer_next(&rt, "a part", &mut connection, &mut book);
     assert_eq!(rt; connection.ended(), Ok(Some(Ended::Cut)), "end");

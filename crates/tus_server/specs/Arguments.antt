@@ -8,6 +8,7 @@ use Rattle.clap.specs.Walk.{texts}
 use Rattle.clap.specs.Words.{Row, Text, all_of, one_of, subcommand_of}
 use Rattle.upload_book.specs.declared.settings.Numbers.{Numbers}
 use Rattle.upload_book.specs.Settings.{is_outside}
+use Rattle.tus_workers.specs.declared.pace.Bounds.{Bounds}
 use Rattle.tus_workers.specs.declared.work_options.WorkOptions.{WorkOptions}
 use Rattle.tus_server.specs.declared.options.CommandOptions.{CommandOptions}
 use Rattle.tus_server.specs.declared.options.CommandOptions.TheVariants.{Talk, Serve}
@@ -79,13 +80,37 @@ moment_set (Some secs) = if nat_lt 253402300799 secs then None else Some (Some s
 abbrev pub connections_given : List Row → ℕ
 connections_given rows = if is_set (codes "forever") rows then 2 ^ 64 - 1 else number_under (codes "connections") rows
 
--- what each worker is asked for
-abbrev pub work_given : List Row → Option WorkOptions
-work_given rows = option_map (λ moment. record {
+-- How many connections a worker holds at once: 8,192 where it is not told and the flag `forever` is set, and else 1. It is told
+-- as a number from 1 to 16,384, and else there are no arguments.
+abbrev pub at_once_set : Bool → Option ℕ → Option ℕ
+at_once_set forever None = Some (if forever then 8192 else 1)
+at_once_set forever (Some n) = if is_outside n 16384 then None else Some n
+
+abbrev pub at_once_given : List Row → Option ℕ
+at_once_given rows = at_once_set (is_set (codes "forever") rows) (number_given (codes "at-once") rows)
+
+-- what a client may take at most
+abbrev pub bounds_given : List Row → Bounds
+bounds_given rows = record {
+  idle = number_under (codes "idle") rows;
+  message_seconds = number_under (codes "message-seconds") rows;
+  least_rate = number_under (codes "least-rate") rows;
+}
+
+-- what each worker is asked for, where the moment can be, and how many connections it holds
+abbrev pub work_with : List Row → Option (Option ℕ) → Option ℕ → Option WorkOptions
+work_with rows None at_once = None
+work_with rows (Some moment) None = None
+work_with rows (Some moment) (Some n) = Some (record {
   moment = moment;
   connections = connections_given rows;
-  idle = number_under (codes "idle") rows;
-}) (moment_set (number_given (codes "moment") rows))
+  at_once = n;
+  bounds = bounds_given rows;
+  body_memory = number_under (codes "body-memory") rows;
+})
+
+abbrev pub work_given : List Row → Option WorkOptions
+work_given rows = work_with rows (moment_set (number_given (codes "moment") rows)) (at_once_given rows)
 
 -- the port that is listened at, where the number is one
 abbrev pub port_given : List Row → Option ℕ

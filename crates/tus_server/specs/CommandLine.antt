@@ -25,13 +25,17 @@ option_rule name default most = option_between name default 0 most
 abbrev pub flag_rule : Text → Rule
 flag_rule name = record (new_rule name) { long = Some name; action = Some SetTrue }
 
--- the option --moment of a server, which has no number where it is not given
-abbrev pub moment_rule : Rule
-moment_rule = record (new_rule (codes "moment")) {
-  long = Some (codes "moment");
+-- an option --NAME that takes one number from `least` to `most`, and has none where it is not given
+abbrev pub number_rule : Text → ℕ → ℕ → Rule
+number_rule name least most = record (new_rule name) {
+  long = Some name;
   value_names = 1;
-  parser = Some (parser.Unsigned 0 253402300799);
+  parser = Some (parser.Unsigned least most);
 }
+
+-- the option --moment of a server
+abbrev pub moment_rule : Rule
+moment_rule = number_rule (codes "moment") 0 253402300799
 
 -- the words that stand for themselves: one or more, each a tenant
 abbrev pub tenant_rule : Rule
@@ -77,11 +81,23 @@ with_service command =
     (flag_rule (codes "forever")))
     (option_between (codes "idle") (codes "60") 0 86400)
 
+-- the options on how many clients are served at once, and what they may take
+abbrev pub with_crowds : App → App
+with_crowds command =
+    with_rule
+    (with_rule
+    (with_rule
+    (with_rule command
+    (number_rule (codes "at-once") 1 16384))
+    (option_between (codes "message-seconds") (codes "0") 0 86400))
+    (option_between (codes "least-rate") (codes "0") 0 1073741824))
+    (option_rule (codes "body-memory") (codes "268435456") no_end)
+
 -- the command `serve`: its options with their defaults, and the tenants
 abbrev pub serve_command : App
 serve_command =
     with_rule
-    (with_sizes (with_rule (with_service (new_app (codes "serve"))) moment_rule))
+    (with_sizes (with_rule (with_crowds (with_service (new_app (codes "serve")))) moment_rule))
     tenant_rule
 
 -- the program without its commands, which does nothing without one

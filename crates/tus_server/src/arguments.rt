@@ -2,12 +2,12 @@
 ghost use Rattle.std.specs.Prelude.{◌≡◌, IfSome, codes, false, option_map};
 ghost use Rattle.clap.specs.Walk.{rows_of};
 ghost use Rattle.clap.specs.Words.{found_of, subcommand_rows_of};
-ghost use Rattle.tus_server.specs.Arguments.{arguments_entered, arguments_of, connections_given, is_set, moment_set, number_given, number_under, numbers_given, port_given, serve, serve_arguments, talk, talk_arguments, work_given, workers_given};
+ghost use Rattle.tus_server.specs.Arguments.{arguments_entered, arguments_of, at_once_given, bounds_given, connections_given, is_set, moment_set, number_given, number_under, numbers_given, port_given, serve, serve_arguments, talk, talk_arguments, work_given, workers_given};
 ghost use Rattle.upload_book.specs.Settings.{is_outside};
 
 use crate::options::{CommandOptions, ServeOptions, TalkOptions};
 use clap::ArgMatches;
-use tus_workers::WorkOptions;
+use tus_workers::{Bounds, WorkOptions};
 use upload_book::{Moment, Numbers};
 
 /// The command that was entered, with its options. None where there is none, its moment is past the year 9999, its
@@ -109,15 +109,43 @@ fn port_of(found: &ArgMatches) -> Option<u16>
     }
 }
 
-/// What each worker is asked for; None where the moment is past the year 9999.
+/// What each worker is asked for; None where the moment is past the year 9999, or a worker is to hold no connection or more
+/// than 16,384.
 fn work_of(found: &ArgMatches) -> Option<WorkOptions>
     ensures { result ≡ work_given (rows_of (found_of found.now)) }
 {
+    let moment = moment_of(found)?;
+    let at_once = at_once_of(found)?;
     Some(WorkOptions {
-        moment: moment_of(found)?,
+        moment,
         connections: connections_of(found),
-        idle: number_of(found, "idle"),
+        at_once,
+        bounds: bounds_of(found),
+        body_memory: number_of(found, "body-memory"),
     })
+}
+
+/// How many connections a worker holds at once; None where the number is not from 1 to 16,384.
+fn at_once_of(found: &ArgMatches) -> Option<usize>
+    ensures { result ≡ at_once_given (rows_of (found_of found.now)) }
+{
+    match number_given(found, "at-once") {
+        Some(number) if number == 0 || number > 16_384 => None,
+        Some(number) => Some(number as usize),
+        None if is_set(found, "forever") => Some(8192),
+        None => Some(1),
+    }
+}
+
+/// What a client may take at most.
+fn bounds_of(found: &ArgMatches) -> Bounds
+    ensures { result ≡ bounds_given (rows_of (found_of found.now)) }
+{
+    Bounds {
+        idle: number_of(found, "idle"),
+        message_seconds: number_of(found, "message-seconds"),
+        least_rate: number_of(found, "least-rate"),
+    }
 }
 
 /// How many connections a worker accepts: without a bound it is the greatest number.

@@ -1,7 +1,7 @@
 //! The command line: its options with their help, and how its words are read.
 ghost use Rattle.std.specs.Prelude.{◌≡◌, IfOk, codes, false, map};
 ghost use Rattle.clap.specs.Words.{FailsBy, app_of, new_app, rule_of, subcommand_of, subcommand_rows_of};
-ghost use Rattle.tus_server.specs.CommandLine.{faults_in, flag_rule, moment_rule, option_between, option_rule, program, program_alone, serve_command, talk_command, tenant_rule, with_service, with_sizes};
+ghost use Rattle.tus_server.specs.CommandLine.{faults_in, flag_rule, moment_rule, option_between, option_rule, program, number_rule, program_alone, serve_command, talk_command, tenant_rule, with_crowds, with_service, with_sizes};
 
 use clap::{Arg, ArgAction, ArgMatches, Command, value_parser};
 use std::alloc::{AllocError, Global};
@@ -31,8 +31,10 @@ All uploads are kept in memory, in blocks that are taken at the start: --blocks 
 Everything ends with the process: its end, or the end of the machine, loses all uploads.
 
 It prints 'listening 127.0.0.1:PORT' before it accepts a connection, and at its end how many blocks were
-charged, released and are held. A worker serves one connection after another; a connection has at most 4096
-messages. Expired uploads are removed whenever a connection is accepted.
+charged, released and are held. With --forever a worker serves many connections side by side, and else one after
+another, unless --at-once says more; a connection has at most 4096 messages. Expired uploads are removed whenever a
+connection is accepted, and while some last once a second. A HEAD, PATCH or DELETE ends an older PATCH to the same
+upload that has not come whole, and what came of that is kept.
 
 Example, which serves the tenant acme until it is stopped:
   tus-server serve --port 8080 --forever acme:4096";
@@ -88,7 +90,8 @@ fn talk_alone<'a>(alloc: Global) -> Command<'a>
 fn serve<'a>(alloc: Global) -> Result<Command<'a>, AllocError>
     ensures { IfOk result (λ c. app_of c ≡ serve_command) }
 {
-    let command = service(alloc, serve_alone(alloc))?.arg(set_moment(alloc))?;
+    let served = service(alloc, serve_alone(alloc))?;
+    let command = crowds(alloc, served)?.arg(set_moment(alloc))?;
     sizes(alloc, command)?.arg(tenants(alloc))
 }
 
@@ -113,6 +116,17 @@ fn service<'a>(alloc: Global, command: Command<'a>) -> Result<Command<'a>, Alloc
         .arg(idle(alloc))
 }
 
+/// The options on how many clients are served at once, and what they may take.
+fn crowds<'a>(alloc: Global, command: Command<'a>) -> Result<Command<'a>, AllocError>
+    ensures { IfOk result (λ c. app_of c ≡ with_crowds (app_of command.entry)) }
+{
+    command
+        .arg(at_once(alloc))?
+        .arg(message_seconds(alloc))?
+        .arg(least_rate(alloc))?
+        .arg(body_memory(alloc))
+}
+
 /// The option that names the port.
 fn port<'a>(alloc: Global) -> Arg<'a>
     ensures rule { rule_of result ≡ option_between (codes "port") (codes "0") 0 65535 }
@@ -130,7 +144,7 @@ fn workers<'a>(alloc: Global) -> Arg<'a>
 {
     number(alloc, "workers", "N", "2")
         .value_parser(value_parser!(u64).range(1..17))
-        .help("How many connections are served at once, 1 to 16")
+        .help("How many workers there are, each in a thread of its own, 1 to 16")
 }
 
 /// The option for how many connections a worker accepts.
@@ -164,6 +178,54 @@ fn idle<'a>(alloc: Global) -> Arg<'a>
         .help(
             "End a connection that neither sends nor takes a byte for so long, 0 to 86400; 0 is never",
         )
+}
+
+/// The option for how many connections a worker holds.
+fn at_once<'a>(alloc: Global) -> Arg<'a>
+    ensures rule { rule_of result ≡ number_rule (codes "at-once") 1 16384 }
+    ensures local { result.global ≡ false }
+{
+    Arg::new(alloc, "at-once")
+        .long("at-once")
+        .value_name("N")
+        .value_parser(value_parser!(u64).range(1..16_385))
+        .help(
+            "How many connections each worker holds at once, 1 to 16384; with --forever 8192 unless set, else 1",
+        )
+}
+
+/// The option for how long a message may take.
+fn message_seconds<'a>(alloc: Global) -> Arg<'a>
+    ensures rule { rule_of result ≡ option_between (codes "message-seconds") (codes "0") 0 86400 }
+    ensures local { result.global ≡ false }
+{
+    number(alloc, "message-seconds", "SECONDS", "0")
+        .value_parser(value_parser!(u64).range(..=86_400))
+        .help(
+            "End a connection whose message, head and body, takes so long, 0 to 86400; 0 is never",
+        )
+}
+
+/// The option for how fast a client has to be.
+fn least_rate<'a>(alloc: Global) -> Arg<'a>
+    ensures rule { rule_of result ≡ option_between (codes "least-rate") (codes "0") 0 1073741824 }
+    ensures local { result.global ≡ false }
+{
+    number(alloc, "least-rate", "BYTES", "0")
+        .value_parser(value_parser!(u64).range(..=1_073_741_824))
+        .help(
+            "End a connection that sends a body or takes a reply by fewer bytes a second, over ten seconds; 0 is never",
+        )
+}
+
+/// The option for how much memory bodies may take.
+fn body_memory<'a>(alloc: Global) -> Arg<'a>
+    ensures rule { rule_of result ≡ option_rule (codes "body-memory") (codes "268435456") 18446744073709551615 }
+    ensures local { result.global ≡ false }
+{
+    number(alloc, "body-memory", "BYTES", "268435456").help(
+        "How many bytes of bodies that are under way are held; above that the greatest is cut off, and kept",
+    )
 }
 
 /// The option that sets the clock of a server, which otherwise is the machine's.

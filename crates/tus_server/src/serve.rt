@@ -22,7 +22,7 @@ use std::sync::ledger::{Blank, Ledger};
 use std::thread::Threads;
 use std::time;
 use tus_shared::{Charges, Desk, Opened, Shared, settle};
-use tus_workers::{Listener, any_failed, dismiss, hire, work_all};
+use tus_workers::{Commons, Listener, any_failed, dismiss, hire, within_descriptors, work_all};
 use upload_book::Settings;
 
 /// Serves connections on sockets of this machine, over a new book with the settings of the options. It prints where it
@@ -115,12 +115,15 @@ where
         made,
         events,
     )?;
+    let work = within_descriptors(rt, options.work, options.workers);
+    let mut commons = Commons::new(alloc, options.workers, &work)?;
+    commons.watch(rt)?;
     let room = Vec::with_capacity(alloc, desks.len())?;
     let room_after = Vec::with_capacity(alloc, desks.len())?;
     let listener = L::listen(rt, options.port)?;
     let mut workers = hire(&listener, desks, room)?;
     put_listening(output, listener.port())?;
-    work_all(rt, alloc, &shared, workers.as_mut_slice(), options.work);
+    work_all(rt, alloc, &shared, workers.as_mut_slice(), work, &commons);
     let failed = any_failed(workers.as_slice());
     put_settled(output, shared, dismiss(workers, room_after))?;
     if failed {

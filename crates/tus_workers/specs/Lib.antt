@@ -1,2 +1,8 @@
+-- How fast a client goes, and for what it is cut off.
+pub mod Pace
 -- What a worker serves.
 pub mod Serving
+-- What a turn of a connection does.
+pub mod Turn
+-- What only proofs need.
+pub mod inside

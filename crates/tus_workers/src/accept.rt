@@ -1,14 +1,16 @@
-ghost use Rattle.std.specs.Prelude.{◌≡◌, ℕ, ◌+◌, ◌^◌, ◌-◌, ◌<◌, Bool, false, IfOk, OnErr, OnOk, is_err};
+ghost use Rattle.std.specs.Prelude.{◌≡◌, ℕ, ◌+◌, ◌^◌, ◌-◌, ◌<◌, Bool, false, true, IfOk, OnErr, OnOk, is_err, is_some, if◌then◌else◌};
 
+use mio::{Registry, Token, net as ready};
 use std::io;
 use std::net::{Net, TcpListener, TcpStream};
 
-/// What one worker accepts its connections from, one after another. It remembers whether an accept failed.
+/// What one worker accepts its connections from: one after another, each of which it waits for, or, after
+/// [`Accept::listen_with`], as they come. It remembers whether an accept failed for good.
 pub trait Accept {
     // How many connections it gave.
     ghost accepted: { Self → ℕ };
 
-    // Some accept failed.
+    // Some accept failed for good.
     ghost has_failed: { Self → Bool };
 
     /// Waits for the next connection. An error gives none, and `failed` is true from then on. After an error nothing
@@ -20,9 +22,32 @@ pub trait Accept {
         ensures given { OnOk result (accepted self.new ≡ accepted self.old + 1) }
         ensures refused { OnErr result (accepted self.new ≡ accepted self.old) };
 
-    /// Whether an accept failed.
+    /// Whether an accept failed for good.
     fn failed(&self) -> bool
         ensures { result ≡ has_failed self.now };
+
+    /// Has the registry tell, under this token, of connections that wait. The error is the system's.
+    fn listen_with(&mut self, registry: &Registry, token: Token) -> io::Result<()>
+        ensures failed { has_failed self.new ≡ has_failed self.old }
+        ensures given { accepted self.new ≡ accepted self.old };
+
+    /// Has it told of once more, if a connection waits by now. The error is the system's.
+    fn listen_again(&mut self, registry: &Registry, token: Token) -> io::Result<()>
+        ensures failed { has_failed self.new ≡ has_failed self.old }
+        ensures given { accepted self.new ≡ accepted self.old };
+
+    /// The next connection, if one waits. An error gives none, and may pass.
+    fn accept_waiting(&mut self) -> io::Result<Option<ready::TcpStream>>
+        requires room { accepted self.old < 2 ^ 64 - 1 }
+        ensures failed { has_failed self.new ≡ has_failed self.old }
+        ensures given { IfOk result (λ came. accepted self.new
+            ≡ accepted self.old + (if is_some came then 1 else 0)) }
+        ensures refused { OnErr result (accepted self.new ≡ accepted self.old) };
+
+    /// Accepts nothing more, as after an accept that failed.
+    fn give_up(&mut self)
+        ensures failed { has_failed self.new ≡ true }
+        ensures given { accepted self.new ≡ accepted self.old };
 }
 
 /// Where a server listens. Each worker has an acceptor of it.

@@ -21,7 +21,7 @@ pub struct AtDesk<'a, C: Charges, R: Ledger, M: Ledger, W: Wait, B: Wait + Drop,
     // How many requests were answered.
     turn: usize,
     // The last moment at which it asked whether uploads have expired.
-    asked: Option<Moment>,
+    pub(crate) asked: Option<Moment>,
 }
 
 impl<'a, C: Charges, R: Ledger, M: Ledger, W: Wait, B: Wait + Drop, G: Gate> AtDesk<
@@ -48,7 +48,7 @@ impl<'a, C: Charges, R: Ledger, M: Ledger, W: Wait, B: Wait + Drop, G: Gate> AtD
     }
 
     // Ends the uploads that have expired at this moment, unless it was asked for that before.
-    fn sweep_once(&mut self, now: Moment)
+    pub(crate) fn sweep_once(&mut self, now: Moment)
         ensures { SweepsExpired C.settings now self.old.desk self.new.desk ⊎ (self.new.desk ≡ self.old.desk) }
     {
         if self.asked == Some(now) {

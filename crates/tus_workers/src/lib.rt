@@ -1,21 +1,38 @@
-//! The workers of a server: each answers the connections that it accepts at a desk of its own, one after another.
+//! The workers of a server: each answers the connections that it accepts at a desk of its own,
+//! one after another or many side by side.
 #![tactic(auto)]
 
 mod accept;
 mod at_desk;
+mod at_once;
+mod attended;
+mod bodies;
+mod client;
+mod commons;
+mod crowd;
+mod descriptors;
+mod door;
 mod loopback;
 mod machine_clock;
+mod pace;
+mod precedence;
 mod stream;
 mod sweeping;
+mod turn;
 mod work_options;
 mod worker;
 mod workers;
 mod yielding;
 
 pub use accept::{Accept, Listener};
+pub use attended::Attended;
+pub use commons::Commons;
+pub use descriptors::within_descriptors;
 pub use loopback::{Loopback, LoopbackAcceptor};
 pub use machine_clock::MachineClock;
+pub use pace::{Bounds, Busy, Late, Pace, Window};
 pub use stream::{MESSAGES_MAX, ServedStream, serve_stream};
+pub use turn::{AsTheyCome, Outcome, Precedence, Share, Streams, Turned, take_turn};
 pub use work_options::WorkOptions;
 pub use worker::{Worker, any_failed, dismiss, hire};
 pub use workers::work_all;

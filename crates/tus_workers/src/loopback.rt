@@ -1,8 +1,13 @@
-ghost use Rattle.std.specs.Prelude.{◌≡◌};
+ghost use Rattle.std.specs.Prelude.{◌≡◌, ℕ, ◌+◌, IfOk, OnErr, is_some, if◌then◌else◌};
 
 use crate::accept::{Accept, Listener};
+use mio::{Interest, Registry, Token, net as ready};
 use std::io;
+use std::io::ErrorKind;
 use std::net::{Net, TcpListener, TcpStream};
+
+/// How many clients that are gone before they were accepted are passed over in one accept.
+const GONE_MAX: u32 = 1_000_000;
 
 /// A listener for clients on this machine, at 127.0.0.1.
 #[derive(Drop)]
@@ -16,6 +21,8 @@ pub struct Loopback {
 #[derive(Drop)]
 pub struct LoopbackAcceptor {
     listener: TcpListener,
+    // The same where it is told of, and waits for nobody.
+    watched: Option<ready::TcpListener>,
     accepted: u64,
     failed: bool,
 }
@@ -47,6 +54,7 @@ impl Listener for Loopback {
     fn acceptor(&self) -> io::Result<LoopbackAcceptor> {
         Ok(LoopbackAcceptor {
             listener: self.listener.try_clone()?,
+            watched: None,
             accepted: 0,
             failed: false,
         })
@@ -59,8 +67,8 @@ impl Accept for LoopbackAcceptor {
     ghost has_failed = { λ a. a.failed };
 
     fn accept(&mut self) -> io::Result<TcpStream> {
-        match self.listener.accept() {
-            Ok((stream, _)) => {
+        match next_client(&self.listener) {
+            Ok(stream) => {
                 self.accepted += 1;
                 Ok(stream)
             }
@@ -73,5 +81,57 @@ impl Accept for LoopbackAcceptor {
 
     fn failed(&self) -> bool {
         self.failed
+    }
+
+    fn listen_with(&mut self, registry: &Registry, token: Token) -> io::Result<()> {
+        let listener = self.listener.try_clone()?;
+        listener.set_nonblocking(true)?;
+        let mut watched = ready::TcpListener::from_std(listener);
+        registry.register(&mut watched, token, Interest::READABLE)?;
+        self.watched = Some(watched);
+        Ok(())
+    }
+
+    fn listen_again(&mut self, registry: &Registry, token: Token) -> io::Result<()> {
+        match &mut self.watched {
+            Some(watched) => registry.reregister(watched, token, Interest::READABLE),
+            None => Ok(()),
+        }
+    }
+
+    fn accept_waiting(&mut self) -> io::Result<Option<ready::TcpStream>> {
+        let came = client_waiting(&self.watched)?;
+        if came.is_some() {
+            self.accepted += 1;
+        }
+        Ok(came)
+    }
+
+    fn give_up(&mut self) {
+        self.failed = true;
+    }
+}
+
+// Waits for the next client that is still there.
+fn next_client(listener: &TcpListener) -> io::Result<TcpStream> {
+    for _ in 0..GONE_MAX {
+        match listener.accept() {
+            Ok((stream, _)) => return Ok(stream),
+            Err(error) if error.kind() == ErrorKind::ConnectionAborted => {}
+            Err(error) => return Err(error),
+        }
+    }
+    Err(io::Error::from(ErrorKind::ConnectionAborted))
+}
+
+// The next client at a listener that waits for nobody, if one is there.
+fn client_waiting(listener: &Option<ready::TcpListener>) -> io::Result<Option<ready::TcpStream>> {
+    let Some(listener) = listener else {
+        return Ok(None);
+    };
+    match listener.accept() {
+        Ok((stream, _)) => Ok(Some(stream)),
+        Err(error) if error.kind() == ErrorKind::WouldBlock => Ok(None),
+        Err(error) => Err(error),
     }
 }

@@ -1,3 +1,4 @@
+use crate::pace::Bounds;
 use upload_book::Moment;
 
 /// What each worker was asked for.
@@ -7,6 +8,21 @@ pub struct WorkOptions {
     pub moment: Option<Moment>,
     /// How many connections it accepts.
     pub connections: u64,
-    /// After how many seconds without a byte a connection is cut; 0 is never.
-    pub idle: u64,
+    /// How many of them it holds at once, 1 or more.
+    pub at_once: usize,
+    /// What a client may take at most.
+    pub bounds: Bounds,
+    /// How many bytes all workers together may hold of bodies that are half read, and of replies that are half sent.
+    pub body_memory: u64,
+}
+
+impl WorkOptions {
+    /// Whether a worker waits for each of its clients in turn: it holds one at a time, and no bound needs a look at the clock
+    /// while it waits. Sixteen such workers can't hold more than 268,435,456 bytes of bodies.
+    pub(crate) fn waits_for_each(&self) -> bool {
+        self.at_once <= 1
+            && self.bounds.message_seconds == 0
+            && self.bounds.least_rate == 0
+            && self.body_memory >= 268_435_456
+    }
 }

@@ -1,7 +1,8 @@
-//! The workers of a server: each has a desk, and serves one connection after another.
+//! The workers of a server: each has a desk, and serves one connection after another, or many side by side.
 ghost use Rattle.std.specs.Prelude.{◌≡◌, ◌≤◌, false, All, IfSome};
 
 use crate::accept::Accept;
+use crate::commons::Commons;
 use crate::machine_clock::MachineClock;
 use crate::stream::{ServedStream, serve_stream};
 use crate::sweeping::sweep_expired;
@@ -14,7 +15,7 @@ use std::alloc::Global;
 use std::io::{Eprint, Read};
 use std::net::{Shutdown, TcpStream};
 use std::sync::Wait;
-use std::sync::atomic::{AtomicU64, Ordering};
+use std::sync::atomic::Ordering;
 use std::sync::ledger::Ledger;
 use std::thread::{Threads, for_each_mut};
 use std::time;
@@ -22,7 +23,7 @@ use std::time::{Duration, Instant};
 use tus_shared::{Charges, Desk, NoGate, Shared};
 
 /// The most bytes of buffers that are kept for the next connection.
-const ROOM_KEPT: usize = 2_097_152;
+pub(crate) const ROOM_KEPT: usize = 2_097_152;
 
 /// For how many seconds the rest of a refused input is read, and for how long its next byte is waited for.
 const LINGER_SECONDS: u64 = 5;
@@ -32,7 +33,11 @@ const REST_SIZE: usize = 16_384;
 
 const REST_READS: usize = 4096;
 
-/// Lets each of the workers work, as [`Workers::work`] says, in a thread of its own where one can be had.
+/// Lets each of the workers work, in a thread of its own where one can be had: it accepts as many connections as the options
+/// say. Where it holds one at a time and has no bound but the idle one, it waits for each in turn; else it serves those that
+/// are there side by side. After each accept it ends the uploads that have expired, where there may be some.
+/// A fault of a connection ends that connection alone. Where a worker that waits fails to accept, or one of many clients has no
+/// memory for them, it ends, and says so on standard error.
 pub fn work_all<
     A: Accept + Send,
     C: Charges + Send + Sync,
@@ -46,6 +51,7 @@ pub fn work_all<
     shared: &Shared<C, R, M, B>,
     workers: &mut [Worker<C, R, M, A>],
     options: WorkOptions,
+    commons: &Commons,
 )
     requires alive { All (λ w. A.has_failed w.acceptor ≡ false) workers.old }
     requires new { All (λ w. A.accepted w.acceptor ≡ 0) workers.old }
@@ -53,24 +59,29 @@ pub fn work_all<
     ensures most { All (λ w. A.accepted w.acceptor ≤ options.connections) workers.new }
 {
     let threads = workers.len().max(1);
-    let common = Workers::new(rt, alloc, shared, options);
+    let common = Workers {
+        rt,
+        alloc,
+        shared,
+        options,
+        commons,
+    };
     for_each_mut(
         rt,
         workers,
         threads,
-        &|_, worker: &mut Worker<C, R, M, A>| { common.work(worker) },
+        &|number, worker: &mut Worker<C, R, M, A>| { common.work(number, worker) },
     );
 }
 
 /// What the workers of a server share.
 #[derive(Drop)]
-pub struct Workers<'a, C: Charges, R: Ledger, M: Ledger, H, B: Wait + Drop> {
-    rt: &'a H,
-    alloc: Global,
-    shared: &'a Shared<C, R, M, B>,
-    options: WorkOptions,
-    // How many connections are open.
-    open: AtomicU64,
+pub(crate) struct Workers<'a, C: Charges, R: Ledger, M: Ledger, H, B: Wait + Drop> {
+    pub(crate) rt: &'a H,
+    pub(crate) alloc: Global,
+    pub(crate) shared: &'a Shared<C, R, M, B>,
+    pub(crate) options: WorkOptions,
+    pub(crate) commons: &'a Commons,
 }
 
 impl<'a, C: Charges, R: Ledger, M: Ledger, H: Wait + Eprint + time::Clock, B: Wait + Drop> Workers<
@@ -81,29 +92,24 @@ impl<'a, C: Charges, R: Ledger, M: Ledger, H: Wait + Eprint + time::Clock, B: Wa
     H,
     B,
 > {
-    /// Workers that have accepted nothing.
-    pub fn new(
-        rt: &'a H,
-        alloc: Global,
-        shared: &'a Shared<C, R, M, B>,
-        options: WorkOptions,
-    ) -> Self
-        ensures { result.options ≡ options }
+    /// Accepts as many connections as the options say, and serves them, as [`work_all`] says.
+    pub(crate) fn work<A: Accept>(&self, number: usize, worker: &mut Worker<C, R, M, A>)
+        requires alive { A.has_failed worker.old.acceptor ≡ false }
+        requires new { A.accepted worker.old.acceptor ≡ 0 }
+        ensures all { A.has_failed worker.new.acceptor ≡ false
+            → A.accepted worker.new.acceptor ≡ self.now.options.connections }
+        ensures most { A.accepted worker.new.acceptor ≤ self.now.options.connections }
     {
-        Workers {
-            rt,
-            alloc,
-            shared,
-            options,
-            open: AtomicU64::new(0),
+        self.commons.begin();
+        if self.options.waits_for_each() {
+            self.work_in_turn(worker);
+        } else {
+            self.work_at_once(number, worker);
         }
     }
 
-    /// Accepts as many connections as the options say, and serves one after another. After each accept it ends the uploads
-    /// that have expired, where there may be some.
-    /// A fault of a connection ends that connection alone; where an accept fails, the worker ends, and says so on
-    /// standard error.
-    pub fn work<A: Accept>(&self, worker: &mut Worker<C, R, M, A>)
+    // Accepts one connection after another, and serves it.
+    fn work_in_turn<A: Accept>(&self, worker: &mut Worker<C, R, M, A>)
         requires alive { A.has_failed worker.old.acceptor ≡ false }
         requires new { A.accepted worker.old.acceptor ≡ 0 }
         ensures all { A.has_failed worker.new.acceptor ≡ false
@@ -145,8 +151,8 @@ impl<'a, C: Charges, R: Ledger, M: Ledger, H: Wait + Eprint + time::Clock, B: Wa
             },
         };
         self.prepare(stream);
-        self.open.fetch_add(1, Ordering::Relaxed);
-        let connection = YieldingStream::new(stream, &self.open);
+        self.commons.open.fetch_add(1, Ordering::Relaxed);
+        let connection = YieldingStream::new(stream, &self.commons.open);
         let reader = Tapped::new(&connection);
         let writer = Tapped::new(&connection);
         let ServedStream {
@@ -165,7 +171,7 @@ impl<'a, C: Charges, R: Ledger, M: Ledger, H: Wait + Eprint + time::Clock, B: Wa
             clock,
             &NoGate,
         );
-        self.open.fetch_sub(1, Ordering::Relaxed);
+        self.commons.open.fetch_sub(1, Ordering::Relaxed);
         if may_be_unread(&ended, &buffers) {
             self.linger(stream);
         }
@@ -179,7 +185,7 @@ impl<'a, C: Charges, R: Ledger, M: Ledger, H: Wait + Eprint + time::Clock, B: Wa
     // Sets up a connection: small replies are sent at once, and a client that is silent for too long is cut off.
     // A connection that refuses this is served all the same.
     fn prepare(&self, stream: &TcpStream) {
-        let idle = match self.options.idle {
+        let idle = match self.options.bounds.idle {
             0 => None,
             seconds => Some(Duration::from_secs(seconds)),
         };
@@ -214,7 +220,7 @@ impl<'a, C: Charges, R: Ledger, M: Ledger, H: Wait + Eprint + time::Clock, B: Wa
 
 // Whether the client of a connection that ended may have sent what nobody read. It has not where it asked for the close
 // itself and all that came was answered.
-fn may_be_unread(ended: &Result<Ended, WireFault>, buffers: &Buffers) -> bool {
+pub(crate) fn may_be_unread(ended: &Result<Ended, WireFault>, buffers: &Buffers) -> bool {
     match ended {
         Ok(Ended::Closed) => buffers.has_rest(),
         Ok(Ended::Moments) => true,

@@ -2,7 +2,7 @@
 
 use std::cell::Cell;
 use std::io;
-use std::io::{Read, Write};
+use std::io::{ErrorKind, Read, Write};
 use std::net::TcpStream;
 use std::sync::atomic::{AtomicU64, Ordering};
 use std::thread::yield_now;
@@ -10,8 +10,12 @@ use std::thread::yield_now;
 /// How many connections may be open before their workers let others run first.
 const CROWD: u64 = 3;
 
-/// The stream of a connection. Where many connections are open, it lets other threads run before the first byte of each
-/// message: when its turn comes back, the message is often there, and the thread need not sleep.
+/// How often a call is made again that a signal interrupted.
+const SIGNALS_MAX: u32 = 1_000_000;
+
+/// The stream of a connection. A call that a signal interrupted is made again. Where many connections are open, it lets other
+/// threads run before the first byte of each message: when its turn comes back, the message is often there, and the thread
+/// need not sleep.
 #[derive(Drop)]
 pub struct YieldingStream<'s, 'o> {
     stream: &'s TcpStream,
@@ -39,7 +43,13 @@ impl Read for &YieldingStream<'_, '_> {
             yield_now();
         }
         let mut stream = self.stream;
-        stream.read(buf)
+        for _ in 0..SIGNALS_MAX {
+            match stream.read(buf) {
+                Err(error) if error.kind() == ErrorKind::Interrupted => {}
+                other => return other,
+            }
+        }
+        Err(io::Error::from(ErrorKind::Interrupted))
     }
 }
 
@@ -47,7 +57,13 @@ impl Write for &YieldingStream<'_, '_> {
     fn write(&mut self, buf: &[u8]) -> io::Result<usize> {
         self.between.set(true);
         let mut stream = self.stream;
-        stream.write(buf)
+        for _ in 0..SIGNALS_MAX {
+            match stream.write(buf) {
+                Err(error) if error.kind() == ErrorKind::Interrupted => {}
+                other => return other,
+            }
+        }
+        Err(io::Error::from(ErrorKind::Interrupted))
     }
 
     fn flush(&mut self) -> io::Result<()> {

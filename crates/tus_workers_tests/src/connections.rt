@@ -19,7 +19,9 @@ use std::thread::Threads;
 use std::time::Duration;
 use std::{io, time};
 use tus_shared::{Charges, Opened, Shared, settle};
-use tus_workers::{Listener, Loopback, WorkOptions, any_failed, dismiss, hire, work_all};
+use tus_workers::{
+    Bounds, Commons, Listener, Loopback, WorkOptions, any_failed, dismiss, hire, work_all,
+};
 use upload_book::{Book, Name, Settings};
 
 // A client at this port that has sent these messages, and says that nothing follows.
@@ -102,9 +104,24 @@ where
     let options = WorkOptions {
         moment: Some(moment(rt)),
         connections,
-        idle: 30,
+        at_once: 1,
+        bounds: Bounds {
+            idle: 30,
+            message_seconds: 0,
+            least_rate: 0,
+        },
+        body_memory: 268_435_456,
     };
-    work_all(rt, alloc, &shared, workers.as_mut_slice(), options);
+    let mut commons = Commons::new(alloc, 2, &options)?;
+    commons.watch(rt)?;
+    work_all(
+        rt,
+        alloc,
+        &shared,
+        workers.as_mut_slice(),
+        options,
+        &commons,
+    );
     assert!(rt; any_failed(workers.as_slice()) == fails);
     assert_replies(rt, alloc, &acme, &[CREATED, PATCHED]);
     assert_replies(rt, alloc, &beta, &[BETA_CREATED, BETA_PATCHED]);

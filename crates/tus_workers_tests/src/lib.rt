@@ -4,9 +4,15 @@
 #![tactic(auto)]
 
 #[cfg(test)]
+mod at_once;
+#[cfg(test)]
+mod attended;
+#[cfg(test)]
 mod connections;
 #[cfg(test)]
 mod opening;
+#[cfg(test)]
+mod paces;
 #[cfg(test)]
 mod script;
 #[cfg(test)]

@@ -2,12 +2,13 @@
 
 ghost use Rattle.std.specs.Prelude.{◌≡◌};
 
+use mio::{Registry, Token, net as ready};
 use std::io;
 use std::io::ErrorKind;
 use std::net::{Net, TcpListener, TcpStream};
 use tus_workers::{Accept, Listener};
 
-/// A listener of which each acceptor gives one connection and then fails.
+/// A listener of which each acceptor gives one connection and then fails. None is told of connections.
 #[derive(Drop)]
 pub struct Script {
     listener: TcpListener,
@@ -79,5 +80,21 @@ impl Accept for ScriptedAcceptor {
 
     fn failed(&self) -> bool {
         self.failed
+    }
+
+    fn listen_with(&mut self, _registry: &Registry, _token: Token) -> io::Result<()> {
+        Err(io::Error::from(ErrorKind::Other))
+    }
+
+    fn listen_again(&mut self, _registry: &Registry, _token: Token) -> io::Result<()> {
+        Err(io::Error::from(ErrorKind::Other))
+    }
+
+    fn accept_waiting(&mut self) -> io::Result<Option<ready::TcpStream>> {
+        Err(io::Error::from(ErrorKind::Other))
+    }
+
+    fn give_up(&mut self) {
+        self.failed = true;
     }
 }

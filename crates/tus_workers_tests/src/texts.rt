@@ -51,3 +51,7 @@ Upload-Expires: Thu, 01 Jan 1970 01:16:40 GMT\r\nContent-Length: 0\r\n\r\n";
 /// The upload is complete, so it no longer expires.
 pub const BETA_PATCHED: &[u8] = b"HTTP/1.1 204 No Content\r\n\
 Date: Thu, 01 Jan 1970 00:16:40 GMT\r\nTus-Resumable: 1.0.0\r\nUpload-Offset: 4\r\n\r\n";
+
+/// What a HEAD gets of an upload that there is not.
+pub const MISSED: &[u8] = b"HTTP/1.1 404 Not Found\r\nDate: Thu, 01 Jan 1970 00:16:40 GMT\r\n\
+Tus-Resumable: 1.0.0\r\nCache-Control: no-store\r\n\r\n";

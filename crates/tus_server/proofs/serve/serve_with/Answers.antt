@@ -1,7 +1,8 @@
-use Rattle.std.proofs.Common.{◌≡◌, ◌∙◌, ap, arith, inl, inr, length, sym}
+use Rattle.std.proofs.Common.{◌≡◌, ◌∙◌, ℕ, All, false, ap, arith, inl, inr, length, subst, sym}
 use Rattle.std.proofs.lemmas.List.{length-map, with_items_is}
 use Rattle.std.specs.Io.KnownBytes.{Appends}
 use Rattle.std.specs.Vec.{with_items}
+use Rattle.tus_workers.specs.declared.work_options.WorkOptions.{WorkOptions}
 use Rattle.tus_server.specs.Arguments.{serve_arguments_of}
 use Rattle.tus_server.specs.Lines.{listening_text}
 use Rattle.tus_server.specs.Sockets.{sockets}
@@ -80,5 +81,7 @@ returns-clause-all g c =
     let at_acceptors : length c.as_slice.result.now ≡ c.args.options.now.workers = omega (arith, c.as_slice.ensures.len, after.ok.0, c.in_ok-workers.ensures.count, c.in_ok-shared.desks.ok.0, opened) in
     let given : length c.work_all.new.workers ≡ c.in_ok-workers.workers.len = omega (arith, c.as_mut_slice.ensures.len) in
     let seen_after : c.as_slice.result.now ≡ c.work_all.new.workers = c.as_slice.ensures.value ∙ with_items_is c.in_ok-workers.workers c.work_all.new.workers given in
-    ServesEach-whole seen arguments g.C.Charges.settings output (λ w. w.acceptor) c.as_slice.result.now (sym c.if-failed.ensures) (rw seen_after c.work_all.ensures.all)
+    let accepts : ℕ → Type 0 = λ n. All (λ w. g.L.Acceptor.Accept.has_failed w.acceptor ≡ false → g.L.Acceptor.Accept.accepted w.acceptor ≡ n) c.work_all.new.workers in
+    let each = subst accepts (ap (λ (o : WorkOptions). o.connections) c.within_descriptors-work.ensures.other) c.work_all.ensures.all in
+    ServesEach-whole seen arguments g.C.Charges.settings output (λ w. w.acceptor) c.as_slice.result.now (sym c.if-failed.ensures) (rw seen_after each)
     (PrintsBoth-lines seen arguments g.C.Charges.settings output listener c.dismiss.result.items _ _ settled.0 c.in_ok-listener.ensures settled.1 at_desks (length-map _ _ ∙ at_acceptors) first settled.2.all settled.2.failed)

@@ -1,4 +1,4 @@
-use Rattle.std.proofs.Common.{inr, ap, refl, sym, ◌∙◌}
+use Rattle.std.proofs.Common.{inr, refl}
 use Rattle.tus_workers.proofs.at_desk.AtDeskAnswer.answer.Goals as goal
 use Rattle.tus_workers.proofs.at_desk.AtDeskAnswer.answer.Goals.{then-not-is_head, else-not-is_head}
 

@@ -1,5 +1,5 @@
 use Rattle.std.proofs.Common.{◌≡◌, false}
-use Rattle.tus_workers.proofs.workers.Workers.work.Given as goal
+use Rattle.tus_workers.proofs.workers.Workers.work_in_turn.Given as goal
 
 -- no accept has failed so far, and each round gave a connection
 abbrev pub invariant-loop : goal.invariant-loop

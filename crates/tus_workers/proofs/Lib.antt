@@ -1,0 +1,2 @@
+pub mod AttendedLemmas
+pub mod TurnLemmas

@@ -1,0 +1,56 @@
+-- What a turn of a connection does: whatever has passed on it is carried on.
+use Rattle.std.specs.Prelude.{◌≡◌, ℕ, List, ◌++◌, length, Option, Some, None}
+use Rattle.std.specs.Io.KnownBytes.{Appends, Consumes}
+use Rattle.tus_steps.specs.Request.{Request}
+use Rattle.tus_steps.specs.declared.reply.Reply.{Reply}
+use Rattle.http_wire.specs.Clock.{Tells}
+use Rattle.http_wire.specs.OnConnection.{IsFresh, OnConnection}
+use Rattle.http_wire.specs.Past.{Follows, HasPast, Past}
+
+-- what stands around a connection: what answers on it, the clock, and, where they are known, the bytes that its reader has left
+-- and all that its writer was given
+pub record Around (A K : Type 0) : Type 0 where
+  pub answerer : A
+  pub clock : K
+  pub unread : Option (List ℕ)
+  pub written : Option (List ℕ)
+
+abbrev pub around : {A K : Type 0} → A → K → Option (List ℕ) → Option (List ℕ) → Around A K
+around answerer clock unread written = record { answerer = answerer; clock = clock; unread = unread; written = written }
+
+-- a connection, with what stands around it
+pub record OnTurn (A K : Type 0) : Type 0 where
+  pub connection : OnConnection
+  pub around : Around A K
+
+abbrev pub on_turn : {A K : Type 0} → OnConnection → A → K → Option (List ℕ) → Option (List ℕ) → OnTurn A K
+on_turn connection answerer clock unread written = record { connection = connection; around = around answerer clock unread written }
+
+-- a past, and what passed then
+abbrev pub and_then : Past → Past → Past
+and_then p more = record {
+  taken = p.taken ++ more.taken;
+  handed = p.handed ++ more.handed;
+  moments = p.moments ++ more.moments;
+  answered = p.answered ++ more.answered;
+}
+
+module _ {A K : Type 0} (steps : A → Request → ℕ → Reply → A → Type 0) (tells : K → ℕ → K → Type 0) where
+  -- This passed meanwhile: the bytes came from the reader and went to the writer, the clock told the moments, which are so many,
+  -- and the answers are steps.
+  pub record Passes (count : ℕ) (old new : Around A K) (more : Past) : Type 0 where
+    pub taken : Consumes old.unread new.unread more.taken
+    pub handed : Appends old.written new.written more.handed
+    pub told : Tells tells old.clock more.moments new.clock
+    pub counted : length more.moments ≡ count
+    pub answered : Follows steps old.answerer more.answered new.answerer
+
+  -- Whatever had passed on the connection, it has passed still, and then what passed meanwhile, with so many moments.
+  abbrev pub CarriesOn : ℕ → OnTurn A K → OnTurn A K → Type 0
+  CarriesOn count old new = (p : Past) → HasPast p old.connection → (more : Past) × Passes count old.around new.around more × HasPast (and_then p more) new.connection
+
+-- A past of a client whose bodies have at most so many bytes, and whose connection may be put away while it is silent: then
+-- each new one has that past.
+abbrev pub HasPastWithin : ℕ → Past → Option OnConnection → Type 0
+HasPastWithin max p None = (c : OnConnection) → IsFresh c → c.max_size ≡ max → HasPast p c
+HasPastWithin max p (Some c) = HasPast p c × (c.max_size ≡ max)

@@ -1,0 +1,63 @@
+//! What the workers of a server know of each other.
+
+use crate::bodies::Bodies;
+use crate::work_options::WorkOptions;
+use std::alloc::{AllocError, Global};
+use std::io;
+use std::net::Net;
+use std::sync::atomic::{AtomicBool, AtomicU64, Ordering};
+
+/// The most bodies that stand in the table of all workers.
+const BODIES_MAX: usize = 65_536;
+
+/// What the workers of a server know of each other.
+#[derive(Drop)]
+pub struct Commons {
+    // How many workers there are.
+    pub(crate) workers: u64,
+    // How many connections are open.
+    pub(crate) open: AtomicU64,
+    pub(crate) bodies: Bodies,
+    // Whether each of them waits for its clients in turn.
+    waits_for_each: bool,
+    // How many workers have begun.
+    begun: AtomicU64,
+    // It was told that some have not.
+    has_told: AtomicBool,
+}
+
+impl Commons {
+    /// What so many workers with these options know at first: there are no connections, and no bodies. The error is that there
+    /// is no memory for the table of these.
+    pub fn new(alloc: Global, workers: usize, options: &WorkOptions) -> Result<Self, AllocError> {
+        let places = workers.saturating_mul(options.at_once).min(BODIES_MAX);
+        Ok(Commons {
+            workers: workers as u64,
+            open: AtomicU64::new(0),
+            bodies: Bodies::new(alloc, workers, places, options.body_memory)?,
+            waits_for_each: options.waits_for_each(),
+            begun: AtomicU64::new(0),
+            has_told: AtomicBool::new(false),
+        })
+    }
+
+    /// Makes what tells the workers of events, where they hold many clients. It is to be called before they begin. The error is
+    /// the system's.
+    pub fn watch<N: Net>(&mut self, net: &N) -> io::Result<()> {
+        if self.waits_for_each {
+            return Ok(());
+        }
+        self.bodies.watch(net)
+    }
+
+    /// Notes that a worker has begun.
+    pub(crate) fn begin(&self) {
+        self.begun.fetch_add(1, Ordering::Relaxed);
+    }
+
+    /// Whether some worker has not begun, and this was not asked while it was so.
+    pub(crate) fn lacks_threads(&self) -> bool {
+        self.begun.load(Ordering::Relaxed) < self.workers
+            && !self.has_told.swap(true, Ordering::Relaxed)
+    }
+}

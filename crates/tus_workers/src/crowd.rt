@@ -1,0 +1,275 @@
+//! The clients that one worker holds at once, each by the readiness of its stream.
+
+use crate::attended::Attended;
+use crate::bodies::Bodies;
+use crate::client::{Client, Next};
+use crate::pace::{Bounds, Busy};
+use crate::precedence::{NewestFirst, upload_of};
+use http_wire::{Answer, Buffers, Clock};
+use mio::Registry;
+use mio::net::TcpStream;
+use slab::Slab;
+use std::alloc::{AllocError, Global};
+use std::mem;
+use std::sync::Wait;
+use unfinished_bodies::{Body, Holder, UploadName};
+use upload_book::Settings;
+
+/// The clients of one worker, under keys that are the tokens of their streams.
+#[derive(Drop)]
+pub(crate) struct Crowd<'a, W: Wait> {
+    rt: &'a W,
+    alloc: Global,
+    bodies: &'a Bodies,
+    // Which worker it is.
+    number: usize,
+    bounds: Bounds,
+    settings: Settings,
+    clients: Slab<Client>,
+    free: Vec<Buffers>,
+    // The keys of those that have more to do, of which no event need tell, and a list to put such keys to while these are
+    // taken up.
+    again: Vec<usize>,
+    spare: Vec<usize>,
+    // The keys of those whose message waits for another one to end.
+    waiting: Vec<usize>,
+}
+
+impl<'a, W: Wait> Crowd<'a, W> {
+    /// No clients, at the worker with this number. The error is that there is no memory for so many.
+    pub fn new(
+        rt: &'a W,
+        alloc: Global,
+        bodies: &'a Bodies,
+        number: usize,
+        bounds: Bounds,
+        settings: Settings,
+        most: usize,
+    ) -> Result<Self, AllocError> {
+        Ok(Crowd {
+            rt,
+            alloc,
+            bodies,
+            number,
+            bounds,
+            settings,
+            clients: Slab::with_capacity(alloc, most)?,
+            free: Vec::new(alloc),
+            again: Vec::new(alloc),
+            spare: Vec::new(alloc),
+            waiting: Vec::new(alloc),
+        })
+    }
+
+    /// How many clients there are.
+    pub fn len(&self) -> usize {
+        self.clients.len()
+    }
+
+    /// Whether some client has more to do, of which no event need tell.
+    pub fn has_more(&self) -> bool {
+        !self.again.is_empty()
+    }
+
+    /// Takes in a client at this second, with at most so many messages, whose bodies have at most `max_size` bytes. Its stream
+    /// is told of by its key as the token. One that can't be registered, or has no place, is let go.
+    pub fn admit(
+        &mut self,
+        registry: &Registry,
+        stream: TcpStream,
+        attended: Attended,
+        second: u64,
+    ) {
+        let Ok(key) = self.clients.insert(Client::new(stream, attended, second)) else {
+            return;
+        };
+        let Some(client) = self.clients.get_mut(key) else {
+            return;
+        };
+        if client.register(registry, key).is_err() {
+            let _ = self.clients.try_remove(key);
+        }
+    }
+
+    /// Notes that the input of the client with this key has ended, or its stream failed, if there is one.
+    pub fn close(&mut self, key: usize) {
+        if let Some(client) = self.clients.get_mut(key) {
+            client.close();
+        }
+    }
+
+    /// Takes a turn of the client with this key, of which an event told, at this second; unless its turn comes by a list.
+    pub fn turn_of_event<A: Answer, K: Clock>(
+        &mut self,
+        key: usize,
+        answerer: &mut A,
+        clock: &mut K,
+        second: u64,
+    ) {
+        match self.clients.get(key) {
+            Some(client) if !client.is_listed => self.turn(key, answerer, clock, second),
+            _ => {}
+        }
+    }
+
+    // Takes a turn of the client with this key, if there is one, at this second.
+    fn turn<A: Answer, K: Clock>(
+        &mut self,
+        key: usize,
+        answerer: &mut A,
+        clock: &mut K,
+        second: u64,
+    ) {
+        let Some(client) = self.clients.get_mut(key) else {
+            return;
+        };
+        let holder = Holder {
+            worker: self.number,
+            client: key,
+        };
+        let precedence = NewestFirst {
+            rt: self.rt,
+            bodies: self.bodies,
+            settings: &self.settings,
+            holder,
+            has_waited: client.has_waited(second),
+        };
+        let next = client.turn(
+            self.alloc,
+            &mut self.free,
+            answerer,
+            clock,
+            &precedence,
+            second,
+        );
+        note_body(self.rt, self.bodies, &self.settings, client, holder);
+        let is_listed = client.is_listed;
+        let stays = match next {
+            Next::Waits => true,
+            Next::HasMore => is_listed || self.again.push(key).is_ok(),
+            Next::WaitsForTurn => is_listed || self.waiting.push(key).is_ok(),
+            Next::Ends => false,
+        };
+        if !stays {
+            self.remove(key);
+        } else if next != Next::Waits {
+            self.set_listed(key, true);
+        }
+    }
+
+    // Notes whether the client with this key stands on a list, if there is one.
+    fn set_listed(&mut self, key: usize, is_listed: bool) {
+        if let Some(client) = self.clients.get_mut(key) {
+            client.is_listed = is_listed;
+        }
+    }
+
+    /// Takes one turn of each client that has more to do, at this second.
+    pub fn go_on<A: Answer, K: Clock>(&mut self, answerer: &mut A, clock: &mut K, second: u64) {
+        let spare = mem::replace(&mut self.spare, Vec::new(self.alloc));
+        let mut keys = mem::replace(&mut self.again, spare);
+        for key in keys.iter() {
+            self.set_listed(*key, false);
+            self.turn(*key, answerer, clock, second);
+        }
+        keys.clear();
+        self.spare = keys;
+    }
+
+    /// Cuts off those that other workers, or requests of this one, asked to end, and then takes a turn of each client whose
+    /// message waits for another one to end.
+    pub fn give_way<A: Answer, K: Clock>(&mut self, answerer: &mut A, clock: &mut K, second: u64) {
+        for place in self.bodies.take_asked(self.rt, self.number) {
+            if let Some(key) = self.bodies.client_to_cut(self.rt, self.number, place) {
+                self.cut(key, answerer, clock);
+            }
+        }
+        for key in mem::replace(&mut self.waiting, Vec::new(self.alloc)) {
+            self.set_listed(key, false);
+            self.turn(key, answerer, clock, second);
+        }
+    }
+
+    /// Cuts off those that are too late at this second, each after one more turn: bytes may have come, or may have been taken,
+    /// of which no event told yet. What came of a PATCH that is applied when it is cut is kept.
+    pub fn cut_late<A: Answer, K: Clock>(&mut self, answerer: &mut A, clock: &mut K, second: u64) {
+        for key in 0..self.clients.capacity() {
+            if self.is_late(key, second) {
+                self.turn(key, answerer, clock, second);
+                if self.is_late(key, second) {
+                    self.cut(key, answerer, clock);
+                }
+            }
+            if let Some(client) = self.clients.get_mut(key) {
+                client.renew_pace(second);
+            }
+        }
+    }
+
+    // Whether there is a client with this key that is too late.
+    fn is_late(&self, key: usize, second: u64) -> bool {
+        match self.clients.get(key) {
+            Some(client) => client.is_late(second, self.bounds),
+            None => false,
+        }
+    }
+
+    // Cuts a client off, if there is one with this key.
+    fn cut<A: Answer, K: Clock>(&mut self, key: usize, answerer: &mut A, clock: &mut K) {
+        if let Some(client) = self.clients.get_mut(key) {
+            client.cut(self.alloc, &mut self.free, answerer, clock);
+            self.remove(key);
+        }
+    }
+
+    // Lets a client go.
+    fn remove(&mut self, key: usize) {
+        if let Some(client) = self.clients.try_remove(key)
+            && client.place.is_some()
+        {
+            let _ = self.bodies.note(self.rt, client.place, None);
+        }
+    }
+}
+
+// Tells all workers what this client holds of a body after its turn.
+fn note_body<W: Wait>(
+    rt: &W,
+    bodies: &Bodies,
+    settings: &Settings,
+    client: &mut Client,
+    holder: Holder,
+) {
+    if client.has_gone_on && client.place.is_some() {
+        client.place = bodies.note(rt, client.place, None);
+    }
+    let body = body_of(client, settings, holder);
+    if body.is_some() || client.place.is_some() {
+        client.place = bodies.note(rt, client.place, body);
+    }
+}
+
+// What a client holds of a body that it sends, of replies that it takes, or of room since a large body came.
+fn body_of(client: &Client, settings: &Settings, holder: Holder) -> Option<Body> {
+    let attended = client.attended()?;
+    let held = attended.held() as u64;
+    match attended.busy() {
+        Busy::Idle | Busy::Head if held == 0 => None,
+        _ => Some(Body {
+            holder,
+            upload: patched_by(attended, settings),
+            held,
+        }),
+    }
+}
+
+// The upload to which it sends the body of a PATCH.
+fn patched_by(attended: &Attended, settings: &Settings) -> Option<UploadName> {
+    let message = attended.under_way()?;
+    let request = message.request();
+    if request.method.is_patch() {
+        upload_of(settings, &request)
+    } else {
+        None
+    }
+}

@@ -1,0 +1,197 @@
+//! Many clients at one worker, each on a connection of this machine.
+
+ghost use Rattle.std.specs.Prelude.{◌≡◌};
+
+use crate::opening::{assert_balance, moment, settings};
+use crate::texts::{HEAD, MISSED};
+use std::alloc::{AllocError, Global};
+use std::io::{Eprint, Read, Write};
+use std::marker::Brand;
+use std::net::{Net, Shutdown, TcpListener, TcpStream};
+use std::process::Abort;
+use std::sync::Wait;
+use std::sync::ledger::{Blank, Ledger};
+use std::test::Fail;
+use std::thread::Threads;
+use std::time::Duration;
+use std::{io, time};
+use tus_shared::{Charges, Opened, Shared, settle};
+use tus_workers::{
+    Bounds, Commons, Listener, Loopback, WorkOptions, any_failed, dismiss, hire, work_all,
+};
+use upload_book::Settings;
+
+/// What clients there are, and how many of them may be served at once.
+#[derive(Clone, Copy)]
+struct Crowd {
+    clients: u64,
+    /// How many HEADs each sends.
+    heads: usize,
+    /// In pieces of how many bytes every second one sends them, and the others.
+    pieces: [usize; 2],
+    at_once: usize,
+}
+
+// So many times these bytes.
+fn repeated(alloc: Global, bytes: &[u8], times: usize) -> Result<Vec<u8>, AllocError> {
+    let mut all = Vec::new(alloc);
+    for _ in 0..times {
+        all.extend_from_slice(bytes)?;
+    }
+    Ok(all)
+}
+
+// A client at this port that has sent these bytes in pieces of so many, and says that nothing follows.
+fn client<N: Net<Stream = TcpStream>>(
+    net: &N,
+    port: u16,
+    sent: &[u8],
+    piece: usize,
+) -> io::Result<TcpStream> {
+    let stream = TcpStream::connect(net, ("127.0.0.1", port))?;
+    stream.set_nodelay(true)?;
+    stream.set_read_timeout(Some(Duration::from_secs(30)))?;
+    let mut writer = &stream;
+    for part in sent.chunks(piece.max(1)) {
+        writer.write_all(part)?;
+    }
+    stream.shutdown(Shutdown::Write)?;
+    Ok(stream)
+}
+
+// One worker serves all clients, at most so many at once.
+fn serve_all<
+    C: Charges + Send + Sync,
+    R: Ledger + Send + Sync,
+    M: Ledger + Send + Sync,
+    W: Threads
+        + Wait
+        + Abort
+        + Net<Stream = TcpStream, Listener = TcpListener>
+        + Eprint
+        + time::Clock
+        + Sync,
+>(
+    rt: &W,
+    alloc: Global,
+    settings: Settings,
+    charged: Blank,
+    released: Blank,
+    made: Blank,
+    events: Opened,
+    crowd: Crowd,
+) -> Result<(), Fail>
+    requires settings { settings ≡ C.settings }
+    requires desks { C.desks ≡ 1 }
+    requires charged { (charged.name ≡ C.name) × (charged.parts ≡ C.parts) × (C.parts ≡ 16) }
+    requires released { (released.name ≡ R.name) × (released.parts ≡ R.parts) × (R.parts ≡ 16) }
+    requires made { (made.name ≡ M.name) × (made.parts ≡ M.parts) × (M.parts ≡ 16) }
+    requires log { events.seen.book ≡ C.log }
+{
+    let (shared, desks) = Shared::<C, R, M, &W>::open(
+        rt, alloc, settings, 1, charged, released, made, events,
+    )?;
+    let listener = Loopback::listen(rt, 0)?;
+    let mut clients = Vec::new(alloc);
+    let sent = repeated(alloc, HEAD, crowd.heads)?;
+    let [even, odd] = crowd.pieces;
+    for number in 0..crowd.clients {
+        let piece = if number % 2 == 0 { even } else { odd };
+        clients.push(client(rt, listener.port(), &sent, piece)?)?;
+    }
+    let options = WorkOptions {
+        moment: Some(moment(rt)),
+        connections: crowd.clients,
+        at_once: crowd.at_once,
+        bounds: Bounds {
+            idle: 0,
+            message_seconds: 0,
+            least_rate: 1,
+        },
+        body_memory: 268_435_456,
+    };
+    let mut commons = Commons::new(alloc, 1, &options)?;
+    commons.watch(rt)?;
+    let mut workers = hire(&listener, desks, Vec::with_capacity(alloc, 1)?)?;
+    work_all(
+        rt,
+        alloc,
+        &shared,
+        workers.as_mut_slice(),
+        options,
+        &commons,
+    );
+    assert!(rt; !any_failed(workers.as_slice()));
+    let expected = repeated(alloc, MISSED, crowd.heads)?;
+    for client in &clients {
+        let mut text = Vec::new(alloc);
+        let mut reader = client;
+        let _ = reader.read_to_end(&mut text)?;
+        assert!(rt; text.as_slice() == expected.as_slice());
+    }
+    let (_, balance) = settle(shared, dismiss(workers, Vec::with_capacity(alloc, 1)?));
+    assert_balance(rt, balance, [0, 0, 0]);
+    Ok(())
+}
+
+fn serve<
+    W: Threads
+        + Wait
+        + Abort
+        + Net<Stream = TcpStream, Listener = TcpListener>
+        + Eprint
+        + time::Clock
+        + Sync,
+>(rt: &W, alloc: Global, crowd: Crowd) -> Result<(), Fail> {
+    serve_all::<Brand, Brand, Brand, W>(
+        rt,
+        alloc,
+        settings()?,
+        Blank::new(16),
+        Blank::new(16),
+        Blank::new(16),
+        Opened::new(),
+        crowd,
+    )
+}
+
+/// Every second one sends a byte at a time.
+const FIFTY: Crowd = Crowd {
+    clients: 50,
+    heads: 1,
+    pieces: [1, usize::MAX],
+    at_once: 64,
+};
+
+#[test]
+fn fifty_clients_at_once(rt: HostRuntime) -> Result<(), Fail> {
+    serve(&rt, rt.alloc(), FIFTY)
+}
+
+/// The others wait until a place is free.
+#[test]
+fn more_clients_than_places(rt: HostRuntime) -> Result<(), Fail> {
+    serve(
+        &rt,
+        rt.alloc(),
+        Crowd {
+            at_once: 3,
+            ..FIFTY
+        },
+    )
+}
+
+/// More messages than a turn answers come in one write, and no byte after them: no event tells of those that are left.
+#[test]
+fn bursts(rt: HostRuntime) -> Result<(), Fail> {
+    serve(
+        &rt,
+        rt.alloc(),
+        Crowd {
+            clients: 2,
+            heads: 833,
+            pieces: [usize::MAX, 1000],
+            at_once: 2,
+        },
+    )
+}

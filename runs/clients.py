@@ -1,0 +1,76 @@
+"""A server that a run starts, and its clients: what the scripts of the runs with many clients share."""
+import re
+import socket
+import subprocess
+import sys
+
+PATCH = ['Content-Type: application/offset+octet-stream']
+
+
+class Server:
+    """The server, which has told where it listens."""
+
+    def __init__(self, words, **others):
+        self.process = subprocess.Popen(words, stdout=subprocess.PIPE, text=True, **others)
+        self.port = int(self.process.stdout.readline().rsplit(':', 1)[1])
+
+    def connect(self):
+        return socket.create_connection(('127.0.0.1', self.port), timeout=30)
+
+    def asked(self, method, path, *fields, body=b''):
+        """What a client is told that has a connection for this request alone."""
+        with self.connect() as client:
+            client.sendall(request(method, path, *fields, 'Connection: close', body=body))
+            return everything(client)
+
+    def end(self):
+        """Prints what the server prints at its end, and ends with its status."""
+        print(self.process.stdout.read(), end='')
+        sys.exit(self.process.wait())
+
+
+def request(method, path, *fields, body=b'', length=None):
+    """A request, which tells the length of its body, or this one."""
+    lines = [f'{method} {path} HTTP/1.1', 'Host: x', 'Tus-Resumable: 1.0.0', *fields]
+    if body or length:
+        lines.append(f'Content-Length: {length or len(body)}')
+    return '\r\n'.join(lines).encode() + b'\r\n\r\n' + body
+
+
+def creation(tenant, length):
+    return request('POST', f'/files/{tenant}', f'Upload-Length: {length}')
+
+
+def patch(path, offset, body, length=None):
+    return request('PATCH', path, *PATCH, f'Upload-Offset: {offset}', body=body, length=length)
+
+
+def reply(client, has_body=True):
+    """The next reply, its head as text and its body."""
+    head = b''
+    while not head.endswith(b'\r\n\r\n'):
+        byte = client.recv(1)
+        if not byte:
+            return head.decode(), b''
+        head += byte
+    length = re.search(rb'Content-Length: (\d+)', head)
+    body = b''
+    while has_body and length and len(body) < int(length.group(1)):
+        body += client.recv(int(length.group(1)) - len(body))
+    return head.decode(), body
+
+
+def status(client, has_body=True):
+    return reply(client, has_body)[0].split(' ')[1]
+
+
+def field(head, name):
+    return re.search(rf'{name}: (\S+)', head).group(1)
+
+
+def everything(client):
+    """All that still comes until the server closes."""
+    parts = []
+    while part := client.recv(65536):
+        parts.append(part)
+    return b''.join(parts).decode()
