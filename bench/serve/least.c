@@ -16,7 +16,7 @@
 #include <sys/socket.h>
 #include <unistd.h>
 
-enum { UPLOADS = 64, HEAD_MOST = 65536, BODY_MOST = 16 << 20 };
+enum { UPLOADS = 128, HEAD_MOST = 65536, BODY_MOST = 16 << 20 };
 
 struct upload {
     long offset, length;

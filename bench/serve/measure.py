@@ -59,7 +59,7 @@ class Server:
     def create(self):
         """Creates an upload of 100 bytes, which HEADs look at."""
         with socket.create_connection(('127.0.0.1', self.port)) as connection:
-            made = exchange(connection, request('POST', '/files/acme', ['Upload-Length: 100']))
+            made = exchange(connection, request('POST', '/files/beta', ['Upload-Length: 100']))
         self.small = re.search(rb'Location: (\S+)', made).group(1).decode()
         return self
 
@@ -202,7 +202,7 @@ class Bench:
         workers = str(len(self.for_servers))
         open(f'{folder}/nginx.conf', 'w').write(NGINX.format(folder=folder, workers=workers))
         ours = [program, 'serve', '--port', '18080', '--workers', workers, '--forever', '--at-once', '12000', '--idle', '0',
-                '--max-size', '16777216', '--blocks', '131072', 'acme:131072']
+                '--max-size', '16777216', '--blocks', '131072', 'acme:131071', 'beta:1']
         nginx = [shutil.which('nginx') or '/usr/sbin/nginx', '-p', folder, '-c', 'nginx.conf']
         self.ours = Server(18080, ours, self.for_servers)
         self.nginx = Server(18081, nginx, self.for_servers)

@@ -1,10 +1,10 @@
 #!/usr/bin/env python3
 """Random clients of one server: they create, send, join, ask, cut off and delete, and count what is charged.
 
-    bench/serve/soak.py PROGRAM [SECONDS]
+    bench/serve/soak.py PROGRAM [SECONDS [PAUSE]]
 
 starts the program with 16 workers and keeps 500 connections busy for so long (600 seconds unless said), each with
-uploads of its own. Every reply is compared with what the client expects, and the bytes of each upload that is
+uploads of its own. Each client waits for PAUSE seconds (0.02 unless said) after each step. Every reply is compared with what the client expects, and the bytes of each upload that is
 downloaded with those that were sent. At the end the server's last line has to say what the clients counted.
 """
 import http.client
@@ -16,7 +16,7 @@ import threading
 import time
 
 BLOCK = 4096
-CONNECTIONS = 4096
+CONNECTIONS = 1024
 WORKERS = 16
 CLIENTS = 500
 TENANTS = [f'tenant-{number}' for number in range(16)]
@@ -31,8 +31,9 @@ def blocks(n):
 class Client(threading.Thread):
     """One client: its uploads, and what they cost. An origin is the bytes of one upload, which a join shares."""
 
-    def __init__(self, number, port, end):
+    def __init__(self, number, port, end, pause):
         super().__init__()
+        self.pause = pause
         self.random = random.Random(number)
         self.tenant = TENANTS[number % len(TENANTS)]
         self.port, self.end = port, end
@@ -86,7 +87,7 @@ class Client(threading.Thread):
         offset = len(upload['bytes'])
         left = upload['length'] - offset
         body = self.random.randbytes(min(left, self.random.choice([left, self.random.randrange(0, left + 1)])))
-        if body and self.random.random() < 0.02:
+        if body and self.random.random() < 0.005:
             return self.cut(path, offset, body)
         status, headers, _ = self.ask('PATCH', path, {'Upload-Offset': str(offset), 'Content-Type': TYPE}, body)
         self.expect(204, status, 'PATCH')
@@ -158,7 +159,7 @@ class Client(threading.Thread):
             self.connect()
             while time.monotonic() < self.end:
                 self.step()
-                time.sleep(0.02)
+                time.sleep(self.pause)
             self.connection.close()
         except Exception as error:
             self.error = error
@@ -166,12 +167,13 @@ class Client(threading.Thread):
 
 
 def main():
-    program, seconds = sys.argv[1], int(sys.argv[2]) if len(sys.argv) > 2 else 600
+    program, seconds, pause = [*sys.argv[1:], *('600', '0.02')[len(sys.argv) - 2:]]
+    seconds, pause = int(seconds), float(pause)
     server = subprocess.Popen(
-        [program, 'serve', '--workers', str(WORKERS), '--connections', str(CONNECTIONS), '--at-once', str(CLIENTS), '--blocks', '131072',
+        [program, 'serve', '--workers', str(WORKERS), '--connections', str(CONNECTIONS), '--at-once', str(CLIENTS), '--idle', '0', '--blocks', '131072',
          *(f'{tenant}:8192' for tenant in TENANTS)], stdout=subprocess.PIPE, text=True)
     port = int(server.stdout.readline().rsplit(':', 1)[1])
-    clients = [Client(number, port, time.monotonic() + seconds) for number in range(CLIENTS)]
+    clients = [Client(number, port, time.monotonic() + seconds, pause) for number in range(CLIENTS)]
     for client in clients:
         client.start()
     for client in clients:
