@@ -68,39 +68,72 @@ overwritten front middle bytes others seen same_len torn holds = ext_get_or 0 se
 pub zeros-split : (n k : ℕ) → k ≤ n → zeros n ≡ zeros k ++ zeros (n - k)
 zeros-split n k le = ap zeros (omega arith) ∙ sym (replicate-append-replicate k (n - k) 0)
 
--- a file that grew
-pub grown : (old seen : List ℕ) (n : ℕ) → Torn (length old) n old seen → (0 < n → Holds seen (length old) (zeros n)) → seen ≡ old ++ zeros n
-grown old seen n torn holds = ext_get_or 0 seen (old ++ zeros n) len each
+-- what a file begins with stays where something is written behind it
+pub front-torn : (at n : ℕ) (front rest left : List ℕ) → length front ≡ at → Torn at n (front ++ rest) left → left ≡ front ++ drop (length front) left
+front-torn at n front rest left is torn = sym (take-append-drop (length front) left) ∙ ap (λ (t : List ℕ). t ++ drop (length front) left) same
   where
-    len_new : length (old ++ zeros n) ≡ length old + n
-    len_new = omega (arith, length-append old (zeros n), length-replicate {A = ℕ} n 0)
+    long : length front ≤ length left
+    long = omega (arith, torn.no_shorter, length-append front rest)
 
-    len : length seen ≡ length (old ++ zeros n)
-    len = elim (cases_lt 0 n) [
-      | inl some ↦ omega (arith, torn.no_longer, (holds some).within, length-replicate {A = ℕ} n 0, len_new)
-      | inr none ↦ omega (arith, torn.no_shorter, torn.no_longer, len_new)
-    ]
-
-    each : (i : ℕ) → i < length seen → get_or seen i 0 ≡ get_or (old ++ zeros n) i 0
-    each i within = elim (place (length old) n i) [
-      | in_front lt ↦ torn.below i lt lt ∙ sym (at-front old (zeros n) i lt)
-      | at_place j lt is ↦
-          let here : get_or seen (length old + j) 0 ≡ get_or (zeros n) j 0 = (holds (omega arith)).each j (omega (arith, length-replicate {A = ℕ} n 0)) in
-          rw is (here ∙ sym (get_or-append-add old (zeros n) j 0))
-      | behind j is ↦ absurd (omega (arith, len_new, len))
-    ]
-
--- what a crash leaves of a file that was to grow begins with what was there
-pub grown_torn : (at n : ℕ) (old left : List ℕ) → length old ≡ at → Torn at n old left → left ≡ old ++ drop (length old) left
-grown_torn at n old left is torn = sym (take-append-drop (length old) left) ∙ ap (λ (t : List ℕ). t ++ drop (length old) left) front
-  where
-    front : take (length old) left ≡ old
-    front = ext_get_or 0 (take (length old) left) old (omega (arith, length-take (length old) left, torn.no_shorter)) each
+    same : take (length front) left ≡ front
+    same = ext_get_or 0 (take (length front) left) front (omega (arith, length-take (length front) left, long)) each
       where
-        each : (i : ℕ) → i < length (take (length old) left) → get_or (take (length old) left) i 0 ≡ get_or old i 0
+        each : (i : ℕ) → i < length (take (length front) left) → get_or (take (length front) left) i 0 ≡ get_or front i 0
         each i lt =
-            let below : i < length old = omega (arith, length-take (length old) left) in
-            get_or-take (length old) left i 0 below ∙ torn.below i below (omega arith)
+            let below : i < length front = omega (arith, length-take (length front) left) in
+            get_or-take (length front) left i 0 below ∙ torn.below i (omega (arith, length-append front rest)) (omega arith) ∙ get_or_append_left front rest 0 i below
+
+-- a file of which so much is known, behind which zeros were written
+pub grown : (front rest seen : List ℕ) (n : ℕ) → Torn (length front) n (front ++ rest) seen → (0 < n → Holds seen (length front) (zeros n)) → seen ≡ (front ++ zeros n) ++ drop (length front + n) seen
+grown front rest seen n torn holds = sym (take-append-drop (length front + n) seen) ∙ ap (λ (t : List ℕ). t ++ drop (length front + n) seen) same
+  where
+    long : length front + n ≤ length seen
+    long = elim (cases_lt 0 n) [
+      | inl some ↦ omega (arith, (holds some).within, length-replicate {A = ℕ} n 0)
+      | inr none ↦ omega (arith, torn.no_shorter, length-append front rest)
+    ]
+
+    len : length (take (length front + n) seen) ≡ length front + n
+    len = omega (arith, length-take (length front + n) seen, long)
+
+    len_new : length (front ++ zeros n) ≡ length front + n
+    len_new = omega (arith, length-append front (zeros n), length-replicate {A = ℕ} n 0)
+
+    same : take (length front + n) seen ≡ front ++ zeros n
+    same = ext_get_or 0 (take (length front + n) seen) (front ++ zeros n) (omega (arith, len, len_new)) each
+      where
+        each : (i : ℕ) → i < length (take (length front + n) seen) → get_or (take (length front + n) seen) i 0 ≡ get_or (front ++ zeros n) i 0
+        each i within =
+            let taken : get_or (take (length front + n) seen) i 0 ≡ get_or seen i 0 = get_or-take (length front + n) seen i 0 (omega (arith, len)) in
+            elim (place (length front) n i) [
+              | in_front lt ↦ taken ∙ torn.below i (omega (arith, length-append front rest)) lt ∙ get_or_append_left front rest 0 i lt ∙ sym (at-front front (zeros n) i lt)
+              | at_place j lt is ↦
+                  let here : get_or seen (length front + j) 0 ≡ get_or (zeros n) j 0 = (holds (omega arith)).each j (omega (arith, length-replicate {A = ℕ} n 0)) in
+                  taken ∙ ap (λ (k : ℕ). get_or seen k 0) is ∙ here ∙ sym (get_or-append-add front (zeros n) j 0) ∙ ap (λ (k : ℕ). get_or (front ++ zeros n) k 0) (sym is)
+              | behind j is ↦ absurd (omega (arith, len))
+            ]
+
+-- a write within what a file begins with
+pub mixed-front : (at : ℕ) (bytes front rest left : List ℕ) → at + length bytes ≤ length front → Mixed at bytes (front ++ rest) left → Mixed at bytes front (take (length front) left)
+mixed-front at bytes front rest left within mixed = record {
+  torn = record {
+    no_shorter = omega (arith, len);
+    no_longer = omega (arith, len);
+    below = λ i lt before. get_or-take (length front) left i 0 lt ∙ mixed.torn.below i (omega (arith, all)) before ∙ get_or_append_left front rest 0 i lt;
+    above = λ i lt behind. get_or-take (length front) left i 0 lt ∙ mixed.torn.above i (omega (arith, all)) behind ∙ get_or_append_left front rest 0 i lt;
+  };
+  each = λ i lt inside.
+      elim (mixed.each i lt (omega (arith, all))) [
+        | inl same ↦ inl (get_or-take (length front) left (at + i) 0 inside ∙ same ∙ get_or_append_left front rest 0 (at + i) inside)
+        | inr written ↦ inr (get_or-take (length front) left (at + i) 0 inside ∙ written)
+      ];
+}
+  where
+    all : length (front ++ rest) ≡ length front + length rest
+    all = length-append front rest
+
+    len : length (take (length front) left) ≡ length front
+    len = omega (arith, length-take (length front) left, mixed.torn.no_shorter, all)
 
 module _ (front bytes : List ℕ) (n : ℕ) (room : length bytes ≤ n) where
   length-old : length (front ++ zeros n) ≡ length front + n

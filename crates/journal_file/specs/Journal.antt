@@ -6,12 +6,22 @@ use Rattle.journal_file.specs.declared.journal.Journal.{Journal}
 use Rattle.journal_frames.specs.Crash.{zeros}
 use Rattle.journal_frames.specs.Frames.{frames, Fits}
 
--- What is left of a file of which the first bytes, so many, were synced: these, and behind them each byte as it reads,
--- or 0.
+-- What is left of bytes of which the first, so many, were synced: these, and behind them each byte as it reads, or 0.
 pub record MayLose (synced : ℕ) (file left : List ℕ) : Type 0 where
   pub len : length left ≡ length file
   pub same : (i : ℕ) → i < synced → slice_index left i ≡ slice_index file i
   pub each : (i : ℕ) → i < length file → (slice_index left i ≡ slice_index file i) ⊎ (slice_index left i ≡ 0)
+
+-- a file begins with these bytes; what stands behind them may be anything
+pub record BeginsWith (front file : List ℕ) : Type 0 where
+  pub rest : List ℕ
+  pub is : file ≡ front ++ rest
+
+-- a crash leaves a file that begins with what is left of these bytes, of which the first were synced
+pub record LosesOf (synced : ℕ) (front left : List ℕ) : Type 0 where
+  pub kept : List ℕ
+  pub lost : MayLose synced front kept
+  pub begins : BeginsWith kept left
 
 -- a crash leaves what one could have left before, or that after a step
 abbrev pub LeavesOldOr : (List ℕ → List ℕ → Type 0) → (List ℕ → Type 0) → (List ℕ → Type 0) → Type 0
@@ -28,15 +38,17 @@ module _ {D : Type 0} {g : Ghosts D} where
   abbrev pub room_of : Journal D g → ℕ
   room_of journal = journal.blank - 16
 
-  -- how long the file is
+  -- how far the zeros reach
   abbrev pub len_of : Journal D g → ℕ
   len_of journal = journal.end + journal.blank
 
--- The file is the frames of these payloads, of which the first ones were synced, and zeros. A crash leaves what was
--- synced, and of each other byte what it reads or 0.
+-- The file begins with the frames of these payloads, of which the first ones were synced, and zeros. A crash leaves what
+-- was synced, and of each other byte of these what it reads or 0. What stands behind the zeros may be anything: more room
+-- that could not be had may have left something there.
 pub record IsJournal {D : Type 0} {g : Ghosts D} (journal : Journal D g) (synced unsynced : List (List ℕ)) : Type 0 where
-  pub file : g.seen journal.disk ≡ frames journal.key (synced ++ unsynced) ++ zeros journal.blank
+  pub file : BeginsWith (frames journal.key (synced ++ unsynced) ++ zeros journal.blank) (g.seen journal.disk)
   pub place : length (frames journal.key (synced ++ unsynced)) ≡ journal.end
   pub fits : AllByRecursion Fits synced
   pub more_fits : AllByRecursion Fits unsynced
-  pub loss : (c : List ℕ) → g.may_leave journal.disk c → MayLose (length (frames journal.key synced)) (g.seen journal.disk) c
+  pub loss : (c : List ℕ) → g.may_leave journal.disk c
+      → LosesOf (length (frames journal.key synced)) (frames journal.key (synced ++ unsynced) ++ zeros journal.blank) c

@@ -228,18 +228,23 @@ impl<D: Disk> Journal<D> {
         sync_disk(&mut self.disk)
     }
 
-    /// Makes more room: so many zeros behind the file, which are synced with all that was appended.
+    /// Makes more room: so many zeros behind the others, which are synced with all that was appended. Where it fails, the
+    /// journal is the one that it was, and goes on as long as its disk may be used.
     ///
-    /// `Err` is NoRoom where the file would have more than 2^62 bytes, Unusable, NotMixing, Memory, or Disk.
+    /// `Err` is NoRoom where the zeros would reach past 2^62 bytes, Unusable, NotMixing, Memory, or Disk.
     pub fn extend(&mut self, alloc: Global, more: usize) -> Result<(), JournalError>
         ensures extended { (synced unsynced : List (List ℕ))
             → IsJournal self.old synced unsynced
             → OnOk result (IsJournal self.new (synced ++ unsynced) []) }
+        ensures stays { (synced unsynced : List (List ℕ))
+            → IsJournal self.old synced unsynced
+            → OnErr result (IsJournal self.new synced unsynced) }
         ensures any_crash { (synced unsynced : List (List ℕ))
             → IsJournal self.old synced unsynced
             → (c : List ℕ) → D.may_leave (disk_of self.new) c → Leaves (key_of self.old) synced unsynced c }
         ensures key { key_of self.new ≡ key_of self.old }
         ensures room { OnOk result (room_of self.new ≡ room_of self.old + more) }
+        ensures same_room { OnErr result (room_of self.new ≡ room_of self.old) }
         ensures refused { IfErr result (λ why. IsRefusal why → self.new ≡ self.old) }
         ensures why { IfErr result (IsReason (record {
           no_room = 2 ^ 62 < len_of self.old + more;
