@@ -1,0 +1,2 @@
+pub mod MadeLemmas
+pub mod ReplayLemmas

@@ -1,0 +1,4 @@
+pub mod Fault
+pub mod Laws
+pub mod Made
+pub mod Replay

@@ -1,0 +1,12 @@
+//! A book that is made again of records: each is read, tested and made on the book that the ones before it left.
+#![tactic(auto)]
+
+mod fault;
+mod laws;
+mod made;
+mod replaying;
+
+pub use fault::ReplayFault;
+pub use laws::{events_are_replayed, replays_tell_events};
+pub use made::can_be_made;
+pub use replaying::replay;

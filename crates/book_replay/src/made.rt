@@ -1,0 +1,70 @@
+//! Whether a book may be asked for a change.
+ghost use Rattle.std.specs.Prelude.{◌≡◌, ◌↔◌, IsTrue};
+ghost use Rattle.upload_book.specs.Change.{CanBeMade};
+ghost use Rattle.upload_book.specs.declared.head_row.Kind.TheVariants.{Final};
+ghost use Rattle.upload_book.specs.Lawful.{is_kept_metadata};
+ghost use Rattle.book_replay.specs.Made.{can_be_made, is_concat_text, is_final, is_upload};
+
+use tus_text::{Concat, PARTS_MAX, check_metadata, read_concat};
+use upload_book::{Change, Kind, NewFinal, NewUpload};
+
+/// Whether a book of so many tenants may be asked for this change: what [`upload_book::Book::prepare`] requires. It takes
+/// no memory.
+pub fn can_be_made(tenants: usize, change: &Change) -> bool
+    ensures value { result ≡ can_be_made tenants change.now }
+    ensures required { IsTrue result ↔ CanBeMade tenants change.now }
+{
+    match change {
+        Change::Create { tenant, new, .. } => usize::from(*tenant) < tenants && is_upload(new),
+        Change::Concat { tenant, new } => usize::from(*tenant) < tenants && is_final(new),
+        Change::Append { .. } | Change::Terminate(_) | Change::Sweep => true,
+    }
+}
+
+// Whether the texts of a creation are accepted ones.
+fn is_upload(new: &NewUpload) -> bool
+    ensures { result ≡ is_upload new.now }
+{
+    let kind = if new.partial {
+        Kind::Partial
+    } else {
+        Kind::Plain
+    };
+    is_kept_metadata(new.metadata) && is_concat_text(kind, new.concat)
+}
+
+// Whether a concatenation is of 1 to 32 parts, with accepted texts.
+fn is_final(new: &NewFinal) -> bool
+    ensures { result ≡ is_final new.now }
+{
+    let few = !new.parts.is_empty() && new.parts.len() <= PARTS_MAX;
+    few && is_kept_metadata(new.metadata) && is_concat_text(Kind::Final, new.concat)
+}
+
+// Whether this is a text of metadata that is kept.
+fn is_kept_metadata(text: &[u8]) -> bool
+    ensures { result ≡ is_kept_metadata text.now }
+{
+    text.is_empty() || check_metadata(text)
+}
+
+// Whether this is a concat text that is kept for an upload of a kind.
+fn is_concat_text(kind: Kind, text: &[u8]) -> bool
+    ensures { result ≡ is_concat_text kind text.now }
+{
+    match kind {
+        Kind::Plain => text.is_empty(),
+        Kind::Partial => text == b"partial".as_slice(),
+        Kind::Final => names_parts(text),
+    }
+}
+
+// Whether a concat text names parts.
+fn names_parts(text: &[u8]) -> bool
+    ensures { result ≡ is_concat_text Final text.now }
+{
+    match read_concat(text) {
+        Some(Concat::Final(_)) => true,
+        Some(Concat::Partial) | None => false,
+    }
+}
