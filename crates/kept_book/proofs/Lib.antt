@@ -1,0 +1,4 @@
+pub mod KeptLemmas
+pub mod ReadyLemmas
+pub mod SessionLemmas
+pub mod StepLemmas

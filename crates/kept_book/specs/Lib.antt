@@ -1,0 +1,5 @@
+pub mod Answer
+pub mod Done
+pub mod Kept
+pub mod Session
+pub mod Sweeping

@@ -1,0 +1,10 @@
+use upload_book::{Outcome, Refused};
+
+/// What was done of a change.
+#[derive(Drop)]
+pub(crate) enum Done {
+    /// It was made, or refused as the book does.
+    Told(Result<Outcome, Refused>),
+    /// The book accepts it, and there is no room for its record.
+    Unkept,
+}

@@ -1,0 +1,17 @@
+//! A book that outlives its process: each change stands in a journal, synced, before any reply tells of it.
+#![tactic(auto)]
+
+mod copied;
+mod done;
+mod fault;
+mod framing;
+mod keeping;
+mod kept;
+mod log;
+mod reopening;
+mod session;
+
+pub use fault::{KeepFault, NotKept, OpenFault};
+pub use kept::KeptBook;
+pub use reopening::crash_and_open;
+pub use session::{Answered, answer_all};

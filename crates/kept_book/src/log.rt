@@ -1,0 +1,73 @@
+//! A journal of records, each framed in one place.
+ghost use Rattle.std.specs.Prelude.{◌≡◌, ◌≤◌, ℕ, List, [], ◌∷◌, ◌++◌, true, false, if◌then◌else◌, IsTrue, IfOk, OnOk, OnErr};
+ghost use Rattle.journal_file.specs.Journal.{disk_of, key_of};
+ghost use Rattle.journal_frames.specs.Crash.{Leaves};
+ghost use Rattle.journal_records.specs.Records.{record_bytes};
+ghost use Rattle.kept_book.specs.Kept.{IsLog};
+
+use crate::fault::KeepFault;
+use crate::framing::frame_of;
+use crate::keeping::keep;
+use journal_file::Journal;
+use sqlite_disk::Disk;
+use std::alloc::Global;
+use std::mem::replace;
+use upload_book::{Change, Moment};
+
+// The journal under its key, the place of a frame, and whether a write or a sync has failed.
+#[derive(Drop)]
+pub(crate) struct Log<D: Disk> {
+    pub(crate) journal: Journal<D>,
+    pub(crate) key: u64,
+    pub(crate) frame: Vec<u8>,
+    pub(crate) has_failed: bool,
+    pub(crate) alloc: Global,
+}
+
+impl<D: Disk> Log<D> {
+    // The log of a journal under this key.
+    pub(crate) fn new(alloc: Global, journal: Journal<D>, key: u64) -> Log<D>
+        ensures journal { result.journal ≡ journal }
+        ensures key { result.key ≡ key }
+    {
+        Log {
+            journal,
+            key,
+            frame: Vec::new(alloc),
+            has_failed: false,
+            alloc,
+        }
+    }
+
+    // The disk, as it is.
+    pub(crate) fn into_disk(self) -> D
+        ensures { result ≡ disk_of self.journal }
+    {
+        let Log { journal, .. } = self;
+        journal.into_disk()
+    }
+
+    // Keeps the record of a change: it is appended and synced, where there is room for it or room can be made. Whether it
+    // is kept; where it is not, nothing is kept that was not before.
+    //
+    // `Err` where a write or a sync failed, and then it has failed.
+    pub(crate) fn keep(&mut self, change: &Change, now: Moment) -> Result<bool, KeepFault>
+        ensures kept { (payloads : List (List ℕ)) → IsLog self.old payloads
+            → IfOk result (λ kept. IsLog self.new (if kept then payloads ++ record_bytes now change.now ∷ [] else payloads)) }
+        ensures crash { (payloads : List (List ℕ)) → IsLog self.old payloads
+            → (c : List ℕ) → D.may_leave (disk_of self.new.journal) c
+            → Leaves (key_of self.old.journal) payloads (record_bytes now change.now ∷ []) c }
+        ensures key { key_of self.new.journal ≡ key_of self.old.journal }
+        ensures failed { OnErr result (self.new.has_failed ≡ true) }
+    {
+        let room = replace(&mut self.frame, Vec::new(self.alloc));
+        let Some(frame) = frame_of(room, self.key, now, change) else {
+            return Ok(false);
+        };
+        self.frame = frame;
+        self.has_failed = true;
+        let kept = keep(self.alloc, &mut self.journal, &self.frame)?;
+        self.has_failed = false;
+        Ok(kept)
+    }
+}
