@@ -8,7 +8,7 @@ use Rattle.std.specs.Str.Parse.{AllDigits, ParsesBool, ParsesUnsigned, digits_va
 use Rattle.std.proofs.lemmas.Slice.Eq.{bytes_eq-Decides}
 use Rattle.clap.proofs.WalkLemmas.{both, one_text-rows}
 use Rattle.clap.specs.Walk.{Row, rows_of}
-use Rattle.clap.specs.Words.{ReadsOne, Text, all_of, one_text}
+use Rattle.clap.specs.Words.{ReadsOne, Text, all_of, first_of, one_text}
 use Rattle.clap.specs.declared.parser.matches.Found.{Found}
 use Rattle.upload_book.specs.declared.settings.Numbers.{Numbers}
 use Rattle.tus_workers.specs.declared.work_options.WorkOptions.{WorkOptions}
@@ -89,12 +89,16 @@ pub talk_arguments-none : (rows : List Row) → None ≡ all_of (codes "tenant")
 talk_arguments-none rows h = ap (talk_arguments_with (number_under (codes "moment") rows) rows) h
 
 -- the options of `serve` are the arguments that its rows give
-pub serve_arguments-some : (rows : List Row) (numbers : Numbers) (words : List Text) (port workers : ℕ) (work : WorkOptions) → numbers ≡ numbers_given rows → Some work ≡ work_given rows
-    → Some port ≡ port_given rows → Some workers ≡ workers_given rows → Some words ≡ all_of (codes "tenant") rows
-    → Some (record { numbers = numbers; tenants = words; port = port; workers = workers; work = work }) ≡ serve_arguments rows
-serve_arguments-some rows numbers words port workers work given each at many all = rw (given, ← each, ← at, ← many, ← all) refl
+pub serve_arguments-some : (rows : List Row) (numbers : Numbers) (words : List Text) (address : Text) (port workers : ℕ) (work : WorkOptions) → numbers ≡ numbers_given rows
+    → Some address ≡ first_of (codes "address") rows → Some work ≡ work_given rows → Some port ≡ port_given rows → Some workers ≡ workers_given rows → Some words ≡ all_of (codes "tenant") rows
+    → Some (record { numbers = numbers; tenants = words; address = address; port = port; workers = workers; work = work }) ≡ serve_arguments rows
+serve_arguments-some rows numbers words address port workers work given place each at many all = rw (given, ← place, ← each, ← at, ← many, ← all) refl
 
 -- without words there are none
-pub serve_arguments-none : (rows : List Row) (port workers : ℕ) (work : WorkOptions) → Some work ≡ work_given rows → Some port ≡ port_given rows → Some workers ≡ workers_given rows
-    → None ≡ all_of (codes "tenant") rows → None ≡ serve_arguments rows
-serve_arguments-none rows port workers work each at many none = rw (← each, ← at, ← many, ← none) refl
+pub serve_arguments-none : (rows : List Row) (address : Text) (port workers : ℕ) (work : WorkOptions) → Some address ≡ first_of (codes "address") rows → Some work ≡ work_given rows
+    → Some port ≡ port_given rows → Some workers ≡ workers_given rows → None ≡ all_of (codes "tenant") rows → None ≡ serve_arguments rows
+serve_arguments-none rows address port workers work place each at many none = rw (← place, ← each, ← at, ← many, ← none) refl
+
+-- without an address there are none
+pub serve_arguments-nowhere : (rows : List Row) → None ≡ first_of (codes "address") rows → None ≡ serve_arguments rows
+serve_arguments-nowhere rows none = rw (← none) refl

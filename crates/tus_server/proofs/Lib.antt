@@ -3,6 +3,7 @@ pub mod CommandLineLemmas
 pub mod DeskLemmas
 pub mod FaultLemmas
 pub mod RunLemmas
+pub mod SentenceLemmas
 pub mod ServeLemmas
 pub mod TalkLemmas
 pub mod TenantLemmas

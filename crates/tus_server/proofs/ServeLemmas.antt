@@ -1,8 +1,9 @@
 -- How `serve` ends, by what was written of its two lines and by how its workers ended.
-use Rattle.std.proofs.Common.{◌≡◌, ◌∙◌, ℕ, ◌<◌, Bool, true, false, List, length, get_or, map, Option, Err, All, inl, inr, refl, sym, ap, subst, true≢false}
+use Rattle.std.proofs.Common.{◌≡◌, ◌∙◌, ℕ, ◌<◌, Bool, true, false, List, length, get_or, map, Option, Result, Ok, Err, All, inl, inr, refl, sym, ap, subst, true≢false}
 use Rattle.std.proofs.lemmas.List.{get_or-map, length-map}
 use Rattle.std.proofs.lemmas.List.Elements.{All-map}
 use Rattle.std.proofs.lemmas.List.Folds.{Any-from_list_any, list_any_at}
+use Rattle.std.specs.Prelude.{IfErr, OnOk}
 use Rattle.std.specs.Io.KnownBytes.{Appends}
 use Rattle.std.specs.List.{Any, list_any}
 use Rattle.http_wire.proofs.AheadLemmas.{Appends-more}
@@ -13,9 +14,13 @@ use Rattle.tus_shared.specs.declared.balance.Balance.{Balance}
 use Rattle.upload_book.specs.Settings.{Settings}
 use Rattle.tus_server.specs.Arguments.{ServeArguments}
 use Rattle.tus_server.specs.Lines.{Settles, balance_text, listening_text}
-use Rattle.tus_server.specs.Serve.{BreaksOff, PrintsBoth, ServesEach}
+use Rattle.tus_server.specs.Serve.{BreaksOff, IsPlaceAsked, PrintsBoth, ServeEnds, ServesEach, is_of_service, serve_settings}
 use Rattle.tus_server.specs.Sockets.{Sockets}
-use Rattle.tus_server.specs.StreamUse.{StreamUse}
+use Rattle.tus_server.specs.StreamUse.{StreamUse, IsUntouched}
+use Rattle.tus_server.specs.declared.cause.Cause.{Cause}
+use Rattle.tus_server.specs.declared.cause.Cause.TheVariants.{Output, Accept}
+use Rattle.tus_server.specs.declared.fault.RunFault.{RunFault}
+use Rattle.tus_server.specs.declared.fault.RunFault.TheVariants as run
 
 false_unless : (b : Bool) → (b ≡ true → ⊥) → b ≡ false
 false_unless true never = absurd (never refl)
@@ -52,21 +57,20 @@ module _ {X L A W : Type 0} (seen : Sockets L A) (arguments : ServeArguments) (s
 
   -- an accept failed
   pub BreaksOff-failed : list_any (λ w. seen.has_failed (acceptor w)) workers ≡ true
-      → PrintsBoth seen arguments s output (map acceptor workers) → BreaksOff seen arguments s output
-  BreaksOff-failed some prints =
-      inr (inr (inr (record {
-        acceptors = map acceptor workers;
-        prints = prints;
-        failed = Any-map (λ a. seen.has_failed a ≡ true) acceptor workers (Any-from_list_any (λ w. seen.has_failed (acceptor w)) workers some);
-      })))
+      → PrintsBoth seen arguments s output (map acceptor workers) → BreaksOff seen arguments s output Accept
+  BreaksOff-failed some prints = record {
+    acceptors = map acceptor workers;
+    prints = prints;
+    failed = Any-map (λ a. seen.has_failed a ≡ true) acceptor workers (Any-from_list_any (λ w. seen.has_failed (acceptor w)) workers some);
+  }
 
 module _ {L A W : Type 0} (seen : Sockets L A) (arguments : ServeArguments) (s : Settings) (output : StreamUse W) (listener : L) (desks : List Desk) where
   -- the second line broke off
-  pub BreaksOff-second : {T : Type 0} (between : Option (List ℕ)) (balance : Balance) (fault : WireFault) → seen.asked listener ≡ arguments.port → Settles s desks balance
-      → Appends output.before between (listening_text (seen.port listener))
-      → Writes {T = T} between output.after output.has_failed (balance_text balance) (Err fault) → BreaksOff seen arguments s output
+  pub BreaksOff-second : {T : Type 0} (between : Option (List ℕ)) (balance : Balance) (fault : WireFault) → IsPlaceAsked arguments (seen.asked listener) → Settles s desks balance
+      → Appends output.before between (listening_text (seen.place listener))
+      → Writes {T = T} between output.after output.has_failed (balance_text balance) (Err fault) → BreaksOff seen arguments s output Output
   BreaksOff-second between balance fault asked settled first last =
-      inr (inr (inl (record {
+      inr (record {
         listener = listener;
         asked = asked;
         desks = desks;
@@ -76,12 +80,12 @@ module _ {L A W : Type 0} (seen : Sockets L A) (arguments : ServeArguments) (s :
         within = last.prefix.1;
         lines = Appends-more _ _ _ _ _ first last.prefix.2;
         failed = last.failed;
-      })))
+      })
 
   -- both lines were written
-  pub PrintsBoth-lines : (acceptors : List A) (between : Option (List ℕ)) (balance : Balance) → seen.asked listener ≡ arguments.port → Settles s desks balance
+  pub PrintsBoth-lines : (acceptors : List A) (between : Option (List ℕ)) (balance : Balance) → IsPlaceAsked arguments (seen.asked listener) → Settles s desks balance
       → length desks ≡ arguments.workers → length acceptors ≡ arguments.workers
-      → Appends output.before between (listening_text (seen.port listener)) → Appends between output.after (balance_text balance) → output.has_failed ≡ false
+      → Appends output.before between (listening_text (seen.place listener)) → Appends between output.after (balance_text balance) → output.has_failed ≡ false
       → PrintsBoth seen arguments s output acceptors
   PrintsBoth-lines acceptors between balance asked settled at_desks at_acceptors first last alive = record {
     listener = listener;
@@ -94,3 +98,30 @@ module _ {L A W : Type 0} (seen : Sockets L A) (arguments : ServeArguments) (s :
     lines = Appends-more _ _ _ _ _ first last;
     alive = alive;
   }
+
+-- the cause of a fault, where it has one
+abbrev cause_in : RunFault → Cause
+cause_in (run.Wire cause) = cause
+cause_in run.Words = Output
+cause_in run.Address = Output
+cause_in (run.Settings why) = Output
+cause_in run.Memory = Output
+
+abbrev cause_of : {T : Type 0} → Result T RunFault → Cause
+cause_of (Err fault) = cause_in fault
+cause_of (Ok v) = Output
+
+-- what holds of the cause that is given holds of the cause, whichever name it has
+pub by_cause : {T : Type 0} (P : Cause → Type 0) (r : Result T RunFault) (given : Cause) → r ≡ Err (run.Wire given) → P given → (cause : Cause) → r ≡ Err (run.Wire cause) → P cause
+by_cause P r given is h cause named = subst P (sym (ap cause_of is) ∙ ap cause_of named) h
+
+-- how `serve` ends, by what became of it after its settings and its address were taken
+pub ServeEnds-from : {L A W T : Type 0} (seen : Sockets L A) (arguments : ServeArguments) (output : StreamUse W) (s : Settings) (r : Result T RunFault) → serve_settings arguments ≡ Ok s
+    → IfErr r (λ fault. is_of_service fault ≡ true) → (r ≡ Err run.Memory → IsUntouched output)
+    → ((cause : Cause) → r ≡ Err (run.Wire cause) → BreaksOff seen arguments s output cause) → OnOk r (ServesEach seen arguments s output) → ServeEnds seen arguments output r
+ServeEnds-from seen arguments output s (Ok v) given late memory breaks all = record { settings = s; is_given = given; serves = all }
+ServeEnds-from seen arguments output s (Err run.Words) given late memory breaks all = absurd (true≢false (sym late))
+ServeEnds-from seen arguments output s (Err run.Address) given late memory breaks all = absurd (true≢false (sym late))
+ServeEnds-from seen arguments output s (Err (run.Settings why)) given late memory breaks all = absurd (true≢false (sym late))
+ServeEnds-from seen arguments output s (Err (run.Wire cause)) given late memory breaks all = record { settings = s; is_given = given; breaks = breaks cause refl }
+ServeEnds-from seen arguments output s (Err run.Memory) given late memory breaks all = memory refl

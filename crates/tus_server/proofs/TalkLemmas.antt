@@ -22,7 +22,7 @@ use Rattle.upload_book.specs.declared.settings_fault.SettingsFault.{SettingsFaul
 use Rattle.tus_server.specs.Arguments.{TalkArguments}
 use Rattle.tus_server.specs.Fault.{fault_of_wire}
 use Rattle.tus_server.specs.StreamUse.{StreamUse, IsAlive}
-use Rattle.tus_server.specs.Talk.{BreaksTalk, TalkEnds, Talks, moments_at, talk_settings}
+use Rattle.tus_server.specs.Talk.{BreaksTalk, LosesTalk, TalkEnds, Talks, moments_at, talk_settings}
 
 -- where no byte was read, all are left
 Keeps-consumed : (old new : Option (List ℕ)) (got : List ℕ) → Consumes old new got → got ≡ [] → Keeps old new
@@ -86,20 +86,24 @@ pub TalkEnds-broken : {R W : Type 0} (T : Type 0) (arguments : TalkArguments) (r
     → talk_settings arguments ≡ Ok (plain_of x.before).settings → plain_of x.before ≡ opening_book (plain_of x.before).settings → NamesOrMemory reader.has_failed writer.has_failed f
     → Consumes reader.before reader.after x.input → Appends writer.before writer.after x.text → Breaks BookStep (plain_of x.before).settings.numbers.max_size (replicate 4096 arguments.moment) x f
     → TalkEnds arguments reader writer {T = T} (Err (fault_of_wire f))
-TalkEnds-broken T arguments reader writer x wire.Read given new named consumes appends h = record {
-  got = x.input;
-  text = x.text;
-  consumes = consumes;
-  appends = appends;
-  breaks = BreaksTalk-from (talk_settings arguments) arguments.moment reader.has_failed writer.has_failed x wire.Read given new named h;
-}
-TalkEnds-broken T arguments reader writer x wire.Write given new named consumes appends h = record {
-  got = x.input;
-  text = x.text;
-  consumes = consumes;
-  appends = appends;
-  breaks = BreaksTalk-from (talk_settings arguments) arguments.moment reader.has_failed writer.has_failed x wire.Write given new named h;
-}
+TalkEnds-broken T arguments reader writer x wire.Read given new named consumes appends h =
+    let lost : LosesTalk arguments reader writer = record {
+      got = x.input;
+      text = x.text;
+      consumes = consumes;
+      appends = appends;
+      breaks = BreaksTalk-from (talk_settings arguments) arguments.moment reader.has_failed writer.has_failed x wire.Read given new named h;
+    } in
+    (lost, named.0)
+TalkEnds-broken T arguments reader writer x wire.Write given new named consumes appends h =
+    let lost : LosesTalk arguments reader writer = record {
+      got = x.input;
+      text = x.text;
+      consumes = consumes;
+      appends = appends;
+      breaks = BreaksTalk-from (talk_settings arguments) arguments.moment reader.has_failed writer.has_failed x wire.Write given new named h;
+    } in
+    (lost, named.1)
 TalkEnds-broken T arguments reader writer x wire.Memory given new named consumes appends h = record {
   reader_keeps = Keeps-consumed reader.before reader.after x.input consumes h.0;
   writer_keeps = Keeps-appended writer.before writer.after x.text appends h.1;

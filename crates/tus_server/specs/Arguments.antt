@@ -5,7 +5,7 @@ use Rattle.std.specs.Option.{option_map_or}
 use Rattle.std.specs.Char.{digit_value}
 use Rattle.std.specs.Str.Parse.{digits_value, without_leading_plus}
 use Rattle.clap.specs.Walk.{texts}
-use Rattle.clap.specs.Words.{Row, Text, all_of, one_of, subcommand_of}
+use Rattle.clap.specs.Words.{Row, Text, all_of, first_of, one_of, subcommand_of}
 use Rattle.upload_book.specs.declared.settings.Numbers.{Numbers}
 use Rattle.upload_book.specs.Settings.{is_outside}
 use Rattle.tus_workers.specs.declared.pace.Bounds.{Bounds}
@@ -120,25 +120,28 @@ port_given rows = if nat_le (number_under (codes "port") rows) 65535 then Some (
 abbrev pub workers_given : List Row → Option ℕ
 workers_given rows = if is_outside (number_under (codes "workers") rows) 16 then None else Some (number_under (codes "workers") rows)
 
--- what `serve` is asked for: the numbers of the settings, the words NAME:QUOTA, the port, how many workers there are,
--- and what each of them is asked for
+-- what `serve` is asked for: the numbers of the settings, the words NAME:QUOTA, the address and the port, how many workers
+-- there are, and what each of them is asked for
 pub record ServeArguments : Type 0 where
   pub numbers : Numbers
   pub tenants : List Text
+  pub address : Text
   pub port : ℕ
   pub workers : ℕ
   pub work : WorkOptions
 
--- The arguments of `serve`, where the moment, the port and the number of workers can be, and there are words
--- NAME:QUOTA.
-abbrev pub serve_arguments_with : List Row → Option WorkOptions → Option ℕ → Option ℕ → Option (List Text) → Option ServeArguments
-serve_arguments_with rows None port workers words = None
-serve_arguments_with rows (Some work) None workers words = None
-serve_arguments_with rows (Some work) (Some port) None words = None
-serve_arguments_with rows (Some work) (Some port) (Some workers) None = None
-serve_arguments_with rows (Some work) (Some port) (Some workers) (Some words) = Some (record {
+-- The arguments of `serve`, where there is an address, the moment, the port and the number of workers can be, and there are
+-- words NAME:QUOTA.
+abbrev pub serve_arguments_with : List Row → Option Text → Option WorkOptions → Option ℕ → Option ℕ → Option (List Text) → Option ServeArguments
+serve_arguments_with rows None work port workers words = None
+serve_arguments_with rows (Some address) None port workers words = None
+serve_arguments_with rows (Some address) (Some work) None workers words = None
+serve_arguments_with rows (Some address) (Some work) (Some port) None words = None
+serve_arguments_with rows (Some address) (Some work) (Some port) (Some workers) None = None
+serve_arguments_with rows (Some address) (Some work) (Some port) (Some workers) (Some words) = Some (record {
   numbers = numbers_given rows;
   tenants = words;
+  address = address;
   port = port;
   workers = workers;
   work = work;
@@ -146,7 +149,7 @@ serve_arguments_with rows (Some work) (Some port) (Some workers) (Some words) = 
 
 abbrev pub serve_arguments : List Row → Option ServeArguments
 serve_arguments rows =
-    serve_arguments_with rows (work_given rows) (port_given rows) (workers_given rows) (all_of (codes "tenant") rows)
+    serve_arguments_with rows (first_of (codes "address") rows) (work_given rows) (port_given rows) (workers_given rows) (all_of (codes "tenant") rows)
 
 -- a command, with what it is asked for
 pub data CommandArguments : Type 0 where
@@ -176,6 +179,7 @@ abbrev pub serve_arguments_of : ServeOptions → ServeArguments
 serve_arguments_of options = record {
   numbers = options.numbers;
   tenants = texts options.tenants.now;
+  address = options.address.now;
   port = options.port;
   workers = options.workers;
   work = options.work;

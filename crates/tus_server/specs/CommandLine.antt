@@ -21,6 +21,14 @@ option_between name default least most = record (new_rule name) {
 abbrev pub option_rule : Text → Text → ℕ → Rule
 option_rule name default most = option_between name default 0 most
 
+-- an option --NAME that takes a text, with this one where it is not given
+abbrev pub text_rule : Text → Text → Rule
+text_rule name default = record (new_rule name) {
+  long = Some name;
+  value_names = 1;
+  defaults = default ∷ [];
+}
+
 -- an option --NAME that takes nothing
 abbrev pub flag_rule : Text → Rule
 flag_rule name = record (new_rule name) { long = Some name; action = Some SetTrue }
@@ -74,7 +82,9 @@ with_service command =
     (with_rule
     (with_rule
     (with_rule
+    (with_rule
     (with_rule command
+    (text_rule (codes "address") (codes "127.0.0.1")))
     (option_between (codes "port") (codes "0") 0 65535))
     (option_between (codes "workers") (codes "2") 1 16))
     (option_between (codes "connections") (codes "1") 1 4096))
@@ -100,11 +110,13 @@ serve_command =
     (with_sizes (with_rule (with_crowds (with_service (new_app (codes "serve")))) moment_rule))
     tenant_rule
 
--- the program without its commands, which does nothing without one
+-- the program without its commands, which does nothing without one, and tells its version
 abbrev pub program_alone : App
 program_alone =
     let bare = new_app (codes "tus-server") in
-    record bare { top = record bare.top { subcommand_required = true; arg_required_else_help = true } }
+    record bare {
+      top = record bare.top { has_version = true; subcommand_required = true; arg_required_else_help = true };
+    }
 
 -- the program: it has the commands `talk` and `serve`
 abbrev pub program : App

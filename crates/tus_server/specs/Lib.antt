@@ -1,8 +1,11 @@
 pub mod Arguments
+pub mod Cause
 pub mod CommandLine
 pub mod Fault
 pub mod Lines
+pub mod Quota
 pub mod Run
+pub mod Sentences
 pub mod Serve
 pub mod Settings
 pub mod Sockets

@@ -1,6 +1,8 @@
 -- The two lines that `serve` prints.
 use Rattle.std.specs.Prelude.{◌≡◌, ℕ, List, ◌++◌, codes, decimal}
 use Rattle.std.specs.List.{sum_by}
+use Rattle.std.specs.Net.Text.{socket_text}
+use Rattle.std.specs.declared.net.socket_addr.SocketAddr.{SocketAddr}
 use Rattle.tus_shared.specs.Desk.{Desk}
 use Rattle.tus_shared.specs.declared.balance.Balance.{Balance}
 use Rattle.upload_book.specs.Charge.{charge_in}
@@ -9,8 +11,8 @@ use Rattle.upload_book.specs.PlainBook.{PlainBook}
 use Rattle.upload_book.specs.Settings.{Settings}
 
 -- where the server listens
-abbrev pub listening_text : ℕ → List ℕ
-listening_text port = codes "listening 127.0.0.1:" ++ decimal port ++ codes "\n"
+abbrev pub listening_text : SocketAddr → List ℕ
+listening_text place = codes "listening " ++ socket_text place ++ codes "\n"
 
 -- how many blocks were charged and released, and how many the tenants hold
 abbrev pub balance_text : Balance → List ℕ

@@ -6,11 +6,13 @@ use Rattle.clap.specs.declared.error.kind.ErrorKind.{ErrorKind}
 use Rattle.clap.specs.declared.error.kind.ErrorKind.TheVariants.{DisplayHelp, DisplayVersion, OutOfMemory}
 use Rattle.tus_server.specs.Arguments.{CommandArguments, talk, serve, arguments_in}
 use Rattle.tus_server.specs.CommandLine.{faults_in}
-use Rattle.tus_server.specs.Fault.{Reports, WritesLine, WritesOrFails}
+use Rattle.tus_server.specs.Fault.{Reports, WritesLines, WritesOrFails}
+use Rattle.tus_server.specs.Sentences.{cause_text, untold_text, words_memory_text}
 use Rattle.tus_server.specs.Serve.{ServeEnds}
 use Rattle.tus_server.specs.Sockets.{Sockets}
 use Rattle.tus_server.specs.StreamUse.{StreamUse, IsAlive, IsUntouched}
 use Rattle.tus_server.specs.Talk.{TalkEnds}
+use Rattle.tus_server.specs.declared.cause.Cause.TheVariants.{Output}
 use Rattle.tus_server.specs.declared.fault.RunFault.{RunFault}
 use Rattle.tus_server.specs.declared.fault.RunFault.TheVariants.{Words, Wire, Memory}
 
@@ -46,7 +48,7 @@ module _ {W E : Type 0} (kind : ErrorKind) (status : ℕ) (writer : StreamUse W)
     pub asked : IsHelp kind
     pub shown : WritesOrFails writer.before writer.after writer.has_failed text
     pub failed : writer.has_failed ≡ true
-    pub line : WritesLine errors Wire
+    pub lines : WritesLines errors (Wire Output) (cause_text Output [] 0)
 
   -- the text for them was told
   abbrev pub Tells : List ℕ → Type 0
@@ -58,14 +60,14 @@ module _ {W E : Type 0} (kind : ErrorKind) (status : ℕ) (writer : StreamUse W)
     pub not_help : kind ≢ DisplayHelp
     pub not_memory : kind ≢ OutOfMemory
     pub untouched : IsUntouched writer
-    pub line : WritesLine errors Words
+    pub lines : WritesLines errors Words untold_text
 
   -- memory was lacking to read the words, or for the help that they asked for
   pub record EndsForMemory : Type 0 where
     pub status_is : status ≡ 4
     pub lacking : (kind ≡ OutOfMemory) ⊎ IsHelp kind
     pub untouched : IsUntouched writer
-    pub line : WritesLine errors Memory
+    pub lines : WritesLines errors Memory words_memory_text
 
   -- the run explained itself in one of these three ways
   abbrev pub Explains : Type 0
@@ -78,10 +80,10 @@ module _ {L A R W E : Type 0} (seen : Sockets L A) (status : ℕ) (reader : Stre
   Performs None = (status ≡ 2) × IsUntouched reader × IsUntouched writer × IsUntouched errors
   Performs (Some (talk arguments)) =
       (outcome : Result (Unit {0}) RunFault) × TalkEnds arguments reader writer outcome
-      × Reports outcome status errors
+      × Reports (talk arguments) outcome status errors
   Performs (Some (serve arguments)) =
       (outcome : Result (Unit {0}) RunFault) × ServeEnds seen arguments writer outcome × IsUntouched reader
-      × Reports outcome status errors
+      × Reports (serve arguments) outcome status errors
 
   -- how a run ends whose words are these
   pub data RunEnds (words : List Text) : Type 0 where

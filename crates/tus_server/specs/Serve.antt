@@ -1,6 +1,10 @@
 -- How `serve` ends. What is written on its connections is the workers' (`serve_stream` of `tus_workers`).
-use Rattle.std.specs.Prelude.{◌≡◌, ◌⊎◌, ℕ, ◌≤◌, true, List, ◌++◌, length, take, Result, Ok, Err}
+use Rattle.std.specs.Prelude.{◌≡◌, ◌⊎◌, ℕ, ◌≤◌, Bool, true, false, List, ◌++◌, length, take, Result, Ok, Err}
 use Rattle.std.specs.Io.KnownBytes.{Appends}
+use Rattle.std.specs.Net.Grammar.{IsIpText}
+use Rattle.std.specs.Net.ToAddrs.{IsHostAndPort}
+use Rattle.std.specs.declared.net.ip_addr.IpAddr.{IpAddr}
+use Rattle.std.specs.declared.net.socket_addr.SocketAddr.{SocketAddr}
 use Rattle.tus_shared.specs.Desk.{Desk}
 use Rattle.tus_shared.specs.declared.balance.Balance.{Balance}
 use Rattle.upload_book.specs.Settings.{Settings}
@@ -10,6 +14,8 @@ use Rattle.tus_server.specs.Lines.{Settles, balance_text, listening_text}
 use Rattle.tus_server.specs.Settings.{settings_given}
 use Rattle.tus_server.specs.Sockets.{HasFailed, HaveAccepted, Sockets}
 use Rattle.tus_server.specs.StreamUse.{StreamUse, IsAlive, IsUntouched}
+use Rattle.tus_server.specs.declared.cause.Cause.{Cause}
+use Rattle.tus_server.specs.declared.cause.Cause.TheVariants.{Input, Output, Port, Workers, Accept}
 use Rattle.tus_server.specs.declared.fault.RunFault.{RunFault}
 use Rattle.tus_server.specs.declared.fault.RunFault.TheVariants as run
 
@@ -17,19 +23,23 @@ use Rattle.tus_server.specs.declared.fault.RunFault.TheVariants as run
 abbrev pub serve_settings : ServeArguments → Result Settings SettingsFault
 serve_settings arguments = settings_given arguments.numbers arguments.tenants
 
+-- the arguments ask for this address and port
+abbrev pub IsPlaceAsked : ServeArguments → SocketAddr → Type 0
+IsPlaceAsked arguments place = IsHostAndPort arguments.address arguments.port place
+
 -- `serve` was asked for with these arguments, and so with these settings; it has these sockets and this output
 module _ {L A W : Type 0} (seen : Sockets L A) (arguments : ServeArguments) (s : Settings) (output : StreamUse W) where
-  -- Both lines were printed: the port at which the server listens, which is asked for by the arguments, and the balance of
+  -- Both lines were printed: where the server listens, which is asked for by the arguments, and the balance of
   -- what the desks did, one for each worker. Each worker had one of these acceptors.
   pub record PrintsBoth (acceptors : List A) : Type 0 where
     pub listener : L
-    pub asked : seen.asked listener ≡ arguments.port
+    pub asked : IsPlaceAsked arguments (seen.asked listener)
     pub desks : List Desk
     pub balance : Balance
     pub settled : Settles s desks balance
     pub each_has_a_desk : length desks ≡ arguments.workers
     pub each_accepts : length acceptors ≡ arguments.workers
-    pub lines : Appends output.before output.after (listening_text (seen.port listener) ++ balance_text balance)
+    pub lines : Appends output.before output.after (listening_text (seen.place listener) ++ balance_text balance)
     pub alive : IsAlive output
 
   -- both lines were printed, and each worker accepted as many connections as it was to
@@ -47,28 +57,40 @@ module _ {L A W : Type 0} (seen : Sockets L A) (arguments : ServeArguments) (s :
   -- the output has failed in the first line, of which a beginning was printed
   pub record BreaksFirstLine : Type 0 where
     pub listener : L
-    pub asked : seen.asked listener ≡ arguments.port
+    pub asked : IsPlaceAsked arguments (seen.asked listener)
     pub n : ℕ
-    pub within : n ≤ length (listening_text (seen.port listener))
-    pub line : Appends output.before output.after (take n (listening_text (seen.port listener)))
+    pub within : n ≤ length (listening_text (seen.place listener))
+    pub line : Appends output.before output.after (take n (listening_text (seen.place listener)))
     pub failed : output.has_failed ≡ true
 
   -- the first line was printed, and the output has failed in the second, of which a beginning was printed
   pub record BreaksSecondLine : Type 0 where
     pub listener : L
-    pub asked : seen.asked listener ≡ arguments.port
+    pub asked : IsPlaceAsked arguments (seen.asked listener)
     pub desks : List Desk
     pub balance : Balance
     pub settled : Settles s desks balance
     pub n : ℕ
     pub within : n ≤ length (balance_text balance)
-    pub lines : Appends output.before output.after (listening_text (seen.port listener) ++ take n (balance_text balance))
+    pub lines : Appends output.before output.after (listening_text (seen.place listener) ++ take n (balance_text balance))
     pub failed : output.has_failed ≡ true
 
-  -- What is printed where a socket or the output failed: nothing, where the port could not be had, or a line that broke
-  -- off, or both lines, and then an accept failed.
-  abbrev pub BreaksOff : Type 0
-  BreaksOff = IsUntouched output ⊎ BreaksFirstLine ⊎ BreaksSecondLine ⊎ AcceptsNoMore
+  -- What is printed where a socket or the output failed, by the cause: nothing, where the port or a worker's socket could not
+  -- be had, or a line that broke off, or both lines, and then an accept failed.
+  abbrev pub BreaksOff : Cause → Type 0
+  BreaksOff Input = ⊥
+  BreaksOff Output = BreaksFirstLine ⊎ BreaksSecondLine
+  BreaksOff (Port why) = IsUntouched output
+  BreaksOff Workers = IsUntouched output
+  BreaksOff Accept = AcceptsNoMore
+
+-- a fault that comes after the settings and the address were taken
+abbrev pub is_of_service : RunFault → Bool
+is_of_service run.Words = false
+is_of_service run.Address = false
+is_of_service (run.Settings why) = false
+is_of_service (run.Wire cause) = true
+is_of_service run.Memory = true
 
 -- `serve` was asked for with these arguments, with these sockets and this output
 module _ {L A W : Type 0} (seen : Sockets L A) (arguments : ServeArguments) (output : StreamUse W) where
@@ -78,17 +100,18 @@ module _ {L A W : Type 0} (seen : Sockets L A) (arguments : ServeArguments) (out
     pub is_given : serve_settings arguments ≡ Ok settings
     pub serves : ServesEach seen arguments settings output
 
-  -- a socket or the output failed
-  pub record BreaksService : Type 0 where
+  -- a socket or the output failed, by this cause
+  pub record BreaksService (cause : Cause) : Type 0 where
     pub settings : Settings
     pub is_given : serve_settings arguments ≡ Ok settings
-    pub breaks : BreaksOff seen arguments settings output
+    pub breaks : BreaksOff seen arguments settings output cause
 
-  -- How `serve` ends: well, or a socket or its output failed, or it refused the settings, or lacked memory to
-  -- begin with. In the last two nothing was printed.
+  -- How `serve` ends: well, or a socket or its output failed, or it refused the settings or the address, or lacked memory to
+  -- begin with. In the last three nothing was printed.
   abbrev pub ServeEnds : {T : Type 0} → Result T RunFault → Type 0
   ServeEnds (Ok _) = ServesAll
-  ServeEnds (Err run.Wire) = BreaksService
+  ServeEnds (Err (run.Wire cause)) = BreaksService cause
   ServeEnds (Err (run.Settings why)) = (serve_settings arguments ≡ Err why) × IsUntouched output
   ServeEnds (Err run.Memory) = IsUntouched output
+  ServeEnds (Err run.Address) = ((a : IpAddr) → ¬ (IsIpText arguments.address a)) × IsUntouched output
   ServeEnds (Err run.Words) = ⊥

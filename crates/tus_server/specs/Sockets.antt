@@ -1,18 +1,19 @@
 -- What is seen of the sockets of a run.
 use Rattle.std.specs.Prelude.{◌≡◌, ℕ, Bool, true, false, List, All, Any}
+use Rattle.std.specs.declared.net.socket_addr.SocketAddr.{SocketAddr}
 
--- What is seen of listeners and of acceptors at them: the port that a listener was asked for and the one at which it
--- listens, how many connections an acceptor gave, and whether an accept failed.
+-- What is seen of listeners and of acceptors at them: the address and the port that a listener was asked for and those at
+-- which it listens, how many connections an acceptor gave, and whether an accept failed.
 pub record Sockets (L A : Type 0) : Type 0 where
-  pub asked : L → ℕ
-  pub port : L → ℕ
+  pub asked : L → SocketAddr
+  pub place : L → SocketAddr
   pub accepted : A → ℕ
   pub has_failed : A → Bool
 
-abbrev pub sockets : {L A : Type 0} → (L → ℕ) → (L → ℕ) → (A → ℕ) → (A → Bool) → Sockets L A
-sockets asked port accepted has_failed = record {
+abbrev pub sockets : {L A : Type 0} → (L → SocketAddr) → (L → SocketAddr) → (A → ℕ) → (A → Bool) → Sockets L A
+sockets asked place accepted has_failed = record {
   asked = asked;
-  port = port;
+  place = place;
   accepted = accepted;
   has_failed = has_failed;
 }

@@ -11,6 +11,7 @@ use Rattle.upload_book.specs.PlainBook.{PlainBook, opening_book}
 use Rattle.upload_book.specs.Settings.{Settings}
 use Rattle.upload_book.specs.declared.settings_fault.SettingsFault.{SettingsFault}
 use Rattle.tus_server.specs.Arguments.{TalkArguments}
+use Rattle.tus_server.specs.Cause.{NamesCause}
 use Rattle.tus_server.specs.Settings.{settings_given}
 use Rattle.tus_server.specs.StreamUse.{StreamUse, IsAlive, IsUntouched, KeepsBytes}
 use Rattle.tus_server.specs.declared.fault.RunFault.{RunFault}
@@ -72,10 +73,12 @@ module _ {R W : Type 0} (arguments : TalkArguments) (reader : StreamUse R) (writ
     pub writer_alive : IsAlive writer
     pub untouched : OnErr (talk_settings arguments) (IsUntouched reader × IsUntouched writer)
 
-  -- how `talk` ends: it held its conversation, or lost it, or refused the settings, or lacked memory to begin with
+  -- how `talk` ends: it held its conversation, or lost it to a stream that is named, or refused the settings, or lacked memory
+  -- to begin with
   abbrev pub TalkEnds : {T : Type 0} → Result T RunFault → Type 0
   TalkEnds (Ok _) = HoldsTalk
-  TalkEnds (Err run.Wire) = LosesTalk
+  TalkEnds (Err (run.Wire cause)) = LosesTalk × NamesCause reader.has_failed writer.has_failed cause
   TalkEnds (Err (run.Settings why)) = (talk_settings arguments ≡ Err why) × IsUntouched reader × IsUntouched writer
   TalkEnds (Err run.Memory) = KeepsStreams
+  TalkEnds (Err run.Address) = ⊥
   TalkEnds (Err run.Words) = ⊥

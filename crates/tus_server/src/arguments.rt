@@ -10,8 +10,8 @@ use clap::ArgMatches;
 use tus_workers::{Bounds, WorkOptions};
 use upload_book::{Moment, Numbers};
 
-/// The command that was entered, with its options. None where there is none, its moment is past the year 9999, its
-/// port is none, or it is to have no worker or more than 16.
+/// The command that was entered, with its options. None where there is none, its moment is past the year 9999, it has no
+/// address, its port is none, or it is to have no worker or more than 16.
 pub fn command_options<'m, 'a>(matches: &'m ArgMatches<'a>) -> Option<CommandOptions<'m, 'a>>
     ensures { option_map arguments_of result ≡ arguments_entered (subcommand_rows_of matches.now) }
 {
@@ -36,12 +36,14 @@ fn talk_options<'m, 'a>(found: &'m ArgMatches<'a>) -> Option<CommandOptions<'m, 
 fn serve_options<'m, 'a>(found: &'m ArgMatches<'a>) -> Option<CommandOptions<'m, 'a>>
     ensures { option_map arguments_of result ≡ option_map serve (serve_arguments (rows_of (found_of found.now))) }
 {
+    let address = found.get_str("address")?;
     let work = work_of(found)?;
     let port = port_of(found)?;
     let workers = workers_of(found)?;
     Some(CommandOptions::Serve(ServeOptions {
         numbers: numbers_of(found),
         tenants: found.get_strs("tenant")?,
+        address,
         port,
         workers,
         work,

@@ -1,8 +1,9 @@
 //! The command line: its options with their help, and how its words are read.
 ghost use Rattle.std.specs.Prelude.{◌≡◌, IfOk, codes, false, map};
 ghost use Rattle.clap.specs.Words.{FailsBy, app_of, new_app, rule_of, subcommand_of, subcommand_rows_of};
-ghost use Rattle.tus_server.specs.CommandLine.{faults_in, flag_rule, moment_rule, option_between, option_rule, program, number_rule, program_alone, serve_command, talk_command, tenant_rule, with_crowds, with_service, with_sizes};
+ghost use Rattle.tus_server.specs.CommandLine.{faults_in, flag_rule, moment_rule, option_between, option_rule, program, number_rule, program_alone, serve_command, talk_command, tenant_rule, text_rule, with_crowds, with_service, with_sizes};
 
+use crate::version::VERSION;
 use clap::{Arg, ArgAction, ArgMatches, Command, value_parser};
 use std::alloc::{AllocError, Global};
 use std::convert::AsStr;
@@ -20,6 +21,8 @@ At 2, 3 and 4 standard error says why.";
 
 const TALK_HELP: &str = "\
 Uploads are created by POST to /files/NAME, and live as long as the conversation.
+A quota is a number of blocks, or of bytes with KiB, MiB, GiB or TiB, of which the whole blocks count: with blocks of
+4096 bytes acme:4096 and acme:16MiB are the same. An upload takes a block for each that its bytes begin.
 A PATCH that would take more blocks than the tenant's quota is refused with 507.
 
 Example, which creates an upload of 5 bytes for the tenant acme and tells where it is:
@@ -29,10 +32,12 @@ Upload-Length: 5\\r\\n\\r\\n' | tus-server talk acme:8";
 const SERVE_HELP: &str = "\
 All uploads are kept in memory, in blocks that are taken at the start: --blocks times --block-size bytes.
 Everything ends with the process: its end, or the end of the machine, loses all uploads.
+A quota is a number of blocks, or of bytes with KiB, MiB, GiB or TiB, of which the whole blocks count: with blocks of
+4096 bytes acme:4096 and acme:16MiB are the same. An upload takes a block for each that its bytes begin.
 
-It prints 'listening 127.0.0.1:PORT' before it accepts a connection, and at its end how many blocks were
-charged, released and are held. With --forever a worker serves many connections side by side, and else one after
-another, unless --at-once says more; a connection has at most 4096 messages. Expired uploads are removed whenever a
+It prints 'listening ADDR:PORT', as 127.0.0.1:8080 or [::1]:8080, before it accepts a connection, and at its end
+how many blocks were charged, released and are held. With --forever a worker serves many connections side by side,
+and else one after another, unless --at-once says more; a connection has at most 4096 messages. Expired uploads are removed whenever a
 connection is accepted, and while some last once a second. A HEAD, PATCH or DELETE ends an older PATCH to the same
 upload that has not come whole, and what came of that is kept.
 
@@ -62,6 +67,7 @@ fn program_alone<'a>(alloc: Global) -> Result<Command<'a>, AllocError>
     ensures { IfOk result (λ c. app_of c ≡ program_alone) }
 {
     Command::new(alloc, "tus-server")
+        .version(VERSION)
         .about("An upload server for tus 1.0.0, the open protocol for resumable uploads")
         .after_help(PROGRAM_HELP)
         .subcommand_required(true)
@@ -100,7 +106,7 @@ fn serve_alone<'a>(alloc: Global) -> Command<'a>
     ensures { app_of result ≡ new_app (codes "serve") }
 {
     Command::new(alloc, "serve")
-        .about("Answers HTTP/1.1 requests on connections to 127.0.0.1")
+        .about("Answers HTTP/1.1 requests on connections")
         .after_help(SERVE_HELP)
 }
 
@@ -109,6 +115,7 @@ fn service<'a>(alloc: Global, command: Command<'a>) -> Result<Command<'a>, Alloc
     ensures { IfOk result (λ c. app_of c ≡ with_service (app_of command.entry)) }
 {
     command
+        .arg(address(alloc))?
         .arg(port(alloc))?
         .arg(workers(alloc))?
         .arg(connections(alloc))?
@@ -135,6 +142,17 @@ fn port<'a>(alloc: Global) -> Arg<'a>
     number(alloc, "port", "PORT", "0")
         .value_parser(value_parser!(u64).range(..=65_535))
         .help("The port to listen at, 0 to 65535; 0 is any that is free")
+}
+
+/// The option that names the address.
+fn address<'a>(alloc: Global) -> Arg<'a>
+    ensures rule { rule_of result ≡ text_rule (codes "address") (codes "127.0.0.1") }
+    ensures local { result.global ≡ false }
+{
+    text(alloc, "address", "ADDR", "127.0.0.1").help(
+        "The address of this machine to listen at, of IPv4 or IPv6; 0.0.0.0 or :: is every one. There is \
+neither TLS nor authentication: put a proxy before it",
+    )
 }
 
 /// The option for how many workers there are.
@@ -285,8 +303,19 @@ fn tenants<'a>(alloc: Global) -> Arg<'a>
         .num_args(1..)
         .action(ArgAction::Append)
         .help(
-            "A tenant and its quota in blocks; 1 to 16 of them. A name is 1 to 32 of a-z, 0-9 and -",
+            "A tenant and its quota, in blocks or as 16MiB; 1 to 16 of them. A name is 1 to 32 of a-z, 0-9 and -",
         )
+}
+
+/// An option that takes a text.
+fn text<'a>(alloc: Global, name: &'a str, value: &'a str, default: &'a str) -> Arg<'a>
+    ensures rule { rule_of result ≡ text_rule name.entry.now default.entry.now }
+    ensures local { result.global ≡ false }
+{
+    Arg::new(alloc, name)
+        .long(name)
+        .value_name(value)
+        .default_value(default)
 }
 
 /// An option that takes a number.

@@ -1,9 +1,14 @@
-//! Why a run did not do what it was asked for: its exit status, and the line that it writes.
-ghost use Rattle.std.specs.Prelude.{◌≡◌, false};
-ghost use Rattle.tus_server.specs.Fault.{Reports, WritesLine, WritesOrFails, fault_of_opening, fault_of_wire, line_of, status_of};
+//! Why a run did not do what it was asked for: its exit status, and the two lines that it writes.
+ghost use Rattle.std.specs.Prelude.{◌≡◌, ◌++◌, false};
+ghost use Rattle.tus_server.specs.Arguments.{arguments_of};
+ghost use Rattle.tus_server.specs.Fault.{Reports, WritesLines, WritesOrFails, fault_of_opening, fault_of_wire, line_of, status_of};
 ghost use Rattle.tus_server.specs.StreamUse.{used};
+ghost use Rattle.tus_server.specs.declared.cause.Cause.TheVariants.{Workers};
 ghost use Rattle.tus_server.specs.declared.fault.RunFault.TheVariants.{Memory, Settings, Wire};
 
+use crate::cause::Cause;
+use crate::options::CommandOptions;
+use crate::sentence::sentence;
 use arrayvec::ArrayString;
 use http_wire::{Sink, WireFault, put_all};
 use std::alloc::AllocError;
@@ -19,29 +24,31 @@ const LINE_MAX: usize = 64;
 pub enum RunFault {
     /// A word of the command line is not UTF-8, or memory was lacking to say why the words are refused.
     Words,
+    /// The address is none of IPv4 or IPv6.
+    Address,
     /// The settings have a fault.
     Settings(SettingsFault),
-    /// A read or a write failed.
-    Wire,
+    /// A read or a write failed, or of `serve` a socket.
+    Wire(Cause),
     /// There was no memory to begin with.
     Memory,
 }
 
 impl RunFault {
-    /// The exit status of the program: 2 for the words and the settings, 3 for the connection, 4 for
+    /// The exit status of the program: 2 for the words, the address and the settings, 3 for the connection, 4 for
     /// memory.
     pub fn status(self) -> u8
         ensures { result ≡ status_of self }
     {
         match self {
-            RunFault::Words | RunFault::Settings(_) => 2,
-            RunFault::Wire => 3,
+            RunFault::Words | RunFault::Address | RunFault::Settings(_) => 2,
+            RunFault::Wire(_) => 3,
             RunFault::Memory => 4,
         }
     }
 
-    /// The line that names the fault: `tus-server: `, then `words`, `settings: ` and the word of its
-    /// fault, `wire` or `memory`, and LF.
+    /// The line that names the fault: `tus-server: `, then `words`, `address`, `settings: ` and the word of
+    /// its fault, `wire` or `memory`, and LF.
     #[tactic(auto, using(crate::proofs::FaultLemmas::short_word))]
     pub fn line(self) -> ArrayString<LINE_MAX>
         ensures { result.bytes ≡ line_of self }
@@ -50,11 +57,12 @@ impl RunFault {
         line.push_str("tus-server: ");
         match self {
             RunFault::Words => line.push_str("words"),
+            RunFault::Address => line.push_str("address"),
             RunFault::Settings(fault) => {
                 line.push_str("settings: ");
                 line.push_str(fault.word());
             }
-            RunFault::Wire => line.push_str("wire"),
+            RunFault::Wire(_) => line.push_str("wire"),
             RunFault::Memory => line.push_str("memory"),
         }
         line.push_str("\n");
@@ -62,28 +70,45 @@ impl RunFault {
     }
 }
 
-/// Gives the exit status of a command that ended so, and writes the line of its fault, if any, to `errors`, whose own
+/// Gives the exit status of a command that ended so, and writes the two lines of its fault, if any, to `errors`, whose own
 /// faults are passed over.
-pub fn report<E: Sink>(outcome: Result<(), RunFault>, errors: &mut E) -> u8
+pub fn report<E: Sink>(
+    outcome: Result<(), RunFault>,
+    command: &CommandOptions,
+    errors: &mut E,
+) -> u8
     requires { E.has_failed errors.old ≡ false }
-    ensures { Reports outcome result (used E.contents E.has_failed errors.old errors.new) }
+    ensures { Reports (arguments_of command.now) outcome result
+        (used E.contents E.has_failed errors.old errors.new) }
 {
     match outcome {
         Ok(()) => 0,
-        Err(fault) => report_fault(fault, errors),
+        Err(fault) => report_fault(fault, sentence(fault, command).as_str(), errors),
     }
 }
 
-/// Writes the line that names the fault to `errors`, whose own faults are passed over, and gives the
+/// Writes the line that names the fault and the sentence on it to `errors`, whose own faults are passed over, and gives the
 /// exit status.
-pub fn report_fault<E: Sink>(fault: RunFault, errors: &mut E) -> u8
+pub fn report_fault<E: Sink>(fault: RunFault, sentence: &str, errors: &mut E) -> u8
     requires { E.has_failed errors.old ≡ false }
     ensures status { result ≡ status_of fault }
-    ensures line { WritesLine (used E.contents E.has_failed errors.old errors.new) fault }
+    ensures lines { WritesLines (used E.contents E.has_failed errors.old errors.new) fault sentence.now }
 {
     let line = fault.line();
-    put_or_fail(line.as_bytes(), errors);
+    put_both(line.as_bytes(), sentence.as_bytes(), errors);
     fault.status()
+}
+
+/// Writes one text and then another, or a prefix of both where the stream fails.
+fn put_both<E: Sink>(first: &[u8], second: &[u8], errors: &mut E)
+    requires { E.has_failed errors.old ≡ false }
+    ensures { WritesOrFails (E.contents errors.old) (E.contents errors.new)
+        (E.has_failed errors.new) (first.now ++ second.now) }
+{
+    match put_all(errors, first) {
+        Ok(()) => put_or_fail(second, errors),
+        Err(_) => {}
+    }
 }
 
 /// Writes the text, or a prefix of it where the stream fails.
@@ -112,10 +137,10 @@ impl From<AllocError> for RunFault {
 }
 
 impl From<io::Error> for RunFault {
-    ghost from_gives = { λ _ run. run ≡ Wire };
+    ghost from_gives = { λ _ run. run ≡ Wire Workers };
 
     fn from(_: io::Error) -> RunFault {
-        RunFault::Wire
+        RunFault::Wire(Cause::Workers)
     }
 }
 
@@ -136,7 +161,8 @@ impl From<WireFault> for RunFault {
     fn from(fault: WireFault) -> RunFault {
         match fault {
             WireFault::Memory => RunFault::Memory,
-            WireFault::Read | WireFault::Write | WireFault::Failed => RunFault::Wire,
+            WireFault::Read => RunFault::Wire(Cause::Input),
+            WireFault::Write | WireFault::Failed => RunFault::Wire(Cause::Output),
         }
     }
 }

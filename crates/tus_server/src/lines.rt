@@ -1,23 +1,23 @@
 //! The two lines that `serve` prints.
-ghost use Rattle.std.specs.Prelude.{◌≡◌, false};
+ghost use Rattle.std.specs.Prelude.{◌≡◌, false, IfOk, string_bytes};
 ghost use Rattle.http_wire.specs.Writes.{Writes};
 ghost use Rattle.tus_server.specs.Lines.{balance_text, listening_text};
 
 use arrayvec::ArrayString;
 use http_wire::{Sink, WireFault, put_all};
 use itoa::Buffer;
+use std::alloc::{AllocError, Global};
+use std::net::SocketAddr;
 use tus_shared::Balance;
 
 /// The most bytes of a line: three numbers of 20 digits, and the words between them.
 const LINE_MAX: usize = 96;
 
-/// Prints where the server listens. The error is `WireFault::Write`, and then only a prefix of the line was written.
-pub fn put_listening<W: Sink>(output: &mut W, port: u16) -> Result<(), WireFault>
-    requires { W.has_failed output.old ≡ false }
-    ensures { Writes (W.contents output.old) (W.contents output.new) (W.has_failed output.new)
-        (listening_text port) result }
+/// The line with the address and the port where the server listens. The error is that there is no memory for it.
+pub fn listening_line(alloc: Global, place: SocketAddr) -> Result<String, AllocError>
+    ensures { IfOk result (λ line. string_bytes line ≡ listening_text place) }
 {
-    put_all(output, listening_line(port).as_bytes())
+    format!(in alloc; "listening {place}\n")
 }
 
 /// Prints what was charged and released, and what is held. The error is `WireFault::Write`, and then only a prefix of
@@ -28,18 +28,6 @@ pub fn put_balance<W: Sink>(output: &mut W, balance: Balance) -> Result<(), Wire
         (balance_text balance) result }
 {
     put_all(output, balance_line(balance).as_bytes())
-}
-
-/// The line with the address where the server listens.
-fn listening_line(port: u16) -> ArrayString<LINE_MAX>
-    ensures { result.bytes ≡ listening_text port }
-{
-    let mut digits = Buffer::new();
-    let mut line = ArrayString::new();
-    line.push_str("listening 127.0.0.1:");
-    line.push_str(digits.format(port));
-    line.push_str("\n");
-    line
 }
 
 /// The line with how many blocks were charged and released, and how many the tenants hold.

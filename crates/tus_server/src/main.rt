@@ -6,29 +6,34 @@ ghost use Rattle.std.specs.Prelude.{◌≡◌, ◌≢◌};
 ghost use Rattle.std.specs.IoError.{error_kind};
 
 mod arguments;
+mod cause;
 mod command_line;
 mod fault;
 mod lines;
 mod options;
 mod program;
+mod quota;
+mod sentence;
 mod serve;
 mod settings;
 mod talk;
+mod version;
 
 use crate::fault::{RunFault, report_fault};
 use crate::program::run;
+use crate::sentence::{NO_TEXT, WORDS_MEMORY};
 use http_wire::Tapped;
 use std::env;
 use std::io::{Error, ErrorKind};
 use std::process::ExitCode;
-use tus_workers::Loopback;
+use tus_workers::SocketListener;
 
 fn main(rt: HostRuntime) -> ExitCode {
     let mut reader = Tapped::new(rt.stdin());
     let mut writer = Tapped::new(rt.stdout());
     let mut errors = Tapped::new(rt.stderr());
     let status = match words(&rt) {
-        Ok(words) => run::<Loopback, _, _, _, _, _>(
+        Ok(words) => run::<SocketListener, _, _, _, _, _>(
             &rt,
             rt.alloc(),
             words.as_slice(),
@@ -36,7 +41,8 @@ fn main(rt: HostRuntime) -> ExitCode {
             &mut writer,
             &mut errors,
         ),
-        Err(fault) => report_fault(fault, &mut errors),
+        Err(RunFault::Memory) => report_fault(RunFault::Memory, WORDS_MEMORY, &mut errors),
+        Err(fault) => report_fault(fault, NO_TEXT, &mut errors),
     };
     ExitCode::from(status)
 }

@@ -28,6 +28,8 @@ pub struct ServeOptions<'m, 'a> {
     pub numbers: Numbers,
     /// Words NAME:QUOTA, as they were given.
     pub tenants: &'m [&'a str],
+    /// The address that is listened at, as it was given.
+    pub address: &'a str,
     /// The port that is listened at; 0 is any that is free.
     pub port: u16,
     /// How many workers there are, from 1 to 16.

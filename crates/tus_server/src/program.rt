@@ -8,9 +8,11 @@ ghost use Rattle.tus_server.specs.Sockets.{sockets};
 ghost use Rattle.tus_server.specs.StreamUse.{used};
 
 use crate::arguments::command_options;
+use crate::cause::Cause;
 use crate::command_line::parsed;
 use crate::fault::{RunFault, put_or_fail, report, report_fault};
 use crate::options::CommandOptions;
+use crate::sentence::{OUTPUT, UNTOLD, WORDS_MEMORY};
 use crate::serve::serve;
 use crate::talk::talk;
 use clap::ArgMatches;
@@ -33,8 +35,8 @@ const REFUSED: u8 = 2;
 ///
 /// The status is 0 where all was done, 2 where the words or the settings are refused, 3 where a read or a write
 /// failed, or of `serve` a socket, and 4 where there was no memory to begin with. Words that are not taken are answered
-/// on `errors`, and help on `writer`. At 3 and 4, and at 2 for the settings, the line that names the fault is written
-/// to `errors`, whose own faults are passed over.
+/// on `errors`, and help on `writer`. At 3 and 4, and at 2 for the settings, the line that names the fault and a sentence on
+/// it are written to `errors`, whose own faults are passed over.
 pub fn run<
     L: Listener,
     S: AsStr,
@@ -54,7 +56,7 @@ where
     requires reader { R.has_failed reader.old ≡ false }
     requires writer { W.has_failed writer.old ≡ false }
     requires errors { E.has_failed errors.old ≡ false }
-    ensures { RunEnds (sockets L.asked L.port L.Acceptor.accepted L.Acceptor.has_failed) result
+    ensures { RunEnds (sockets L.asked L.place L.Acceptor.accepted L.Acceptor.has_failed) result
         (used R.remaining R.has_failed reader.old reader.new)
         (used W.contents W.has_failed writer.old writer.new)
         (used E.contents E.has_failed errors.old errors.new) (map S.text words.now) }
@@ -85,7 +87,7 @@ where
     requires reader { R.has_failed reader.old ≡ false }
     requires writer { W.has_failed writer.old ≡ false }
     requires errors { E.has_failed errors.old ≡ false }
-    ensures { Performs (sockets L.asked L.port L.Acceptor.accepted L.Acceptor.has_failed) result
+    ensures { Performs (sockets L.asked L.place L.Acceptor.accepted L.Acceptor.has_failed) result
         (used R.remaining R.has_failed reader.old reader.new)
         (used W.contents W.has_failed writer.old writer.new)
         (used E.contents E.has_failed errors.old errors.new)
@@ -93,17 +95,19 @@ where
 {
     match command_options(matches) {
         Some(CommandOptions::Talk(options)) => {
-            report(talk(alloc, &options, reader, writer), errors)
+            let outcome = talk(alloc, &options, reader, writer);
+            report(outcome, &CommandOptions::Talk(options), errors)
         }
         Some(CommandOptions::Serve(options)) => {
-            report(serve::<L, H, W>(rt, alloc, &options, writer), errors)
+            let outcome = serve::<L, H, W>(rt, alloc, &options, writer);
+            report(outcome, &CommandOptions::Serve(options), errors)
         }
         None => REFUSED,
     }
 }
 
-/// Answers words that are not taken, and gives the exit status. Where memory lacks for the text of a refusal, the line of
-/// [`RunFault::Words`] stands for it.
+/// Answers words that are not taken, and gives the exit status. Where memory lacks for the text of a refusal, the lines of
+/// [`RunFault::Words`] stand for it.
 fn explain<W: Sink, E: Sink>(
     alloc: Global,
     error: &clap::Error,
@@ -117,12 +121,12 @@ fn explain<W: Sink, E: Sink>(
         (used E.contents E.has_failed errors.old errors.new) }
 {
     if error.kind() == ErrorKind::OutOfMemory {
-        return report_fault(RunFault::Memory, errors);
+        return report_fault(RunFault::Memory, WORDS_MEMORY, errors);
     }
     match error.to_string(alloc) {
         Ok(text) => tell(error, text.as_bytes(), writer, errors),
-        Err(_) if error.use_stderr() => report_fault(RunFault::Words, errors),
-        Err(_) => report_fault(RunFault::Memory, errors),
+        Err(_) if error.use_stderr() => report_fault(RunFault::Words, UNTOLD, errors),
+        Err(_) => report_fault(RunFault::Memory, WORDS_MEMORY, errors),
     }
 }
 
@@ -142,6 +146,6 @@ fn tell<W: Sink, E: Sink>(error: &clap::Error, text: &[u8], writer: &mut W, erro
     }
     match put_all(writer, text) {
         Ok(()) => 0,
-        Err(_) => report_fault(RunFault::Wire, errors),
+        Err(_) => report_fault(RunFault::Wire(Cause::Output), OUTPUT, errors),
     }
 }

@@ -1,22 +1,28 @@
 //! The command `serve`, after its command line was read.
-ghost use Rattle.std.specs.Prelude.{◌≡◌, ◌⊎◌, false, OnOk, IsErrOf, IfErr, vec_len};
+ghost use Rattle.std.specs.Prelude.{◌≡◌, false, true, OnOk, OnErr, IfOk, IsErrOf, IfErr, vec_len};
+ghost use Rattle.std.specs.Net.Grammar.{IsIpText};
+ghost use Rattle.std.specs.Net.ToAddrs.{IsHostAndPort};
+ghost use Rattle.std.specs.declared.net.ip_addr.IpAddr.{IpAddr};
 ghost use Rattle.http_wire.specs.Writes.{Writes};
 ghost use Rattle.tus_server.specs.Arguments.{serve_arguments_of};
 ghost use Rattle.tus_server.specs.Lines.{Settles, balance_text};
-ghost use Rattle.tus_server.specs.Serve.{BreaksOff, ServeEnds, ServesEach};
+ghost use Rattle.tus_server.specs.Serve.{BreaksOff, IsPlaceAsked, ServeEnds, ServesEach, is_of_service};
 ghost use Rattle.tus_server.specs.Sockets.{sockets};
 ghost use Rattle.tus_server.specs.StreamUse.{used};
+ghost use Rattle.tus_server.specs.declared.cause.Cause.{Cause};
+ghost use Rattle.tus_server.specs.declared.cause.PortFault.{PortFault};
 ghost use Rattle.tus_shared.specs.declared.balance.Balance.{Balance};
 
+use crate::cause::{Cause, PortFault};
 use crate::fault::RunFault;
-use crate::lines::{put_balance, put_listening};
+use crate::lines::{listening_line, put_balance};
 use crate::options::ServeOptions;
 use crate::settings::settings_with;
-use http_wire::{Sink, WireFault};
+use http_wire::{Sink, WireFault, put_all};
 use std::alloc::Global;
 use std::io::Eprint;
 use std::marker::Brand;
-use std::net::{Net, TcpListener, TcpStream};
+use std::net::{IpAddr, Net, SocketAddr, TcpListener, TcpStream};
 use std::sync::Wait;
 use std::sync::ledger::{Blank, Ledger};
 use std::thread::Threads;
@@ -28,9 +34,10 @@ use upload_book::Settings;
 /// Serves connections on sockets of this machine, over a new book with the settings of the options. It prints where it
 /// listens before it accepts anything, and at its end what was charged, released and is held.
 ///
-/// It is `Ok` where each worker accepted all of its connections. The error is the fault of the settings, `RunFault::Wire`
-/// where the port could not be had, where a line could not be printed or where an accept failed, or `RunFault::Memory`
-/// where there was no memory for the book or its board. After the first and the last nothing was printed.
+/// It is `Ok` where each worker accepted all of its connections. The error is the fault of the settings or the address, `RunFault::Wire`
+/// where the port or a worker's socket could not be had, where a line could not be printed or where an accept failed, each by
+/// its cause, or `RunFault::Memory` where there was no memory for the book or its board. After the first and the last nothing
+/// was printed.
 pub fn serve<
     L: Listener,
     H: Threads
@@ -45,15 +52,17 @@ where
     L::Acceptor: Send + Drop,
     L: Drop,
     requires { W.has_failed output.old ≡ false }
-    ensures { ServeEnds (sockets L.asked L.port L.Acceptor.accepted L.Acceptor.has_failed)
+    ensures { ServeEnds (sockets L.asked L.place L.Acceptor.accepted L.Acceptor.has_failed)
         (serve_arguments_of options.now) (used W.contents W.has_failed output.old output.new) result }
 {
     let settings = settings_with(alloc, options.numbers, options.tenants)?;
+    let place = place_of(options.address, options.port)?;
     serve_with::<L, Brand, Brand, Brand, H, W>(
         rt,
         alloc,
         settings,
         options,
+        place,
         Blank::new(16),
         Blank::new(16),
         Blank::new(16),
@@ -80,6 +89,7 @@ fn serve_with<
     alloc: Global,
     settings: Settings,
     options: &ServeOptions,
+    place: SocketAddr,
     charged: Blank,
     released: Blank,
     made: Blank,
@@ -91,18 +101,20 @@ where
     L: Drop,
     requires settings { settings ≡ C.settings }
     requires desks { options.now.workers ≡ C.desks }
+    requires place { IsPlaceAsked (serve_arguments_of options.now) place }
     requires charged { (charged.name ≡ C.name) × (charged.parts ≡ C.parts) × (C.parts ≡ 16) }
     requires released { (released.name ≡ R.name) × (released.parts ≡ R.parts) × (R.parts ≡ 16) }
     requires made { (made.name ≡ M.name) × (made.parts ≡ M.parts) × (M.parts ≡ 16) }
     requires log { events.seen.book ≡ C.log }
     requires output { W.has_failed output.old ≡ false }
-    ensures fault { IfErr result (λ fault. (fault ≡ RunFault.Wire) ⊎ (fault ≡ RunFault.Memory)) }
+    ensures fault { IfErr result (λ fault. is_of_service fault ≡ true) }
     ensures memory { IsErrOf result RunFault.Memory → output.new ≡ output.old }
-    ensures wire { IsErrOf result RunFault.Wire
-        → BreaksOff (sockets L.asked L.port L.Acceptor.accepted L.Acceptor.has_failed)
-        (serve_arguments_of options.now) C.settings (used W.contents W.has_failed output.old output.new) }
+    ensures wire { (cause : Cause) → IsErrOf result (RunFault.Wire cause)
+        → BreaksOff (sockets L.asked L.place L.Acceptor.accepted L.Acceptor.has_failed)
+        (serve_arguments_of options.now) C.settings (used W.contents W.has_failed output.old output.new)
+        cause }
     ensures all { OnOk result
-        (ServesEach (sockets L.asked L.port L.Acceptor.accepted L.Acceptor.has_failed)
+        (ServesEach (sockets L.asked L.place L.Acceptor.accepted L.Acceptor.has_failed)
         (serve_arguments_of options.now) C.settings (used W.contents W.has_failed output.old output.new)) }
 {
     let (shared, desks) = Shared::<C, R, M, &H>::open(
@@ -120,16 +132,44 @@ where
     commons.watch(rt)?;
     let room = Vec::with_capacity(alloc, desks.len())?;
     let room_after = Vec::with_capacity(alloc, desks.len())?;
-    let listener = L::listen(rt, options.port)?;
+    let listener = listen::<L, H>(rt, place)?;
+    let line = listening_line(alloc, listener.place())?;
     let mut workers = hire(&listener, desks, room)?;
-    put_listening(output, listener.port())?;
+    put_all(output, line.as_bytes())?;
     work_all(rt, alloc, &shared, workers.as_mut_slice(), work, &commons);
     let failed = any_failed(workers.as_slice());
     put_settled(output, shared, dismiss(workers, room_after))?;
     if failed {
-        return Err(RunFault::Wire);
+        return Err(RunFault::Wire(Cause::Accept));
     }
     Ok(())
+}
+
+/// The place of this address and this port. The error is `RunFault::Address`, where the text is no address.
+fn place_of(address: &str, port: u16) -> Result<SocketAddr, RunFault>
+    ensures place { IfOk result (IsHostAndPort address.now port) }
+    ensures fault { IfErr result (λ fault. fault ≡ RunFault.Address) }
+    ensures none { OnErr result ((a : IpAddr) → ¬ (IsIpText address.now a)) }
+{
+    match address.parse::<IpAddr>() {
+        Ok(ip) => Ok(SocketAddr::new(ip, port)),
+        Err(_) => Err(RunFault::Address),
+    }
+}
+
+/// Listens at this place. The error is that it could not be had.
+fn listen<L: Listener, N: Net<Stream = TcpStream, Listener = TcpListener>>(
+    net: &N,
+    place: SocketAddr,
+) -> Result<L, RunFault>
+    ensures asked { IfOk result (λ listener. L.asked listener ≡ place) }
+    ensures fault { IfErr result (λ fault.
+        (why : PortFault) × (fault ≡ RunFault.Wire (Cause.Port why))) }
+{
+    match L::listen(net, place) {
+        Ok(listener) => Ok(listener),
+        Err(error) => Err(RunFault::Wire(Cause::Port(PortFault::of(&error)))),
+    }
 }
 
 /// Settles what the desks did, and prints its balance. The error is `WireFault::Write`, and then only a prefix of the

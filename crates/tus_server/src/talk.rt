@@ -21,7 +21,7 @@ use upload_book::{Book, Numbers};
 /// has the moment of the options, and at most 4,096 are read.
 ///
 /// It is `Ok` where the conversation ended, in whatever way. The error is the fault of the settings, and then both
-/// streams are untouched, `RunFault::Wire` where a read or a write failed, or `RunFault::Memory` where memory was
+/// streams are untouched, `RunFault::Wire` with the stream where a read or a write failed, or `RunFault::Memory` where memory was
 /// lacking to begin with, and then nothing was read or written.
 pub fn talk<R: Source, W: Sink>(
     alloc: Global,

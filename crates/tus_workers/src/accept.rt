@@ -1,8 +1,9 @@
 ghost use Rattle.std.specs.Prelude.{◌≡◌, ℕ, ◌+◌, ◌^◌, ◌-◌, ◌<◌, Bool, false, true, IfOk, OnErr, OnOk, is_err, is_some, if◌then◌else◌};
+ghost use Rattle.std.specs.declared.net.socket_addr.SocketAddr.{SocketAddr};
 
 use mio::{Registry, Token, net as ready};
 use std::io;
-use std::net::{Net, TcpListener, TcpStream};
+use std::net::{Net, SocketAddr, TcpListener, TcpStream};
 
 /// What one worker accepts its connections from: one after another, each of which it waits for, or, after
 /// [`Accept::listen_with`], as they come. It remembers whether an accept failed for good.
@@ -54,24 +55,25 @@ pub trait Accept {
 pub trait Listener {
     type Acceptor: Accept;
 
-    // The port that it was asked for.
-    ghost asked: { Self → ℕ };
+    // The address and the port that it was asked for.
+    ghost asked: { Self → SocketAddr };
 
-    // The port at which it listens.
-    ghost port: { Self → ℕ };
+    // The address and the port at which it listens.
+    ghost place: { Self → SocketAddr };
 
-    /// Listens at this port; 0 is any that is free. An error says that the port could not be had.
+    /// Listens at this address of the machine and this port; port 0 is any that is free. An error says that they could not
+    /// be had.
     fn listen<N: Net<Stream = TcpStream, Listener = TcpListener>>(
         net: &N,
-        wanted: u16,
+        wanted: SocketAddr,
     ) -> io::Result<Self>
     where
         Self: Sized,
         ensures { IfOk result (λ listener. asked listener ≡ wanted) };
 
-    /// The port at which it listens.
-    fn port(&self) -> u16
-        ensures { result ≡ port self.now };
+    /// The address and the port at which it listens.
+    fn place(&self) -> SocketAddr
+        ensures { result ≡ place self.now };
 
     /// One more acceptor, which has accepted nothing. An error says that it could not be had.
     fn acceptor(&self) -> io::Result<Self::Acceptor>

@@ -7,7 +7,7 @@ use crate::texts::{HEAD, MISSED};
 use std::alloc::{AllocError, Global};
 use std::io::{Eprint, Read, Write};
 use std::marker::Brand;
-use std::net::{Net, Shutdown, TcpListener, TcpStream};
+use std::net::{Ipv4Addr, Net, Shutdown, SocketAddr, TcpListener, TcpStream};
 use std::process::Abort;
 use std::sync::Wait;
 use std::sync::ledger::{Blank, Ledger};
@@ -17,7 +17,7 @@ use std::time::Duration;
 use std::{io, time};
 use tus_shared::{Charges, Opened, Shared, settle};
 use tus_workers::{
-    Bounds, Commons, Listener, Loopback, WorkOptions, any_failed, dismiss, hire, work_all,
+    Bounds, Commons, Listener, SocketListener, WorkOptions, any_failed, dismiss, hire, work_all,
 };
 use upload_book::Settings;
 
@@ -91,13 +91,13 @@ fn serve_all<
     let (shared, desks) = Shared::<C, R, M, &W>::open(
         rt, alloc, settings, 1, charged, released, made, events,
     )?;
-    let listener = Loopback::listen(rt, 0)?;
+    let listener = SocketListener::listen(rt, SocketAddr::from((Ipv4Addr::LOCALHOST, 0)))?;
     let mut clients = Vec::new(alloc);
     let sent = repeated(alloc, HEAD, crowd.heads)?;
     let [even, odd] = crowd.pieces;
     for number in 0..crowd.clients {
         let piece = if number % 2 == 0 { even } else { odd };
-        clients.push(client(rt, listener.port(), &sent, piece)?)?;
+        clients.push(client(rt, listener.place().port(), &sent, piece)?)?;
     }
     let options = WorkOptions {
         moment: Some(moment(rt)),

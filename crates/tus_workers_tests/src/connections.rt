@@ -10,7 +10,7 @@ use crate::texts::{
 use std::alloc::Global;
 use std::io::{Eprint, Read, Write};
 use std::marker::Brand;
-use std::net::{Net, Shutdown, TcpListener, TcpStream};
+use std::net::{Ipv4Addr, Net, Shutdown, SocketAddr, TcpListener, TcpStream};
 use std::process::Abort;
 use std::sync::Wait;
 use std::sync::ledger::{Blank, Ledger};
@@ -20,7 +20,7 @@ use std::time::Duration;
 use std::{io, time};
 use tus_shared::{Charges, Opened, Shared, settle};
 use tus_workers::{
-    Bounds, Commons, Listener, Loopback, WorkOptions, any_failed, dismiss, hire, work_all,
+    Bounds, Commons, Listener, SocketListener, WorkOptions, any_failed, dismiss, hire, work_all,
 };
 use upload_book::{Book, Name, Settings};
 
@@ -97,9 +97,9 @@ where
     let (shared, desks) = Shared::<C, R, M, &W>::open(
         rt, alloc, settings, 2, charged, released, made, events,
     )?;
-    let listener = L::listen(rt, 0)?;
-    let acme = client(rt, listener.port(), &[POST, PATCH])?;
-    let beta = client(rt, listener.port(), &[BETA_POST, BETA_PATCH])?;
+    let listener = L::listen(rt, SocketAddr::from((Ipv4Addr::LOCALHOST, 0)))?;
+    let acme = client(rt, listener.place().port(), &[POST, PATCH])?;
+    let beta = client(rt, listener.place().port(), &[BETA_POST, BETA_PATCH])?;
     let mut workers = hire(&listener, desks, Vec::with_capacity(alloc, 2)?)?;
     let options = WorkOptions {
         moment: Some(moment(rt)),
@@ -134,7 +134,7 @@ where
 
 #[test]
 fn two_workers_serve_two_clients(rt: HostRuntime) -> Result<(), Fail> {
-    serve_both::<Loopback, Brand, Brand, Brand, HostRuntime>(
+    serve_both::<SocketListener, Brand, Brand, Brand, HostRuntime>(
         &rt,
         rt.alloc(),
         settings()?,

@@ -5,15 +5,15 @@ ghost use Rattle.std.specs.Prelude.{◌≡◌};
 use mio::{Registry, Token, net as ready};
 use std::io;
 use std::io::ErrorKind;
-use std::net::{Net, TcpListener, TcpStream};
+use std::net::{Net, SocketAddr, TcpListener, TcpStream};
 use tus_workers::{Accept, Listener};
 
 /// A listener of which each acceptor gives one connection and then fails. None is told of connections.
 #[derive(Drop)]
 pub struct Script {
     listener: TcpListener,
-    asked: u16,
-    port: u16,
+    asked: SocketAddr,
+    place: SocketAddr,
 }
 
 #[derive(Drop)]
@@ -28,23 +28,23 @@ impl Listener for Script {
 
     ghost asked = { λ s. s.asked };
 
-    ghost port = { λ s. s.port };
+    ghost place = { λ s. s.place };
 
     fn listen<N: Net<Stream = TcpStream, Listener = TcpListener>>(
         net: &N,
-        port: u16,
+        wanted: SocketAddr,
     ) -> io::Result<Self> {
-        let listener = TcpListener::bind(net, ("127.0.0.1", port))?;
-        let address = listener.local_addr()?;
+        let listener = TcpListener::bind(net, wanted)?;
+        let place = listener.local_addr()?;
         Ok(Script {
             listener,
-            asked: port,
-            port: address.port(),
+            asked: wanted,
+            place,
         })
     }
 
-    fn port(&self) -> u16 {
-        self.port
+    fn place(&self) -> SocketAddr {
+        self.place
     }
 
     fn acceptor(&self) -> io::Result<ScriptedAcceptor> {

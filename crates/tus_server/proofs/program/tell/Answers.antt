@@ -9,5 +9,5 @@ returns-in-Err g c =
       asked = search rules;
       shown = written _ _ _ c.args.text.now _ c.in-Err.ensures;
       failed = c.in-Err.ensures.failed;
-      line = c.report_fault.ensures.line;
+      lines = c.report_fault.ensures.lines;
     }))

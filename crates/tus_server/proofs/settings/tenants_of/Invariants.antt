@@ -8,4 +8,4 @@ use Rattle.tus_server.proofs.settings.tenants_of.Given as goal
 -- the tenants so far and those of the words that are left are those of all words
 abbrev pub invariant-loop-word : goal.invariant-loop-word
 invariant-loop-word l =
-    option_map (λ rest. tenants_of l.tenants.items ++ rest) (tenants_in (texts (drop l.word-index l.words))) ≡ tenants_in (texts l.words)
+    option_map (λ rest. tenants_of l.tenants.items ++ rest) (tenants_in l.block_size (texts (drop l.word-index l.words))) ≡ tenants_in l.block_size (texts l.words)

@@ -4,22 +4,22 @@ use crate::accept::{Accept, Listener};
 use mio::{Interest, Registry, Token, net as ready};
 use std::io;
 use std::io::ErrorKind;
-use std::net::{Net, TcpListener, TcpStream};
+use std::net::{Net, SocketAddr, TcpListener, TcpStream};
 
 /// How many clients that are gone before they were accepted are passed over in one accept.
 const GONE_MAX: u32 = 1_000_000;
 
-/// A listener for clients on this machine, at 127.0.0.1.
+/// A listener at a socket of this machine.
 #[derive(Drop)]
-pub struct Loopback {
+pub struct SocketListener {
     listener: TcpListener,
-    asked: u16,
-    port: u16,
+    asked: SocketAddr,
+    place: SocketAddr,
 }
 
-/// What one worker accepts connections from at a [`Loopback`].
+/// What one worker accepts connections from at a [`SocketListener`].
 #[derive(Drop)]
-pub struct LoopbackAcceptor {
+pub struct SocketAcceptor {
     listener: TcpListener,
     // The same where it is told of, and waits for nobody.
     watched: Option<ready::TcpListener>,
@@ -27,32 +27,32 @@ pub struct LoopbackAcceptor {
     failed: bool,
 }
 
-impl Listener for Loopback {
-    type Acceptor = LoopbackAcceptor;
+impl Listener for SocketListener {
+    type Acceptor = SocketAcceptor;
 
     ghost asked = { λ l. l.asked };
 
-    ghost port = { λ l. l.port };
+    ghost place = { λ l. l.place };
 
     fn listen<N: Net<Stream = TcpStream, Listener = TcpListener>>(
         net: &N,
-        wanted: u16,
+        wanted: SocketAddr,
     ) -> io::Result<Self> {
-        let listener = TcpListener::bind(net, ("127.0.0.1", wanted))?;
-        let address = listener.local_addr()?;
-        Ok(Loopback {
+        let listener = TcpListener::bind(net, wanted)?;
+        let place = listener.local_addr()?;
+        Ok(SocketListener {
             listener,
             asked: wanted,
-            port: address.port(),
+            place,
         })
     }
 
-    fn port(&self) -> u16 {
-        self.port
+    fn place(&self) -> SocketAddr {
+        self.place
     }
 
-    fn acceptor(&self) -> io::Result<LoopbackAcceptor> {
-        Ok(LoopbackAcceptor {
+    fn acceptor(&self) -> io::Result<SocketAcceptor> {
+        Ok(SocketAcceptor {
             listener: self.listener.try_clone()?,
             watched: None,
             accepted: 0,
@@ -61,7 +61,7 @@ impl Listener for Loopback {
     }
 }
 
-impl Accept for LoopbackAcceptor {
+impl Accept for SocketAcceptor {
     ghost accepted = { λ a. a.accepted };
 
     ghost has_failed = { λ a. a.failed };

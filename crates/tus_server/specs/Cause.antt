@@ -1,0 +1,26 @@
+-- What broke where a read, a write or a socket failed.
+use Rattle.std.specs.Prelude.{◌≡◌, Bool, true}
+use Rattle.std.specs.declared.io.ErrorKind.{ErrorKind}
+use Rattle.std.specs.declared.io.ErrorKind.TheVariants as error
+use Rattle.http_wire.specs.declared.fault.WireFault.{WireFault}
+use Rattle.http_wire.specs.declared.fault.WireFault.TheVariants as wire
+use Rattle.tus_server.specs.declared.cause.Cause.{Cause}
+use Rattle.tus_server.specs.declared.cause.Cause.TheVariants.{Input, Output, Port, Workers, Accept}
+use Rattle.tus_server.specs.declared.cause.PortFault.{PortFault}
+use Rattle.tus_server.specs.declared.cause.PortFault.TheVariants.{Taken, Forbidden, NotHere, Refused}
+
+-- what an error of listening says of the port
+abbrev pub port_fault_of : ErrorKind → PortFault
+port_fault_of error.AddrInUse = Taken
+port_fault_of error.PermissionDenied = Forbidden
+port_fault_of error.AddrNotAvailable = NotHere
+port_fault_of _ = Refused
+
+-- The cause names a stream that has failed, where these say whether the reader and the writer have: a conversation has no
+-- other cause.
+abbrev pub NamesCause : Bool → Bool → Cause → Type 0
+NamesCause reader writer Input = reader ≡ true
+NamesCause reader writer Output = writer ≡ true
+NamesCause reader writer (Port why) = ⊥
+NamesCause reader writer Workers = ⊥
+NamesCause reader writer Accept = ⊥

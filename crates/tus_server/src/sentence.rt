@@ -1,0 +1,438 @@
+//! The second line of a fault: a sentence that says what was wrong, with the value and the limit, and what to do.
+ghost use Rattle.std.specs.Prelude.{◌≡◌, ◌<◌, ◌≤◌, [], ◌∷◌, ◌++◌, bytes_eq, codes, decimal, length, take};
+ghost use Rattle.std.specs.List.{before_first, list_any};
+ghost use Rattle.arrayvec.specs.ArrayString.{array_string_len};
+ghost use Rattle.clap.specs.Walk.{texts};
+ghost use Rattle.tus_server.specs.Arguments.{arguments_of};
+ghost use Rattle.tus_server.specs.Sentences.{address_in, address_text, cause_text, memory_text, name_twice, numbers_in, outside_text, pool_text, port_in, port_text, quota_in, quota_sum, quota_text, sentence_of, settings_text, shown, shown_byte, sum_text, tenant_words, tenants_text, twice_text, untold_text, word_rule, word_text, wrong_word};
+ghost use Rattle.tus_server.specs.Settings.{is_colon};
+
+use crate::cause::{Cause, PortFault};
+use crate::fault::RunFault;
+use crate::options::CommandOptions;
+use crate::settings::tenant_of;
+use arrayvec::ArrayString;
+use itoa::Buffer;
+use tus_text::is_tenant_name;
+use upload_book::{Numbers, SettingsFault};
+
+/// The most bytes of a sentence.
+pub const SENTENCE_MAX: usize = 256;
+
+/// What a sentence shows of a word.
+type Excerpt = ArrayString<48>;
+
+/// The sentence on a word of the command line that is no text.
+pub const NO_TEXT: &str = "a word of the command line is not UTF-8: write it in ASCII\n";
+
+/// The sentence on words that are refused, where memory was lacking to say why.
+pub const UNTOLD: &str =
+    "the command line is refused, and there was no memory to say why: see tus-server --help\n";
+
+/// The sentence on memory that was lacking for the words themselves.
+pub const WORDS_MEMORY: &str =
+    "there was no memory to read the command line or to show help: give more memory\n";
+
+/// The sentence on an output that failed.
+pub const OUTPUT: &str = "standard output could not be written: see where it goes to\n";
+
+/// The sentence on a fault of this command, with LF.
+pub fn sentence(fault: RunFault, command: &CommandOptions) -> ArrayString<SENTENCE_MAX>
+    ensures { result.bytes ≡ sentence_of (arguments_of command.now) fault }
+{
+    match fault {
+        RunFault::Words => line(UNTOLD),
+        RunFault::Settings(why) => settings_line(why, numbers_of(command), tenants_of(command)),
+        RunFault::Address => address_line(address_of(command)),
+        RunFault::Wire(cause) => cause_line(cause, address_of(command), port_of(command)),
+        RunFault::Memory => memory_line(numbers_of(command)),
+    }
+}
+
+/// The numbers of a command.
+fn numbers_of(command: &CommandOptions) -> Numbers
+    ensures { result ≡ numbers_in (arguments_of command.now) }
+{
+    match command {
+        CommandOptions::Talk(options) => options.numbers,
+        CommandOptions::Serve(options) => options.numbers,
+    }
+}
+
+/// The words NAME:QUOTA of a command.
+fn tenants_of<'m, 'a>(command: &CommandOptions<'m, 'a>) -> &'m [&'a str]
+    ensures { texts result.now ≡ tenant_words (arguments_of command.entry.now) }
+{
+    match command {
+        CommandOptions::Talk(options) => options.tenants,
+        CommandOptions::Serve(options) => options.tenants,
+    }
+}
+
+/// The address that a command was to listen at; no text where it listens at none.
+fn address_of<'m, 'a>(command: &CommandOptions<'m, 'a>) -> &'a str
+    ensures { result.now ≡ address_in (arguments_of command.entry.now) }
+{
+    match command {
+        CommandOptions::Talk(_) => "",
+        CommandOptions::Serve(options) => options.address,
+    }
+}
+
+/// The port that a command was to listen at; 0 where it listens at none.
+fn port_of(command: &CommandOptions) -> u16
+    ensures { result ≡ port_in (arguments_of command.now) }
+{
+    match command {
+        CommandOptions::Talk(_) => 0,
+        CommandOptions::Serve(options) => options.port,
+    }
+}
+
+/// A text as a line of its own.
+fn line(text: &str) -> ArrayString<SENTENCE_MAX>
+    requires { length text.now ≤ 256 }
+    ensures { result.bytes ≡ text.now }
+{
+    let mut line = ArrayString::new();
+    line.push_str(text);
+    line
+}
+
+/// What is wrong with the settings of these numbers and words.
+fn settings_line(why: SettingsFault, numbers: Numbers, words: &[&str]) -> ArrayString<SENTENCE_MAX>
+    ensures { result.bytes ≡ settings_text why numbers (texts words.now) }
+{
+    match why {
+        SettingsFault::Blocks => outside("blocks", numbers.blocks, "1 to 1048576"),
+        SettingsFault::BlockSize => outside("block-size", numbers.block_size, "1 to 65536"),
+        SettingsFault::PoolBytes => pool_line(numbers),
+        SettingsFault::Lifetime => outside("lifetime", numbers.lifetime, "1 to 31536000"),
+        SettingsFault::MaxSize => outside("max-size", numbers.max_size, "1 to 16777216"),
+        SettingsFault::Uploads => outside("uploads", numbers.uploads, "1 to 64"),
+        SettingsFault::LastId => line("the last id is out of its range\n"),
+        SettingsFault::TenantCount => tenants_line(words.len()),
+        SettingsFault::TenantName => word_line(wrong_word(words, numbers.block_size)),
+        SettingsFault::TenantTwice => twice_line(name_twice(words)),
+        SettingsFault::Quota => quota_line(quota_sum(words, numbers.block_size), numbers.blocks),
+    }
+}
+
+/// A number of an option is outside its range.
+fn outside(option: &str, value: u64, range: &str) -> ArrayString<SENTENCE_MAX>
+    requires option { length option.now ≤ 16 }
+    requires range { length range.now ≤ 32 }
+    ensures { result.bytes ≡ outside_text option.now value range.now }
+{
+    let mut digits = Buffer::new();
+    let mut line = ArrayString::new();
+    line.push_str("--");
+    line.push_str(option);
+    line.push_str(" is ");
+    line.push_str(digits.format(value));
+    line.push_str(": give ");
+    line.push_str(range);
+    line.push_str("\n");
+    line
+}
+
+/// The blocks have too many bytes together.
+fn pool_line(numbers: Numbers) -> ArrayString<SENTENCE_MAX>
+    ensures { result.bytes ≡ pool_text numbers }
+{
+    let mut digits = Buffer::new();
+    let mut line = ArrayString::new();
+    line.push_str("--blocks ");
+    line.push_str(digits.format(numbers.blocks));
+    line.push_str(" times --block-size ");
+    line.push_str(digits.format(numbers.block_size));
+    line.push_str(" is more than 1073741824 bytes: give less of one\n");
+    line
+}
+
+/// There are too many tenants, or none.
+fn tenants_line(count: usize) -> ArrayString<SENTENCE_MAX>
+    ensures { result.bytes ≡ tenants_text count }
+{
+    let mut digits = Buffer::new();
+    let mut line = ArrayString::new();
+    line.push_str(digits.format(count));
+    line.push_str(" tenants are named: give 1 to 16\n");
+    line
+}
+
+/// A word names no tenant.
+fn word_line(word: &str) -> ArrayString<SENTENCE_MAX>
+    ensures { result.bytes ≡ word_text word.now }
+{
+    let mut line = ArrayString::new();
+    line.push_str(shown(word).as_str());
+    line.push_str(": ");
+    line.push_str(word_rule(word));
+    line.push_str("\n");
+    line
+}
+
+/// Two tenants have this name.
+fn twice_line(name: &str) -> ArrayString<SENTENCE_MAX>
+    ensures { result.bytes ≡ twice_text name.now }
+{
+    let mut line = ArrayString::new();
+    line.push_str(shown(name).as_str());
+    line.push_str(" is the name of two tenants: give each another\n");
+    line
+}
+
+/// The quotas are more than the blocks.
+fn quota_line(sum: Option<u64>, blocks: u64) -> ArrayString<SENTENCE_MAX>
+    ensures { result.bytes ≡ quota_text sum blocks }
+{
+    let mut digits = Buffer::new();
+    let mut line = ArrayString::new();
+    line.push_str("the quotas sum to ");
+    line.push_str(sum_of(sum, &mut digits));
+    line.push_str(" blocks, --blocks is ");
+    line.push_str(digits.format(blocks));
+    line.push_str(": give smaller quotas or more --blocks\n");
+    line
+}
+
+/// A sum in words.
+fn sum_of(sum: Option<u64>, digits: &mut Buffer) -> &str
+    ensures text { result.now ≡ sum_text sum }
+    ensures short { length result.now ≤ 40 }
+{
+    match sum {
+        Some(sum) => digits.format(sum),
+        None => "more than 18446744073709551615",
+    }
+}
+
+/// There was no memory for the blocks and what stands beside them.
+fn memory_line(numbers: Numbers) -> ArrayString<SENTENCE_MAX>
+    ensures { result.bytes ≡ memory_text numbers }
+{
+    let bytes = u128::from(numbers.blocks) * u128::from(numbers.block_size);
+    let mut digits = Buffer::new();
+    let mut line = ArrayString::new();
+    line.push_str("there was no memory for ");
+    line.push_str(digits.format(numbers.blocks));
+    line.push_str(" blocks of ");
+    line.push_str(digits.format(numbers.block_size));
+    line.push_str(" bytes, ");
+    line.push_str(digits.format(bytes));
+    line.push_str(" together, and their uploads: give less, or more memory\n");
+    line
+}
+
+/// What broke.
+fn cause_line(cause: Cause, address: &str, port: u16) -> ArrayString<SENTENCE_MAX>
+    ensures { result.bytes ≡ cause_text cause address.now port }
+{
+    match cause {
+        Cause::Input => line("standard input could not be read: see where it comes from\n"),
+        Cause::Output => line(OUTPUT),
+        Cause::Port(why) => port_line(why, address, port),
+        Cause::Workers => line(
+            "there was no socket for each worker: give fewer --workers, or a higher ulimit -n\n",
+        ),
+        Cause::Accept => line(
+            "a worker could accept no connection: see the lines before, and ulimit -n\n",
+        ),
+    }
+}
+
+/// A port could not be had.
+fn port_line(why: PortFault, address: &str, port: u16) -> ArrayString<SENTENCE_MAX>
+    ensures { result.bytes ≡ port_text why address.now port }
+{
+    match why {
+        PortFault::Taken => port_is(
+            port,
+            " is taken by another program: end that, or give another --port\n",
+        ),
+        PortFault::Forbidden => port_is(
+            port,
+            " is not allowed to this user: give a --port from 1024 on\n",
+        ),
+        PortFault::NotHere => not_here_line(address),
+        PortFault::Refused => refused_line(address, port),
+    }
+}
+
+/// A port is as these words say.
+fn port_is(port: u16, words: &str) -> ArrayString<SENTENCE_MAX>
+    requires { length words.now ≤ 128 }
+    ensures { result.bytes ≡ codes "port " ++ decimal port ++ words.now }
+{
+    let mut digits = Buffer::new();
+    let mut line = ArrayString::new();
+    line.push_str("port ");
+    line.push_str(digits.format(port));
+    line.push_str(words);
+    line
+}
+
+/// The machine has no such address.
+fn not_here_line(address: &str) -> ArrayString<SENTENCE_MAX>
+    ensures { result.bytes ≡ port_text PortFault.NotHere address.now 0 }
+{
+    let mut line = ArrayString::new();
+    line.push_str(shown(address).as_str());
+    line.push_str(
+        " is no address of this machine: give one that is, or 0.0.0.0 or :: for every one\n",
+    );
+    line
+}
+
+/// The system refused a port of an address.
+fn refused_line(address: &str, port: u16) -> ArrayString<SENTENCE_MAX>
+    ensures { result.bytes ≡ port_text PortFault.Refused address.now port }
+{
+    let mut digits = Buffer::new();
+    let mut line = ArrayString::new();
+    line.push_str(shown(address).as_str());
+    line.push_str(" port ");
+    line.push_str(digits.format(port));
+    line.push_str(" was refused by the system: give another\n");
+    line
+}
+
+/// A word is no address.
+fn address_line(word: &str) -> ArrayString<SENTENCE_MAX>
+    ensures { result.bytes ≡ address_text word.now }
+{
+    let mut line = ArrayString::new();
+    line.push_str(shown(word).as_str());
+    line.push_str(": an address is one of IPv4 or IPv6, as 127.0.0.1 or ::1\n");
+    line
+}
+
+/// A word as it is shown.
+fn shown(word: &str) -> Excerpt
+    ensures { result.bytes ≡ shown word.now }
+{
+    let kept = first_bytes(word.as_bytes());
+    let mut line = ArrayString::new();
+    for byte in kept {
+        push_shown(&mut line, *byte);
+    }
+    line
+}
+
+/// The bytes of a word that are shown.
+fn first_bytes(bytes: &[u8]) -> &[u8]
+    ensures value { result.now ≡ take 48 bytes.now }
+    ensures fits { length result.now ≤ 48 }
+{
+    if bytes.len() <= 48 {
+        bytes
+    } else {
+        &bytes[..48]
+    }
+}
+
+/// Adds a byte as it is shown.
+#[tactic(auto, using(crate::proofs::SentenceLemmas::one_byte))]
+fn push_shown(line: &mut Excerpt, byte: u8)
+    requires { array_string_len line.old < 48 }
+    ensures { line.new.bytes ≡ line.old.bytes ++ shown_byte byte ∷ [] }
+{
+    line.push(char::from(shown_byte(byte)));
+}
+
+/// A byte as it is shown.
+fn shown_byte(byte: u8) -> u8
+    ensures value { result ≡ shown_byte byte }
+    ensures ascii { result ≤ 127 }
+{
+    if byte >= b' ' && byte < 127 {
+        byte
+    } else {
+        b'?'
+    }
+}
+
+/// The first of the words that names no tenant.
+fn wrong_word<'a>(words: &[&'a str], block_size: u64) -> &'a str
+    ensures { result.now ≡ wrong_word block_size (texts words.entry.now) }
+{
+    match words.split_first() {
+        Some((word, later)) if tenant_of(word, block_size).is_some() => {
+            wrong_word(later, block_size)
+        }
+        Some((word, _)) => word,
+        None => "",
+    }
+}
+
+/// Why a word names no tenant.
+fn word_rule(word: &str) -> &'static str
+    ensures rule { result.now ≡ word_rule word.now }
+    ensures short { length result.now ≤ 64 }
+{
+    match word.split_once(':') {
+        Some((name, _)) if is_tenant_name(name.as_bytes()) => {
+            "a quota is a number of blocks, or of bytes as 16MiB"
+        },
+        Some(_) => "a name is 1 to 32 of a to z, digits and -",
+        None => "a tenant is NAME:QUOTA, as acme:4096",
+    }
+}
+
+/// The first name of the words that a later one has too.
+fn name_twice<'a>(words: &[&'a str]) -> &'a str
+    ensures { result.now ≡ name_twice (texts words.entry.now) }
+{
+    match words.split_first() {
+        Some((word, later)) if is_named_again(word, later) => name_of(word),
+        Some((_, later)) => name_twice(later),
+        None => "",
+    }
+}
+
+/// Whether one of these words has the name of a word.
+fn is_named_again(word: &str, words: &[&str]) -> bool
+    ensures { result ≡ list_any
+        (λ later. bytes_eq (before_first is_colon later) (before_first is_colon word.now))
+        (texts words.now) }
+{
+    match words.split_first() {
+        Some((first, later)) => {
+            name_of(first).as_bytes() == name_of(word).as_bytes() || is_named_again(word, later)
+        }
+        None => false,
+    }
+}
+
+/// What stands before the first `:` of a word.
+fn name_of(word: &str) -> &str
+    ensures { result.now ≡ before_first is_colon word.now }
+{
+    match word.split_once(':') {
+        Some((name, _)) => name,
+        None => word,
+    }
+}
+
+/// What the quotas of the words sum to, where that is below 2^64.
+fn quota_sum(words: &[&str], block_size: u64) -> Option<u64>
+    ensures { result ≡ quota_sum block_size (texts words.now) }
+{
+    match words.split_first() {
+        Some((word, later)) => quota_sum(later, block_size)?.checked_add(quota_of(
+            word, block_size,
+        )),
+        None => Some(0),
+    }
+}
+
+/// The quota of a word, 0 where it names no tenant.
+fn quota_of(word: &str, block_size: u64) -> u64
+    ensures { result ≡ quota_in block_size word.now }
+{
+    match tenant_of(word, block_size) {
+        Some((_, quota)) => quota,
+        None => 0,
+    }
+}

@@ -1,0 +1,5 @@
+//! Which program this is. Nothing is known at the time of a build but what stands here, so the gate compares both with what
+//! built it.
+
+/// The version of the program, and the toolchain that proves and builds it.
+pub const VERSION: &str = "0.1.0 (rattle-kit-13f logic dac8208d650f15bf)";
