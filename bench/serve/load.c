@@ -18,12 +18,13 @@
 #include <time.h>
 #include <unistd.h>
 
-enum { PATCHES = 16, MESSAGES = 4000, CLIENTS_MOST = 64 };
+enum { MESSAGES = 4000, CLIENTS_MOST = 64, UPLOAD_MOST = 8 << 20 };
 
 static int port;
 static double end;
 static const char *path;
-static long size;
+// of a PATCH, and how many there are of an upload
+static long size, patches_of_one;
 static char *bytes;
 
 struct client {
@@ -92,12 +93,12 @@ static void *patches(void *arg) {
     char head[512], location[128];
     connect_to_server(c);
     while (now() < end) {
-        if (c->messages >= MESSAGES - PATCHES) close(c->connection), connect_to_server(c);
+        if (c->messages >= MESSAGES - patches_of_one) close(c->connection), connect_to_server(c);
         int len = snprintf(head, sizeof head, "POST /files/acme HTTP/1.1\r\nHost: x\r\nTus-Resumable: 1.0.0\r\nUpload-Length: %ld\r\n\r\n",
-                           size * PATCHES);
+                           size * patches_of_one);
         exchange(c, head, len, 0, "201");
         sscanf(strstr(c->reply, "Location: ") + 10, "%127s", location);
-        for (int i = 0; i < PATCHES; i++) {
+        for (long i = 0; i < patches_of_one; i++) {
             len = snprintf(head, sizeof head, "PATCH %s HTTP/1.1\r\nHost: x\r\nTus-Resumable: 1.0.0\r\nUpload-Offset: %ld\r\n"
                            "Content-Type: application/offset+octet-stream\r\nContent-Length: %ld\r\n\r\n", location, i * size, size);
             exchange(c, head, len, size, "204");
@@ -133,6 +134,7 @@ int main(int count, char **words) {
     end = now() + atof(words[4]);
     path = words[5];
     size = atol(words[5]);
+    patches_of_one = 16 * size > UPLOAD_MOST ? UPLOAD_MOST / size : 16;
     bytes = calloc(1, size + 1);
     for (int i = 0; i < connections; i++) {
         clients[i].number = i;

@@ -202,7 +202,7 @@ class Bench:
         workers = str(len(self.for_servers))
         open(f'{folder}/nginx.conf', 'w').write(NGINX.format(folder=folder, workers=workers))
         ours = [program, 'serve', '--port', '18080', '--workers', workers, '--forever', '--at-once', '12000', '--idle', '0',
-                '--max-size', '16777216', '--blocks', '131072', 'acme:131071', 'beta:1']
+                '--max-size', '16777216', '--blocks', '131073', 'acme:131072', 'beta:1']
         nginx = [shutil.which('nginx') or '/usr/sbin/nginx', '-p', folder, '-c', 'nginx.conf']
         self.ours = Server(18080, ours, self.for_servers)
         self.nginx = Server(18081, nginx, self.for_servers)
