@@ -65,6 +65,7 @@ impl<D: Disk> Journal<D> {
         ensures created { IfOk result (λ journal. IsJournal journal [] []) }
         ensures key { IfOk result (λ journal. key_of journal ≡ key) }
         ensures room { IfOk result (λ journal. room_of journal ≡ room) }
+        ensures clean { IfOk result (λ journal. D.is_clean (disk_of journal) ≡ D.is_clean disk) }
         ensures why { IfErr result (IsReason (record {
           no_room = 2 ^ 62 < room + 16;
           is_usable = D.is_usable disk;

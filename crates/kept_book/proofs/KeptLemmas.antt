@@ -1,5 +1,5 @@
 -- What is kept as changes happen, and what a crash leaves of it.
-use Rattle.std.proofs.Common.{◌≡◌, ℕ, zero, suc, ◌≤◌, List, [], ◌∷◌, ◌++◌, take, Result, Ok, refl, sym, ap, subst, ◌∙◌, arith}
+use Rattle.std.proofs.Common.{◌≡◌, ℕ, zero, suc, ◌≤◌, List, [], ◌∷◌, ◌++◌, length, take, Result, Ok, refl, sym, ap, subst, ◌∙◌, arith}
 use Rattle.std.specs.List.{AllByRecursion}
 use Rattle.std.proofs.lemmas.List.{append-nil, map-append}
 use Rattle.sqlite_disk.specs.declared.Disk.{Ghosts}
@@ -70,7 +70,7 @@ pub left-all : (key : ℕ) (s : Settings) (events : List ChangeEvent) (c : List 
 left-all key s events c happened left = left-none key s events c happened (left.payloads ∙ ap (λ (rs : List (List ℕ)). records_of events ++ rs) (none-taken left.kept left.within)) left.behind
 
 -- what is read of frames
-nothing-recovered : (key : ℕ) → recovered key [] ≡ []
+pub nothing-recovered : (key : ℕ) → recovered key [] ≡ []
 unfolding reading.read_past
 nothing-recovered key = refl
 
@@ -122,3 +122,11 @@ module _ {D : Type 0} {g : Ghosts D} where
         happened = happened;
         book = ok_is _ _ (sym made ∙ ap (replayed 1 (opening_book s)) read ∙ again);
       }
+
+  -- a book that was made over an empty file
+  pub kept-of-none : (kept : KeptBook D g) (s : Settings) (key : ℕ) (file : List ℕ) (events : List ChangeEvent) → IsKept kept s [] → length file ≡ 0 → recovered key file ≡ records_of events → IsKept kept s events
+  kept-of-none kept s key [] [] is none all = is
+  kept-of-none kept s key [] (e ∷ events) is none all =
+      let bad : 0 ≡ suc (length (records_of events)) = ap (λ (records : List (List ℕ)). length records) (sym (nothing-recovered key) ∙ all) in
+      absurd (omega (arith, bad))
+  kept-of-none kept s key (b ∷ file) events is none all = absurd (omega (arith, none))

@@ -1,5 +1,5 @@
 -- What a kept book keeps, and what a crash leaves of it.
-use Rattle.std.specs.Prelude.{◌≡◌, ℕ, ◌≤◌, Bool, List, [], ◌++◌, length}
+use Rattle.std.specs.Prelude.{◌≡◌, ℕ, ◌≤◌, Bool, List, [], ◌++◌, length, IsTrue}
 use Rattle.sqlite_disk.specs.declared.Disk.{Ghosts}
 use Rattle.book_replay.specs.Replay.{AllHappen, records_of}
 use Rattle.journal_file.specs.Journal.{disk_of, key_of, IsJournal}
@@ -46,3 +46,12 @@ pub record IsLeft (key : ℕ) (s : Settings) (events : List ChangeEvent) (file :
   pub happened : AllHappen (opening_book s) (events ++ more)
   pub records : recovered key file ≡ records_of (events ++ more)
   pub torn : tail_of key file ≡ Torn
+
+-- The book was opened of this disk under a key: where the file has the records of events that happened to a book of these
+-- settings since its opening, and the disk told no lie, it keeps these. A file without a byte has no record.
+abbrev pub IsOpened : {D : Type 0} {g : Ghosts D} → Settings → ℕ → D → KeptBook D g → Type 0
+IsOpened {D} {g} s key disk kept =
+    (events : List ChangeEvent)
+    → AllHappen (opening_book s) events
+    → recovered key (g.seen disk) ≡ records_of events
+    → IsTrue (g.is_clean (disk_in kept)) → IsKept kept s events

@@ -51,6 +51,7 @@ impl<D: Disk> KeptBook<D> {
         D: Drop,
         ensures kept { IfOk result (λ kept. IsKept kept settings []) }
         ensures key { IfOk result (λ kept. key_in kept ≡ key) }
+        ensures clean { IfOk result (λ kept. D.is_clean (disk_in kept) ≡ D.is_clean disk) }
     {
         let book = Book::new(alloc, settings)?;
         let journal = Journal::create(alloc, disk, key, room)?;

@@ -8,10 +8,12 @@ mod framing;
 mod keeping;
 mod kept;
 mod log;
+mod opening;
 mod reopening;
 mod session;
 
 pub use fault::{KeepFault, NotKept, OpenFault};
 pub use kept::KeptBook;
+pub use opening::open_or_create;
 pub use reopening::crash_and_open;
 pub use session::{Answered, answer_all};
