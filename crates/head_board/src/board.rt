@@ -111,6 +111,13 @@ impl<W: Wait + Drop> Board<W> {
         self.seen = next;
     }
 
+    /// The events that were shown.
+    pub fn seen(&self) -> &SeenEvents
+        ensures { result.now ≡ record { book = self.now.log; events = self.now.events } }
+    {
+        &self.seen
+    }
+
     /// Shows a reader of this board all events that were shown so far. It waits until these begin with those that the
     /// reader has seen. No run has to wait for that, since a reader sees only what was shown.
     pub fn show_to(&self, reader: &mut HeadReader)

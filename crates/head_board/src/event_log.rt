@@ -102,7 +102,7 @@ impl SeenEvents {
 
     /// Adds an event to the log. It waits until the log has no more events than these. No run has to wait for that, where
     /// nobody else adds to the log, until there are 2^64 - 1 events.
-    pub fn with<W: Wait>(&self, rt: &W, word: &LogWord, coming: &Coming) -> SeenEvents
+    pub(crate) fn with<W: Wait>(&self, rt: &W, word: &LogWord, coming: &Coming) -> SeenEvents
         requires { word.now ≡ word_of self.now.book }
         ensures { result ≡ record self.now { events = self.now.events ++ event_of coming.now ∷ [] } }
     {

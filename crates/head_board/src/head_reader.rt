@@ -90,7 +90,7 @@ impl HeadReader {
     }
 
     /// The events that it has seen.
-    pub(crate) fn seen(&self) -> &SeenEvents
+    pub fn seen(&self) -> &SeenEvents
         ensures { result.now ≡ record { book = self.now.log; events = self.now.events } }
     {
         &self.seen

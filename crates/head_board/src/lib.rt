@@ -18,6 +18,6 @@ mod showing;
 
 pub use board::Board;
 pub use event::{Coming, Event};
-pub use event_log::Opened;
+pub use event_log::{Opened, SeenEvents};
 pub use head_reader::HeadReader;
 pub use head_table::HeadTable;

@@ -12,7 +12,7 @@ use Rattle.clap.specs.Words.{ReadsOne, Text, all_of, first_of, one_text}
 use Rattle.clap.specs.declared.parser.matches.Found.{Found}
 use Rattle.upload_book.specs.declared.settings.Numbers.{Numbers}
 use Rattle.tus_workers.specs.declared.work_options.WorkOptions.{WorkOptions}
-use Rattle.tus_server.specs.Arguments.{is_number, is_set, number_in, number_given, number_under, numbers_given, port_given, serve_arguments, talk_arguments, talk_arguments_with, work_given, workers_given}
+use Rattle.tus_server.specs.Arguments.{is_number, is_set, number_in, metrics_set, number_given, number_under, numbers_given, port_given, serve_arguments, talk_arguments, talk_arguments_with, work_given, workers_given}
 
 digits_pass : (digits : List ℕ) → AllDigits 10 digits → list_all (λ d. nat_lt (digit_value d) 10) digits ≡ true
 digits_pass [] h = refl
@@ -78,26 +78,28 @@ flag_read gives f name r parses none value = go (one_text f name) refl ∙ ap (�
     go (Some text) is = flag_in gives text r (parses text) (value text is)
 
 -- the options of `talk` are the arguments that its rows give
-pub talk_arguments-some : (rows : List Row) (numbers : Numbers) (secs moment : ℕ) (words : List Text) → numbers ≡ numbers_given rows → secs ≡ number_under (codes "moment") rows
-    → SomeIff (Some moment) (secs ≤ 253402300799) secs → Some words ≡ all_of (codes "tenant") rows
-    → Some (record { numbers = numbers; moment = moment; tenants = words }) ≡ talk_arguments rows
-talk_arguments-some rows numbers secs moment words all at made given =
+pub talk_arguments-some : (rows : List Row) (numbers : Numbers) (secs moment : ℕ) (journal : Option Text) (words : List Text) → numbers ≡ numbers_given rows → secs ≡ number_under (codes "moment") rows
+    → SomeIff (Some moment) (secs ≤ 253402300799) secs → journal ≡ first_of (codes "journal") rows → Some words ≡ all_of (codes "tenant") rows
+    → Some (record { numbers = numbers; moment = moment; journal = journal; tenants = words }) ≡ talk_arguments rows
+talk_arguments-some rows numbers secs moment journal words all at made beside given =
     let early = le-ltb 253402300799 secs made.0 in
-    rw (← given, ← at, early, ← all, made.1) refl
+    rw (← given, ← at, early, ← all, made.1, ← beside) refl
 
 pub talk_arguments-none : (rows : List Row) → None ≡ all_of (codes "tenant") rows → None ≡ talk_arguments rows
 talk_arguments-none rows h = ap (talk_arguments_with (number_under (codes "moment") rows) rows) h
 
 -- the options of `serve` are the arguments that its rows give
-pub serve_arguments-some : (rows : List Row) (numbers : Numbers) (words : List Text) (address : Text) (port workers : ℕ) (work : WorkOptions) → numbers ≡ numbers_given rows
-    → Some address ≡ first_of (codes "address") rows → Some work ≡ work_given rows → Some port ≡ port_given rows → Some workers ≡ workers_given rows → Some words ≡ all_of (codes "tenant") rows
-    → Some (record { numbers = numbers; tenants = words; address = address; port = port; workers = workers; work = work }) ≡ serve_arguments rows
-serve_arguments-some rows numbers words address port workers work given place each at many all = rw (given, ← place, ← each, ← at, ← many, ← all) refl
+pub serve_arguments-some : (rows : List Row) (numbers : Numbers) (words : List Text) (address : Text) (port workers : ℕ) (work : WorkOptions) (journal log : Option Text) (metrics : Option ℕ) → numbers ≡ numbers_given rows
+    → Some address ≡ first_of (codes "address") rows → Some work ≡ work_given rows → Some port ≡ port_given rows → Some workers ≡ workers_given rows
+    → journal ≡ first_of (codes "journal") rows → log ≡ first_of (codes "log") rows → Some metrics ≡ metrics_set (number_given (codes "metrics") rows) → Some words ≡ all_of (codes "tenant") rows
+    → Some (record { numbers = numbers; tenants = words; address = address; port = port; journal = journal; workers = workers; work = work; log = log; metrics = metrics }) ≡ serve_arguments rows
+serve_arguments-some rows numbers words address port workers work journal log metrics given place each at many found kept told all =
+    rw (given, found, kept, ← place, ← each, ← at, ← many, ← told, ← all) refl
 
 -- without words there are none
-pub serve_arguments-none : (rows : List Row) (address : Text) (port workers : ℕ) (work : WorkOptions) → Some address ≡ first_of (codes "address") rows → Some work ≡ work_given rows
-    → Some port ≡ port_given rows → Some workers ≡ workers_given rows → None ≡ all_of (codes "tenant") rows → None ≡ serve_arguments rows
-serve_arguments-none rows address port workers work place each at many none = rw (← place, ← each, ← at, ← many, ← none) refl
+pub serve_arguments-none : (rows : List Row) (address : Text) (port workers : ℕ) (work : WorkOptions) (metrics : Option ℕ) → Some address ≡ first_of (codes "address") rows → Some work ≡ work_given rows
+    → Some port ≡ port_given rows → Some workers ≡ workers_given rows → Some metrics ≡ metrics_set (number_given (codes "metrics") rows) → None ≡ all_of (codes "tenant") rows → None ≡ serve_arguments rows
+serve_arguments-none rows address port workers work metrics place each at many told none = rw (← place, ← each, ← at, ← many, ← told, ← none) refl
 
 -- without an address there are none
 pub serve_arguments-nowhere : (rows : List Row) → None ≡ first_of (codes "address") rows → None ≡ serve_arguments rows

@@ -2,8 +2,10 @@ pub mod ArgumentsLemmas
 pub mod CommandLineLemmas
 pub mod DeskLemmas
 pub mod FaultLemmas
+pub mod KeptTalkLemmas
 pub mod RunLemmas
 pub mod SentenceLemmas
 pub mod ServeLemmas
+pub mod SimulationLemmas
 pub mod TalkLemmas
 pub mod TenantLemmas

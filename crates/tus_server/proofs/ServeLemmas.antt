@@ -3,7 +3,7 @@ use Rattle.std.proofs.Common.{◌≡◌, ◌∙◌, ℕ, ◌<◌, Bool, true, fa
 use Rattle.std.proofs.lemmas.List.{get_or-map, length-map}
 use Rattle.std.proofs.lemmas.List.Elements.{All-map}
 use Rattle.std.proofs.lemmas.List.Folds.{Any-from_list_any, list_any_at}
-use Rattle.std.specs.Prelude.{IfErr, OnOk}
+use Rattle.std.specs.Prelude.{IfErr, IsSome, OnOk}
 use Rattle.std.specs.Io.KnownBytes.{Appends}
 use Rattle.std.specs.List.{Any, list_any}
 use Rattle.http_wire.proofs.AheadLemmas.{Appends-more}
@@ -13,12 +13,16 @@ use Rattle.tus_shared.specs.Desk.{Desk}
 use Rattle.tus_shared.specs.declared.balance.Balance.{Balance}
 use Rattle.upload_book.specs.Settings.{Settings}
 use Rattle.tus_server.specs.Arguments.{ServeArguments}
+use Rattle.journal_keeper.specs.declared.fault.ReopenFault.{ReopenFault}
+use Rattle.journal_keeper.specs.declared.fault.ReopenFault.TheVariants as reopening
+use Rattle.tus_server.specs.JournalFault.{fault_of_reopening}
 use Rattle.tus_server.specs.Lines.{Settles, balance_text, listening_text}
-use Rattle.tus_server.specs.Serve.{BreaksOff, IsPlaceAsked, PrintsBoth, ServeEnds, ServesEach, is_of_service, serve_settings}
+use Rattle.tus_server.specs.Serve.{BreaksOff, IsPlaceAsked, KeepsQuiet, PrintsBoth, ServeEnds, ServesEach, is_of_kept_service, is_of_service, serve_settings}
 use Rattle.tus_server.specs.Sockets.{Sockets}
 use Rattle.tus_server.specs.StreamUse.{StreamUse, IsUntouched}
 use Rattle.tus_server.specs.declared.cause.Cause.{Cause}
 use Rattle.tus_server.specs.declared.cause.Cause.TheVariants.{Output, Accept}
+use Rattle.tus_server.specs.declared.journal_fault.JournalFault.{JournalFault}
 use Rattle.tus_server.specs.declared.fault.RunFault.{RunFault}
 use Rattle.tus_server.specs.declared.fault.RunFault.TheVariants as run
 
@@ -105,6 +109,7 @@ cause_in (run.Wire cause) = cause
 cause_in run.Words = Output
 cause_in run.Address = Output
 cause_in (run.Settings why) = Output
+cause_in (run.Journal why) = Output
 cause_in run.Memory = Output
 
 abbrev cause_of : {T : Type 0} → Result T RunFault → Cause
@@ -115,7 +120,47 @@ cause_of (Ok v) = Output
 pub by_cause : {T : Type 0} (P : Cause → Type 0) (r : Result T RunFault) (given : Cause) → r ≡ Err (run.Wire given) → P given → (cause : Cause) → r ≡ Err (run.Wire cause) → P cause
 by_cause P r given is h cause named = subst P (sym (ap cause_of is) ∙ ap cause_of named) h
 
--- how `serve` ends, by what became of it after its settings and its address were taken
+-- a fault with a cause
+abbrev has_cause : RunFault → Bool
+has_cause (run.Wire cause) = true
+has_cause run.Words = false
+has_cause run.Address = false
+has_cause (run.Settings why) = false
+has_cause (run.Journal why) = false
+has_cause run.Memory = false
+
+abbrev ends_by_cause : {T : Type 0} → Result T RunFault → Bool
+ends_by_cause (Err fault) = has_cause fault
+ends_by_cause (Ok v) = false
+
+-- a fault of the records of a journal is one of `serve` with a journal, and has no cause
+pub reopening-kept : (why : ReopenFault) → is_of_kept_service (fault_of_reopening why) ≡ true
+reopening-kept (reopening.Record number) = refl
+reopening-kept reopening.Memory = refl
+reopening-kept reopening.Waiting = refl
+
+reopening-no_cause : (why : ReopenFault) → has_cause (fault_of_reopening why) ≡ false
+reopening-no_cause (reopening.Record number) = refl
+reopening-no_cause reopening.Memory = refl
+reopening-no_cause reopening.Waiting = refl
+
+pub reopening-by_cause : {T : Type 0} (P : Cause → Type 0) (r : Result T RunFault) (why : ReopenFault) → r ≡ Err (fault_of_reopening why) → (cause : Cause) → r ≡ Err (run.Wire cause) → P cause
+reopening-by_cause P r why is cause named = absurd (true≢false (sym (ap ends_by_cause named) ∙ ap ends_by_cause is ∙ reopening-no_cause why))
+
+-- how `serve` ends, by what became of it after its settings and its address were taken and the file of its journal was opened
+pub ServeEnds-kept : {L A W T : Type 0} (seen : Sockets L A) (arguments : ServeArguments) (output : StreamUse W) (s : Settings) (r : Result T RunFault) → serve_settings arguments ≡ Ok s → IsSome arguments.journal
+    → IfErr r (λ fault. is_of_kept_service fault ≡ true) → (r ≡ Err run.Memory → IsUntouched output)
+    → ((cause : Cause) → r ≡ Err (run.Wire cause) → BreaksOff seen arguments s output cause) → ((why : JournalFault) → r ≡ Err (run.Journal why) → KeepsQuiet output why)
+    → OnOk r (ServesEach seen arguments s output) → ServeEnds seen arguments output r
+ServeEnds-kept seen arguments output s (Ok v) given some late memory breaks lacks all = record { settings = s; is_given = given; serves = all }
+ServeEnds-kept seen arguments output s (Err run.Words) given some late memory breaks lacks all = absurd (true≢false (sym late))
+ServeEnds-kept seen arguments output s (Err run.Address) given some late memory breaks lacks all = absurd (true≢false (sym late))
+ServeEnds-kept seen arguments output s (Err (run.Settings why)) given some late memory breaks lacks all = absurd (true≢false (sym late))
+ServeEnds-kept seen arguments output s (Err (run.Journal why)) given some late memory breaks lacks all = (some, lacks why refl)
+ServeEnds-kept seen arguments output s (Err (run.Wire cause)) given some late memory breaks lacks all = record { settings = s; is_given = given; breaks = breaks cause refl }
+ServeEnds-kept seen arguments output s (Err run.Memory) given some late memory breaks lacks all = memory refl
+
+-- the same without a journal
 pub ServeEnds-from : {L A W T : Type 0} (seen : Sockets L A) (arguments : ServeArguments) (output : StreamUse W) (s : Settings) (r : Result T RunFault) → serve_settings arguments ≡ Ok s
     → IfErr r (λ fault. is_of_service fault ≡ true) → (r ≡ Err run.Memory → IsUntouched output)
     → ((cause : Cause) → r ≡ Err (run.Wire cause) → BreaksOff seen arguments s output cause) → OnOk r (ServesEach seen arguments s output) → ServeEnds seen arguments output r
@@ -123,5 +168,6 @@ ServeEnds-from seen arguments output s (Ok v) given late memory breaks all = rec
 ServeEnds-from seen arguments output s (Err run.Words) given late memory breaks all = absurd (true≢false (sym late))
 ServeEnds-from seen arguments output s (Err run.Address) given late memory breaks all = absurd (true≢false (sym late))
 ServeEnds-from seen arguments output s (Err (run.Settings why)) given late memory breaks all = absurd (true≢false (sym late))
+ServeEnds-from seen arguments output s (Err (run.Journal why)) given late memory breaks all = absurd (true≢false (sym late))
 ServeEnds-from seen arguments output s (Err (run.Wire cause)) given late memory breaks all = record { settings = s; is_given = given; breaks = breaks cause refl }
 ServeEnds-from seen arguments output s (Err run.Memory) given late memory breaks all = memory refl

@@ -25,18 +25,18 @@ use Rattle.tus_server.specs.StreamUse.{StreamUse, IsAlive}
 use Rattle.tus_server.specs.Talk.{BreaksTalk, LosesTalk, TalkEnds, Talks, moments_at, talk_settings}
 
 -- where no byte was read, all are left
-Keeps-consumed : (old new : Option (List ℕ)) (got : List ℕ) → Consumes old new got → got ≡ [] → Keeps old new
+pub Keeps-consumed : (old new : Option (List ℕ)) (got : List ℕ) → Consumes old new got → got ≡ [] → Keeps old new
 Keeps-consumed None new got h none = tt
 Keeps-consumed (Some xs) None got h none = h
 Keeps-consumed (Some xs) (Some ys) got h none = cc
 
 -- where no byte was written, those before it stay
-Keeps-appended : (old new : Option (List ℕ)) (text : List ℕ) → Appends old new text → text ≡ [] → Keeps old new
+pub Keeps-appended : (old new : Option (List ℕ)) (text : List ℕ) → Appends old new text → text ≡ [] → Keeps old new
 Keeps-appended None new text h none = tt
 Keeps-appended (Some xs) None text h none = h
 Keeps-appended (Some xs) (Some ys) text h none = h ∙ (ap (λ t. xs ++ t) none ∙ append-nil xs)
 
-laid : (now : ℕ) → replicate 4096 now ≡ moments_at now
+pub laid : (now : ℕ) → replicate 4096 now ≡ moments_at now
 unfolding moments_at
 laid now = refl
 
@@ -75,10 +75,10 @@ BreaksTalk-from given now reader writer x f is_given new named h =
           (Breaks-carried plain_of BookStep IsStep carries max (replicate 4096 now) x f h);
     }
 
-is_ok_by : {T E : Type 0} (r : Result T E) (v : T) → r ≡ Ok v → IsOk r
+pub is_ok_by : {T E : Type 0} (r : Result T E) (v : T) → r ≡ Ok v → IsOk r
 is_ok_by {T} {E} r v is = subst (λ (r : Result T E). IsOk r) (sym is) refl
 
-not_err : {T E : Type 0} (P : Type 0) (r : Result T E) (v : T) → r ≡ Ok v → OnErr r P
+pub not_err : {T E : Type 0} (P : Type 0) (r : Result T E) (v : T) → r ≡ Ok v → OnErr r P
 not_err {T} {E} P r v is = subst (λ (r : Result T E). OnErr r P) (sym is) tt
 
 -- the conversation was broken off by this fault

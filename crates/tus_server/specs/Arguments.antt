@@ -1,7 +1,8 @@
 -- What the words of the command line ask for: the command, with its arguments.
-use Rattle.std.specs.Prelude.{ℕ, ◌^◌, ◌-◌, Bool, false, ◌&&◌, List, length, nat_lt, nat_le, Option, Some, None, option_and_then, option_map, unwrap_or, bytes_eq, codes, if◌then◌else◌}
+use Rattle.std.specs.Prelude.{ℕ, ◌^◌, ◌-◌, Bool, false, ◌&&◌, ◌||◌, List, length, nat_lt, nat_le, Option, Some, None, option_and_then, option_map, is_some, unwrap_or, bytes_eq, codes, if◌then◌else◌}
 use Rattle.std.specs.List.{list_all}
 use Rattle.std.specs.Option.{option_map_or}
+use Rattle.std.specs.Borrow.{Bor}
 use Rattle.std.specs.Char.{digit_value}
 use Rattle.std.specs.Str.Parse.{digits_value, without_leading_plus}
 use Rattle.clap.specs.Walk.{texts}
@@ -56,6 +57,7 @@ numbers_given rows = record {
 pub record TalkArguments : Type 0 where
   pub numbers : Numbers
   pub moment : ℕ
+  pub journal : Option Text
   pub tenants : List Text
 
 -- the arguments of `talk`, where there are words NAME:QUOTA, and the moment is at most the last second of the year 9999
@@ -64,6 +66,7 @@ talk_arguments_with moment rows None = None
 talk_arguments_with moment rows (Some words) = if nat_lt 253402300799 moment then None else Some (record {
   numbers = numbers_given rows;
   moment = moment;
+  journal = first_of (codes "journal") rows;
   tenants = words;
 })
 
@@ -97,6 +100,15 @@ bounds_given rows = record {
   least_rate = number_under (codes "least-rate") rows;
 }
 
+-- there is a journal, a log, or a port at which numbers are asked for, so clients are served by readiness
+abbrev pub is_by_readiness : List Row → Bool
+is_by_readiness rows = is_some (first_of (codes "journal") rows) || (is_some (first_of (codes "log") rows) || is_some (number_given (codes "metrics") rows))
+
+-- The port at which numbers are asked for, if one is given. It is at most 65,535, and else there are no arguments.
+abbrev pub metrics_set : Option ℕ → Option (Option ℕ)
+metrics_set None = Some None
+metrics_set (Some port) = if nat_lt 65535 port then None else Some (Some port)
+
 -- what each worker is asked for, where the moment can be, and how many connections it holds
 abbrev pub work_with : List Row → Option (Option ℕ) → Option ℕ → Option WorkOptions
 work_with rows None at_once = None
@@ -107,6 +119,7 @@ work_with rows (Some moment) (Some n) = Some (record {
   at_once = n;
   bounds = bounds_given rows;
   body_memory = number_under (codes "body-memory") rows;
+  by_readiness = is_by_readiness rows;
 })
 
 abbrev pub work_given : List Row → Option WorkOptions
@@ -121,35 +134,44 @@ abbrev pub workers_given : List Row → Option ℕ
 workers_given rows = if is_outside (number_under (codes "workers") rows) 16 then None else Some (number_under (codes "workers") rows)
 
 -- what `serve` is asked for: the numbers of the settings, the words NAME:QUOTA, the address and the port, how many workers
--- there are, and what each of them is asked for
+-- there are, what each of them is asked for, and, if there are any, the files of the journal and of the log, and the port for
+-- numbers
 pub record ServeArguments : Type 0 where
   pub numbers : Numbers
   pub tenants : List Text
   pub address : Text
   pub port : ℕ
+  pub journal : Option Text
   pub workers : ℕ
   pub work : WorkOptions
+  pub log : Option Text
+  pub metrics : Option ℕ
 
--- The arguments of `serve`, where there is an address, the moment, the port and the number of workers can be, and there are
+-- The arguments of `serve`, where there is an address, the moment, the ports and the number of workers can be, and there are
 -- words NAME:QUOTA.
-abbrev pub serve_arguments_with : List Row → Option Text → Option WorkOptions → Option ℕ → Option ℕ → Option (List Text) → Option ServeArguments
-serve_arguments_with rows None work port workers words = None
-serve_arguments_with rows (Some address) None port workers words = None
-serve_arguments_with rows (Some address) (Some work) None workers words = None
-serve_arguments_with rows (Some address) (Some work) (Some port) None words = None
-serve_arguments_with rows (Some address) (Some work) (Some port) (Some workers) None = None
-serve_arguments_with rows (Some address) (Some work) (Some port) (Some workers) (Some words) = Some (record {
+abbrev pub serve_arguments_with : List Row → Option Text → Option WorkOptions → Option ℕ → Option ℕ → Option (Option ℕ) → Option (List Text) → Option ServeArguments
+serve_arguments_with rows None work port workers metrics words = None
+serve_arguments_with rows (Some address) None port workers metrics words = None
+serve_arguments_with rows (Some address) (Some work) None workers metrics words = None
+serve_arguments_with rows (Some address) (Some work) (Some port) None metrics words = None
+serve_arguments_with rows (Some address) (Some work) (Some port) (Some workers) None words = None
+serve_arguments_with rows (Some address) (Some work) (Some port) (Some workers) (Some metrics) None = None
+serve_arguments_with rows (Some address) (Some work) (Some port) (Some workers) (Some metrics) (Some words) = Some (record {
   numbers = numbers_given rows;
   tenants = words;
   address = address;
   port = port;
+  journal = first_of (codes "journal") rows;
   workers = workers;
   work = work;
+  log = first_of (codes "log") rows;
+  metrics = metrics;
 })
 
 abbrev pub serve_arguments : List Row → Option ServeArguments
 serve_arguments rows =
-    serve_arguments_with rows (first_of (codes "address") rows) (work_given rows) (port_given rows) (workers_given rows) (all_of (codes "tenant") rows)
+    serve_arguments_with rows (first_of (codes "address") rows) (work_given rows) (port_given rows) (workers_given rows)
+    (metrics_set (number_given (codes "metrics") rows)) (all_of (codes "tenant") rows)
 
 -- a command, with what it is asked for
 pub data CommandArguments : Type 0 where
@@ -172,6 +194,7 @@ abbrev pub talk_arguments_of : TalkOptions → TalkArguments
 talk_arguments_of options = record {
   numbers = options.numbers;
   moment = options.moment;
+  journal = option_map (λ (path : Bor (List ℕ)). path.now) options.journal;
   tenants = texts options.tenants.now;
 }
 
@@ -181,8 +204,11 @@ serve_arguments_of options = record {
   tenants = texts options.tenants.now;
   address = options.address.now;
   port = options.port;
+  journal = option_map (λ (path : Bor (List ℕ)). path.now) options.journal;
   workers = options.workers;
   work = options.work;
+  log = option_map (λ (path : Bor (List ℕ)). path.now) options.log;
+  metrics = options.metrics;
 }
 
 abbrev pub arguments_of : CommandOptions → CommandArguments

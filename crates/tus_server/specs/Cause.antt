@@ -5,7 +5,7 @@ use Rattle.std.specs.declared.io.ErrorKind.TheVariants as error
 use Rattle.http_wire.specs.declared.fault.WireFault.{WireFault}
 use Rattle.http_wire.specs.declared.fault.WireFault.TheVariants as wire
 use Rattle.tus_server.specs.declared.cause.Cause.{Cause}
-use Rattle.tus_server.specs.declared.cause.Cause.TheVariants.{Input, Output, Port, Workers, Accept}
+use Rattle.tus_server.specs.declared.cause.Cause.TheVariants.{Input, Output, Port, Workers, Accept, Log, Metrics}
 use Rattle.tus_server.specs.declared.cause.PortFault.{PortFault}
 use Rattle.tus_server.specs.declared.cause.PortFault.TheVariants.{Taken, Forbidden, NotHere, Refused}
 
@@ -24,3 +24,5 @@ NamesCause reader writer Output = writer ≡ true
 NamesCause reader writer (Port why) = ⊥
 NamesCause reader writer Workers = ⊥
 NamesCause reader writer Accept = ⊥
+NamesCause reader writer Log = ⊥
+NamesCause reader writer Metrics = ⊥

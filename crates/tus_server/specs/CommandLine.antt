@@ -45,6 +45,10 @@ number_rule name least most = record (new_rule name) {
 abbrev pub moment_rule : Rule
 moment_rule = number_rule (codes "moment") 0 253402300799
 
+-- the option --journal, which takes a path
+abbrev pub journal_rule : Rule
+journal_rule = record (new_rule (codes "journal")) { long = Some (codes "journal"); value_names = 1 }
+
 -- the words that stand for themselves: one or more, each a tenant
 abbrev pub tenant_rule : Rule
 tenant_rule = record (new_rule (codes "tenant")) {
@@ -72,7 +76,10 @@ with_sizes command =
 abbrev pub talk_command : App
 talk_command =
     with_rule
-    (with_sizes (with_rule (new_app (codes "talk")) (option_rule (codes "moment") (codes "0") 253402300799)))
+    (with_sizes
+    (with_rule
+    (with_rule (new_app (codes "talk")) (option_rule (codes "moment") (codes "0") 253402300799))
+    journal_rule))
     tenant_rule
 
 -- the options on how connections are served
@@ -103,11 +110,21 @@ with_crowds command =
     (option_between (codes "least-rate") (codes "0") 0 1073741824))
     (option_rule (codes "body-memory") (codes "268435456") no_end)
 
+-- the options on how a service is watched: the file of its log, and the port at which numbers are asked for
+abbrev pub log_rule : Rule
+log_rule = record (new_rule (codes "log")) { long = Some (codes "log"); value_names = 1 }
+
+abbrev pub with_watch : App → App
+with_watch command = with_rule (with_rule command log_rule) (number_rule (codes "metrics") 1 65535)
+
 -- the command `serve`: its options with their defaults, and the tenants
 abbrev pub serve_command : App
 serve_command =
     with_rule
-    (with_sizes (with_rule (with_crowds (with_service (new_app (codes "serve")))) moment_rule))
+    (with_sizes
+    (with_rule
+    (with_rule (with_watch (with_crowds (with_service (new_app (codes "serve"))))) moment_rule)
+    journal_rule))
     tenant_rule
 
 -- the program without its commands, which does nothing without one, and tells its version

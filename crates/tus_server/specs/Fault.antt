@@ -8,11 +8,12 @@ use Rattle.tus_shared.specs.declared.open_fault.OpenFault.TheVariants as opening
 use Rattle.upload_book.specs.declared.settings_fault.SettingsFault.{SettingsFault}
 use Rattle.upload_book.specs.Settings.{fault_word}
 use Rattle.tus_server.specs.Arguments.{CommandArguments}
+use Rattle.tus_server.specs.JournalFault.{journal_word}
 use Rattle.tus_server.specs.Sentences.{sentence_of}
 use Rattle.tus_server.specs.StreamUse.{StreamUse, IsUntouched}
 use Rattle.tus_server.specs.declared.cause.Cause.TheVariants.{Input, Output}
 use Rattle.tus_server.specs.declared.fault.RunFault.{RunFault}
-use Rattle.tus_server.specs.declared.fault.RunFault.TheVariants.{Words, Address, Settings, Wire, Memory}
+use Rattle.tus_server.specs.declared.fault.RunFault.TheVariants.{Words, Address, Settings, Wire, Journal, Memory}
 
 -- the exit status of a run with this fault
 abbrev pub status_of : RunFault → ℕ
@@ -21,6 +22,7 @@ status_of Address = 2
 status_of (Settings fault) = 2
 status_of (Wire cause) = 3
 status_of Memory = 4
+status_of (Journal fault) = 5
 
 -- what the line says of the fault
 abbrev pub words_of : RunFault → List ℕ
@@ -28,6 +30,7 @@ words_of Words = codes "words"
 words_of Address = codes "address"
 words_of (Settings fault) = codes "settings: " ++ fault_word fault
 words_of (Wire cause) = codes "wire"
+words_of (Journal fault) = codes "journal: " ++ journal_word fault
 words_of Memory = codes "memory"
 
 -- the line that names the fault: `tus-server: `, what it says, and LF
@@ -75,4 +78,5 @@ IsFaultOf given Words = ⊥
 IsFaultOf given Address = ⊥
 IsFaultOf given (Settings fault) = given ≡ Err fault
 IsFaultOf given (Wire cause) = ⊥
+IsFaultOf given (Journal why) = ⊥
 IsFaultOf given Memory = ⊤

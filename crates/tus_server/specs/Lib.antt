@@ -2,6 +2,9 @@ pub mod Arguments
 pub mod Cause
 pub mod CommandLine
 pub mod Fault
+pub mod JournalFault
+pub mod KeptStep
+pub mod KeptTalk
 pub mod Lines
 pub mod Quota
 pub mod Run

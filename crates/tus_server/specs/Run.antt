@@ -1,13 +1,14 @@
 -- How a run of the program ends, from the words of its command line to its exit status.
-use Rattle.std.specs.Prelude.{◌≡◌, ◌≢◌, ◌⊎◌, ℕ, true, List, [], Option, Some, None, Result}
+use Rattle.std.specs.Prelude.{◌≡◌, ◌≢◌, ◌⊎◌, ℕ, Bool, true, List, [], Option, Some, None, Result}
 use Rattle.std.specs.Io.KnownBytes.{Appends}
 use Rattle.clap.specs.Words.{IsAmong, Text}
 use Rattle.clap.specs.declared.error.kind.ErrorKind.{ErrorKind}
 use Rattle.clap.specs.declared.error.kind.ErrorKind.TheVariants.{DisplayHelp, DisplayVersion, OutOfMemory}
-use Rattle.tus_server.specs.Arguments.{CommandArguments, talk, serve, arguments_in}
+use Rattle.tus_server.specs.Arguments.{CommandArguments, TalkArguments, talk, serve, arguments_in}
 use Rattle.tus_server.specs.CommandLine.{faults_in}
 use Rattle.tus_server.specs.Fault.{Reports, WritesLines, WritesOrFails}
-use Rattle.tus_server.specs.Sentences.{cause_text, untold_text, words_memory_text}
+use Rattle.tus_server.specs.KeptTalk.{KeptTalkEnds}
+use Rattle.tus_server.specs.Sentences.{output_text, untold_text, words_memory_text}
 use Rattle.tus_server.specs.Serve.{ServeEnds}
 use Rattle.tus_server.specs.Sockets.{Sockets}
 use Rattle.tus_server.specs.StreamUse.{StreamUse, IsAlive, IsUntouched}
@@ -48,7 +49,7 @@ module _ {W E : Type 0} (kind : ErrorKind) (status : ℕ) (writer : StreamUse W)
     pub asked : IsHelp kind
     pub shown : WritesOrFails writer.before writer.after writer.has_failed text
     pub failed : writer.has_failed ≡ true
-    pub lines : WritesLines errors (Wire Output) (cause_text Output [] 0)
+    pub lines : WritesLines errors (Wire Output) output_text
 
   -- the text for them was told
   abbrev pub Tells : List ℕ → Type 0
@@ -73,13 +74,20 @@ module _ {W E : Type 0} (kind : ErrorKind) (status : ℕ) (writer : StreamUse W)
   abbrev pub Explains : Type 0
   Explains = ((text : List ℕ) × Tells text) ⊎ RefusesUntold ⊎ EndsForMemory
 
-module _ {L A R W E : Type 0} (seen : Sockets L A) (status : ℕ) (reader : StreamUse R) (writer : StreamUse W) (errors : StreamUse E) where
+-- over these sockets and disks
+module _ {L A D R W E : Type 0} (seen : Sockets L A) (read : D → List ℕ) (may_leave : D → List ℕ → Type 0) (is_clean : D → Bool)
+    (status : ℕ) (reader : StreamUse R) (writer : StreamUse W) (errors : StreamUse E) where
+  -- how `talk` ends, with a journal or without one
+  abbrev pub TalkEndsBy : {T : Type 0} → Option Text → TalkArguments → Result T RunFault → Type 0
+  TalkEndsBy None arguments outcome = TalkEnds arguments reader writer outcome
+  TalkEndsBy (Some path) arguments outcome = KeptTalkEnds read may_leave is_clean arguments reader writer outcome
+
   -- The command was done that the words ask for. Words that are taken ask for one, so far as clap's rules go; where they
   -- don't, they are refused, and no stream is touched.
   abbrev pub Performs : Option CommandArguments → Type 0
   Performs None = (status ≡ 2) × IsUntouched reader × IsUntouched writer × IsUntouched errors
   Performs (Some (talk arguments)) =
-      (outcome : Result (Unit {0}) RunFault) × TalkEnds arguments reader writer outcome
+      (outcome : Result (Unit {0}) RunFault) × TalkEndsBy arguments.journal arguments outcome
       × Reports (talk arguments) outcome status errors
   Performs (Some (serve arguments)) =
       (outcome : Result (Unit {0}) RunFault) × ServeEnds seen arguments writer outcome × IsUntouched reader

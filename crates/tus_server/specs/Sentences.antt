@@ -1,5 +1,5 @@
 -- The second line of a fault: a sentence that says what was wrong, with the value and the limit, and what to do.
-use Rattle.std.specs.Prelude.{ℕ, ◌+◌, ◌*◌, ◌^◌, ◌==◌, ◌&&◌, nat_le, nat_lt, List, [], ◌∷◌, ◌++◌, length, map, take, Option, Some, None, option_and_then, is_some, bytes_eq, codes, decimal, if◌then◌else◌}
+use Rattle.std.specs.Prelude.{ℕ, ◌+◌, ◌*◌, ◌^◌, ◌==◌, ◌&&◌, nat_le, nat_lt, List, [], ◌∷◌, ◌++◌, length, map, take, Option, Some, None, option_and_then, is_some, unwrap_or, bytes_eq, codes, decimal, if◌then◌else◌}
 use Rattle.std.specs.List.{before_first, list_any, position_or_len}
 use Rattle.std.specs.Option.{option_map_or}
 use Rattle.std.specs.Str.{byte}
@@ -10,10 +10,12 @@ use Rattle.upload_book.specs.declared.settings_fault.SettingsFault.TheVariants a
 use Rattle.tus_server.specs.Arguments.{CommandArguments, talk, serve}
 use Rattle.tus_server.specs.Settings.{is_colon, tenant_in}
 use Rattle.tus_server.specs.declared.cause.Cause.{Cause}
-use Rattle.tus_server.specs.declared.cause.Cause.TheVariants.{Input, Output, Port, Workers, Accept}
+use Rattle.tus_server.specs.declared.cause.Cause.TheVariants.{Input, Output, Port, Workers, Accept, Log, Metrics}
 use Rattle.tus_server.specs.declared.cause.PortFault.{PortFault}
 use Rattle.tus_server.specs.declared.cause.PortFault.TheVariants.{Taken, Forbidden, NotHere, Refused}
 use Rattle.tus_server.specs.declared.fault.RunFault.{RunFault}
+use Rattle.tus_server.specs.declared.journal_fault.JournalFault.{JournalFault}
+use Rattle.tus_server.specs.declared.journal_fault.JournalFault.TheVariants.{File, Busy, Damaged, Record, Disk}
 use Rattle.tus_server.specs.declared.fault.RunFault.TheVariants as run
 
 -- a byte as it is shown: a printable one of ASCII as it is, and any other as `?`
@@ -110,13 +112,51 @@ port_text Forbidden address port = codes "port " ++ decimal port ++ codes " is n
 port_text NotHere address port = shown address ++ codes " is no address of this machine: give one that is, or 0.0.0.0 or :: for every one\n"
 port_text Refused address port = shown address ++ codes " port " ++ decimal port ++ codes " was refused by the system: give another\n"
 
+-- the path of the journal of a command; no text where it has none
+abbrev pub journal_in : CommandArguments → List ℕ
+journal_in (talk arguments) = unwrap_or arguments.journal []
+journal_in (serve arguments) = unwrap_or arguments.journal []
+
+abbrev pub address_in : CommandArguments → List ℕ
+address_in (talk arguments) = []
+address_in (serve arguments) = arguments.address
+
+abbrev pub port_in : CommandArguments → ℕ
+port_in (talk arguments) = 0
+port_in (serve arguments) = arguments.port
+
+-- the file of the log of a command, and the port at which numbers are asked for; no text and 0 where there is none
+abbrev pub log_in : CommandArguments → List ℕ
+log_in (talk arguments) = []
+log_in (serve arguments) = unwrap_or arguments.log []
+
+abbrev pub metrics_in : CommandArguments → ℕ
+metrics_in (talk arguments) = 0
+metrics_in (serve arguments) = unwrap_or arguments.metrics 0
+
+-- standard output has failed, also where it was to show help
+abbrev pub output_text : List ℕ
+output_text = codes "standard output could not be written: see where it goes to\n"
+
 -- what broke
-abbrev pub cause_text : Cause → List ℕ → ℕ → List ℕ
-cause_text Input address port = codes "standard input could not be read: see where it comes from\n"
-cause_text Output address port = codes "standard output could not be written: see where it goes to\n"
-cause_text (Port why) address port = port_text why address port
-cause_text Workers address port = codes "there was no socket for each worker: give fewer --workers, or a higher ulimit -n\n"
-cause_text Accept address port = codes "a worker could accept no connection: see the lines before, and ulimit -n\n"
+abbrev pub cause_text : Cause → CommandArguments → List ℕ
+cause_text Input arguments = codes "standard input could not be read: see where it comes from\n"
+cause_text Output arguments = output_text
+cause_text (Port why) arguments = port_text why (address_in arguments) (port_in arguments)
+cause_text Workers arguments = codes "there was no socket for each worker: give fewer --workers, or a higher ulimit -n\n"
+cause_text Accept arguments = codes "a worker could accept no connection: see the lines before, and ulimit -n\n"
+cause_text Log arguments = shown (log_in arguments) ++ codes " can't be opened for the log: see its folder, and whose it is\n"
+cause_text Metrics arguments = codes "--metrics " ++ decimal (metrics_in arguments) ++ codes " can't be listened at: give another port\n"
+
+-- a journal can't be had, or failed; its path stands as it was given
+abbrev pub journal_text : JournalFault → List ℕ → List ℕ
+journal_text File path = shown path ++ codes " can't be opened or made: see its folder, and that it is a file with one name\n"
+journal_text Busy path = shown path ++ codes " is another process's journal: end that, or give another --journal\n"
+journal_text Damaged path = shown path ++ codes " is damaged, or no journal; nothing was written to it: give a copy of it, or another --journal\n"
+journal_text (Record number) path =
+    codes "record " ++ decimal number ++ codes " of " ++ shown path
+    ++ codes " is of no change that these settings allow: give those that it was made with\n"
+journal_text Disk path = shown path ++ codes " could not be read or written: see its disk. What any reply told is in it\n"
 
 -- a word of the command line is no text
 abbrev pub no_text : List ℕ
@@ -143,19 +183,12 @@ abbrev pub tenant_words : CommandArguments → List (List ℕ)
 tenant_words (talk arguments) = arguments.tenants
 tenant_words (serve arguments) = arguments.tenants
 
-abbrev pub address_in : CommandArguments → List ℕ
-address_in (talk arguments) = []
-address_in (serve arguments) = arguments.address
-
-abbrev pub port_in : CommandArguments → ℕ
-port_in (talk arguments) = 0
-port_in (serve arguments) = arguments.port
-
 -- The sentence on a fault of a command with these arguments, as a line. A command has no fault of its words: they were
 -- read before it.
 abbrev pub sentence_of : CommandArguments → RunFault → List ℕ
 sentence_of arguments run.Words = untold_text
 sentence_of arguments run.Address = address_text (address_in arguments)
 sentence_of arguments (run.Settings why) = settings_text why (numbers_in arguments) (tenant_words arguments)
-sentence_of arguments (run.Wire cause) = cause_text cause (address_in arguments) (port_in arguments)
+sentence_of arguments (run.Wire cause) = cause_text cause arguments
+sentence_of arguments (run.Journal why) = journal_text why (journal_in arguments)
 sentence_of arguments run.Memory = memory_text (numbers_in arguments)

@@ -1,5 +1,5 @@
 -- How `serve` ends. What is written on its connections is the workers' (`serve_stream` of `tus_workers`).
-use Rattle.std.specs.Prelude.{◌≡◌, ◌⊎◌, ℕ, ◌≤◌, Bool, true, false, List, ◌++◌, length, take, Result, Ok, Err}
+use Rattle.std.specs.Prelude.{◌≡◌, ◌⊎◌, ⊤, ℕ, ◌≤◌, Bool, true, false, List, ◌++◌, length, take, IsSome, Result, Ok, Err}
 use Rattle.std.specs.Io.KnownBytes.{Appends}
 use Rattle.std.specs.Net.Grammar.{IsIpText}
 use Rattle.std.specs.Net.ToAddrs.{IsHostAndPort}
@@ -15,7 +15,9 @@ use Rattle.tus_server.specs.Settings.{settings_given}
 use Rattle.tus_server.specs.Sockets.{HasFailed, HaveAccepted, Sockets}
 use Rattle.tus_server.specs.StreamUse.{StreamUse, IsAlive, IsUntouched}
 use Rattle.tus_server.specs.declared.cause.Cause.{Cause}
-use Rattle.tus_server.specs.declared.cause.Cause.TheVariants.{Input, Output, Port, Workers, Accept}
+use Rattle.tus_server.specs.declared.cause.Cause.TheVariants.{Input, Output, Port, Workers, Accept, Log, Metrics}
+use Rattle.tus_server.specs.declared.journal_fault.JournalFault.{JournalFault}
+use Rattle.tus_server.specs.declared.journal_fault.JournalFault.TheVariants.{File, Busy, Damaged, Record, Disk}
 use Rattle.tus_server.specs.declared.fault.RunFault.{RunFault}
 use Rattle.tus_server.specs.declared.fault.RunFault.TheVariants as run
 
@@ -75,22 +77,43 @@ module _ {L A W : Type 0} (seen : Sockets L A) (arguments : ServeArguments) (s :
     pub lines : Appends output.before output.after (listening_text (seen.place listener) ++ take n (balance_text balance))
     pub failed : output.has_failed ≡ true
 
-  -- What is printed where a socket or the output failed, by the cause: nothing, where the port or a worker's socket could not
-  -- be had, or a line that broke off, or both lines, and then an accept failed.
+  -- What is printed where a socket, the log or the output failed, by the cause: nothing, where a port, a worker's socket or
+  -- the log could not be had, or a line that broke off, or both lines, and then an accept failed.
   abbrev pub BreaksOff : Cause → Type 0
   BreaksOff Input = ⊥
   BreaksOff Output = BreaksFirstLine ⊎ BreaksSecondLine
   BreaksOff (Port why) = IsUntouched output
   BreaksOff Workers = IsUntouched output
   BreaksOff Accept = AcceptsNoMore
+  BreaksOff Log = IsUntouched output
+  BreaksOff Metrics = IsUntouched output
 
--- a fault that comes after the settings and the address were taken
+-- a fault that comes after the settings and the address were taken, with a journal or without one
+abbrev pub is_of_kept_service : RunFault → Bool
+is_of_kept_service run.Words = false
+is_of_kept_service run.Address = false
+is_of_kept_service (run.Settings why) = false
+is_of_kept_service (run.Wire cause) = true
+is_of_kept_service (run.Journal why) = true
+is_of_kept_service run.Memory = true
+
+-- the same without one
 abbrev pub is_of_service : RunFault → Bool
 is_of_service run.Words = false
 is_of_service run.Address = false
 is_of_service (run.Settings why) = false
 is_of_service (run.Wire cause) = true
+is_of_service (run.Journal why) = false
 is_of_service run.Memory = true
+
+-- What was printed where the journal can't be had, or failed: nothing, unless it is that a read, a write or a sync failed,
+-- which may be at any time.
+abbrev pub KeepsQuiet : {W : Type 0} → StreamUse W → JournalFault → Type 0
+KeepsQuiet output Disk = ⊤
+KeepsQuiet output File = IsUntouched output
+KeepsQuiet output Busy = IsUntouched output
+KeepsQuiet output Damaged = IsUntouched output
+KeepsQuiet output (Record number) = IsUntouched output
 
 -- `serve` was asked for with these arguments, with these sockets and this output
 module _ {L A W : Type 0} (seen : Sockets L A) (arguments : ServeArguments) (output : StreamUse W) where
@@ -106,12 +129,13 @@ module _ {L A W : Type 0} (seen : Sockets L A) (arguments : ServeArguments) (out
     pub is_given : serve_settings arguments ≡ Ok settings
     pub breaks : BreaksOff seen arguments settings output cause
 
-  -- How `serve` ends: well, or a socket or its output failed, or it refused the settings or the address, or lacked memory to
-  -- begin with. In the last three nothing was printed.
+  -- How `serve` ends: well, or a socket or its output failed, or it lacked the journal that it was asked for, or refused the
+  -- settings or the address, or lacked memory to begin with. In the last three nothing was printed.
   abbrev pub ServeEnds : {T : Type 0} → Result T RunFault → Type 0
   ServeEnds (Ok _) = ServesAll
   ServeEnds (Err (run.Wire cause)) = BreaksService cause
   ServeEnds (Err (run.Settings why)) = (serve_settings arguments ≡ Err why) × IsUntouched output
   ServeEnds (Err run.Memory) = IsUntouched output
   ServeEnds (Err run.Address) = ((a : IpAddr) → ¬ (IsIpText arguments.address a)) × IsUntouched output
+  ServeEnds (Err (run.Journal why)) = IsSome arguments.journal × KeepsQuiet output why
   ServeEnds (Err run.Words) = ⊥

@@ -1,8 +1,9 @@
 //! How the options are read from what was found in the command line.
-ghost use Rattle.std.specs.Prelude.{◌≡◌, IfSome, codes, false, option_map};
+ghost use Rattle.std.specs.Borrow.{Bor};
+ghost use Rattle.std.specs.Prelude.{◌≡◌, ℕ, IfSome, List, codes, false, option_map};
 ghost use Rattle.clap.specs.Walk.{rows_of};
-ghost use Rattle.clap.specs.Words.{found_of, subcommand_rows_of};
-ghost use Rattle.tus_server.specs.Arguments.{arguments_entered, arguments_of, at_once_given, bounds_given, connections_given, is_set, moment_set, number_given, number_under, numbers_given, port_given, serve, serve_arguments, talk, talk_arguments, work_given, workers_given};
+ghost use Rattle.clap.specs.Words.{first_of, found_of, subcommand_rows_of};
+ghost use Rattle.tus_server.specs.Arguments.{arguments_entered, arguments_of, at_once_given, bounds_given, connections_given, is_by_readiness, is_set, metrics_set, moment_set, number_given, number_under, numbers_given, port_given, serve, serve_arguments, talk, talk_arguments, work_given, workers_given};
 ghost use Rattle.upload_book.specs.Settings.{is_outside};
 
 use crate::options::{CommandOptions, ServeOptions, TalkOptions};
@@ -11,7 +12,7 @@ use tus_workers::{Bounds, WorkOptions};
 use upload_book::{Moment, Numbers};
 
 /// The command that was entered, with its options. None where there is none, its moment is past the year 9999, it has no
-/// address, its port is none, or it is to have no worker or more than 16.
+/// address, one of its ports is none, or it is to have no worker or more than 16.
 pub fn command_options<'m, 'a>(matches: &'m ArgMatches<'a>) -> Option<CommandOptions<'m, 'a>>
     ensures { option_map arguments_of result ≡ arguments_entered (subcommand_rows_of matches.now) }
 {
@@ -28,6 +29,7 @@ fn talk_options<'m, 'a>(found: &'m ArgMatches<'a>) -> Option<CommandOptions<'m, 
     Some(CommandOptions::Talk(TalkOptions {
         numbers: numbers_of(found),
         moment: Moment::new(number_of(found, "moment"))?,
+        journal: found.get_str("journal"),
         tenants: found.get_strs("tenant")?,
     }))
 }
@@ -40,13 +42,19 @@ fn serve_options<'m, 'a>(found: &'m ArgMatches<'a>) -> Option<CommandOptions<'m,
     let work = work_of(found)?;
     let port = port_of(found)?;
     let workers = workers_of(found)?;
+    let metrics = metrics_of(found)?;
+    let journal = text_given(found, "journal");
+    let log = text_given(found, "log");
     Some(CommandOptions::Serve(ServeOptions {
         numbers: numbers_of(found),
         tenants: found.get_strs("tenant")?,
         address,
         port,
+        journal,
         workers,
         work,
+        log,
+        metrics,
     }))
 }
 
@@ -84,6 +92,33 @@ fn is_set(found: &ArgMatches, name: &str) -> bool
     ensures { result ≡ is_set name.now (rows_of (found_of found.now)) }
 {
     found.get_one::<bool>(name).unwrap_or(false)
+}
+
+/// The text of the option of this name, if it has one.
+fn text_given<'a>(found: &ArgMatches<'a>, name: &str) -> Option<&'a str>
+    ensures { option_map (λ (text : Bor (List ℕ)). text.now) result ≡ first_of name.now (rows_of (found_of found.now)) }
+{
+    found.get_str(name)
+}
+
+/// Whether clients are served by readiness: there is a journal, a log, or a port at which numbers are asked for.
+fn is_by_readiness(found: &ArgMatches) -> bool
+    ensures { result ≡ is_by_readiness (rows_of (found_of found.now)) }
+{
+    text_given(found, "journal").is_some()
+        || text_given(found, "log").is_some()
+        || number_given(found, "metrics").is_some()
+}
+
+/// The port at which numbers are asked for, if there is one; None where the number is none.
+fn metrics_of(found: &ArgMatches) -> Option<Option<u16>>
+    ensures { result ≡ metrics_set (number_given (codes "metrics") (rows_of (found_of found.now))) }
+{
+    match number_given(found, "metrics") {
+        Some(port) if port > 65_535 => None,
+        Some(port) => Some(Some(port as u16)),
+        None => Some(None),
+    }
 }
 
 /// How many workers the option gives; None where the number is not from 1 to 16.
@@ -124,6 +159,7 @@ fn work_of(found: &ArgMatches) -> Option<WorkOptions>
         at_once,
         bounds: bounds_of(found),
         body_memory: number_of(found, "body-memory"),
+        by_readiness: is_by_readiness(found),
     })
 }
 

@@ -18,6 +18,10 @@ pub enum Cause {
     Workers,
     /// A worker could accept no more connections.
     Accept,
+    /// The file of the log could not be opened.
+    Log,
+    /// The port at which numbers are asked for could not be had.
+    Metrics,
 }
 
 /// Why a port could not be had.

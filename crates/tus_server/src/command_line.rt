@@ -1,7 +1,7 @@
 //! The command line: its options with their help, and how its words are read.
 ghost use Rattle.std.specs.Prelude.{◌≡◌, IfOk, codes, false, map};
 ghost use Rattle.clap.specs.Words.{FailsBy, app_of, new_app, rule_of, subcommand_of, subcommand_rows_of};
-ghost use Rattle.tus_server.specs.CommandLine.{faults_in, flag_rule, moment_rule, option_between, option_rule, program, number_rule, program_alone, serve_command, talk_command, tenant_rule, text_rule, with_crowds, with_service, with_sizes};
+ghost use Rattle.tus_server.specs.CommandLine.{faults_in, flag_rule, journal_rule, log_rule, moment_rule, option_between, option_rule, program, number_rule, program_alone, serve_command, talk_command, tenant_rule, text_rule, with_crowds, with_service, with_sizes, with_watch};
 
 use crate::version::VERSION;
 use clap::{Arg, ArgAction, ArgMatches, Command, value_parser};
@@ -17,10 +17,13 @@ Exit status:
   2  The command line or the settings are refused, and nothing was read
   3  A read or a write failed; of serve: the port could not be had, or no connection accepted
   4  There was no memory to begin with, and nothing was read
-At 2, 3 and 4 standard error says why.";
+  5  The journal could not be had, and nothing was read, or it failed
+At 2, 3, 4 and 5 standard error says why.";
 
 const TALK_HELP: &str = "\
-Uploads are created by POST to /files/NAME, and live as long as the conversation.
+Uploads are created by POST to /files/NAME, and live as long as the conversation, or with --journal in its file: no
+reply tells of a change before the file has it, and the next conversation with the same options and the same tenants in
+the same order goes on from there.
 A quota is a number of blocks, or of bytes with KiB, MiB, GiB or TiB, of which the whole blocks count: with blocks of
 4096 bytes acme:4096 and acme:16MiB are the same. An upload takes a block for each that its bytes begin.
 A PATCH that would take more blocks than the tenant's quota is refused with 507.
@@ -31,7 +34,9 @@ Upload-Length: 5\\r\\n\\r\\n' | tus-server talk acme:8";
 
 const SERVE_HELP: &str = "\
 All uploads are kept in memory, in blocks that are taken at the start: --blocks times --block-size bytes.
-Everything ends with the process: its end, or the end of the machine, loses all uploads.
+Without --journal everything ends with the process: its end, or the end of the machine, loses all uploads. With it a
+file has all of them: no reply tells of what the file does not have, and the next start with the same options and the
+same tenants in the same order goes on from there.
 A quota is a number of blocks, or of bytes with KiB, MiB, GiB or TiB, of which the whole blocks count: with blocks of
 4096 bytes acme:4096 and acme:16MiB are the same. An upload takes a block for each that its bytes begin.
 
@@ -79,8 +84,21 @@ fn program_alone<'a>(alloc: Global) -> Result<Command<'a>, AllocError>
 fn talk<'a>(alloc: Global) -> Result<Command<'a>, AllocError>
     ensures { IfOk result (λ c. app_of c ≡ talk_command) }
 {
-    let command = talk_alone(alloc).arg(moment(alloc))?;
+    let command = talk_alone(alloc).arg(moment(alloc))?.arg(journal(alloc))?;
     sizes(alloc, command)?.arg(tenants(alloc))
+}
+
+/// The option that names the file of the journal.
+fn journal<'a>(alloc: Global) -> Arg<'a>
+    ensures rule { rule_of result ≡ journal_rule }
+    ensures local { result.global ≡ false }
+{
+    Arg::new(alloc, "journal")
+        .long("journal")
+        .value_name("FILE")
+        .help(
+            "The file that keeps all uploads, which is made where there is none; beside it stands FILE-wal",
+        )
 }
 
 /// The command `talk`, without its arguments.
@@ -97,7 +115,10 @@ fn serve<'a>(alloc: Global) -> Result<Command<'a>, AllocError>
     ensures { IfOk result (λ c. app_of c ≡ serve_command) }
 {
     let served = service(alloc, serve_alone(alloc))?;
-    let command = crowds(alloc, served)?.arg(set_moment(alloc))?;
+    let crowded = crowds(alloc, served)?;
+    let command = watch(alloc, crowded)?
+        .arg(set_moment(alloc))?
+        .arg(journal(alloc))?;
     sizes(alloc, command)?.arg(tenants(alloc))
 }
 
@@ -132,6 +153,37 @@ fn crowds<'a>(alloc: Global, command: Command<'a>) -> Result<Command<'a>, AllocE
         .arg(message_seconds(alloc))?
         .arg(least_rate(alloc))?
         .arg(body_memory(alloc))
+}
+
+/// The options on how the service is watched.
+fn watch<'a>(alloc: Global, command: Command<'a>) -> Result<Command<'a>, AllocError>
+    ensures { IfOk result (λ c. app_of c ≡ with_watch (app_of command.entry)) }
+{
+    command.arg(log(alloc))?.arg(metrics(alloc))
+}
+
+/// The option that names the file of the log.
+fn log<'a>(alloc: Global) -> Arg<'a>
+    ensures rule { rule_of result ≡ log_rule }
+    ensures local { result.global ≡ false }
+{
+    Arg::new(alloc, "log").long("log").value_name("FILE").help(
+        "Put a line for each request and each connection that is cut off behind this file; - is standard error",
+    )
+}
+
+/// The option that names the port at which numbers are asked for.
+fn metrics<'a>(alloc: Global) -> Arg<'a>
+    ensures rule { rule_of result ≡ number_rule (codes "metrics") 1 65535 }
+    ensures local { result.global ≡ false }
+{
+    Arg::new(alloc, "metrics")
+        .long("metrics")
+        .value_name("PORT")
+        .value_parser(value_parser!(u64).range(1..65_536))
+        .help(
+            "Answer GET /metrics, for Prometheus, and GET /health at this port of the same address, 1 to 65535",
+        )
 }
 
 /// The option that names the port.

@@ -2,15 +2,21 @@
 ghost use Rattle.std.specs.Prelude.{◌≡◌, ◌++◌, false};
 ghost use Rattle.tus_server.specs.Arguments.{arguments_of};
 ghost use Rattle.tus_server.specs.Fault.{Reports, WritesLines, WritesOrFails, fault_of_opening, fault_of_wire, line_of, status_of};
+ghost use Rattle.tus_server.specs.JournalFault.{fault_of_file, fault_of_journal, fault_of_kept, fault_of_reopening};
 ghost use Rattle.tus_server.specs.StreamUse.{used};
 ghost use Rattle.tus_server.specs.declared.cause.Cause.TheVariants.{Workers};
 ghost use Rattle.tus_server.specs.declared.fault.RunFault.TheVariants.{Memory, Settings, Wire};
 
 use crate::cause::Cause;
+use crate::journal_fault::JournalFault;
 use crate::options::CommandOptions;
 use crate::sentence::sentence;
 use arrayvec::ArrayString;
+use book_replay::ReplayFault;
 use http_wire::{Sink, WireFault, put_all};
+use journal_file::JournalError;
+use journal_keeper::ReopenFault;
+use sqlite_std_file::OpenError;
 use std::alloc::AllocError;
 use std::io;
 use tus_shared::OpenFault;
@@ -30,13 +36,15 @@ pub enum RunFault {
     Settings(SettingsFault),
     /// A read or a write failed, or of `serve` a socket.
     Wire(Cause),
+    /// The journal can't be had, or failed.
+    Journal(JournalFault),
     /// There was no memory to begin with.
     Memory,
 }
 
 impl RunFault {
     /// The exit status of the program: 2 for the words, the address and the settings, 3 for the connection, 4 for
-    /// memory.
+    /// memory, 5 for the journal.
     pub fn status(self) -> u8
         ensures { result ≡ status_of self }
     {
@@ -44,11 +52,12 @@ impl RunFault {
             RunFault::Words | RunFault::Address | RunFault::Settings(_) => 2,
             RunFault::Wire(_) => 3,
             RunFault::Memory => 4,
+            RunFault::Journal(_) => 5,
         }
     }
 
     /// The line that names the fault: `tus-server: `, then `words`, `address`, `settings: ` and the word of
-    /// its fault, `wire` or `memory`, and LF.
+    /// its fault, `wire`, `journal: ` and the word of its fault, or `memory`, and LF.
     #[tactic(auto, using(crate::proofs::FaultLemmas::short_word))]
     pub fn line(self) -> ArrayString<LINE_MAX>
         ensures { result.bytes ≡ line_of self }
@@ -63,6 +72,10 @@ impl RunFault {
                 line.push_str(fault.word());
             }
             RunFault::Wire(_) => line.push_str("wire"),
+            RunFault::Journal(fault) => {
+                line.push_str("journal: ");
+                line.push_str(fault.word());
+            }
             RunFault::Memory => line.push_str("memory"),
         }
         line.push_str("\n");
@@ -163,6 +176,58 @@ impl From<WireFault> for RunFault {
             WireFault::Memory => RunFault::Memory,
             WireFault::Read => RunFault::Wire(Cause::Input),
             WireFault::Write | WireFault::Failed => RunFault::Wire(Cause::Output),
+        }
+    }
+}
+
+impl From<JournalError> for RunFault {
+    ghost from_gives = { λ error run. run ≡ fault_of_journal error };
+
+    fn from(error: JournalError) -> RunFault {
+        match error {
+            JournalError::Memory => RunFault::Memory,
+            JournalError::Damaged => RunFault::Journal(JournalFault::Damaged),
+            _ => RunFault::Journal(JournalFault::Disk),
+        }
+    }
+}
+
+impl From<kept_book::OpenFault> for RunFault {
+    ghost from_gives = { λ fault run. run ≡ fault_of_kept fault };
+
+    fn from(fault: kept_book::OpenFault) -> RunFault {
+        match fault {
+            kept_book::OpenFault::Journal(error) => RunFault::from(error),
+            kept_book::OpenFault::Replay(ReplayFault::Record(number)) => {
+                RunFault::Journal(JournalFault::Record(number))
+            }
+            kept_book::OpenFault::Replay(ReplayFault::Memory) | kept_book::OpenFault::Memory => {
+                RunFault::Memory
+            }
+        }
+    }
+}
+
+impl From<ReopenFault> for RunFault {
+    ghost from_gives = { λ fault run. run ≡ fault_of_reopening fault };
+
+    fn from(fault: ReopenFault) -> RunFault {
+        match fault {
+            ReopenFault::Record(number) => RunFault::Journal(JournalFault::Record(number)),
+            ReopenFault::Memory => RunFault::Memory,
+            ReopenFault::Waiting => RunFault::Journal(JournalFault::Disk),
+        }
+    }
+}
+
+impl From<OpenError> for RunFault {
+    ghost from_gives = { λ error run. run ≡ fault_of_file error };
+
+    fn from(error: OpenError) -> RunFault {
+        match error {
+            OpenError::OutOfMemory => RunFault::Memory,
+            OpenError::Busy => RunFault::Journal(JournalFault::Busy),
+            OpenError::Io(_) | OpenError::HotJournal => RunFault::Journal(JournalFault::File),
         }
     }
 }

@@ -6,9 +6,15 @@ ghost use Rattle.std.specs.Prelude.{◌≡◌, ◌≢◌};
 ghost use Rattle.std.specs.IoError.{error_kind};
 
 mod arguments;
+mod at_journal;
 mod cause;
 mod command_line;
 mod fault;
+mod journal_fault;
+mod journals;
+mod keeping;
+mod kept_serve;
+mod kept_talk;
 mod lines;
 mod options;
 mod program;
@@ -20,6 +26,7 @@ mod talk;
 mod version;
 
 use crate::fault::{RunFault, report_fault};
+use crate::journals::MachineJournals;
 use crate::program::run;
 use crate::sentence::{NO_TEXT, WORDS_MEMORY};
 use http_wire::Tapped;
@@ -33,8 +40,9 @@ fn main(rt: HostRuntime) -> ExitCode {
     let mut writer = Tapped::new(rt.stdout());
     let mut errors = Tapped::new(rt.stderr());
     let status = match words(&rt) {
-        Ok(words) => run::<SocketListener, _, _, _, _, _>(
+        Ok(words) => run::<SocketListener, _, _, _, _, _, _, _>(
             &rt,
+            &MachineJournals { rt: &rt },
             rt.alloc(),
             words.as_slice(),
             &mut reader,

@@ -18,6 +18,8 @@ pub struct TalkOptions<'m, 'a> {
     pub numbers: Numbers,
     /// The moment of every message.
     pub moment: Moment,
+    /// The file of the journal, where there is one.
+    pub journal: Option<&'a str>,
     /// Words NAME:QUOTA, as they were given.
     pub tenants: &'m [&'a str],
 }
@@ -32,8 +34,14 @@ pub struct ServeOptions<'m, 'a> {
     pub address: &'a str,
     /// The port that is listened at; 0 is any that is free.
     pub port: u16,
+    /// The file of the journal, where there is one.
+    pub journal: Option<&'a str>,
     /// How many workers there are, from 1 to 16.
     pub workers: usize,
     pub work: WorkOptions,
+    /// The file of the log, where there is one; `-` is standard error.
+    pub log: Option<&'a str>,
+    /// The port at which numbers are asked for, where there is one.
+    pub metrics: Option<u16>,
     ghost workers_in_range: { is_outside workers 16 ≡ false },
 }

@@ -11,6 +11,8 @@ use crate::arguments::command_options;
 use crate::cause::Cause;
 use crate::command_line::parsed;
 use crate::fault::{RunFault, put_or_fail, report, report_fault};
+use crate::journals::Journals;
+use crate::kept_talk::talk_kept;
 use crate::options::CommandOptions;
 use crate::sentence::{OUTPUT, UNTOLD, WORDS_MEMORY};
 use crate::serve::serve;
@@ -18,8 +20,10 @@ use crate::talk::talk;
 use clap::ArgMatches;
 use clap::error::ErrorKind;
 use http_wire::{Sink, Source, put_all};
+use sqlite_disk::Disk;
 use std::alloc::Global;
 use std::convert::AsStr;
+use std::fs::{File, Files};
 use std::io::Eprint;
 use std::net::{Net, TcpListener, TcpStream};
 use std::sync::Wait;
@@ -34,35 +38,50 @@ const REFUSED: u8 = 2;
 /// the program's name.
 ///
 /// The status is 0 where all was done, 2 where the words or the settings are refused, 3 where a read or a write
-/// failed, or of `serve` a socket, and 4 where there was no memory to begin with. Words that are not taken are answered
+/// failed, or of `serve` a socket, 4 where there was no memory to begin with, and 5 where a journal can't be had. Words that are not taken are answered
 /// on `errors`, and help on `writer`. At 3 and 4, and at 2 for the settings, the line that names the fault and a sentence on
 /// it are written to `errors`, whose own faults are passed over.
 pub fn run<
     L: Listener,
     S: AsStr,
+    D: Disk,
     H: Threads
         + Wait
         + Net<Stream = TcpStream, Listener = TcpListener>
         + time::Clock
         + Eprint
+        + Files<File = File>
         + Sync,
+    J: Journals<Disk = D>,
     R: Source,
     W: Sink,
     E: Sink,
->(rt: &H, alloc: Global, words: &[S], reader: &mut R, writer: &mut W, errors: &mut E) -> u8
+>(
+    rt: &H,
+    journals: &J,
+    alloc: Global,
+    words: &[S],
+    reader: &mut R,
+    writer: &mut W,
+    errors: &mut E,
+) -> u8
 where
+    D: Send + Drop,
     L: Drop,
     L::Acceptor: Send + Drop,
     requires reader { R.has_failed reader.old ≡ false }
     requires writer { W.has_failed writer.old ≡ false }
     requires errors { E.has_failed errors.old ≡ false }
-    ensures { RunEnds (sockets L.asked L.place L.Acceptor.accepted L.Acceptor.has_failed) result
+    ensures { RunEnds (sockets L.asked L.place L.Acceptor.accepted L.Acceptor.has_failed)
+        D.seen D.may_leave D.is_clean result
         (used R.remaining R.has_failed reader.old reader.new)
         (used W.contents W.has_failed writer.old writer.new)
         (used E.contents E.has_failed errors.old errors.new) (map S.text words.now) }
 {
     match parsed(alloc, words) {
-        Ok(matches) => perform::<L, H, R, W, E>(rt, alloc, &matches, reader, writer, errors),
+        Ok(matches) => perform::<L, D, H, J, R, W, E>(
+            rt, journals, alloc, &matches, reader, writer, errors,
+        ),
         Err(error) => explain(alloc, &error, writer, errors),
     }
 }
@@ -71,23 +90,36 @@ where
 /// [`REFUSED`], and the streams are untouched.
 fn perform<
     L: Listener,
+    D: Disk,
     H: Threads
         + Wait
         + Net<Stream = TcpStream, Listener = TcpListener>
         + time::Clock
         + Eprint
+        + Files<File = File>
         + Sync,
+    J: Journals<Disk = D>,
     R: Source,
     W: Sink,
     E: Sink,
->(rt: &H, alloc: Global, matches: &ArgMatches, reader: &mut R, writer: &mut W, errors: &mut E) -> u8
+>(
+    rt: &H,
+    journals: &J,
+    alloc: Global,
+    matches: &ArgMatches,
+    reader: &mut R,
+    writer: &mut W,
+    errors: &mut E,
+) -> u8
 where
+    D: Send + Drop,
     L: Drop,
     L::Acceptor: Send + Drop,
     requires reader { R.has_failed reader.old ≡ false }
     requires writer { W.has_failed writer.old ≡ false }
     requires errors { E.has_failed errors.old ≡ false }
-    ensures { Performs (sockets L.asked L.place L.Acceptor.accepted L.Acceptor.has_failed) result
+    ensures { Performs (sockets L.asked L.place L.Acceptor.accepted L.Acceptor.has_failed)
+        D.seen D.may_leave D.is_clean result
         (used R.remaining R.has_failed reader.old reader.new)
         (used W.contents W.has_failed writer.old writer.new)
         (used E.contents E.has_failed errors.old errors.new)
@@ -95,11 +127,14 @@ where
 {
     match command_options(matches) {
         Some(CommandOptions::Talk(options)) => {
-            let outcome = talk(alloc, &options, reader, writer);
+            let outcome = match options.journal {
+                Some(path) => talk_kept(journals, alloc, &options, path, reader, writer),
+                None => talk(alloc, &options, reader, writer),
+            };
             report(outcome, &CommandOptions::Talk(options), errors)
         }
         Some(CommandOptions::Serve(options)) => {
-            let outcome = serve::<L, H, W>(rt, alloc, &options, writer);
+            let outcome = serve::<L, D, H, J, W>(rt, journals, alloc, &options, writer);
             report(outcome, &CommandOptions::Serve(options), errors)
         }
         None => REFUSED,

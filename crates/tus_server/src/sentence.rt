@@ -4,11 +4,12 @@ ghost use Rattle.std.specs.List.{before_first, list_any};
 ghost use Rattle.arrayvec.specs.ArrayString.{array_string_len};
 ghost use Rattle.clap.specs.Walk.{texts};
 ghost use Rattle.tus_server.specs.Arguments.{arguments_of};
-ghost use Rattle.tus_server.specs.Sentences.{address_in, address_text, cause_text, memory_text, name_twice, numbers_in, outside_text, pool_text, port_in, port_text, quota_in, quota_sum, quota_text, sentence_of, settings_text, shown, shown_byte, sum_text, tenant_words, tenants_text, twice_text, untold_text, word_rule, word_text, wrong_word};
+ghost use Rattle.tus_server.specs.Sentences.{address_in, address_text, cause_text, journal_in, journal_text, log_in, memory_text, metrics_in, name_twice, numbers_in, outside_text, pool_text, port_in, port_text, quota_in, quota_sum, quota_text, sentence_of, settings_text, shown, shown_byte, sum_text, tenant_words, tenants_text, twice_text, untold_text, word_rule, word_text, wrong_word};
 ghost use Rattle.tus_server.specs.Settings.{is_colon};
 
 use crate::cause::{Cause, PortFault};
 use crate::fault::RunFault;
+use crate::journal_fault::JournalFault;
 use crate::options::CommandOptions;
 use crate::settings::tenant_of;
 use arrayvec::ArrayString;
@@ -44,7 +45,8 @@ pub fn sentence(fault: RunFault, command: &CommandOptions) -> ArrayString<SENTEN
         RunFault::Words => line(UNTOLD),
         RunFault::Settings(why) => settings_line(why, numbers_of(command), tenants_of(command)),
         RunFault::Address => address_line(address_of(command)),
-        RunFault::Wire(cause) => cause_line(cause, address_of(command), port_of(command)),
+        RunFault::Wire(cause) => cause_line(cause, command),
+        RunFault::Journal(why) => journal_line(why, journal_of(command)),
         RunFault::Memory => memory_line(numbers_of(command)),
     }
 }
@@ -79,6 +81,16 @@ fn address_of<'m, 'a>(command: &CommandOptions<'m, 'a>) -> &'a str
     }
 }
 
+/// The path of the journal of a command; no text where it has none.
+fn journal_of<'m, 'a>(command: &CommandOptions<'m, 'a>) -> &'a str
+    ensures { result.now ≡ journal_in (arguments_of command.entry.now) }
+{
+    match command {
+        CommandOptions::Talk(options) => options.journal.unwrap_or(""),
+        CommandOptions::Serve(options) => options.journal.unwrap_or(""),
+    }
+}
+
 /// The port that a command was to listen at; 0 where it listens at none.
 fn port_of(command: &CommandOptions) -> u16
     ensures { result ≡ port_in (arguments_of command.now) }
@@ -86,6 +98,26 @@ fn port_of(command: &CommandOptions) -> u16
     match command {
         CommandOptions::Talk(_) => 0,
         CommandOptions::Serve(options) => options.port,
+    }
+}
+
+/// The file of the log of a command; no text where it has none.
+fn log_of<'m, 'a>(command: &CommandOptions<'m, 'a>) -> &'a str
+    ensures { result.now ≡ log_in (arguments_of command.entry.now) }
+{
+    match command {
+        CommandOptions::Talk(_) => "",
+        CommandOptions::Serve(options) => options.log.unwrap_or(""),
+    }
+}
+
+/// The port at which numbers of a command are asked for; 0 where there is none.
+fn metrics_of(command: &CommandOptions) -> u16
+    ensures { result ≡ metrics_in (arguments_of command.now) }
+{
+    match command {
+        CommandOptions::Talk(_) => 0,
+        CommandOptions::Serve(options) => options.metrics.unwrap_or(0),
     }
 }
 
@@ -226,20 +258,37 @@ fn memory_line(numbers: Numbers) -> ArrayString<SENTENCE_MAX>
 }
 
 /// What broke.
-fn cause_line(cause: Cause, address: &str, port: u16) -> ArrayString<SENTENCE_MAX>
-    ensures { result.bytes ≡ cause_text cause address.now port }
+fn cause_line(cause: Cause, command: &CommandOptions) -> ArrayString<SENTENCE_MAX>
+    ensures { result.bytes ≡ cause_text cause (arguments_of command.now) }
 {
     match cause {
         Cause::Input => line("standard input could not be read: see where it comes from\n"),
         Cause::Output => line(OUTPUT),
-        Cause::Port(why) => port_line(why, address, port),
+        Cause::Port(why) => port_line(why, address_of(command), port_of(command)),
         Cause::Workers => line(
             "there was no socket for each worker: give fewer --workers, or a higher ulimit -n\n",
         ),
         Cause::Accept => line(
             "a worker could accept no connection: see the lines before, and ulimit -n\n",
         ),
+        Cause::Log => path_is(
+            log_of(command),
+            " can't be opened for the log: see its folder, and whose it is\n",
+        ),
+        Cause::Metrics => metrics_line(metrics_of(command)),
     }
+}
+
+/// The port at which numbers are asked for could not be had.
+fn metrics_line(port: u16) -> ArrayString<SENTENCE_MAX>
+    ensures { result.bytes ≡ codes "--metrics " ++ decimal port ++ codes " can't be listened at: give another port\n" }
+{
+    let mut digits = Buffer::new();
+    let mut line = ArrayString::new();
+    line.push_str("--metrics ");
+    line.push_str(digits.format(port));
+    line.push_str(" can't be listened at: give another port\n");
+    line
 }
 
 /// A port could not be had.
@@ -295,6 +344,56 @@ fn refused_line(address: &str, port: u16) -> ArrayString<SENTENCE_MAX>
     line.push_str(" port ");
     line.push_str(digits.format(port));
     line.push_str(" was refused by the system: give another\n");
+    line
+}
+
+/// A journal can't be had, or failed.
+fn journal_line(why: JournalFault, path: &str) -> ArrayString<SENTENCE_MAX>
+    ensures { result.bytes ≡ journal_text why path.now }
+{
+    match why {
+        JournalFault::File => path_is(
+            path,
+            " can't be opened or made: see its folder, and that it is a file with one name\n",
+        ),
+        JournalFault::Busy => path_is(
+            path,
+            " is another process's journal: end that, or give another --journal\n",
+        ),
+        JournalFault::Damaged => path_is(
+            path,
+            " is damaged, or no journal; nothing was written to it: give a copy of it, or another --journal\n",
+        ),
+        JournalFault::Record(number) => record_line(number, path),
+        JournalFault::Disk => path_is(
+            path,
+            " could not be read or written: see its disk. What any reply told is in it\n",
+        ),
+    }
+}
+
+/// A path is as these words say.
+fn path_is(path: &str, words: &str) -> ArrayString<SENTENCE_MAX>
+    requires { length words.now ≤ 128 }
+    ensures { result.bytes ≡ shown path.now ++ words.now }
+{
+    let mut line = ArrayString::new();
+    line.push_str(shown(path).as_str());
+    line.push_str(words);
+    line
+}
+
+/// A record is of no change that the settings allow.
+fn record_line(number: u64, path: &str) -> ArrayString<SENTENCE_MAX>
+    ensures { result.bytes ≡ journal_text (JournalFault.Record number) path.now }
+{
+    let mut digits = Buffer::new();
+    let mut line = ArrayString::new();
+    line.push_str("record ");
+    line.push_str(digits.format(number));
+    line.push_str(" of ");
+    line.push_str(shown(path).as_str());
+    line.push_str(" is of no change that these settings allow: give those that it was made with\n");
     line
 }
 

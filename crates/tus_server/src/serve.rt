@@ -1,5 +1,5 @@
 //! The command `serve`, after its command line was read.
-ghost use Rattle.std.specs.Prelude.{◌≡◌, false, true, OnOk, OnErr, IfOk, IsErrOf, IfErr, vec_len};
+ghost use Rattle.std.specs.Prelude.{◌≡◌, ◌⊎◌, false, true, OnOk, OnErr, IfOk, IsErrOf, IfErr, vec_len};
 ghost use Rattle.std.specs.Net.Grammar.{IsIpText};
 ghost use Rattle.std.specs.Net.ToAddrs.{IsHostAndPort};
 ghost use Rattle.std.specs.declared.net.ip_addr.IpAddr.{IpAddr};
@@ -15,11 +15,15 @@ ghost use Rattle.tus_shared.specs.declared.balance.Balance.{Balance};
 
 use crate::cause::{Cause, PortFault};
 use crate::fault::RunFault;
+use crate::journals::Journals;
+use crate::kept_serve::serve_kept;
 use crate::lines::{listening_line, put_balance};
 use crate::options::ServeOptions;
 use crate::settings::settings_with;
 use http_wire::{Sink, WireFault, put_all};
+use sqlite_disk::Disk;
 use std::alloc::Global;
+use std::fs::{File, Files, OpenOptions};
 use std::io::Eprint;
 use std::marker::Brand;
 use std::net::{IpAddr, Net, SocketAddr, TcpListener, TcpStream};
@@ -28,27 +32,41 @@ use std::sync::ledger::{Blank, Ledger};
 use std::thread::Threads;
 use std::time;
 use tus_shared::{Charges, Desk, Opened, Shared, settle};
-use tus_workers::{Commons, Listener, any_failed, dismiss, hire, within_descriptors, work_all};
+use tus_workers::{
+    Commons, Keeping, Listener, LogTarget, NoJournal, Watching, any_failed, dismiss, hire,
+    within_descriptors, work_all,
+};
 use upload_book::Settings;
 
-/// Serves connections on sockets of this machine, over a new book with the settings of the options. It prints where it
-/// listens before it accepts anything, and at its end what was charged, released and is held.
+/// Serves connections on sockets of this machine, over a new book with the settings of the options, or, with a journal, over
+/// the book that its file keeps ([`serve_kept`]). It prints where it listens before it accepts anything, and at its end what
+/// was charged, released and is held.
 ///
 /// It is `Ok` where each worker accepted all of its connections. The error is the fault of the settings or the address, `RunFault::Wire`
-/// where the port or a worker's socket could not be had, where a line could not be printed or where an accept failed, each by
-/// its cause, or `RunFault::Memory` where there was no memory for the book or its board. After the first and the last nothing
-/// was printed.
+/// where a port, a worker's socket or the log could not be had, where a line could not be printed or where an accept failed, each by
+/// its cause, `RunFault::Memory` where there was no memory for the book or its board, or the journal's. After the first and
+/// after want of memory nothing was printed, nor where the journal could not be had.
 pub fn serve<
     L: Listener,
+    D: Disk,
     H: Threads
         + Wait
         + Net<Stream = TcpStream, Listener = TcpListener>
         + time::Clock
         + Eprint
+        + Files<File = File>
         + Sync,
+    J: Journals<Disk = D>,
     W: Sink,
->(rt: &H, alloc: Global, options: &ServeOptions, output: &mut W) -> Result<(), RunFault>
+>(
+    rt: &H,
+    journals: &J,
+    alloc: Global,
+    options: &ServeOptions,
+    output: &mut W,
+) -> Result<(), RunFault>
 where
+    D: Send + Drop,
     L::Acceptor: Send + Drop,
     L: Drop,
     requires { W.has_failed output.old ≡ false }
@@ -57,6 +75,10 @@ where
 {
     let settings = settings_with(alloc, options.numbers, options.tenants)?;
     let place = place_of(options.address, options.port)?;
+    if let Some(path) = options.journal {
+        let disk = journals.open(path)?;
+        return serve_kept::<L, D, H, W>(rt, alloc, settings, options, place, disk, output);
+    }
     serve_with::<L, Brand, Brand, Brand, H, W>(
         rt,
         alloc,
@@ -71,7 +93,7 @@ where
     )
 }
 
-/// Opens a desk for each worker, listens, and lets them work.
+/// Opens a desk for each worker, with nothing that outlives the process, and serves at these.
 fn serve_with<
     L: Listener,
     C: Charges + Send + Sync,
@@ -82,6 +104,7 @@ fn serve_with<
         + Net<Stream = TcpStream, Listener = TcpListener>
         + time::Clock
         + Eprint
+        + Files<File = File>
         + Sync,
     W: Sink,
 >(
@@ -106,6 +129,7 @@ where
     requires released { (released.name ≡ R.name) × (released.parts ≡ R.parts) × (R.parts ≡ 16) }
     requires made { (made.name ≡ M.name) × (made.parts ≡ M.parts) × (M.parts ≡ 16) }
     requires log { events.seen.book ≡ C.log }
+    requires journal { C.journal ≡ None }
     requires output { W.has_failed output.old ≡ false }
     ensures fault { IfErr result (λ fault. is_of_service fault ≡ true) }
     ensures memory { IsErrOf result RunFault.Memory → output.new ≡ output.old }
@@ -126,9 +150,62 @@ where
         released,
         made,
         events,
+        None,
     )?;
+    serve_desks::<L, C, R, M, H, &H, NoJournal, W>(
+        rt, alloc, options, place, shared, desks, &NoJournal, output,
+    )
+}
+
+/// Listens, and lets workers serve at these desks, one each, until all connections have ended.
+pub(crate) fn serve_desks<
+    L: Listener,
+    C: Charges + Send + Sync,
+    R: Ledger + Send + Sync,
+    M: Ledger + Send + Sync,
+    H: Threads
+        + Wait
+        + Net<Stream = TcpStream, Listener = TcpListener>
+        + time::Clock
+        + Eprint
+        + Files<File = File>
+        + Sync,
+    B: Wait + Drop + Send,
+    K: Keeping<C, R, M, B> + Sync,
+    W: Sink,
+>(
+    rt: &H,
+    alloc: Global,
+    options: &ServeOptions,
+    place: SocketAddr,
+    shared: Shared<C, R, M, B>,
+    desks: Vec<Desk<C, R, M>>,
+    keeping: &K,
+    output: &mut W,
+) -> Result<(), RunFault>
+where
+    L::Acceptor: Send + Drop,
+    L: Drop,
+    requires desks { options.now.workers ≡ C.desks }
+    requires count { vec_len desks ≡ C.desks }
+    requires place { IsPlaceAsked (serve_arguments_of options.now) place }
+    requires charged_parts { C.parts ≡ 16 }
+    requires released_parts { R.parts ≡ 16 }
+    requires made_parts { M.parts ≡ 16 }
+    requires output { W.has_failed output.old ≡ false }
+    ensures fault { IfErr result (λ fault. is_of_service fault ≡ true) }
+    ensures memory { IsErrOf result RunFault.Memory → output.new ≡ output.old }
+    ensures wire { (cause : Cause) → IsErrOf result (RunFault.Wire cause)
+        → BreaksOff (sockets L.asked L.place L.Acceptor.accepted L.Acceptor.has_failed)
+        (serve_arguments_of options.now) C.settings (used W.contents W.has_failed output.old output.new)
+        cause }
+    ensures all { OnOk result
+        (ServesEach (sockets L.asked L.place L.Acceptor.accepted L.Acceptor.has_failed)
+        (serve_arguments_of options.now) C.settings (used W.contents W.has_failed output.old output.new)) }
+{
     let work = within_descriptors(rt, options.work, options.workers);
-    let mut commons = Commons::new(alloc, options.workers, &work)?;
+    let commons = Commons::new(alloc, options.workers, &work)?;
+    let mut commons = watched(rt, alloc, commons, options, place)?;
     commons.watch(rt)?;
     let room = Vec::with_capacity(alloc, desks.len())?;
     let room_after = Vec::with_capacity(alloc, desks.len())?;
@@ -136,13 +213,81 @@ where
     let line = listening_line(alloc, listener.place())?;
     let mut workers = hire(&listener, desks, room)?;
     put_all(output, line.as_bytes())?;
-    work_all(rt, alloc, &shared, workers.as_mut_slice(), work, &commons);
+    work_all(
+        rt,
+        alloc,
+        &shared,
+        keeping,
+        workers.as_mut_slice(),
+        work,
+        &commons,
+    );
     let failed = any_failed(workers.as_slice());
     put_settled(output, shared, dismiss(workers, room_after))?;
     if failed {
         return Err(RunFault::Wire(Cause::Accept));
     }
     Ok(())
+}
+
+/// Has the workers watched, where the options ask for a log or a port for numbers. The error is that the file of the log can't
+/// be opened, or that the port can't be had.
+fn watched<N: Net<Stream = TcpStream, Listener = TcpListener> + Files<File = File>>(
+    rt: &N,
+    alloc: Global,
+    mut commons: Commons,
+    options: &ServeOptions,
+    place: SocketAddr,
+) -> Result<Commons, RunFault>
+    ensures { IfErr result (λ fault. (fault ≡ RunFault.Wire Cause.Log) ⊎ (fault ≡ RunFault.Wire Cause.Metrics)) }
+{
+    if options.log.is_some() || options.metrics.is_some() {
+        let log = log_at(rt, options.log)?;
+        let metrics = metrics_at(rt, place, options.metrics)?;
+        let pages = File::open(rt, "/proc/self/statm").ok();
+        commons.watch_by(Watching::new(alloc, log, metrics, pages));
+    }
+    Ok(commons)
+}
+
+/// Where the lines of the log go, if there is one. The error is that its file can't be opened.
+fn log_at<N: Files<File = File>>(
+    files: &N,
+    path: Option<&str>,
+) -> Result<Option<LogTarget>, RunFault>
+    ensures { IfErr result (λ fault. fault ≡ RunFault.Wire Cause.Log) }
+{
+    let Some(path) = path else {
+        return Ok(None);
+    };
+    if path == "-" {
+        return Ok(Some(LogTarget::Errors));
+    }
+    let opened = OpenOptions::new()
+        .append(true)
+        .create(true)
+        .open(files, path);
+    match opened {
+        Ok(file) => Ok(Some(LogTarget::File(file))),
+        Err(_) => Err(RunFault::Wire(Cause::Log)),
+    }
+}
+
+/// A listener at this port of the address, if numbers are to be asked for. The error is that it could not be had.
+fn metrics_at<N: Net<Stream = TcpStream, Listener = TcpListener>>(
+    net: &N,
+    place: SocketAddr,
+    port: Option<u16>,
+) -> Result<Option<TcpListener>, RunFault>
+    ensures { IfErr result (λ fault. fault ≡ RunFault.Wire Cause.Metrics) }
+{
+    let Some(port) = port else {
+        return Ok(None);
+    };
+    match TcpListener::bind(net, SocketAddr::new(place.ip(), port)) {
+        Ok(listener) => Ok(Some(listener)),
+        Err(_) => Err(RunFault::Wire(Cause::Metrics)),
+    }
 }
 
 /// The place of this address and this port. The error is `RunFault::Address`, where the text is no address.

@@ -1,22 +1,24 @@
 -- What a change does at a store, and which step of a request that is.
-use Rattle.std.proofs.Common.{◌≡◌, ℕ, ◌+◌, ◌≤◌, List, [], ◌∷◌, ◌++◌, Option, Result, Ok, Err, IsOk, IsErr, inl, inr, length, length-append, refl, sym, ap, subst, ◌∙◌}
+use Rattle.std.specs.Prelude.{◌⊎◌}
+use Rattle.std.proofs.Common.{◌≡◌, ℕ, ◌+◌, ◌≤◌, List, [], ◌∷◌, ◌++◌, Option, Some, None, IsSome, Result, Ok, Err, IsOk, IsErr, inl, inr, length, length-append, refl, sym, ap, subst, ◌∙◌}
 use Rattle.upload_book.specs.Change.{MayLackFor, book_after_change, change_answer, change_lacking}
 use Rattle.upload_book.specs.declared.append.Refused.{Refused}
 use Rattle.upload_book.specs.declared.board_line.BoardLine.{BoardLine}
 use Rattle.upload_book.specs.declared.change.Change.{Change}
 use Rattle.upload_book.specs.declared.change.Outcome.{Outcome}
+use Rattle.upload_book.specs.declared.refusal.Refusal.TheVariants.{Memory}
 use Rattle.upload_book.specs.Heads.{Heads, heads_of}
 use Rattle.upload_book.specs.PlainBook.{PlainBook}
 use Rattle.upload_book.specs.Refusal.{IsAnswer}
 use Rattle.upload_book.specs.Settings.{Settings}
-use Rattle.tus_steps.specs.Changing.{IsStepOf, change_reply}
+use Rattle.tus_steps.specs.Changing.{IsStepOf, change_found, change_reply}
 use Rattle.tus_steps.specs.declared.requested_change.ChangeOf.{ChangeOf}
 use Rattle.tus_steps.specs.Request.{Request}
 use Rattle.tus_steps.specs.Step.{IsStep}
 use Rattle.head_board.specs.Board.{BoardView}
 use Rattle.head_board.specs.Event.{Event}
 use Rattle.head_board.specs.Events.{IsLineOf, book_at}
-use Rattle.tus_shared.specs.Steps.{IsDone}
+use Rattle.tus_shared.specs.Steps.{IsDone, IsMade, IsNextEvent, IsStepAt, IsUnkept}
 use Rattle.tus_shared.specs.Store.{IsBookAt}
 use Rattle.tus_shared.proofs.EventLemmas.{at-one, book-one}
 
@@ -25,16 +27,21 @@ abbrev pub event_by : ℕ → Change → ℕ → Event
 event_by desk change now = record { desk = desk; change = change; now = now }
 
 -- a change that is refused leaves what happened
-pub done-refused : (b : PlainBook) (events : List Event) (desk : ℕ) (change : Change) (now : ℕ) (why : Refused)
-    → IsAnswer (change_answer b change now) (MayLackFor b change now) (change_lacking b change now) (Err why) → IsDone b events desk change now (Err why) events
-done-refused b events desk change now why answer = inr (record { refused = refl; why = answer; same = refl })
+pub done-refused : (journal : Option ℕ) (b : PlainBook) (events : List Event) (desk : ℕ) (change : Change) (now : ℕ) (why : Refused)
+    → IsAnswer (change_answer b change now) (MayLackFor b change now) (change_lacking b change now) (Err why) → IsDone journal b events desk change now (Err why) events
+done-refused journal b events desk change now why answer = inr (record { refused = refl; why = inl answer; same = refl })
 
--- one whose line is shown is made
-pub done-made : (b : PlainBook) (events after : List Event) (desk : ℕ) (change prepared : Change) (now moment : ℕ) (outcome : Outcome)
-    → prepared ≡ change → moment ≡ now → after ≡ events ++ event_by desk prepared moment ∷ [] → change_answer b prepared moment ≡ Ok outcome
-    → IsDone b events desk change now (Ok outcome) after
-done-made b events after desk change prepared now moment outcome is at next answer =
-    let answered : change_answer b change now ≡ Ok outcome = rw (is, at) at answer in inl (
+-- so does one that the book accepts, and whose record has no room
+pub done-unkept : (journal : Option ℕ) (b : PlainBook) (events : List Event) (desk : ℕ) (change : Change) (now : ℕ) → IsSome journal → IsOk (change_answer b change now)
+    → IsDone journal b events desk change now (Err (record { refusal = Memory; expires = None })) events
+done-unkept journal b events desk change now journalled accepted = inr (record { refused = refl; why = inr (record { journalled = journalled; accepted = accepted; told = refl }); same = refl })
+
+-- one for which the book was ready is made
+pub done-made : (b stored : PlainBook) (events after : List Event) (desk : ℕ) (change prepared : Change) (now moment : ℕ) (outcome : Outcome)
+    → prepared ≡ change → moment ≡ now → stored ≡ b → IsNextEvent events desk prepared moment after → change_answer stored prepared moment ≡ Ok outcome
+    → IsMade b events desk change now after × (Ok outcome ≡ change_answer b change now)
+done-made b stored events after desk change prepared now moment outcome is at same next answer =
+    let answered : change_answer b change now ≡ Ok outcome = rw (is, at, same) at answer in (
       record {
         accepted = subst IsOk (sym answered) refl;
         next = rw (is, at) at next;
@@ -79,11 +86,11 @@ step-as b r now offset answer result made after step is same =
     (subst (λ (o : Result Outcome Refused). IsStep b r now (change_reply r offset o) made) (sym is) step)
 
 -- what was done of the change that a request asks for is its step
-pub done-step : (s : Settings) (before after : List Event) (desk : ℕ) (r : Request) (now : ℕ) (asked : ChangeOf) (result : Result Outcome Refused) → IsStepOf (book_at s before) r now asked
-    → IsDone (book_at s before) before desk asked.change now result after → IsStep (book_at s before) r now (change_reply r asked.offset result) (book_at s after)
-done-step s before after desk r now asked result steps (inl done) =
-    step-as (book_at s before) r now asked.offset _ result _ (book_at s after) steps.made done.1 (ap (book_at s) done.0.next ∙ at-one s before (event_by desk asked.change now))
-done-step s before after desk r now asked result steps (inr left) = refused_as left.why
+pub done-step : (journal : Option ℕ) (s : Settings) (before after : List Event) (desk : ℕ) (r : Request) (now : ℕ) (asked : ChangeOf) (result : Result Outcome Refused) → change_found (book_at s before).settings r ≡ Some asked → IsStepOf (book_at s before) r now asked
+    → IsDone journal (book_at s before) before desk asked.change now result after → IsStepAt journal (book_at s before) r now (change_reply r asked.offset result) (book_at s after)
+done-step journal s before after desk r now asked result found steps (inl done) =
+    inl (step-as (book_at s before) r now asked.offset _ result _ (book_at s after) steps.made done.1 (ap (book_at s) done.0.next ∙ at-one s before (event_by desk asked.change now)))
+done-step journal s before after desk r now asked result found steps (inr left) = left_as left.why
   where
     b : PlainBook
     b = book_at s before
@@ -94,3 +101,15 @@ done-step s before after desk r now asked result steps (inr left) = refused_as l
         let stays : book_after_change b asked.change now ≡ b = steps.refused why.0 (sym answered ∙ why.1) in
         step-as b r now asked.offset _ result _ (book_at s after) steps.made answered (ap (book_at s) left.same ∙ sym stays)
     refused_as (inr lacks) = step-as b r now asked.offset _ result b (book_at s after) (steps.lacks lacks.0) lacks.1 (ap (book_at s) left.same)
+
+    left_as : IsAnswer (change_answer b asked.change now) (MayLackFor b asked.change now) (change_lacking b asked.change now) result ⊎ IsUnkept journal b asked.change now result
+        → IsStepAt journal b r now (change_reply r asked.offset result) (book_at s after)
+    left_as (inl answer) = inl (refused_as answer)
+    left_as (inr unkept) = inr (record {
+      journalled = unkept.journalled;
+      asked = asked;
+      found = found;
+      accepted = unkept.accepted;
+      told = ap (change_reply r asked.offset) unkept.told;
+      same = ap (book_at s) left.same;
+    })

@@ -1,5 +1,5 @@
 -- A HEAD as a turn of a desk: it changes nothing.
-use Rattle.std.proofs.Common.{◌≡◌, ℕ, ◌+◌, Bool, true, false, List, Option, Some, None, IfSome, IfNone, Result, Ok, Err, IsErr, length, refl, sym, ap, ap₂, subst, ◌∙◌}
+use Rattle.std.proofs.Common.{◌≡◌, ℕ, ◌+◌, Bool, true, false, List, Option, Some, None, IfSome, IfNone, Result, Ok, Err, IsErr, inl, length, refl, sym, ap, ap₂, subst, ◌∙◌}
 use Rattle.std.specs.Prelude.{◌⊎◌, ⊤}
 use mathlib.Core.List.{IsPrefix}
 use Rattle.upload_book.specs.declared.head_row.HeadRow.{HeadRow}
@@ -25,14 +25,15 @@ use Rattle.head_board.specs.Event.{Event}
 use Rattle.head_board.specs.Events.{HaveHappened, book_at}
 use Rattle.tus_shared.specs.Answers.{Answers, AnswersTurn, IsRefusedHead, IsUploadHead, MissesBoard, OnlyLooks, OnlySeesMore}
 use Rattle.tus_shared.specs.Desk.{Desk, Moves}
+use Rattle.tus_shared.specs.Journal.{journal_len}
 use Rattle.tus_shared.specs.Steps.{AddsBy, AddsChange}
 use Rattle.tus_steps.proofs.AskedLemmas.{asks-in, look-step, refused-step}
 use Rattle.tus_shared.proofs.EventLemmas.{at-settings}
 use Rattle.tus_shared.proofs.LogLaws.{prefix-on, prefix-self}
 
 -- a request that asks for no change adds nothing to what happened
-adds-nothing : (s : Settings) (events : List Event) (desk : ℕ) (r : Request) (now : ℕ) (reply : Reply) → change_found s r ≡ None → AddsChange s events desk r now reply events
-adds-nothing s events desk r now reply none = subst (λ (o : Option ChangeOf). AddsBy o (book_at s events) events desk r now reply events) (sym none) refl
+adds-nothing : (journal : Option ℕ) (s : Settings) (events : List Event) (desk : ℕ) (r : Request) (now : ℕ) (reply : Reply) → change_found s r ≡ None → AddsChange journal s events desk r now reply events
+adds-nothing journal s events desk r now reply none = subst (λ (o : Option ChangeOf). AddsBy journal o (book_at s events) events desk r now reply events) (sym none) refl
 
 -- what a request asks for under the settings of a book after events
 asked-at : (s : Settings) (events : List Event) (r : Request) (asks : Asked) → asks ≡ asked_in s r → asks ≡ asked_in (book_at s events).settings r
@@ -42,6 +43,8 @@ asked-at s events r asks is = subst (λ (s : Settings). asks ≡ asked_in s r) (
 sees-more : (s : Settings) (old new : Desk) → OnlySeesMore old new → Moves s new.seen new.seen old new
 sees-more s old new same = record {
   number = ap (λ (d : Desk). d.number) same;
+  journal = ap (λ (d : Desk). d.journal) same;
+  kept = ap (λ (d : Desk). d.kept) same;
   charged = ap (λ (d : Desk). d.charged + (book_at s new.seen).charged) same;
   released = ap (λ (d : Desk). d.released + (book_at s new.seen).released) same;
   made = ap (λ (d : Desk). d.made + length new.seen) same;
@@ -72,10 +75,11 @@ head-answers s r now name row old new is reads alone = record {
   before = new.seen;
   begins = reads.begins;
   happened = reads.happened;
-  step = subst (λ (row : Result HeadRow Refusal). IsStep (book_at s new.seen) r now (head_reply row) (book_at s new.seen)) (sym reads.tells)
-      (look-step (book_at s new.seen) r now name (asked-at s new.seen r (asked.Look name) is));
-  adds = adds-nothing s new.seen old.number r now (head_reply row) (ap change_in (sym is));
+  step = inl (subst (λ (row : Result HeadRow Refusal). IsStep (book_at s new.seen) r now (head_reply row) (book_at s new.seen)) (sym reads.tells)
+      (look-step (book_at s new.seen) r now name (asked-at s new.seen r (asked.Look name) is)));
+  adds = adds-nothing old.journal s new.seen old.number r now (head_reply row) (ap change_in (sym is));
   moves = sees-more s old new alone;
+  spends = ap (λ (d : Desk). d.room + journal_len old.journal new.seen) alone;
 }
 
 -- a desk that answers a HEAD of an upload, without the lock or after it has missed the board
@@ -102,10 +106,13 @@ sees-first s r now reply old ready new looks answers =
       adds = seen.adds;
       moves = record {
         number = seen.moves.number;
+        journal = seen.moves.journal;
+        kept = seen.moves.kept;
         charged = seen.moves.charged;
         released = seen.moves.released;
         made = seen.moves.made;
       };
+      spends = seen.spends;
     }
 
 -- a request that is refused before the book is asked changes nothing, at a desk that has seen what happened
@@ -114,9 +121,10 @@ refused-answers s r now why desk is happened = record {
   before = desk.seen;
   begins = prefix-self desk.seen;
   happened = happened;
-  step = refused-step (book_at s desk.seen) r now why (asked-at s desk.seen r (asked.Refused why) is);
-  adds = adds-nothing s desk.seen desk.number r now (refusing r why None) (ap change_in (sym is));
-  moves = record { number = refl; charged = refl; released = refl; made = refl };
+  step = inl (refused-step (book_at s desk.seen) r now why (asked-at s desk.seen r (asked.Refused why) is));
+  adds = adds-nothing desk.journal s desk.seen desk.number r now (refusing r why None) (ap change_in (sym is));
+  moves = record { number = refl; journal = refl; kept = refl; charged = refl; released = refl; made = refl };
+  spends = refl;
 }
 
 -- a method that asks for HEADs asks for no OPTIONS

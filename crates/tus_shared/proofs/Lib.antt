@@ -7,3 +7,6 @@ pub mod HeadLemmas
 pub mod BatchLemmas
 pub mod LogLaws
 pub mod TellLemmas
+pub mod QueueLemmas
+pub mod ReadyLemmas
+pub mod JournalLaws

@@ -25,16 +25,16 @@ pub prefix-on : (a b c : List Event) → IsPrefix a b → IsPrefix b c → IsPre
 prefix-on a b c p q = (p.0 ++ q.0, sym (append_assoc a p.0 q.0) ∙ ap (λ (events : List Event). events ++ q.0) p.1 ∙ q.1)
 
 -- what was before a turn begins what is after it
-adds-more : (asked : Option ChangeOf) (b : PlainBook) (before : List Event) (desk : ℕ) (r : Request) (now : ℕ) (reply : Reply) (after : List Event) → AddsBy asked b before desk r now reply after → IsPrefix before after
-adds-more None b before desk r now reply after same = subst (IsPrefix before) (sym same) (prefix-self before)
-adds-more (Some asked) b before desk r now reply after adds = elim (adds.2) [
+adds-more : (journal : Option ℕ) (asked : Option ChangeOf) (b : PlainBook) (before : List Event) (desk : ℕ) (r : Request) (now : ℕ) (reply : Reply) (after : List Event) → AddsBy journal asked b before desk r now reply after → IsPrefix before after
+adds-more journal None b before desk r now reply after same = subst (IsPrefix before) (sym same) (prefix-self before)
+adds-more journal (Some asked) b before desk r now reply after adds = elim (adds.2) [
   | inl made ↦ (record { desk = desk; change = asked.change; now = now } ∷ [], sym made.0.next)
   | inr left ↦ subst (IsPrefix before) (sym left.same) (prefix-self before)
 ]
 
 -- so a desk only sees more, by a turn
 pub sees-on : (s : Settings) (r : Request) (now : ℕ) (reply : Reply) (old new : Desk) → Answers s r now reply old new → IsPrefix old.seen new.seen
-sees-on s r now reply old new answers = prefix-on old.seen answers.before new.seen answers.begins (adds-more (change_found s r) (book_at s answers.before) answers.before old.number r now reply new.seen answers.adds)
+sees-on s r now reply old new answers = prefix-on old.seen answers.before new.seen answers.begins (adds-more old.journal (change_found s r) (book_at s answers.before) answers.before old.number r now reply new.seen answers.adds)
 
 -- and by a batch
 pub batch-on : (s : Settings) (batch : List Turn) (replies : List Reply) (old new : Desk) → AnswersBatch s batch replies old new → IsPrefix old.seen new.seen
@@ -45,7 +45,7 @@ batch-on s (turn ∷ batch) (reply ∷ replies) old new answers =
     prefix-on old.seen answers.0.seen new.seen (sees-on s turn.request turn.now reply old answers.0 answers.1.answers) (batch-on s batch replies answers.0 new answers.2)
 
 -- a batch is answered in all events that begin with what the desk has seen after it
-batch-in : (s : Settings) (all : List Event) (batch : List Turn) (replies : List Reply) (old new : Desk) → AnswersBatch s batch replies old new → IsPrefix new.seen all → AreAnsweredIn s all old.number batch replies old.seen
+batch-in : (s : Settings) (all : List Event) (batch : List Turn) (replies : List Reply) (old new : Desk) → AnswersBatch s batch replies old new → IsPrefix new.seen all → AreAnsweredIn s old.journal all old.number batch replies old.seen
 batch-in s all [] [] old new same within = tt
 batch-in s all [] (reply ∷ replies) old new answers within = absurd answers
 batch-in s all (turn ∷ batch) [] old new answers within = absurd answers
@@ -60,7 +60,8 @@ batch-in s all (turn ∷ batch) (reply ∷ replies) old new answers within =
         step = here.step;
         adds = here.adds;
       },
-      subst (λ (n : ℕ). AreAnsweredIn s all n batch replies between.seen) here.moves.number (batch-in s all batch replies between new answers.2 within),
+      subst (λ (n : ℕ). AreAnsweredIn s old.journal all n batch replies between.seen) here.moves.number
+          (subst (λ (j : Option ℕ). AreAnsweredIn s j all between.number batch replies between.seen) here.moves.journal (batch-in s all batch replies between new answers.2 within)),
     )
 
 pub one_log : OneLog

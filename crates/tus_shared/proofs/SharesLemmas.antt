@@ -1,5 +1,5 @@
 -- What shares are taken in one after another.
-use Rattle.std.proofs.Common.{◌≡◌, ℕ, suc, ◌+◌, List, [], ◌∷◌, ◌++◌, length, add-one, Bool, false, ap, ◌∙◌, arith}
+use Rattle.std.proofs.Common.{◌≡◌, ℕ, suc, ◌+◌, List, [], ◌∷◌, ◌++◌, length, add-one, Option, Bool, false, ap, ◌∙◌, arith}
 use Rattle.std.proofs.lemmas.List.Sums.{sum_by-cons}
 use Rattle.std.specs.List.{sum_by}
 use Rattle.head_board.specs.Event.{Event}
@@ -22,7 +22,7 @@ IsLeft-next {D = D} amount_of from worth all left rest d from_now worth_now from
     }
 
 -- the desks with one more that has made no step
-pub new_desks-next : (n : ℕ) (desks more : List Desk) (charged released made : ℕ) (seen : List Event) (missed : Bool)
-    → more ≡ desks ++ record { number = n; charged = charged; released = released; made = made; seen = seen; missed = missed; steps = 0 } ∷ [] → desks ≡ new_desks n
-    → charged ≡ 0 → released ≡ 0 → made ≡ 0 → seen ≡ [] → missed ≡ false → more ≡ new_desks (n + 1)
-new_desks-next n desks more charged released made seen missed pushed so_far none spent unmade nothing there = rw (add-one, pushed) (simp (so_far, none, spent, unmade, nothing, there))
+pub new_desks-next : (journal own : Option ℕ) (n : ℕ) (desks more : List Desk) (charged released made : ℕ) (seen kept : List Event) (missed : Bool)
+    → more ≡ desks ++ record { number = n; journal = own; charged = charged; released = released; made = made; seen = seen; kept = kept; room = 0; missed = missed; steps = 0 } ∷ [] → desks ≡ new_desks journal n
+    → own ≡ journal → charged ≡ 0 → released ≡ 0 → made ≡ 0 → seen ≡ [] → kept ≡ [] → missed ≡ false → more ≡ new_desks journal (n + 1)
+new_desks-next journal own n desks more charged released made seen kept missed pushed so_far key none spent unmade nothing unkept there = rw (add-one, pushed) (simp (so_far, key, none, spent, unmade, nothing, unkept, there))

@@ -30,9 +30,9 @@ use Rattle.tus_steps.specs.declared.reply.Reply.{Reply}
 use Rattle.tus_steps.specs.declared.reply.Reply.TheVariants as reply
 use Rattle.tus_steps.specs.Method.{is_options}
 use Rattle.tus_steps.specs.Operation.{operation_of}
-use Rattle.tus_steps.specs.Reply.{append_reply, head_reply}
+use Rattle.tus_steps.specs.Reply.{IsRefusing, append_reply, head_reply}
 use Rattle.tus_steps.specs.Request.{Request}
-use Rattle.tus_steps.specs.Step.{IsStepBy}
+use Rattle.tus_steps.specs.Step.{IsStep, IsStepBy}
 use Rattle.head_board.specs.Event.{Event}
 use Rattle.head_board.specs.Events.{HaveHappened, book_at}
 use Rattle.head_board.specs.Laws.{IsLaterBook}
@@ -40,6 +40,7 @@ use Rattle.head_board.proofs.LineLemmas.{later_events}
 use Rattle.tus_shared.specs.Answers.{Answers, SeesHead, Sweeps}
 use Rattle.tus_shared.specs.Desk.{Desk}
 use Rattle.tus_shared.specs.Laws.{LaterAnswers, TellsOffset}
+use Rattle.tus_shared.specs.Steps.{IsStepAt, IsSweepAt}
 use Rattle.tus_shared.specs.Turn.{Turn}
 use Rattle.tus_shared.proofs.EventLemmas.{at-settings}
 use Rattle.tus_shared.proofs.LogLaws.{prefix-on, prefix-self, sees-on}
@@ -139,6 +140,11 @@ step-by : (options : Bool) (b after : PlainBook) (r : Request) (now most : ℕ) 
 step-by true b after r now most told op not step is = absurd (not (step.0 ∙ ap reply.Options is))
 step-by false b after r now most told op not step is = step
 
+-- a reply that tells of an upload is none of a refusal, so it is that of the plain book's step
+told-step : (journal : Option ℕ) (b after : PlainBook) (r : Request) (now : ℕ) (told : Reply) → (IsRefusing told → ⊥) → IsStepAt journal b r now told after → IsStep b r now told after
+told-step journal b after r now told tells (inl step) = step
+told-step journal b after r now told tells (inr unkept) = absurd (tells (subst IsRefusing (sym unkept.told) tt))
+
 -- the book has, after a turn of a desk, what its reply tells
 turn-has : (s : Settings) (turn : Turn) (told : Reply) (old new : Desk) (name : Name) (offset : ℕ) → Answers s turn.request turn.now told old new → TellsOffset s turn told name offset → HasOffset (book_at s new.seen) name offset
 turn-has s turn told old new name offset answers tells =
@@ -148,12 +154,12 @@ turn-has s turn told old new name offset answers tells =
     elim tells [
       | inl head ↦
           let other : told ≡ reply.Options before.settings.numbers.max_size → ⊥ = λ options. absurd (let is = head.is in cc) in
-          let by = step-by (is_options turn.request.method) before after turn.request turn.now _ told (operation_of before.settings turn.request) other answers.step refl in
+          let by = step-by (is_options turn.request.method) before after turn.request turn.now _ told (operation_of before.settings turn.request) other (told-step old.journal before after turn.request turn.now told (λ refuses. subst IsRefusing head.is refuses) answers.step) refl in
           let asks : operation_of before.settings turn.request ≡ Ok (operation.Look name) = ap (λ (s : Settings). operation_of s turn.request) settings ∙ head.asks in
           subst (HasOffset after name) head.tells (look-step before after turn.request turn.now told name head.row (subst (λ (op : Result Operation Refusal). IsStepBy before turn.request turn.now op told after) asks by) head.is)
       | inr patch ↦
           let other : told ≡ reply.Options before.settings.numbers.max_size → ⊥ = λ options. absurd (let is = patch.is in cc) in
-          let by = step-by (is_options turn.request.method) before after turn.request turn.now _ told (operation_of before.settings turn.request) other answers.step refl in
+          let by = step-by (is_options turn.request.method) before after turn.request turn.now _ told (operation_of before.settings turn.request) other (told-step old.journal before after turn.request turn.now told (λ refuses. subst IsRefusing patch.is refuses) answers.step) refl in
           let asks : operation_of before.settings turn.request ≡ Ok (operation.Append name patch.chunk) = ap (λ (s : Settings). operation_of s turn.request) settings ∙ patch.asks in
           patch-step before after turn.request turn.now told name patch.chunk offset patch.expires (subst (λ (op : Result Operation Refusal). IsStepBy before turn.request turn.now op told after) asks by) patch.is
     ]
@@ -167,10 +173,14 @@ has-more s events later name less more begins happened first last =
     let becomes : MayBecome first.row last.row = grows.grows first.row last.row first.stands last.stands in
     omega (arith, becomes.offset, first.has, last.has)
 
+-- what was before a sweep begins what is after it
+sweep-more : (journal : Option ℕ) (s : Settings) (before : List Event) (desk now : ℕ) (swept : Option Swept) (after : List Event) → IsSweepAt journal s before desk now swept after → IsPrefix before after
+sweep-more journal s before desk now (Some swept) after sweep = (record { desk = desk; change = Sweep; now = now } ∷ [], sym sweep.next)
+sweep-more journal s before desk now None after sweep = subst (IsPrefix before) (sym sweep.1) (prefix-self before)
+
 -- a desk sees more by a sweep, and by a HEAD
-sweep-on : (s : Settings) (now : ℕ) (swept : Swept) (old new : Desk) → Sweeps s now swept old new → IsPrefix old.seen new.seen
-sweep-on s now swept old new sweeps =
-    prefix-on old.seen sweeps.before new.seen sweeps.begins (record { desk = old.number; change = Sweep; now = now } ∷ [], sym sweeps.sweep.next)
+sweep-on : (s : Settings) (now : ℕ) (swept : Option Swept) (old new : Desk) → Sweeps s now swept old new → IsPrefix old.seen new.seen
+sweep-on s now swept old new sweeps = prefix-on old.seen sweeps.before new.seen sweeps.begins (sweep-more old.journal s sweeps.before old.number now swept new.seen sweeps.sweep)
 
 head-on : (s : Settings) (name : Name) (now : ℕ) (row : Result HeadRow Refusal) (old new : Desk) → SeesHead s name now row old new → IsPrefix old.seen new.seen
 head-on s name now row old new sees = elim sees [

@@ -1,7 +1,8 @@
 -- What a desk answers. Nobody knows what happened to the book behind a lock before the lock is taken. So a reply is that of
 -- the plain book after some events, which begin with those that the desk has seen.
-use Rattle.std.specs.Prelude.{◌≡◌, ◌⊎◌, ⊤, ℕ, true, List, [], ◌∷◌, Result, Ok, Err, IsErr}
+use Rattle.std.specs.Prelude.{◌≡◌, ◌⊎◌, ⊤, ℕ, true, List, [], ◌∷◌, Option, Result, Ok, Err, IsErr}
 use mathlib.Core.List.{IsPrefix}
+use Rattle.upload_book.specs.declared.change.Change.{Change}
 use Rattle.upload_book.specs.declared.head_row.HeadRow.{HeadRow}
 use Rattle.upload_book.specs.declared.head_row.Name.{Name}
 use Rattle.upload_book.specs.declared.operation.Operation.TheVariants.{Look}
@@ -13,32 +14,44 @@ use Rattle.tus_steps.specs.declared.reply.Reply.{Reply}
 use Rattle.tus_steps.specs.Method.{is_head}
 use Rattle.tus_steps.specs.Operation.{operation_of}
 use Rattle.tus_steps.specs.Request.{Request}
-use Rattle.tus_steps.specs.Step.{IsStep}
 use Rattle.head_board.specs.Board.{ReadsHead}
 use Rattle.head_board.specs.Event.{Event}
 use Rattle.head_board.specs.Events.{HaveHappened, book_at}
-use Rattle.tus_shared.specs.Desk.{Desk, Moves, next_count}
-use Rattle.tus_shared.specs.Steps.{AddsChange, IsSweep}
+use Rattle.tus_shared.specs.declared.again_fault.AgainFault.{AgainFault}
+use Rattle.tus_shared.specs.Desk.{Desk, Moves, Spends, next_count}
+use Rattle.tus_shared.specs.Steps.{AddsChange, IsDoneAgain, IsStepAt, IsSweepAt}
 use Rattle.tus_shared.specs.Turn.{Turn}
 
 -- The desk answers the request at a moment with this reply. It is the plain book's, after events that begin with all that
--- the desk has seen. What the request changes is the next event, made at this desk, and then the desk has seen it too. Its
--- shares rise by what that charges and releases, and by the event.
+-- the desk has seen; with a journal, a change may also be refused since there is no room for its record. What the request
+-- changes is the next event, made at this desk, and then the desk has seen it too. Its shares rise by what that charges and
+-- releases, and by the event.
 pub record Answers (s : Settings) (request : Request) (now : ℕ) (reply : Reply) (old new : Desk) : Type 0 where
   pub before : List Event
   pub begins : IsPrefix old.seen before
   pub happened : HaveHappened s new.seen
-  pub step : IsStep (book_at s before) request now reply (book_at s new.seen)
-  pub adds : AddsChange s before old.number request now reply new.seen
+  pub step : IsStepAt old.journal (book_at s before) request now reply (book_at s new.seen)
+  pub adds : AddsChange old.journal s before old.number request now reply new.seen
   pub moves : Moves s before new.seen old new
+  pub spends : Spends before new.seen old new
 
--- the same of a sweep at a moment
-pub record Sweeps (s : Settings) (now : ℕ) (swept : Swept) (old new : Desk) : Type 0 where
+-- the same of a sweep at a moment, which tells what it ended
+pub record Sweeps (s : Settings) (now : ℕ) (swept : Option Swept) (old new : Desk) : Type 0 where
   pub before : List Event
   pub begins : IsPrefix old.seen before
   pub happened : HaveHappened s new.seen
-  pub sweep : IsSweep s before old.number now swept new.seen
+  pub sweep : IsSweepAt old.journal s before old.number now swept new.seen
   pub moves : Moves s before new.seen old new
+  pub spends : Spends before new.seen old new
+
+-- The desk makes a change again whose record stands in the journal, or does not, for this reason; its room stays.
+pub record MakesAgain (s : Settings) (change : Change) (now : ℕ) (result : Result ⊤ AgainFault) (old new : Desk) : Type 0 where
+  pub before : List Event
+  pub begins : IsPrefix old.seen before
+  pub happened : HaveHappened s new.seen
+  pub again : IsDoneAgain s before old.number change now result new.seen
+  pub moves : Moves s before new.seen old new
+  pub room : new.room ≡ old.room
 
 -- nothing changes of the desk but what it has seen
 abbrev pub OnlySeesMore : Desk → Desk → Type 0

@@ -4,6 +4,7 @@ pub mod Answers
 pub mod Steps
 pub mod Store
 pub mod Desk
+pub mod Journal
 pub mod Turn
 pub mod Fault
 pub mod inside

@@ -1,9 +1,12 @@
 //! What a desk does of a request before it takes the lock.
-ghost use Rattle.std.specs.Prelude.{◌≡◌};
+ghost use Rattle.std.specs.Prelude.{◌≡◌, IfSome};
 ghost use Rattle.tus_shared.specs.Answers.{OnlyLooks};
+ghost use Rattle.tus_shared.specs.Journal.{change_frame};
+ghost use Rattle.tus_steps.specs.Asked.{change_in as change_asked};
 
 use crate::charges::Charges;
 use crate::desk::Desk;
+use journal_records::frame_of;
 use std::sync::ledger::Ledger;
 use tus_steps::Asked;
 use upload_book::{Change, FirstChunk, HeadRow, Moment, Name, NewUpload};
@@ -32,6 +35,27 @@ impl<C: Charges, R: Ledger, M: Ledger> Desk<C, R, M> {
             Asked::Options | Asked::Refused(_) | Asked::Look(_) => {}
         }
         Vec::new(self.alloc)
+    }
+
+    // The frame of the record of the change that is asked for, where changes are journalled and there is memory for it.
+    pub(crate) fn frame_ahead(&self, asked: &Asked, now: Moment) -> Option<Vec<u8>>
+        ensures { IfSome result (λ frame. IfSome (change_asked asked.now) (λ found. frame.items ≡ change_frame C.journal found.change now)) }
+    {
+        match asked {
+            Asked::Change(asked) => self.frame_for(&asked.change, now),
+            _ => None,
+        }
+    }
+
+    // The frame of the record of a change, where changes are journalled and there is memory for it.
+    pub(crate) fn frame_for(&self, change: &Change, now: Moment) -> Option<Vec<u8>>
+        ensures { IfSome result (λ frame. frame.items ≡ change_frame C.journal change.now now) }
+    {
+        let key = self.journal?;
+        let Ok(room) = Vec::with_capacity(self.alloc, frame_len(change)) else {
+            return None;
+        };
+        frame_of(room, key, now, change)
     }
 
     // Memory for the bytes of an upload that is complete, as far as the heads tell and there is some.
@@ -82,3 +106,21 @@ fn len_of_whole(row: &HeadRow) -> u64 {
         0
     }
 }
+
+// About how many bytes the frame of the record of a change has, at least in most cases: so its memory is asked for once.
+fn frame_len(change: &Change) -> usize {
+    let long = match change {
+        Change::Create { new, first, .. } => first
+            .bytes
+            .len()
+            .saturating_add(new.metadata.len())
+            .saturating_add(new.concat.len()),
+        Change::Append { chunk, .. } => chunk.bytes.len(),
+        Change::Concat { new, .. } => new.metadata.len().saturating_add(new.concat.len()),
+        Change::Terminate(_) | Change::Sweep => 0,
+    };
+    long.saturating_add(FIELDS_LEN)
+}
+
+// As many bytes as the header of a frame and the fields of a record of fixed length take in most cases.
+const FIELDS_LEN: usize = 128;

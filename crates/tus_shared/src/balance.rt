@@ -59,6 +59,7 @@ pub fn settle<C: Charges, R: Ledger, M: Ledger, B: Wait + Drop>(
         mut charged,
         mut released,
         mut made,
+        queue: _,
     } = store.into_inner();
     gather(
         &board,
@@ -100,10 +101,13 @@ fn gather<C: Charges, R: Ledger, M: Ledger, B: Wait + Drop>(
             alloc: _,
             settings: _,
             number: _,
+            journal: _,
             charged: its_charged,
             released: its_released,
             made: its_made,
             mut reader,
+            kept: _,
+            room: _,
             steps: _,
         } = desk;
         board.show_to(&mut reader);

@@ -1,4 +1,4 @@
-ghost use Rattle.std.specs.Prelude.{ℕ};
+ghost use Rattle.std.specs.Prelude.{ℕ, Option, None};
 ghost use Rattle.logbook.specs.Pages.{Book};
 ghost use Rattle.head_board.specs.NoBoard.{no_log, no_settings};
 ghost use Rattle.upload_book.specs.Settings as spec;
@@ -17,6 +17,9 @@ pub trait Charges: Ledger {
 
     // The log of what happens to the book.
     ghost log: { Book };
+
+    // The key under which changes are journalled; none without a journal.
+    ghost journal: { Option ℕ };
 }
 
 impl Charges for Brand {
@@ -25,4 +28,6 @@ impl Charges for Brand {
     ghost desks = { 0 };
 
     ghost log = { no_log };
+
+    ghost journal = { None };
 }

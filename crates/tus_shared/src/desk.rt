@@ -1,37 +1,43 @@
 ghost use Rattle.std.specs.Prelude.{◌≡◌, ◌⊎◌, ◌≤◌, [], Err, IfNone, IfSome, false, length, true, vec_capacity};
+ghost use Rattle.tus_steps.specs.Asked.{change_in as change_asked};
 ghost use Rattle.tus_steps.specs.Changing.{IsFound};
 ghost use Rattle.tus_steps.specs.declared.asked.Asked.TheVariants as asks;
 ghost use Rattle.tus_steps.specs.PlacedReply.{reply_in};
 ghost use Rattle.head_board.specs.Board.{ReadsHead, SeesNoneExpired, row_read};
 ghost use Rattle.tus_shared.specs.Answers.{Answers, AnswersBatch, AnswersTurn, MissesBoard, OnlySeesMore, SeesHead, Sweeps};
 ghost use Rattle.tus_shared.specs.Desk.{next_count};
+ghost use Rattle.tus_shared.specs.Journal.{change_frame};
 ghost use Rattle.upload_book.specs.declared.refusal.Refusal.TheVariants.{Board, Unknown};
 
 use crate::charges::Charges;
 use crate::gate::{Gate, NoGate, Stop};
 use crate::shared::Shared;
 use crate::turn::Turn;
-use head_board::HeadReader;
+use head_board::{HeadReader, SeenEvents};
 use std::alloc::Global;
 use std::marker::Model;
 use std::sync::Wait;
 use std::sync::ledger::{Ledger, Share};
 use tus_steps::{Asked, PartIds, PlacedReply, Reply, ReplyKind, Request, asked_of};
-use upload_book::{HeadRow, Moment, Name, Refusal, Settings, Swept};
+use upload_book::{Change, HeadRow, Moment, Name, Refusal, Settings, Swept};
 
 /// One of the desks that an opening gives, at which one thread answers its requests. It counts in three shares how many
 /// blocks its own steps charged, how many they released, and how many of them changed the book, and has a reader of the
-/// board; and it counts how many steps it made with the lock. A contract sees the desk's number, these counts, whether it has
-/// missed the board, and the events that it has seen: each later answer is at least as new as these.
+/// board; and it counts how many steps it made with the lock. Where changes are journalled it knows their key, how many bytes
+/// of records it may still queue, and how far it was told that they are kept. A contract sees all of these, the desk's number,
+/// whether it has missed the board, and the events that it has seen: each later answer is at least as new as these.
 #[derive(Drop)]
 pub struct Desk<C: Charges, R: Ledger, M: Ledger> {
     pub(crate) alloc: Global,
     pub(crate) settings: Settings,
     pub(crate) number: usize,
+    pub(crate) journal: Option<u64>,
     pub(crate) charged: Share<C>,
     pub(crate) released: Share<R>,
     pub(crate) made: Share<M>,
     pub(crate) reader: HeadReader,
+    pub(crate) kept: SeenEvents,
+    pub(crate) room: u64,
     pub(crate) steps: u64,
 }
 
@@ -43,15 +49,18 @@ impl<C: Charges, R: Ledger, M: Ledger> Model for Desk<C, R, M> {
 
     ghost view = { λ d. record {
       number = d.number;
+      journal = d.journal;
       charged = d.charged.amount;
       released = d.released.amount;
       made = d.made.amount;
       seen = d.reader.events;
+      kept = d.kept.events;
+      room = d.room;
       missed = d.reader.missed;
       steps = d.steps;
     } };
 
-    ghost invariant = { λ d. IsDesk C.settings C.log d.settings d.reader d.charged.parts d.released.parts d.made.parts };
+    ghost invariant = { λ d. IsDesk C.settings C.log C.journal d.settings d.reader d.journal d.kept.book d.charged.parts d.released.parts d.made.parts };
 }
 
 impl<C: Charges, R: Ledger, M: Ledger> Desk<C, R, M> {
@@ -64,7 +73,8 @@ impl<C: Charges, R: Ledger, M: Ledger> Desk<C, R, M> {
 
     /// Takes the lock for the step of this request at this moment ([`crate::Store::step`]), and gives its reply: the
     /// plain book's, after events that begin with what the desk has seen. After it the desk has seen all of them, and its
-    /// own change, which is the next event. The bytes of a GET are a copy. It may wait for other desks.
+    /// own change, which is the next event. Where changes are journalled, it may be refused as Memory since there is no room
+    /// for its record; then nothing happens. The bytes of a GET are a copy. It may wait for other desks.
     pub fn call<W: Wait, B: Wait + Drop>(
         &mut self,
         rt: &W,
@@ -82,18 +92,19 @@ impl<C: Charges, R: Ledger, M: Ledger> Desk<C, R, M> {
         reply.into_reply()
     }
 
-    /// Takes the lock for a sweep at this moment ([`crate::Store::sweep`]), and tells what it ended. It may wait for other
-    /// desks.
+    /// Takes the lock for a sweep at this moment ([`crate::Store::sweep`]), and tells what it ended. `None` only where
+    /// changes are journalled, and there is no room for its record; then nothing happens. It may wait for other desks.
     pub fn sweep<W: Wait, B: Wait + Drop>(
         &mut self,
         rt: &W,
         shared: &Shared<C, R, M, B>,
         now: Moment,
-    ) -> Swept
+    ) -> Option<Swept>
         ensures sweeps { Sweeps C.settings now result self.old self.new }
         ensures counted { self.new.steps ≡ next_count self.old.steps }
     {
-        shared.store.lock(rt).sweep(self, now)
+        let frame = self.frame_for(&Change::Sweep, now);
+        shared.store.lock(rt).sweep(self, frame, now)
     }
 
     /// Reads on the board what a HEAD of this upload tells at this moment. The answer is at least as new as anything
@@ -248,7 +259,10 @@ impl<C: Charges, R: Ledger, M: Ledger> Desk<C, R, M> {
         ensures counted { self.new.steps ≡ next_count self.old.steps }
     {
         let room = self.work_ahead(&mut asked, now, &mut reply.row);
-        self.step_locked(rt, shared, request, asked, room, now, turn, gate, reply);
+        let frame = self.frame_ahead(&asked, now);
+        self.step_locked(
+            rt, shared, request, asked, frame, room, now, turn, gate, reply,
+        );
     }
 
     // The step of a turn, with the lock.
@@ -258,6 +272,7 @@ impl<C: Charges, R: Ledger, M: Ledger> Desk<C, R, M> {
         shared: &Shared<C, R, M, B>,
         request: &Request,
         asked: Asked,
+        frame: Option<Vec<u8>>,
         room: Vec<u8>,
         now: Moment,
         turn: usize,
@@ -265,13 +280,14 @@ impl<C: Charges, R: Ledger, M: Ledger> Desk<C, R, M> {
         reply: &mut PlacedReply,
     )
         requires found { IsFound C.settings request.now asked }
+        requires frame { IfSome frame (λ f. IfSome (change_asked asked) (λ found. f.items ≡ change_frame C.journal found.change now)) }
         ensures answers { Answers C.settings request.now now (reply_in reply.new) self.old self.new }
         ensures missed { self.new.missed ≡ self.old.missed }
         ensures counted { self.new.steps ≡ next_count self.old.steps }
     {
         let mut store = shared.store.lock(rt);
         gate.pass(self.number, turn, Stop::Locked);
-        store.step(self, request, asked, room, now, reply);
+        store.step(self, request, asked, frame, room, now, reply);
     }
 
     // Answers the turns of a batch, one after another, and gives their replies in a list that has room for

@@ -1,5 +1,5 @@
 //! Laws of the definitions that the contracts cite: each is the contract of a function that does nothing.
-ghost use Rattle.tus_shared.specs.Laws.{LaterAnswers, OneLog};
+ghost use Rattle.tus_shared.specs.Laws.{LaterAnswers, OneLog, WithoutAJournal};
 
 /// All desks answer in one list of events: there the replies of every desk are the plain book's, in its own order, and each
 /// change that was made is the next event, made at its desk.
@@ -11,4 +11,10 @@ pub fn one_log()
 /// or a PATCH told it, and whatever the desk did between them.
 pub fn later_answers()
     ensures { LaterAnswers }
+{}
+
+/// Without a journal a step and a change are the plain book's, and a sweep is made: none is refused for want of room for its
+/// record.
+pub fn without_a_journal()
+    ensures { WithoutAJournal }
 {}

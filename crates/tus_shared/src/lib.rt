@@ -3,13 +3,18 @@
 //! of all changes.
 #![tactic(auto)]
 
+mod again_fault;
 mod ahead;
 mod balance;
 mod charges;
 mod desk;
 mod gate;
+mod keeping;
 pub mod laws;
+mod making;
 mod open_fault;
+mod opening;
+mod queue;
 mod shared;
 mod store;
 mod store_ledger;
@@ -17,13 +22,16 @@ mod turn;
 mod work;
 mod work_fault;
 
+pub use again_fault::AgainFault;
 pub use balance::{Balance, settle};
 pub use charges::Charges;
 pub use desk::Desk;
 pub use gate::{Gate, NoGate, Stop};
-pub use head_board::Opened;
+pub use head_board::{Opened, SeenEvents};
 pub use open_fault::OpenFault;
-pub use shared::{DESKS_MAX, Shared};
+pub use opening::DESKS_MAX;
+pub use queue::Records;
+pub use shared::Shared;
 pub use store::Store;
 pub use turn::Turn;
 pub use work::work_all;

@@ -1,33 +1,38 @@
-ghost use Rattle.std.specs.Prelude.{◌≡◌, ◌++◌, ◌∷◌, [], length, vec_capacity};
+ghost use Rattle.std.specs.Prelude.{◌≡◌, ◌≤◌, IfSome, IsSome, OnOk, length, map, vec_capacity};
 ghost use mathlib.Core.List.{IsPrefix};
-ghost use Rattle.head_board.specs.Events.{HaveHappened, IsLineOf, book_at, event_of};
+ghost use Rattle.head_board.specs.Events.{HaveHappened, book_at};
+ghost use Rattle.tus_steps.specs.Asked.{change_in as change_asked};
 ghost use Rattle.tus_steps.specs.Changing.{IsFound};
 ghost use Rattle.tus_steps.specs.declared.asked.Asked.TheVariants as asks;
 ghost use Rattle.tus_steps.specs.PlacedReply.{reply_in};
-ghost use Rattle.tus_steps.specs.Step.{IsContentReply, IsStep};
-ghost use Rattle.tus_shared.specs.Desk.{Moves, next_count};
+ghost use Rattle.tus_steps.specs.Step.{IsContentReply};
+ghost use Rattle.tus_shared.specs.Desk.{Moves, Spends, next_count};
 ghost use Rattle.tus_shared.specs.Headline.{Headline};
-ghost use Rattle.tus_shared.specs.Steps.{AddsChange, IsDone, IsSweep};
-ghost use Rattle.upload_book.specs.Book.{plain_of};
+ghost use Rattle.tus_shared.specs.Journal.{AreTaken, change_frame, spare_of};
+ghost use Rattle.tus_shared.specs.Steps.{AddsChange, IsDone, IsDoneAgain, IsStepAt, IsSweepAt};
 ghost use Rattle.upload_book.specs.Change.{CanBeMade};
-ghost use Rattle.upload_book.specs.declared.board_line.BoardLine.{BoardLine};
+ghost use Rattle.upload_book.specs.declared.change.Change.TheVariants as changes;
 ghost use Rattle.upload_book.specs.declared.head_row.Name.{Name};
 ghost use Rattle.upload_book.specs.Lawful.{IsLawful};
-ghost use Rattle.upload_book.specs.Ready.{IsReady};
 
+use crate::again_fault::AgainFault;
 use crate::charges::Charges;
 use crate::desk::Desk;
+use crate::making::make_ready;
+use crate::queue::{RecordQueue, Records, is_idle, pass_queue, queue_frame, take_queue};
 use crate::store_ledger::StoreLedger;
-use head_board::{Board, Coming};
+use book_replay::can_be_made;
+use head_board::{Board, SeenEvents};
 use std::marker::Model;
 use std::sync::Wait;
 use std::sync::ledger::Ledger;
 use tus_steps::{Asked, PlacedReply, Request, answer_asked};
-use upload_book::{Book, Change, Moment, Outcome, Ready, Refused, Swept};
+use upload_book::{Book, Change, Moment, Outcome, Refusal, Refused, Swept};
 
 /// What stands behind the lock: the book, the board that shows its heads, and the books of three ledgers, whose totals
-/// are the book's charged and released blocks, and how many changes it accepted. A contract sees all that happened to the
-/// book, as events in their order; the plain book after them is the one for which the book stands.
+/// are the book's charged and released blocks, and how many changes it accepted; and, where changes are journalled, the
+/// records of those that were not taken out yet to be written. A contract sees all that happened to the book, as events in
+/// their order; the plain book after them is the one for which the book stands.
 #[derive(Drop)]
 pub struct Store<C: Charges, R: Ledger, M: Ledger, B: Wait + Drop> {
     pub(crate) book: Book,
@@ -35,11 +40,13 @@ pub struct Store<C: Charges, R: Ledger, M: Ledger, B: Wait + Drop> {
     pub(crate) charged: StoreLedger<C>,
     pub(crate) released: StoreLedger<R>,
     pub(crate) made: StoreLedger<M>,
+    pub(crate) queue: Option<RecordQueue>,
 }
 
 impl<C: Charges, R: Ledger, M: Ledger, B: Wait + Drop> Model for Store<C, R, M, B> {
     ghost use Rattle.std.specs.Prelude.{List};
     ghost use Rattle.head_board.specs.Event.{Event};
+    ghost use Rattle.tus_shared.specs.inside.QueueRule.{IsQueued};
     ghost use Rattle.tus_shared.specs.inside.StoreRule.{IsStore};
     ghost use Rattle.upload_book.specs.Book.{plain_of};
 
@@ -50,7 +57,8 @@ impl<C: Charges, R: Ledger, M: Ledger, B: Wait + Drop> Model for Store<C, R, M, 
     ghost invariant = { λ s. IsStore C.settings C.desks C.log (plain_of s.book) s.board
         (record { total = s.charged.book.total; parts = s.charged.rest.parts; rest = s.charged.rest.amount })
         (record { total = s.released.book.total; parts = s.released.rest.parts; rest = s.released.rest.amount })
-        (record { total = s.made.book.total; parts = s.made.rest.parts; rest = s.made.rest.amount }) };
+        (record { total = s.made.book.total; parts = s.made.rest.parts; rest = s.made.rest.amount })
+        × IsQueued C.journal C.log s.board.events s.queue };
 }
 
 impl<C: Charges, R: Ledger, M: Ledger, B: Wait + Drop> Store<C, R, M, B> {
@@ -70,24 +78,31 @@ impl<C: Charges, R: Ledger, M: Ledger, B: Wait + Drop> Store<C, R, M, B> {
     /// it is too small. A change that is accepted is the next event, made at this desk. The desk has seen all events after
     /// it, and its shares rise by what the request charges and releases, and by that event. The step is counted at the desk.
     /// The shares of other desks stay, since no other desk is lent. The reply is put to its place.
+    ///
+    /// Where changes are journalled, the frame of the record of the change that is asked for was made before the lock was
+    /// taken. That of a change that is made is queued, and the room of the desk falls by its length. Without a frame, or
+    /// room, or a place in the queue, a change that the book would accept is refused as Memory, and nothing happens.
     pub fn step(
         &mut self,
         desk: &mut Desk<C, R, M>,
         request: &Request,
         asked: Asked,
+        frame: Option<Vec<u8>>,
         room: Vec<u8>,
         now: Moment,
         reply: &mut PlacedReply,
     )
         requires found { IsFound C.settings request.now asked }
+        requires frame { IfSome frame (λ f. IfSome (change_asked asked) (λ found. f.items ≡ change_frame C.journal found.change now)) }
         ensures happened { HaveHappened C.settings self.old }
         ensures stays_happened { HaveHappened C.settings self.new }
         ensures lawful { IsLawful (book_at C.settings self.old) }
         ensures stays_lawful { IsLawful (book_at C.settings self.new) }
         ensures begins { IsPrefix desk.old.seen self.old }
-        ensures step { IsStep (book_at C.settings self.old) request.now now (reply_in reply.new) (book_at C.settings self.new) }
-        ensures adds { AddsChange C.settings self.old desk.old.number request.now now (reply_in reply.new) self.new }
+        ensures step { IsStepAt desk.old.journal (book_at C.settings self.old) request.now now (reply_in reply.new) (book_at C.settings self.new) }
+        ensures adds { AddsChange desk.old.journal C.settings self.old desk.old.number request.now now (reply_in reply.new) self.new }
         ensures moves { Moves C.settings self.old self.new desk.old desk.new }
+        ensures spends { Spends self.old self.new desk.old desk.new }
         ensures seen { desk.new.seen ≡ self.new }
         ensures counted { desk.new.steps ≡ next_count desk.old.steps }
         ensures missed { desk.new.missed ≡ desk.old.missed }
@@ -98,7 +113,7 @@ impl<C: Charges, R: Ledger, M: Ledger, B: Wait + Drop> Store<C, R, M, B> {
         match asked {
             Asked::Change(asked) => {
                 let offset = asked.offset;
-                let outcome = self.make(desk, asked.change, now);
+                let outcome = self.make(desk, asked.change, frame, now);
                 reply.put_change(request, offset, outcome);
             }
             asked => answer_asked(self.headline(), request, asked, now, room, reply),
@@ -108,23 +123,77 @@ impl<C: Charges, R: Ledger, M: Ledger, B: Wait + Drop> Store<C, R, M, B> {
     /// Ends all uploads that have expired at this moment, as the plain book's sweep does. That is the next event, made at
     /// this desk, also where none has expired. The desk has seen all events after it, and its shares rise by what that
     /// releases, and by that event. The step is counted at the desk.
-    pub fn sweep(&mut self, desk: &mut Desk<C, R, M>, now: Moment) -> Swept
+    ///
+    /// `None` only where changes are journalled, and there is no frame, or room, or place in the queue for its record; then
+    /// nothing happens.
+    pub fn sweep(
+        &mut self,
+        desk: &mut Desk<C, R, M>,
+        frame: Option<Vec<u8>>,
+        now: Moment,
+    ) -> Option<Swept>
+        requires frame { IfSome frame (λ f. f.items ≡ change_frame C.journal changes.Sweep now) }
         ensures happened { HaveHappened C.settings self.old }
         ensures stays_happened { HaveHappened C.settings self.new }
         ensures lawful { IsLawful (book_at C.settings self.old) }
         ensures stays_lawful { IsLawful (book_at C.settings self.new) }
         ensures begins { IsPrefix desk.old.seen self.old }
-        ensures sweep { IsSweep C.settings self.old desk.old.number now result self.new }
+        ensures sweep { IsSweepAt desk.old.journal C.settings self.old desk.old.number now result self.new }
         ensures moves { Moves C.settings self.old self.new desk.old desk.new }
+        ensures spends { Spends self.old self.new desk.old desk.new }
         ensures seen { desk.new.seen ≡ self.new }
         ensures counted { desk.new.steps ≡ next_count desk.old.steps }
         ensures missed { desk.new.missed ≡ desk.old.missed }
     {
         self.begin(desk);
-        match self.make(desk, Change::Sweep, now) {
-            Ok(Outcome::Swept(swept)) => swept,
-            Ok(_) | Err(_) => unreachable!("a sweep is never refused, and gives what it ended"),
+        match self.make(desk, Change::Sweep, frame, now) {
+            Ok(Outcome::Swept(swept)) => Some(swept),
+            Ok(_) => unreachable!("a sweep gives what it ended"),
+            Err(_) => None,
         }
+    }
+
+    /// Makes a change at a desk whose record stands in the journal already, as when a journal is opened: it is the next
+    /// event, made at this desk, and nothing is queued. The records that are queued from now on come after it. The desk has
+    /// seen all events after it, its shares rise by what that charges and releases, and by that event, and its room stays.
+    /// The step is counted at the desk.
+    ///
+    /// `Err` is Waiting where records wait in the queue, Change where a book may not be asked for the change, and Refused
+    /// where the book refuses it or lacks memory; then nothing happens.
+    pub fn make_again(
+        &mut self,
+        desk: &mut Desk<C, R, M>,
+        change: Change,
+        now: Moment,
+    ) -> Result<(), AgainFault>
+        ensures happened { HaveHappened C.settings self.old }
+        ensures stays_happened { HaveHappened C.settings self.new }
+        ensures lawful { IsLawful (book_at C.settings self.old) }
+        ensures stays_lawful { IsLawful (book_at C.settings self.new) }
+        ensures begins { IsPrefix desk.old.seen self.old }
+        ensures again { IsDoneAgain C.settings self.old desk.old.number change.entry now result self.new }
+        ensures moves { Moves C.settings self.old self.new desk.old desk.new }
+        ensures room { desk.new.room ≡ desk.old.room }
+        ensures seen { desk.new.seen ≡ self.new }
+        ensures counted { desk.new.steps ≡ next_count desk.old.steps }
+        ensures missed { desk.new.missed ≡ desk.old.missed }
+    {
+        self.begin(desk);
+        self.make_kept(desk, change, now)
+    }
+
+    /// Takes the frames of all records that wait out of the queue, where that begins behind these events: those of the
+    /// events after these, one each, in their order. Then nothing waits, and the queue begins behind all events, which are
+    /// told beside the frames. `None` where changes are not journalled, or the queue begins elsewhere; then it stays.
+    pub fn take_records(&mut self, from: &SeenEvents) -> Option<Records>
+        requires log { from.now.book ≡ C.log }
+        ensures same { self.new ≡ self.old }
+        ensures reached { IfSome result (λ taken. taken.reached ≡ record { book = C.log; events = self.old }) }
+        ensures taken { IfSome result (λ taken.
+            AreTaken C.settings C.journal from.now.events self.old (map (λ frame. frame.items) taken.frames.items)) }
+    {
+        let reached = self.board.seen().again();
+        take_queue(&mut self.queue, from, reached)
     }
 
     // Begins a step of a desk, which is counted there: the desk has seen all events then.
@@ -136,60 +205,108 @@ impl<C: Charges, R: Ledger, M: Ledger, B: Wait + Drop> Store<C, R, M, B> {
         desk.steps = desk.steps.wrapping_add(1);
     }
 
-    // Makes a change at a desk that has seen all events, and shows its note: the change is prepared, the note is shown, and
-    // then the change, which can no longer fail, is committed. So nothing is shown of a change that is not made.
+    // Makes a change at a desk that has seen all events: it is prepared, the frame of its record is queued where changes
+    // are journalled, and then the change, which can no longer fail, is shown and committed. So nothing is queued or shown
+    // of a change that is not made.
     fn make(
         &mut self,
         desk: &mut Desk<C, R, M>,
         change: Change,
+        frame: Option<Vec<u8>>,
         now: Moment,
     ) -> Result<Outcome, Refused>
         requires change { CanBeMade (length C.settings.tenants) change }
+        requires frame { IfSome frame (λ f. f.items ≡ change_frame C.journal change now) }
         requires seen { desk.old.seen ≡ self.old }
         ensures happened { HaveHappened C.settings self.old }
         ensures stays_happened { HaveHappened C.settings self.new }
         ensures lawful { IsLawful (book_at C.settings self.old) }
         ensures stays_lawful { IsLawful (book_at C.settings self.new) }
-        ensures done { IsDone (book_at C.settings self.old) self.old desk.old.number change.entry now result self.new }
+        ensures done { IsDone desk.old.journal (book_at C.settings self.old) self.old desk.old.number change.entry now result self.new }
         ensures moves { Moves C.settings self.old self.new desk.old desk.new }
+        ensures spends { Spends self.old self.new desk.old desk.new }
+        ensures spares { OnOk result (IsSome desk.old.journal → spare_of change.entry ≤ desk.new.room) }
         ensures seen { desk.new.seen ≡ self.new }
         ensures steps { desk.new.steps ≡ desk.old.steps }
         ensures missed { desk.new.missed ≡ desk.old.missed }
     {
         // the contract of this call tells that the book is lawful
         let _lawful = self.book.settings();
+        let spare = spare_for(&change);
         let ready = match self.book.prepare(change, now) {
             Ok(ready) => ready,
             Err(refused) => return Err(refused),
         };
-        show_note(
+        if !queue_frame(&mut self.queue, &mut desk.room, frame, spare) {
+            return Err(Refused {
+                refusal: Refusal::Memory,
+                expires: None,
+            });
+        }
+        Ok(make_ready(
+            &mut self.book,
             &mut self.board,
-            &self.book,
-            &Coming {
-                desk: desk.number,
-                ready: &ready,
-            },
+            &mut self.charged,
+            &mut self.released,
+            &mut self.made,
+            desk,
+            ready,
+        ))
+    }
+
+    // Makes a change whose record stands in the journal, at a desk that has seen all events.
+    fn make_kept(
+        &mut self,
+        desk: &mut Desk<C, R, M>,
+        change: Change,
+        now: Moment,
+    ) -> Result<(), AgainFault>
+        requires seen { desk.old.seen ≡ self.old }
+        ensures happened { HaveHappened C.settings self.old }
+        ensures stays_happened { HaveHappened C.settings self.new }
+        ensures lawful { IsLawful (book_at C.settings self.old) }
+        ensures stays_lawful { IsLawful (book_at C.settings self.new) }
+        ensures again { IsDoneAgain C.settings self.old desk.old.number change.entry now result self.new }
+        ensures moves { Moves C.settings self.old self.new desk.old desk.new }
+        ensures room { desk.new.room ≡ desk.old.room }
+        ensures seen { desk.new.seen ≡ self.new }
+        ensures steps { desk.new.steps ≡ desk.old.steps }
+        ensures missed { desk.new.missed ≡ desk.old.missed }
+    {
+        if !can_be_made(self.book.settings().tenant_count(), &change) {
+            return Err(AgainFault::Change);
+        }
+        if !is_idle(&self.queue) {
+            return Err(AgainFault::Waiting);
+        }
+        let ready = match self.book.prepare(change, now) {
+            Ok(ready) => ready,
+            Err(refused) => return Err(AgainFault::Refused(refused)),
+        };
+        make_ready(
+            &mut self.book,
+            &mut self.board,
+            &mut self.charged,
+            &mut self.released,
+            &mut self.made,
+            desk,
+            ready,
         );
-        let charged = self.book.charged_total();
-        let released = self.book.released_total();
-        let outcome = self.book.commit(ready);
-        let cost = self.book.charged_total() - charged;
-        let given_back = self.book.released_total() - released;
-        self.charged.book.add(&mut desk.charged, cost);
-        self.released.book.add(&mut desk.released, given_back);
-        self.made.book.add(&mut desk.made, 1);
-        self.board.show_to(&mut desk.reader);
-        Ok(outcome)
+        pass_queue(&mut self.queue, self.board.seen().again());
+        Ok(())
     }
 }
 
-// Shows the note of a change for which the book is ready, on the board of the book.
-fn show_note<B: Wait + Drop>(board: &mut Board<B>, book: &Book, coming: &Coming)
-    requires ready { IsReady book.now coming.now.ready.now }
-    requires book { plain_of book.now ≡ book_at board.old.settings board.old.events }
-    ensures line { (line : BoardLine) × IsLineOf (plain_of book.now) (event_of coming.now) line }
-    ensures shown { board.new ≡ record board.old { events = board.old.events ++ event_of coming.now ∷ [] } }
+// How many bytes of a desk's room stay where a change is journalled: none is kept back from what ends uploads, so that they
+// can still be ended when there is little room.
+fn spare_for(change: &Change) -> u64
+    ensures { result ≡ spare_of change.now }
 {
-    let note = coming.ready.note(book);
-    board.show(coming, &note)
+    match change {
+        Change::Terminate(_) | Change::Sweep => 0,
+        Change::Create { .. } | Change::Append { .. } | Change::Concat { .. } => SPARE,
+    }
 }
+
+// What a change that ends nothing leaves of a desk's room, in bytes.
+const SPARE: u64 = 65_536;

@@ -154,9 +154,10 @@ fn work_at_once<
     requires released { (released.name ≡ R.name) × (released.parts ≡ R.parts) × (R.parts ≡ 16) }
     requires made { (made.name ≡ M.name) × (made.parts ≡ M.parts) × (M.parts ≡ 16) }
     requires log { events.seen.book ≡ C.log }
+    requires journal { C.journal ≡ None }
 {
     let (shared, mut desks) = Shared::<C, R, M, &W>::open(
-        rt, alloc, settings, 2, charged, released, made, events,
+        rt, alloc, settings, 2, charged, released, made, events, None,
     )?;
     create(rt, &shared, &mut desks[0], b"10");
     meet(rt, alloc, &shared, &mut desks);
@@ -364,9 +365,10 @@ fn race<
     requires released { (released.name ≡ R.name) × (released.parts ≡ R.parts) × (R.parts ≡ 16) }
     requires made { (made.name ≡ M.name) × (made.parts ≡ M.parts) × (M.parts ≡ 16) }
     requires log { events.seen.book ≡ C.log }
+    requires journal { C.journal ≡ None }
 {
     let (shared, mut desks) = Shared::<C, R, M, &W>::open(
-        rt, alloc, settings, 16, charged, released, made, events,
+        rt, alloc, settings, 16, charged, released, made, events, None,
     )?;
     create(rt, &shared, &mut desks[0], b"32");
     meet_each_turn(rt, alloc, &shared, &mut desks);

@@ -5,6 +5,8 @@
 #[cfg(test)]
 mod batches;
 #[cfg(test)]
+mod journal;
+#[cfg(test)]
 mod memory;
 #[cfg(test)]
 mod openings;

@@ -56,7 +56,7 @@ fn sweep<C: Charges, R: Ledger, M: Ledger, W: Wait + Abort>(
     desk: &mut Desk<C, R, M>,
 ) {
     let swept = desk.sweep(rt, shared, moment(rt, 4600));
-    assert!(rt; swept.uploads == 1);
+    assert!(rt; swept.is_some_and(|swept| swept.uploads == 1));
 }
 
 // A desk makes an upload, answers 500 HEADs of it, and ends it by a sweep.
@@ -89,9 +89,10 @@ fn serve_twenty<C: Charges, R: Ledger, M: Ledger, W: Wait + Abort>(
     requires released { (released.name ≡ R.name) × (released.parts ≡ R.parts) × (R.parts ≡ 16) }
     requires made { (made.name ≡ M.name) × (made.parts ≡ M.parts) × (M.parts ≡ 16) }
     requires log { events.seen.book ≡ C.log }
+    requires journal { C.journal ≡ None }
 {
     let (shared, mut desks) = Shared::<C, R, M, &W>::open(
-        rt, alloc, settings, 1, charged, released, made, events,
+        rt, alloc, settings, 1, charged, released, made, events, None,
     )?;
     let mut desk = desks.pop().ok_or("a desk")?;
     for id in 1..21u64 {

@@ -8,8 +8,8 @@ use std::marker::Brand;
 use std::sync::Wait;
 use std::sync::ledger::{Blank, Ledger};
 use std::test::Fail;
-use tus_shared::{Charges, OpenFault, Opened, Shared, WorkFault};
-use upload_book::Settings;
+use tus_shared::{AgainFault, Charges, OpenFault, Opened, Shared, WorkFault};
+use upload_book::{Refusal, Refused, Settings};
 
 // How many desks an opening gives that asks for so many.
 fn open<C: Charges, R: Ledger, M: Ledger, W: Wait>(
@@ -28,9 +28,10 @@ fn open<C: Charges, R: Ledger, M: Ledger, W: Wait>(
     requires released { (released.name ≡ R.name) × (released.parts ≡ R.parts) × (R.parts ≡ 16) }
     requires made { (made.name ≡ M.name) × (made.parts ≡ M.parts) × (M.parts ≡ 16) }
     requires log { events.seen.book ≡ C.log }
+    requires journal { C.journal ≡ None }
 {
     let (_, opened) = Shared::<C, R, M, &W>::open(
-        rt, alloc, settings, desks, charged, released, made, events,
+        rt, alloc, settings, desks, charged, released, made, events, None,
     )?;
     Ok(opened.len())
 }
@@ -69,5 +70,13 @@ fn faults_are_told_by_their_words(rt: HostRuntime) -> Result<(), Fail> {
     assert!(rt; OpenFault::Memory.word() == "memory");
     assert!(rt; OpenFault::Board.word() == "board");
     assert!(rt; WorkFault::Memory.word() == "memory");
+    assert!(rt; AgainFault::Waiting.word() == "waiting");
+    assert!(rt; AgainFault::Change.word() == "change");
+    assert!(rt; REFUSED.word() == "refused");
     Ok(())
 }
+
+const REFUSED: AgainFault = AgainFault::Refused(Refused {
+    refusal: Refusal::Gone,
+    expires: None,
+});

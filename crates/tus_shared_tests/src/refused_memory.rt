@@ -136,9 +136,10 @@ fn ask_at<C: Charges, R: Ledger, M: Ledger, W: Wait + Abort>(
     requires released { (released.name ≡ R.name) × (released.parts ≡ R.parts) × (R.parts ≡ 16) }
     requires made { (made.name ≡ M.name) × (made.parts ≡ M.parts) × (M.parts ≡ 16) }
     requires log { events.seen.book ≡ C.log }
+    requires journal { C.journal ≡ None }
 {
     let (shared, mut desks) = Shared::<C, R, M, &W>::open(
-        rt, alloc, settings, 1, charged, released, made, events,
+        rt, alloc, settings, 1, charged, released, made, events, None,
     )?;
     let answered = answered_by(rt, &shared, &mut desks[0], count);
     let heads = seen_by(rt, &mut desks[0]);

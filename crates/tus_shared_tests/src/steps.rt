@@ -180,6 +180,7 @@ fn sweep<C: Charges, R: Ledger, M: Ledger, W: Wait + Abort>(
     at: At,
 ) {
     let swept = desk.sweep(rt, shared, moment(rt, step.secs));
+    let swept = swept.expect(rt, "a sweep");
     let answer = Answer::Swept(swept.uploads, swept.blocks, swept.released);
     assert_tells(rt, answer, step.answer, at);
 }
@@ -233,9 +234,10 @@ fn settle_after<
     requires released { (released.name ≡ R.name) × (released.parts ≡ R.parts) × (R.parts ≡ 16) }
     requires made { (made.name ≡ M.name) × (made.parts ≡ M.parts) × (M.parts ≡ 16) }
     requires log { events.seen.book ≡ C.log }
+    requires journal { C.journal ≡ None }
 {
     let (shared, mut desks) = Shared::<C, R, M, &W>::open(
-        rt, alloc, settings, 2, charged, released, made, events,
+        rt, alloc, settings, 2, charged, released, made, events, None,
     )?;
     for (place, step) in steps.iter().enumerate() {
         take(rt, alloc, &shared, &mut desks, step, At { place, way });

@@ -204,9 +204,10 @@ fn note_stops<
     requires released { (released.name ≡ R.name) × (released.parts ≡ R.parts) × (R.parts ≡ 16) }
     requires made { (made.name ≡ M.name) × (made.parts ≡ M.parts) × (M.parts ≡ 16) }
     requires log { events.seen.book ≡ C.log }
+    requires journal { C.journal ≡ None }
 {
     let (shared, mut desks) = Shared::<C, R, M, &W>::open(
-        rt, alloc, settings, 2, charged, released, made, events,
+        rt, alloc, settings, 2, charged, released, made, events, None,
     )?;
     fill(rt, alloc, &shared, &mut desks, b"/files/acme/1");
     fill(rt, alloc, &shared, &mut desks, b"/files/acme/2");

@@ -8,7 +8,7 @@ use Rattle.http_wire.specs.ConnectionCalls.{Sends, Takes}
 use Rattle.http_wire.specs.OnConnection.{OnConnection}
 use Rattle.http_wire.specs.Past.{Answering, Follows, HasPast, Past, gave, noted, nothing_yet, took}
 use Rattle.http_wire.proofs.AheadLemmas.{Appends-more, Appends-none, Consumes-from_keeps, Consumes-more, Consumes-none}
-use Rattle.tus_workers.specs.Turn.{CarriesOn, OnTurn, and_then, on_turn}
+use Rattle.tus_workers.specs.Turn.{CarriesOn, OnTurn, SendsOn, and_then, on_turn}
 use Rattle.tus_workers.specs.declared.turn.Step.{Step}
 use Rattle.tus_workers.specs.declared.turn.Step.TheVariants as step
 use Rattle.tus_workers.specs.inside.Steps.{messages_of}
@@ -65,6 +65,20 @@ pub Past-written : {E : Type 0} (written : Result ℕ E) (v w : Option (List ℕ
 Past-written (Ok n) v w old new sends none p h = (take n old.outbox.pending, sends.2, sends.1.past p h)
 Past-written (Err e) v w old new sends none p h =
     ([], none.0, subst (λ l. HasPast (record p { handed = l }) new) (sym (append-nil p.handed)) (subst (HasPast p) (sym none.1) h))
+
+-- nothing was sent
+pub SendsOn-none : (c : OnConnection) (w : Option (List ℕ)) → SendsOn c c w w
+SendsOn-none c w = λ p h. ([], Appends-none w, subst (λ l. HasPast (record p { handed = l }) c) (sym (append-nil p.handed)) h)
+
+-- some was sent, and then more
+pub SendsOn-then : (a b c : OnConnection) (u v w : Option (List ℕ)) → SendsOn a b u v → SendsOn b c v w → SendsOn a c u w
+SendsOn-then a b c u v w first next = λ p h.
+    let f = first p h in
+    let s = next (gave p f.0) f.2 in (
+      f.0 ++ s.0,
+      Appends-more u v w f.0 s.0 f.1 s.1,
+      subst (λ l. HasPast (record p { handed = l }) c) (append_assoc p.handed f.0 s.0) s.2,
+    )
 
 module _ {A : Type 0} (steps : A → Request → ℕ → Reply → A → Type 0) where
   Follows-then : (a : A) (answered : List Answering) (b : A) (later : List Answering) (c : A) → Follows steps a answered b → Follows steps b later c → Follows steps a (answered ++ later) c

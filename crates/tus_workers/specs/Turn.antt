@@ -5,7 +5,7 @@ use Rattle.tus_steps.specs.Request.{Request}
 use Rattle.tus_steps.specs.declared.reply.Reply.{Reply}
 use Rattle.http_wire.specs.Clock.{Tells}
 use Rattle.http_wire.specs.OnConnection.{IsFresh, OnConnection}
-use Rattle.http_wire.specs.Past.{Follows, HasPast, Past}
+use Rattle.http_wire.specs.Past.{Follows, HasPast, Past, gave}
 
 -- what stands around a connection: what answers on it, the clock, and, where they are known, the bytes that its reader has left
 -- and all that its writer was given
@@ -49,8 +49,17 @@ module _ {A K : Type 0} (steps : A → Request → ℕ → Reply → A → Type 
   abbrev pub CarriesOn : ℕ → OnTurn A K → OnTurn A K → Type 0
   CarriesOn count old new = (p : Past) → HasPast p old.connection → (more : Past) × Passes count old.around new.around more × HasPast (and_then p more) new.connection
 
+-- Some of what was pending went to the writer, and nothing else passed.
+abbrev pub SendsOn : OnConnection → OnConnection → Option (List ℕ) → Option (List ℕ) → Type 0
+SendsOn old new before after = (p : Past) → HasPast p old → (given : List ℕ) × Appends before after given × HasPast (gave p given) new
+
 -- A past of a client whose bodies have at most so many bytes, and whose connection may be put away while it is silent: then
 -- each new one has that past.
 abbrev pub HasPastWithin : ℕ → Past → Option OnConnection → Type 0
 HasPastWithin max p None = (c : OnConnection) → IsFresh c → c.max_size ≡ max → HasPast p c
 HasPastWithin max p (Some c) = HasPast p c × (c.max_size ≡ max)
+
+-- the same of a client whose connection may be put away
+abbrev pub SendsOnWithin : ℕ → Option OnConnection → Option OnConnection → Option (List ℕ) → Option (List ℕ) → Type 0
+SendsOnWithin max old new before after =
+    (p : Past) → HasPastWithin max p old → (given : List ℕ) × Appends before after given × HasPastWithin max (gave p given) new

@@ -14,14 +14,16 @@ use upload_book::Moment;
 /// their quota while connections last, and no HEAD waits for that. It may wait for the other desks of its store.
 #[derive(Drop)]
 pub struct AtDesk<'a, C: Charges, R: Ledger, M: Ledger, W: Wait, B: Wait + Drop, G: Gate> {
-    rt: &'a W,
-    desk: Desk<C, R, M>,
-    shared: &'a Shared<C, R, M, B>,
+    pub(crate) rt: &'a W,
+    pub(crate) desk: Desk<C, R, M>,
+    pub(crate) shared: &'a Shared<C, R, M, B>,
     gate: &'a G,
     // How many requests were answered.
     turn: usize,
     // The last moment at which it asked whether uploads have expired.
     pub(crate) asked: Option<Moment>,
+    // How often it ended uploads that had expired.
+    pub(crate) sweeps: u64,
 }
 
 impl<'a, C: Charges, R: Ledger, M: Ledger, W: Wait, B: Wait + Drop, G: Gate> AtDesk<
@@ -44,6 +46,7 @@ impl<'a, C: Charges, R: Ledger, M: Ledger, W: Wait, B: Wait + Drop, G: Gate> AtD
             gate,
             turn: 0,
             asked: None,
+            sweeps: 0,
         }
     }
 
@@ -55,7 +58,9 @@ impl<'a, C: Charges, R: Ledger, M: Ledger, W: Wait, B: Wait + Drop, G: Gate> AtD
             return;
         }
         self.asked = Some(now);
-        sweep_expired(self.rt, &mut self.desk, self.shared, now);
+        if sweep_expired(self.rt, &mut self.desk, self.shared, now) {
+            self.sweeps = self.sweeps.saturating_add(1);
+        }
     }
 
     /// The desk, for the next connection.

@@ -3,17 +3,22 @@ ghost use Rattle.std.specs.Prelude.{◌≡◌, ◌+◌, ◌≤◌, ◌<◌, ◌^
 
 use crate::accept::Accept;
 use crate::at_desk::AtDesk;
+use crate::at_kept_desk::AtKeptDesk;
 use crate::attended::Attended;
 use crate::commons::Commons;
 use crate::crowd::Crowd;
 use crate::door::{Door, Entry, LISTENER};
+use crate::holding::HoldsBack;
+use crate::keeping::Keeping;
 use crate::machine_clock::MachineClock;
+use crate::metrics_door::{ASKERS_MAX, MetricsDoor};
 use crate::stream::MESSAGES_MAX;
 use crate::sweeping::sweep_expired;
+use crate::watch::Watch;
 use crate::worker::Worker;
 use crate::workers::Workers;
 use core::mem::replace_with;
-use http_wire::{Answer, Clock};
+use http_wire::Clock;
 use mio::Events;
 use std::alloc::AllocError;
 use std::io::Eprint;
@@ -36,8 +41,10 @@ const MANNERS_MILLIS: u64 = 1;
 
 /// What a worker has besides its door and its desk.
 #[derive(Drop)]
-struct Rounds<'a, H: Wait> {
+struct Rounds<'a, H: Wait + time::Clock> {
     crowd: Crowd<'a, H>,
+    // Where numbers are asked for, if it is at this worker.
+    metrics: Option<MetricsDoor>,
     clock: MachineClock<'a, H>,
     // When it was last asked at the desk whether uploads have expired.
     asked: Option<Moment>,
@@ -52,17 +59,19 @@ struct Rounds<'a, H: Wait> {
     second: u64,
 }
 
-impl<'a, C: Charges, R: Ledger, M: Ledger, H: Wait + Eprint + time::Clock, B: Wait + Drop> Workers<
+impl<
     'a,
-    C,
-    R,
-    M,
-    H,
-    B,
-> {
+    C: Charges,
+    R: Ledger,
+    M: Ledger,
+    H: Wait + Eprint + time::Clock,
+    B: Wait + Drop,
+    K: Keeping<C, R, M, B>,
+> Workers<'a, C, R, M, H, B, K> {
     /// Serves the clients that come in, side by side, at most as many as the options say, until all connections were accepted
     /// and have ended. A fault of a connection ends that connection alone, and an accept that fails is tried again. Where there
-    /// is no memory for the clients, or the system tells of no more events, the worker ends, and says so on standard error.
+    /// is no memory for the clients, or the system tells of no more events, the worker ends, and says so on standard error. Where
+    /// nothing more can be kept that is to be kept, all workers end.
     pub(crate) fn work_at_once<A: Accept>(&self, number: usize, worker: &mut Worker<C, R, M, A>)
         requires alive { A.has_failed worker.old.acceptor ≡ false }
         requires new { A.accepted worker.old.acceptor ≡ 0 }
@@ -98,9 +107,11 @@ impl<'a, C: Charges, R: Ledger, M: Ledger, H: Wait + Eprint + time::Clock, B: Wa
             self.options.bounds,
             settings.copied(),
             self.options.at_once,
+            self.watch(),
         )?;
         let rounds = Rounds {
             crowd,
+            metrics: None,
             clock: MachineClock::new(self.rt, self.options.moment),
             asked: None,
             told: 0,
@@ -112,8 +123,15 @@ impl<'a, C: Charges, R: Ledger, M: Ledger, H: Wait + Eprint + time::Clock, B: Wa
         Ok((rounds, events))
     }
 
+    // What this worker sees, where it is watched and the machine's clock can be read.
+    fn watch(&self) -> Option<Watch<'a>> {
+        let watching = self.commons.watching.as_ref()?;
+        let start = Instant::now(self.rt).ok()?;
+        Some(Watch::new(self.alloc, watching, start))
+    }
+
     // Opens the door, and goes round until all connections were accepted and have ended. It is false where the system failed
-    // before that.
+    // before that, or nothing more could be kept.
     fn go_round<A: Accept>(
         &self,
         worker: &mut Worker<C, R, M, A>,
@@ -133,9 +151,13 @@ impl<'a, C: Charges, R: Ledger, M: Ledger, H: Wait + Eprint + time::Clock, B: Wa
             self.say("tus-server: a worker ended, since it is told of no connections");
             return false;
         }
+        rounds.metrics = self.open_metrics(door);
         for _ in 0..u64::MAX {
             if door.is_done() && rounds.crowd.len() == 0 {
                 return true;
+            }
+            if self.commons.are_to_end() {
+                return false;
             }
             let most = Duration::from_millis(self.patience(door, &rounds));
             if door.wait(&mut events, most).is_err() {
@@ -146,8 +168,44 @@ impl<'a, C: Charges, R: Ledger, M: Ledger, H: Wait + Eprint + time::Clock, B: Wa
                 (self.serve_ready(desk, &mut rounds, &events), ())
             });
             self.take_in(worker, door, &mut rounds);
+            rounds.publish(self.rt);
+            self.answer_questions(worker.desk.settings(), door, &mut rounds, &events);
         }
         false
+    }
+
+    // Where numbers are asked for, at the first worker that asks for it. Where it can't be had, that is said.
+    fn open_metrics(&self, door: &Door) -> Option<MetricsDoor> {
+        let watching = self.commons.watching.as_ref()?;
+        let listener = watching.take_metrics(self.rt)?;
+        match MetricsDoor::open(self.alloc, listener, door.registry()) {
+            Ok(metrics) => Some(metrics),
+            Err(_) => {
+                self.say("tus-server: nobody can ask for numbers, since no events tell of that");
+                None
+            }
+        }
+    }
+
+    // Answers who asks for numbers.
+    fn answer_questions(
+        &self,
+        settings: &Settings,
+        door: &Door,
+        rounds: &mut Rounds<'a, H>,
+        events: &Events,
+    ) {
+        let (Some(metrics), Some(watching)) = (&mut rounds.metrics, &self.commons.watching) else {
+            return;
+        };
+        metrics.serve(self.alloc, door.registry(), events, rounds.second);
+        for _ in 0..ASKERS_MAX {
+            let Some(asked) = metrics.next_question() else {
+                return;
+            };
+            let reply = self.reply_to(asked.question, watching, settings).ok();
+            metrics.reply(asked.key, reply);
+        }
     }
 
     // For how many milliseconds it may wait for events.
@@ -162,8 +220,9 @@ impl<'a, C: Charges, R: Ledger, M: Ledger, H: Wait + Eprint + time::Clock, B: Wa
         }
     }
 
-    // Takes a turn of each client that is ready, had more to do, or waited for another one. In each new second those are cut
-    // off that are too late, and uploads that have expired are ended.
+    // Takes a turn of each client that is ready, had more to do, or waited for another one, and then sends what was held back,
+    // after one sync for all; where nothing more can be kept, nothing is sent, and all workers are to end. In each new second
+    // those are cut off that are too late, and uploads that have expired are ended.
     fn serve_ready(
         &self,
         desk: Desk<C, R, M>,
@@ -171,9 +230,20 @@ impl<'a, C: Charges, R: Ledger, M: Ledger, H: Wait + Eprint + time::Clock, B: Wa
         events: &Events,
     ) -> Desk<C, R, M> {
         let second = second_since(self.rt, &rounds.start);
-        let mut answerer = AtDesk::new(self.rt, desk, self.shared, &NoGate);
-        answerer.asked = rounds.asked;
+        let mut at = AtDesk::new(self.rt, desk, self.shared, &NoGate);
+        at.asked = rounds.asked;
+        let mut answerer = AtKeptDesk::new(at, self.keeping);
         rounds.turn_ready(events, &mut answerer, second);
+        if answerer.holds_back() {
+            if answerer.keep() {
+                rounds.crowd.send_held(answerer.desk(), second);
+                if second != rounds.second {
+                    rounds.crowd.send_late(answerer.desk(), second);
+                }
+            } else {
+                self.commons.end_all();
+            }
+        }
         if second != rounds.second {
             rounds.pass_second(&mut answerer, second);
             answerer.sweep_once(rounds.clock.moment());
@@ -181,8 +251,10 @@ impl<'a, C: Charges, R: Ledger, M: Ledger, H: Wait + Eprint + time::Clock, B: Wa
             rounds.second = second;
             rounds.has_rung = true;
         }
-        rounds.asked = answerer.asked;
-        answerer.into_desk()
+        let at = answerer.into_desk();
+        rounds.asked = at.asked;
+        rounds.note_sweeps(at.sweeps);
+        at.into_desk()
     }
 
     // Takes in one client, if one waits; then uploads that have expired are ended. A worker that has more clients than others
@@ -220,7 +292,8 @@ impl<'a, C: Charges, R: Ledger, M: Ledger, H: Wait + Eprint + time::Clock, B: Wa
                     .crowd
                     .admit(door.registry(), stream, attended, second);
                 let now = rounds.clock.moment();
-                sweep_expired(self.rt, &mut worker.desk, self.shared, now);
+                let has_swept = sweep_expired(self.rt, &mut worker.desk, self.shared, now);
+                rounds.note_sweeps(u64::from(has_swept));
             }
             Entry::Refused => self.say(
                 "tus-server: no connection can be accepted at the moment, and it is tried again",
@@ -264,9 +337,23 @@ impl<'a, C: Charges, R: Ledger, M: Ledger, H: Wait + Eprint + time::Clock, B: Wa
     }
 }
 
-impl<'a, H: Wait + time::Clock> Rounds<'a, H> {
+impl<'a, H: Wait + time::Clock + Eprint> Rounds<'a, H> {
+    // Notes that uploads that had expired were ended so often.
+    fn note_sweeps(&mut self, sweeps: u64) {
+        if let Some(watch) = &mut self.crowd.watch {
+            watch.sweep(sweeps);
+        }
+    }
+
+    // Tells what was seen in this round.
+    fn publish(&mut self, rt: &H) {
+        if let Some(watch) = &mut self.crowd.watch {
+            watch.publish(rt, self.clock.moment());
+        }
+    }
+
     // Takes a turn of each client that is ready, had more to do, or waited for another one.
-    fn turn_ready<S: Answer>(&mut self, events: &Events, answerer: &mut S, second: u64) {
+    fn turn_ready<S: HoldsBack>(&mut self, events: &Events, answerer: &mut S, second: u64) {
         self.crowd.go_on(answerer, &mut self.clock, second);
         for event in events.iter() {
             if event.token() == LISTENER {
@@ -283,7 +370,7 @@ impl<'a, H: Wait + time::Clock> Rounds<'a, H> {
     }
 
     // Cuts off those that are too late at this second.
-    fn pass_second<S: Answer>(&mut self, answerer: &mut S, second: u64) {
+    fn pass_second<S: HoldsBack>(&mut self, answerer: &mut S, second: u64) {
         self.crowd.cut_late(answerer, &mut self.clock, second);
     }
 }

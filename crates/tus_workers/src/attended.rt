@@ -1,12 +1,16 @@
 //! A client that a worker holds beside others.
-ghost use Rattle.std.specs.Prelude.{◌≡◌, ◌<◌, ◌≤◌, ◌^◌, ◌-◌, Some, None, IfOk, OnErr};
+ghost use Rattle.std.specs.Prelude.{◌≡◌, ◌<◌, ◌≤◌, ◌^◌, ◌-◌, Some, None, true, IfOk, OnErr};
 ghost use Rattle.http_wire.specs.Past.{HasPast, Past, nothing_yet};
-ghost use Rattle.tus_workers.specs.Turn.{HasPastWithin, Passes, and_then, around};
+ghost use Rattle.tus_workers.specs.Sending.{IsAfterSending};
+ghost use Rattle.tus_workers.specs.Turn.{HasPastWithin, Passes, SendsOnWithin, and_then, around};
 
+use crate::holding::HoldsBack;
+use crate::observer::Observer;
 use crate::pace::Busy;
+use crate::sending::{Sent, send_pending};
 use crate::turn::{Outcome, Precedence, Share, Streams, Turned, take_turn};
 use crate::workers::{ROOM_KEPT, may_be_unread};
-use http_wire::{Answer, Buffers, Clock, Connection, Ended, Message};
+use http_wire::{Buffers, Clock, Connection, Ended, Message};
 use std::alloc::{AllocError, Global};
 use std::io::{Read, Write};
 
@@ -47,7 +51,14 @@ impl Attended {
     /// Takes a turn of its connection, as [`take_turn`] says, with all messages that are left, and puts the connection away where the client is silent then.
     /// Its buffers are of `free` where there are some, and go back there. The outcome is `Outcome::NoMemory` where there
     /// was no memory for new ones, and then nothing passed.
-    pub fn attend<R: Read + Drop, W: Write + Drop, A: Answer, K: Clock, P: Precedence>(
+    pub fn attend<
+        R: Read + Drop,
+        W: Write + Drop,
+        A: HoldsBack,
+        K: Clock,
+        P: Precedence,
+        O: Observer,
+    >(
         &mut self,
         alloc: Global,
         free: &mut Vec<Buffers>,
@@ -56,12 +67,14 @@ impl Attended {
         clock: &mut K,
         precedence: &P,
         reads_on: bool,
+        observer: &mut O,
     ) -> Turned<R, W>
         ensures carries { (p : Past) → HasPastWithin self.old.max_size p self.old.connection → (more : Past)
             × Passes A.steps K.tells (self.old.left - self.new.left)
             (around answerer.old clock.old (R.remaining streams.reader) (W.contents streams.writer))
             (around answerer.new clock.new (R.remaining result.streams.reader) (W.contents result.streams.writer)) more
             × HasPastWithin self.old.max_size (and_then p more) self.new.connection }
+        ensures held { A.holds_back answerer.old ≡ true → W.contents result.streams.writer ≡ W.contents streams.writer }
         ensures left { self.new.left ≤ self.old.left }
         ensures size { self.new.max_size ≡ self.old.max_size }
     {
@@ -84,10 +97,31 @@ impl Attended {
                 messages: self.left,
                 reads_on,
             },
+            observer,
         );
         self.left = turned.left;
         self.connection = put_away(connection, free);
         turned
+    }
+
+    /// Sends what is pending, as [`send_pending`] says, and puts the connection away where the client is silent then. Its
+    /// buffers go back to `free`.
+    pub fn send<W: Write + Drop>(&mut self, free: &mut Vec<Buffers>, writer: W) -> Sent<W>
+        ensures sends { SendsOnWithin self.old.max_size self.old.connection self.new.connection (W.contents writer) (W.contents result.writer) }
+        ensures outcome { IsAfterSending result.outcome }
+        ensures left { self.new.left ≡ self.old.left }
+        ensures size { self.new.max_size ≡ self.old.max_size }
+    {
+        let Some(mut connection) = self.connection.take() else {
+            return Sent {
+                outcome: Outcome::HasMore,
+                moved: 0,
+                writer,
+            };
+        };
+        let sent = send_pending(&mut connection, writer);
+        self.connection = put_away(connection, free);
+        sent
     }
 
     /// How many of its messages may still be answered.

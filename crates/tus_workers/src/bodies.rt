@@ -134,6 +134,11 @@ impl Bodies {
         }
     }
 
+    /// Whether the body at this place was asked to end since all together hold too much.
+    pub fn is_greatest<W: Wait>(&self, rt: &W, place: Place) -> bool {
+        self.known.lock(rt).greatest == Some(place)
+    }
+
     /// The client that holds the body at this place, where that was asked to end and is at this worker.
     pub fn client_to_cut<W: Wait>(&self, rt: &W, worker: usize, place: Place) -> Option<usize> {
         let known = self.known.lock(rt);

@@ -1,9 +1,12 @@
 //! A client with its stream, as its worker holds it.
 
 use crate::attended::Attended;
-use crate::pace::{Bounds, Pace};
+use crate::holding::HoldsBack;
+use crate::observer::Observer;
+use crate::pace::{Bounds, Busy, Late, Pace};
+use crate::seen::Seen;
 use crate::turn::{AsTheyCome, Outcome, Precedence, Streams, Turned};
-use http_wire::{Answer, Buffers, Clock};
+use http_wire::{Buffers, Clock};
 use mio::net::TcpStream;
 use mio::{Interest, Registry, Token};
 use std::alloc::Global;
@@ -44,6 +47,8 @@ pub(crate) enum Next {
     HasMore,
     /// Its message waits for another one to end.
     WaitsForTurn,
+    /// Its reply is held back.
+    WaitsForKeeping,
     /// Its connection is closed.
     Ends,
 }
@@ -84,11 +89,15 @@ pub(crate) struct Client {
     pub is_listed: bool,
     /// Whether in its last turn it came to another message, or from one part of a message to another.
     pub has_gone_on: bool,
+    /// Whether it ended since a write failed, or memory was lacking.
+    pub has_failed: bool,
+    /// What was seen of its requests.
+    pub seen: Seen,
 }
 
 impl Client {
     /// A client that came at this second.
-    pub fn new(stream: TcpStream, attended: Attended, second: u64) -> Self {
+    pub fn new(stream: TcpStream, attended: Attended, second: u64, seen: Seen) -> Self {
         Client {
             stream,
             attended,
@@ -98,6 +107,8 @@ impl Client {
             has_closed: false,
             is_listed: false,
             has_gone_on: false,
+            has_failed: false,
+            seen,
         }
     }
 
@@ -131,7 +142,7 @@ impl Client {
     }
 
     /// Takes a turn of its conversation at this second, or drops what it still sends.
-    pub fn turn<A: Answer, K: Clock, P: Precedence>(
+    pub fn turn<A: HoldsBack, K: Clock, P: Precedence>(
         &mut self,
         alloc: Global,
         free: &mut Vec<Buffers>,
@@ -156,12 +167,16 @@ impl Client {
                 self.standing = Standing::Waits(since);
                 Next::WaitsForTurn
             }
+            Outcome::AwaitsKeeping => Next::WaitsForKeeping,
             Outcome::Over => self.end(free, second),
-            Outcome::Failed | Outcome::NoMemory => Next::Ends,
+            Outcome::Failed | Outcome::NoMemory => {
+                self.has_failed = true;
+                Next::Ends
+            }
         }
     }
 
-    fn talk<A: Answer, K: Clock, P: Precedence>(
+    fn talk<A: HoldsBack, K: Clock, P: Precedence>(
         &mut self,
         alloc: Global,
         free: &mut Vec<Buffers>,
@@ -183,12 +198,30 @@ impl Client {
             clock,
             precedence,
             self.has_closed,
+            &mut self.seen,
         );
         let has_answered = self.attended.left() != left;
         let busy = self.attended.busy();
         self.has_gone_on = has_answered || busy != was_busy;
         self.pace.note(second, moved as u64, busy, has_answered);
         outcome
+    }
+
+    /// Sends at this second what was held back, as far as that goes.
+    pub fn send(&mut self, free: &mut Vec<Buffers>, second: u64) -> Next {
+        let sent = self.attended.send(free, &self.stream);
+        self.seen.has_sent(sent.moved);
+        self.has_gone_on = false;
+        self.pace
+            .note(second, sent.moved as u64, self.attended.busy(), false);
+        match sent.outcome {
+            Outcome::AwaitsRoom => Next::Waits,
+            Outcome::Failed => {
+                self.has_failed = true;
+                Next::Ends
+            }
+            _ => Next::HasMore,
+        }
     }
 
     // Its conversation is over. Where it may have sent what nobody read, it is told that nothing follows: a close with unread
@@ -227,7 +260,7 @@ impl Client {
 
     /// Tells its connection that no more will come, nor can be sent. What came of a PATCH that is applied when it is cut is
     /// kept.
-    pub fn cut<A: Answer, K: Clock>(
+    pub fn cut<A: HoldsBack, K: Clock>(
         &mut self,
         alloc: Global,
         free: &mut Vec<Buffers>,
@@ -241,9 +274,16 @@ impl Client {
             reader: Gone,
             writer: Gone,
         };
-        let _ = self
-            .attended
-            .attend(alloc, free, streams, answerer, clock, &AsTheyCome, true);
+        let _ = self.attended.attend(
+            alloc,
+            free,
+            streams,
+            answerer,
+            clock,
+            &AsTheyCome,
+            true,
+            &mut self.seen,
+        );
         let _ = self.attended.leaves_unread(free);
     }
 
@@ -253,6 +293,22 @@ impl Client {
             Standing::Talks => self.pace.lateness(second, bounds).is_some(),
             Standing::Waits(_) => false,
             Standing::Lingers(_) => second.saturating_sub(self.pace.moved) > LINGER_SECONDS,
+        }
+    }
+
+    /// For what it is to be cut off at this second, while it is talked with.
+    pub fn lateness(&self, second: u64, bounds: Bounds) -> Option<Late> {
+        match self.standing {
+            Standing::Talks => self.pace.lateness(second, bounds),
+            _ => None,
+        }
+    }
+
+    /// Whether it has not been sent all replies that were put.
+    pub fn is_sending(&self) -> bool {
+        match self.standing {
+            Standing::Talks | Standing::Waits(_) => self.attended.busy() == Busy::Reply,
+            Standing::Lingers(_) => false,
         }
     }
 

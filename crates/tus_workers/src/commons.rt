@@ -1,6 +1,7 @@
 //! What the workers of a server know of each other.
 
 use crate::bodies::Bodies;
+use crate::watching::Watching;
 use crate::work_options::WorkOptions;
 use std::alloc::{AllocError, Global};
 use std::io;
@@ -24,6 +25,10 @@ pub struct Commons {
     begun: AtomicU64,
     // It was told that some have not.
     has_told: AtomicBool,
+    // Nothing more can be kept that is to be kept.
+    is_over: AtomicBool,
+    // How they are watched, if they are.
+    pub(crate) watching: Option<Watching>,
 }
 
 impl Commons {
@@ -38,7 +43,14 @@ impl Commons {
             waits_for_each: options.waits_for_each(),
             begun: AtomicU64::new(0),
             has_told: AtomicBool::new(false),
+            is_over: AtomicBool::new(false),
+            watching: None,
         })
+    }
+
+    /// Has the workers watched. It is to be called before they begin, and the options say that they are.
+    pub fn watch_by(&mut self, watching: Watching) {
+        self.watching = Some(watching);
     }
 
     /// Makes what tells the workers of events, where they hold many clients. It is to be called before they begin. The error is
@@ -53,6 +65,16 @@ impl Commons {
     /// Notes that a worker has begun.
     pub(crate) fn begin(&self) {
         self.begun.fetch_add(1, Ordering::Relaxed);
+    }
+
+    /// Notes that nothing more can be kept that is to be kept, so all workers are to end.
+    pub(crate) fn end_all(&self) {
+        self.is_over.store(true, Ordering::Relaxed);
+    }
+
+    /// Whether all workers are to end.
+    pub(crate) fn are_to_end(&self) -> bool {
+        self.is_over.load(Ordering::Relaxed)
     }
 
     /// Whether some worker has not begun, and this was not asked while it was so.

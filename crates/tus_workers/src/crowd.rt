@@ -1,17 +1,24 @@
 //! The clients that one worker holds at once, each by the readiness of its stream.
+ghost use mathlib.Core.List.{IsPrefix};
 
 use crate::attended::Attended;
 use crate::bodies::Bodies;
 use crate::client::{Client, Next};
-use crate::pace::{Bounds, Busy};
+use crate::holding::HoldsBack;
+use crate::pace::{Bounds, Busy, Late};
 use crate::precedence::{NewestFirst, upload_of};
-use http_wire::{Answer, Buffers, Clock};
+use crate::seen::Seen;
+use crate::watch::Watch;
+use http_wire::{Buffers, Clock};
 use mio::Registry;
 use mio::net::TcpStream;
+use service_watch::Cut;
 use slab::Slab;
 use std::alloc::{AllocError, Global};
-use std::mem;
 use std::sync::Wait;
+use std::sync::ledger::Ledger;
+use std::{mem, time};
+use tus_shared::{Charges, Desk};
 use unfinished_bodies::{Body, Holder, UploadName};
 use upload_book::Settings;
 
@@ -33,9 +40,13 @@ pub(crate) struct Crowd<'a, W: Wait> {
     spare: Vec<usize>,
     // The keys of those whose message waits for another one to end.
     waiting: Vec<usize>,
+    // The keys of those whose reply is held back.
+    held: Vec<usize>,
+    /// What was seen and is not told yet; none where nobody watches.
+    pub watch: Option<Watch<'a>>,
 }
 
-impl<'a, W: Wait> Crowd<'a, W> {
+impl<'a, W: Wait + time::Clock> Crowd<'a, W> {
     /// No clients, at the worker with this number. The error is that there is no memory for so many.
     pub fn new(
         rt: &'a W,
@@ -45,6 +56,7 @@ impl<'a, W: Wait> Crowd<'a, W> {
         bounds: Bounds,
         settings: Settings,
         most: usize,
+        watch: Option<Watch<'a>>,
     ) -> Result<Self, AllocError> {
         Ok(Crowd {
             rt,
@@ -58,6 +70,8 @@ impl<'a, W: Wait> Crowd<'a, W> {
             again: Vec::new(alloc),
             spare: Vec::new(alloc),
             waiting: Vec::new(alloc),
+            held: Vec::new(alloc),
+            watch,
         })
     }
 
@@ -80,7 +94,11 @@ impl<'a, W: Wait> Crowd<'a, W> {
         attended: Attended,
         second: u64,
     ) {
-        let Ok(key) = self.clients.insert(Client::new(stream, attended, second)) else {
+        let seen = seen_at(&mut self.watch, &stream);
+        let Ok(key) = self
+            .clients
+            .insert(Client::new(stream, attended, second, seen))
+        else {
             return;
         };
         let Some(client) = self.clients.get_mut(key) else {
@@ -99,7 +117,7 @@ impl<'a, W: Wait> Crowd<'a, W> {
     }
 
     /// Takes a turn of the client with this key, of which an event told, at this second; unless its turn comes by a list.
-    pub fn turn_of_event<A: Answer, K: Clock>(
+    pub fn turn_of_event<A: HoldsBack, K: Clock>(
         &mut self,
         key: usize,
         answerer: &mut A,
@@ -113,7 +131,7 @@ impl<'a, W: Wait> Crowd<'a, W> {
     }
 
     // Takes a turn of the client with this key, if there is one, at this second.
-    fn turn<A: Answer, K: Clock>(
+    fn turn<A: HoldsBack, K: Clock>(
         &mut self,
         key: usize,
         answerer: &mut A,
@@ -134,6 +152,7 @@ impl<'a, W: Wait> Crowd<'a, W> {
             holder,
             has_waited: client.has_waited(second),
         };
+        begin_turn(&self.watch, self.rt, client);
         let next = client.turn(
             self.alloc,
             &mut self.free,
@@ -143,11 +162,21 @@ impl<'a, W: Wait> Crowd<'a, W> {
             second,
         );
         note_body(self.rt, self.bodies, &self.settings, client, holder);
+        gather(&mut self.watch, self.rt, client, next == Next::Ends);
+        self.go_after(key, next);
+    }
+
+    // Puts the client with this key, if there is one, to the list by which its next turn comes, or lets it go.
+    fn go_after(&mut self, key: usize, next: Next) {
+        let Some(client) = self.clients.get_mut(key) else {
+            return;
+        };
         let is_listed = client.is_listed;
         let stays = match next {
             Next::Waits => true,
             Next::HasMore => is_listed || self.again.push(key).is_ok(),
             Next::WaitsForTurn => is_listed || self.waiting.push(key).is_ok(),
+            Next::WaitsForKeeping => is_listed || self.held.push(key).is_ok(),
             Next::Ends => false,
         };
         if !stays {
@@ -165,7 +194,7 @@ impl<'a, W: Wait> Crowd<'a, W> {
     }
 
     /// Takes one turn of each client that has more to do, at this second.
-    pub fn go_on<A: Answer, K: Clock>(&mut self, answerer: &mut A, clock: &mut K, second: u64) {
+    pub fn go_on<A: HoldsBack, K: Clock>(&mut self, answerer: &mut A, clock: &mut K, second: u64) {
         let spare = mem::replace(&mut self.spare, Vec::new(self.alloc));
         let mut keys = mem::replace(&mut self.again, spare);
         for key in keys.iter() {
@@ -176,12 +205,66 @@ impl<'a, W: Wait> Crowd<'a, W> {
         self.spare = keys;
     }
 
+    /// Sends at this second what was held back, now that all is kept that the desk has seen.
+    pub fn send_held<C: Charges, R: Ledger, M: Ledger>(&mut self, desk: &Desk<C, R, M>, second: u64)
+        requires kept { IsPrefix desk.now.seen desk.now.kept }
+    {
+        for key in mem::replace(&mut self.held, Vec::new(self.alloc)) {
+            self.set_listed(key, false);
+            self.send(desk, key, second);
+        }
+    }
+
+    /// The same for those that are too late at this second: they may have taken bytes, of which no event told yet.
+    pub fn send_late<C: Charges, R: Ledger, M: Ledger>(&mut self, desk: &Desk<C, R, M>, second: u64)
+        requires kept { IsPrefix desk.now.seen desk.now.kept }
+    {
+        for key in 0..self.clients.capacity() {
+            if self.is_late(key, second) {
+                self.send(desk, key, second);
+            }
+        }
+    }
+
+    // Sends what is pending of the client with this key, if there is one, at this second. All is kept that the desk has seen,
+    // so all that it tells.
+    fn send<C: Charges, R: Ledger, M: Ledger>(
+        &mut self,
+        _desk: &Desk<C, R, M>,
+        key: usize,
+        second: u64,
+    )
+        requires kept { IsPrefix _desk.now.seen _desk.now.kept }
+    {
+        let Some(client) = self.clients.get_mut(key) else {
+            return;
+        };
+        let holder = Holder {
+            worker: self.number,
+            client: key,
+        };
+        let next = client.send(&mut self.free, second);
+        note_body(self.rt, self.bodies, &self.settings, client, holder);
+        gather(&mut self.watch, self.rt, client, next == Next::Ends);
+        self.go_after(key, next);
+    }
+
     /// Cuts off those that other workers, or requests of this one, asked to end, and then takes a turn of each client whose
     /// message waits for another one to end.
-    pub fn give_way<A: Answer, K: Clock>(&mut self, answerer: &mut A, clock: &mut K, second: u64) {
+    pub fn give_way<A: HoldsBack, K: Clock>(
+        &mut self,
+        answerer: &mut A,
+        clock: &mut K,
+        second: u64,
+    ) {
         for place in self.bodies.take_asked(self.rt, self.number) {
             if let Some(key) = self.bodies.client_to_cut(self.rt, self.number, place) {
-                self.cut(key, answerer, clock);
+                let why = if self.bodies.is_greatest(self.rt, place) {
+                    Cut::Memory
+                } else {
+                    Cut::Newer
+                };
+                self.cut(key, why, answerer, clock);
             }
         }
         for key in mem::replace(&mut self.waiting, Vec::new(self.alloc)) {
@@ -192,12 +275,18 @@ impl<'a, W: Wait> Crowd<'a, W> {
 
     /// Cuts off those that are too late at this second, each after one more turn: bytes may have come, or may have been taken,
     /// of which no event told yet. What came of a PATCH that is applied when it is cut is kept.
-    pub fn cut_late<A: Answer, K: Clock>(&mut self, answerer: &mut A, clock: &mut K, second: u64) {
+    pub fn cut_late<A: HoldsBack, K: Clock>(
+        &mut self,
+        answerer: &mut A,
+        clock: &mut K,
+        second: u64,
+    ) {
         for key in 0..self.clients.capacity() {
             if self.is_late(key, second) {
                 self.turn(key, answerer, clock, second);
                 if self.is_late(key, second) {
-                    self.cut(key, answerer, clock);
+                    let why = self.lateness(key, second);
+                    self.cut(key, why, answerer, clock);
                 }
             }
             if let Some(client) = self.clients.get_mut(key) {
@@ -214,10 +303,31 @@ impl<'a, W: Wait> Crowd<'a, W> {
         }
     }
 
-    // Cuts a client off, if there is one with this key.
-    fn cut<A: Answer, K: Clock>(&mut self, key: usize, answerer: &mut A, clock: &mut K) {
+    // For what the client with this key is too late, as far as that is told.
+    fn lateness(&self, key: usize, second: u64) -> Cut {
+        let late = match self.clients.get(key) {
+            Some(client) => client.lateness(second, self.bounds),
+            None => None,
+        };
+        match late {
+            Some(Late::Message) => Cut::Message,
+            Some(Late::Rate) => Cut::Rate,
+            Some(Late::Idle) | None => Cut::Idle,
+        }
+    }
+
+    // Cuts a client off for this reason, if there is one with this key.
+    fn cut<A: HoldsBack, K: Clock>(
+        &mut self,
+        key: usize,
+        why: Cut,
+        answerer: &mut A,
+        clock: &mut K,
+    ) {
         if let Some(client) = self.clients.get_mut(key) {
+            note_cut(&mut self.watch, client, why);
             client.cut(self.alloc, &mut self.free, answerer, clock);
+            gather(&mut self.watch, self.rt, client, true);
             self.remove(key);
         }
     }
@@ -229,6 +339,44 @@ impl<'a, W: Wait> Crowd<'a, W> {
         {
             let _ = self.bodies.note(self.rt, client.place, None);
         }
+    }
+}
+
+// Notes that a client came, and gives what is to be seen of it.
+fn seen_at(watch: &mut Option<Watch>, stream: &TcpStream) -> Seen {
+    match watch {
+        Some(watch) => {
+            watch.accept();
+            watch.record(stream.peer_addr().ok())
+        }
+        None => Seen { record: None },
+    }
+}
+
+// Tells what is seen of a client that its turn begins.
+fn begin_turn<W: time::Clock>(watch: &Option<Watch>, rt: &W, client: &mut Client) {
+    if let Some(watch) = watch {
+        client.seen.begin_turn(watch.micros(rt));
+    }
+}
+
+// Takes what was seen of a client after its turn.
+fn gather<W: time::Clock>(watch: &mut Option<Watch>, rt: &W, client: &mut Client, has_ended: bool) {
+    if let Some(watch) = watch {
+        if client.has_failed {
+            watch.cut(client, Cut::Failed);
+        }
+        let micros = watch.micros(rt);
+        watch.gather(client, micros, has_ended);
+    }
+}
+
+// Notes for what a client is cut off, if it is still talked with.
+fn note_cut(watch: &mut Option<Watch>, client: &Client, why: Cut) {
+    if let Some(watch) = watch
+        && client.attended().is_some()
+    {
+        watch.cut(client, why);
     }
 }
 

@@ -1,5 +1,5 @@
 //! A connection's conversation at a desk.
-ghost use Rattle.std.specs.Prelude.{◌≡◌, ◌<◌, ◌∷◌, ◌++◌, [], ℕ, List, length, false, IfErr, IfOk, IsErr};
+ghost use Rattle.std.specs.Prelude.{◌≡◌, ◌<◌, ◌∷◌, ◌++◌, [], ℕ, List, length, false, None, IfErr, IfOk, IsErr};
 ghost use Rattle.std.specs.Io.KnownBytes.{Appends, Consumes};
 ghost use Rattle.http_wire.specs.Clock.{AreTold, IsTimed, Tells};
 ghost use Rattle.http_wire.specs.Fault.{NamesStream};
@@ -25,7 +25,7 @@ pub struct ServedStream<C: Charges, R: Ledger, M: Ledger, I, O> {
     pub buffers: Buffers,
 }
 
-/// Reads messages, lets the desk answer them and writes the replies, until the input ends, the connection
+/// Reads messages, lets the desk of a store without a journal answer them and writes the replies, until the input ends, the connection
 /// closes or 4,096 messages were read. For each the clock is asked once, when it has come. What ended it
 /// may be `WireFault::Read` or `WireFault::Write`; the steps that were made before it stay.
 ///
@@ -56,6 +56,7 @@ pub fn serve_stream<
 ) -> ServedStream<C, R, M, I, O>
     requires reader { I.has_failed reader ≡ false }
     requires writer { O.has_failed writer ≡ false }
+    requires journal { C.journal ≡ None }
     ensures converses { IfOk result.ended (λ e. (moments : List ℕ)
         × AreTold K.tells clock.old clock.new 4096 e moments × (got text : List ℕ)
         × Consumes (I.remaining reader) (I.remaining result.reader) got

@@ -1,12 +1,14 @@
 //! A turn of a connection over streams that would block: it does what the connection wants as far as that goes.
-ghost use Rattle.std.specs.Prelude.{◌≡◌, ◌≢◌, ◌≤◌, ◌-◌, ◌⊎◌, [], List, ℕ, true, OnErr};
-ghost use Rattle.std.specs.Io.KnownBytes.{Appends, Consumes};
+ghost use Rattle.std.specs.Prelude.{◌≡◌, ◌≢◌, ◌≤◌, ◌-◌, ◌⊎◌, [], List, ℕ, false, true, OnErr};
+ghost use Rattle.std.specs.Io.KnownBytes.{Consumes};
 ghost use Rattle.http_wire.specs.OnConnection.{wanted};
-ghost use Rattle.http_wire.specs.Past.{HasPast, Past, gave, took};
-ghost use Rattle.tus_workers.specs.Turn.{CarriesOn, on_turn};
+ghost use Rattle.http_wire.specs.Past.{HasPast, Past, took};
+ghost use Rattle.tus_workers.specs.Turn.{CarriesOn, SendsOn, on_turn};
 ghost use Rattle.tus_workers.specs.inside.Steps.{messages_of};
 
-use http_wire::{Answer, Clock, Connection, Incoming, Tapped, Wants};
+use crate::holding::HoldsBack;
+use crate::observer::Observer;
+use http_wire::{Clock, Connection, Incoming, Tapped, Wants};
 use std::io;
 use std::io::{ErrorKind, Read, Write};
 use tus_steps::Request;
@@ -18,7 +20,7 @@ const TURN_BYTES: usize = 262_144;
 const TURN_MESSAGES: usize = 16;
 
 /// How many reads, writes and answers a turn has at most.
-const TURN_STEPS: usize = 1024;
+pub(crate) const TURN_STEPS: usize = 1024;
 
 /// For how many bytes a read asks at least. One that brings fewer has brought all that had come.
 const READ_SIZE: usize = 16_384;
@@ -32,6 +34,8 @@ pub enum Outcome {
     AwaitsRoom,
     /// A message came that may not be answered yet.
     AwaitsTurn,
+    /// A reply is pending that is held back: see [`HoldsBack`].
+    AwaitsKeeping,
     /// The turn came to its bounds. No event need tell of what is left to do, so it is to be taken up again without one.
     HasMore,
     /// The conversation is over, or had all its messages, and all of it was sent.
@@ -87,7 +91,7 @@ pub struct Share {
 
 // What one read, write or answer came to.
 #[derive(Clone, Copy, PartialEq, Eq)]
-enum Step {
+pub(crate) enum Step {
     Read(usize),
     Sent(usize),
     // A call that a signal interrupted, or a read that failed, of which the connection knows.
@@ -103,24 +107,36 @@ struct Allowed {
     answer: bool,
     // More bytes may have come than were read.
     read: bool,
+    // What is pending may be sent.
+    send: bool,
 }
 
-/// Does what a connection wants, until a read or a write would block, a message may not be answered yet, 262,144 bytes were
-/// moved, 16 messages were answered, its share was taken or all is over. A call that a signal interrupted is made again. A read that fails is told
+/// Does what a connection wants, until a read or a write would block, a message may not be answered yet, a reply is held back, 262,144 bytes were
+/// moved, 16 messages were answered, its share was taken or all is over. The observer is told of each. A call that a signal interrupted is made again. A read that fails is told
 /// to the connection, which may still owe an answer. It answers the messages of its share, each at the moment that the clock
 /// tells then; refusals and the end of the input count as messages. Where all are had, it reads no more, and is over once all
-/// was sent. The connection and the streams are as the next turn needs them.
-pub fn take_turn<R: Read + Drop, W: Write + Drop, A: Answer, K: Clock, P: Precedence>(
+/// was sent. The connection and the streams are as the next turn needs them. Where the answerer holds back its replies, nothing is
+/// written: see [`crate::send_pending`].
+pub fn take_turn<
+    R: Read + Drop,
+    W: Write + Drop,
+    A: HoldsBack,
+    K: Clock,
+    P: Precedence,
+    O: Observer,
+>(
     connection: &mut Connection,
     streams: Streams<R, W>,
     answerer: &mut A,
     clock: &mut K,
     precedence: &P,
     share: Share,
+    observer: &mut O,
 ) -> Turned<R, W>
     ensures carries { CarriesOn A.steps K.tells (share.messages - result.left)
         (on_turn connection.old answerer.old clock.old (R.remaining streams.reader) (W.contents streams.writer))
         (on_turn connection.new answerer.new clock.new (R.remaining result.streams.reader) (W.contents result.streams.writer)) }
+    ensures held { A.holds_back answerer.old ≡ true → W.contents result.streams.writer ≡ W.contents streams.writer }
     ensures bytes { result.outcome ≡ Outcome.AwaitsBytes → wanted connection.new ≡ Wants.Read }
     ensures room { result.outcome ≡ Outcome.AwaitsRoom → connection.new.outbox.pending ≢ [] }
     ensures over { result.outcome ≡ Outcome.Over → connection.new.outbox.pending ≡ [] }
@@ -132,6 +148,7 @@ pub fn take_turn<R: Read + Drop, W: Write + Drop, A: Answer, K: Clock, P: Preced
     let mut moved: usize = 0;
     let mut left = share.messages;
     let mut may_read = true;
+    let holds_back = answerer.holds_back();
     for _ in 0..TURN_STEPS {
         if is_spent(moved, share.messages.saturating_sub(left)) {
             return Turned {
@@ -144,9 +161,13 @@ pub fn take_turn<R: Read + Drop, W: Write + Drop, A: Answer, K: Clock, P: Preced
         let allowed = Allowed {
             answer: left > 0,
             read: may_read,
+            send: !holds_back,
         };
-        let (after, step) = take_step(connection, streams, answerer, clock, precedence, allowed);
+        let (after, step) = take_step(
+            connection, streams, answerer, clock, precedence, allowed, observer,
+        );
         streams = after;
+        observe_bytes(observer, step);
         if let Step::Stops(outcome) = step {
             return Turned {
                 outcome,
@@ -168,12 +189,21 @@ pub fn take_turn<R: Read + Drop, W: Write + Drop, A: Answer, K: Clock, P: Preced
 }
 
 // Whether a turn has come to its bounds.
-fn is_spent(moved: usize, answered: usize) -> bool {
+pub(crate) fn is_spent(moved: usize, answered: usize) -> bool {
     moved >= TURN_BYTES || answered >= TURN_MESSAGES
 }
 
+// Tells the observer of the bytes that a step moved.
+fn observe_bytes<O: Observer>(observer: &mut O, step: Step) {
+    match step {
+        Step::Read(count) => observer.has_read(count),
+        Step::Sent(count) => observer.has_sent(count),
+        _ => {}
+    }
+}
+
 // How many bytes a step moved.
-fn bytes_in(step: Step) -> usize {
+pub(crate) fn bytes_in(step: Step) -> usize {
     match step {
         Step::Read(count) | Step::Sent(count) => count,
         _ => 0,
@@ -199,17 +229,19 @@ fn messages_in(step: Step) -> usize
 }
 
 // Does once what a connection wants: a read, a write or an answer.
-fn take_step<R: Read + Drop, W: Write + Drop, A: Answer, K: Clock, P: Precedence>(
+fn take_step<R: Read + Drop, W: Write + Drop, A: HoldsBack, K: Clock, P: Precedence, O: Observer>(
     connection: &mut Connection,
     streams: Streams<R, W>,
     answerer: &mut A,
     clock: &mut K,
     precedence: &P,
     allowed: Allowed,
+    observer: &mut O,
 ) -> (Streams<R, W>, Step)
     ensures carries { CarriesOn A.steps K.tells (messages_of result.1)
         (on_turn connection.old answerer.old clock.old (R.remaining streams.reader) (W.contents streams.writer))
         (on_turn connection.new answerer.new clock.new (R.remaining result.0.reader) (W.contents result.0.writer)) }
+    ensures held { allowed.send ≡ false → W.contents result.0.writer ≡ W.contents streams.writer }
     ensures bytes { result.1 ≡ Step.Stops Outcome.AwaitsBytes → wanted connection.new ≡ Wants.Read }
     ensures room { result.1 ≡ Step.Stops Outcome.AwaitsRoom → connection.new.outbox.pending ≢ [] }
     ensures over { result.1 ≡ Step.Stops Outcome.Over → connection.new.outbox.pending ≡ [] }
@@ -228,6 +260,10 @@ fn take_step<R: Read + Drop, W: Write + Drop, A: Answer, K: Clock, P: Precedence
             let (reader, step) = receive(connection, reader);
             (Streams { reader, writer }, step)
         }
+        Wants::Write if !allowed.send => (
+            Streams { reader, writer },
+            Step::Stops(Outcome::AwaitsKeeping),
+        ),
         Wants::Write => {
             let (writer, step) = send(connection, writer);
             (Streams { reader, writer }, step)
@@ -237,7 +273,9 @@ fn take_step<R: Read + Drop, W: Write + Drop, A: Answer, K: Clock, P: Precedence
                 return (Streams { reader, writer }, Step::Stops(Outcome::AwaitsTurn));
             }
             let now = clock.moment();
+            observer.asks(connection);
             connection.answer(answerer, now);
+            observer.has_answered(connection);
             (Streams { reader, writer }, Step::Answered)
         }
         Wants::Nothing => (Streams { reader, writer }, Step::Stops(Outcome::Over)),
@@ -312,10 +350,9 @@ fn step_of_read(connection: &mut Connection, read: io::Result<usize>) -> Step
 }
 
 // Writes once. A write that a signal interrupted took nothing, and is made again.
-fn send<W: Write + Drop>(connection: &mut Connection, writer: W) -> (W, Step)
+pub(crate) fn send<W: Write + Drop>(connection: &mut Connection, writer: W) -> (W, Step)
     requires { connection.old.outbox.pending ≢ [] }
-    ensures gives { (p : Past) → HasPast p connection.old → (given : List ℕ)
-        × Appends (W.contents writer) (W.contents result.0) given × HasPast (gave p given) connection.new }
+    ensures gives { SendsOn connection.old connection.new (W.contents writer) (W.contents result.0) }
     ensures blocked { result.1 ≡ Step.Stops Outcome.AwaitsRoom → connection.new.outbox.pending ≢ [] }
     ensures other { (outcome : Outcome) → result.1 ≡ Step.Stops outcome → (outcome ≡ Outcome.AwaitsRoom) ⊎ (outcome ≡ Outcome.Failed) }
     ensures moves { result.1 ≢ Step.Answered }

@@ -14,13 +14,17 @@ pub struct WorkOptions {
     pub bounds: Bounds,
     /// How many bytes all workers together may hold of bodies that are half read, and of replies that are half sent.
     pub body_memory: u64,
+    /// Whether clients are served by the readiness of their streams even where each worker holds one at a time, as replies have
+    /// to be that are held back, and as a log and numbers want it.
+    pub by_readiness: bool,
 }
 
 impl WorkOptions {
-    /// Whether a worker waits for each of its clients in turn: it holds one at a time, and no bound needs a look at the clock
-    /// while it waits. Sixteen such workers can't hold more than 268,435,456 bytes of bodies.
+    /// Whether a worker waits for each of its clients in turn: it may, it holds one at a time, and no bound needs a look at the
+    /// clock while it waits. Sixteen such workers can't hold more than 268,435,456 bytes of bodies.
     pub(crate) fn waits_for_each(&self) -> bool {
-        self.at_once <= 1
+        !self.by_readiness
+            && self.at_once <= 1
             && self.bounds.message_seconds == 0
             && self.bounds.least_rate == 0
             && self.body_memory >= 268_435_456

@@ -1,8 +1,9 @@
 //! The workers of a server: each has a desk, and serves one connection after another, or many side by side.
-ghost use Rattle.std.specs.Prelude.{◌≡◌, ◌≤◌, false, All, IfSome};
+ghost use Rattle.std.specs.Prelude.{◌≡◌, ◌≤◌, false, All, IfSome, None};
 
 use crate::accept::Accept;
 use crate::commons::Commons;
+use crate::keeping::Keeping;
 use crate::machine_clock::MachineClock;
 use crate::stream::{ServedStream, serve_stream};
 use crate::sweeping::sweep_expired;
@@ -37,7 +38,9 @@ const REST_READS: usize = 4096;
 /// say. Where it holds one at a time and has no bound but the idle one, it waits for each in turn; else it serves those that
 /// are there side by side. After each accept it ends the uploads that have expired, where there may be some.
 /// A fault of a connection ends that connection alone. Where a worker that waits fails to accept, or one of many clients has no
-/// memory for them, it ends, and says so on standard error.
+/// memory for them, it ends, and says so on standard error. Where changes are journalled each worker serves its clients side by
+/// side, and no reply is sent before `keeping` has kept all that its desk has seen; where it can keep nothing more, all workers
+/// end.
 pub fn work_all<
     A: Accept + Send,
     C: Charges + Send + Sync,
@@ -45,10 +48,12 @@ pub fn work_all<
     M: Ledger + Send + Sync,
     H: Threads + Wait + Eprint + time::Clock + Sync,
     B: Wait + Drop + Send,
+    K: Keeping<C, R, M, B> + Sync,
 >(
     rt: &H,
     alloc: Global,
     shared: &Shared<C, R, M, B>,
+    keeping: &K,
     workers: &mut [Worker<C, R, M, A>],
     options: WorkOptions,
     commons: &Commons,
@@ -63,6 +68,7 @@ pub fn work_all<
         rt,
         alloc,
         shared,
+        keeping,
         options,
         commons,
     };
@@ -76,22 +82,32 @@ pub fn work_all<
 
 /// What the workers of a server share.
 #[derive(Drop)]
-pub(crate) struct Workers<'a, C: Charges, R: Ledger, M: Ledger, H, B: Wait + Drop> {
+pub(crate) struct Workers<
+    'a,
+    C: Charges,
+    R: Ledger,
+    M: Ledger,
+    H,
+    B: Wait + Drop,
+    K: Keeping<C, R, M, B>,
+> {
     pub(crate) rt: &'a H,
     pub(crate) alloc: Global,
     pub(crate) shared: &'a Shared<C, R, M, B>,
+    pub(crate) keeping: &'a K,
     pub(crate) options: WorkOptions,
     pub(crate) commons: &'a Commons,
 }
 
-impl<'a, C: Charges, R: Ledger, M: Ledger, H: Wait + Eprint + time::Clock, B: Wait + Drop> Workers<
+impl<
     'a,
-    C,
-    R,
-    M,
-    H,
-    B,
-> {
+    C: Charges,
+    R: Ledger,
+    M: Ledger,
+    H: Wait + Eprint + time::Clock,
+    B: Wait + Drop,
+    K: Keeping<C, R, M, B>,
+> Workers<'a, C, R, M, H, B, K> {
     /// Accepts as many connections as the options say, and serves them, as [`work_all`] says.
     pub(crate) fn work<A: Accept>(&self, number: usize, worker: &mut Worker<C, R, M, A>)
         requires alive { A.has_failed worker.old.acceptor ≡ false }
@@ -101,17 +117,18 @@ impl<'a, C: Charges, R: Ledger, M: Ledger, H: Wait + Eprint + time::Clock, B: Wa
         ensures most { A.accepted worker.new.acceptor ≤ self.now.options.connections }
     {
         self.commons.begin();
-        if self.options.waits_for_each() {
+        if self.options.waits_for_each() && worker.desk.journal().is_none() {
             self.work_in_turn(worker);
         } else {
             self.work_at_once(number, worker);
         }
     }
 
-    // Accepts one connection after another, and serves it.
+    // Accepts one connection after another, and serves it. Nothing is journalled.
     fn work_in_turn<A: Accept>(&self, worker: &mut Worker<C, R, M, A>)
         requires alive { A.has_failed worker.old.acceptor ≡ false }
         requires new { A.accepted worker.old.acceptor ≡ 0 }
+        requires journal { C.journal ≡ None }
         ensures all { A.has_failed worker.new.acceptor ≡ false
             → A.accepted worker.new.acceptor ≡ self.now.options.connections }
         ensures most { A.accepted worker.new.acceptor ≤ self.now.options.connections }
@@ -125,7 +142,7 @@ impl<'a, C: Charges, R: Ledger, M: Ledger, H: Wait + Eprint + time::Clock, B: Wa
                 );
                 return;
             };
-            sweep_expired(self.rt, &mut worker.desk, self.shared, clock.moment());
+            let _ = sweep_expired(self.rt, &mut worker.desk, self.shared, clock.moment());
             buffers = replace_with(&mut worker.desk, buffers, |desk, buffers| {
                 self.attend(&stream, desk, buffers, &mut clock)
             });
@@ -141,6 +158,7 @@ impl<'a, C: Charges, R: Ledger, M: Ledger, H: Wait + Eprint + time::Clock, B: Wa
         buffers: Option<Buffers>,
         clock: &mut MachineClock<'a, H>,
     ) -> (Desk<C, R, M>, Option<Buffers>)
+        requires journal { C.journal ≡ None }
         ensures { IfSome result.1 (λ buffers. buffers.inbox.room ≤ 2097152) }
     {
         let buffers = match buffers {

@@ -17,7 +17,8 @@ use std::time::Duration;
 use std::{io, time};
 use tus_shared::{Charges, Opened, Shared, settle};
 use tus_workers::{
-    Bounds, Commons, Listener, SocketListener, WorkOptions, any_failed, dismiss, hire, work_all,
+    Bounds, Commons, Listener, NoJournal, SocketListener, WorkOptions, any_failed, dismiss, hire,
+    work_all,
 };
 use upload_book::Settings;
 
@@ -87,9 +88,10 @@ fn serve_all<
     requires released { (released.name ≡ R.name) × (released.parts ≡ R.parts) × (R.parts ≡ 16) }
     requires made { (made.name ≡ M.name) × (made.parts ≡ M.parts) × (M.parts ≡ 16) }
     requires log { events.seen.book ≡ C.log }
+    requires journal { C.journal ≡ None }
 {
     let (shared, desks) = Shared::<C, R, M, &W>::open(
-        rt, alloc, settings, 1, charged, released, made, events,
+        rt, alloc, settings, 1, charged, released, made, events, None,
     )?;
     let listener = SocketListener::listen(rt, SocketAddr::from((Ipv4Addr::LOCALHOST, 0)))?;
     let mut clients = Vec::new(alloc);
@@ -109,6 +111,7 @@ fn serve_all<
             least_rate: 1,
         },
         body_memory: 268_435_456,
+        by_readiness: false,
     };
     let mut commons = Commons::new(alloc, 1, &options)?;
     commons.watch(rt)?;
@@ -117,6 +120,7 @@ fn serve_all<
         rt,
         alloc,
         &shared,
+        &NoJournal,
         workers.as_mut_slice(),
         options,
         &commons,

@@ -10,15 +10,15 @@ use std::io::{ErrorKind, Read, Write};
 use std::process::Abort;
 use std::test::Fail;
 use tus_steps::Request;
-use tus_workers::{AsTheyCome, Attended, Busy, Outcome, Precedence, Streams, Turned};
+use tus_workers::{AsTheyCome, Attended, Busy, Outcome, Precedence, Streams, Turned, Unwatched};
 use upload_book::Book;
 
 /// A reader of some bytes, which would block before each piece of them, and at their end.
 #[derive(Drop)]
-struct Arriving<'a> {
-    rest: &'a [u8],
-    piece: usize,
-    has_blocked: bool,
+pub(crate) struct Arriving<'a> {
+    pub rest: &'a [u8],
+    pub piece: usize,
+    pub has_blocked: bool,
 }
 
 impl Read for Arriving<'_> {
@@ -37,10 +37,10 @@ impl Read for Arriving<'_> {
 
 /// A writer that keeps what is written, and would block before each piece. It fails where no piece has a byte.
 #[derive(Drop)]
-struct Leaving {
-    written: Vec<u8>,
-    piece: usize,
-    has_blocked: bool,
+pub(crate) struct Leaving {
+    pub written: Vec<u8>,
+    pub piece: usize,
+    pub has_blocked: bool,
 }
 
 impl Write for Leaving {
@@ -115,6 +115,7 @@ impl<'a> Client<'a> {
                 &mut clock,
                 &AsTheyCome,
                 false,
+                &mut Unwatched,
             );
             let Turned {
                 outcome: after,
@@ -127,7 +128,11 @@ impl<'a> Client<'a> {
                 Outcome::HasMore => rounds = u64::saturating_add(rounds, 1),
                 Outcome::AwaitsBytes if streams.reader.rest.is_empty() => break,
                 Outcome::AwaitsBytes | Outcome::AwaitsRoom => {}
-                Outcome::AwaitsTurn | Outcome::Over | Outcome::Failed | Outcome::NoMemory => break,
+                Outcome::AwaitsTurn
+                | Outcome::AwaitsKeeping
+                | Outcome::Over
+                | Outcome::Failed
+                | Outcome::NoMemory => break,
             }
         }
         Client {
@@ -141,7 +146,12 @@ impl<'a> Client<'a> {
 }
 
 /// One text of the first parts and then of so many of the last.
-fn text_of(alloc: Global, parts: &[&[u8]], last: &[u8], times: usize) -> Result<Vec<u8>, Fail> {
+pub(crate) fn text_of(
+    alloc: Global,
+    parts: &[&[u8]],
+    last: &[u8],
+    times: usize,
+) -> Result<Vec<u8>, Fail> {
     let mut text = Vec::new(alloc);
     for part in parts {
         text.extend_from_slice(part)?;
@@ -261,6 +271,7 @@ fn a_message_waits_for_its_turn(rt: HostRuntime) -> Result<(), Fail> {
             &mut clock,
             &after,
             false,
+            &mut Unwatched,
         );
         outcomes.push(turned.outcome)?;
         streams = turned.streams;

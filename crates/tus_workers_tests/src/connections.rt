@@ -20,7 +20,8 @@ use std::time::Duration;
 use std::{io, time};
 use tus_shared::{Charges, Opened, Shared, settle};
 use tus_workers::{
-    Bounds, Commons, Listener, SocketListener, WorkOptions, any_failed, dismiss, hire, work_all,
+    Bounds, Commons, Listener, NoJournal, SocketListener, WorkOptions, any_failed, dismiss, hire,
+    work_all,
 };
 use upload_book::{Book, Name, Settings};
 
@@ -93,9 +94,10 @@ where
     requires released { (released.name ≡ R.name) × (released.parts ≡ R.parts) × (R.parts ≡ 16) }
     requires made { (made.name ≡ M.name) × (made.parts ≡ M.parts) × (M.parts ≡ 16) }
     requires log { events.seen.book ≡ C.log }
+    requires journal { C.journal ≡ None }
 {
     let (shared, desks) = Shared::<C, R, M, &W>::open(
-        rt, alloc, settings, 2, charged, released, made, events,
+        rt, alloc, settings, 2, charged, released, made, events, None,
     )?;
     let listener = L::listen(rt, SocketAddr::from((Ipv4Addr::LOCALHOST, 0)))?;
     let acme = client(rt, listener.place().port(), &[POST, PATCH])?;
@@ -111,6 +113,7 @@ where
             least_rate: 0,
         },
         body_memory: 268_435_456,
+        by_readiness: false,
     };
     let mut commons = Commons::new(alloc, 2, &options)?;
     commons.watch(rt)?;
@@ -118,6 +121,7 @@ where
         rt,
         alloc,
         &shared,
+        &NoJournal,
         workers.as_mut_slice(),
         options,
         &commons,

@@ -10,6 +10,8 @@ mod attended;
 #[cfg(test)]
 mod connections;
 #[cfg(test)]
+mod held_back;
+#[cfg(test)]
 mod opening;
 #[cfg(test)]
 mod paces;

@@ -141,7 +141,9 @@ fn serve_row<C: Charges, R: Ledger, M: Ledger, W: Wait + Abort>(
     desk: Desk<C, R, M>,
     buffers: Buffers,
     row: &Row,
-) -> (Desk<C, R, M>, Buffers) {
+) -> (Desk<C, R, M>, Buffers)
+    requires journal { C.journal ≡ None }
+{
     let reader = Tapped::new(Input {
         pieces: row.pieces,
         next: 0,
@@ -185,9 +187,10 @@ fn serve_rows<C: Charges, R: Ledger, M: Ledger, W: Wait + Abort>(
     requires released { (released.name ≡ R.name) × (released.parts ≡ R.parts) × (R.parts ≡ 16) }
     requires made { (made.name ≡ M.name) × (made.parts ≡ M.parts) × (M.parts ≡ 16) }
     requires log { events.seen.book ≡ C.log }
+    requires journal { C.journal ≡ None }
 {
     let (shared, mut desks) = Shared::<C, R, M, &W>::open(
-        rt, alloc, settings, 1, charged, released, made, events,
+        rt, alloc, settings, 1, charged, released, made, events, None,
     )?;
     let mut served = (desks.pop().ok_or("a desk")?, Buffers::new(alloc)?);
     for row in rows {

@@ -11,14 +11,15 @@ pub returns : goal.returns
 returns c =
     let rows = rows_of (found_of c.args.found.now) in
     let place = c.in_ok-address.ensures ∙ first_value-rows (found_of c.args.found.now) (codes "address") in
-    ap (option_map serve) (serve_arguments-some rows _ _ _ _ _ _ c.numbers_of.ensures place c.in_ok-work.ensures c.in_ok-port.ensures c.in_ok-workers.ensures.given
+    ap (option_map serve) (serve_arguments-some rows _ _ _ _ _ _ _ _ _ c.numbers_of.ensures place c.in_ok-work.ensures c.in_ok-port.ensures c.in_ok-workers.ensures.given
+    c.text_given-journal.ensures c.text_given-log.ensures c.in_ok-metrics.ensures
     (c.in_ok-get_strs.ensures ∙ raw_values-rows (found_of c.args.found.now) (codes "tenant")))
 
 pub returns-in_err-get_strs : goal.returns-in_err-get_strs
 returns-in_err-get_strs c =
     let place = c.in_ok-address.ensures ∙ first_value-rows (found_of c.args.found.now) (codes "address") in
-    rw c.from_residual-in_err-get_strs.ensures (ap (option_map serve) (serve_arguments-none (rows_of (found_of c.args.found.now)) _ _ _ _ place c.in_ok-work.ensures c.in_ok-port.ensures c.in_ok-workers.ensures.given
-    (c.in_err-get_strs.ensures ∙ raw_values-rows (found_of c.args.found.now) (codes "tenant"))))
+    rw c.from_residual-in_err-get_strs.ensures (ap (option_map serve) (serve_arguments-none (rows_of (found_of c.args.found.now)) _ _ _ _ _ place c.in_ok-work.ensures c.in_ok-port.ensures c.in_ok-workers.ensures.given
+    c.in_ok-metrics.ensures (c.in_err-get_strs.ensures ∙ raw_values-rows (found_of c.args.found.now) (codes "tenant"))))
 
 pub returns-in_err-address : goal.returns-in_err-address
 returns-in_err-address c =

@@ -1,8 +1,9 @@
+use Rattle.std.proofs.Common.{None}
 use Rattle.tus_server.proofs.serve.serve.Given as goal
 
 -- the ledgers of this opening
 abbrev pub ghosts-serve_with-C-Charges : goal.ghosts-serve_with-C-Charges
-ghosts-serve_with-C-Charges g a = record { settings = a.settings; desks = a.options.now.workers; log = a.events.seen.book }
+ghosts-serve_with-C-Charges g a = record { settings = a.settings; desks = a.options.now.workers; log = a.events.seen.book; journal = None }
 
 abbrev pub ghosts-serve_with-C-Ledger : goal.ghosts-serve_with-C-Ledger
 ghosts-serve_with-C-Ledger g a = record { name = a.charged.name; parts = a.charged.parts }

@@ -1,7 +1,8 @@
+use Rattle.std.proofs.Common.{None}
 use Rattle.tus_shared_tests.proofs.batches.sixteen_desks_at_one_upload.Given as goal
 
 abbrev pub ghosts-race-C-Charges : goal.ghosts-race-C-Charges
-ghosts-race-C-Charges g a = record { settings = a.settings; desks = 16; log = a.events.seen.book }
+ghosts-race-C-Charges g a = record { settings = a.settings; desks = 16; log = a.events.seen.book; journal = None }
 
 abbrev pub ghosts-race-C-Ledger : goal.ghosts-race-C-Ledger
 ghosts-race-C-Ledger g a = record { name = a.charged.name; parts = a.charged.parts }

@@ -1,7 +1,8 @@
+use Rattle.std.proofs.Common.{None}
 use Rattle.tus_shared_tests.proofs.batches.two_desks_work_at_once.Given as goal
 
 abbrev pub ghosts-work_at_once-C-Charges : goal.ghosts-work_at_once-C-Charges
-ghosts-work_at_once-C-Charges g a = record { settings = a.settings; desks = 2; log = a.events.seen.book }
+ghosts-work_at_once-C-Charges g a = record { settings = a.settings; desks = 2; log = a.events.seen.book; journal = None }
 
 abbrev pub ghosts-work_at_once-C-Ledger : goal.ghosts-work_at_once-C-Ledger
 ghosts-work_at_once-C-Ledger g a = record { name = a.charged.name; parts = a.charged.parts }

@@ -1,7 +1,8 @@
+use Rattle.std.proofs.Common.{None}
 use Rattle.tus_shared_tests.proofs.memory.takes_no_memory_after_the_opening.Given as goal
 
 abbrev pub ghosts-serve_twenty-C-Charges : goal.ghosts-serve_twenty-C-Charges
-ghosts-serve_twenty-C-Charges g a = record { settings = a.settings; desks = 1; log = a.events.seen.book }
+ghosts-serve_twenty-C-Charges g a = record { settings = a.settings; desks = 1; log = a.events.seen.book; journal = None }
 
 abbrev pub ghosts-serve_twenty-C-Ledger : goal.ghosts-serve_twenty-C-Ledger
 ghosts-serve_twenty-C-Ledger g a = record { name = a.charged.name; parts = a.charged.parts }

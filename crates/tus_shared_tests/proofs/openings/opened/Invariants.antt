@@ -1,7 +1,8 @@
+use Rattle.std.proofs.Common.{None}
 use Rattle.tus_shared_tests.proofs.openings.opened.Given as goal
 
 abbrev pub ghosts-open-C-Charges : goal.ghosts-open-C-Charges
-ghosts-open-C-Charges g a = record { settings = a.settings; desks = a.desks; log = a.events.seen.book }
+ghosts-open-C-Charges g a = record { settings = a.settings; desks = a.desks; log = a.events.seen.book; journal = None }
 
 abbrev pub ghosts-open-C-Ledger : goal.ghosts-open-C-Ledger
 ghosts-open-C-Ledger g a = record { name = a.charged.name; parts = a.charged.parts }

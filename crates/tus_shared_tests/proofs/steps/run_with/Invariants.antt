@@ -1,7 +1,8 @@
+use Rattle.std.proofs.Common.{None}
 use Rattle.tus_shared_tests.proofs.steps.run_with.Given as goal
 
 abbrev pub ghosts-settle_after-C-Charges : goal.ghosts-settle_after-C-Charges
-ghosts-settle_after-C-Charges g a = record { settings = a.settings; desks = 2; log = a.events.seen.book }
+ghosts-settle_after-C-Charges g a = record { settings = a.settings; desks = 2; log = a.events.seen.book; journal = None }
 
 abbrev pub ghosts-settle_after-C-Ledger : goal.ghosts-settle_after-C-Ledger
 ghosts-settle_after-C-Ledger g a = record { name = a.charged.name; parts = a.charged.parts }

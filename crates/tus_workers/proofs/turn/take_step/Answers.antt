@@ -11,6 +11,10 @@ returns-in-Read-2-clause-carries g c =
 
 pub returns-in-Write-clause-carries : goal.returns-in-Write-clause-carries
 returns-in-Write-clause-carries g c =
+    CarriesOn-same g.A.Answer.steps g.K.Clock.tells _ _ _ _ _ _ c.wants_now.ensures.past
+
+pub returns-in-Write-2-clause-carries : goal.returns-in-Write-2-clause-carries
+returns-in-Write-2-clause-carries g c =
     CarriesOn-gave g.A.Answer.steps g.K.Clock.tells _ _ _ _ _ _ _ _ (λ p h. c.send-writer.ensures.gives p (c.wants_now.ensures.past p h)) (none-answered _ c.send-writer.ensures.moves)
 
 pub returns-then-not-may_pass-clause-carries : goal.returns-then-not-may_pass-clause-carries

@@ -6,6 +6,7 @@ use Rattle.tus_workers.proofs.turn.take_turn.Goals as goal
 pub loop-init : goal.loop-init
 loop-init g c = record {
   carries = CarriesOn-none g.A.Answer.steps g.K.Clock.tells _ _ _ _ _ _ (omega arith);
+  held = λ holds. refl;
   left = omega arith;
   size = refl;
 }
@@ -18,6 +19,7 @@ pub loop-preserved : goal.loop-preserved
 loop-preserved g c = record {
   carries = CarriesOn-then g.A.Answer.steps g.K.Clock.tells _ _ _ _ _ _
       (omega (arith, c.messages_in.ensures, left-after _ _ _ c.loop.invariant.left c.take_step-after.ensures.allowed)) c.loop.invariant.carries c.take_step-after.ensures.carries;
+  held = λ holds. c.take_step-after.ensures.held (rw holds refl) ∙ c.loop.invariant.held holds;
   left = search (rules, arith);
   size = c.take_step-after.ensures.size ∙ c.loop.invariant.size;
 }

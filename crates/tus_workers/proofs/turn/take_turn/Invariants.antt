@@ -1,4 +1,4 @@
-use Rattle.std.proofs.Common.{◌≡◌, ◌≤◌, ◌-◌}
+use Rattle.std.proofs.Common.{◌≡◌, ◌≤◌, ◌-◌, true}
 use Rattle.tus_workers.specs.Turn.{CarriesOn, on_turn}
 use Rattle.tus_workers.proofs.turn.take_turn.Given as goal
 
@@ -8,6 +8,7 @@ invariant-loop g l = record {
   carries : CarriesOn g.A.Answer.steps g.K.Clock.tells (l.fn.share.messages - l.left)
       (on_turn l.fn.connection l.fn.answerer l.fn.clock (g.R.Read.remaining l.fn.streams.reader) (g.W.Write.contents l.fn.streams.writer))
       (on_turn l.connection l.answerer l.clock (g.R.Read.remaining l.streams.reader) (g.W.Write.contents l.streams.writer));
+  held : l.holds_back ≡ true → g.W.Write.contents l.streams.writer ≡ g.W.Write.contents l.fn.streams.writer;
   left : l.left ≤ l.fn.share.messages;
   size : l.connection.max_size ≡ l.fn.connection.max_size;
 }

@@ -1,7 +1,8 @@
+use Rattle.std.proofs.Common.{None}
 use Rattle.tus_workers_tests.proofs.streams.serve.Given as goal
 
 abbrev pub ghosts-serve_rows-C-Charges : goal.ghosts-serve_rows-C-Charges
-ghosts-serve_rows-C-Charges g a = record { settings = a.settings; desks = 1; log = a.events.seen.book }
+ghosts-serve_rows-C-Charges g a = record { settings = a.settings; desks = 1; log = a.events.seen.book; journal = None }
 
 abbrev pub ghosts-serve_rows-C-Ledger : goal.ghosts-serve_rows-C-Ledger
 ghosts-serve_rows-C-Ledger g a = record { name = a.charged.name; parts = a.charged.parts }

@@ -15,7 +15,7 @@ returns g c =
     let s = g.C.Charges.settings in
     let blocks = blocks_of c.self.inside.book in
     let events = c.self.inside.board.events in
-    let at = c.self.invariant.at in
+    let at = c.self.invariant.0.at in
     let holds : HoldsBook blocks (book_at s events) = subst (HoldsBook blocks) at.is c.tell_blocks.ensures.blocks in
     let lawful : IsLawful (book_at s events) = subst IsLawful at.is c.tell_blocks.ensures.lawful in
     rw (← c.self.view_is) (record {

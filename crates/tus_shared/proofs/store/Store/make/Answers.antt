@@ -1,82 +1,178 @@
-use Rattle.std.proofs.Common.{ap, refl, sym, subst, ◌∙◌, arith}
+use Rattle.std.proofs.Common.{◌≡◌, ◌++◌, ◌∷◌, [], List, ℕ, ◌+◌, Bool, true, false, Option, IsSome, ap, refl, rules, sym, subst, inl, ◌∙◌}
 use Rattle.upload_book.specs.Lawful.{IsLawful}
-use Rattle.upload_book.specs.PlainBook.{PlainBook}
-use Rattle.head_board.specs.Board.{BoardView, ReaderView}
-use Rattle.head_board.specs.Events.{HaveHappened}
-use Rattle.tus_shared.proofs.ChangeLemmas.{no-less, shown-at, shown-one}
-use Rattle.tus_shared.proofs.EventLemmas.{at-settings}
+use Rattle.head_board.specs.Event.{Event}
+use Rattle.head_board.specs.Events.{book_at}
+use Rattle.tus_shared.specs.Desk.{Desk}
+use Rattle.tus_shared.specs.Journal.{journal_len}
+use Rattle.tus_shared.specs.Steps.{IsNextEvent}
+use Rattle.tus_shared.specs.inside.QueueRule.{IsQueued, QueueView}
+use Rattle.tus_shared.proofs.ChangeLemmas.{done-made, done-refused, done-unkept, event_by}
+use Rattle.tus_shared.proofs.QueueLemmas.{frame-given, framed-spares, framed-spends, queue-journal, queue-on, queue-stays, spends-one}
+use Rattle.tus_shared.proofs.ReadyLemmas.{accepted-as}
 use Rattle.tus_shared.proofs.store.Store.make.Goals as goal
+
+pub prepare-requires : goal.prepare-requires
+prepare-requires g c = rw c.self.invariant.0.settings c.requires.change
+
+pub invariant_of-self : goal.invariant_of-self
+invariant_of-self g c = (rw c.prepare.ensures.plain c.self.invariant.0, c.self.invariant.1)
+
+pub returns-in-Err-clause-happened : goal.returns-in-Err-clause-happened
+returns-in-Err-clause-happened g c = rw (← c.self.view_is) c.self.invariant.0.at.happened
+
+pub returns-in-Err-clause-stays_happened : goal.returns-in-Err-clause-stays_happened
+returns-in-Err-clause-stays_happened g c = c.self.invariant.0.at.happened
+
+pub returns-in-Err-clause-lawful : goal.returns-in-Err-clause-lawful
+returns-in-Err-clause-lawful g c = rw (← c.self.view_is) (subst IsLawful c.self.invariant.0.at.is c.settings-lawful.ensures.lawful)
+
+pub returns-in-Err-clause-stays_lawful : goal.returns-in-Err-clause-stays_lawful
+returns-in-Err-clause-stays_lawful g c = subst IsLawful c.self.invariant.0.at.is c.settings-lawful.ensures.lawful
+
+pub returns-in-Err-clause-done : goal.returns-in-Err-clause-done
+returns-in-Err-clause-done g c =
+    let b = book_at g.C.Charges.settings c.self.inside.board.events in
+    rw (← c.self.view_is) (done-refused c.args.desk.now.journal b c.self.inside.board.events c.args.desk.now.number c.args.change c.args.now c.in-Err.refused (rw c.self.invariant.0.at.is at c.in-Err.ensures.refused))
+
+pub returns-in-Err-clause-moves : goal.returns-in-Err-clause-moves
+returns-in-Err-clause-moves g c = rw (← c.self.view_is) (record { number = refl; journal = refl; kept = refl; charged = refl; released = refl; made = refl })
+
+pub returns-in-Err-clause-spends : goal.returns-in-Err-clause-spends
+returns-in-Err-clause-spends g c = rw (← c.self.view_is) refl
+
+pub returns-in-Err-clause-seen : goal.returns-in-Err-clause-seen
+returns-in-Err-clause-seen g c = c.requires.seen ∙ sym c.self.view_is
+
+pub invariant_of-self-then-not-queue_frame : goal.invariant_of-self-then-not-queue_frame
+invariant_of-self-then-not-queue_frame g c =
+    let no_place : c.queue_frame.result ≡ false = search rules in
+    let framed = rw no_place at c.queue_frame.ensures in
+    let stays = queue-stays _ c.self.inside.queue c.queue_frame.new.queue c.desk.inside.room c.spare_for-spare.result c.queue_frame.new.room framed in (
+      rw c.prepare.ensures.plain c.self.invariant.0,
+      subst (λ (q : Option QueueView). IsQueued g.C.Charges.journal g.C.Charges.log c.self.inside.board.events q) (sym stays.0) c.self.invariant.1,
+    )
+
+pub invariant_of-desk : goal.invariant_of-desk
+invariant_of-desk g c = c.desk.invariant
+
+pub returns-then-not-queue_frame-clause-happened : goal.returns-then-not-queue_frame-clause-happened
+returns-then-not-queue_frame-clause-happened g c = rw (← c.self.view_is) c.self.invariant.0.at.happened
+
+pub returns-then-not-queue_frame-clause-stays_happened : goal.returns-then-not-queue_frame-clause-stays_happened
+returns-then-not-queue_frame-clause-stays_happened g c = c.self.invariant.0.at.happened
+
+pub returns-then-not-queue_frame-clause-lawful : goal.returns-then-not-queue_frame-clause-lawful
+returns-then-not-queue_frame-clause-lawful g c = rw (← c.self.view_is) (subst IsLawful c.self.invariant.0.at.is c.settings-lawful.ensures.lawful)
+
+pub returns-then-not-queue_frame-clause-stays_lawful : goal.returns-then-not-queue_frame-clause-stays_lawful
+returns-then-not-queue_frame-clause-stays_lawful g c = subst IsLawful c.self.invariant.0.at.is c.settings-lawful.ensures.lawful
+
+pub returns-then-not-queue_frame-clause-done : goal.returns-then-not-queue_frame-clause-done
+returns-then-not-queue_frame-clause-done g c =
+    let no_place : c.queue_frame.result ≡ false = search rules in
+    let framed = rw no_place at c.queue_frame.ensures in
+    let stays = queue-stays _ c.self.inside.queue c.queue_frame.new.queue c.desk.inside.room c.spare_for-spare.result c.queue_frame.new.room framed in
+    let events = c.self.inside.board.events in
+    let b = book_at g.C.Charges.settings events in
+    let there = queue-journal g.C.Charges.journal g.C.Charges.log events c.self.inside.queue c.self.invariant.1 stays.2 in
+    let journalled = subst (λ (j : Option ℕ). IsSome j) (sym c.desk.invariant.journal_is) there in
+    let accepted = accepted-as b c.prepare.new.self c.in-Ok.ready c.args.change c.args.now (c.prepare.ensures.plain ∙ c.self.invariant.0.at.is) c.in-Ok.ensures.change c.in-Ok.ensures.now c.in-Ok.ensures.ready in
+    rw (← c.self.view_is, ← c.desk.view_is) (done-unkept c.desk.inside.journal b events c.desk.inside.number c.args.change c.args.now journalled accepted)
+
+pub returns-then-not-queue_frame-clause-moves : goal.returns-then-not-queue_frame-clause-moves
+returns-then-not-queue_frame-clause-moves g c = rw (← c.self.view_is, ← c.desk.view_is) (record { number = refl; journal = refl; kept = refl; charged = refl; released = refl; made = refl })
+
+pub returns-then-not-queue_frame-clause-spends : goal.returns-then-not-queue_frame-clause-spends
+returns-then-not-queue_frame-clause-spends g c =
+    let no_place : c.queue_frame.result ≡ false = search rules in
+    let framed = rw no_place at c.queue_frame.ensures in
+    let stays = queue-stays _ c.self.inside.queue c.queue_frame.new.queue c.desk.inside.room c.spare_for-spare.result c.queue_frame.new.room framed in
+    rw (← c.self.view_is, ← c.desk.view_is) (ap (λ (n : ℕ). n + journal_len c.desk.inside.journal c.self.inside.board.events) stays.1)
+
+pub returns-then-not-queue_frame-clause-seen : goal.returns-then-not-queue_frame-clause-seen
+returns-then-not-queue_frame-clause-seen g c = ap (λ (d : Desk). d.seen) c.desk.view_is ∙ c.requires.seen ∙ sym c.self.view_is
+
+pub returns-then-not-queue_frame-clause-steps : goal.returns-then-not-queue_frame-clause-steps
+returns-then-not-queue_frame-clause-steps g c = ap (λ (d : Desk). d.steps) c.desk.view_is
+
+pub returns-then-not-queue_frame-clause-missed : goal.returns-then-not-queue_frame-clause-missed
+returns-then-not-queue_frame-clause-missed g c = ap (λ (d : Desk). d.missed) c.desk.view_is
+
+pub invariant_of-desk-2 : goal.invariant_of-desk-2
+invariant_of-desk-2 g c = c.desk.invariant
+
+pub make_ready-requires-clause-ready : goal.make_ready-requires-clause-ready
+make_ready-requires-clause-ready g c = c.in-Ok.ensures.ready
+
+pub make_ready-requires-clause-store : goal.make_ready-requires-clause-store
+make_ready-requires-clause-store g c = rw c.prepare.ensures.plain c.self.invariant.0
 
 pub invariant_of-self-2 : goal.invariant_of-self-2
 invariant_of-self-2 g c =
-    let s = g.C.Charges.settings in
-    let old = c.self.invariant in
-    let shown = c.show_note.ensures.shown in
-    let told = c.show_note.ensures.line in
-    let after = c.commit-outcome.ensures.after in
-    let at = shown-at s _ _ _ _ _ _ _ old.at c.prepare.ensures.plain told.1 shown after in
-    let n = no-less _ _ _ _ told.1 after in
-    record {
-      settings = ap (λ (b : PlainBook). b.settings) at.is ∙ at-settings s c.show_note.new.board.events;
-      board_settings = ap (λ (v : BoardView). v.settings) shown ∙ old.board_settings;
-      board_log = ap (λ (v : BoardView). v.log) shown ∙ old.board_log;
-      at = at;
-      charged = record {
-        total = omega (arith, n.charged, ap (λ (b : PlainBook). b.charged) c.prepare.ensures.plain, old.charged.total, c.add.ensures.total, c.charged_total-charged.ensures.value, c.charged_total.ensures.value);
-        parts = old.charged.parts;
-        rest = old.charged.rest;
-      };
-      released = record {
-        total = omega (arith, n.released, ap (λ (b : PlainBook). b.released) c.prepare.ensures.plain, old.released.total, c.add-2.ensures.total, c.released_total-released.ensures, c.released_total.ensures);
-        parts = old.released.parts;
-        rest = old.released.rest;
-      };
-      made = record {
-        total = omega (arith, c.add-3.ensures.total, old.made.total, shown-one _ _ _ shown);
-        parts = old.made.parts;
-        rest = old.made.rest;
-      };
-    }
+    let journal = g.C.Charges.journal in
+    let events = c.self.inside.board.events in
+    let after = c.make_ready.new.board.events in
+    let number = c.desk.inside.number in
+    let place : c.queue_frame.result ≡ true = search rules in
+    let framed = rw place at c.queue_frame.ensures in
+    let given = frame-given c.args.frame (λ f. f.items) journal number c.args.change c.args.now c.requires.frame in
+    let next : IsNextEvent events number c.args.change c.args.now after = rw (c.in-Ok.ensures.change, c.in-Ok.ensures.now) at c.make_ready.ensures.next in (
+      c.make_ready.ensures.store,
+      queue-on journal g.C.Charges.log events after (event_by number c.args.change c.args.now) _ c.self.inside.queue c.queue_frame.new.queue c.desk.inside.room c.spare_for-spare.result c.queue_frame.new.room framed given next c.self.invariant.1,
+    )
 
-pub invariant_of-desk : goal.invariant_of-desk
-invariant_of-desk g c =
-    let s = g.C.Charges.settings in
-    let i = c.desk.invariant in
-    let at = shown-at s _ _ _ _ _ _ _ c.self.invariant.at c.prepare.ensures.plain c.show_note.ensures.line.1 c.show_note.ensures.shown c.commit-outcome.ensures.after in
-    let seen = c.show_to.ensures.seen in
-    record {
-      settings_are = i.settings_are;
-      reader_settings = ap (λ (v : ReaderView). v.settings) seen ∙ i.reader_settings;
-      reader_log = ap (λ (v : ReaderView). v.log) seen ∙ i.reader_log;
-      happened = subst (λ (v : ReaderView). HaveHappened s v.events) (sym seen) at.happened;
-      charged_part = c.add.ensures.parts ∙ i.charged_part;
-      released_part = c.add-2.ensures.parts ∙ i.released_part;
-      made_part = c.add-3.ensures.parts ∙ i.made_part;
-    }
+pub returns-clause-happened : goal.returns-clause-happened
+returns-clause-happened g c = rw (← c.self.view_is) c.self.invariant.0.at.happened
 
 pub returns-clause-stays_happened : goal.returns-clause-stays_happened
-returns-clause-stays_happened g c =
-    let at = shown-at g.C.Charges.settings _ _ _ _ _ _ _ c.self.invariant.at c.prepare.ensures.plain c.show_note.ensures.line.1 c.show_note.ensures.shown c.commit-outcome.ensures.after in
-    at.happened
+returns-clause-stays_happened g c = c.make_ready.ensures.store.at.happened
+
+pub returns-clause-lawful : goal.returns-clause-lawful
+returns-clause-lawful g c = rw (← c.self.view_is) (subst IsLawful c.self.invariant.0.at.is c.settings-lawful.ensures.lawful)
 
 pub returns-clause-stays_lawful : goal.returns-clause-stays_lawful
-returns-clause-stays_lawful g c =
-    let at = shown-at g.C.Charges.settings _ _ _ _ _ _ _ c.self.invariant.at c.prepare.ensures.plain c.show_note.ensures.line.1 c.show_note.ensures.shown c.commit-outcome.ensures.after in
-    subst IsLawful at.is c.charged_total.ensures.lawful
+returns-clause-stays_lawful g c = c.make_ready.ensures.lawful
+
+pub returns-clause-done : goal.returns-clause-done
+returns-clause-done g c =
+    let events = c.self.inside.board.events in
+    let b = book_at g.C.Charges.settings events in
+    rw (← c.self.view_is, ← c.desk.view_is) (inl (done-made b _ events c.make_ready.new.board.events c.desk.inside.number c.args.change _ c.args.now _ c.make_ready.result
+    c.in-Ok.ensures.change c.in-Ok.ensures.now (c.prepare.ensures.plain ∙ c.self.invariant.0.at.is) c.make_ready.ensures.next c.make_ready.ensures.answer))
 
 pub returns-clause-moves : goal.returns-clause-moves
 returns-clause-moves g c =
-    let s = g.C.Charges.settings in
-    let shown = c.show_note.ensures.shown in
-    let told = c.show_note.ensures.line in
-    let after = c.commit-outcome.ensures.after in
-    let old = c.self.invariant.at in
-    let at = shown-at s _ _ _ _ _ _ _ old c.prepare.ensures.plain told.1 shown after in
-    let n = no-less _ _ _ _ told.1 after in
-    let plain = c.prepare.ensures.plain in
-    rw (← c.self.view_is, ← c.desk.view_is) (record {
-      number = refl;
-      charged = omega (arith, n.charged, ap (λ (b : PlainBook). b.charged) plain, ap (λ (b : PlainBook). b.charged) old.is, ap (λ (b : PlainBook). b.charged) at.is, c.add.ensures.amount, c.charged_total-charged.ensures.value, c.charged_total.ensures.value);
-      released = omega (arith, n.released, ap (λ (b : PlainBook). b.released) plain, ap (λ (b : PlainBook). b.released) old.is, ap (λ (b : PlainBook). b.released) at.is, c.add-2.ensures.amount, c.released_total-released.ensures, c.released_total.ensures);
-      made = omega (arith, c.add-3.ensures.amount, shown-one _ _ _ shown);
-    })
+    let m = c.make_ready.ensures.moves in
+    rw (← c.self.view_is, ← c.desk.view_is) (record { number = m.number; journal = m.journal; kept = m.kept; charged = m.charged; released = m.released; made = m.made })
+
+pub returns-clause-spends : goal.returns-clause-spends
+returns-clause-spends g c =
+    let journal = g.C.Charges.journal in
+    let events = c.self.inside.board.events in
+    let after = c.make_ready.new.board.events in
+    let number = c.desk.inside.number in
+    let e : Event = event_by number c.args.change c.args.now in
+    let place : c.queue_frame.result ≡ true = search rules in
+    let framed = rw place at c.queue_frame.ensures in
+    let given = frame-given c.args.frame (λ f. f.items) journal number c.args.change c.args.now c.requires.frame in
+    let next : IsNextEvent events number c.args.change c.args.now after = rw (c.in-Ok.ensures.change, c.in-Ok.ensures.now) at c.make_ready.ensures.next in
+    let spent = framed-spends journal e _ c.self.inside.queue c.queue_frame.new.queue c.desk.inside.room c.spare_for-spare.result c.queue_frame.new.room framed given c.self.invariant.1.there in
+    rw (← c.self.view_is, ← c.desk.view_is) (spends-one journal c.desk.inside.journal events after e c.desk.inside.room c.queue_frame.new.room c.make_ready.new.desk.room c.desk.invariant.journal_is next c.make_ready.ensures.room spent)
+
+pub returns-clause-spares : goal.returns-clause-spares
+returns-clause-spares g c = λ journalled.
+    let journal = g.C.Charges.journal in
+    let place : c.queue_frame.result ≡ true = search rules in
+    let framed = rw place at c.queue_frame.ensures in
+    let there = subst (λ (j : Option ℕ). IsSome j) (sym (ap (λ (d : Desk). d.journal) c.desk.view_is) ∙ c.desk.invariant.journal_is) journalled in
+    let spared = framed-spares journal _ c.self.inside.queue c.queue_frame.new.queue c.desk.inside.room c.spare_for-spare.result c.queue_frame.new.room framed c.self.invariant.1.there there in
+    rw (c.make_ready.ensures.room, ← c.spare_for-spare.ensures) spared
+
+pub returns-clause-seen : goal.returns-clause-seen
+returns-clause-seen g c = c.make_ready.ensures.seen
+
+pub returns-clause-steps : goal.returns-clause-steps
+returns-clause-steps g c = c.make_ready.ensures.steps ∙ ap (λ (d : Desk). d.steps) c.desk.view_is
+
+pub returns-clause-missed : goal.returns-clause-missed
+returns-clause-missed g c = c.make_ready.ensures.missed ∙ ap (λ (d : Desk). d.missed) c.desk.view_is

@@ -1,0 +1,104 @@
+-- What is kept as events are, and what a crash leaves of it.
+use Rattle.logbook.specs.Pages.{Book}
+use Rattle.std.proofs.Common.{◌≡◌, ℕ, ◌≤◌, Bool, false, List, [], ◌∷◌, ◌++◌, map, take, drop, Option, Some, Result, Ok, Err, OnOk, refl, sym, ap, subst, ◌∙◌, append_assoc}
+use Rattle.std.proofs.lemmas.List.{append-nil, map-append, take-append-drop, take-map}
+use mathlib.Core.List.{IsPrefix}
+use Rattle.sqlite_disk.specs.declared.Disk.{Ghosts}
+use Rattle.book_replay.specs.Replay.{record_of, records_of}
+use Rattle.journal_file.specs.declared.journal.Journal.{Journal}
+use Rattle.journal_file.specs.Journal.{disk_of, key_of, room_of, IsJournal}
+use Rattle.journal_file.proofs.JournalLemmas.{journal_leaves}
+use Rattle.journal_frames.specs.Crash.{Leaves}
+use Rattle.upload_book.specs.Events.{ChangeEvent}
+use Rattle.upload_book.specs.Settings.{Settings}
+use Rattle.head_board.specs.Event.{Event}
+use Rattle.head_board.specs.Events.{HaveHappened, change_event}
+use Rattle.tus_shared.specs.Journal.{event_frame, event_frames}
+use Rattle.tus_shared.proofs.EventLemmas.{happened-first}
+use Rattle.tus_shared.proofs.LogLaws.{prefix-on}
+use Rattle.journal_keeper.specs.Keeper.{event_records, IsKeeper, IsLeft}
+use Rattle.journal_keeper.specs.Waiting.{frames_each}
+
+-- ---- records of events
+
+pub records-append : (first more : List Event) → event_records (first ++ more) ≡ event_records first ++ event_records more
+records-append first more =
+    ap records_of (map-append {A = Event} {B = ChangeEvent} change_event first more)
+    ∙ map-append {A = ChangeEvent} {B = List ℕ} record_of (map {A = Event} {B = ChangeEvent} change_event first) (map {A = Event} {B = ChangeEvent} change_event more)
+
+pub records-take : (n : ℕ) (events : List Event) → take n (event_records events) ≡ event_records (take n events)
+records-take n events =
+    take-map {X = ChangeEvent} {Y = List ℕ} record_of n (map {A = Event} {B = ChangeEvent} change_event events)
+    ∙ ap records_of (take-map {X = Event} {Y = ChangeEvent} change_event n events)
+
+-- what is queued of events are the frames of their records
+pub frames-records : (key : ℕ) (events : List Event) → event_frames (Some key) events ≡ frames_each key (event_records events)
+frames-records key [] = refl
+frames-records key (e ∷ events) = ap (λ (fs : List (List ℕ)). event_frame (Some key) e ∷ fs) (frames-records key events)
+
+pub frames-queued : (journal : Option ℕ) (key : ℕ) (waiting : List (List ℕ)) (more : List Event) → journal ≡ Some key → waiting ≡ event_frames journal more → waiting ≡ frames_each key (event_records more)
+frames-queued journal key waiting more is are = are ∙ ap (λ (j : Option ℕ). event_frames j more) is ∙ frames-records key more
+
+-- what holds whatever a call answered
+pub on_ok : {A E : Type 0} (r : Result A E) (P : Type 0) → P → OnOk r P
+on_ok (Ok x) P p = p
+on_ok (Err why) P p = tt
+
+-- ---- a crash
+
+-- that leaves all that was synced, and the first so many of the records of events that come next
+pub left-more : (key : ℕ) (s : Settings) (kept more : List Event) (c : List ℕ) → HaveHappened s (kept ++ more) → Leaves key (event_records kept) (event_records more) c → IsLeft key s kept c
+left-more key s kept more c happened left =
+    let n = left.kept in
+    let all : (kept ++ take n more) ++ drop n more ≡ kept ++ more = append_assoc kept (take n more) (drop n more) ∙ ap (λ (events : List Event). kept ++ events) (take-append-drop n more) in
+    record {
+      events = kept ++ take n more;
+      begins = (take n more, refl);
+      happened = happened-first s (kept ++ take n more) (drop n more) (subst (HaveHappened s) (sym all) happened);
+      records = left.payloads ∙ ap (λ (rs : List (List ℕ)). event_records kept ++ rs) (records-take n more) ∙ sym (records-append kept (take n more));
+      torn = left.behind;
+    }
+
+-- what is left of more is left of less
+pub left-less : (key : ℕ) (s : Settings) (less kept : List Event) (c : List ℕ) → IsPrefix less kept → IsLeft key s kept c → IsLeft key s less c
+left-less key s less kept c begins left = record {
+  events = left.events;
+  begins = prefix-on less kept left.events begins left.begins;
+  happened = left.happened;
+  records = left.records;
+  torn = left.torn;
+}
+
+module _ {D : Type 0} {g : Ghosts D} where
+  -- a journal with the records of these events, all synced
+  pub left-all : (journal : Journal D g) (s : Settings) (kept : List Event) → HaveHappened s kept → IsJournal journal (event_records kept) [] → (c : List ℕ) → g.may_leave (disk_of journal) c → IsLeft (key_of journal) s kept c
+  left-all journal s kept happened is c may =
+      left-more _ s kept [] c (subst (HaveHappened s) (sym (append-nil kept)) happened) (journal_leaves journal (event_records kept) [] is c may)
+
+  -- a journal that was made longer, and has room for all that is promised now
+  pub kept-longer : (old new : Journal D g) (s : Settings) (log : Book) (own : Option ℕ) (honest : Bool) (front : Book) (kept : List Event) (before now : ℕ) (failed : Bool)
+      → failed ≡ false → IsKeeper s log own honest old front kept before failed → key_of new ≡ key_of old
+      → ((payloads : List (List ℕ)) → IsJournal old payloads [] → IsJournal new payloads []) → now ≤ room_of new
+      → IsKeeper s log own honest new front kept now failed
+  kept-longer old new s log own honest front kept before now failed well is key stays covers = record {
+    key = is.key ∙ ap (λ (k : ℕ). Some k) (sym key);
+    front_log = is.front_log;
+    happened = is.happened;
+    holds = λ well honest. stays (event_records kept) (is.holds well honest);
+    left = λ honest c may. left-all new s kept is.happened (stays (event_records kept) (is.holds well honest)) c may;
+    covered = λ well. covers;
+  }
+
+  -- a journal that keeps more events
+  pub kept-more : (old new : Journal D g) (s : Settings) (log : Book) (own : Option ℕ) (honest : Bool) (front reached_log : Book) (kept reached : List Event) (before now : ℕ) (failed : Bool)
+      → failed ≡ false → IsKeeper s log own honest old front kept before failed → key_of new ≡ key_of old → reached_log ≡ log → HaveHappened s reached
+      → (IsJournal old (event_records kept) [] → IsJournal new (event_records reached) []) → (before ≤ room_of old → now ≤ room_of new)
+      → IsKeeper s log own honest new reached_log reached now false
+  kept-more old new s log own honest front reached_log kept reached before now failed well is key log_is happened holds covers = record {
+    key = is.key ∙ ap (λ (k : ℕ). Some k) (sym key);
+    front_log = log_is;
+    happened = happened;
+    holds = λ _ honest. holds (is.holds well honest);
+    left = λ honest c may. left-all new s reached happened (holds (is.holds well honest)) c may;
+    covered = λ _. covers (is.covered well);
+  }

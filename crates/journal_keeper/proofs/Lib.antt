@@ -1,0 +1,5 @@
+pub mod DeskLemmas
+pub mod GrantLemmas
+pub mod KeeperLemmas
+pub mod OpeningLemmas
+pub mod WaitingLemmas

@@ -1,0 +1,99 @@
+-- What is read of a journal that was opened, and what a store is after its changes were made again.
+use Rattle.std.specs.Prelude.{option_and_then, option_map}
+use Rattle.std.proofs.lemmas.Bool.{and_from, cond-true}
+use Rattle.upload_book.specs.Change.{CanBeMade, book_after_change}
+use Rattle.upload_book.specs.declared.change.Change.{Change}
+use Rattle.upload_book.specs.Events.{ChangeEvent}
+use Rattle.upload_book.specs.PlainBook.{PlainBook}
+use Rattle.upload_book.specs.Settings.{Settings}
+use Rattle.journal_records.specs.Reading.{record_at}
+use Rattle.book_replay.specs.Made.{can_be_made}
+use Rattle.book_replay.specs.Replay.{accepts, after_accepted, after_record}
+use Rattle.book_replay.proofs.ReplayLemmas.{after_accepted-refused, after_accepted-unasked}
+use Rattle.head_board.specs.Event.{Event}
+use Rattle.head_board.specs.Events.{book_at}
+use Rattle.tus_shared.specs.declared.again_fault.AgainFault.{AgainFault}
+use Rattle.tus_shared.specs.declared.again_fault.AgainFault.TheVariants as again
+use Rattle.tus_shared.specs.Steps.{IsMade, IsNextEvent, IsNotMade}
+use Rattle.tus_shared.proofs.EventLemmas.{at-one, at-settings}
+use Rattle.journal_keeper.specs.Opening.{IsFinal, IsMadeAgain}
+use Rattle.std.proofs.Common.{◌≡◌, ℕ, true, false, List, [], ◌∷◌, ◌++◌, length, Option, Some, None, Result, Ok, Err, OnOk, refl, sym, ap, ◌∙◌, append_assoc, arith}
+use Rattle.journal_records.specs.Records.{record_bytes}
+use Rattle.tus_shared.specs.Desk.{Desk, Moves}
+use Rattle.journal_keeper.specs.Keeper.{event_records}
+use Rattle.journal_keeper.proofs.KeeperLemmas.{records-append}
+use Rattle.std.specs.List.{AllByRecursion}
+use Rattle.std.proofs.lemmas.List.{append-nil}
+use Rattle.journal_frames.specs.Frames as reading
+use Rattle.journal_frames.specs.Frames.{frames, recovered, Fits}
+use Rattle.journal_frames.proofs.WholeFrames.{frames_again}
+
+-- ---- a journal that was opened
+
+pub nothing-recovered : (key : ℕ) → recovered key [] ≡ []
+unfolding reading.read_past
+nothing-recovered key = refl
+
+-- frames are read again
+pub recovered-frames : (key : ℕ) (payloads : List (List ℕ)) → AllByRecursion Fits payloads → recovered key (frames key payloads) ≡ payloads
+recovered-frames key payloads fits =
+    ap (recovered key) (sym (append-nil (frames key payloads))) ∙ (frames_again key payloads [] fits).0 ∙ ap (λ (ps : List (List ℕ)). payloads ++ ps) (nothing-recovered key) ∙ append-nil payloads
+
+-- ---- a change that is made again, or not
+
+module _ (s : Settings) (before : List Event) where
+  tenants-at : length (book_at s before).settings.tenants ≡ length s.tenants
+  tenants-at = ap (λ (numbers : Settings). length numbers.tenants) (at-settings s before)
+
+  may : (change : Change) → can_be_made (length s.tenants) change ≡ true → can_be_made (length (book_at s before).settings.tenants) change ≡ true
+  may change can = ap (λ (n : ℕ). can_be_made n change) tenants-at ∙ can
+
+  -- the book after it
+  pub taken-after : (after : List Event) (desk : ℕ) (change : Change) (now : ℕ) → can_be_made (length s.tenants) change ≡ true → IsMade (book_at s before) before desk change now after
+      → after_accepted (book_at s before) (record { change = change; now = now }) ≡ Some (book_at s after)
+  taken-after after desk change now can made =
+      let e : Event = record { desk = desk; change = change; now = now } in
+      cond-true (accepts (book_at s before) (record { change = change; now = now })) (Some (book_after_change (book_at s before) change now)) None (and_from _ _ (may change can) made.accepted)
+      ∙ ap Some (sym (at-one s before e) ∙ ap (book_at s) (sym made.next))
+
+  -- there is none where a book may not be asked for it
+  pub unasked-after : (change : Change) (now : ℕ) → can_be_made (length s.tenants) change ≡ false → after_accepted (book_at s before) (record { change = change; now = now }) ≡ None
+  unasked-after change now not = after_accepted-unasked (book_at s before) change now (ap (λ (n : ℕ). can_be_made n change) tenants-at ∙ not)
+
+  -- nor where it is refused for good
+  pub refused-after : (change : Change) (now : ℕ) (why : AgainFault) → CanBeMade (length s.tenants) change → IsNotMade s (book_at s before) change now why → IsFinal why
+      → after_accepted (book_at s before) (record { change = change; now = now }) ≡ None
+  refused-after change now again.Waiting can not final = absurd final
+  refused-after change now again.Change can not final = absurd (not can)
+  refused-after change now (again.Refused why) can not final = after_accepted-refused (book_at s before) change now why not final
+
+-- ---- records
+
+pub record-after : (b : PlainBook) (bytes : List ℕ) (now : ℕ) (change : Change) (after : Option PlainBook) → record_at bytes ≡ Some (now, change) → after_accepted b (record { change = change; now = now }) ≡ after → after_record b bytes ≡ after
+record-after b bytes now change after is made =
+    ap (λ (read : Option (ℕ × Change)). option_and_then (after_accepted b) (option_map {T = ℕ × Change} {U = ChangeEvent} (λ r. record { change = r.1; now = r.0 }) read)) is ∙ made
+
+-- the next event, where its record is read
+pub made-of : {A E : Type 0} (r : Result A E) (desk now : ℕ) (change : Change) (bytes : List ℕ) (before after : List Event) → record_bytes now change ≡ bytes → OnOk r (IsNextEvent before desk change now after) → OnOk r (IsMadeAgain desk bytes before after)
+made-of (Ok x) desk now change bytes before after is next = record { event = record { desk = desk; change = change; now = now }; desk_is = refl; record_is = is; next = next }
+made-of (Err why) desk now change bytes before after is next = tt
+
+pub records-next : (desk : ℕ) (bytes : List ℕ) (before after : List Event) (next rest all : List (List ℕ)) → IsMadeAgain desk bytes before after → next ≡ bytes ∷ rest → event_records before ++ next ≡ all → event_records after ++ rest ≡ all
+records-next desk bytes before after next rest all made is so_far =
+    ap (λ (events : List Event). event_records events ++ rest) made.next
+    ∙ ap (λ (records : List (List ℕ)). records ++ rest) (records-append before (made.event ∷ []))
+    ∙ append_assoc (event_records before) (event_records (made.event ∷ [])) rest
+    ∙ ap (λ (record_of : List ℕ). event_records before ++ record_of ∷ rest) made.record_is
+    ∙ ap (λ (records : List (List ℕ)). event_records before ++ records) (sym is)
+    ∙ so_far
+
+-- steps of a desk, one after another
+pub moves-on : (s : Settings) (first before after : List Event) (old desk new : Desk) → Moves s first before old desk → Moves s before after desk new → Moves s first after old new
+moves-on s first before after old desk new so_far step = record {
+  number = step.number ∙ so_far.number;
+  journal = step.journal ∙ so_far.journal;
+  kept = step.kept ∙ so_far.kept;
+  charged = omega (arith, so_far.charged, step.charged);
+  released = omega (arith, so_far.released, step.released);
+  made = omega (arith, so_far.made, step.made);
+}

@@ -1,0 +1,48 @@
+-- The keeper of a store's journal: what it keeps, and what a crash leaves of that.
+use Rattle.std.specs.Prelude.{◌≡◌, ℕ, ◌≤◌, Bool, false, IsTrue, List, [], map, Option, Some}
+use mathlib.Core.List.{IsPrefix}
+use Rattle.logbook.specs.Pages.{Book}
+use Rattle.sqlite_disk.specs.declared.Disk.{Ghosts}
+use Rattle.book_replay.specs.Replay.{records_of}
+use Rattle.journal_file.specs.declared.journal.Journal.{Journal}
+use Rattle.journal_file.specs.Journal.{disk_of, key_of, room_of, IsJournal}
+use Rattle.journal_frames.specs.Frames.{recovered, tail_of}
+use Rattle.journal_frames.specs.declared.tail.Tail.TheVariants.{Torn}
+use Rattle.upload_book.specs.Events.{ChangeEvent}
+use Rattle.upload_book.specs.Settings.{Settings}
+use Rattle.head_board.specs.Event.{Event}
+use Rattle.head_board.specs.Events.{HaveHappened, change_event}
+
+-- What is seen of a keeper: the key of its journal; the events that are kept there; whether a write or a sync has failed; how
+-- many bytes of room it granted to desks, and has not seen used; how many bytes may still be appended; and the disk.
+pub record KeeperView (D : Type 0) : Type 0 where
+  pub key : ℕ
+  pub kept : List Event
+  pub failed : Bool
+  pub promised : ℕ
+  pub room : ℕ
+  pub disk : D
+
+-- the records of events, one each, in their order
+abbrev pub event_records : List Event → List (List ℕ)
+event_records events = records_of (map {A = Event} {B = ChangeEvent} change_event events)
+
+-- What a crash leaves where these events are kept: the records of events that begin with them and happened to a book of these
+-- settings, one after another, and no damage.
+pub record IsLeft (key : ℕ) (s : Settings) (kept : List Event) (file : List ℕ) : Type 0 where
+  pub events : List Event
+  pub begins : IsPrefix kept events
+  pub happened : HaveHappened s events
+  pub records : recovered key file ≡ event_records events
+  pub torn : tail_of key file ≡ Torn
+
+-- What every keeper keeps. Its key is that of the opening, and its events are of the log of the opening, and happened. Where
+-- the disk had told no lie when the journal was opened: while no write or sync has failed, the journal has exactly the records
+-- of these events, all synced; and failed or not, a crash leaves all of them. The journal has room for all that was granted.
+pub record IsKeeper {D : Type 0} {g : Ghosts D} (s : Settings) (log : Book) (own : Option ℕ) (honest : Bool) (journal : Journal D g) (front : Book) (kept : List Event) (promised : ℕ) (failed : Bool) : Type 0 where
+  pub key : own ≡ Some (key_of journal)
+  pub front_log : front ≡ log
+  pub happened : HaveHappened s kept
+  pub holds : failed ≡ false → IsTrue honest → IsJournal journal (event_records kept) []
+  pub left : IsTrue honest → (c : List ℕ) → g.may_leave (disk_of journal) c → IsLeft (key_of journal) s kept c
+  pub covered : failed ≡ false → promised ≤ room_of journal

@@ -1,0 +1,4 @@
+pub mod Granting
+pub mod Keeper
+pub mod Opening
+pub mod Waiting

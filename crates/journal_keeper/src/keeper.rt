@@ -1,0 +1,204 @@
+ghost use Rattle.std.specs.Prelude.{◌≡◌, ◌+◌, ◌-◌, ◌≤◌, ℕ, List, [], Some, true, false, IsTrue, IsErrOf, OnErr, OnOk};
+ghost use mathlib.Core.List.{IsPrefix};
+ghost use Rattle.head_board.specs.Events.{HaveHappened};
+ghost use Rattle.tus_shared.specs.Journal.{journal_len};
+ghost use Rattle.journal_file.specs.Journal.{disk_of, key_of, room_of, IsJournal};
+ghost use Rattle.journal_keeper.specs.Keeper.{event_records, IsLeft};
+ghost use Rattle.journal_keeper.specs.Granting.{Grants, HasRoom, MayGrant};
+
+use crate::fault::KeepFault;
+use crate::granting::more_for;
+use crate::journalled::Journalled;
+use crate::keeping::make_room;
+use crate::taking::{keep_waiting, tell};
+use journal_file::Journal;
+use sqlite_disk::Disk;
+use std::alloc::Global;
+use std::marker::{Model, PhantomData};
+use std::sync::Wait;
+use std::sync::ledger::Ledger;
+use tus_shared::{Desk, SeenEvents, Shared};
+
+/// Keeps the changes of a store in a journal: the events that are kept, and how much of the journal's room desks were granted
+/// and have not been seen to use. A contract sees these, whether keeping has failed, and the disk. Whatever became of a
+/// keeper, a crash leaves all that it keeps, where the disk had told no lie when the journal was opened.
+#[derive(Drop)]
+pub struct Keeper<D: Disk, C: Journalled> {
+    alloc: Global,
+    journal: Journal<D>,
+    front: SeenEvents,
+    granted: u64,
+    has_failed: bool,
+    opening: PhantomData<C>,
+}
+
+impl<D: Disk, C: Journalled> Model for Keeper<D, C> {
+    ghost use Rattle.journal_file.specs.Journal.{disk_of, key_of, room_of};
+    ghost use Rattle.journal_keeper.specs.Keeper.{IsKeeper, KeeperView};
+
+    ghost Value = { KeeperView D };
+
+    ghost view = { λ k. record {
+      key = key_of k.journal;
+      kept = k.front.events;
+      failed = k.has_failed;
+      promised = k.granted;
+      room = room_of k.journal;
+      disk = disk_of k.journal;
+    } };
+
+    ghost invariant = { λ k. IsKeeper C.settings C.log C.journal C.honest k.journal k.front.book k.front.events k.granted k.has_failed };
+}
+
+impl<D: Disk, C: Journalled> Keeper<D, C> {
+    /// A keeper of the events whose records a journal has, all synced, and no others. None of its room was granted.
+    pub fn new(alloc: Global, journal: Journal<D>, front: SeenEvents) -> Keeper<D, C>
+        requires key { C.journal ≡ Some (key_of journal) }
+        requires log { front.book ≡ C.log }
+        requires happened { HaveHappened C.settings front.events }
+        requires journal { IsTrue C.honest → IsJournal journal (event_records front.events) [] }
+        ensures { result ≡ record {
+          key = key_of journal;
+          kept = front.events;
+          failed = false;
+          promised = 0;
+          room = room_of journal;
+          disk = disk_of journal;
+        } }
+    {
+        Keeper {
+            alloc,
+            journal,
+            front,
+            granted: 0,
+            has_failed: false,
+            opening: PhantomData,
+        }
+    }
+
+    /// Whether keeping has failed. Then nothing more is kept.
+    pub fn has_failed(&self) -> bool
+        ensures { result ≡ self.now.failed }
+    {
+        self.has_failed
+    }
+
+    /// How far the events are kept.
+    pub fn kept(&self) -> SeenEvents
+        ensures { result ≡ record { book = C.log; events = self.now.kept } }
+    {
+        self.front.again()
+    }
+
+    /// The disk, lent.
+    pub fn disk(&self) -> &D
+        ensures { result.now ≡ self.now.disk }
+    {
+        self.journal.disk()
+    }
+
+    /// The disk, as it is.
+    pub fn into_disk(self) -> D
+        ensures { result ≡ self.disk }
+    {
+        let Keeper { journal, .. } = self;
+        journal.into_disk()
+    }
+
+    /// Tells what a crash leaves: the records of events that begin with all that are kept, and no damage. It does also after
+    /// keeping has failed.
+    pub fn tell_crash(&self)
+        ensures happened { HaveHappened C.settings self.now.kept }
+        ensures left { IsTrue C.honest
+            → (c : List ℕ) → D.may_leave self.now.disk c → IsLeft self.now.key C.settings self.now.kept c }
+    {
+        let _kept = &self.front;
+    }
+
+    /// Keeps all that this desk has seen, and tells it so. Where that is kept already, as by a call for another desk, nothing is
+    /// asked of the disk. Else the records that wait are taken out of the queue of the store, appended to the journal and
+    /// synced, once for all. It takes the lock of the store for a moment, and may wait for desks.
+    ///
+    /// `Err` is Journal where a write or a sync failed, or where the journal has no room for what waits and none can be made;
+    /// Queue, Frame or Desk, which come in no run where this keeper alone takes the records of the store and tells its desks;
+    /// and from then on Ended. Then the desk is told nothing, and nothing more is kept than before.
+    pub fn keep<R: Ledger, M: Ledger, B: Wait + Drop, W: Wait>(
+        &mut self,
+        rt: &W,
+        shared: &Shared<C, R, M, B>,
+        desk: &mut Desk<C, R, M>,
+    ) -> Result<(), KeepFault>
+        // All that the desk has seen is kept, and it knows that.
+        ensures kept { OnOk result (IsPrefix desk.new.seen self.new.kept) }
+        ensures told { OnOk result (IsPrefix desk.new.seen desk.new.kept) }
+        ensures learns { OnOk result (IsPrefix desk.old.kept self.new.kept
+            → desk.new ≡ record desk.old { kept = self.new.kept }) }
+        ensures desk { OnOk result (desk.new ≡ record desk.old { kept = desk.new.kept }) }
+        ensures same_desk { OnErr result (desk.new ≡ desk.old) }
+        // What was kept stays so, and of the room that was granted so much is used as the records have that were appended.
+        ensures keeps { IsPrefix self.old.kept self.new.kept }
+        ensures same_kept { OnErr result (self.new.kept ≡ self.old.kept) }
+        ensures used { OnOk result (self.new.promised
+            ≡ self.old.promised - (journal_len C.journal self.new.kept - journal_len C.journal self.old.kept)) }
+        ensures key { self.new.key ≡ self.old.key }
+        ensures failed { OnErr result (self.new.failed ≡ true) }
+        ensures well { OnOk result (self.new.failed ≡ false) }
+        ensures ended { self.old.failed ≡ true → IsErrOf result KeepFault.Ended × (self.new ≡ self.old) }
+        // What is kept already is asked of no disk.
+        ensures rests { self.old.failed ≡ false → IsPrefix desk.old.seen self.old.kept → OnOk result (self.new ≡ self.old) }
+    {
+        if self.has_failed {
+            return Err(KeepFault::Ended);
+        }
+        let seen = desk.seen_events();
+        if seen.begins(&self.front) {
+            let told = tell(&self.front, desk);
+            self.has_failed = told.is_err();
+            return told;
+        }
+        self.has_failed = true;
+        let reached = keep_waiting(
+            rt,
+            self.alloc,
+            shared,
+            &mut self.journal,
+            &self.front,
+            &seen,
+            &mut self.granted,
+        )?;
+        tell(&reached, desk)?;
+        self.front = reached;
+        self.has_failed = false;
+        Ok(())
+    }
+
+    /// Sees to it that a desk may queue so many bytes of records, and 65,536 more. Where it has less room than that, it is granted
+    /// so much that it has room for these and 4 MiB more; and the journal is made longer before, where it has no room for all
+    /// that was granted and not used. Where it can't be, as on a full disk, or keeping has failed, nothing is granted, and
+    /// what the desk has and what is kept stay: a change is then refused as Memory where it takes more.
+    pub fn make_room<R: Ledger, M: Ledger>(&mut self, desk: &mut Desk<C, R, M>, bytes: u64)
+        ensures grants { MayGrant bytes self.old self.new desk.old desk.new }
+        // Where there is room for it, it is granted, and the disk is asked for nothing.
+        ensures granted { HasRoom bytes self.old desk.old
+            → Grants bytes self.old self.new desk.old desk.new × (self.new.disk ≡ self.old.disk) }
+        ensures enough { bytes + 65536 ≤ desk.old.room → (desk.new ≡ desk.old) × (self.new ≡ self.old) }
+        ensures kept { self.new.kept ≡ self.old.kept }
+        ensures failed { self.new.failed ≡ self.old.failed }
+        ensures key { self.new.key ≡ self.old.key }
+        ensures room { self.old.room ≤ self.new.room }
+    {
+        if self.has_failed {
+            return;
+        }
+        let Some(more) = more_for(desk.room(), bytes) else {
+            return;
+        };
+        let Some(all) = self.granted.checked_add(more) else {
+            return;
+        };
+        if make_room(self.alloc, &mut self.journal, all).is_ok() {
+            self.granted = all;
+            desk.grant(more);
+        }
+    }
+}

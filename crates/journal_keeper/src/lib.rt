@@ -1,0 +1,19 @@
+//! The keeper of a store's journal: it writes and syncs the records that desks queue, tells desks how far these are kept,
+//! grants them room for more, and makes a store again of the records of its journal.
+#![tactic(auto)]
+
+mod fault;
+mod granting;
+mod journalled;
+mod keeper;
+mod keeping;
+pub mod laws;
+mod opening;
+mod shared_keeper;
+mod taking;
+
+pub use fault::{KeepFault, ReopenFault};
+pub use journalled::Journalled;
+pub use keeper::Keeper;
+pub use opening::{open_journal, reopen};
+pub use shared_keeper::SharedKeeper;

@@ -1,0 +1,69 @@
+ghost use Rattle.std.specs.Prelude.{◌≡◌, OnErr, OnOk};
+ghost use mathlib.Core.List.{IsPrefix};
+ghost use Rattle.journal_keeper.specs.Granting.{MayHaveMore};
+
+use crate::fault::KeepFault;
+use crate::granting::more_for;
+use crate::journalled::Journalled;
+use crate::keeper::Keeper;
+use sqlite_disk::Disk;
+use std::sync::ledger::Ledger;
+use std::sync::{Mutex, Wait};
+use tus_shared::{Desk, Shared};
+
+/// A keeper behind a lock of its own, which all desks of its store share. One desk's sync serves all that wait for the lock
+/// meanwhile.
+#[derive(Drop)]
+pub struct SharedKeeper<D: Disk, C: Journalled> {
+    keeper: Mutex<Keeper<D, C>>,
+}
+
+impl<D: Disk, C: Journalled> SharedKeeper<D, C> {
+    /// Puts a keeper behind a lock.
+    pub fn new(keeper: Keeper<D, C>) -> SharedKeeper<D, C> {
+        SharedKeeper {
+            keeper: Mutex::new(keeper),
+        }
+    }
+
+    /// Keeps all that this desk has seen, and tells it so ([`Keeper::keep`]). Where it knows that already, no lock is taken;
+    /// else that of the keeper, and that of the store for a moment. It may wait for other desks.
+    ///
+    /// `Err` as of `Keeper::keep`; then the desk is told nothing.
+    pub fn keep<R: Ledger, M: Ledger, B: Wait + Drop, W: Wait>(
+        &self,
+        rt: &W,
+        shared: &Shared<C, R, M, B>,
+        desk: &mut Desk<C, R, M>,
+    ) -> Result<(), KeepFault>
+        ensures told { OnOk result (IsPrefix desk.new.seen desk.new.kept) }
+        ensures desk { OnOk result (desk.new ≡ record desk.old { kept = desk.new.kept }) }
+        ensures same { OnErr result (desk.new ≡ desk.old) }
+    {
+        if desk.is_kept() {
+            return Ok(());
+        }
+        self.keeper.lock(rt).keep(rt, shared, desk)
+    }
+
+    /// Sees to it that a desk may queue so many bytes of records, and 65,536 more, where the journal has or gets room for
+    /// that ([`Keeper::make_room`]). Where the desk has it already, no lock is taken. It may wait for other desks.
+    pub fn make_room<R: Ledger, M: Ledger, W: Wait>(
+        &self,
+        rt: &W,
+        desk: &mut Desk<C, R, M>,
+        bytes: u64,
+    )
+        ensures { MayHaveMore bytes desk.old desk.new }
+    {
+        if more_for(desk.room(), bytes).is_some() {
+            self.keeper.lock(rt).make_room(desk, bytes);
+        }
+    }
+
+    /// The keeper, out of the lock.
+    pub fn into_keeper(self) -> Keeper<D, C> {
+        let SharedKeeper { keeper } = self;
+        keeper.into_inner()
+    }
+}

@@ -1,0 +1,70 @@
+//! What desks are asked here.
+use std::process::Abort;
+use std::test::Fail;
+use tus_shared::Turn;
+use tus_steps::{Field, Method, Request, TusFields};
+use tus_text::read_path;
+use upload_book::{Moment, Numbers, Settings};
+
+const NUMBERS: Numbers = Numbers {
+    blocks: 64,
+    block_size: 4,
+    lifetime: 3600,
+    max_size: 64,
+    uploads: 64,
+    last_id: u64::MAX - 1,
+    last_total: u64::MAX,
+};
+
+/// The settings of acme with all blocks.
+pub(crate) fn settings() -> Result<Settings, Fail> {
+    Ok(Settings::new(NUMBERS, &[(b"acme", 64)])?)
+}
+
+/// What is asked of acme.
+#[derive(Clone, Copy)]
+pub(crate) enum Asked {
+    /// A creation of six bytes.
+    Create,
+    /// The end of the upload at a path.
+    Delete(&'static [u8]),
+}
+
+const FIELDS: TusFields<Field<'static>> = TusFields {
+    version: Field::One(b"1.0.0"),
+    length: Field::Absent,
+    defer: Field::Absent,
+    offset: Field::Absent,
+    metadata: Field::Absent,
+    concat: Field::Absent,
+    checksum: Field::Absent,
+    media: Field::Absent,
+};
+
+fn request(asked: Asked) -> Request<'static> {
+    match asked {
+        Asked::Create => Request {
+            method: Method::Post,
+            path: read_path(b"/files/acme"),
+            fields: TusFields {
+                length: Field::One(b"6"),
+                ..FIELDS
+            },
+            body: b"",
+        },
+        Asked::Delete(path) => Request {
+            method: Method::Delete,
+            path: read_path(path),
+            fields: FIELDS,
+            body: b"",
+        },
+    }
+}
+
+/// A turn that asks this at second 1000.
+pub(crate) fn turn(rt: &impl Abort, asked: Asked) -> Turn<'static> {
+    Turn {
+        request: request(asked),
+        now: Moment::new(1000).expect(rt, "a moment"),
+    }
+}

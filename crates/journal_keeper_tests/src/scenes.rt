@@ -1,0 +1,274 @@
+//! Two desks of a new store, and the keeper of its journal.
+ghost use Rattle.std.specs.Prelude.{◌≡◌, [], Some};
+ghost use Rattle.journal_file.specs.Journal.{key_of, IsJournal};
+
+use crate::requests::{Asked, settings, turn};
+use crate::torn_disk::TornDisk;
+use journal_file::{Journal, JournalError};
+use journal_frames::Frames;
+use journal_keeper::{Journalled, KeepFault, Keeper, SharedKeeper, open_journal};
+use sqlite_disk::Fuse;
+use std::alloc::Global;
+use std::marker::Brand;
+use std::process::Abort;
+use std::sync::Wait;
+use std::sync::ledger::{Blank, Ledger};
+use std::test::Fail;
+use tus_shared::{Desk, NoGate, Opened, Shared};
+use tus_steps::Reply;
+use upload_book::{Refusal, Settings};
+
+// The key of all journals here.
+const KEY: u64 = 7;
+
+// The room of a new journal, which is enough for what is kept here.
+const ROOM: usize = 1000;
+
+// What a test does.
+#[derive(Clone, Copy)]
+enum Scene {
+    OneSyncServesBoth,
+    RoomIsMade,
+    DiskIsFull,
+    SyncFails,
+    IsLeftAfterACrash,
+}
+
+// Whether a desk makes the change that it is asked for; else it was refused as Memory.
+fn makes<C: Journalled, R: Ledger, M: Ledger, W: Wait + Abort>(
+    rt: &W,
+    shared: &Shared<C, R, M, &W>,
+    desk: &mut Desk<C, R, M>,
+    asked: Asked,
+) -> bool {
+    let turn = turn(rt, asked);
+    match desk.answer(rt, shared, &turn.request, turn.now, 0, &NoGate) {
+        Reply::Created { .. } | Reply::Deleted => true,
+        Reply::Refused { refusal, .. } => {
+            assert!(rt; refusal == Refusal::Memory);
+            false
+        }
+        _ => panic!(rt; "another reply"),
+    }
+}
+
+// What one desk has kept is kept of the other too, which is only told so.
+fn one_sync_serves_both<C: Journalled, R: Ledger, M: Ledger, W: Wait + Abort>(
+    rt: &W,
+    shared: &Shared<C, R, M, &W>,
+    keeper: Keeper<Fuse<TornDisk>, C>,
+    first: &mut Desk<C, R, M>,
+    second: &mut Desk<C, R, M>,
+) {
+    first.grant(1 << 20);
+    second.grant(1 << 20);
+    assert!(rt; makes(rt, shared, first, Asked::Create));
+    assert!(rt; makes(rt, shared, second, Asked::Create));
+    assert!(rt; !first.is_kept() && !second.is_kept());
+    let keeper = SharedKeeper::new(keeper);
+    assert!(rt; keeper.keep(rt, shared, first).is_ok());
+    assert!(rt; first.is_kept() && !second.is_kept());
+    assert!(rt; keeper.keep(rt, shared, second).is_ok());
+    assert!(rt; second.is_kept());
+    let keeper = keeper.into_keeper();
+    let seen = second.seen_events();
+    assert!(rt; seen.begins(&keeper.kept()) && keeper.kept().begins(&seen));
+    assert!(rt; count(keeper.disk().inner().bytes()) == 2);
+}
+
+// A desk is granted 65,536 bytes and 4 MiB beyond what it asks for, and nothing where it has enough.
+fn room_is_made<C: Journalled, R: Ledger, M: Ledger, W: Wait + Abort>(
+    rt: &W,
+    keeper: Keeper<Fuse<TornDisk>, C>,
+    desk: &mut Desk<C, R, M>,
+) {
+    let keeper = SharedKeeper::new(keeper);
+    keeper.make_room(rt, desk, 100);
+    assert!(rt; desk.room() == 100 + 65_536 + 4_194_304);
+    keeper.make_room(rt, desk, 4_194_304);
+    assert!(rt; desk.room() == 100 + 65_536 + 4_194_304);
+    let keeper = keeper.into_keeper();
+    assert!(rt; keeper.disk().inner().bytes().len() > 4_259_940);
+}
+
+// On a full disk no room is granted, and a change is refused. An upload can still be ended, and all is kept.
+fn disk_is_full<C: Journalled, R: Ledger, M: Ledger, W: Wait + Abort>(
+    rt: &W,
+    shared: &Shared<C, R, M, &W>,
+    mut keeper: Keeper<Fuse<TornDisk>, C>,
+    desk: &mut Desk<C, R, M>,
+) {
+    desk.grant(65_536 + 100);
+    assert!(rt; makes(rt, shared, desk, Asked::Create));
+    let room = desk.room();
+    keeper.make_room(desk, 200);
+    assert!(rt; desk.room() == room);
+    assert!(rt; !makes(rt, shared, desk, Asked::Create));
+    assert!(rt; makes(rt, shared, desk, Asked::Delete(b"/files/acme/1")));
+    assert!(rt; keeper.keep(rt, shared, desk).is_ok());
+    assert!(rt; desk.is_kept() && !keeper.has_failed());
+}
+
+// After a sync that failed the desk is told nothing, and nothing more is kept.
+fn sync_fails<C: Journalled, R: Ledger, M: Ledger, W: Wait + Abort>(
+    rt: &W,
+    shared: &Shared<C, R, M, &W>,
+    mut keeper: Keeper<Fuse<TornDisk>, C>,
+    desk: &mut Desk<C, R, M>,
+) {
+    desk.grant(1 << 20);
+    assert!(rt; makes(rt, shared, desk, Asked::Create));
+    let kept = keeper.keep(rt, shared, desk);
+    assert!(rt; matches!(kept, Err(KeepFault::Journal(JournalError::Disk(_)))));
+    assert!(rt; !desk.is_kept() && keeper.has_failed());
+    let again = keeper.keep(rt, shared, desk);
+    assert!(rt; matches!(again, Err(KeepFault::Ended)));
+}
+
+// How many records stand in frames under the key, up to ten.
+fn count(frames: &[u8]) -> u64 {
+    let mut frames = Frames::new(KEY, frames);
+    let mut found: u64 = 0;
+    for _ in 0..10 {
+        if frames.next().is_ok() {
+            found = found.saturating_add(1);
+        }
+    }
+    found
+}
+
+// After a crash all that was kept is found, whatever else was lost; and nothing under another key.
+fn is_left_after_a_crash<C: Journalled, R: Ledger, M: Ledger, W: Wait + Abort>(
+    rt: &W,
+    alloc: Global,
+    shared: &Shared<C, R, M, &W>,
+    mut keeper: Keeper<Fuse<TornDisk>, C>,
+    desk: &mut Desk<C, R, M>,
+) -> Result<(), Fail> {
+    desk.grant(1 << 20);
+    assert!(rt; makes(rt, shared, desk, Asked::Create));
+    assert!(rt; makes(rt, shared, desk, Asked::Delete(b"/files/acme/1")));
+    assert!(rt; keeper.keep(rt, shared, desk).is_ok());
+    assert!(rt; makes(rt, shared, desk, Asked::Create));
+    for seed in 0..3 {
+        let left = keeper.disk().inner().after_crash(seed)?;
+        let opened = open_journal(alloc, left, KEY)?;
+        assert!(rt; count(&opened.frames) == 2);
+    }
+    let left = keeper.disk().inner().after_crash(0)?;
+    let other = open_journal(alloc, left, KEY + 1);
+    assert!(rt; matches!(other, Err(JournalError::Damaged)));
+    Ok(())
+}
+
+// Plays a scene at two desks of a new store, over an empty journal.
+fn play<C: Journalled, R: Ledger, M: Ledger, W: Wait + Abort>(
+    rt: &W,
+    alloc: Global,
+    settings: Settings,
+    charged: Blank,
+    released: Blank,
+    made: Blank,
+    events: Opened,
+    journal: Journal<Fuse<TornDisk>>,
+    scene: Scene,
+) -> Result<(), Fail>
+    requires settings { settings ≡ C.settings }
+    requires desks { C.desks ≡ 2 }
+    requires charged { (charged.name ≡ C.name) × (charged.parts ≡ C.parts) × (C.parts ≡ 16) }
+    requires released { (released.name ≡ R.name) × (released.parts ≡ R.parts) × (R.parts ≡ 16) }
+    requires made { (made.name ≡ M.name) × (made.parts ≡ M.parts) × (M.parts ≡ 16) }
+    requires log { events.seen.book ≡ C.log }
+    requires journal { C.journal ≡ Some 7 }
+    requires key { key_of journal ≡ 7 }
+    requires empty { IsJournal journal [] [] }
+{
+    let front = events.seen.again();
+    let keeper = Keeper::<Fuse<TornDisk>, C>::new(alloc, journal, front);
+    let (shared, mut desks) = Shared::<C, R, M, &W>::open(
+        rt,
+        alloc,
+        settings,
+        2,
+        charged,
+        released,
+        made,
+        events,
+        Some(KEY),
+    )?;
+    let mut second = desks.pop().ok_or("a desk")?;
+    let mut first = desks.pop().ok_or("a desk")?;
+    match scene {
+        Scene::OneSyncServesBoth => {
+            one_sync_serves_both(rt, &shared, keeper, &mut first, &mut second);
+        }
+        Scene::RoomIsMade => room_is_made(rt, keeper, &mut first),
+        Scene::DiskIsFull => disk_is_full(rt, &shared, keeper, &mut first),
+        Scene::SyncFails => sync_fails(rt, &shared, keeper, &mut first),
+        Scene::IsLeftAfterACrash => {
+            is_left_after_a_crash(rt, alloc, &shared, keeper, &mut first)?;
+        }
+    }
+    Ok(())
+}
+
+// The scene over a disk with room for so many bytes, that is frozen after so many calls.
+fn play_at<W: Wait + Abort>(
+    rt: &W,
+    alloc: Global,
+    all: usize,
+    calls: u64,
+    scene: Scene,
+) -> Result<(), Fail> {
+    let disk = Fuse::new(TornDisk::new(alloc, all), calls);
+    let journal = Journal::create(alloc, disk, KEY, ROOM)?;
+    play::<Brand, Brand, Brand, W>(
+        rt,
+        alloc,
+        settings()?,
+        Blank::new(16),
+        Blank::new(16),
+        Blank::new(16),
+        Opened::new(),
+        journal,
+        scene,
+    )
+}
+
+#[test]
+fn one_sync_serves_two_desks(rt: HostRuntime) -> Result<(), Fail> {
+    play_at(
+        &rt,
+        rt.alloc(),
+        usize::MAX,
+        u64::MAX,
+        Scene::OneSyncServesBoth,
+    )
+}
+
+#[test]
+fn room_is_granted(rt: HostRuntime) -> Result<(), Fail> {
+    play_at(&rt, rt.alloc(), usize::MAX, u64::MAX, Scene::RoomIsMade)
+}
+
+#[test]
+fn a_full_disk(rt: HostRuntime) -> Result<(), Fail> {
+    play_at(&rt, rt.alloc(), ROOM + 16, u64::MAX, Scene::DiskIsFull)
+}
+
+// Making the journal takes three calls, and keeping what waits a write and a sync.
+#[test]
+fn a_sync_that_fails(rt: HostRuntime) -> Result<(), Fail> {
+    play_at(&rt, rt.alloc(), usize::MAX, 4, Scene::SyncFails)
+}
+
+#[test]
+fn what_was_kept_is_left(rt: HostRuntime) -> Result<(), Fail> {
+    play_at(
+        &rt,
+        rt.alloc(),
+        usize::MAX,
+        u64::MAX,
+        Scene::IsLeftAfterACrash,
+    )
+}

@@ -1,0 +1,40 @@
+use Rattle.std.proofs.Common.{◌∙◌, Err, ap, arith, length, sym}
+use Rattle.std.proofs.lemmas.Result.{err_from_is_err_and}
+use Rattle.tus_server.specs.Arguments.{serve_arguments_of}
+use Rattle.tus_server.specs.Serve.{BreaksOff}
+use Rattle.tus_server.specs.Sockets.{sockets}
+use Rattle.tus_server.specs.StreamUse.{used}
+use Rattle.tus_server.proofs.DeskLemmas.{new_desks-last, new_desks-length}
+use Rattle.tus_server.proofs.ServeLemmas.{reopening-by_cause, reopening-kept}
+use Rattle.tus_server.proofs.kept_serve.serve_journalled.Goals as goal
+
+pub reopen-requires-clause-seen : goal.reopen-requires-clause-seen
+reopen-requires-clause-seen g c =
+    (new_desks-last g.C.Charges.journal c.args.options.now.workers c.pop.new.self.items c.in-Some.desk (sym c.in-Some.ensures.items ∙ c.in_ok-store.ensures.desks)).0
+
+pub reopen-requires-clause-kept : goal.reopen-requires-clause-kept
+reopen-requires-clause-kept g c =
+    (new_desks-last g.C.Charges.journal c.args.options.now.workers c.pop.new.self.items c.in-Some.desk (sym c.in-Some.ensures.items ∙ c.in_ok-store.ensures.desks)).1
+
+pub returns-in_err-keeper-clause-fault : goal.returns-in_err-keeper-clause-fault
+returns-in_err-keeper-clause-fault g c =
+    let made = err_from_is_err_and c.from_residual-in_err-keeper.result c.from_residual-in_err-keeper.ensures.1 in
+    rw (made.1, made.2) (reopening-kept _)
+
+pub returns-in_err-keeper-clause-wire : goal.returns-in_err-keeper-clause-wire
+returns-in_err-keeper-clause-wire g c =
+    let made = err_from_is_err_and c.from_residual-in_err-keeper.result c.from_residual-in_err-keeper.ensures.1 in
+    reopening-by_cause (BreaksOff (sockets g.L.Listener.asked g.L.Listener.place g.L.Acceptor.Accept.accepted g.L.Acceptor.Accept.has_failed) (serve_arguments_of c.args.options.now) g.C.Charges.settings (used g.W.Sink.contents g.W.Sink.has_failed c.args.output.now c.args.output.now))
+    _ _ (made.1 ∙ ap Err made.2)
+
+pub serve_desks-served-requires-clause-count : goal.serve_desks-served-requires-clause-count
+serve_desks-served-requires-clause-count g c κs within =
+    omega (
+      arith,
+      c.push_reserved.ensures.len,
+      c.in-Some.ensures.len,
+      c.in_ok-store.desks.ok.0,
+      ap length c.in_ok-store.ensures.desks,
+      new_desks-length g.C.Charges.journal c.args.options.now.workers,
+      c.requires.desks,
+    )

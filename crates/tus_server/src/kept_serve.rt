@@ -1,0 +1,182 @@
+//! The command `serve` with a journal.
+ghost use Rattle.std.specs.Prelude.{◌≡◌, [], Some, false, true, IfErr, IsErrOf, IsTrue, OnOk};
+ghost use Rattle.journal_file.specs.Journal.{key_of, IsJournal};
+ghost use Rattle.journal_frames.specs.Frames.{recovered};
+ghost use Rattle.tus_server.specs.Arguments.{serve_arguments_of};
+ghost use Rattle.tus_server.specs.Serve.{BreaksOff, IsPlaceAsked, KeepsQuiet, ServesEach, is_of_kept_service};
+ghost use Rattle.tus_server.specs.Sockets.{sockets};
+ghost use Rattle.tus_server.specs.StreamUse.{used};
+ghost use Rattle.tus_server.specs.declared.cause.Cause.{Cause};
+ghost use Rattle.tus_server.specs.declared.journal_fault.JournalFault.{JournalFault};
+
+use crate::fault::RunFault;
+use crate::journal_fault::JournalFault;
+use crate::journals::JOURNAL_KEY;
+use crate::keeping::InJournal;
+use crate::options::ServeOptions;
+use crate::serve::serve_desks;
+use http_wire::Sink;
+use journal_file::Opened as OpenedJournal;
+use journal_keeper::{Journalled, SharedKeeper, open_journal, reopen};
+use sqlite_disk::Disk;
+use std::alloc::Global;
+use std::fs::{File, Files};
+use std::io::Eprint;
+use std::marker::Brand;
+use std::net::{Net, SocketAddr, TcpListener, TcpStream};
+use std::sync::Wait;
+use std::sync::ledger::{Blank, Ledger};
+use std::thread::Threads;
+use std::time;
+use tus_shared::{Opened, Shared, Store};
+use tus_workers::Listener;
+use upload_book::Settings;
+
+/// Serves connections as [`crate::serve::serve`] says, over the book that the file of this disk keeps: all changes are made
+/// again whose records it has, and no reply is sent before the file has all that it tells.
+///
+/// The error is that of `serve`, or the journal's: Damaged or Record where the file is none of a journal, or of one of other
+/// settings, and Disk where a read, a write or a sync failed. Then all workers end.
+pub fn serve_kept<
+    L: Listener,
+    D: Disk,
+    H: Threads
+        + Wait
+        + Net<Stream = TcpStream, Listener = TcpListener>
+        + time::Clock
+        + Eprint
+        + Files<File = File>
+        + Sync,
+    W: Sink,
+>(
+    rt: &H,
+    alloc: Global,
+    settings: Settings,
+    options: &ServeOptions,
+    place: SocketAddr,
+    disk: D,
+    output: &mut W,
+) -> Result<(), RunFault>
+where
+    D: Send + Drop,
+    L::Acceptor: Send + Drop,
+    L: Drop,
+    requires place { IsPlaceAsked (serve_arguments_of options.now) place }
+    requires output { W.has_failed output.old ≡ false }
+    ensures fault { IfErr result (λ fault. is_of_kept_service fault ≡ true) }
+    ensures memory { IsErrOf result RunFault.Memory → output.new ≡ output.old }
+    ensures wire { (cause : Cause) → IsErrOf result (RunFault.Wire cause)
+        → BreaksOff (sockets L.asked L.place L.Acceptor.accepted L.Acceptor.has_failed)
+        (serve_arguments_of options.now) settings (used W.contents W.has_failed output.old output.new)
+        cause }
+    ensures journal { (why : JournalFault) → IsErrOf result (RunFault.Journal why)
+        → KeepsQuiet (used W.contents W.has_failed output.old output.new) why }
+    ensures all { OnOk result
+        (ServesEach (sockets L.asked L.place L.Acceptor.accepted L.Acceptor.has_failed)
+        (serve_arguments_of options.now) settings (used W.contents W.has_failed output.old output.new)) }
+{
+    let opened = open_journal(alloc, disk, JOURNAL_KEY)?;
+    serve_journalled::<L, D, Brand, Brand, Brand, H, W>(
+        rt,
+        alloc,
+        settings,
+        options,
+        place,
+        opened,
+        Blank::new(16),
+        Blank::new(16),
+        Blank::new(16),
+        Opened::new(),
+        output,
+    )
+}
+
+// Opens a desk for each worker, makes all changes again whose records the journal has, and serves at these desks.
+fn serve_journalled<
+    L: Listener,
+    D: Disk,
+    C: Journalled + Send + Sync,
+    R: Ledger + Send + Sync,
+    M: Ledger + Send + Sync,
+    H: Threads
+        + Wait
+        + Net<Stream = TcpStream, Listener = TcpListener>
+        + time::Clock
+        + Eprint
+        + Files<File = File>
+        + Sync,
+    W: Sink,
+>(
+    rt: &H,
+    alloc: Global,
+    settings: Settings,
+    options: &ServeOptions,
+    place: SocketAddr,
+    journal: OpenedJournal<D>,
+    charged: Blank,
+    released: Blank,
+    made: Blank,
+    events: Opened,
+    output: &mut W,
+) -> Result<(), RunFault>
+where
+    D: Send + Drop,
+    L::Acceptor: Send + Drop,
+    L: Drop,
+    requires settings { settings ≡ C.settings }
+    requires desks { options.now.workers ≡ C.desks }
+    requires place { IsPlaceAsked (serve_arguments_of options.now) place }
+    requires charged { (charged.name ≡ C.name) × (charged.parts ≡ C.parts) × (C.parts ≡ 16) }
+    requires released { (released.name ≡ R.name) × (released.parts ≡ R.parts) × (R.parts ≡ 16) }
+    requires made { (made.name ≡ M.name) × (made.parts ≡ M.parts) × (M.parts ≡ 16) }
+    requires log { events.seen.book ≡ C.log }
+    requires key { key_of journal.journal ≡ 8391740119571199346 }
+    requires journal { C.journal ≡ Some 8391740119571199346 }
+    requires honest { IsTrue C.honest → IsJournal journal.journal (recovered 8391740119571199346 journal.frames.items) [] }
+    requires output { W.has_failed output.old ≡ false }
+    ensures fault { IfErr result (λ fault. is_of_kept_service fault ≡ true) }
+    ensures memory { IsErrOf result RunFault.Memory → output.new ≡ output.old }
+    ensures wire { (cause : Cause) → IsErrOf result (RunFault.Wire cause)
+        → BreaksOff (sockets L.asked L.place L.Acceptor.accepted L.Acceptor.has_failed)
+        (serve_arguments_of options.now) C.settings (used W.contents W.has_failed output.old output.new)
+        cause }
+    ensures journal { (why : JournalFault) → IsErrOf result (RunFault.Journal why)
+        → KeepsQuiet (used W.contents W.has_failed output.old output.new) why }
+    ensures all { OnOk result
+        (ServesEach (sockets L.asked L.place L.Acceptor.accepted L.Acceptor.has_failed)
+        (serve_arguments_of options.now) C.settings (used W.contents W.has_failed output.old output.new)) }
+{
+    let (mut store, mut desks) = Store::<C, R, M, &H>::open(
+        rt,
+        alloc,
+        settings,
+        options.workers,
+        charged,
+        released,
+        made,
+        events,
+        Some(JOURNAL_KEY),
+    )?;
+    let Some(mut desk) = desks.pop() else {
+        return Err(RunFault::Memory);
+    };
+    let keeper = reopen(alloc, &mut store, &mut desk, journal, JOURNAL_KEY)?;
+    desks.push_reserved(desk);
+    let keeping = InJournal {
+        keeper: SharedKeeper::new(keeper),
+    };
+    let served = serve_desks::<L, C, R, M, H, &H, InJournal<D, C>, W>(
+        rt,
+        alloc,
+        options,
+        place,
+        Shared::new(store),
+        desks,
+        &keeping,
+        output,
+    );
+    if keeping.has_failed() {
+        return Err(RunFault::Journal(JournalFault::Disk));
+    }
+    served
+}

@@ -1,0 +1,62 @@
+//! The command `talk` with a journal.
+ghost use Rattle.std.specs.Prelude.{◌≡◌, false};
+ghost use Rattle.tus_server.specs.Arguments.{talk_arguments_of};
+ghost use Rattle.tus_server.specs.KeptTalk.{KeptTalkEnds};
+ghost use Rattle.tus_server.specs.StreamUse.{used};
+
+use crate::at_journal::AtJournal;
+use crate::fault::RunFault;
+use crate::journal_fault::JournalFault;
+use crate::journals::{JOURNAL_KEY, Journals};
+use crate::options::TalkOptions;
+use crate::settings::settings_with;
+use http_wire::{Sink, Source, converse};
+use kept_book::open_or_create;
+use sqlite_disk::Disk;
+use std::alloc::Global;
+use tus_workers::MESSAGES_MAX;
+
+/// Holds one conversation over `reader` and `writer`, on the book that the file at `path` keeps, with the settings of the
+/// options. Each message has the moment of the options, and at most 4,096 are read. No reply tells of a change before the file
+/// has it, so a crash at any moment loses nothing of what was told.
+///
+/// It is `Ok` where the conversation ended, in whatever way. The error is the fault of the settings, or the journal's, and then
+/// both streams are untouched; `RunFault::Wire` with the stream where a read or a write failed; or `RunFault::Memory` where
+/// memory was lacking to begin with, and then nothing was read or written. Where a read, a write or a sync of the file fails
+/// later, that request and all after it are refused as Memory, and the error is the journal's, `JournalFault::Disk`, once the
+/// conversation has ended.
+pub fn talk_kept<D: Disk, J: Journals<Disk = D>, R: Source, W: Sink>(
+    journals: &J,
+    alloc: Global,
+    options: &TalkOptions,
+    path: &str,
+    reader: &mut R,
+    writer: &mut W,
+) -> Result<(), RunFault>
+where
+    D: Drop,
+    requires reader { R.has_failed reader.old ≡ false }
+    requires writer { W.has_failed writer.old ≡ false }
+    ensures { KeptTalkEnds D.seen D.may_leave D.is_clean (talk_arguments_of options.now)
+        (used R.remaining R.has_failed reader.old reader.new)
+        (used W.contents W.has_failed writer.old writer.new) result }
+{
+    let settings = settings_with(alloc, options.numbers, options.tenants)?;
+    let disk = journals.open(path)?;
+    let kept = open_or_create(alloc, settings, disk, JOURNAL_KEY)?;
+    let mut at = AtJournal {
+        kept,
+        has_failed: false,
+    };
+    converse(
+        alloc,
+        reader,
+        writer,
+        &mut at,
+        &[options.moment; MESSAGES_MAX],
+    )?;
+    if at.has_failed {
+        return Err(RunFault::Journal(JournalFault::Disk));
+    }
+    Ok(())
+}

@@ -1,0 +1,126 @@
+-- What waits in the queue of a store, step by step.
+use Rattle.std.specs.Prelude.{⊤}
+use Rattle.std.proofs.Common.{◌≡◌, ℕ, suc, length-append, ◌+◌, ◌≤◌, Bool, true, false, List, [], ◌∷◌, ◌++◌, append_assoc, zero-add, length, Option, Some, None, is_some, IsSome, IfSome, option_map, refl, sym, ap, ap₂, subst, ◌∙◌, arith}
+use Rattle.std.proofs.lemmas.List.{append-nil, map-append}
+use Rattle.std.proofs.lemmas.List.Sums.{sum_by-append}
+use mathlib.Core.List.{IsPrefix}
+use Rattle.logbook.specs.Pages.{Book}
+use Rattle.upload_book.specs.declared.change.Change.{Change}
+use Rattle.upload_book.specs.Settings.{Settings}
+use Rattle.head_board.specs.Event.{Event}
+use Rattle.head_board.specs.Events.{HaveHappened}
+use Rattle.tus_shared.specs.Journal.{AreTaken, change_frame, event_frame, event_frames, journal_len}
+use Rattle.tus_shared.specs.inside.QueueRule.{IsFramed, IsQueued, QueueView, Takes, Waits, new_queue, passed}
+use Rattle.tus_shared.proofs.ChangeLemmas.{event_by}
+
+-- lists that begin each other are the same
+pub prefix-both : (a b : List Event) → IsPrefix a b → IsPrefix b a → a ≡ b
+prefix-both a b p q = by_rest p.0 refl
+  where
+    by_rest : (rest : List Event) → p.0 ≡ rest → a ≡ b
+    by_rest [] is = sym (append-nil a) ∙ ap (λ (r : List Event). a ++ r) (sym is) ∙ p.1
+    by_rest (x ∷ rest) is =
+        let more : length p.0 ≡ suc (length rest) = ap (length {A = Event}) is in
+        let there : length a + length p.0 ≡ length b = sym (length-append a p.0) ∙ ap (length {A = Event}) p.1 in
+        let back : length b + length q.0 ≡ length a = sym (length-append b q.0) ∙ ap (length {A = Event}) q.1 in
+        absurd (omega arith)
+
+-- the frame that is to be queued is that of an event
+abbrev pub IsFrameOf : Option ℕ → Event → Option (List ℕ) → Type 0
+IsFrameOf journal e frame = IfSome frame (λ (bytes : List ℕ). bytes ≡ event_frame journal e)
+
+-- one that is there is
+frame-is : (journal : Option ℕ) (e : Event) (frame : Option (List ℕ)) (bytes : List ℕ) → frame ≡ Some bytes → IsFrameOf journal e frame → bytes ≡ event_frame journal e
+frame-is journal e frame bytes there is = subst (IsFrameOf journal e) there is
+
+-- the queue of a store after one event more
+pub queue-on : (journal : Option ℕ) (log : Book) (events after : List Event) (e : Event) (frame : Option (List ℕ)) (old new : Option QueueView) (room spare left : ℕ)
+    → IsFramed true old frame room spare new left → IsFrameOf journal e frame → after ≡ events ++ e ∷ [] → IsQueued journal log events old → IsQueued journal log after new
+queue-on journal log events after e frame None new room spare left framed is next queued = subst (IsQueued journal log after) (sym framed.1) (record { there = queued.there; waits = tt })
+queue-on journal log events after e frame (Some waiting) new room spare left framed is next queued =
+    let w : Waits journal log events waiting = queued.waits in
+    let frames : waiting.frames ++ framed.bytes ∷ [] ≡ event_frames journal w.more ++ event_frame journal e ∷ [] = ap₂ (λ (fs : List (List ℕ)) (b : List ℕ). fs ++ b ∷ []) w.frames_are (frame-is journal e frame framed.bytes framed.is is) in
+    subst (IsQueued journal log after) (sym framed.queued) (record {
+      there = queued.there;
+      waits = record {
+        log_is = w.log_is;
+        more = w.more ++ e ∷ [];
+        reaches = next ∙ ap (λ (l : List Event). l ++ e ∷ []) w.reaches ∙ append_assoc waiting.behind w.more (e ∷ []);
+        frames_are = frames ∙ sym (map-append (event_frame journal) w.more (e ∷ []));
+      };
+    })
+
+-- where no frame is queued, there is a queue, and it stays
+pub queue-stays : (frame : Option (List ℕ)) (old new : Option QueueView) (room spare left : ℕ) → IsFramed false old frame room spare new left → (new ≡ old) × (left ≡ room) × IsSome old
+queue-stays frame None new room spare left framed = absurd (cc (framed.0))
+queue-stays frame (Some waiting) new room spare left framed = (framed.0, framed.1, refl)
+
+-- the room falls by the frame of the event
+pub framed-spends : (journal : Option ℕ) (e : Event) (frame : Option (List ℕ)) (old new : Option QueueView) (room spare left : ℕ)
+    → IsFramed true old frame room spare new left → IsFrameOf journal e frame → is_some old ≡ is_some journal → left + length (event_frame journal e) ≡ room
+framed-spends None e frame None new room spare left framed is there = omega (arith, framed.2)
+framed-spends (Some key) e frame None new room spare left framed is there = absurd (cc (there))
+framed-spends journal e frame (Some waiting) new room spare left framed is there = ap (λ (b : List ℕ). left + length b) (sym (frame-is journal e frame framed.bytes framed.is is)) ∙ framed.spent
+
+-- and has what is to be spared
+pub framed-spares : (journal : Option ℕ) (frame : Option (List ℕ)) (old new : Option QueueView) (room spare left : ℕ)
+    → IsFramed true old frame room spare new left → is_some old ≡ is_some journal → IsSome journal → spare ≤ left
+framed-spares journal frame None new room spare left framed there journalled = absurd (let no : false ≡ true = there ∙ journalled in cc)
+framed-spares journal frame (Some waiting) new room spare left framed there journalled = framed.spared
+
+-- how long the frames are after one event more
+pub len-one : (journal : Option ℕ) (events : List Event) (e : Event) → journal_len journal (events ++ e ∷ []) ≡ journal_len journal events + length (event_frame journal e)
+len-one journal events e =
+    let len : Event → ℕ = λ (e : Event). length (event_frame journal e) in
+    sum_by-append len events (e ∷ []) ∙ ap (λ (n : ℕ). journal_len journal events + n) (zero-add (len e))
+
+-- what the room falls by, is the frame of the event that happened
+pub spends-one : (journal own : Option ℕ) (before after : List Event) (e : Event) (room left now : ℕ) → own ≡ journal → after ≡ before ++ e ∷ [] → now ≡ left → left + length (event_frame journal e) ≡ room
+    → now + journal_len own after ≡ room + journal_len own before
+spends-one journal own before after e room left now is next stays spent =
+    let len : journal_len own after ≡ journal_len own before + length (event_frame own e) = ap (journal_len own) next ∙ len-one own before e in
+    let same : length (event_frame own e) ≡ length (event_frame journal e) = ap (λ (j : Option ℕ). length (event_frame j e)) is in
+    omega arith
+
+-- a queue in which nothing waits begins behind more events
+pub queue-passed : (journal : Option ℕ) (log : Book) (events all : List Event) (old : Option QueueView) → IfSome old (λ (q : QueueView). q.frames ≡ []) → IsQueued journal log events old → IsQueued journal log all (passed old log all)
+queue-passed journal log events all None idle queued = record { there = queued.there; waits = tt }
+queue-passed journal log events all (Some waiting) idle queued = record {
+  there = queued.there;
+  waits = record { log_is = refl; more = []; reaches = sym (append-nil all); frames_are = idle };
+}
+
+-- that of a new store
+pub queue-new : (journal : Option ℕ) (log : Book) → IsQueued journal log [] (new_queue journal log [])
+queue-new None log = record { there = refl; waits = tt }
+queue-new (Some key) log = record { there = refl; waits = record { log_is = refl; more = []; reaches = refl; frames_are = refl } }
+
+-- frames that are taken out of the queue
+pub frames-taken : (s : Settings) (journal : Option ℕ) (log : Book) (events from : List Event) (waiting : List (List ℕ)) (old new : Option QueueView) → HaveHappened s events → Takes old from waiting log events new → IsQueued journal log events old
+    → AreTaken s journal from events waiting
+frames-taken s journal log events from waiting old new happened takes queued =
+    let w : Waits journal log events takes.queue = (subst (IsQueued journal log events) takes.was queued).waits in
+    record {
+      more = w.more;
+      happened = happened;
+      reaches = w.reaches ∙ ap (λ (l : List Event). l ++ w.more) (sym takes.begins);
+      are = takes.all ∙ w.frames_are;
+    }
+
+pub queue-taken : (journal : Option ℕ) (log : Book) (events from : List Event) (waiting : List (List ℕ)) (old new : Option QueueView) → Takes old from waiting log events new → IsQueued journal log events old → IsQueued journal log events new
+queue-taken journal log events from waiting old new takes queued =
+    let there : true ≡ is_some journal = (subst (IsQueued journal log events) takes.was queued).there in
+    subst (IsQueued journal log events) (sym takes.empty) (record {
+      there = there;
+      waits = record { log_is = refl; more = []; reaches = sym (append-nil events); frames_are = refl };
+    })
+
+-- a queue is there where there is a journal
+pub queue-journal : (journal : Option ℕ) (log : Book) (events : List Event) (queue : Option QueueView) → IsQueued journal log events queue → IsSome queue → IsSome journal
+queue-journal journal log events queue queued there = sym queued.there ∙ there
+
+-- a frame that was made of a change is that of its event
+pub frame-given : {V : Type 0} (frame : Option V) (items : V → List ℕ) (journal : Option ℕ) (desk : ℕ) (change : Change) (now : ℕ)
+    → IfSome frame (λ (v : V). items v ≡ change_frame journal change now) → IsFrameOf journal (event_by desk change now) (option_map items frame)
+frame-given None items journal desk change now given = tt
+frame-given (Some v) items journal desk change now given = given

@@ -1,0 +1,44 @@
+-- The journal of a store: the frames of the records of what happened, one for each event, which wait to be written.
+use Rattle.std.specs.Prelude.{◌≡◌, ℕ, List, [], ◌∷◌, ◌++◌, length, map, Option, Some, None}
+use Rattle.std.specs.List.{sum_by}
+use Rattle.journal_frames.specs.Frames.{frames}
+use Rattle.journal_records.specs.Records.{record_bytes}
+use Rattle.upload_book.specs.declared.change.Change.{Change}
+use Rattle.upload_book.specs.declared.change.Change.TheVariants as change
+use Rattle.upload_book.specs.Settings.{Settings}
+use Rattle.head_board.specs.Event.{Event}
+use Rattle.head_board.specs.Events.{HaveHappened}
+
+-- the frame of the record of a change and its moment, under the key of the journal; without a journal there is none
+abbrev pub change_frame : Option ℕ → Change → ℕ → List ℕ
+change_frame None change now = []
+change_frame (Some key) change now = frames key (record_bytes now change ∷ [])
+
+-- that of an event
+abbrev pub event_frame : Option ℕ → Event → List ℕ
+event_frame journal e = change_frame journal e.change e.now
+
+-- those of events, one each, in their order
+abbrev pub event_frames : Option ℕ → List Event → List (List ℕ)
+event_frames journal events = map {A = Event} {B = List ℕ} (event_frame journal) events
+
+-- how many bytes these have together
+abbrev pub journal_len : Option ℕ → List Event → ℕ
+journal_len journal events = sum_by (λ (e : Event). length (event_frame journal e)) events
+
+-- How many bytes of room the record of a change leaves at least: one that ends uploads may take all, so that they can be
+-- ended when nothing else has room.
+abbrev pub spare_of : Change → ℕ
+spare_of (change.Create tenant new first) = 65536
+spare_of (change.Append name chunk) = 65536
+spare_of (change.Concat tenant new) = 65536
+spare_of (change.Terminate name) = 0
+spare_of change.Sweep = 0
+
+-- Frames that were taken out of a queue which began behind some events: they are those of the records of all events after
+-- these, up to the last that happened, one each, in their order.
+pub record AreTaken (s : Settings) (journal : Option ℕ) (from reached : List Event) (waiting : List (List ℕ)) : Type 0 where
+  pub more : List Event
+  pub happened : HaveHappened s reached
+  pub reaches : reached ≡ from ++ more
+  pub are : waiting ≡ event_frames journal more

@@ -1,0 +1,38 @@
+//! What keeps the changes of a store beyond its process.
+ghost use Rattle.std.specs.Prelude.{◌≡◌, IsTrue};
+ghost use mathlib.Core.List.{IsPrefix};
+
+use std::sync::Wait;
+use std::sync::ledger::Ledger;
+use tus_shared::{Charges, Desk, Shared};
+
+/// What keeps what happens at the desks of a store, so that it outlives the process.
+pub trait Keeping<C: Charges, R: Ledger, M: Ledger, B: Wait + Drop> {
+    /// Sees to it that a desk may queue records of so many bytes, and 65,536 more, if there is room for them. It may wait for
+    /// other desks, and for a disk.
+    fn make_room<W: Wait>(&self, rt: &W, desk: &mut Desk<C, R, M>, bytes: u64)
+        ensures { desk.new ≡ record desk.old { room = desk.new.room } };
+
+    /// Keeps all that a desk has seen, and tells the desk. Says whether that is kept. It may wait for other desks, and for a
+    /// disk.
+    fn keep<W: Wait>(&self, rt: &W, shared: &Shared<C, R, M, B>, desk: &mut Desk<C, R, M>) -> bool
+        ensures kept { IsTrue result → IsPrefix desk.new.seen desk.new.kept }
+        ensures alone { desk.new ≡ record desk.old { kept = desk.new.kept } };
+}
+
+/// Nothing outlives the process.
+#[derive(Clone, Copy)]
+pub struct NoJournal;
+
+impl<C: Charges, R: Ledger, M: Ledger, B: Wait + Drop> Keeping<C, R, M, B> for NoJournal {
+    fn make_room<W: Wait>(&self, _rt: &W, _desk: &mut Desk<C, R, M>, _bytes: u64) {}
+
+    fn keep<W: Wait>(
+        &self,
+        _rt: &W,
+        _shared: &Shared<C, R, M, B>,
+        desk: &mut Desk<C, R, M>,
+    ) -> bool {
+        desk.is_kept()
+    }
+}

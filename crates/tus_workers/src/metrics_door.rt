@@ -1,0 +1,272 @@
+//! Where numbers are asked for: a second listener, which answers `GET /metrics` and `GET /health`.
+
+use mio::net::{TcpListener, TcpStream};
+use mio::{Events, Interest, Registry, Token};
+use slab::Slab;
+use std::alloc::{AllocError, Global};
+use std::io::{ErrorKind, Read, Write};
+use std::{io, net};
+
+/// The token of the listener. No client has it, since there are fewer keys.
+const DOOR: usize = usize::MAX - 2;
+
+/// The most connections that are held. The token of each is below that of the listener by its key and one more.
+pub(crate) const ASKERS_MAX: usize = 16;
+
+/// The most bytes of a request that are read.
+const REQUEST_MAX: usize = 8_192;
+
+/// For how many seconds a connection is held.
+const SECONDS_MAX: u64 = 5;
+
+/// How many bytes are read at once, and how often in one turn.
+const READ_SIZE: usize = 1_024;
+
+const READS_MAX: usize = 16;
+
+/// The end of a request's head.
+const HEAD_END: &[u8] = b"\r\n\r\n";
+
+/// What somebody asks for.
+#[derive(Clone, Copy, Debug, PartialEq, Eq)]
+pub(crate) enum Question {
+    /// All numbers.
+    Metrics,
+    /// Whether the service is there.
+    Health,
+    /// Something else.
+    Other,
+}
+
+/// A question of one connection.
+#[derive(Clone, Copy)]
+pub(crate) struct Asked {
+    pub key: usize,
+    pub question: Question,
+}
+
+/// A connection of somebody who asks.
+#[derive(Drop)]
+struct Asker {
+    stream: TcpStream,
+    // What came of the request.
+    request: Vec<u8>,
+    // The question that came and is not answered yet, and whether one came at all.
+    question: Option<Question>,
+    has_asked: bool,
+    // What is to be sent, and how much of it was.
+    reply: Vec<u8>,
+    sent: usize,
+    // When the connection came.
+    since: u64,
+}
+
+/// A listener at which numbers are asked for, beside the clients of a worker, and who asks.
+#[derive(Drop)]
+pub(crate) struct MetricsDoor {
+    listener: TcpListener,
+    askers: Slab<Asker>,
+}
+
+impl MetricsDoor {
+    /// A door at this listener, of which the registry tells. The error is the system's, or that memory is lacking.
+    pub fn open(
+        alloc: Global,
+        listener: net::TcpListener,
+        registry: &Registry,
+    ) -> io::Result<MetricsDoor> {
+        listener.set_nonblocking(true)?;
+        let mut listener = TcpListener::from_std(listener);
+        registry.register(&mut listener, Token(DOOR), Interest::READABLE)?;
+        let askers = Slab::with_capacity(alloc, ASKERS_MAX)?;
+        Ok(MetricsDoor { listener, askers })
+    }
+
+    /// Takes in who comes, reads and sends what can be, and lets go who stays too long at this second.
+    pub fn serve(&mut self, alloc: Global, registry: &Registry, events: &Events, second: u64) {
+        for event in events.iter() {
+            let token = event.token().0;
+            if token == DOOR {
+                self.take_in(alloc, registry, second);
+            } else if token < DOOR && DOOR - token <= ASKERS_MAX {
+                self.turn(DOOR - token - 1);
+            }
+        }
+        self.let_go(second);
+    }
+
+    /// The next question that came and is not answered yet. It is given once.
+    pub fn next_question(&mut self) -> Option<Asked> {
+        for key in 0..ASKERS_MAX {
+            if let Some(asker) = self.askers.get_mut(key)
+                && let Some(question) = asker.question.take()
+            {
+                return Some(Asked { key, question });
+            }
+        }
+        None
+    }
+
+    /// Sends this reply to who asked, as far as that goes without waiting. Where there is none, since memory was lacking, the
+    /// connection ends.
+    pub fn reply(&mut self, key: usize, reply: Option<Vec<u8>>) {
+        let Some(reply) = reply else {
+            let _ = self.askers.try_remove(key);
+            return;
+        };
+        if let Some(asker) = self.askers.get_mut(key) {
+            asker.reply = reply;
+        }
+        self.turn(key);
+    }
+
+    // Takes in one connection, if one waits. One that finds no place is let go.
+    fn take_in(&mut self, alloc: Global, registry: &Registry, second: u64) {
+        if let Ok((stream, _)) = self.listener.accept()
+            && self.askers.len() < ASKERS_MAX
+        {
+            self.admit(alloc, registry, stream, second);
+        }
+        let _ = registry.reregister(&mut self.listener, Token(DOOR), Interest::READABLE);
+    }
+
+    fn admit(&mut self, alloc: Global, registry: &Registry, stream: TcpStream, second: u64) {
+        let asker = Asker {
+            stream,
+            request: Vec::new(alloc),
+            question: None,
+            has_asked: false,
+            reply: Vec::new(alloc),
+            sent: 0,
+            since: second,
+        };
+        let Ok(key) = self.askers.insert(asker) else {
+            return;
+        };
+        let both = Interest::READABLE | Interest::WRITABLE;
+        let is_told = match self.askers.get_mut(key) {
+            Some(asker) if key < ASKERS_MAX => {
+                registry
+                    .register(&mut asker.stream, Token(DOOR - 1 - key), both)
+                    .is_ok()
+            }
+            _ => false,
+        };
+        if !is_told {
+            let _ = self.askers.try_remove(key);
+        }
+    }
+
+    // Reads and sends what can be on this connection. It ends once its reply was sent, or where it failed.
+    fn turn(&mut self, key: usize) {
+        let Some(asker) = self.askers.get_mut(key) else {
+            return;
+        };
+        if !asker.go_on() {
+            let _ = self.askers.try_remove(key);
+        }
+    }
+
+    // Lets go who has stayed too long at this second.
+    fn let_go(&mut self, second: u64) {
+        for key in 0..ASKERS_MAX {
+            let is_late = match self.askers.get(key) {
+                Some(asker) => second.saturating_sub(asker.since) > SECONDS_MAX,
+                None => false,
+            };
+            if is_late {
+                let _ = self.askers.try_remove(key);
+            }
+        }
+    }
+}
+
+impl Asker {
+    // Reads and sends what can be. It is false where the connection is over.
+    fn go_on(&mut self) -> bool {
+        self.read() && self.send()
+    }
+
+    // Reads what came, until the whole head of a request is there. What comes after it is dropped. It is false where the
+    // input ended before, or the request is too long.
+    fn read(&mut self) -> bool {
+        let mut bytes = [0; READ_SIZE];
+        for _ in 0..READS_MAX {
+            match self.stream.read(&mut bytes) {
+                Ok(0) => return self.has_asked,
+                Ok(count) => {
+                    if !self.take(&bytes, count) {
+                        return false;
+                    }
+                }
+                Err(error) => return error.kind() == ErrorKind::WouldBlock,
+            }
+        }
+        true
+    }
+
+    // Takes so many bytes that came. It is false where the request is too long, or memory is lacking.
+    fn take(&mut self, bytes: &[u8], count: usize) -> bool {
+        if self.has_asked {
+            return true;
+        }
+        let came = bytes.get(..count).unwrap_or(b"");
+        if self.request.len().saturating_add(came.len()) > REQUEST_MAX
+            || self.request.extend_from_slice(came).is_err()
+        {
+            return false;
+        }
+        if has_head(&self.request) {
+            self.has_asked = true;
+            self.question = Some(question_in(&self.request));
+        }
+        true
+    }
+
+    // Sends what can be of the reply. It is false once all of it was sent, or where that failed.
+    fn send(&mut self) -> bool {
+        for _ in 0..READS_MAX {
+            let rest = self.reply.get(self.sent..).unwrap_or(b"");
+            if rest.is_empty() {
+                return self.reply.is_empty();
+            }
+            match self.stream.write(rest) {
+                Ok(count) if count > 0 => self.sent = self.sent.saturating_add(count),
+                Ok(_) => return false,
+                Err(error) => return error.kind() == ErrorKind::WouldBlock,
+            }
+        }
+        true
+    }
+}
+
+// Whether the whole head of a request is there.
+fn has_head(request: &[u8]) -> bool {
+    request.windows(HEAD_END.len()).any(|part| part == HEAD_END)
+}
+
+// What a request asks for.
+fn question_in(request: &[u8]) -> Question {
+    if request.starts_with(b"GET /metrics ") {
+        Question::Metrics
+    } else if request.starts_with(b"GET /health ") {
+        Question::Health
+    } else {
+        Question::Other
+    }
+}
+
+/// A reply with this status and this text, after which the connection ends. The error is that memory is lacking.
+pub(crate) fn reply_with(alloc: Global, status: &[u8], text: &[u8]) -> Result<Vec<u8>, AllocError> {
+    let mut reply = Vec::new(alloc);
+    let length = text.len().to_string(alloc)?;
+    reply.extend_from_slice(b"HTTP/1.1 ")?;
+    reply.extend_from_slice(status)?;
+    reply.extend_from_slice(
+        b"\r\nContent-Type: text/plain; version=0.0.4; charset=utf-8\r\nConnection: close\r\nContent-Length: ",
+    )?;
+    reply.extend_from_slice(length.as_bytes())?;
+    reply.extend_from_slice(b"\r\n\r\n")?;
+    reply.extend_from_slice(text)?;
+    Ok(reply)
+}

@@ -1,0 +1,231 @@
+//! What is seen of the requests of one client, until it is told.
+ghost use Rattle.std.specs.Prelude.{◌≤◌, IfSome};
+
+use crate::observer::Observer;
+use http_wire::{Connection, Incoming};
+use service_watch::{WORD_MAX, Word};
+use std::alloc::Global;
+use std::net::SocketAddr;
+use tus_steps::{Method, Request};
+use tus_text::Path;
+
+/// What every reply begins with, before its status.
+const VERSION: &[u8] = b"HTTP/1.1 ";
+
+/// What stands between the head of a reply and its body.
+const EMPTY_LINE: &[u8] = b"\r\n\r\n";
+
+/// The least status of a refusal.
+const REFUSED: u16 = 400;
+
+/// One request that was answered.
+#[derive(Drop)]
+pub(crate) struct Answered {
+    /// The method in force; none where no whole head came.
+    pub method: Option<Method>,
+    pub path: Path,
+    /// The status of its reply; none where it gets none.
+    pub status: Option<u16>,
+    /// The word of its refusal, as the body of the reply tells it: that to a HEAD has none.
+    pub word: Word,
+    /// How many bytes came of its body, and how many its reply has.
+    pub received: u64,
+    pub sent: u64,
+    /// When its first byte came, in microseconds of the worker's clock.
+    pub began: u64,
+}
+
+/// What is known of a client's requests that is not told yet.
+#[derive(Drop)]
+pub(crate) struct Record {
+    pub peer: Option<SocketAddr>,
+    /// The requests whose replies may not be sent yet.
+    pub answered: Vec<Answered>,
+    /// How many bytes were read and sent.
+    pub received: u64,
+    pub sent: u64,
+    /// How many requests can't be told, since memory is lacking.
+    pub lost: u64,
+    // What is being answered, and how many bytes were pending before.
+    asked: Option<Answered>,
+    before: usize,
+    // When this turn began, and the message that is under way, in microseconds.
+    now: u64,
+    began: Option<u64>,
+}
+
+/// What is seen of one client; nothing where nobody watches.
+#[derive(Drop)]
+pub(crate) struct Seen {
+    pub record: Option<Box<Record>>,
+}
+
+impl Record {
+    /// Nothing is known yet of this client.
+    pub fn new(alloc: Global, peer: Option<SocketAddr>) -> Self {
+        Record {
+            peer,
+            answered: Vec::new(alloc),
+            received: 0,
+            sent: 0,
+            lost: 0,
+            asked: None,
+            before: 0,
+            now: 0,
+            began: None,
+        }
+    }
+
+    fn ask(&mut self, connection: &Connection) {
+        let began = self.began.unwrap_or(self.now);
+        self.began = None;
+        self.before = connection.pending_len();
+        self.asked = match connection.incoming() {
+            Some(Incoming::Message(message)) => Some(answered_of(&message.request(), began)),
+            Some(Incoming::CutPatch(message, _)) => Some(answered_of(&message.request(), began)),
+            Some(Incoming::Refused(_, _)) => Some(unknown_at(began)),
+            _ => None,
+        };
+    }
+
+    fn answer(&mut self, connection: &Connection) {
+        let Some(mut answered) = self.asked.take() else {
+            return;
+        };
+        let put = connection.pending_len().saturating_sub(self.before);
+        answered.sent = put as u64;
+        if let Some(reply) = connection.pending().get(self.before..) {
+            answered.status = status_of(reply);
+            answered.word = word_of(answered.status, reply);
+        }
+        if self.answered.push(answered).is_err() {
+            self.lost = self.lost.saturating_add(1);
+        }
+    }
+}
+
+impl Seen {
+    /// A turn begins at this microsecond.
+    pub fn begin_turn(&mut self, now: u64) {
+        if let Some(record) = &mut self.record {
+            record.now = now;
+        }
+    }
+}
+
+impl Observer for Seen {
+    fn has_read(&mut self, bytes: usize) {
+        if let Some(record) = &mut self.record {
+            record.received = record.received.saturating_add(bytes as u64);
+            if bytes > 0 && record.began.is_none() {
+                record.began = Some(record.now);
+            }
+        }
+    }
+
+    fn has_sent(&mut self, bytes: usize) {
+        if let Some(record) = &mut self.record {
+            record.sent = record.sent.saturating_add(bytes as u64);
+        }
+    }
+
+    fn asks(&mut self, connection: &Connection) {
+        if let Some(record) = &mut self.record {
+            record.ask(connection);
+        }
+    }
+
+    fn has_answered(&mut self, connection: &Connection) {
+        if let Some(record) = &mut self.record {
+            record.answer(connection);
+        }
+    }
+}
+
+// What is known of a request before it is answered.
+fn answered_of(request: &Request, began: u64) -> Answered {
+    Answered {
+        method: Some(request.method),
+        path: copied(&request.path),
+        status: None,
+        word: Word::empty(),
+        received: request.body.len() as u64,
+        sent: 0,
+        began,
+    }
+}
+
+// The same of one whose head did not come whole.
+fn unknown_at(began: u64) -> Answered {
+    Answered {
+        method: None,
+        path: Path::Other,
+        status: None,
+        word: Word::empty(),
+        received: 0,
+        sent: 0,
+        began,
+    }
+}
+
+fn copied(path: &Path) -> Path {
+    match path {
+        Path::Create { tenant } => Path::Create {
+            tenant: tenant.copied(),
+        },
+        Path::Upload { tenant, id } => Path::Upload {
+            tenant: tenant.copied(),
+            id: *id,
+        },
+        Path::Other => Path::Other,
+    }
+}
+
+// The status of a reply.
+fn status_of(reply: &[u8]) -> Option<u16> {
+    match reply.strip_prefix(VERSION)? {
+        [a, b, c, ..] => Some(digit(*a)? * 100 + digit(*b)? * 10 + digit(*c)?),
+        _ => None,
+    }
+}
+
+fn digit(byte: u8) -> Option<u16>
+    ensures { IfSome result (λ d. d ≤ 9) }
+{
+    if byte.is_ascii_digit() {
+        Some(u16::from(byte - b'0'))
+    } else {
+        None
+    }
+}
+
+// The word of a refusal, which is the body of its reply but for LF.
+fn word_of(status: Option<u16>, reply: &[u8]) -> Word {
+    match status {
+        Some(status) if status >= REFUSED => word_in(reply),
+        _ => Word::empty(),
+    }
+}
+
+fn word_in(reply: &[u8]) -> Word {
+    let Some(place) = place_of_body(reply) else {
+        return Word::empty();
+    };
+    match without_line_feed(reply.get(place..).unwrap_or(b"")) {
+        Some(word) if word.len() <= WORD_MAX => Word::of(word),
+        _ => Word::empty(),
+    }
+}
+
+// What stands before the LF that ends a body.
+fn without_line_feed(body: &[u8]) -> Option<&[u8]> {
+    body.strip_suffix(b"\n")
+}
+
+// Where the body of a reply begins.
+fn place_of_body(reply: &[u8]) -> Option<usize> {
+    let place = reply
+        .windows(EMPTY_LINE.len())
+        .position(|part| part == EMPTY_LINE)?;
+    Some(place.saturating_add(EMPTY_LINE.len()))
+}
