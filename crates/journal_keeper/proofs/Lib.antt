@@ -1,5 +1,4 @@
 pub mod DeskLemmas
-pub mod GrantLemmas
 pub mod KeeperLemmas
 pub mod OpeningLemmas
 pub mod WaitingLemmas

@@ -4,10 +4,10 @@ ghost use Rattle.head_board.specs.Events.{HaveHappened};
 ghost use Rattle.tus_shared.specs.Journal.{journal_len};
 ghost use Rattle.journal_file.specs.Journal.{disk_of, key_of, room_of, IsJournal};
 ghost use Rattle.journal_keeper.specs.Keeper.{event_records, IsLeft};
-ghost use Rattle.journal_keeper.specs.Granting.{Grants, HasRoom, MayGrant};
+ghost use Rattle.journal_keeper.specs.Granting.{Grants, HasRoom, IsNeeded, MayGrant};
 
 use crate::fault::KeepFault;
-use crate::granting::more_for;
+use crate::granting::{AHEAD, SPARE, needed_for};
 use crate::journalled::Journalled;
 use crate::keeping::make_room;
 use crate::taking::{keep_waiting, tell};
@@ -174,13 +174,18 @@ impl<D: Disk, C: Journalled> Keeper<D, C> {
 
     /// Sees to it that a desk may queue so many bytes of records, and 65,536 more. Where it has less room than that, it is granted
     /// so much that it has room for these and 4 MiB more; and the journal is made longer before, where it has no room for all
-    /// that was granted and not used. Where it can't be, as on a full disk, or keeping has failed, nothing is granted, and
-    /// what the desk has and what is kept stay: a change is then refused as Memory where it takes more.
+    /// that was granted and not used. Where it can't be, as on a full disk, the 4 MiB are left out; and where it can't be
+    /// either, the desk is granted room for 65,536 bytes, by which uploads can be ended. Where that can't be, or keeping has
+    /// failed, nothing is granted, and what the desk has and what is kept stay: a change is then refused as Memory where it
+    /// takes more.
     pub fn make_room<R: Ledger, M: Ledger>(&mut self, desk: &mut Desk<C, R, M>, bytes: u64)
         ensures grants { MayGrant bytes self.old self.new desk.old desk.new }
         // Where there is room for it, it is granted, and the disk is asked for nothing.
-        ensures granted { HasRoom bytes self.old desk.old
-            → Grants bytes self.old self.new desk.old desk.new × (self.new.disk ≡ self.old.disk) }
+        ensures granted { IsNeeded bytes desk.old → HasRoom (bytes + 65536 + 4194304) self.old desk.old
+            → Grants (bytes + 65536 + 4194304) self.old self.new desk.old desk.new × (self.new.disk ≡ self.old.disk) }
+        // Where there is room for less, the desk has no less in the end.
+        ensures less { IsNeeded bytes desk.old → HasRoom (bytes + 65536) self.old desk.old → bytes + 65536 ≤ desk.new.room }
+        ensures least { IsNeeded bytes desk.old → HasRoom 65536 self.old desk.old → 65536 ≤ desk.new.room }
         ensures enough { bytes + 65536 ≤ desk.old.room → (desk.new ≡ desk.old) × (self.new ≡ self.old) }
         ensures kept { self.new.kept ≡ self.old.kept }
         ensures failed { self.new.failed ≡ self.old.failed }
@@ -190,15 +195,37 @@ impl<D: Disk, C: Journalled> Keeper<D, C> {
         if self.has_failed {
             return;
         }
-        let Some(more) = more_for(desk.room(), bytes) else {
+        let Some(needed) = needed_for(desk.room(), bytes) else {
             return;
         };
-        let Some(all) = self.granted.checked_add(more) else {
-            return;
-        };
-        if make_room(self.alloc, &mut self.journal, all).is_ok() {
-            self.granted = all;
-            desk.grant(more);
+        let _granted = self.grant(desk, needed + AHEAD)
+            || self.grant(desk, needed)
+            || self.grant(desk, SPARE);
+    }
+
+    // Grants a desk that has less so much that it has this room, where the journal has or gets room for it. Whether it did.
+    fn grant<R: Ledger, M: Ledger>(&mut self, desk: &mut Desk<C, R, M>, room: u64) -> bool
+        requires { self.old.failed ≡ false }
+        ensures granted { IsTrue result → Grants room self.old self.new desk.old desk.new }
+        ensures stays { result ≡ false → (desk.new ≡ desk.old) × (self.new.promised ≡ self.old.promised) }
+        ensures there { HasRoom room self.old desk.old → (result ≡ true) × (self.new.disk ≡ self.old.disk) }
+        ensures kept { self.new.kept ≡ self.old.kept }
+        ensures failed { self.new.failed ≡ self.old.failed }
+        ensures key { self.new.key ≡ self.old.key }
+        ensures room { self.old.room ≤ self.new.room }
+    {
+        if desk.room() >= room {
+            return false;
         }
+        let more = room - desk.room();
+        let Some(all) = self.granted.checked_add(more) else {
+            return false;
+        };
+        if make_room(self.alloc, &mut self.journal, all).is_err() {
+            return false;
+        }
+        self.granted = all;
+        desk.grant(more);
+        true
     }
 }

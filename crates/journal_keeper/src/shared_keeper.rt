@@ -3,7 +3,7 @@ ghost use mathlib.Core.List.{IsPrefix};
 ghost use Rattle.journal_keeper.specs.Granting.{MayHaveMore};
 
 use crate::fault::KeepFault;
-use crate::granting::more_for;
+use crate::granting::needed_for;
 use crate::journalled::Journalled;
 use crate::keeper::Keeper;
 use sqlite_disk::Disk;
@@ -56,7 +56,7 @@ impl<D: Disk, C: Journalled> SharedKeeper<D, C> {
     )
         ensures { MayHaveMore bytes desk.old desk.new }
     {
-        if more_for(desk.room(), bytes).is_some() {
+        if needed_for(desk.room(), bytes).is_some() {
             self.keeper.lock(rt).make_room(desk, bytes);
         }
     }

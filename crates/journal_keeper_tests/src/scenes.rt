@@ -29,6 +29,7 @@ const ROOM: usize = 1000;
 enum Scene {
     OneSyncServesBoth,
     RoomIsMade,
+    DiskIsNearlyFull { granted: u64 },
     DiskIsFull,
     SyncFails,
     IsLeftAfterACrash,
@@ -89,6 +90,20 @@ fn room_is_made<C: Journalled, R: Ledger, M: Ledger, W: Wait + Abort>(
     assert!(rt; desk.room() == 100 + 65_536 + 4_194_304);
     let keeper = keeper.into_keeper();
     assert!(rt; keeper.disk().inner().bytes().len() > 4_259_940);
+}
+
+// On a disk without room for 4 MiB ahead a desk is granted this room for 200 bytes of records, and the next one nothing.
+fn disk_is_nearly_full<C: Journalled, R: Ledger, M: Ledger, W: Wait + Abort>(
+    rt: &W,
+    mut keeper: Keeper<Fuse<TornDisk>, C>,
+    first: &mut Desk<C, R, M>,
+    second: &mut Desk<C, R, M>,
+    granted: u64,
+) {
+    keeper.make_room(first, 200);
+    assert!(rt; first.room() == granted);
+    keeper.make_room(second, 200);
+    assert!(rt; second.room() == 0);
 }
 
 // On a full disk no room is granted, and a change is refused. An upload can still be ended, and all is kept.
@@ -203,6 +218,9 @@ fn play<C: Journalled, R: Ledger, M: Ledger, W: Wait + Abort>(
             one_sync_serves_both(rt, &shared, keeper, &mut first, &mut second);
         }
         Scene::RoomIsMade => room_is_made(rt, keeper, &mut first),
+        Scene::DiskIsNearlyFull { granted } => {
+            disk_is_nearly_full(rt, keeper, &mut first, &mut second, granted);
+        }
         Scene::DiskIsFull => disk_is_full(rt, &shared, keeper, &mut first),
         Scene::SyncFails => sync_fails(rt, &shared, keeper, &mut first),
         Scene::IsLeftAfterACrash => {
@@ -249,6 +267,21 @@ fn one_sync_serves_two_desks(rt: HostRuntime) -> Result<(), Fail> {
 #[test]
 fn room_is_granted(rt: HostRuntime) -> Result<(), Fail> {
     play_at(&rt, rt.alloc(), usize::MAX, u64::MAX, Scene::RoomIsMade)
+}
+
+// So many bytes are left for records, and the room that a desk is granted then.
+#[test]
+fn a_nearly_full_disk(rt: HostRuntime) -> Result<(), Fail> {
+    for (left, granted) in [(65_736, 65_736), (65_735, 65_536), (65_536, 65_536), (65_535, 0)] {
+        play_at(
+            &rt,
+            rt.alloc(),
+            left + 16,
+            u64::MAX,
+            Scene::DiskIsNearlyFull { granted },
+        )?;
+    }
+    Ok(())
 }
 
 #[test]

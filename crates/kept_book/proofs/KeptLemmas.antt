@@ -106,13 +106,18 @@ module _ {D : Type 0} {g : Ghosts D} where
   pub kept-leaves : (kept : KeptBook D g) (s : Settings) (events : List ChangeEvent) → IsKept kept s events → (c : List ℕ) → g.may_leave (disk_in kept) c → IsLeft (key_in kept) s events c
   kept-leaves kept s events is c left = left-all _ s events c is.happened (journal_leaves kept.log.journal (records_of events) [] is.log.journal c left)
 
+  -- what is read of the frames that an opening gives
+  pub read-again : (journal : Journal D g) (events : List ChangeEvent) (key read_key : ℕ) (found : List (List ℕ)) (bytes rest : List ℕ) → IsJournal journal found [] → found ≡ records_of events → bytes ≡ frames key found → read_key ≡ key → rest ≡ bytes
+      → recovered read_key rest ≡ records_of events
+  read-again journal events key read_key found bytes rest is all bytes_are read_is rest_is =
+      ap (λ (k : ℕ). recovered k rest) read_is ∙ ap (recovered key) (rest_is ∙ bytes_are) ∙ recovered-frames key found is.fits ∙ all
+
   -- a book that was opened
   pub kept-opened : (kept : KeptBook D g) (journal : Journal D g) (s : Settings) (events : List ChangeEvent) (key read_key : ℕ) (found : List (List ℕ)) (bytes rest : List ℕ) → kept.log.journal ≡ journal → kept.log.key ≡ key → key_of journal ≡ key → IsJournal journal found []
       → found ≡ records_of events → bytes ≡ frames key found → read_key ≡ key → rest ≡ bytes → replayed 1 (opening_book s) (recovered read_key rest) ≡ Ok (book_in kept) → AllHappen (opening_book s) events
       → IsKept kept s events
   kept-opened kept journal s events key read_key found bytes rest journal_is log_key key_is is all bytes_are read_is rest_is made happened =
-      let read : recovered read_key rest ≡ records_of events =
-      ap (λ (k : ℕ). recovered k rest) read_is ∙ ap (recovered key) (rest_is ∙ bytes_are) ∙ recovered-frames key found is.fits ∙ all in
+      let read = read-again journal events key read_key found bytes rest is all bytes_are read_is rest_is in
       let again = all-replayed 1 (opening_book s) events happened in
       record {
         log = record {

@@ -1,4 +1,5 @@
 pub mod KeptLemmas
+pub mod OpeningLemmas
 pub mod ReadyLemmas
 pub mod SessionLemmas
 pub mod StepLemmas

@@ -1,5 +1,6 @@
 pub mod Answer
 pub mod Done
 pub mod Kept
+pub mod OpenFault
 pub mod Session
 pub mod Sweeping

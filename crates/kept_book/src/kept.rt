@@ -1,6 +1,7 @@
-ghost use Rattle.std.specs.Prelude.{◌≡◌, ◌++◌, [], ℕ, List, true, length, IsTrue, IfOk, IsErrOf, OnErr, OnOk};
+ghost use Rattle.std.specs.Prelude.{◌≡◌, ◌++◌, [], ℕ, List, true, length, IsTrue, IfErr, IfOk, IsErrOf, OnErr, OnOk};
 ghost use Rattle.journal_file.specs.Journal.{disk_of};
-ghost use Rattle.journal_frames.specs.Frames.{recovered};
+ghost use Rattle.journal_frames.specs.Frames.{recovered, tail_of};
+ghost use Rattle.journal_frames.specs.declared.tail.Tail.TheVariants.{Torn};
 ghost use Rattle.tus_steps.specs.PlacedReply.{reply_in};
 ghost use Rattle.upload_book.specs.Book.{plain_of};
 ghost use Rattle.upload_book.specs.Change.{CanBeMade};
@@ -8,6 +9,7 @@ ghost use Rattle.upload_book.specs.Events.{ChangeEvent};
 ghost use Rattle.upload_book.specs.PlainBook.{opening_book};
 ghost use Rattle.upload_book.specs.Settings.{Settings as Numbers};
 ghost use Rattle.kept_book.specs.Done.{done_reply};
+ghost use Rattle.kept_book.specs.OpenFault.{IsOutsideFile};
 ghost use Rattle.kept_book.specs.Sweeping.{IsSwept};
 ghost use Rattle.upload_book.specs.Sweep.{EndsNone};
 
@@ -62,7 +64,8 @@ impl<D: Disk> KeptBook<D> {
     /// Opens the book of these settings whose changes a journal under this key holds, as far as [`Journal::open`] finds
     /// them: each is made again on the book that the ones before it left. It may crash too, and be called again.
     ///
-    /// `Err` gives the disk back, with the error of `Journal::open` or that of [`replay`].
+    /// `Err` gives the disk back, with the error of `Journal::open` or that of [`replay`]. Of a file that a kept book of these
+    /// settings left, whatever a crash lost of it, it is neither Damaged nor Record.
     pub fn open(
         alloc: Global,
         settings: Settings,
@@ -74,6 +77,12 @@ impl<D: Disk> KeptBook<D> {
             → AllHappen (opening_book settings) events
             → recovered key (D.seen disk) ≡ records_of events
             → IfOk result (λ kept. IsTrue (D.is_clean (disk_in kept)) → IsKept kept settings events) }
+        // Then, with at most a torn tail behind these records, the error is none of the file.
+        ensures accepts { (events : List ChangeEvent)
+            → AllHappen (opening_book settings) events
+            → recovered key (D.seen disk) ≡ records_of events
+            → tail_of key (D.seen disk) ≡ Torn
+            → IfErr result (λ not. IsTrue (D.is_clean not.disk) → IsOutsideFile not.why) }
         ensures key { IfOk result (λ kept. key_in kept ≡ key) }
     {
         let opened = match Journal::open(alloc, disk, key) {
@@ -177,6 +186,7 @@ impl<D: Disk> KeptBook<D> {
             → (c : List ℕ) → D.may_leave (disk_in self.new) c → IsLeft (key_in self.old) s events c }
         ensures key { key_in self.new ≡ key_in self.old }
         ensures failed { OnErr result (has_failed self.new ≡ true) }
+        ensures ended { has_failed self.old ≡ true → IsErrOf result KeepFault.Ended × (self.new ≡ self.old) }
     {
         if self.log.has_failed {
             return Err(KeepFault::Ended);
@@ -225,7 +235,8 @@ impl<D: Disk> KeptBook<D> {
 
 // Why no journal was opened, as why no book was.
 fn not_opened<D: Disk>(not: NotOpened<D>) -> NotKept<D>
-    ensures { result.disk ≡ not.disk }
+    ensures disk { result.disk ≡ not.disk }
+    ensures why { result.why ≡ OpenFault.Journal not.why }
 {
     let NotOpened { why, disk } = not;
     NotKept {

@@ -4,7 +4,6 @@
 mod copied;
 mod done;
 mod fault;
-mod framing;
 mod keeping;
 mod kept;
 mod log;

@@ -6,9 +6,9 @@ ghost use Rattle.journal_records.specs.Records.{record_bytes};
 ghost use Rattle.kept_book.specs.Kept.{IsLog};
 
 use crate::fault::KeepFault;
-use crate::framing::frame_of;
 use crate::keeping::keep;
 use journal_file::Journal;
+use journal_records::frame_of;
 use sqlite_disk::Disk;
 use std::alloc::Global;
 use std::mem::replace;

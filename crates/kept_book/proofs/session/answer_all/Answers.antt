@@ -23,7 +23,7 @@ loop-request-preserved g c =
     let step = subst (λ (told : Reply). IsKeptStep (book_in kept) c.loop-request-item.result.0 c.loop-request-item.result.1 told (book_in c.answer.new.self)) (sym c.into_reply.ensures) c.in-Ok.ensures.step in
     record {
       count = omega (arith, c.push_reserved.ensures.len, so_far.count);
-      size = ap length c.push_reserved.ensures.items ∙ length_push c.loop-request.replies.items c.into_reply.result ∙ ap (λ (n : ℕ). n + 1) so_far.size;
+      size = ap length c.push_reserved.ensures.items ∙ length_push c.loop-request.replies.items _ ∙ ap (λ (n : ℕ). n + 1) so_far.size;
       room = omega (arith, c.push_reserved.ensures.capacity, so_far.room);
       key = c.answer.ensures.key ∙ so_far.key;
       so_far = λ s events is.
