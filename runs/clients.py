@@ -3,6 +3,7 @@ import re
 import socket
 import subprocess
 import sys
+import time
 
 PATCH = ['Content-Type: application/offset+octet-stream']
 
@@ -23,10 +24,33 @@ class Server:
             client.sendall(request(method, path, *fields, 'Connection: close', body=body))
             return everything(client)
 
+    def is_closed(self):
+        """Whether nobody listens at its port, now or within some seconds."""
+        for _ in range(100):
+            try:
+                self.connect().close()
+            except ConnectionRefusedError:
+                return True
+            time.sleep(0.05)
+        return False
+
     def end(self):
         """Prints what the server prints at its end, and ends with its status."""
         print(self.process.stdout.read(), end='')
         sys.exit(self.process.wait())
+
+
+def free_port():
+    """A port of this machine that nobody listens at."""
+    with socket.create_server(('127.0.0.1', 0)) as free:
+        return free.getsockname()[1]
+
+
+def asked_at(port, question, *fields, address='127.0.0.1'):
+    """What is answered at the port for numbers."""
+    with socket.create_connection((address, port), timeout=30) as client:
+        client.sendall('\r\n'.join([f'{question} HTTP/1.1', 'Host: x', *fields, '', '']).encode())
+        return everything(client)
 
 
 def request(method, path, *fields, body=b'', length=None):

@@ -2,9 +2,8 @@ import os
 import sys
 sys.path.insert(0, os.path.dirname(os.path.dirname(os.path.abspath(__file__))))
 import re
-import socket
 import time
-from clients import Server, creation, everything, patch, request
+from clients import Server, asked_at, creation, everything, free_port, patch, request
 
 try:
     from prometheus_client.parser import text_string_to_metric_families
@@ -12,16 +11,6 @@ except ImportError:
     text_string_to_metric_families = None
 
 LINE = re.compile(r'([a-z_]+)(?:\{((?:[a-z]+="(?:[^"\\\n]|\\.)*",?)+)\})? (\d+(?:\.\d+)?)$')
-
-with socket.create_server(('127.0.0.1', 0)) as free:
-    port = free.getsockname()[1]
-
-
-def asked(question):
-    """What is answered at the port for numbers."""
-    with socket.create_connection(('127.0.0.1', port), timeout=30) as client:
-        client.sendall(f'{question} HTTP/1.1\r\nHost: x\r\n\r\n'.encode())
-        return everything(client)
 
 
 def samples_in(text):
@@ -39,6 +28,7 @@ def is_steady(name):
     return not re.search('seconds|bytes', name)
 
 
+port = free_port()
 server = Server([*sys.argv[1:], '--metrics', str(port)])
 with server.connect() as client:
     client.sendall(creation('acme', 5) + patch('/files/acme/1', 0, b'hello') + request('HEAD', '/files/acme/1')
@@ -50,8 +40,8 @@ with server.connect() as client:
     everything(client)
 time.sleep(0.5)
 for question in ['GET /health', 'GET /nothing']:
-    print(question, asked(question).splitlines()[0])
-head, text = asked('GET /metrics').split('\r\n\r\n', 1)
+    print(question, asked_at(port, question).splitlines()[0])
+head, text = asked_at(port, 'GET /metrics').split('\r\n\r\n', 1)
 print('GET /metrics', head.splitlines()[0])
 samples = samples_in(text)
 for name, labels, value in samples:

@@ -1,6 +1,6 @@
 -- What clap's getters give, as the rows of what was found.
-use Rattle.std.proofs.Common.{◌≡◌, ℕ, ◌≤◌, ◌^◌, Bool, true, false, List, [], ◌∷◌, length, Option, None, Some, Result, Ok, Err, refl, sym, ap, ◌∙◌, nat_lt, lt-ltb, le-ltb, ltb-true}
-use Rattle.std.specs.Prelude.{bytes_eq, unwrap_or, codes, option_and_then, SomeIff}
+use Rattle.std.proofs.Common.{◌≡◌, ℕ, ◌≤◌, ◌^◌, Bool, true, false, true≢false, List, [], ◌∷◌, length, Option, None, Some, Result, Ok, Err, refl, sym, ap, ◌∙◌, nat_lt, lt-ltb, le-ltb, ltb-true}
+use Rattle.std.specs.Prelude.{bytes_eq, unwrap_or, codes, if◌then◌else◌, is_some, option_and_then, option_map, SomeIff}
 use Rattle.std.specs.List.{list_all}
 use Rattle.std.specs.Option.{option_map_or}
 use Rattle.std.specs.Char.{digit_value}
@@ -12,7 +12,7 @@ use Rattle.clap.specs.Words.{ReadsOne, Text, all_of, first_of, one_text}
 use Rattle.clap.specs.declared.parser.matches.Found.{Found}
 use Rattle.upload_book.specs.declared.settings.Numbers.{Numbers}
 use Rattle.tus_workers.specs.declared.work_options.WorkOptions.{WorkOptions}
-use Rattle.tus_server.specs.Arguments.{is_number, is_set, number_in, metrics_set, number_given, number_under, numbers_given, port_given, serve_arguments, talk_arguments, talk_arguments_with, work_given, workers_given}
+use Rattle.tus_server.specs.Arguments.{grace_given, is_number, is_set, number_in, metrics_set, number_given, number_under, numbers_given, port_given, serve_arguments, talk_arguments, talk_arguments_with, work_given, work_with, workers_given}
 
 digits_pass : (digits : List ℕ) → AllDigits 10 digits → list_all (λ d. nat_lt (digit_value d) 10) digits ≡ true
 digits_pass [] h = refl
@@ -95,6 +95,34 @@ pub serve_arguments-some : (rows : List Row) (numbers : Numbers) (words : List T
     → Some (record { numbers = numbers; tenants = words; address = address; port = port; journal = journal; workers = workers; work = work; log = log; metrics = metrics }) ≡ serve_arguments rows
 serve_arguments-some rows numbers words address port workers work journal log metrics given place each at many found kept told all =
     rw (given, found, kept, ← place, ← each, ← at, ← many, ← told, ← all) refl
+
+-- the grace of what each worker is asked for
+grace_in : Option WorkOptions → Option ℕ
+grace_in None = None
+grace_in (Some work) = work.grace
+
+grace-given : (rows : List Row) (moment : Option (Option ℕ)) (at_once : Option ℕ) (work : WorkOptions) → Some work ≡ work_with rows moment at_once → work.grace ≡ grace_given rows
+grace-given rows None at_once work at = absurd (true≢false (ap is_some at))
+grace-given rows (Some moment) None work at = absurd (true≢false (ap is_some at))
+grace-given rows (Some moment) (Some n) work at = ap grace_in at
+
+has_port : Option (Option ℕ) → Bool
+has_port None = false
+has_port (Some None) = false
+has_port (Some (Some port)) = true
+
+no_port : {X : Type 0} (f : ℕ → X) (port : ℕ) (late : Bool) (metrics : Option ℕ) → Some metrics ≡ (if late then None else Some (Some port)) → metrics ≡ None → option_map f (Some port) ≡ None
+no_port f port true metrics told none = absurd (true≢false (ap is_some told))
+no_port f port false metrics told none = absurd (true≢false (sym (ap has_port told) ∙ ap (λ m. has_port (Some m)) none))
+
+no_grace : {X : Type 0} (f : ℕ → X) (given metrics : Option ℕ) → Some metrics ≡ metrics_set given → metrics ≡ None → option_map f given ≡ None
+no_grace f None metrics told none = refl
+no_grace f (Some port) metrics told none = no_port f port (nat_lt 65535 port) metrics told none
+
+-- without a port at which a stop can be asked for there is no grace
+pub grace-with_port : (rows : List Row) (work : WorkOptions) (metrics : Option ℕ) → Some work ≡ work_given rows → Some metrics ≡ metrics_set (number_given (codes "metrics") rows) → metrics ≡ None → work.grace ≡ None
+grace-with_port rows work metrics at told none =
+    grace-given rows _ _ work at ∙ no_grace (λ port. number_under (codes "grace") rows) (number_given (codes "metrics") rows) metrics told none
 
 -- without words there are none
 pub serve_arguments-none : (rows : List Row) (address : Text) (port workers : ℕ) (work : WorkOptions) (metrics : Option ℕ) → Some address ≡ first_of (codes "address") rows → Some work ≡ work_given rows

@@ -1,5 +1,5 @@
 -- How `serve` ends, by what was written of its two lines and by how its workers ended.
-use Rattle.std.proofs.Common.{◌≡◌, ◌∙◌, ℕ, ◌<◌, Bool, true, false, List, length, get_or, map, Option, Result, Ok, Err, All, inl, inr, refl, sym, ap, subst, true≢false}
+use Rattle.std.proofs.Common.{◌≡◌, ◌∙◌, ℕ, ◌<◌, ◌≤◌, Bool, true, false, List, length, get_or, map, Option, None, Result, Ok, Err, All, inl, inr, refl, sym, ap, subst, true≢false}
 use Rattle.std.proofs.lemmas.List.{get_or-map, length-map}
 use Rattle.std.proofs.lemmas.List.Elements.{All-map}
 use Rattle.std.proofs.lemmas.List.Folds.{Any-from_list_any, list_any_at}
@@ -18,7 +18,7 @@ use Rattle.journal_keeper.specs.declared.fault.ReopenFault.TheVariants as reopen
 use Rattle.tus_server.specs.JournalFault.{fault_of_reopening}
 use Rattle.tus_server.specs.Lines.{Settles, balance_text, listening_text}
 use Rattle.tus_server.specs.Serve.{BreaksOff, IsPlaceAsked, KeepsQuiet, PrintsBoth, ServeEnds, ServesEach, is_of_kept_service, is_of_service, serve_settings}
-use Rattle.tus_server.specs.Sockets.{Sockets}
+use Rattle.tus_server.specs.Sockets.{AreUnstopped, Sockets}
 use Rattle.tus_server.specs.StreamUse.{StreamUse, IsUntouched}
 use Rattle.tus_server.specs.declared.cause.Cause.{Cause}
 use Rattle.tus_server.specs.declared.cause.Cause.TheVariants.{Output, Accept}
@@ -46,17 +46,23 @@ Any-map P f xs (k, x, lt, is, holds) = (
 )
 
 module _ {X L A W : Type 0} (seen : Sockets L A) (arguments : ServeArguments) (s : Settings) (output : StreamUse W) (acceptor : X → A) (workers : List X) where
-  -- each worker accepted as many connections as it was to, since no accept failed
+  -- no acceptor was stopped, where nobody can ask for that
+  pub unstopped-unasked : {grace : Option ℕ} → (arguments.metrics ≡ None → grace ≡ None) → All (λ w. grace ≡ None → seen.is_stopped (acceptor w) ≡ false) workers
+      → arguments.metrics ≡ None → AreUnstopped seen (map acceptor workers)
+  unstopped-unasked bound each none = All-map (λ a. seen.is_stopped a ≡ false) acceptor workers (λ k d lt. each k d lt (bound none))
+
+  -- each worker accepted as many connections as it was to, or was stopped before, since no accept failed
   pub ServesEach-whole : list_any (λ w. seen.has_failed (acceptor w)) workers ≡ false
-      → All (λ w. seen.has_failed (acceptor w) ≡ false → seen.accepted (acceptor w) ≡ arguments.work.connections) workers
+      → All (λ w. seen.has_failed (acceptor w) ≡ false → seen.is_stopped (acceptor w) ≡ false → seen.accepted (acceptor w) ≡ arguments.work.connections) workers
+      → All (λ w. seen.accepted (acceptor w) ≤ arguments.work.connections) workers
       → PrintsBoth seen arguments s output (map acceptor workers) → ServesEach seen arguments s output
-  ServesEach-whole none all prints =
-      let accepts : A → Type 0 = λ a. (seen.has_failed a ≡ false) × (seen.accepted a ≡ arguments.work.connections) in
+  ServesEach-whole none all most prints =
+      let accepts : A → Type 0 = λ a. (seen.has_failed a ≡ false) × (seen.accepted a ≤ arguments.work.connections) × (seen.is_stopped a ≡ false → seen.accepted a ≡ arguments.work.connections) in
       let alive = none_passes (λ w. seen.has_failed (acceptor w)) workers none in
       record {
         acceptors = map acceptor workers;
         prints = prints;
-        accepted = All-map accepts acceptor workers (λ k d lt. (alive k d lt, all k d lt (alive k d lt)));
+        accepted = All-map accepts acceptor workers (λ k d lt. (alive k d lt, most k d lt, all k d lt (alive k d lt)));
       }
 
   -- an accept failed
@@ -88,10 +94,10 @@ module _ {L A W : Type 0} (seen : Sockets L A) (arguments : ServeArguments) (s :
 
   -- both lines were written
   pub PrintsBoth-lines : (acceptors : List A) (between : Option (List ℕ)) (balance : Balance) → IsPlaceAsked arguments (seen.asked listener) → Settles s desks balance
-      → length desks ≡ arguments.workers → length acceptors ≡ arguments.workers
+      → length desks ≡ arguments.workers → length acceptors ≡ arguments.workers → (arguments.metrics ≡ None → AreUnstopped seen acceptors)
       → Appends output.before between (listening_text (seen.place listener)) → Appends between output.after (balance_text balance) → output.has_failed ≡ false
       → PrintsBoth seen arguments s output acceptors
-  PrintsBoth-lines acceptors between balance asked settled at_desks at_acceptors first last alive = record {
+  PrintsBoth-lines acceptors between balance asked settled at_desks at_acceptors unasked first last alive = record {
     listener = listener;
     asked = asked;
     desks = desks;
@@ -99,6 +105,7 @@ module _ {L A W : Type 0} (seen : Sockets L A) (arguments : ServeArguments) (s :
     settled = settled;
     each_has_a_desk = at_desks;
     each_accepts = at_acceptors;
+    unasked = unasked;
     lines = Appends-more _ _ _ _ _ first last;
     alive = alive;
   }

@@ -109,6 +109,11 @@ abbrev pub metrics_set : Option ℕ → Option (Option ℕ)
 metrics_set None = Some None
 metrics_set (Some port) = if nat_lt 65535 port then None else Some (Some port)
 
+-- For how many seconds messages that are under way may still end once a stop was asked for; none where there is no port at
+-- which it can be.
+abbrev pub grace_given : List Row → Option ℕ
+grace_given rows = option_map (λ port. number_under (codes "grace") rows) (number_given (codes "metrics") rows)
+
 -- what each worker is asked for, where the moment can be, and how many connections it holds
 abbrev pub work_with : List Row → Option (Option ℕ) → Option ℕ → Option WorkOptions
 work_with rows None at_once = None
@@ -120,6 +125,7 @@ work_with rows (Some moment) (Some n) = Some (record {
   bounds = bounds_given rows;
   body_memory = number_under (codes "body-memory") rows;
   by_readiness = is_by_readiness rows;
+  grace = grace_given rows;
 })
 
 abbrev pub work_given : List Row → Option WorkOptions

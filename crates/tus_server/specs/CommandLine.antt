@@ -110,12 +110,19 @@ with_crowds command =
     (option_between (codes "least-rate") (codes "0") 0 1073741824))
     (option_rule (codes "body-memory") (codes "268435456") no_end)
 
--- the options on how a service is watched: the file of its log, and the port at which numbers are asked for
+-- the options on how a service is watched: the file of its log, the port at which numbers and a stop are asked for, and how long
+-- messages may last then
 abbrev pub log_rule : Rule
 log_rule = record (new_rule (codes "log")) { long = Some (codes "log"); value_names = 1 }
 
 abbrev pub with_watch : App → App
-with_watch command = with_rule (with_rule command log_rule) (number_rule (codes "metrics") 1 65535)
+with_watch command =
+    with_rule
+    (with_rule
+    (with_rule command
+    log_rule)
+    (number_rule (codes "metrics") 1 65535))
+    (option_between (codes "grace") (codes "10") 0 86400)
 
 -- the command `serve`: its options with their defaults, and the tenants
 abbrev pub serve_command : App

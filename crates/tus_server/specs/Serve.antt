@@ -1,5 +1,5 @@
 -- How `serve` ends. What is written on its connections is the workers' (`serve_stream` of `tus_workers`).
-use Rattle.std.specs.Prelude.{◌≡◌, ◌⊎◌, ⊤, ℕ, ◌≤◌, Bool, true, false, List, ◌++◌, length, take, IsSome, Result, Ok, Err}
+use Rattle.std.specs.Prelude.{◌≡◌, ◌⊎◌, ⊤, ℕ, ◌≤◌, Bool, true, false, List, ◌++◌, length, take, IsSome, None, Result, Ok, Err}
 use Rattle.std.specs.Io.KnownBytes.{Appends}
 use Rattle.std.specs.Net.Grammar.{IsIpText}
 use Rattle.std.specs.Net.ToAddrs.{IsHostAndPort}
@@ -12,7 +12,7 @@ use Rattle.upload_book.specs.declared.settings_fault.SettingsFault.{SettingsFaul
 use Rattle.tus_server.specs.Arguments.{ServeArguments}
 use Rattle.tus_server.specs.Lines.{Settles, balance_text, listening_text}
 use Rattle.tus_server.specs.Settings.{settings_given}
-use Rattle.tus_server.specs.Sockets.{HasFailed, HaveAccepted, Sockets}
+use Rattle.tus_server.specs.Sockets.{AreUnstopped, HasFailed, HaveAccepted, Sockets}
 use Rattle.tus_server.specs.StreamUse.{StreamUse, IsAlive, IsUntouched}
 use Rattle.tus_server.specs.declared.cause.Cause.{Cause}
 use Rattle.tus_server.specs.declared.cause.Cause.TheVariants.{Input, Output, Port, Workers, Accept, Log, Metrics}
@@ -32,7 +32,8 @@ IsPlaceAsked arguments place = IsHostAndPort arguments.address arguments.port pl
 -- `serve` was asked for with these arguments, and so with these settings; it has these sockets and this output
 module _ {L A W : Type 0} (seen : Sockets L A) (arguments : ServeArguments) (s : Settings) (output : StreamUse W) where
   -- Both lines were printed: where the server listens, which is asked for by the arguments, and the balance of
-  -- what the desks did, one for each worker. Each worker had one of these acceptors.
+  -- what the desks did, one for each worker. Each worker had one of these acceptors, and none was stopped where there is no port at
+  -- which a stop can be asked for.
   pub record PrintsBoth (acceptors : List A) : Type 0 where
     pub listener : L
     pub asked : IsPlaceAsked arguments (seen.asked listener)
@@ -41,10 +42,11 @@ module _ {L A W : Type 0} (seen : Sockets L A) (arguments : ServeArguments) (s :
     pub settled : Settles s desks balance
     pub each_has_a_desk : length desks ≡ arguments.workers
     pub each_accepts : length acceptors ≡ arguments.workers
+    pub unasked : arguments.metrics ≡ None → AreUnstopped seen acceptors
     pub lines : Appends output.before output.after (listening_text (seen.place listener) ++ balance_text balance)
     pub alive : IsAlive output
 
-  -- both lines were printed, and each worker accepted as many connections as it was to
+  -- both lines were printed, and each worker accepted as many connections as it was to, or was stopped before
   pub record ServesEach : Type 0 where
     pub acceptors : List A
     pub prints : PrintsBoth acceptors
@@ -117,7 +119,7 @@ KeepsQuiet output (Record number) = IsUntouched output
 
 -- `serve` was asked for with these arguments, with these sockets and this output
 module _ {L A W : Type 0} (seen : Sockets L A) (arguments : ServeArguments) (output : StreamUse W) where
-  -- it ended well: each worker accepted as many connections as it was to, and both lines were printed
+  -- it ended well: each worker accepted as many connections as it was to, or was stopped before, and both lines were printed
   pub record ServesAll : Type 0 where
     pub settings : Settings
     pub is_given : serve_settings arguments ≡ Ok settings

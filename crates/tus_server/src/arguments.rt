@@ -3,7 +3,7 @@ ghost use Rattle.std.specs.Borrow.{Bor};
 ghost use Rattle.std.specs.Prelude.{◌≡◌, ℕ, IfSome, List, codes, false, option_map};
 ghost use Rattle.clap.specs.Walk.{rows_of};
 ghost use Rattle.clap.specs.Words.{first_of, found_of, subcommand_rows_of};
-ghost use Rattle.tus_server.specs.Arguments.{arguments_entered, arguments_of, at_once_given, bounds_given, connections_given, is_by_readiness, is_set, metrics_set, moment_set, number_given, number_under, numbers_given, port_given, serve, serve_arguments, talk, talk_arguments, work_given, workers_given};
+ghost use Rattle.tus_server.specs.Arguments.{arguments_entered, arguments_of, at_once_given, bounds_given, connections_given, grace_given, is_by_readiness, is_set, metrics_set, moment_set, number_given, number_under, numbers_given, port_given, serve, serve_arguments, talk, talk_arguments, work_given, workers_given};
 ghost use Rattle.upload_book.specs.Settings.{is_outside};
 
 use crate::options::{CommandOptions, ServeOptions, TalkOptions};
@@ -160,7 +160,18 @@ fn work_of(found: &ArgMatches) -> Option<WorkOptions>
         bounds: bounds_of(found),
         body_memory: number_of(found, "body-memory"),
         by_readiness: is_by_readiness(found),
+        grace: grace_of(found),
     })
+}
+
+/// For how many seconds messages may still end once a stop was asked for, if it can be.
+fn grace_of(found: &ArgMatches) -> Option<u64>
+    ensures { result ≡ grace_given (rows_of (found_of found.now)) }
+{
+    match number_given(found, "metrics") {
+        Some(_) => Some(number_of(found, "grace")),
+        None => None,
+    }
 }
 
 /// How many connections a worker holds at once; None where the number is not from 1 to 16,384.

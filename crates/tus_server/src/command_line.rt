@@ -159,7 +159,10 @@ fn crowds<'a>(alloc: Global, command: Command<'a>) -> Result<Command<'a>, AllocE
 fn watch<'a>(alloc: Global, command: Command<'a>) -> Result<Command<'a>, AllocError>
     ensures { IfOk result (λ c. app_of c ≡ with_watch (app_of command.entry)) }
 {
-    command.arg(log(alloc))?.arg(metrics(alloc))
+    command
+        .arg(log(alloc))?
+        .arg(metrics(alloc))?
+        .arg(grace(alloc))
 }
 
 /// The option that names the file of the log.
@@ -172,7 +175,7 @@ fn log<'a>(alloc: Global) -> Arg<'a>
     )
 }
 
-/// The option that names the port at which numbers are asked for.
+/// The option that names the port at which numbers and a stop are asked for.
 fn metrics<'a>(alloc: Global) -> Arg<'a>
     ensures rule { rule_of result ≡ number_rule (codes "metrics") 1 65535 }
     ensures local { result.global ≡ false }
@@ -182,7 +185,19 @@ fn metrics<'a>(alloc: Global) -> Arg<'a>
         .value_name("PORT")
         .value_parser(value_parser!(u64).range(1..65_536))
         .help(
-            "Answer GET /metrics, for Prometheus, and GET /health at this port of the same address, 1 to 65535",
+            "Answer GET /metrics, for Prometheus, GET /health and, from this machine, POST /stop at this port of the same address, 1 to 65535",
+        )
+}
+
+/// The option for how long messages may last once a stop was asked for.
+fn grace<'a>(alloc: Global) -> Arg<'a>
+    ensures rule { rule_of result ≡ option_between (codes "grace") (codes "10") 0 86400 }
+    ensures local { result.global ≡ false }
+{
+    number(alloc, "grace", "SECONDS", "10")
+        .value_parser(value_parser!(u64).range(..=86_400))
+        .help(
+            "How long messages that are under way may last once POST /stop came, 0 to 86400; then they are cut off",
         )
 }
 

@@ -66,13 +66,13 @@ where
     ensures fault { IfErr result (λ fault. is_of_kept_service fault ≡ true) }
     ensures memory { IsErrOf result RunFault.Memory → output.new ≡ output.old }
     ensures wire { (cause : Cause) → IsErrOf result (RunFault.Wire cause)
-        → BreaksOff (sockets L.asked L.place L.Acceptor.accepted L.Acceptor.has_failed)
+        → BreaksOff (sockets L.asked L.place L.Acceptor.accepted L.Acceptor.has_failed L.Acceptor.is_stopped)
         (serve_arguments_of options.now) settings (used W.contents W.has_failed output.old output.new)
         cause }
     ensures journal { (why : JournalFault) → IsErrOf result (RunFault.Journal why)
         → KeepsQuiet (used W.contents W.has_failed output.old output.new) why }
     ensures all { OnOk result
-        (ServesEach (sockets L.asked L.place L.Acceptor.accepted L.Acceptor.has_failed)
+        (ServesEach (sockets L.asked L.place L.Acceptor.accepted L.Acceptor.has_failed L.Acceptor.is_stopped)
         (serve_arguments_of options.now) settings (used W.contents W.has_failed output.old output.new)) }
 {
     let opened = open_journal(alloc, disk, JOURNAL_KEY)?;
@@ -137,13 +137,13 @@ where
     ensures fault { IfErr result (λ fault. is_of_kept_service fault ≡ true) }
     ensures memory { IsErrOf result RunFault.Memory → output.new ≡ output.old }
     ensures wire { (cause : Cause) → IsErrOf result (RunFault.Wire cause)
-        → BreaksOff (sockets L.asked L.place L.Acceptor.accepted L.Acceptor.has_failed)
+        → BreaksOff (sockets L.asked L.place L.Acceptor.accepted L.Acceptor.has_failed L.Acceptor.is_stopped)
         (serve_arguments_of options.now) C.settings (used W.contents W.has_failed output.old output.new)
         cause }
     ensures journal { (why : JournalFault) → IsErrOf result (RunFault.Journal why)
         → KeepsQuiet (used W.contents W.has_failed output.old output.new) why }
     ensures all { OnOk result
-        (ServesEach (sockets L.asked L.place L.Acceptor.accepted L.Acceptor.has_failed)
+        (ServesEach (sockets L.asked L.place L.Acceptor.accepted L.Acceptor.has_failed L.Acceptor.is_stopped)
         (serve_arguments_of options.now) C.settings (used W.contents W.has_failed output.old output.new)) }
 {
     let (mut store, mut desks) = Store::<C, R, M, &H>::open(

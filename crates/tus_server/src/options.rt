@@ -1,5 +1,5 @@
 //! What the command line asks for: a command with its options.
-ghost use Rattle.std.specs.Prelude.{◌≡◌, false};
+ghost use Rattle.std.specs.Prelude.{◌≡◌, None, false};
 ghost use Rattle.upload_book.specs.Settings.{is_outside};
 
 use tus_workers::WorkOptions;
@@ -41,7 +41,8 @@ pub struct ServeOptions<'m, 'a> {
     pub work: WorkOptions,
     /// The file of the log, where there is one; `-` is standard error.
     pub log: Option<&'a str>,
-    /// The port at which numbers are asked for, where there is one.
+    /// The port at which numbers and a stop are asked for, where there is one.
     pub metrics: Option<u16>,
     ghost workers_in_range: { is_outside workers 16 ≡ false },
+    ghost grace_with_port: { metrics ≡ None → work.grace ≡ None },
 }

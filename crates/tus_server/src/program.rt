@@ -72,7 +72,7 @@ where
     requires reader { R.has_failed reader.old ≡ false }
     requires writer { W.has_failed writer.old ≡ false }
     requires errors { E.has_failed errors.old ≡ false }
-    ensures { RunEnds (sockets L.asked L.place L.Acceptor.accepted L.Acceptor.has_failed)
+    ensures { RunEnds (sockets L.asked L.place L.Acceptor.accepted L.Acceptor.has_failed L.Acceptor.is_stopped)
         D.seen D.may_leave D.is_clean result
         (used R.remaining R.has_failed reader.old reader.new)
         (used W.contents W.has_failed writer.old writer.new)
@@ -118,7 +118,7 @@ where
     requires reader { R.has_failed reader.old ≡ false }
     requires writer { W.has_failed writer.old ≡ false }
     requires errors { E.has_failed errors.old ≡ false }
-    ensures { Performs (sockets L.asked L.place L.Acceptor.accepted L.Acceptor.has_failed)
+    ensures { Performs (sockets L.asked L.place L.Acceptor.accepted L.Acceptor.has_failed L.Acceptor.is_stopped)
         D.seen D.may_leave D.is_clean result
         (used R.remaining R.has_failed reader.old reader.new)
         (used W.contents W.has_failed writer.old writer.new)

@@ -42,7 +42,7 @@ use upload_book::Settings;
 /// the book that its file keeps ([`serve_kept`]). It prints where it listens before it accepts anything, and at its end what
 /// was charged, released and is held.
 ///
-/// It is `Ok` where each worker accepted all of its connections. The error is the fault of the settings or the address, `RunFault::Wire`
+/// It is `Ok` where each worker accepted all of its connections, or was stopped. The error is the fault of the settings or the address, `RunFault::Wire`
 /// where a port, a worker's socket or the log could not be had, where a line could not be printed or where an accept failed, each by
 /// its cause, `RunFault::Memory` where there was no memory for the book or its board, or the journal's. After the first and
 /// after want of memory nothing was printed, nor where the journal could not be had.
@@ -70,7 +70,7 @@ where
     L::Acceptor: Send + Drop,
     L: Drop,
     requires { W.has_failed output.old ≡ false }
-    ensures { ServeEnds (sockets L.asked L.place L.Acceptor.accepted L.Acceptor.has_failed)
+    ensures { ServeEnds (sockets L.asked L.place L.Acceptor.accepted L.Acceptor.has_failed L.Acceptor.is_stopped)
         (serve_arguments_of options.now) (used W.contents W.has_failed output.old output.new) result }
 {
     let settings = settings_with(alloc, options.numbers, options.tenants)?;
@@ -134,11 +134,11 @@ where
     ensures fault { IfErr result (λ fault. is_of_service fault ≡ true) }
     ensures memory { IsErrOf result RunFault.Memory → output.new ≡ output.old }
     ensures wire { (cause : Cause) → IsErrOf result (RunFault.Wire cause)
-        → BreaksOff (sockets L.asked L.place L.Acceptor.accepted L.Acceptor.has_failed)
+        → BreaksOff (sockets L.asked L.place L.Acceptor.accepted L.Acceptor.has_failed L.Acceptor.is_stopped)
         (serve_arguments_of options.now) C.settings (used W.contents W.has_failed output.old output.new)
         cause }
     ensures all { OnOk result
-        (ServesEach (sockets L.asked L.place L.Acceptor.accepted L.Acceptor.has_failed)
+        (ServesEach (sockets L.asked L.place L.Acceptor.accepted L.Acceptor.has_failed L.Acceptor.is_stopped)
         (serve_arguments_of options.now) C.settings (used W.contents W.has_failed output.old output.new)) }
 {
     let (shared, desks) = Shared::<C, R, M, &H>::open(
@@ -157,7 +157,8 @@ where
     )
 }
 
-/// Listens, and lets workers serve at these desks, one each, until all connections have ended.
+/// Listens, and lets workers serve at these desks, one each, until all connections have ended, or a stop was asked for. The
+/// socket that listens is the acceptors' then, so that it is closed once all of them were stopped.
 pub(crate) fn serve_desks<
     L: Listener,
     C: Charges + Send + Sync,
@@ -196,11 +197,11 @@ where
     ensures fault { IfErr result (λ fault. is_of_service fault ≡ true) }
     ensures memory { IsErrOf result RunFault.Memory → output.new ≡ output.old }
     ensures wire { (cause : Cause) → IsErrOf result (RunFault.Wire cause)
-        → BreaksOff (sockets L.asked L.place L.Acceptor.accepted L.Acceptor.has_failed)
+        → BreaksOff (sockets L.asked L.place L.Acceptor.accepted L.Acceptor.has_failed L.Acceptor.is_stopped)
         (serve_arguments_of options.now) C.settings (used W.contents W.has_failed output.old output.new)
         cause }
     ensures all { OnOk result
-        (ServesEach (sockets L.asked L.place L.Acceptor.accepted L.Acceptor.has_failed)
+        (ServesEach (sockets L.asked L.place L.Acceptor.accepted L.Acceptor.has_failed L.Acceptor.is_stopped)
         (serve_arguments_of options.now) C.settings (used W.contents W.has_failed output.old output.new)) }
 {
     let work = within_descriptors(rt, options.work, options.workers);
@@ -212,6 +213,7 @@ where
     let listener = listen::<L, H>(rt, place)?;
     let line = listening_line(alloc, listener.place())?;
     let mut workers = hire(&listener, desks, room)?;
+    drop(listener);
     put_all(output, line.as_bytes())?;
     work_all(
         rt,

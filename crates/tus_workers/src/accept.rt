@@ -6,7 +6,7 @@ use std::io;
 use std::net::{Net, SocketAddr, TcpListener, TcpStream};
 
 /// What one worker accepts its connections from: one after another, each of which it waits for, or, after
-/// [`Accept::listen_with`], as they come. It remembers whether an accept failed for good.
+/// [`Accept::listen_with`], as they come. It remembers whether an accept failed for good, and whether it was stopped.
 pub trait Accept {
     // How many connections it gave.
     ghost accepted: { Self → ℕ };
@@ -14,12 +14,17 @@ pub trait Accept {
     // Some accept failed for good.
     ghost has_failed: { Self → Bool };
 
-    /// Waits for the next connection. An error gives none, and `failed` is true from then on. After an error nothing
-    /// is accepted.
+    // It was stopped.
+    ghost is_stopped: { Self → Bool };
+
+    /// Waits for the next connection. An error gives none, and `failed` is true from then on. After an error, or once it was
+    /// stopped, nothing is accepted.
     fn accept(&mut self) -> io::Result<TcpStream>
         requires alive { has_failed self.old ≡ false }
+        requires unstopped { is_stopped self.old ≡ false }
         requires room { accepted self.old < 2 ^ 64 - 1 }
         ensures failed { has_failed self.new ≡ is_err result }
+        ensures stopped { is_stopped self.new ≡ is_stopped self.old }
         ensures given { OnOk result (accepted self.new ≡ accepted self.old + 1) }
         ensures refused { OnErr result (accepted self.new ≡ accepted self.old) };
 
@@ -30,17 +35,21 @@ pub trait Accept {
     /// Has the registry tell, under this token, of connections that wait. The error is the system's.
     fn listen_with(&mut self, registry: &Registry, token: Token) -> io::Result<()>
         ensures failed { has_failed self.new ≡ has_failed self.old }
+        ensures stopped { is_stopped self.new ≡ is_stopped self.old }
         ensures given { accepted self.new ≡ accepted self.old };
 
     /// Has it told of once more, if a connection waits by now. The error is the system's.
     fn listen_again(&mut self, registry: &Registry, token: Token) -> io::Result<()>
         ensures failed { has_failed self.new ≡ has_failed self.old }
+        ensures stopped { is_stopped self.new ≡ is_stopped self.old }
         ensures given { accepted self.new ≡ accepted self.old };
 
-    /// The next connection, if one waits. An error gives none, and may pass.
+    /// The next connection, if one waits. An error gives none, and may pass. Once it was stopped, nothing is accepted.
     fn accept_waiting(&mut self) -> io::Result<Option<ready::TcpStream>>
+        requires unstopped { is_stopped self.old ≡ false }
         requires room { accepted self.old < 2 ^ 64 - 1 }
         ensures failed { has_failed self.new ≡ has_failed self.old }
+        ensures stopped { is_stopped self.new ≡ is_stopped self.old }
         ensures given { IfOk result (λ came. accepted self.new
             ≡ accepted self.old + (if is_some came then 1 else 0)) }
         ensures refused { OnErr result (accepted self.new ≡ accepted self.old) };
@@ -48,6 +57,13 @@ pub trait Accept {
     /// Accepts nothing more, as after an accept that failed.
     fn give_up(&mut self)
         ensures failed { has_failed self.new ≡ true }
+        ensures stopped { is_stopped self.new ≡ is_stopped self.old }
+        ensures given { accepted self.new ≡ accepted self.old };
+
+    /// Lets its socket go, since a stop was asked for: nothing is accepted from then on.
+    fn stop(&mut self)
+        ensures stopped { is_stopped self.new ≡ true }
+        ensures failed { has_failed self.new ≡ has_failed self.old }
         ensures given { accepted self.new ≡ accepted self.old };
 }
 
@@ -78,5 +94,6 @@ pub trait Listener {
     /// One more acceptor, which has accepted nothing. An error says that it could not be had.
     fn acceptor(&self) -> io::Result<Self::Acceptor>
         ensures alive { IfOk result (λ acceptor. Self.Acceptor.has_failed acceptor ≡ false) }
+        ensures unstopped { IfOk result (λ acceptor. Self.Acceptor.is_stopped acceptor ≡ false) }
         ensures new { IfOk result (λ acceptor. Self.Acceptor.accepted acceptor ≡ 0) };
 }

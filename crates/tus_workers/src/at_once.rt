@@ -1,5 +1,5 @@
 //! A worker that serves many clients at once, over its one desk.
-ghost use Rattle.std.specs.Prelude.{◌≡◌, ◌+◌, ◌≤◌, ◌<◌, ◌^◌, true, false};
+ghost use Rattle.std.specs.Prelude.{◌≡◌, ◌+◌, ◌≤◌, ◌<◌, ◌^◌, None, true, false};
 
 use crate::accept::Accept;
 use crate::at_desk::AtDesk;
@@ -57,6 +57,8 @@ struct Rounds<'a, H: Wait + time::Clock> {
     // When it began, and the last second since then that it saw; 0 is none yet.
     start: Option<Instant>,
     second: u64,
+    // The second at which it accepted nothing more, since a stop was asked for.
+    stopped: Option<u64>,
 }
 
 impl<
@@ -71,13 +73,16 @@ impl<
     /// Serves the clients that come in, side by side, at most as many as the options say, until all connections were accepted
     /// and have ended. A fault of a connection ends that connection alone, and an accept that fails is tried again. Where there
     /// is no memory for the clients, or the system tells of no more events, the worker ends, and says so on standard error. Where
-    /// nothing more can be kept that is to be kept, all workers end.
+    /// nothing more can be kept that is to be kept, all workers end. Once a stop was asked for it accepts nothing more, and ends
+    /// when its clients have, at the latest after the grace.
     pub(crate) fn work_at_once<A: Accept>(&self, number: usize, worker: &mut Worker<C, R, M, A>)
         requires alive { A.has_failed worker.old.acceptor ≡ false }
+        requires unstopped { A.is_stopped worker.old.acceptor ≡ false }
         requires new { A.accepted worker.old.acceptor ≡ 0 }
-        ensures all { A.has_failed worker.new.acceptor ≡ false
+        ensures all { A.has_failed worker.new.acceptor ≡ false → A.is_stopped worker.new.acceptor ≡ false
             → A.accepted worker.new.acceptor ≡ self.now.options.connections }
         ensures most { A.accepted worker.new.acceptor ≤ self.now.options.connections }
+        ensures unasked { self.now.options.grace ≡ None → A.is_stopped worker.new.acceptor ≡ false }
     {
         let poll = self.commons.bodies.take_poll(self.rt, number);
         let prepared = self.prepare_crowd(number, worker.desk.settings());
@@ -119,6 +124,7 @@ impl<
             has_rung: false,
             start: Instant::now(self.rt).ok(),
             second: 0,
+            stopped: None,
         };
         Ok((rounds, events))
     }
@@ -130,8 +136,8 @@ impl<
         Some(Watch::new(self.alloc, watching, start))
     }
 
-    // Opens the door, and goes round until all connections were accepted and have ended. It is false where the system failed
-    // before that, or nothing more could be kept.
+    // Opens the door, and goes round until all connections were accepted and have ended, or a stop was asked for; then it winds
+    // up. It is false where the system failed before that, or nothing more could be kept.
     fn go_round<A: Accept>(
         &self,
         worker: &mut Worker<C, R, M, A>,
@@ -139,11 +145,13 @@ impl<
         rounds: Rounds<'a, H>,
         events: Events,
     ) -> bool
+        requires unstopped { A.is_stopped worker.old.acceptor ≡ false }
         requires within { A.accepted worker.old.acceptor + door.old.left < 2 ^ 64 }
         ensures counts { A.accepted worker.new.acceptor + door.new.left
             ≡ A.accepted worker.old.acceptor + door.old.left }
         ensures failed { A.has_failed worker.new.acceptor ≡ A.has_failed worker.old.acceptor }
-        ensures done { result ≡ true → door.new.left ≡ 0 }
+        ensures done { result ≡ true → A.is_stopped worker.new.acceptor ≡ false → door.new.left ≡ 0 }
+        ensures unasked { self.now.options.grace ≡ None → A.is_stopped worker.new.acceptor ≡ false }
     {
         let mut events = events;
         let mut rounds = rounds;
@@ -153,15 +161,14 @@ impl<
         }
         rounds.metrics = self.open_metrics(door);
         for _ in 0..u64::MAX {
+            if self.is_to_stop() {
+                worker.acceptor.stop();
+                return self.wind_up(worker, door, rounds, events);
+            }
             if door.is_done() && rounds.crowd.len() == 0 {
                 return true;
             }
-            if self.commons.are_to_end() {
-                return false;
-            }
-            let most = Duration::from_millis(self.patience(door, &rounds));
-            if door.wait(&mut events, most).is_err() {
-                self.say("tus-server: a worker ended, since it is told of no events");
+            if !self.goes_on(door, &rounds, &mut events) {
                 return false;
             }
             replace_with(&mut worker.desk, (), |desk, _| {
@@ -172,6 +179,65 @@ impl<
             self.answer_questions(worker.desk.settings(), door, &mut rounds, &events);
         }
         false
+    }
+
+    // Lets go who has no message under way, and goes round until the others have had their replies; after the grace it cuts off
+    // who is left. Where numbers are asked for at this worker, it also waits for the other workers. It is false where the system
+    // failed before that, or nothing more could be kept.
+    fn wind_up<A: Accept>(
+        &self,
+        worker: &mut Worker<C, R, M, A>,
+        door: &mut Door,
+        rounds: Rounds<'a, H>,
+        events: Events,
+    ) -> bool
+        ensures acceptor { worker.new.acceptor ≡ worker.old.acceptor }
+        ensures left { door.new.left ≡ door.old.left }
+    {
+        let mut events = events;
+        let mut rounds = rounds;
+        events.clear();
+        rounds.stopped = Some(second_since(self.rt, &rounds.start));
+        for _ in 0..u64::MAX {
+            replace_with(&mut worker.desk, (), |desk, _| {
+                (self.serve_ready(desk, &mut rounds, &events), ())
+            });
+            self.tell_of_clients(&mut rounds);
+            rounds.publish(self.rt);
+            self.answer_questions(worker.desk.settings(), door, &mut rounds, &events);
+            if self.may_leave(&rounds) {
+                return true;
+            }
+            if !self.goes_on(door, &rounds, &mut events) {
+                return false;
+            }
+        }
+        false
+    }
+
+    // Waits for events. It is false where the system tells of none, which is said, or all workers are to end.
+    fn goes_on(&self, door: &mut Door, rounds: &Rounds<'a, H>, events: &mut Events) -> bool
+        ensures { door.new.left ≡ door.old.left }
+    {
+        if self.commons.are_to_end() {
+            return false;
+        }
+        let most = Duration::from_millis(self.patience(door, rounds));
+        if door.wait(events, most).is_err() {
+            self.say("tus-server: a worker ended, since it is told of no events");
+            return false;
+        }
+        true
+    }
+
+    // Whether nobody needs this worker any more: it has no clients, and where numbers are asked for here, the other workers have
+    // ended, and each reply was sent.
+    fn may_leave(&self, rounds: &Rounds<'a, H>) -> bool {
+        rounds.crowd.len() == 0
+            && match &rounds.metrics {
+                Some(metrics) => self.commons.has_one_left() && !metrics.owes(),
+                None => true,
+            }
     }
 
     // Where numbers are asked for, at the first worker that asks for it. Where it can't be had, that is said.
@@ -210,7 +276,9 @@ impl<
 
     // For how many milliseconds it may wait for events.
     fn patience(&self, door: &Door, rounds: &Rounds<'a, H>) -> u64 {
-        let may_come = door.has_rung() && rounds.crowd.len() < self.options.at_once;
+        let may_come = rounds.stopped.is_none()
+            && door.has_rung()
+            && rounds.crowd.len() < self.options.at_once;
         if rounds.crowd.has_more() || (may_come && !rounds.has_waited) {
             0
         } else if may_come {
@@ -220,9 +288,9 @@ impl<
         }
     }
 
-    // Takes a turn of each client that is ready, had more to do, or waited for another one, and then sends what was held back,
-    // after one sync for all; where nothing more can be kept, nothing is sent, and all workers are to end. In each new second
-    // those are cut off that are too late, and uploads that have expired are ended.
+    // Takes a turn of each client that is ready, had more to do, or waited for another one, and then sends what was held back.
+    // In each new second those are cut off that are too late, and uploads that have expired are ended; after the grace of a stop
+    // all are cut off.
     fn serve_ready(
         &self,
         desk: Desk<C, R, M>,
@@ -234,15 +302,10 @@ impl<
         at.asked = rounds.asked;
         let mut answerer = AtKeptDesk::new(at, self.keeping);
         rounds.turn_ready(events, &mut answerer, second);
-        if answerer.holds_back() {
-            if answerer.keep() {
-                rounds.crowd.send_held(answerer.desk(), second);
-                if second != rounds.second {
-                    rounds.crowd.send_late(answerer.desk(), second);
-                }
-            } else {
-                self.commons.end_all();
-            }
+        self.send_kept(&mut answerer, rounds, second);
+        if rounds.is_over(second, self.options.grace) {
+            rounds.crowd.cut_all(&mut answerer, &mut rounds.clock);
+            self.send_kept(&mut answerer, rounds, second);
         }
         if second != rounds.second {
             rounds.pass_second(&mut answerer, second);
@@ -257,6 +320,27 @@ impl<
         at.into_desk()
     }
 
+    // Sends what was held back, after one sync for all; where nothing more can be kept, nothing is sent, and all workers are to
+    // end.
+    fn send_kept(
+        &self,
+        answerer: &mut AtKeptDesk<'a, C, R, M, H, B, NoGate, K>,
+        rounds: &mut Rounds<'a, H>,
+        second: u64,
+    ) {
+        if !answerer.holds_back() {
+            return;
+        }
+        if !answerer.keep() {
+            self.commons.end_all();
+            return;
+        }
+        rounds.crowd.send_held(answerer.desk(), second);
+        if second != rounds.second {
+            rounds.crowd.send_late(answerer.desk(), second);
+        }
+    }
+
     // Takes in one client, if one waits; then uploads that have expired are ended. A worker that has more clients than others
     // leaves it to these at first.
     fn take_in<A: Accept>(
@@ -265,10 +349,12 @@ impl<
         door: &mut Door,
         rounds: &mut Rounds<'a, H>,
     )
+        requires unstopped { A.is_stopped worker.old.acceptor ≡ false }
         requires within { A.accepted worker.old.acceptor + door.old.left < 2 ^ 64 }
         ensures counts { A.accepted worker.new.acceptor + door.new.left
             ≡ A.accepted worker.old.acceptor + door.old.left }
         ensures failed { A.has_failed worker.new.acceptor ≡ A.has_failed worker.old.acceptor }
+        ensures stopped { A.is_stopped worker.new.acceptor ≡ A.is_stopped worker.old.acceptor }
     {
         if rounds.has_rung {
             rounds.has_rung = false;
@@ -352,7 +438,17 @@ impl<'a, H: Wait + time::Clock + Eprint> Rounds<'a, H> {
         }
     }
 
-    // Takes a turn of each client that is ready, had more to do, or waited for another one.
+    // Whether a grace of so many seconds is over at this second, once a stop was asked for. A second may have been under way.
+    fn is_over(&self, second: u64, grace: Option<u64>) -> bool {
+        let grace = grace.unwrap_or(0);
+        match self.stopped {
+            Some(since) => grace == 0 || second.saturating_sub(since) > grace,
+            None => false,
+        }
+    }
+
+    // Takes a turn of each client that is ready, had more to do, or waited for another one. Once a stop was asked for each has
+    // one more message at most.
     fn turn_ready<S: HoldsBack>(&mut self, events: &Events, answerer: &mut S, second: u64) {
         self.crowd.go_on(answerer, &mut self.clock, second);
         for event in events.iter() {
@@ -367,6 +463,9 @@ impl<'a, H: Wait + time::Clock + Eprint> Rounds<'a, H> {
             }
         }
         self.crowd.give_way(answerer, &mut self.clock, second);
+        if self.stopped.is_some() {
+            self.crowd.end_soon(answerer, &mut self.clock, second);
+        }
     }
 
     // Cuts off those that are too late at this second.

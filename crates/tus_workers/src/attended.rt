@@ -1,5 +1,5 @@
 //! A client that a worker holds beside others.
-ghost use Rattle.std.specs.Prelude.{◌≡◌, ◌<◌, ◌≤◌, ◌^◌, ◌-◌, Some, None, true, IfOk, OnErr};
+ghost use Rattle.std.specs.Prelude.{◌≡◌, ◌<◌, ◌≤◌, ◌^◌, ◌-◌, Some, None, true, IfOk, OnErr, nat_lt, if◌then◌else◌};
 ghost use Rattle.http_wire.specs.Past.{HasPast, Past, nothing_yet};
 ghost use Rattle.tus_workers.specs.Sending.{IsAfterSending};
 ghost use Rattle.tus_workers.specs.Turn.{HasPastWithin, Passes, SendsOnWithin, and_then, around};
@@ -122,6 +122,15 @@ impl Attended {
         let sent = send_pending(&mut connection, writer);
         self.connection = put_away(connection, free);
         sent
+    }
+
+    /// Has at most so many of its messages be answered from now on.
+    pub fn limit(&mut self, messages: usize)
+        ensures left { self.new ≡ record self.old { left = if nat_lt messages self.old.left then messages else self.old.left } }
+    {
+        if messages < self.left {
+            self.left = messages;
+        }
     }
 
     /// How many of its messages may still be answered.

@@ -197,9 +197,14 @@ impl Bodies {
             self.patches.fetch_sub(1, Ordering::AcqRel);
         }
         if was_asked {
-            for mailbox in &self.boxes {
-                wake(mailbox);
-            }
+            self.wake_all();
+        }
+    }
+
+    /// Wakes all workers.
+    pub fn wake_all(&self) {
+        for mailbox in &self.boxes {
+            wake(mailbox);
         }
     }
 

@@ -125,6 +125,19 @@ impl Client {
         self.has_closed = true;
     }
 
+    /// Has it end after one more message at most.
+    pub fn end_soon(&mut self) {
+        self.attended.limit(1);
+    }
+
+    /// Whether it is talked with, and neither a message of it nor a reply is under way.
+    pub fn is_idle(&self) -> bool {
+        match self.attended() {
+            Some(attended) => attended.busy() == Busy::Idle,
+            None => false,
+        }
+    }
+
     /// What is held for it, while it is talked with.
     pub fn attended(&self) -> Option<&Attended> {
         match self.standing {

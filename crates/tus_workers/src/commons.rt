@@ -21,12 +21,15 @@ pub struct Commons {
     pub(crate) bodies: Bodies,
     // Whether each of them waits for its clients in turn.
     waits_for_each: bool,
-    // How many workers have begun.
+    // How many workers have begun, and how many of them have ended.
     begun: AtomicU64,
+    ended: AtomicU64,
     // It was told that some have not.
     has_told: AtomicBool,
     // Nothing more can be kept that is to be kept.
     is_over: AtomicBool,
+    // A stop was asked for.
+    is_stopping: AtomicBool,
     // How they are watched, if they are.
     pub(crate) watching: Option<Watching>,
 }
@@ -42,8 +45,10 @@ impl Commons {
             bodies: Bodies::new(alloc, workers, places, options.body_memory)?,
             waits_for_each: options.waits_for_each(),
             begun: AtomicU64::new(0),
+            ended: AtomicU64::new(0),
             has_told: AtomicBool::new(false),
             is_over: AtomicBool::new(false),
+            is_stopping: AtomicBool::new(false),
             watching: None,
         })
     }
@@ -65,6 +70,28 @@ impl Commons {
     /// Notes that a worker has begun.
     pub(crate) fn begin(&self) {
         self.begun.fetch_add(1, Ordering::Relaxed);
+    }
+
+    /// Notes that a worker has ended.
+    pub(crate) fn finish(&self) {
+        self.ended.fetch_add(1, Ordering::Relaxed);
+    }
+
+    /// Whether of all workers that have begun one alone has not ended.
+    pub(crate) fn has_one_left(&self) -> bool {
+        let ended = self.ended.load(Ordering::Relaxed);
+        self.begun.load(Ordering::Relaxed).saturating_sub(ended) <= 1
+    }
+
+    /// Has all workers end in order, since a stop was asked for.
+    pub(crate) fn stop(&self) {
+        self.is_stopping.store(true, Ordering::Relaxed);
+        self.bodies.wake_all();
+    }
+
+    /// Whether a stop was asked for.
+    pub(crate) fn is_stopping(&self) -> bool {
+        self.is_stopping.load(Ordering::Relaxed)
     }
 
     /// Notes that nothing more can be kept that is to be kept, so all workers are to end.

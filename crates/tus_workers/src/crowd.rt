@@ -42,6 +42,8 @@ pub(crate) struct Crowd<'a, W: Wait> {
     waiting: Vec<usize>,
     // The keys of those whose reply is held back.
     held: Vec<usize>,
+    // Each client ends after one more message at most, and who has none under way is let go.
+    is_ending: bool,
     /// What was seen and is not told yet; none where nobody watches.
     pub watch: Option<Watch<'a>>,
 }
@@ -71,6 +73,7 @@ impl<'a, W: Wait + time::Clock> Crowd<'a, W> {
             spare: Vec::new(alloc),
             waiting: Vec::new(alloc),
             held: Vec::new(alloc),
+            is_ending: false,
             watch,
         })
     }
@@ -173,7 +176,7 @@ impl<'a, W: Wait + time::Clock> Crowd<'a, W> {
         };
         let is_listed = client.is_listed;
         let stays = match next {
-            Next::Waits => true,
+            Next::Waits => !(self.is_ending && client.is_idle()),
             Next::HasMore => is_listed || self.again.push(key).is_ok(),
             Next::WaitsForTurn => is_listed || self.waiting.push(key).is_ok(),
             Next::WaitsForKeeping => is_listed || self.held.push(key).is_ok(),
@@ -292,6 +295,33 @@ impl<'a, W: Wait + time::Clock> Crowd<'a, W> {
             if let Some(client) = self.clients.get_mut(key) {
                 client.renew_pace(second);
             }
+        }
+    }
+
+    /// Has each client end after one more message at most, from this second on, and lets go who has none under way. That is
+    /// seen in a turn, since bytes may have come of which no event told yet.
+    pub fn end_soon<A: HoldsBack, K: Clock>(
+        &mut self,
+        answerer: &mut A,
+        clock: &mut K,
+        second: u64,
+    ) {
+        if self.is_ending {
+            return;
+        }
+        self.is_ending = true;
+        for key in 0..self.clients.capacity() {
+            if let Some(client) = self.clients.get_mut(key) {
+                client.end_soon();
+            }
+            self.turn_of_event(key, answerer, clock, second);
+        }
+    }
+
+    /// Cuts off all that are left, since the service is stopped. What came of a PATCH that is applied when it is cut is kept.
+    pub fn cut_all<A: HoldsBack, K: Clock>(&mut self, answerer: &mut A, clock: &mut K) {
+        for key in 0..self.clients.capacity() {
+            self.cut(key, Cut::Stopped, answerer, clock);
         }
     }
 

@@ -1,5 +1,5 @@
 //! Where a worker takes in clients, beside those that it holds.
-ghost use Rattle.std.specs.Prelude.{◌≡◌, ◌+◌, ◌<◌, ◌^◌, nat_eq};
+ghost use Rattle.std.specs.Prelude.{◌≡◌, ◌+◌, ◌<◌, ◌^◌, false, nat_eq};
 
 use crate::accept::Accept;
 use mio::net::TcpStream;
@@ -51,6 +51,7 @@ impl Door {
     pub fn open<A: Accept>(&self, acceptor: &mut A) -> io::Result<()>
         ensures counts { A.accepted acceptor.new ≡ A.accepted acceptor.old }
         ensures failed { A.has_failed acceptor.new ≡ A.has_failed acceptor.old }
+        ensures stopped { A.is_stopped acceptor.new ≡ A.is_stopped acceptor.old }
     {
         acceptor.listen_with(self.poll.registry(), LISTENER)
     }
@@ -90,8 +91,10 @@ impl Door {
     /// Accepts one connection, if one may wait. A signal, or a client that is gone again, ends nothing.
     pub fn accept<A: Accept>(&mut self, acceptor: &mut A) -> Entry
         requires within { A.accepted acceptor.old + self.old.left < 2 ^ 64 }
+        requires unstopped { A.is_stopped acceptor.old ≡ false }
         ensures counts { A.accepted acceptor.new + self.new.left ≡ A.accepted acceptor.old + self.old.left }
         ensures failed { A.has_failed acceptor.new ≡ A.has_failed acceptor.old }
+        ensures stopped { A.is_stopped acceptor.new ≡ A.is_stopped acceptor.old }
     {
         if !self.has_rung || self.left == 0 {
             return Entry::Nobody;
@@ -113,6 +116,7 @@ impl Door {
         ensures left { self.new.left ≡ self.old.left }
         ensures counts { A.accepted acceptor.new ≡ A.accepted acceptor.old }
         ensures failed { A.has_failed acceptor.new ≡ A.has_failed acceptor.old }
+        ensures stopped { A.is_stopped acceptor.new ≡ A.is_stopped acceptor.old }
     {
         if kind == ErrorKind::Interrupted || kind == ErrorKind::ConnectionAborted {
             self.listen_again(acceptor);
@@ -130,6 +134,7 @@ impl Door {
         ensures left { self.new.left ≡ self.old.left }
         ensures counts { A.accepted acceptor.new ≡ A.accepted acceptor.old }
         ensures failed { A.has_failed acceptor.new ≡ A.has_failed acceptor.old }
+        ensures stopped { A.is_stopped acceptor.new ≡ A.is_stopped acceptor.old }
     {
         if acceptor
             .listen_again(self.poll.registry(), LISTENER)

@@ -1,4 +1,5 @@
-//! Where numbers are asked for: a second listener, which answers `GET /metrics` and `GET /health`.
+//! Where numbers are asked for: a second listener, which answers `GET /metrics`, `GET /health`, and, from this machine,
+//! `POST /stop`.
 
 use mio::net::{TcpListener, TcpStream};
 use mio::{Events, Interest, Registry, Token};
@@ -27,6 +28,9 @@ const READS_MAX: usize = 16;
 /// The end of a request's head.
 const HEAD_END: &[u8] = b"\r\n\r\n";
 
+/// How a field begins that a browser sends with each POST of a page.
+const ORIGIN: &[u8] = b"\r\norigin:";
+
 /// What somebody asks for.
 #[derive(Clone, Copy, Debug, PartialEq, Eq)]
 pub(crate) enum Question {
@@ -34,6 +38,12 @@ pub(crate) enum Question {
     Metrics,
     /// Whether the service is there.
     Health,
+    /// That the service end, asked for on this machine.
+    Stop,
+    /// The same, asked for from another machine, or by a page in a browser.
+    StopFromElsewhere,
+    /// Where a stop is asked for, but by another method.
+    StopByOtherMethod,
     /// Something else.
     Other,
 }
@@ -49,6 +59,8 @@ pub(crate) struct Asked {
 #[derive(Drop)]
 struct Asker {
     stream: TcpStream,
+    // It is on this machine.
+    is_near: bool,
     // What came of the request.
     request: Vec<u8>,
     // The question that came and is not answered yet, and whether one came at all.
@@ -120,19 +132,36 @@ impl MetricsDoor {
         self.turn(key);
     }
 
+    /// Whether a reply is still to be sent.
+    pub fn owes(&self) -> bool {
+        (0..ASKERS_MAX).any(|key| match self.askers.get(key) {
+            Some(asker) => asker.has_asked,
+            None => false,
+        })
+    }
+
     // Takes in one connection, if one waits. One that finds no place is let go.
     fn take_in(&mut self, alloc: Global, registry: &Registry, second: u64) {
-        if let Ok((stream, _)) = self.listener.accept()
+        if let Ok((stream, peer)) = self.listener.accept()
             && self.askers.len() < ASKERS_MAX
         {
-            self.admit(alloc, registry, stream, second);
+            let is_near = peer.ip().to_canonical().is_loopback();
+            self.admit(alloc, registry, stream, is_near, second);
         }
         let _ = registry.reregister(&mut self.listener, Token(DOOR), Interest::READABLE);
     }
 
-    fn admit(&mut self, alloc: Global, registry: &Registry, stream: TcpStream, second: u64) {
+    fn admit(
+        &mut self,
+        alloc: Global,
+        registry: &Registry,
+        stream: TcpStream,
+        is_near: bool,
+        second: u64,
+    ) {
         let asker = Asker {
             stream,
+            is_near,
             request: Vec::new(alloc),
             question: None,
             has_asked: false,
@@ -218,7 +247,7 @@ impl Asker {
         }
         if has_head(&self.request) {
             self.has_asked = true;
-            self.question = Some(question_in(&self.request));
+            self.question = Some(question_in(&self.request, self.is_near));
         }
         true
     }
@@ -246,24 +275,55 @@ fn has_head(request: &[u8]) -> bool {
 }
 
 // What a request asks for.
-fn question_in(request: &[u8]) -> Question {
+fn question_in(request: &[u8], is_near: bool) -> Question {
     if request.starts_with(b"GET /metrics ") {
         Question::Metrics
     } else if request.starts_with(b"GET /health ") {
         Question::Health
+    } else if request.starts_with(b"POST /stop ") {
+        if is_near && !has_origin(request) {
+            Question::Stop
+        } else {
+            Question::StopFromElsewhere
+        }
+    } else if is_for_stop(request) {
+        Question::StopByOtherMethod
     } else {
         Question::Other
     }
 }
 
-/// A reply with this status and this text, after which the connection ends. The error is that memory is lacking.
-pub(crate) fn reply_with(alloc: Global, status: &[u8], text: &[u8]) -> Result<Vec<u8>, AllocError> {
+// Whether a request has the path at which a stop is asked for, whatever its method.
+fn is_for_stop(request: &[u8]) -> bool {
+    match request.iter().position(|byte| *byte == b' ') {
+        Some(place) => request.get(place..).unwrap_or(b"").starts_with(b" /stop "),
+        None => false,
+    }
+}
+
+// Whether a page in a browser sent a request, so that whoever wrote the page may have asked.
+fn has_origin(request: &[u8]) -> bool {
+    request
+        .windows(ORIGIN.len())
+        .any(|part| part.eq_ignore_ascii_case(ORIGIN))
+}
+
+/// A reply with this status, these lines of fields, and this text, after which the connection ends. The error is that memory is
+/// lacking.
+pub(crate) fn reply_with(
+    alloc: Global,
+    status: &[u8],
+    fields: &[u8],
+    text: &[u8],
+) -> Result<Vec<u8>, AllocError> {
     let mut reply = Vec::new(alloc);
     let length = text.len().to_string(alloc)?;
     reply.extend_from_slice(b"HTTP/1.1 ")?;
     reply.extend_from_slice(status)?;
+    reply.extend_from_slice(b"\r\n")?;
+    reply.extend_from_slice(fields)?;
     reply.extend_from_slice(
-        b"\r\nContent-Type: text/plain; version=0.0.4; charset=utf-8\r\nConnection: close\r\nContent-Length: ",
+        b"Content-Type: text/plain; version=0.0.4; charset=utf-8\r\nConnection: close\r\nContent-Length: ",
     )?;
     reply.extend_from_slice(length.as_bytes())?;
     reply.extend_from_slice(b"\r\n\r\n")?;

@@ -34,23 +34,48 @@ impl<
     B: Wait + Drop,
     K: Keeping<C, R, M, B>,
 > Workers<'a, C, R, M, H, B, K> {
-    /// The reply to a question. The error is that memory is lacking.
+    /// The reply to a question. A stop is begun where it is asked for. The error is that memory is lacking.
     pub(crate) fn reply_to(
         &self,
         question: Question,
         watching: &Watching,
         settings: &Settings,
     ) -> Result<Vec<u8>, AllocError> {
+        let alloc = self.alloc;
         match question {
             Question::Metrics => {
                 let text = self.numbers(watching, settings)?;
-                reply_with(self.alloc, b"200 OK", &text)
+                reply_with(alloc, b"200 OK", b"", &text)
             }
-            Question::Health => reply_with(self.alloc, b"200 OK", b"ok\n"),
+            Question::Health if self.is_to_stop() => {
+                reply_with(alloc, b"503 Service Unavailable", b"", b"stopping\n")
+            }
+            Question::Health => reply_with(alloc, b"200 OK", b"", b"ok\n"),
+            Question::Stop => {
+                self.commons.stop();
+                reply_with(alloc, b"202 Accepted", b"", b"stopping\n")
+            }
+            Question::StopFromElsewhere => {
+                reply_with(
+                    alloc,
+                    b"403 Forbidden",
+                    b"",
+                    b"POST /stop on this machine\n",
+                )
+            }
+            Question::StopByOtherMethod => {
+                reply_with(
+                    alloc,
+                    b"405 Method Not Allowed",
+                    b"Allow: POST\r\n",
+                    b"POST /stop\n",
+                )
+            }
             Question::Other => {
                 reply_with(
-                    self.alloc,
+                    alloc,
                     b"404 Not Found",
+                    b"",
                     b"GET /metrics or GET /health\n",
                 )
             }

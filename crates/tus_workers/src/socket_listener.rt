@@ -20,11 +20,13 @@ pub struct SocketListener {
 /// What one worker accepts connections from at a [`SocketListener`].
 #[derive(Drop)]
 pub struct SocketAcceptor {
-    listener: TcpListener,
+    // None once it was stopped.
+    listener: Option<TcpListener>,
     // The same where it is told of, and waits for nobody.
     watched: Option<ready::TcpListener>,
     accepted: u64,
     failed: bool,
+    stopped: bool,
 }
 
 impl Listener for SocketListener {
@@ -53,10 +55,11 @@ impl Listener for SocketListener {
 
     fn acceptor(&self) -> io::Result<SocketAcceptor> {
         Ok(SocketAcceptor {
-            listener: self.listener.try_clone()?,
+            listener: Some(self.listener.try_clone()?),
             watched: None,
             accepted: 0,
             failed: false,
+            stopped: false,
         })
     }
 }
@@ -65,6 +68,8 @@ impl Accept for SocketAcceptor {
     ghost accepted = { λ a. a.accepted };
 
     ghost has_failed = { λ a. a.failed };
+
+    ghost is_stopped = { λ a. a.stopped };
 
     fn accept(&mut self) -> io::Result<TcpStream> {
         match next_client(&self.listener) {
@@ -84,7 +89,10 @@ impl Accept for SocketAcceptor {
     }
 
     fn listen_with(&mut self, registry: &Registry, token: Token) -> io::Result<()> {
-        let listener = self.listener.try_clone()?;
+        let Some(listener) = &self.listener else {
+            return Err(io::Error::from(ErrorKind::NotConnected));
+        };
+        let listener = listener.try_clone()?;
         listener.set_nonblocking(true)?;
         let mut watched = ready::TcpListener::from_std(listener);
         registry.register(&mut watched, token, Interest::READABLE)?;
@@ -110,10 +118,19 @@ impl Accept for SocketAcceptor {
     fn give_up(&mut self) {
         self.failed = true;
     }
+
+    fn stop(&mut self) {
+        self.listener = None;
+        self.watched = None;
+        self.stopped = true;
+    }
 }
 
 // Waits for the next client that is still there.
-fn next_client(listener: &TcpListener) -> io::Result<TcpStream> {
+fn next_client(listener: &Option<TcpListener>) -> io::Result<TcpStream> {
+    let Some(listener) = listener else {
+        return Err(io::Error::from(ErrorKind::NotConnected));
+    };
     for _ in 0..GONE_MAX {
         match listener.accept() {
             Ok((stream, _)) => return Ok(stream),

@@ -28,6 +28,7 @@ where
     ensures desks { IfOk result (λ workers. map (λ w. w.desk) workers.items ≡ desks.items) }
     ensures count { IfOk result (λ workers. vec_len workers ≡ vec_len desks) }
     ensures alive { IfOk result (λ workers. All (λ w. L.Acceptor.has_failed w.acceptor ≡ false) workers.items) }
+    ensures unstopped { IfOk result (λ workers. All (λ w. L.Acceptor.is_stopped w.acceptor ≡ false) workers.items) }
     ensures new { IfOk result (λ workers. All (λ w. L.Acceptor.accepted w.acceptor ≡ 0) workers.items) }
 {
     for desk in desks {

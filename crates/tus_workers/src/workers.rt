@@ -40,7 +40,8 @@ const REST_READS: usize = 4096;
 /// A fault of a connection ends that connection alone. Where a worker that waits fails to accept, or one of many clients has no
 /// memory for them, it ends, and says so on standard error. Where changes are journalled each worker serves its clients side by
 /// side, and no reply is sent before `keeping` has kept all that its desk has seen; where it can keep nothing more, all workers
-/// end.
+/// end. Once a stop was asked for where numbers are, which needs a grace in the options, each worker accepts nothing more, lets
+/// go who has no message under way, and ends when the others have had their replies, or are cut off after the grace.
 pub fn work_all<
     A: Accept + Send,
     C: Charges + Send + Sync,
@@ -59,9 +60,12 @@ pub fn work_all<
     commons: &Commons,
 )
     requires alive { All (λ w. A.has_failed w.acceptor ≡ false) workers.old }
+    requires unstopped { All (λ w. A.is_stopped w.acceptor ≡ false) workers.old }
     requires new { All (λ w. A.accepted w.acceptor ≡ 0) workers.old }
-    ensures all { All (λ w. A.has_failed w.acceptor ≡ false → A.accepted w.acceptor ≡ options.connections) workers.new }
+    ensures all { All (λ w. A.has_failed w.acceptor ≡ false → A.is_stopped w.acceptor ≡ false
+        → A.accepted w.acceptor ≡ options.connections) workers.new }
     ensures most { All (λ w. A.accepted w.acceptor ≤ options.connections) workers.new }
+    ensures unasked { All (λ w. options.grace ≡ None → A.is_stopped w.acceptor ≡ false) workers.new }
 {
     let threads = workers.len().max(1);
     let common = Workers {
@@ -111,12 +115,28 @@ impl<
     /// Accepts as many connections as the options say, and serves them, as [`work_all`] says.
     pub(crate) fn work<A: Accept>(&self, number: usize, worker: &mut Worker<C, R, M, A>)
         requires alive { A.has_failed worker.old.acceptor ≡ false }
+        requires unstopped { A.is_stopped worker.old.acceptor ≡ false }
         requires new { A.accepted worker.old.acceptor ≡ 0 }
-        ensures all { A.has_failed worker.new.acceptor ≡ false
+        ensures all { A.has_failed worker.new.acceptor ≡ false → A.is_stopped worker.new.acceptor ≡ false
             → A.accepted worker.new.acceptor ≡ self.now.options.connections }
         ensures most { A.accepted worker.new.acceptor ≤ self.now.options.connections }
+        ensures unasked { self.now.options.grace ≡ None → A.is_stopped worker.new.acceptor ≡ false }
     {
         self.commons.begin();
+        self.work_begun(number, worker);
+        self.commons.finish();
+    }
+
+    // Accepts the connections in the way of its options.
+    fn work_begun<A: Accept>(&self, number: usize, worker: &mut Worker<C, R, M, A>)
+        requires alive { A.has_failed worker.old.acceptor ≡ false }
+        requires unstopped { A.is_stopped worker.old.acceptor ≡ false }
+        requires new { A.accepted worker.old.acceptor ≡ 0 }
+        ensures all { A.has_failed worker.new.acceptor ≡ false → A.is_stopped worker.new.acceptor ≡ false
+            → A.accepted worker.new.acceptor ≡ self.now.options.connections }
+        ensures most { A.accepted worker.new.acceptor ≤ self.now.options.connections }
+        ensures unasked { self.now.options.grace ≡ None → A.is_stopped worker.new.acceptor ≡ false }
+    {
         if self.options.waits_for_each() && worker.desk.journal().is_none() {
             self.work_in_turn(worker);
         } else {
@@ -124,14 +144,26 @@ impl<
         }
     }
 
-    // Accepts one connection after another, and serves it. Nothing is journalled.
+    /// Whether the workers are to end in order, since a stop was asked for.
+    pub(crate) fn is_to_stop(&self) -> bool
+        ensures { self.now.options.grace ≡ None → result ≡ false }
+    {
+        match self.options.grace {
+            Some(_) => self.commons.is_stopping(),
+            None => false,
+        }
+    }
+
+    // Accepts one connection after another, and serves it. Nothing is journalled, and nobody can ask for a stop.
     fn work_in_turn<A: Accept>(&self, worker: &mut Worker<C, R, M, A>)
         requires alive { A.has_failed worker.old.acceptor ≡ false }
+        requires unstopped { A.is_stopped worker.old.acceptor ≡ false }
         requires new { A.accepted worker.old.acceptor ≡ 0 }
         requires journal { C.journal ≡ None }
         ensures all { A.has_failed worker.new.acceptor ≡ false
             → A.accepted worker.new.acceptor ≡ self.now.options.connections }
         ensures most { A.accepted worker.new.acceptor ≤ self.now.options.connections }
+        ensures unstopped { A.is_stopped worker.new.acceptor ≡ false }
     {
         let mut clock = MachineClock::new(self.rt, self.options.moment);
         let mut buffers = None;

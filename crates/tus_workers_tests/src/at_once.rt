@@ -112,6 +112,7 @@ fn serve_all<
         },
         body_memory: 268_435_456,
         by_readiness: false,
+        grace: None,
     };
     let mut commons = Commons::new(alloc, 1, &options)?;
     commons.watch(rt)?;

@@ -114,6 +114,7 @@ where
         },
         body_memory: 268_435_456,
         by_readiness: false,
+        grace: None,
     };
     let mut commons = Commons::new(alloc, 2, &options)?;
     commons.watch(rt)?;

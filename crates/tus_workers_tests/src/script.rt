@@ -21,6 +21,7 @@ pub struct ScriptedAcceptor {
     listener: TcpListener,
     accepted: u64,
     failed: bool,
+    stopped: bool,
 }
 
 impl Listener for Script {
@@ -52,6 +53,7 @@ impl Listener for Script {
             listener: self.listener.try_clone()?,
             accepted: 0,
             failed: false,
+            stopped: false,
         })
     }
 }
@@ -60,6 +62,8 @@ impl Accept for ScriptedAcceptor {
     ghost accepted = { λ a. a.accepted };
 
     ghost has_failed = { λ a. a.failed };
+
+    ghost is_stopped = { λ a. a.stopped };
 
     fn accept(&mut self) -> io::Result<TcpStream> {
         if self.accepted > 0 {
@@ -96,5 +100,9 @@ impl Accept for ScriptedAcceptor {
 
     fn give_up(&mut self) {
         self.failed = true;
+    }
+
+    fn stop(&mut self) {
+        self.stopped = true;
     }
 }

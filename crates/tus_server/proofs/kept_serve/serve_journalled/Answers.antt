@@ -24,7 +24,7 @@ returns-in_err-keeper-clause-fault g c =
 pub returns-in_err-keeper-clause-wire : goal.returns-in_err-keeper-clause-wire
 returns-in_err-keeper-clause-wire g c =
     let made = err_from_is_err_and c.from_residual-in_err-keeper.result c.from_residual-in_err-keeper.ensures.1 in
-    reopening-by_cause (BreaksOff (sockets g.L.Listener.asked g.L.Listener.place g.L.Acceptor.Accept.accepted g.L.Acceptor.Accept.has_failed) (serve_arguments_of c.args.options.now) g.C.Charges.settings (used g.W.Sink.contents g.W.Sink.has_failed c.args.output.now c.args.output.now))
+    reopening-by_cause (BreaksOff (sockets g.L.Listener.asked g.L.Listener.place g.L.Acceptor.Accept.accepted g.L.Acceptor.Accept.has_failed g.L.Acceptor.Accept.is_stopped) (serve_arguments_of c.args.options.now) g.C.Charges.settings (used g.W.Sink.contents g.W.Sink.has_failed c.args.output.now c.args.output.now))
     _ _ (made.1 ∙ ap Err made.2)
 
 pub serve_desks-served-requires-clause-count : goal.serve_desks-served-requires-clause-count

@@ -22,5 +22,6 @@ loop-desk-preserved g c =
       count = omega (arith, more, fewer);
       room = omega (arith, more, fewer, c.push_reserved.ensures.capacity);
       alive = All-push c.loop-desk.workers.items c.push_reserved.new.self.items _ (λ w. g.L.Acceptor.Accept.has_failed w.acceptor ≡ false) pushed c.loop-desk.invariant.alive c.in_ok-acceptor.ensures.alive;
+      unstopped = All-push c.loop-desk.workers.items c.push_reserved.new.self.items _ (λ w. g.L.Acceptor.Accept.is_stopped w.acceptor ≡ false) pushed c.loop-desk.invariant.unstopped c.in_ok-acceptor.ensures.unstopped;
       new = All-push c.loop-desk.workers.items c.push_reserved.new.self.items _ (λ w. g.L.Acceptor.Accept.accepted w.acceptor ≡ 0) pushed c.loop-desk.invariant.new c.in_ok-acceptor.ensures.new;
     }

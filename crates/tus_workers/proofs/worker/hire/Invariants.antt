@@ -9,5 +9,6 @@ invariant-loop-desk g l = record {
   count : length l.workers.items + length l.desk-iterator.rest.items ≡ length l.fn.desks.items;
   room : length l.workers.items + length l.desk-iterator.rest.items ≤ vec_capacity l.workers;
   alive : All (λ w. g.L.Acceptor.Accept.has_failed w.acceptor ≡ false) l.workers.items;
+  unstopped : All (λ w. g.L.Acceptor.Accept.is_stopped w.acceptor ≡ false) l.workers.items;
   new : All (λ w. g.L.Acceptor.Accept.accepted w.acceptor ≡ 0) l.workers.items;
 }

@@ -5,5 +5,6 @@ use Rattle.tus_workers.proofs.workers.Workers.work_in_turn.Given as goal
 abbrev pub invariant-loop : goal.invariant-loop
 invariant-loop g l = record {
   alive : g.A.Accept.has_failed l.worker.acceptor ≡ false;
+  unstopped : g.A.Accept.is_stopped l.worker.acceptor ≡ false;
   counted : g.A.Accept.accepted l.worker.acceptor ≡ l.counter;
 }
