@@ -34,6 +34,10 @@ class Server:
             time.sleep(0.05)
         return False
 
+    def journal(self):
+        """What it told of its journal on standard error, which has to be a pipe, without how long it took to read."""
+        return re.sub(r'\d+ ms', 'N ms', self.process.stderr.readline())
+
     def end(self):
         """Prints what the server prints at its end, and ends with its status."""
         print(self.process.stdout.read(), end='')

@@ -140,11 +140,11 @@ class Client:
 def killed(command, clients, seconds):
     """Serves these clients for so long, and kills the server; gives how long its start took."""
     start = time.monotonic()
-    server = subprocess.Popen(command, stdout=subprocess.PIPE, text=True)
+    server = subprocess.Popen(command, stdout=subprocess.PIPE, stderr=subprocess.PIPE, text=True)
     line = server.stdout.readline()
     started = time.monotonic() - start
     if not line.startswith('listening'):
-        sys.exit(f'the server does not start: {server.wait()}')
+        sys.exit(f'the server does not start: {server.wait()} {server.stderr.read()}')
     threads = [threading.Thread(target=client.run, args=(int(line.rsplit(':', 1)[1]),)) for client in clients]
     for thread in threads:
         thread.start()
@@ -170,7 +170,7 @@ def main(program, kills=300, seed=1):
                     sys.exit(f'kill {kill}: {client.fault}')
         requests, compared, ahead = (sum(getattr(client, name) for client in clients) for name in ('requests', 'compared', 'ahead'))
         print(f'{kills} kills, {requests} replies, {ahead} times more was kept than was told; {compared} bytes compared, '
-              f'the slowest start {slowest:.2f} s, a file of {os.path.getsize(journal)} bytes: all was as told')
+              f'the slowest start {slowest:.2f} s, a file of {os.path.getsize(os.path.join(journal, "journal"))} bytes: all was as told')
 
 
 if __name__ == '__main__':

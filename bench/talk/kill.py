@@ -142,7 +142,7 @@ def main(program, kills=100, seed=1):
             sent, told, ahead = sent + len(requests), told + len(replies), ahead + (books[kept[-1]] is not books[len(replies)])
             asked, compared, book = asked + len(books[-1]), compared + sum(len(reply[2]) for reply in found), books[kept[-1]]
         print(f"{kills} kills, {sent} requests sent, {told} replied to, {ahead} times more was kept than was told; {asked} uploads "
-              f"asked for, {compared} bytes compared, a file of {os.path.getsize(folder + '/uploads')} bytes: all was as told")
+              f"asked for, {compared} bytes compared, a file of {os.path.getsize(folder + '/uploads/journal')} bytes: all was as told")
 
 
 if __name__ == "__main__":

@@ -1,4 +1,5 @@
 import os
+import subprocess
 import sys
 sys.path.insert(0, os.path.dirname(os.path.dirname(os.path.abspath(__file__))))
 import tempfile
@@ -8,7 +9,7 @@ BODY = b'a' * 1_000_000
 
 with tempfile.TemporaryDirectory() as folder:
     words = [*sys.argv[1:], '--journal', os.path.join(folder, 'uploads')]
-    server = Server(words, restore_signals=False)
+    server = Server(words, restore_signals=False, stderr=subprocess.PIPE)
     with server.connect() as client:
         for number in range(1, 6):
             client.sendall(creation('acme', len(BODY)))
@@ -23,6 +24,7 @@ with tempfile.TemporaryDirectory() as folder:
         print(reply(client)[0], end='')
     print(server.process.stdout.read(), end='')
     server.process.wait()
-    server = Server(words, restore_signals=False)
+    server = Server(words, restore_signals=False, stderr=subprocess.PIPE)
+    print(server.journal(), end='')
     print(server.asked('HEAD', '/files/acme/1'), end='')
     server.end()

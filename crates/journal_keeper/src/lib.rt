@@ -15,5 +15,5 @@ mod taking;
 pub use fault::{KeepFault, ReopenFault};
 pub use journalled::Journalled;
 pub use keeper::Keeper;
-pub use opening::{open_journal, reopen};
+pub use opening::{Reopened, open_journal, reopen};
 pub use shared_keeper::SharedKeeper;

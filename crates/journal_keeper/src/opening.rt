@@ -1,5 +1,5 @@
 //! A journal that is opened, and a store whose changes are made again of its records.
-ghost use Rattle.std.specs.Prelude.{◌≡◌, [], Some, None, All, false, IsTrue, IfErr, IfOk, IsErrOf, OnErr, OnOk};
+ghost use Rattle.std.specs.Prelude.{◌≡◌, [], length, Some, None, All, false, IsTrue, IfErr, IfOk, IsErrOf, OnErr, OnOk};
 ghost use Rattle.book_replay.specs.Replay.{after_accepted, after_record, replayed};
 ghost use Rattle.head_board.specs.Event.{Event};
 ghost use Rattle.head_board.specs.Events.{HaveHappened, book_at};
@@ -66,8 +66,17 @@ where
     }
 }
 
+/// A store's journal whose changes were made again.
+#[derive(Drop)]
+pub struct Reopened<D: Disk, C: Journalled> {
+    /// The keeper of the journal.
+    pub keeper: Keeper<D, C>,
+    /// How many records the journal has.
+    pub records: u64,
+}
+
 /// Makes all changes again, in their order and at this desk, whose records a journal has that was opened under this key; and
-/// gives the keeper of these. The store and the desk are new. After it the desk has seen all of these events, and knows that
+/// gives the keeper of these, and how many they are. The store and the desk are new. After it the desk has seen all of these events, and knows that
 /// they are kept.
 ///
 /// `Err` is Record, with the number of the first record, from 1, that can't be read, or whose change no book of these settings
@@ -78,7 +87,7 @@ pub fn reopen<C: Journalled, R: Ledger, M: Ledger, B: Wait + Drop, D: Disk>(
     desk: &mut Desk<C, R, M>,
     opened: Opened<D>,
     key: u64,
-) -> Result<Keeper<D, C>, ReopenFault>
+) -> Result<Reopened<D, C>, ReopenFault>
 where
     D: Drop,
     requires store { store.old ≡ [] }
@@ -88,41 +97,44 @@ where
     requires journal { C.journal ≡ Some key }
     requires honest { IsTrue C.honest → IsJournal opened.journal (recovered key opened.frames.items) [] }
     // The records of what is kept are those that the journal has.
-    ensures records { IfOk result (λ keeper. event_records keeper.kept ≡ recovered key opened.frames.items) }
-    ensures here { IfOk result (λ keeper. All (λ (e : Event). e.desk ≡ desk.old.number) keeper.kept) }
-    ensures store { IfOk result (λ keeper. store.new ≡ keeper.kept) }
-    ensures seen { IfOk result (λ keeper. desk.new.seen ≡ keeper.kept) }
-    ensures told { IfOk result (λ keeper. desk.new.kept ≡ keeper.kept) }
+    ensures records { IfOk result (λ it. event_records it.keeper.kept ≡ recovered key opened.frames.items) }
+    ensures here { IfOk result (λ it. All (λ (e : Event). e.desk ≡ desk.old.number) it.keeper.kept) }
+    ensures store { IfOk result (λ it. store.new ≡ it.keeper.kept) }
+    ensures seen { IfOk result (λ it. desk.new.seen ≡ it.keeper.kept) }
+    ensures told { IfOk result (λ it. desk.new.kept ≡ it.keeper.kept) }
     ensures moves { OnOk result (Moves C.settings [] store.new desk.old (record desk.new { kept = desk.old.kept })) }
     ensures room { OnOk result (desk.new.room ≡ desk.old.room) }
     ensures missed { OnOk result (desk.new.missed ≡ desk.old.missed) }
     // A record is told only where it is the first that no book takes.
     ensures why { IfErr result (IsReopenFault (replayed 1 (opening_book C.settings) (recovered key opened.frames.items))) }
-    ensures keeper { IfOk result (λ keeper. keeper ≡ record {
+    ensures count { IfOk result (λ it. it.records ≡ length (recovered key opened.frames.items)) }
+    ensures keeper { IfOk result (λ it. it.keeper ≡ record {
       key = key;
-      kept = keeper.kept;
+      kept = it.keeper.kept;
       failed = false;
       promised = 0;
       room = room_of opened.journal;
       disk = disk_of opened.journal;
     }) }
 {
-    make_all_again(store, desk, Frames::new(key, &opened.frames))?;
+    let records = make_all_again(store, desk, Frames::new(key, &opened.frames))?;
     let front = desk.seen_events();
     desk.learn_kept(&front);
-    Ok(Keeper::new(alloc, opened.journal, front))
+    let keeper = Keeper::new(alloc, opened.journal, front);
+    Ok(Reopened { keeper, records })
 }
 
-// Makes the changes of all records again, at a new desk of a new store.
+// Makes the changes of all records again, at a new desk of a new store, and gives how many they are.
 fn make_all_again<C: Charges, R: Ledger, M: Ledger, B: Wait + Drop>(
     store: &mut Store<C, R, M, B>,
     desk: &mut Desk<C, R, M>,
     mut records: Frames,
-) -> Result<(), ReopenFault>
+) -> Result<u64, ReopenFault>
     requires store { store.old ≡ [] }
     requires seen { desk.old.seen ≡ [] }
     ensures happened { HaveHappened C.settings store.new }
     ensures records { OnOk result (event_records store.new ≡ recovered records.entry.key records.entry.rest.now) }
+    ensures count { IfOk result (λ count. count ≡ length (recovered records.entry.key records.entry.rest.now)) }
     ensures here { All (λ (e : Event). e.desk ≡ desk.old.number) store.new }
     ensures seen { desk.new.seen ≡ store.new }
     ensures moves { Moves C.settings [] store.new desk.old desk.new }
@@ -134,7 +146,7 @@ fn make_all_again<C: Charges, R: Ledger, M: Ledger, B: Wait + Drop>(
     let mut number: u64 = 1;
     'records: loop {
         let Ok(bytes) = records.next() else {
-            return Ok(());
+            return Ok(number - 1);
         };
         match make_record_again(store, desk, bytes) {
             Ok(()) => number += 1,

@@ -3,9 +3,12 @@ pub mod CommandLineLemmas
 pub mod DeskLemmas
 pub mod FaultLemmas
 pub mod KeptTalkLemmas
+pub mod MadeAgainLemmas
 pub mod RunLemmas
 pub mod SentenceLemmas
 pub mod ServeLemmas
+pub mod SettingsFileLemmas
+pub mod SettingsLemmas
 pub mod SimulationLemmas
 pub mod TalkLemmas
 pub mod TenantLemmas

@@ -1,5 +1,5 @@
 -- Why a journal can't be had, or failed.
-use Rattle.std.specs.Prelude.{ℕ, List, codes, ⊤}
+use Rattle.std.specs.Prelude.{◌≡◌, ◌⊎◌, ℕ, List, codes, ⊤}
 use Rattle.book_replay.specs.declared.fault.ReplayFault.TheVariants as replay
 use Rattle.journal_file.specs.declared.error.JournalError.{JournalError}
 use Rattle.journal_file.specs.declared.error.JournalError.TheVariants as error
@@ -12,12 +12,14 @@ use Rattle.sqlite_std_file.specs.declared.pair.OpenError.TheVariants as file
 use Rattle.tus_server.specs.declared.fault.RunFault.{RunFault}
 use Rattle.tus_server.specs.declared.fault.RunFault.TheVariants as run
 use Rattle.tus_server.specs.declared.journal_fault.JournalFault.{JournalFault}
-use Rattle.tus_server.specs.declared.journal_fault.JournalFault.TheVariants.{File, Busy, Damaged, Record, Disk}
+use Rattle.tus_server.specs.declared.journal_fault.JournalFault.TheVariants.{File, NoFolder, Busy, Settings, Damaged, Record, Disk}
 
 -- the word that names it
 abbrev pub journal_word : JournalFault → List ℕ
 journal_word File = codes "file"
+journal_word NoFolder = codes "file"
 journal_word Busy = codes "busy"
+journal_word (Settings why) = codes "settings"
 journal_word Damaged = codes "damaged"
 journal_word (Record number) = codes "record"
 journal_word Disk = codes "disk"
@@ -56,3 +58,7 @@ IsOfJournal (run.Settings why) = ⊥
 IsOfJournal (run.Wire cause) = ⊥
 IsOfJournal (run.Journal why) = ⊤
 IsOfJournal run.Memory = ⊤
+
+-- a call of the system failed where settings are read or put, or memory was lacking
+abbrev pub IsOfSystem : RunFault → Type 0
+IsOfSystem fault = (fault ≡ run.Journal Disk) ⊎ (fault ≡ run.Memory)

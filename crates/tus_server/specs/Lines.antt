@@ -1,4 +1,4 @@
--- The two lines that `serve` prints.
+-- The two lines that `serve` prints, and the one that it tells of its journal.
 use Rattle.std.specs.Prelude.{◌≡◌, ℕ, List, ◌++◌, codes, decimal}
 use Rattle.std.specs.List.{sum_by}
 use Rattle.std.specs.Net.Text.{socket_text}
@@ -9,6 +9,7 @@ use Rattle.upload_book.specs.Charge.{charge_in}
 use Rattle.upload_book.specs.Lawful.{IsLawful}
 use Rattle.upload_book.specs.PlainBook.{PlainBook}
 use Rattle.upload_book.specs.Settings.{Settings}
+use Rattle.tus_server.specs.declared.held.Held.{Held}
 
 -- where the server listens
 abbrev pub listening_text : SocketAddr → List ℕ
@@ -29,3 +30,9 @@ pub record Settles (s : Settings) (desks : List Desk) (balance : Balance) : Type
   pub charged : balance.charged ≡ book.charged
   pub released : balance.released ≡ book.released
   pub held : balance.held ≡ sum_by (charge_in s.numbers) book.tenants
+
+-- what a start has read of its journal: how many records, what their book holds, and how many milliseconds it took
+abbrev pub started_text : ℕ → Held → ℕ → List ℕ
+started_text records held millis =
+    codes "tus-server: journal: " ++ decimal records ++ codes " records, " ++ decimal held.uploads ++ codes " uploads, "
+    ++ decimal held.bytes ++ codes " bytes, read in " ++ decimal millis ++ codes " ms\n"

@@ -13,9 +13,13 @@ use Rattle.tus_server.specs.declared.cause.Cause.{Cause}
 use Rattle.tus_server.specs.declared.cause.Cause.TheVariants.{Input, Output, Port, Workers, Accept, Log, Metrics}
 use Rattle.tus_server.specs.declared.cause.PortFault.{PortFault}
 use Rattle.tus_server.specs.declared.cause.PortFault.TheVariants.{Taken, Forbidden, NotHere, Refused}
+use Rattle.tus_server.specs.declared.difference.Difference.{Difference}
+use Rattle.tus_server.specs.declared.difference.Difference.TheVariants.{Lifetime, NoTenant, OtherTenant}
 use Rattle.tus_server.specs.declared.fault.RunFault.{RunFault}
 use Rattle.tus_server.specs.declared.journal_fault.JournalFault.{JournalFault}
-use Rattle.tus_server.specs.declared.journal_fault.JournalFault.TheVariants.{File, Busy, Damaged, Record, Disk}
+use Rattle.tus_server.specs.declared.journal_fault.JournalFault.TheVariants.{File, NoFolder, Busy, Settings, Damaged, Record, Disk}
+use Rattle.tus_server.specs.declared.journal_fault.Mismatch.{Mismatch}
+use Rattle.tus_server.specs.declared.journal_fault.Mismatch.TheVariants.{Missing, Unreadable, Differs}
 use Rattle.tus_server.specs.declared.fault.RunFault.TheVariants as run
 
 -- a byte as it is shown: a printable one of ASCII as it is, and any other as `?`
@@ -148,9 +152,26 @@ cause_text Accept arguments = codes "a worker could accept no connection: see th
 cause_text Log arguments = shown (log_in arguments) ++ codes " can't be opened for the log: see its folder, and whose it is\n"
 cause_text Metrics arguments = codes "--metrics " ++ decimal (metrics_in arguments) ++ codes " can't be listened at: give another port\n"
 
+-- what of a journal's settings is not so in the options
+abbrev pub difference_text : Difference → List ℕ
+difference_text (Lifetime journal options) =
+    codes "the journal has a lifetime of " ++ decimal journal ++ codes " seconds, the options " ++ decimal options ++ codes "\n"
+difference_text (NoTenant place journal) =
+    codes "the journal has the tenant " ++ journal.bytes ++ codes " at place " ++ decimal place ++ codes ", the options have none there\n"
+difference_text (OtherTenant place journal options) =
+    codes "the journal has the tenant " ++ journal.bytes ++ codes " at place " ++ decimal place ++ codes ", the options " ++ options.bytes ++ codes "\n"
+
+-- the settings beside a journal are not those of the options
+abbrev pub mismatch_text : Mismatch → List ℕ → List ℕ
+mismatch_text Missing path = shown path ++ codes " has a journal and no settings: put its file settings back, or give another --journal\n"
+mismatch_text Unreadable path = shown path ++ codes "/settings gives no settings: put back what it was, or give another --journal\n"
+mismatch_text (Differs difference) path = difference_text difference
+
 -- a journal can't be had, or failed; its path stands as it was given
 abbrev pub journal_text : JournalFault → List ℕ → List ℕ
-journal_text File path = shown path ++ codes " can't be opened or made: see its folder, and that it is a file with one name\n"
+journal_text NoFolder path = shown path ++ codes " is a file and no folder: give --journal a folder, which is made where there is none\n"
+journal_text (Settings why) path = mismatch_text why path
+journal_text File path = shown path ++ codes " can't be made, or its journal can't be opened: see its rights, and that the journal is a file with one name\n"
 journal_text Busy path = shown path ++ codes " is another process's journal: end that, or give another --journal\n"
 journal_text Damaged path = shown path ++ codes " is damaged, or no journal; nothing was written to it: give a copy of it, or another --journal\n"
 journal_text (Record number) path =

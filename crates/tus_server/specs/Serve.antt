@@ -17,7 +17,7 @@ use Rattle.tus_server.specs.StreamUse.{StreamUse, IsAlive, IsUntouched}
 use Rattle.tus_server.specs.declared.cause.Cause.{Cause}
 use Rattle.tus_server.specs.declared.cause.Cause.TheVariants.{Input, Output, Port, Workers, Accept, Log, Metrics}
 use Rattle.tus_server.specs.declared.journal_fault.JournalFault.{JournalFault}
-use Rattle.tus_server.specs.declared.journal_fault.JournalFault.TheVariants.{File, Busy, Damaged, Record, Disk}
+use Rattle.tus_server.specs.declared.journal_fault.JournalFault.TheVariants.{File, NoFolder, Busy, Settings, Damaged, Record, Disk}
 use Rattle.tus_server.specs.declared.fault.RunFault.{RunFault}
 use Rattle.tus_server.specs.declared.fault.RunFault.TheVariants as run
 
@@ -113,7 +113,9 @@ is_of_service run.Memory = true
 abbrev pub KeepsQuiet : {W : Type 0} → StreamUse W → JournalFault → Type 0
 KeepsQuiet output Disk = ⊤
 KeepsQuiet output File = IsUntouched output
+KeepsQuiet output NoFolder = IsUntouched output
 KeepsQuiet output Busy = IsUntouched output
+KeepsQuiet output (Settings why) = IsUntouched output
 KeepsQuiet output Damaged = IsUntouched output
 KeepsQuiet output (Record number) = IsUntouched output
 

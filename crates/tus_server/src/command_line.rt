@@ -21,9 +21,9 @@ Exit status:
 At 2, 3, 4 and 5 standard error says why.";
 
 const TALK_HELP: &str = "\
-Uploads are created by POST to /files/NAME, and live as long as the conversation, or with --journal in its file: no
-reply tells of a change before the file has it, and the next conversation with the same options and the same tenants in
-the same order goes on from there.
+Uploads are created by POST to /files/NAME, and live as long as the conversation, or with --journal in its folder: no
+reply tells of a change before the folder has it, and the next conversation goes on from there. That has the same lifetime
+and the same tenants in the same order; new ones may follow them.
 A quota is a number of blocks, or of bytes with KiB, MiB, GiB or TiB, of which the whole blocks count: with blocks of
 4096 bytes acme:4096 and acme:16MiB are the same. An upload takes a block for each that its bytes begin.
 A PATCH that would take more blocks than the tenant's quota is refused with 507.
@@ -35,8 +35,8 @@ Upload-Length: 5\\r\\n\\r\\n' | tus-server talk acme:8";
 const SERVE_HELP: &str = "\
 All uploads are kept in memory, in blocks that are taken at the start: --blocks times --block-size bytes.
 Without --journal everything ends with the process: its end, or the end of the machine, loses all uploads. With it a
-file has all of them: no reply tells of what the file does not have, and the next start with the same options and the
-same tenants in the same order goes on from there.
+folder has all of them: no reply tells of what the folder does not have, and the next start goes on from there. That has
+the same lifetime and the same tenants in the same order; new ones may follow them.
 A quota is a number of blocks, or of bytes with KiB, MiB, GiB or TiB, of which the whole blocks count: with blocks of
 4096 bytes acme:4096 and acme:16MiB are the same. An upload takes a block for each that its bytes begin.
 
@@ -88,16 +88,16 @@ fn talk<'a>(alloc: Global) -> Result<Command<'a>, AllocError>
     sizes(alloc, command)?.arg(tenants(alloc))
 }
 
-/// The option that names the file of the journal.
+/// The option that names the folder of the journal.
 fn journal<'a>(alloc: Global) -> Arg<'a>
     ensures rule { rule_of result ≡ journal_rule }
     ensures local { result.global ≡ false }
 {
     Arg::new(alloc, "journal")
         .long("journal")
-        .value_name("FILE")
+        .value_name("DIR")
         .help(
-            "The file that keeps all uploads, which is made where there is none; beside it stands FILE-wal",
+            "The folder that keeps all uploads, and the settings that they are of; it is made where there is none",
         )
 }
 

@@ -2,19 +2,36 @@
 ghost use Rattle.std.specs.Prelude.{◌≡◌, ◌≤◌, length};
 ghost use Rattle.tus_server.specs.JournalFault.{journal_word};
 
+use crate::difference::Difference;
+
 /// What is wrong with a journal.
 #[derive(Clone, Copy, Debug, PartialEq, Eq)]
 pub enum JournalFault {
-    /// Its file can't be opened or made, or is no regular file with one name.
+    /// Its folder can't be made, or its file can't be opened or made, or is no regular file with one name.
     File,
+    /// What stands at the path of its folder is none.
+    NoFolder,
     /// Another process has its file.
     Busy,
+    /// The settings that stand beside it are not those of the options.
+    Settings(Mismatch),
     /// Its file is damaged, or is no journal.
     Damaged,
     /// The record of this number, counted from 1, is of no change that a book of the settings takes.
     Record(u64),
-    /// A read, a write or a sync of its file failed.
+    /// A read, a write or a sync of its file, or of its settings, failed.
     Disk,
+}
+
+/// Why a journal is not opened with the settings of the options.
+#[derive(Clone, Copy, Debug, PartialEq, Eq)]
+pub enum Mismatch {
+    /// The journal has bytes, and there are no settings beside it.
+    Missing,
+    /// The text beside it gives no settings.
+    Unreadable,
+    /// The settings of the options may not follow those beside it.
+    Differs(Difference),
 }
 
 impl JournalFault {
@@ -24,8 +41,9 @@ impl JournalFault {
         ensures short { length result.now ≤ 10 }
     {
         match self {
-            JournalFault::File => "file",
+            JournalFault::File | JournalFault::NoFolder => "file",
             JournalFault::Busy => "busy",
+            JournalFault::Settings(_) => "settings",
             JournalFault::Damaged => "damaged",
             JournalFault::Record(_) => "record",
             JournalFault::Disk => "disk",

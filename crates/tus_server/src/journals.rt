@@ -1,38 +1,205 @@
-//! Where the files of journals are opened.
-ghost use Rattle.std.specs.Prelude.{IfErr};
-ghost use Rattle.tus_server.specs.JournalFault.{IsOfJournal};
+//! Where journals lie: each in a folder, beside the settings that it is of.
+ghost use Rattle.std.specs.Prelude.{◌≡◌, List, ℕ, Option, Some, IfErr, OnOk, option_map};
+ghost use Rattle.std.specs.Borrow.{Bor};
+ghost use Rattle.tus_server.specs.JournalFault.{IsOfJournal, IsOfSystem};
 
 use crate::fault::RunFault;
+use crate::journal_fault::{JournalFault, Mismatch};
 use sqlite_disk::{Disk, Unknown};
-use sqlite_std_file::File;
+use sqlite_std_file::File as DiskFile;
+use std::fs::{File, OpenFile};
+use std::io::{ErrorKind, Read, Write};
+use std::{fs, io};
 
 /// The key under which the journals of the program are. It keeps what is no journal from being taken for one.
 pub const JOURNAL_KEY: u64 = 8_391_740_119_571_199_346;
 
-/// What opens the files of journals.
+/// The most bytes of a text of settings: those of a journal have less than 2,048.
+const SETTINGS_MAX: u64 = 65_536;
+
+/// What opens the folders of journals.
 pub trait Journals {
     type Disk: Disk + Drop;
 
-    /// The file at a path, which is made where there is none. No other process can have it until it is let go. Beside it
-    /// stands a file without a byte, whose name ends in `-wal`.
+    type File: SettingsFile + Drop;
+
+    /// The journal in the folder at a path, and the settings beside it. The folder is made where there is none, and so is the
+    /// journal's file, without a byte. No other process can have the journal until its disk is let go. Beside it stands a
+    /// file without a byte, whose name ends in `-wal`.
     ///
-    /// The error is File where it can't be opened or made, or is no regular file with one name; Busy where another process
-    /// has it; or Memory.
-    fn open(&self, path: &str) -> Result<Self::Disk, RunFault>
+    /// The error is NoFolder where something else stands at the path; File where the folder can't be made, or the journal's
+    /// file can't be opened or made, or is no regular file with one name; Busy where another process has it; Settings with
+    /// Unreadable where the settings are far too long; Disk where they can't be read; or Memory.
+    fn open(&self, path: &str) -> Result<Folder<Self::Disk, Self::File>, RunFault>
         ensures { IfErr result IsOfJournal };
 }
 
-/// The files of this machine.
+/// The folder of a journal.
+#[derive(Drop)]
+pub struct Folder<D: Disk, F: SettingsFile> {
+    /// The journal's file.
+    pub disk: D,
+    /// The settings that it is of.
+    pub file: F,
+}
+
+/// The file with the settings of a journal.
+pub trait SettingsFile {
+    /// Its text, where there is such a file.
+    ghost text_in: { Self → Option (List ℕ) };
+
+    /// Its text, lent; None where there is no such file.
+    fn text(&self) -> Option<&[u8]>
+        ensures { option_map (λ (text : Bor (List ℕ)). text.now) result ≡ text_in self.now };
+
+    /// Puts a text in the place of the one that is there. A crash meanwhile leaves the one or the other, whole.
+    ///
+    /// The error is Disk where it could not be written, synced or put in its place, or Memory; either text may be there then.
+    fn put(&mut self, text: Vec<u8>) -> Result<(), RunFault>
+        ensures put { OnOk result (text_in self.new ≡ Some text.items) }
+        ensures fault { IfErr result IsOfSystem };
+}
+
+/// The folders of this machine.
 #[derive(Clone, Copy)]
 pub struct MachineJournals<'a> {
     pub rt: &'a HostRuntime,
 }
 
 impl<'a> Journals for MachineJournals<'a> {
-    type Disk = File;
+    type Disk = DiskFile;
 
-    fn open(&self, path: &str) -> Result<File, RunFault> {
-        let files = sqlite_std_file::open(self.rt, path, Unknown)?;
-        Ok(files.db)
+    type File = MachineSettings<'a>;
+
+    fn open(&self, path: &str) -> Result<Folder<DiskFile, MachineSettings<'a>>, RunFault> {
+        make_folder(self.rt, path)?;
+        let journal = format!(in self.rt.alloc(); "{path}/journal")?;
+        let files = sqlite_std_file::open(self.rt, journal.as_str(), Unknown)?;
+        let file = MachineSettings::open(self.rt, path)?;
+        Ok(Folder {
+            disk: files.db,
+            file,
+        })
+    }
+}
+
+/// The settings in a folder of this machine, as they were when it was opened or as they were put last.
+#[derive(Drop)]
+pub struct MachineSettings<'a> {
+    rt: &'a HostRuntime,
+    folder: String,
+    text: Option<Vec<u8>>,
+}
+
+impl<'a> MachineSettings<'a> {
+    /// Reads the settings in a folder. Where there are none, the folder is synced as one of its parent, so that no crash
+    /// takes it away with what is put there.
+    fn open(rt: &'a HostRuntime, path: &str) -> Result<MachineSettings<'a>, RunFault>
+        ensures { IfErr result IsOfJournal }
+    {
+        let text = read_text(rt, format!(in rt.alloc(); "{path}/settings")?.as_str())?;
+        if text.is_none() {
+            sync_parent(rt, path).map_err(file_fault)?;
+        }
+        Ok(MachineSettings {
+            rt,
+            folder: String::from_str(rt.alloc(), path)?,
+            text,
+        })
+    }
+}
+
+impl<'a> SettingsFile for MachineSettings<'a> {
+    ghost text_in = { λ s. option_map (λ text. text.items) s.text };
+
+    fn text(&self) -> Option<&[u8]> {
+        match &self.text {
+            Some(text) => Some(text.as_slice()),
+            None => None,
+        }
+    }
+
+    fn put(&mut self, text: Vec<u8>) -> Result<(), RunFault> {
+        match write_text(self.rt, self.folder.as_str(), &text) {
+            Ok(()) => {
+                self.text = Some(text);
+                Ok(())
+            }
+            Err(error) => Err(disk_fault(error)),
+        }
+    }
+}
+
+/// Makes a folder at this path, where there is nothing.
+fn make_folder(rt: &HostRuntime, path: &str) -> Result<(), RunFault>
+    ensures { IfErr result IsOfJournal }
+{
+    let Err(error) = fs::create_dir(rt, path) else {
+        return Ok(());
+    };
+    if error.kind() != ErrorKind::AlreadyExists {
+        return Err(file_fault(error));
+    }
+    if fs::metadata(rt, path).map_err(file_fault)?.is_dir() {
+        Ok(())
+    } else {
+        Err(RunFault::Journal(JournalFault::NoFolder))
+    }
+}
+
+/// Syncs the entry of a folder in its parent.
+fn sync_parent(rt: &HostRuntime, path: &str) -> io::Result<()> {
+    let mut parent = fs::canonicalize(rt, path)?;
+    parent.pop();
+    File::open(rt, parent.as_str())?.sync_all()
+}
+
+/// The text of a file; None where there is no such file.
+fn read_text(rt: &HostRuntime, path: &str) -> Result<Option<Vec<u8>>, RunFault>
+    ensures { IfErr result IsOfJournal }
+{
+    let mut file = match File::open(rt, path) {
+        Ok(file) => file,
+        Err(error) if error.kind() == ErrorKind::NotFound => return Ok(None),
+        Err(error) => return Err(disk_fault(error)),
+    };
+    if file.metadata().map_err(disk_fault)?.len() > SETTINGS_MAX {
+        return Err(RunFault::Journal(JournalFault::Settings(Mismatch::Unreadable)));
+    }
+    let mut text = Vec::new(rt.alloc());
+    file.read_to_end(&mut text).map_err(disk_fault)?;
+    Ok(Some(text))
+}
+
+/// Puts a text in the place of the settings in a folder: it is written beside them, synced, and takes their name.
+fn write_text(rt: &HostRuntime, folder: &str, text: &[u8]) -> io::Result<()> {
+    let new = format!(in rt.alloc(); "{folder}/settings.new")?;
+    let settings = format!(in rt.alloc(); "{folder}/settings")?;
+    let mut file = File::create(rt, new.as_str())?;
+    file.write_all(text)?;
+    file.sync_all()?;
+    fs::rename(rt, new.as_str(), settings.as_str())?;
+    File::open(rt, folder)?.sync_all()
+}
+
+/// What it is to the program that a folder or a file can't be had.
+fn file_fault(error: io::Error) -> RunFault
+    ensures { IsOfJournal result }
+{
+    if error.kind() == ErrorKind::OutOfMemory {
+        RunFault::Memory
+    } else {
+        RunFault::Journal(JournalFault::File)
+    }
+}
+
+/// What it is to the program that settings can't be read or written.
+fn disk_fault(error: io::Error) -> RunFault
+    ensures { IsOfSystem result }
+{
+    if error.kind() == ErrorKind::OutOfMemory {
+        RunFault::Memory
+    } else {
+        RunFault::Journal(JournalFault::Disk)
     }
 }

@@ -1,9 +1,10 @@
 //! The command `serve` with a journal.
-ghost use Rattle.std.specs.Prelude.{◌≡◌, [], Some, false, true, IfErr, IsErrOf, IsTrue, OnOk};
+ghost use Rattle.std.specs.Prelude.{◌≡◌, ◌≢◌, [], Some, false, true, IfErr, IsErrOf, IsTrue, OnOk};
 ghost use Rattle.journal_file.specs.Journal.{key_of, IsJournal};
 ghost use Rattle.journal_frames.specs.Frames.{recovered};
 ghost use Rattle.tus_server.specs.Arguments.{serve_arguments_of};
 ghost use Rattle.tus_server.specs.Serve.{BreaksOff, IsPlaceAsked, KeepsQuiet, ServesEach, is_of_kept_service};
+ghost use Rattle.tus_server.specs.SettingsFile.{settings_text};
 ghost use Rattle.tus_server.specs.Sockets.{sockets};
 ghost use Rattle.tus_server.specs.StreamUse.{used};
 ghost use Rattle.tus_server.specs.declared.cause.Cause.{Cause};
@@ -11,10 +12,12 @@ ghost use Rattle.tus_server.specs.declared.journal_fault.JournalFault.{JournalFa
 
 use crate::fault::RunFault;
 use crate::journal_fault::JournalFault;
-use crate::journals::JOURNAL_KEY;
+use crate::journal_folder::renew_settings;
+use crate::journals::{JOURNAL_KEY, SettingsFile};
 use crate::keeping::InJournal;
 use crate::options::ServeOptions;
 use crate::serve::serve_desks;
+use crate::started::tell_started;
 use http_wire::Sink;
 use journal_file::Opened as OpenedJournal;
 use journal_keeper::{Journalled, SharedKeeper, open_journal, reopen};
@@ -28,18 +31,21 @@ use std::sync::Wait;
 use std::sync::ledger::{Blank, Ledger};
 use std::thread::Threads;
 use std::time;
+use std::time::Instant;
 use tus_shared::{Opened, Shared, Store};
 use tus_workers::Listener;
 use upload_book::Settings;
 
-/// Serves connections as [`crate::serve::serve`] says, over the book that the file of this disk keeps: all changes are made
-/// again whose records it has, and no reply is sent before the file has all that it tells.
+/// Serves connections as [`crate::serve::serve`] says, over the book that the journal of this disk keeps: all changes are made
+/// again whose records it has, and no reply is sent before it has all that this tells. Where the settings beside it are others,
+/// these are put in their place once all changes were made again, and before a connection is accepted.
 ///
 /// The error is that of `serve`, or the journal's: Damaged or Record where the file is none of a journal, or of one of other
-/// settings, and Disk where a read, a write or a sync failed. Then all workers end.
+/// settings, which stay, and Disk where a read, a write or a sync failed. Then all workers end.
 pub fn serve_kept<
     L: Listener,
     D: Disk,
+    F: SettingsFile,
     H: Threads
         + Wait
         + Net<Stream = TcpStream, Listener = TcpListener>
@@ -55,6 +61,7 @@ pub fn serve_kept<
     options: &ServeOptions,
     place: SocketAddr,
     disk: D,
+    file: &mut F,
     output: &mut W,
 ) -> Result<(), RunFault>
 where
@@ -71,30 +78,37 @@ where
         cause }
     ensures journal { (why : JournalFault) → IsErrOf result (RunFault.Journal why)
         → KeepsQuiet (used W.contents W.has_failed output.old output.new) why }
+    ensures stays { (why : JournalFault) → IsErrOf result (RunFault.Journal why) → why ≢ JournalFault.Disk → file.new ≡ file.old }
     ensures all { OnOk result
         (ServesEach (sockets L.asked L.place L.Acceptor.accepted L.Acceptor.has_failed L.Acceptor.is_stopped)
         (serve_arguments_of options.now) settings (used W.contents W.has_failed output.old output.new)) }
+    ensures put { OnOk result (F.text_in file.new ≡ Some (settings_text settings)) }
 {
+    let start = Instant::now(rt).ok();
     let opened = open_journal(alloc, disk, JOURNAL_KEY)?;
-    serve_journalled::<L, D, Brand, Brand, Brand, H, W>(
+    serve_journalled::<L, D, F, Brand, Brand, Brand, H, W>(
         rt,
         alloc,
         settings,
         options,
         place,
+        &start,
         opened,
         Blank::new(16),
         Blank::new(16),
         Blank::new(16),
         Opened::new(),
+        file,
         output,
     )
 }
 
-// Opens a desk for each worker, makes all changes again whose records the journal has, and serves at these desks.
+// Opens a desk for each worker, makes all changes again whose records the journal has, tells what was read since the start, and
+// serves at these desks.
 fn serve_journalled<
     L: Listener,
     D: Disk,
+    F: SettingsFile,
     C: Journalled + Send + Sync,
     R: Ledger + Send + Sync,
     M: Ledger + Send + Sync,
@@ -112,11 +126,13 @@ fn serve_journalled<
     settings: Settings,
     options: &ServeOptions,
     place: SocketAddr,
+    start: &Option<Instant>,
     journal: OpenedJournal<D>,
     charged: Blank,
     released: Blank,
     made: Blank,
     events: Opened,
+    file: &mut F,
     output: &mut W,
 ) -> Result<(), RunFault>
 where
@@ -142,9 +158,11 @@ where
         cause }
     ensures journal { (why : JournalFault) → IsErrOf result (RunFault.Journal why)
         → KeepsQuiet (used W.contents W.has_failed output.old output.new) why }
+    ensures stays { (why : JournalFault) → IsErrOf result (RunFault.Journal why) → why ≢ JournalFault.Disk → file.new ≡ file.old }
     ensures all { OnOk result
         (ServesEach (sockets L.asked L.place L.Acceptor.accepted L.Acceptor.has_failed L.Acceptor.is_stopped)
         (serve_arguments_of options.now) C.settings (used W.contents W.has_failed output.old output.new)) }
+    ensures put { OnOk result (F.text_in file.new ≡ Some (settings_text C.settings)) }
 {
     let (mut store, mut desks) = Store::<C, R, M, &H>::open(
         rt,
@@ -160,10 +178,12 @@ where
     let Some(mut desk) = desks.pop() else {
         return Err(RunFault::Memory);
     };
-    let keeper = reopen(alloc, &mut store, &mut desk, journal, JOURNAL_KEY)?;
+    let reopened = reopen(alloc, &mut store, &mut desk, journal, JOURNAL_KEY)?;
+    renew_settings(alloc, file, desk.settings())?;
+    tell_started(rt, start, reopened.records, store.headline());
     desks.push_reserved(desk);
     let keeping = InJournal {
-        keeper: SharedKeeper::new(keeper),
+        keeper: SharedKeeper::new(reopened.keeper),
     };
     let served = serve_desks::<L, C, R, M, H, &H, InJournal<D, C>, W>(
         rt,

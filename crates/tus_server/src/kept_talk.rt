@@ -7,18 +7,19 @@ ghost use Rattle.tus_server.specs.StreamUse.{used};
 use crate::at_journal::AtJournal;
 use crate::fault::RunFault;
 use crate::journal_fault::JournalFault;
-use crate::journals::{JOURNAL_KEY, Journals};
+use crate::journal_folder::open_kept;
+use crate::journals::{Folder, Journals};
 use crate::options::TalkOptions;
 use crate::settings::settings_with;
 use http_wire::{Sink, Source, converse};
-use kept_book::open_or_create;
 use sqlite_disk::Disk;
 use std::alloc::Global;
 use tus_workers::MESSAGES_MAX;
 
-/// Holds one conversation over `reader` and `writer`, on the book that the file at `path` keeps, with the settings of the
-/// options. Each message has the moment of the options, and at most 4,096 are read. No reply tells of a change before the file
-/// has it, so a crash at any moment loses nothing of what was told.
+/// Holds one conversation over `reader` and `writer`, on the book that the journal in the folder at `path` keeps, with the
+/// settings of the options, which may follow those beside it ([`open_kept`]). Each message has the moment of the options, and
+/// at most 4,096 are read. No reply tells of a change before the journal has it, so a crash at any moment loses nothing of what
+/// was told.
 ///
 /// It is `Ok` where the conversation ended, in whatever way. The error is the fault of the settings, or the journal's, and then
 /// both streams are untouched; `RunFault::Wire` with the stream where a read or a write failed; or `RunFault::Memory` where
@@ -42,8 +43,8 @@ where
         (used W.contents W.has_failed writer.old writer.new) result }
 {
     let settings = settings_with(alloc, options.numbers, options.tenants)?;
-    let disk = journals.open(path)?;
-    let kept = open_or_create(alloc, settings, disk, JOURNAL_KEY)?;
+    let Folder { disk, mut file } = journals.open(path)?;
+    let kept = open_kept(alloc, &mut file, disk, settings)?;
     let mut at = AtJournal {
         kept,
         has_failed: false,

@@ -18,7 +18,7 @@ pub struct TalkOptions<'m, 'a> {
     pub numbers: Numbers,
     /// The moment of every message.
     pub moment: Moment,
-    /// The file of the journal, where there is one.
+    /// The folder of the journal, where there is one.
     pub journal: Option<&'a str>,
     /// Words NAME:QUOTA, as they were given.
     pub tenants: &'m [&'a str],
@@ -34,7 +34,7 @@ pub struct ServeOptions<'m, 'a> {
     pub address: &'a str,
     /// The port that is listened at; 0 is any that is free.
     pub port: u16,
-    /// The file of the journal, where there is one.
+    /// The folder of the journal, where there is one.
     pub journal: Option<&'a str>,
     /// How many workers there are, from 1 to 16.
     pub workers: usize,

@@ -4,12 +4,13 @@ ghost use Rattle.std.specs.List.{before_first, list_any};
 ghost use Rattle.arrayvec.specs.ArrayString.{array_string_len};
 ghost use Rattle.clap.specs.Walk.{texts};
 ghost use Rattle.tus_server.specs.Arguments.{arguments_of};
-ghost use Rattle.tus_server.specs.Sentences.{address_in, address_text, cause_text, journal_in, journal_text, log_in, memory_text, metrics_in, name_twice, numbers_in, outside_text, pool_text, port_in, port_text, quota_in, quota_sum, quota_text, sentence_of, settings_text, shown, shown_byte, sum_text, tenant_words, tenants_text, twice_text, untold_text, word_rule, word_text, wrong_word};
+ghost use Rattle.tus_server.specs.Sentences.{address_in, address_text, cause_text, difference_text, journal_in, journal_text, log_in, memory_text, metrics_in, mismatch_text, name_twice, numbers_in, outside_text, pool_text, port_in, port_text, quota_in, quota_sum, quota_text, sentence_of, settings_text, shown, shown_byte, sum_text, tenant_words, tenants_text, twice_text, untold_text, word_rule, word_text, wrong_word};
 ghost use Rattle.tus_server.specs.Settings.{is_colon};
 
 use crate::cause::{Cause, PortFault};
+use crate::difference::Difference;
 use crate::fault::RunFault;
-use crate::journal_fault::JournalFault;
+use crate::journal_fault::{JournalFault, Mismatch};
 use crate::options::CommandOptions;
 use crate::settings::tenant_of;
 use arrayvec::ArrayString;
@@ -21,7 +22,7 @@ use upload_book::{Numbers, SettingsFault};
 pub const SENTENCE_MAX: usize = 256;
 
 /// What a sentence shows of a word.
-type Excerpt = ArrayString<48>;
+pub type Excerpt = ArrayString<48>;
 
 /// The sentence on a word of the command line that is no text.
 pub const NO_TEXT: &str = "a word of the command line is not UTF-8: write it in ASCII\n";
@@ -354,8 +355,13 @@ fn journal_line(why: JournalFault, path: &str) -> ArrayString<SENTENCE_MAX>
     match why {
         JournalFault::File => path_is(
             path,
-            " can't be opened or made: see its folder, and that it is a file with one name\n",
+            " can't be made, or its journal can't be opened: see its rights, and that the journal is a file with one name\n",
         ),
+        JournalFault::NoFolder => path_is(
+            path,
+            " is a file and no folder: give --journal a folder, which is made where there is none\n",
+        ),
+        JournalFault::Settings(why) => mismatch_line(why, path),
         JournalFault::Busy => path_is(
             path,
             " is another process's journal: end that, or give another --journal\n",
@@ -370,6 +376,76 @@ fn journal_line(why: JournalFault, path: &str) -> ArrayString<SENTENCE_MAX>
             " could not be read or written: see its disk. What any reply told is in it\n",
         ),
     }
+}
+
+/// The settings beside a journal are not those of the options.
+fn mismatch_line(why: Mismatch, path: &str) -> ArrayString<SENTENCE_MAX>
+    ensures { result.bytes ≡ mismatch_text why path.now }
+{
+    match why {
+        Mismatch::Missing => path_is(
+            path,
+            " has a journal and no settings: put its file settings back, or give another --journal\n",
+        ),
+        Mismatch::Unreadable => path_is(
+            path,
+            "/settings gives no settings: put back what it was, or give another --journal\n",
+        ),
+        Mismatch::Differs(difference) => difference_line(difference),
+    }
+}
+
+/// What of a journal's settings is not so in the options.
+fn difference_line(difference: Difference) -> ArrayString<SENTENCE_MAX>
+    ensures { result.bytes ≡ difference_text difference }
+{
+    match difference {
+        Difference::Lifetime { journal, options } => lifetime_line(journal, options),
+        Difference::NoTenant { place, journal } => {
+            let mut line = tenant_line(&journal, place);
+            line.push_str(", the options have none there\n");
+            line
+        }
+        Difference::OtherTenant {
+            place,
+            journal,
+            options,
+        } => {
+            let mut line = tenant_line(&journal, place);
+            line.push_str(", the options ");
+            line.push_str(options.as_str());
+            line.push_str("\n");
+            line
+        }
+    }
+}
+
+/// The lifetime of a journal is not that of the options.
+fn lifetime_line(journal: u64, options: u64) -> ArrayString<SENTENCE_MAX>
+    ensures { result.bytes ≡ difference_text (Difference.Lifetime journal options) }
+{
+    let mut digits = Buffer::new();
+    let mut line = ArrayString::new();
+    line.push_str("the journal has a lifetime of ");
+    line.push_str(digits.format(journal));
+    line.push_str(" seconds, the options ");
+    line.push_str(digits.format(options));
+    line.push_str("\n");
+    line
+}
+
+/// The journal has a tenant at a place.
+fn tenant_line(name: &Excerpt, place: u64) -> ArrayString<SENTENCE_MAX>
+    ensures text { result.bytes ≡ codes "the journal has the tenant " ++ name.now.bytes ++ codes " at place " ++ decimal place }
+    ensures short { length result.bytes ≤ 128 }
+{
+    let mut digits = Buffer::new();
+    let mut line = ArrayString::new();
+    line.push_str("the journal has the tenant ");
+    line.push_str(name.as_str());
+    line.push_str(" at place ");
+    line.push_str(digits.format(place));
+    line
 }
 
 /// A path is as these words say.
@@ -411,7 +487,14 @@ fn address_line(word: &str) -> ArrayString<SENTENCE_MAX>
 fn shown(word: &str) -> Excerpt
     ensures { result.bytes ≡ shown word.now }
 {
-    let kept = first_bytes(word.as_bytes());
+    shown_bytes(word.as_bytes())
+}
+
+/// The bytes of a word as they are shown.
+pub fn shown_bytes(bytes: &[u8]) -> Excerpt
+    ensures { result.bytes ≡ shown bytes.now }
+{
+    let kept = first_bytes(bytes);
     let mut line = ArrayString::new();
     for byte in kept {
         push_shown(&mut line, *byte);

@@ -15,7 +15,8 @@ ghost use Rattle.tus_shared.specs.declared.balance.Balance.{Balance};
 
 use crate::cause::{Cause, PortFault};
 use crate::fault::RunFault;
-use crate::journals::Journals;
+use crate::journal_folder::check_settings;
+use crate::journals::{Folder, Journals};
 use crate::kept_serve::serve_kept;
 use crate::lines::{listening_line, put_balance};
 use crate::options::ServeOptions;
@@ -39,7 +40,7 @@ use tus_workers::{
 use upload_book::Settings;
 
 /// Serves connections on sockets of this machine, over a new book with the settings of the options, or, with a journal, over
-/// the book that its file keeps ([`serve_kept`]). It prints where it listens before it accepts anything, and at its end what
+/// the book that it keeps ([`serve_kept`]), once its settings were looked at ([`check_settings`]). It prints where it listens before it accepts anything, and at its end what
 /// was charged, released and is held.
 ///
 /// It is `Ok` where each worker accepted all of its connections, or was stopped. The error is the fault of the settings or the address, `RunFault::Wire`
@@ -76,8 +77,11 @@ where
     let settings = settings_with(alloc, options.numbers, options.tenants)?;
     let place = place_of(options.address, options.port)?;
     if let Some(path) = options.journal {
-        let disk = journals.open(path)?;
-        return serve_kept::<L, D, H, W>(rt, alloc, settings, options, place, disk, output);
+        let Folder { mut disk, mut file } = journals.open(path)?;
+        check_settings(alloc, &mut file, &mut disk, &settings)?;
+        return serve_kept::<L, D, J::File, H, W>(
+            rt, alloc, settings, options, place, disk, &mut file, output,
+        );
     }
     serve_with::<L, Brand, Brand, Brand, H, W>(
         rt,

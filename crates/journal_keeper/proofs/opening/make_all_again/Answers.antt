@@ -1,4 +1,4 @@
-use Rattle.std.proofs.Common.{◌≡◌, ℕ, ◌+◌, ◌++◌, All, sym, ap, subst, ◌∙◌, arith}
+use Rattle.std.proofs.Common.{◌≡◌, ℕ, ◌+◌, ◌++◌, All, length, sym, ap, subst, ◌∙◌, arith}
 use Rattle.std.proofs.lemmas.List.Elements.{All-push}
 use Rattle.book_replay.specs.Replay.{replayed}
 use Rattle.book_replay.proofs.ReplayLemmas.{replayed-next}
@@ -31,5 +31,6 @@ records-preserved g c =
       moves = moves-on s _ c.records.store after c.args.desk.now c.records.desk c.make_record_again.new.desk so_far.moves c.make_record_again.ensures.moves;
       room = c.make_record_again.ensures.room ∙ so_far.room;
       missed = c.make_record_again.ensures.missed ∙ so_far.missed;
+      count = omega (arith, ap length c.in-Ok.ensures.payload, ap (λ (key : ℕ). length (recovered key rest)) c.next.ensures.key, so_far.count);
       few = omega (arith, c.in-Ok.ensures.shorter, so_far.few);
     }

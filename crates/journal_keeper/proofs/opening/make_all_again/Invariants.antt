@@ -20,6 +20,7 @@ invariant-records g l = record {
   moves : Moves g.C.Charges.settings [] l.store l.fn.desk l.desk;
   room : l.desk.room ≡ l.fn.desk.room;
   missed : l.desk.missed ≡ l.fn.desk.missed;
+  count : l.number + length (recovered l.records.key l.records.rest.now) ≡ 1 + length (recovered l.fn.records.key l.fn.records.rest.now);
   few : l.number + length l.records.rest.now ≤ 1 + length l.fn.records.rest.now;
 }
 

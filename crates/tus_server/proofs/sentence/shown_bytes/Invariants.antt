@@ -1,6 +1,6 @@
 use Rattle.std.proofs.Common.{◌≡◌, length, map, take}
 use Rattle.tus_server.specs.Sentences.{shown_byte}
-use Rattle.tus_server.proofs.sentence.shown.Given as goal
+use Rattle.tus_server.proofs.sentence.shown_bytes.Given as goal
 
 -- the bytes so far are shown
 abbrev pub invariant-loop-byte : goal.invariant-loop-byte

@@ -1,0 +1,61 @@
+//! How much a book holds.
+
+use upload_book::{Book, Moment, Name, Refusal};
+
+/// How many uploads there are, and how many bytes they have together. A final upload has those of its parts once more.
+#[derive(Clone, Copy, Debug, PartialEq, Eq)]
+pub struct Held {
+    pub uploads: u64,
+    pub bytes: u64,
+}
+
+impl Held {
+    /// Nothing.
+    pub fn none() -> Held {
+        Held {
+            uploads: 0,
+            bytes: 0,
+        }
+    }
+
+    /// Both together.
+    pub fn and(self, other: Held) -> Held {
+        Held {
+            uploads: self.uploads.saturating_add(other.uploads),
+            bytes: self.bytes.saturating_add(other.bytes),
+        }
+    }
+}
+
+/// What the book holds for all of its tenants.
+pub fn held_in(book: &Book) -> Held {
+    let mut all = Held::none();
+    for tenant in 0..16u8 {
+        if usize::from(tenant) < book.settings().tenant_count() {
+            all = all.and(held_for(book, tenant));
+        }
+    }
+    all
+}
+
+/// What the book holds for the tenant at this place, from 0, those uploads too that have expired. Each id that was given is
+/// looked for.
+pub fn held_for(book: &Book, tenant: u8) -> Held {
+    let mut held = Held::none();
+    let Some(start) = Moment::new(0) else {
+        return held;
+    };
+    for id in 1..u64::MAX {
+        match book.look(&Name { tenant, id }, start) {
+            Ok(row) => {
+                held = held.and(Held {
+                    uploads: 1,
+                    bytes: row.offset,
+                });
+            }
+            Err(Refusal::Unknown) => return held,
+            Err(_) => {}
+        }
+    }
+    held
+}
