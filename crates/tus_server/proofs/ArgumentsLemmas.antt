@@ -97,7 +97,7 @@ serve_arguments-some rows numbers words address port workers work journal log me
     rw (given, found, kept, ← place, ← each, ← at, ← many, ← told, ← all) refl
 
 -- the grace of what each worker is asked for
-grace_in : Option WorkOptions → Option ℕ
+abbrev grace_in : Option WorkOptions → Option ℕ
 grace_in None = None
 grace_in (Some work) = work.grace
 
@@ -106,7 +106,7 @@ grace-given rows None at_once work at = absurd (true≢false (ap is_some at))
 grace-given rows (Some moment) None work at = absurd (true≢false (ap is_some at))
 grace-given rows (Some moment) (Some n) work at = ap grace_in at
 
-has_port : Option (Option ℕ) → Bool
+abbrev has_port : Option (Option ℕ) → Bool
 has_port None = false
 has_port (Some None) = false
 has_port (Some (Some port)) = true

@@ -17,7 +17,7 @@ use Rattle.tus_server.specs.StreamUse.{StreamUse, IsAlive, IsUntouched}
 use Rattle.tus_server.specs.declared.cause.Cause.{Cause}
 use Rattle.tus_server.specs.declared.cause.Cause.TheVariants.{Input, Output, Port, Workers, Accept, Log, Metrics}
 use Rattle.tus_server.specs.declared.journal_fault.JournalFault.{JournalFault}
-use Rattle.tus_server.specs.declared.journal_fault.JournalFault.TheVariants.{File, NoFolder, Busy, Settings, Damaged, Record, Disk}
+use Rattle.tus_server.specs.declared.journal_fault.JournalFault.TheVariants as journal
 use Rattle.tus_server.specs.declared.fault.RunFault.{RunFault}
 use Rattle.tus_server.specs.declared.fault.RunFault.TheVariants as run
 
@@ -111,13 +111,13 @@ is_of_service run.Memory = true
 -- What was printed where the journal can't be had, or failed: nothing, unless it is that a read, a write or a sync failed,
 -- which may be at any time.
 abbrev pub KeepsQuiet : {W : Type 0} → StreamUse W → JournalFault → Type 0
-KeepsQuiet output Disk = ⊤
-KeepsQuiet output File = IsUntouched output
-KeepsQuiet output NoFolder = IsUntouched output
-KeepsQuiet output Busy = IsUntouched output
-KeepsQuiet output (Settings why) = IsUntouched output
-KeepsQuiet output Damaged = IsUntouched output
-KeepsQuiet output (Record number) = IsUntouched output
+KeepsQuiet output journal.Disk = ⊤
+KeepsQuiet output journal.File = IsUntouched output
+KeepsQuiet output journal.NoFolder = IsUntouched output
+KeepsQuiet output journal.Busy = IsUntouched output
+KeepsQuiet output (journal.Settings why) = IsUntouched output
+KeepsQuiet output journal.Damaged = IsUntouched output
+KeepsQuiet output (journal.Record number) = IsUntouched output
 
 -- `serve` was asked for with these arguments, with these sockets and this output
 module _ {L A W : Type 0} (seen : Sockets L A) (arguments : ServeArguments) (output : StreamUse W) where

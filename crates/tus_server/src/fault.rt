@@ -45,8 +45,8 @@ pub enum RunFault {
 impl RunFault {
     /// The exit status of the program: 2 for the words, the address and the settings, 3 for the connection, 4 for
     /// memory, 5 for the journal.
-    pub fn status(self) -> u8
-        ensures { result ≡ status_of self }
+    pub fn status(&self) -> u8
+        ensures { result ≡ status_of self.now }
     {
         match self {
             RunFault::Words | RunFault::Address | RunFault::Settings(_) => 2,
@@ -59,8 +59,8 @@ impl RunFault {
     /// The line that names the fault: `tus-server: `, then `words`, `address`, `settings: ` and the word of
     /// its fault, `wire`, `journal: ` and the word of its fault, or `memory`, and LF.
     #[tactic(auto, using(crate::proofs::FaultLemmas::short_word))]
-    pub fn line(self) -> ArrayString<LINE_MAX>
-        ensures { result.bytes ≡ line_of self }
+    pub fn line(&self) -> ArrayString<LINE_MAX>
+        ensures { result.bytes ≡ line_of self.now }
     {
         let mut line = ArrayString::new();
         line.push_str("tus-server: ");
@@ -96,16 +96,16 @@ pub fn report<E: Sink>(
 {
     match outcome {
         Ok(()) => 0,
-        Err(fault) => report_fault(fault, sentence(fault, command).as_str(), errors),
+        Err(fault) => report_fault(&fault, sentence(&fault, command).as_str(), errors),
     }
 }
 
 /// Writes the line that names the fault and the sentence on it to `errors`, whose own faults are passed over, and gives the
 /// exit status.
-pub fn report_fault<E: Sink>(fault: RunFault, sentence: &str, errors: &mut E) -> u8
+pub fn report_fault<E: Sink>(fault: &RunFault, sentence: &str, errors: &mut E) -> u8
     requires { E.has_failed errors.old ≡ false }
-    ensures status { result ≡ status_of fault }
-    ensures lines { WritesLines (used E.contents E.has_failed errors.old errors.new) fault sentence.now }
+    ensures status { result ≡ status_of fault.now }
+    ensures lines { WritesLines (used E.contents E.has_failed errors.old errors.new) fault.now sentence.now }
 {
     let line = fault.line();
     put_both(line.as_bytes(), sentence.as_bytes(), errors);

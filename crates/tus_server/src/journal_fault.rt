@@ -36,8 +36,8 @@ pub enum Mismatch {
 
 impl JournalFault {
     /// The word that names it.
-    pub fn word(self) -> &'static str
-        ensures word { result.now ≡ journal_word self }
+    pub fn word(&self) -> &'static str
+        ensures word { result.now ≡ journal_word self.now }
         ensures short { length result.now ≤ 10 }
     {
         match self {

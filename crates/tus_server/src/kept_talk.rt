@@ -43,7 +43,8 @@ where
         (used W.contents W.has_failed writer.old writer.new) result }
 {
     let settings = settings_with(alloc, options.numbers, options.tenants)?;
-    let Folder { disk, mut file } = journals.open(path)?;
+    let folder = journals.open(path)?;
+    let Folder { disk, mut file } = folder;
     let kept = open_kept(alloc, &mut file, disk, settings)?;
     let mut at = AtJournal {
         kept,

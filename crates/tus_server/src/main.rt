@@ -54,8 +54,8 @@ fn main(rt: HostRuntime) -> ExitCode {
             &mut writer,
             &mut errors,
         ),
-        Err(RunFault::Memory) => report_fault(RunFault::Memory, WORDS_MEMORY, &mut errors),
-        Err(fault) => report_fault(fault, NO_TEXT, &mut errors),
+        Err(RunFault::Memory) => report_fault(&RunFault::Memory, WORDS_MEMORY, &mut errors),
+        Err(fault) => report_fault(&fault, NO_TEXT, &mut errors),
     };
     ExitCode::from(status)
 }

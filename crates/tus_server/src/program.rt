@@ -156,12 +156,12 @@ fn explain<W: Sink, E: Sink>(
         (used E.contents E.has_failed errors.old errors.new) }
 {
     if error.kind() == ErrorKind::OutOfMemory {
-        return report_fault(RunFault::Memory, WORDS_MEMORY, errors);
+        return report_fault(&RunFault::Memory, WORDS_MEMORY, errors);
     }
     match error.to_string(alloc) {
         Ok(text) => tell(error, text.as_bytes(), writer, errors),
-        Err(_) if error.use_stderr() => report_fault(RunFault::Words, UNTOLD, errors),
-        Err(_) => report_fault(RunFault::Memory, WORDS_MEMORY, errors),
+        Err(_) if error.use_stderr() => report_fault(&RunFault::Words, UNTOLD, errors),
+        Err(_) => report_fault(&RunFault::Memory, WORDS_MEMORY, errors),
     }
 }
 
@@ -181,6 +181,6 @@ fn tell<W: Sink, E: Sink>(error: &clap::Error, text: &[u8], writer: &mut W, erro
     }
     match put_all(writer, text) {
         Ok(()) => 0,
-        Err(_) => report_fault(RunFault::Wire(Cause::Output), OUTPUT, errors),
+        Err(_) => report_fault(&RunFault::Wire(Cause::Output), OUTPUT, errors),
     }
 }

@@ -39,14 +39,14 @@ pub const WORDS_MEMORY: &str =
 pub const OUTPUT: &str = "standard output could not be written: see where it goes to\n";
 
 /// The sentence on a fault of this command, with LF.
-pub fn sentence(fault: RunFault, command: &CommandOptions) -> ArrayString<SENTENCE_MAX>
-    ensures { result.bytes ≡ sentence_of (arguments_of command.now) fault }
+pub fn sentence(fault: &RunFault, command: &CommandOptions) -> ArrayString<SENTENCE_MAX>
+    ensures { result.bytes ≡ sentence_of (arguments_of command.now) fault.now }
 {
     match fault {
         RunFault::Words => line(UNTOLD),
-        RunFault::Settings(why) => settings_line(why, numbers_of(command), tenants_of(command)),
+        RunFault::Settings(why) => settings_line(*why, numbers_of(command), tenants_of(command)),
         RunFault::Address => address_line(address_of(command)),
-        RunFault::Wire(cause) => cause_line(cause, command),
+        RunFault::Wire(cause) => cause_line(*cause, command),
         RunFault::Journal(why) => journal_line(why, journal_of(command)),
         RunFault::Memory => memory_line(numbers_of(command)),
     }
@@ -349,8 +349,8 @@ fn refused_line(address: &str, port: u16) -> ArrayString<SENTENCE_MAX>
 }
 
 /// A journal can't be had, or failed.
-fn journal_line(why: JournalFault, path: &str) -> ArrayString<SENTENCE_MAX>
-    ensures { result.bytes ≡ journal_text why path.now }
+fn journal_line(why: &JournalFault, path: &str) -> ArrayString<SENTENCE_MAX>
+    ensures { result.bytes ≡ journal_text why.now path.now }
 {
     match why {
         JournalFault::File => path_is(
@@ -370,7 +370,7 @@ fn journal_line(why: JournalFault, path: &str) -> ArrayString<SENTENCE_MAX>
             path,
             " is damaged, or no journal; nothing was written to it: give a copy of it, or another --journal\n",
         ),
-        JournalFault::Record(number) => record_line(number, path),
+        JournalFault::Record(number) => record_line(*number, path),
         JournalFault::Disk => path_is(
             path,
             " could not be read or written: see its disk. What any reply told is in it\n",
@@ -379,8 +379,8 @@ fn journal_line(why: JournalFault, path: &str) -> ArrayString<SENTENCE_MAX>
 }
 
 /// The settings beside a journal are not those of the options.
-fn mismatch_line(why: Mismatch, path: &str) -> ArrayString<SENTENCE_MAX>
-    ensures { result.bytes ≡ mismatch_text why path.now }
+fn mismatch_line(why: &Mismatch, path: &str) -> ArrayString<SENTENCE_MAX>
+    ensures { result.bytes ≡ mismatch_text why.now path.now }
 {
     match why {
         Mismatch::Missing => path_is(
@@ -396,13 +396,13 @@ fn mismatch_line(why: Mismatch, path: &str) -> ArrayString<SENTENCE_MAX>
 }
 
 /// What of a journal's settings is not so in the options.
-fn difference_line(difference: Difference) -> ArrayString<SENTENCE_MAX>
-    ensures { result.bytes ≡ difference_text difference }
+fn difference_line(difference: &Difference) -> ArrayString<SENTENCE_MAX>
+    ensures { result.bytes ≡ difference_text difference.now }
 {
     match difference {
-        Difference::Lifetime { journal, options } => lifetime_line(journal, options),
+        Difference::Lifetime { journal, options } => lifetime_line(*journal, *options),
         Difference::NoTenant { place, journal } => {
-            let mut line = tenant_line(&journal, place);
+            let mut line = tenant_line(journal, *place);
             line.push_str(", the options have none there\n");
             line
         }
@@ -411,7 +411,7 @@ fn difference_line(difference: Difference) -> ArrayString<SENTENCE_MAX>
             journal,
             options,
         } => {
-            let mut line = tenant_line(&journal, place);
+            let mut line = tenant_line(journal, *place);
             line.push_str(", the options ");
             line.push_str(options.as_str());
             line.push_str("\n");

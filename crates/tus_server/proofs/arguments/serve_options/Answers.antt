@@ -4,7 +4,7 @@ use Rattle.clap.proofs.WalkLemmas.{first_value-rows, raw_values-rows}
 use Rattle.clap.specs.Walk.{rows_of}
 use Rattle.clap.specs.Words.{found_of}
 use Rattle.tus_server.specs.Arguments.{serve}
-use Rattle.tus_server.proofs.ArgumentsLemmas.{serve_arguments-none, serve_arguments-nowhere, serve_arguments-some}
+use Rattle.tus_server.proofs.ArgumentsLemmas.{grace-with_port, serve_arguments-none, serve_arguments-nowhere, serve_arguments-some}
 use Rattle.tus_server.proofs.arguments.serve_options.Goals as goal
 
 pub returns : goal.returns
@@ -25,3 +25,7 @@ pub returns-in_err-address : goal.returns-in_err-address
 returns-in_err-address c =
     rw c.from_residual.ensures (ap (option_map serve) (serve_arguments-nowhere (rows_of (found_of c.args.found.now))
     (c.in_err-address.ensures ∙ first_value-rows (found_of c.args.found.now) (codes "address"))))
+
+pub invariant_of-result-clause-grace_with_port : goal.invariant_of-result-clause-grace_with_port
+invariant_of-result-clause-grace_with_port c none =
+    grace-with_port (rows_of (found_of c.args.found.now)) _ _ c.in_ok-work.ensures c.in_ok-metrics.ensures none

@@ -20,7 +20,7 @@ returns-in_err-converse g c =
     let reader = used g.R.Source.remaining g.R.Source.has_failed c.args.reader.now c.converse.new.reader in
     let writer = used g.W.Sink.contents g.W.Sink.has_failed c.args.writer.now c.converse.new.writer in
     subst (λ (r : Result (Unit {0}) RunFault). KeptTalkEnds g.D.Disk.seen g.D.Disk.may_leave g.D.Disk.is_clean arguments reader writer r) (sym (made.1 ∙ ap Err made.2))
-    (KeptTalkEnds-broken (λ (at : AtJournal g.row.D.Denot g.D.Disk). at.kept) (λ (at : AtJournal g.row.D.Denot g.D.Disk). at.has_failed) arguments reader writer c.in_ok-settings.settings c.in_ok-disk.disk
+    (KeptTalkEnds-broken (λ (at : AtJournal g.row.D.Denot g.D.Disk). at.kept) (λ (at : AtJournal g.row.D.Denot g.D.Disk). at.has_failed) arguments reader writer c.in_ok-settings.settings c.in_ok-folder.folder.disk
     (Unit {0}) x c.in_err-converse.field-0.0 refl c.in_ok-settings.ensures.settings c.in_ok-kept.ensures.opened c.in_ok-kept.ensures.key c.in_err-converse.ensures.fault broke.2 broke.3 broke.4)
 
 pub returns-then-at : goal.returns-then-at
@@ -29,7 +29,7 @@ returns-then-at g c =
     let reader = used g.R.Source.remaining g.R.Source.has_failed c.args.reader.now c.converse.new.reader in
     let writer = used g.W.Sink.contents g.W.Sink.has_failed c.args.writer.now c.converse.new.writer in
     let first : AtJournal g.row.D.Denot g.D.Disk = record { kept = c.in_ok-kept.kept; has_failed = false } in
-    let held = holds (λ (at : AtJournal g.row.D.Denot g.D.Disk). at.kept) (λ (at : AtJournal g.row.D.Denot g.D.Disk). at.has_failed) arguments reader writer c.in_ok-settings.settings c.in_ok-disk.disk
+    let held = holds (λ (at : AtJournal g.row.D.Denot g.D.Disk). at.kept) (λ (at : AtJournal g.row.D.Denot g.D.Disk). at.has_failed) arguments reader writer c.in_ok-settings.settings c.in_ok-folder.folder.disk
     first c.converse.new.answerer c.in_ok-converse.field-0 refl c.in_ok-settings.ensures.settings c.in_ok-kept.ensures.opened c.in_ok-kept.ensures.key
     c.in_ok-converse.ensures.reader c.in_ok-converse.ensures.writer c.in_ok-converse.ensures.known in (
       is_ok_by _ c.in_ok-settings.settings c.in_ok-settings.ensures.settings,
@@ -42,7 +42,7 @@ returns g c =
     let reader = used g.R.Source.remaining g.R.Source.has_failed c.args.reader.now c.converse.new.reader in
     let writer = used g.W.Sink.contents g.W.Sink.has_failed c.args.writer.now c.converse.new.writer in
     let first : AtJournal g.row.D.Denot g.D.Disk = record { kept = c.in_ok-kept.kept; has_failed = false } in
-    let held = holds (λ (at : AtJournal g.row.D.Denot g.D.Disk). at.kept) (λ (at : AtJournal g.row.D.Denot g.D.Disk). at.has_failed) arguments reader writer c.in_ok-settings.settings c.in_ok-disk.disk
+    let held = holds (λ (at : AtJournal g.row.D.Denot g.D.Disk). at.kept) (λ (at : AtJournal g.row.D.Denot g.D.Disk). at.has_failed) arguments reader writer c.in_ok-settings.settings c.in_ok-folder.folder.disk
     first c.converse.new.answerer c.in_ok-converse.field-0 refl c.in_ok-settings.ensures.settings c.in_ok-kept.ensures.opened c.in_ok-kept.ensures.key
     c.in_ok-converse.ensures.reader c.in_ok-converse.ensures.writer c.in_ok-converse.ensures.known in
     subst (λ (failed : Bool). HoldsKept g.D.Disk.seen g.D.Disk.may_leave g.D.Disk.is_clean arguments reader writer failed) c.if-at.false held
