@@ -116,7 +116,7 @@ fn disk_is_full<C: Journalled, R: Ledger, M: Ledger, W: Wait + Abort>(
     desk.grant(65_536 + 100);
     assert!(rt; makes(rt, shared, desk, Asked::Create));
     let room = desk.room();
-    keeper.make_room(desk, 200);
+    keeper.make_room(desk, 2_000);
     assert!(rt; desk.room() == room);
     assert!(rt; !makes(rt, shared, desk, Asked::Create));
     assert!(rt; makes(rt, shared, desk, Asked::Delete(b"/files/acme/1")));
@@ -272,7 +272,12 @@ fn room_is_granted(rt: HostRuntime) -> Result<(), Fail> {
 // So many bytes are left for records, and the room that a desk is granted then.
 #[test]
 fn a_nearly_full_disk(rt: HostRuntime) -> Result<(), Fail> {
-    for (left, granted) in [(65_736, 65_736), (65_735, 65_536), (65_536, 65_536), (65_535, 0)] {
+    for (left, granted) in [
+        (65_736, 65_736),
+        (65_735, 65_536),
+        (65_536, 65_536),
+        (65_535, 0),
+    ] {
         play_at(
             &rt,
             rt.alloc(),
