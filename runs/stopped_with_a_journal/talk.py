@@ -1,4 +1,5 @@
 import os
+import subprocess
 import sys
 sys.path.insert(0, os.path.dirname(os.path.dirname(os.path.abspath(__file__))))
 import tempfile
@@ -7,7 +8,8 @@ from clients import Server, asked_at, creation, everything, field, free_port, pa
 with tempfile.TemporaryDirectory() as folder:
     words = [*sys.argv[1:], '--journal', os.path.join(folder, 'uploads'), '--metrics']
     port = free_port()
-    server = Server([*words, str(port)])
+    server = Server([*words, str(port)], stderr=subprocess.PIPE)
+    print(server.journal(), end='')
     client = server.connect()
     client.sendall(creation('acme', 5) + patch('/files/acme/1', 0, b'hello') + creation('acme', 10))
     for _ in range(3):
@@ -17,7 +19,8 @@ with tempfile.TemporaryDirectory() as folder:
     print('cut off:', everything(client))
     print(f'{server.process.stdout.read()}status {server.process.wait()}')
     port = free_port()
-    server = Server([*words, str(port)])
+    server = Server([*words, str(port)], stderr=subprocess.PIPE)
+    print(server.journal(), end='')
     for path in ['/files/acme/1', '/files/acme/2']:
         print(path, field(server.asked('HEAD', path), 'Upload-Offset'))
     print(server.asked('GET', '/files/acme/1').rsplit('\r\n', 1)[1])

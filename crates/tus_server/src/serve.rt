@@ -217,7 +217,7 @@ where
     let listener = listen::<L, H>(rt, place)?;
     let line = listening_line(alloc, listener.place())?;
     let mut workers = hire(&listener, desks, room)?;
-    drop(listener);
+    let _listener = held(listener, work.grace);
     put_all(output, line.as_bytes())?;
     work_all(
         rt,
@@ -234,6 +234,18 @@ where
         return Err(RunFault::Wire(Cause::Accept));
     }
     Ok(())
+}
+
+/// The listener, which stays to the end; but where a stop can be asked for it is let go, so that the port is closed once all
+/// workers have let go of it.
+fn held<L>(listener: L, grace: Option<u64>) -> Option<L>
+where
+    L: Drop,
+{
+    match grace {
+        Some(_) => None,
+        None => Some(listener),
+    }
 }
 
 /// Has the workers watched, where the options ask for a log or a port for numbers. The error is that the file of the log can't

@@ -313,6 +313,8 @@ impl<
             self.tell_of_threads(rounds.second);
             rounds.second = second;
             rounds.has_rung = true;
+            // What came of a PATCH that was cut off is kept, also where nobody is left.
+            self.send_kept(&mut answerer, rounds, second);
         }
         let at = answerer.into_desk();
         rounds.asked = at.asked;

@@ -165,7 +165,14 @@ impl<'a, W: Wait + time::Clock> Crowd<'a, W> {
             second,
         );
         note_body(self.rt, self.bodies, &self.settings, client, holder);
-        gather(&mut self.watch, self.rt, client, next == Next::Ends);
+        let was_sent = !client.is_sending();
+        gather(
+            &mut self.watch,
+            self.rt,
+            client,
+            was_sent,
+            next == Next::Ends,
+        );
         self.go_after(key, next);
     }
 
@@ -248,7 +255,14 @@ impl<'a, W: Wait + time::Clock> Crowd<'a, W> {
         };
         let next = client.send(&mut self.free, second);
         note_body(self.rt, self.bodies, &self.settings, client, holder);
-        gather(&mut self.watch, self.rt, client, next == Next::Ends);
+        let was_sent = !client.is_sending();
+        gather(
+            &mut self.watch,
+            self.rt,
+            client,
+            was_sent,
+            next == Next::Ends,
+        );
         self.go_after(key, next);
     }
 
@@ -356,8 +370,9 @@ impl<'a, W: Wait + time::Clock> Crowd<'a, W> {
     ) {
         if let Some(client) = self.clients.get_mut(key) {
             note_cut(&mut self.watch, client, why);
+            let was_sent = !client.is_sending();
             client.cut(self.alloc, &mut self.free, answerer, clock);
-            gather(&mut self.watch, self.rt, client, true);
+            gather(&mut self.watch, self.rt, client, was_sent, true);
             self.remove(key);
         }
     }
@@ -390,14 +405,20 @@ fn begin_turn<W: time::Clock>(watch: &Option<Watch>, rt: &W, client: &mut Client
     }
 }
 
-// Takes what was seen of a client after its turn.
-fn gather<W: time::Clock>(watch: &mut Option<Watch>, rt: &W, client: &mut Client, has_ended: bool) {
+// Takes what was seen of a client after its turn, whose replies were all sent or not.
+fn gather<W: time::Clock>(
+    watch: &mut Option<Watch>,
+    rt: &W,
+    client: &mut Client,
+    was_sent: bool,
+    has_ended: bool,
+) {
     if let Some(watch) = watch {
         if client.has_failed {
             watch.cut(client, Cut::Failed);
         }
         let micros = watch.micros(rt);
-        watch.gather(client, micros, has_ended);
+        watch.gather(client, micros, was_sent, has_ended);
     }
 }
 

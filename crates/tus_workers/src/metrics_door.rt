@@ -78,6 +78,8 @@ struct Asker {
 pub(crate) struct MetricsDoor {
     listener: TcpListener,
     askers: Slab<Asker>,
+    // An accept failed in this second. It is tried again in the next one, since the listener would be told of at once.
+    failed: Option<u64>,
 }
 
 impl MetricsDoor {
@@ -91,7 +93,11 @@ impl MetricsDoor {
         let mut listener = TcpListener::from_std(listener);
         registry.register(&mut listener, Token(DOOR), Interest::READABLE)?;
         let askers = Slab::with_capacity(alloc, ASKERS_MAX)?;
-        Ok(MetricsDoor { listener, askers })
+        Ok(MetricsDoor {
+            listener,
+            askers,
+            failed: None,
+        })
     }
 
     /// Takes in who comes, reads and sends what can be, and lets go who stays too long at this second.
@@ -104,6 +110,7 @@ impl MetricsDoor {
                 self.turn(DOOR - token - 1);
             }
         }
+        self.recover(registry, second);
         self.let_go(second);
     }
 
@@ -142,13 +149,31 @@ impl MetricsDoor {
 
     // Takes in one connection, if one waits. One that finds no place is let go.
     fn take_in(&mut self, alloc: Global, registry: &Registry, second: u64) {
-        if let Ok((stream, peer)) = self.listener.accept()
-            && self.askers.len() < ASKERS_MAX
-        {
-            let is_near = peer.ip().to_canonical().is_loopback();
-            self.admit(alloc, registry, stream, is_near, second);
+        match self.listener.accept() {
+            Ok((stream, peer)) if self.askers.len() < ASKERS_MAX => {
+                let is_near = peer.ip().to_canonical().is_loopback();
+                self.admit(alloc, registry, stream, is_near, second);
+            }
+            Err(error) if error.kind() != ErrorKind::WouldBlock => {
+                self.failed = Some(second);
+                return;
+            }
+            _ => {}
         }
+        self.listen_again(registry);
+    }
+
+    // Has it told of once more, if a connection waits by now.
+    fn listen_again(&mut self, registry: &Registry) {
         let _ = registry.reregister(&mut self.listener, Token(DOOR), Interest::READABLE);
+    }
+
+    // Listens again, where an accept failed in an earlier second.
+    fn recover(&mut self, registry: &Registry, second: u64) {
+        if self.failed.is_some_and(|failed| failed != second) {
+            self.failed = None;
+            self.listen_again(registry);
+        }
     }
 
     fn admit(

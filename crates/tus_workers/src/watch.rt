@@ -99,8 +99,7 @@ impl<'a> Watch<'a> {
 
     /// Takes what was seen of a client after a turn that ended at this microsecond. Its requests are told once all that is
     /// pending was sent, or its connection has ended.
-    pub fn gather(&mut self, client: &mut Client, micros: u64, has_ended: bool) {
-        let was_sent = !client.is_sending();
+    pub fn gather(&mut self, client: &mut Client, micros: u64, was_sent: bool, has_ended: bool) {
         let Some(record) = &mut client.seen.record else {
             return;
         };
