@@ -1,8 +1,9 @@
-/* Clients of one kind, each on a connection and a thread of its own, at most 64. Prints how many requests were answered.
+/* Clients of one kind, each on a connection and a thread of its own, at most 256. Prints how many requests were answered.
  *
  *     load heads   PORT CONNECTIONS SECONDS PATH     HEADs of this path, one after another
- *     load patches PORT CONNECTIONS SECONDS SIZE     PATCHes of so many bytes, sixteen to an upload, which is created before
- *                                                    and deleted after them; these two are in the time, and not counted
+ *     load patches PORT CONNECTIONS SECONDS SIZE     PATCHes of so many bytes, at most sixteen to an upload, which is created
+ *                                                    before and deleted after them; these two are in the time, and not
+ *                                                    counted. The first 64 clients are of the tenant acme, the next of acme-1
  *     load puts    PORT CONNECTIONS SECONDS SIZE     PUTs of so many bytes
  *
  * A reply ends with its head. A connection of the server has at most 4,096 messages, so after some 4,000 a client takes
@@ -18,7 +19,7 @@
 #include <time.h>
 #include <unistd.h>
 
-enum { MESSAGES = 4000, CLIENTS_MOST = 64, UPLOAD_MOST = 8 << 20 };
+enum { MESSAGES = 4000, CLIENTS_MOST = 256, UPLOAD_MOST = 8 << 20, ALL_MOST = 512 << 20 };
 
 static int port;
 static double end;
@@ -90,12 +91,13 @@ static void *heads(void *arg) {
 
 static void *patches(void *arg) {
     struct client *c = arg;
-    char head[512], location[128];
+    char head[512], location[128], tenant[16] = "acme";
+    if (c->number >= 64) snprintf(tenant, sizeof tenant, "acme-%d", c->number / 64);
     connect_to_server(c);
     while (now() < end) {
         if (c->messages >= MESSAGES - patches_of_one) close(c->connection), connect_to_server(c);
-        int len = snprintf(head, sizeof head, "POST /files/acme HTTP/1.1\r\nHost: x\r\nTus-Resumable: 1.0.0\r\nUpload-Length: %ld\r\n\r\n",
-                           size * patches_of_one);
+        int len = snprintf(head, sizeof head, "POST /files/%s HTTP/1.1\r\nHost: x\r\nTus-Resumable: 1.0.0\r\nUpload-Length: %ld\r\n\r\n",
+                           tenant, size * patches_of_one);
         exchange(c, head, len, 0, "201");
         sscanf(strstr(c->reply, "Location: ") + 10, "%127s", location);
         for (long i = 0; i < patches_of_one; i++) {
@@ -135,6 +137,7 @@ int main(int count, char **words) {
     path = words[5];
     size = atol(words[5]);
     patches_of_one = 16 * size > UPLOAD_MOST ? UPLOAD_MOST / size : 16;
+    if (patches_of_one * size * connections > ALL_MOST) patches_of_one = ALL_MOST / (size * connections);
     bytes = calloc(1, size + 1);
     for (int i = 0; i < connections; i++) {
         clients[i].number = i;
