@@ -3,6 +3,7 @@ pub mod AppendLemmas
 pub mod Entries
 pub mod FirstRefusal
 pub mod LawfulSteps
+pub mod SharedLemmas
 pub mod LawfulAppend
 pub mod SettingsLemmas
 pub mod TenantLists

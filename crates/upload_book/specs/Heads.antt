@@ -1,6 +1,6 @@
 -- The heads of a book: what HEADs tell of it, with no bytes. A copy of them can be kept beside a book, since each step
 -- changes them by one line.
-use Rattle.std.specs.Prelude.{ℕ, List, [], ◌∷◌, ◌==◌, not, get_or, map, set, Result, if◌then◌else◌}
+use Rattle.std.specs.Prelude.{ℕ, List, ◌==◌, not, get_or, map, set, Result, if◌then◌else◌}
 use Rattle.std.specs.List.{filter, range_with_len}
 use Rattle.upload_book.specs.declared.board_line.Accounts.{Accounts}
 use Rattle.upload_book.specs.declared.board_line.BoardLine.{BoardLine}

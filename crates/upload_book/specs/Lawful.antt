@@ -1,5 +1,5 @@
 -- What every book that steps reach keeps.
-use Rattle.std.specs.Prelude.{◌≡◌, ℕ, ◌+◌, ◌<◌, ◌≤◌, ◌↔◌, Bool, true, List, [], length, map, zip, Some, None, IfSome, IsSome, IsTrue, All, codes}
+use Rattle.std.specs.Prelude.{◌≡◌, ℕ, ◌+◌, ◌<◌, ◌≤◌, ◌↔◌, Bool, true, List, [], length, flat_map, map, zip, Some, None, IfSome, IsSome, IsTrue, All, Contains, codes}
 use Rattle.std.specs.List.{sum_by}
 use Rattle.std.specs.List.Sorted.{IsStrictlyIncreasing}
 use Rattle.tus_text.specs.Concat.{concat_of}
@@ -13,7 +13,7 @@ use Rattle.upload_book.specs.declared.settings.TenantQuota.{TenantQuota}
 use Rattle.upload_book.specs.Charge.{charge_in}
 use Rattle.upload_book.specs.Settings.{settings_fault}
 use Rattle.upload_book.specs.Upload.{Upload, content_of, offset_of, IsComplete}
-use Rattle.upload_book.specs.TenantBook.{TenantBook, kept_in}
+use Rattle.upload_book.specs.TenantBook.{Entry, TenantBook, kept_in}
 use Rattle.upload_book.specs.PlainBook.{PlainBook}
 
 -- a text of metadata that is kept: none, or one of the field's form
@@ -64,7 +64,17 @@ pub record IsUploadOf (n : Numbers) (part : TenantBook) (u : Upload) : Type 0 wh
   pub metadata : IsTrue (is_kept_metadata u.metadata)
   pub concat : IsConcatText u.kind u.concat
 
--- a tenant's uploads are few enough, under ids that ascend and were given
+-- the segments of final uploads, each with the part whose bytes it has
+abbrev pub joined_in : List (Entry Upload) → List (ℕ × List ℕ)
+joined_in entries = flat_map (λ (e : Entry Upload). zip e.kept.parts e.kept.segments) entries
+
+-- final uploads of one part have the same bytes of it, also where the part is gone
+abbrev pub ShareParts : List (Entry Upload) → Type 0
+ShareParts entries =
+    (a b : ℕ × List ℕ) → Contains (joined_in entries) a → Contains (joined_in entries) b → a.0 ≡ b.0 → a.1 ≡ b.1
+
+-- A tenant's uploads are few enough, under ids that ascend and were given. A final one is later than each of its parts,
+-- and two of one part have the same bytes of it.
 pub record IsTenantOf (n : Numbers) (part : TenantBook) : Type 0 where
   pub first : 0 < part.next
   pub last : part.next ≤ n.last_id + 1
@@ -72,6 +82,8 @@ pub record IsTenantOf (n : Numbers) (part : TenantBook) : Type 0 where
   pub ascending : IsStrictlyIncreasing (map (λ e. e.id) part.uploads)
   pub given : All (λ e. IsGivenIn part e.id) part.uploads
   pub uploads : All (λ e. IsUploadOf n part e.kept) part.uploads
+  pub later : All (λ e. All (λ p. p < e.id) e.kept.parts) part.uploads
+  pub shared : ShareParts part.uploads
 
 -- The settings have no fault, and each tenant of theirs has a part with its quota that is as it should be. No
 -- tenant pays more than its quota; what was charged and not released is what they pay, and is within its bound.

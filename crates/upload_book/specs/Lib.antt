@@ -29,7 +29,10 @@ pub mod Order
 pub mod PlainBook
 pub mod Ready
 pub mod Refusal
+pub mod Restore
+pub mod Restored
 pub mod Settings
+pub mod Snapshot
 pub mod Stored
 pub mod Sweep
 pub mod TenantBook

@@ -1,6 +1,7 @@
 //! Laws of the definitions that the contracts cite: each is the contract of a function that does nothing.
 ghost use Rattle.upload_book.specs.FinalLaws.{FinalsStay};
 ghost use Rattle.upload_book.specs.Laws.{AccountsFollow, FollowOrder, HeadsFollow, ResumedPatch, RowsFollow};
+ghost use Rattle.upload_book.specs.Snapshot.{SnapshotsRestore};
 
 /// The tests that decide on a creation, on a concatenation, on a PATCH and on a GET follow the one order of
 /// refusals.
@@ -38,4 +39,10 @@ pub fn heads_follow()
 /// whole until it is ended itself; and each final upload of a book was made by a concatenation that happened to it.
 pub fn finals_stay()
     ensures { FinalsStay }
+{}
+
+/// A book is put back by its snapshot: the book at the start accepts each of its pieces, one after another, and is that book
+/// after them.
+pub fn snapshots_restore()
+    ensures { SnapshotsRestore }
 {}

@@ -31,6 +31,16 @@ Contains-cases {X} x y xs c = at c.0 c.1 c.2 where
 pub Contains-none : {X : Type 0} (y : X) → Contains [] y → ⊥
 Contains-none y c = omega (arith, c.1)
 
+-- what the image of a list has is the image of something that the list has
+pub Contains-mapped : {X Y : Type 0} (f : X → Y) (xs : List X) (y : Y) → Contains (map f xs) y → (x : X) × Contains xs x × (f x ≡ y)
+Contains-mapped f [] y c = absurd (Contains-none y c)
+Contains-mapped {X} {Y} f (x ∷ xs) y c = elim (Contains-cases (f x) y (map f xs) c) [
+  | inl same ↦ (x, Contains-first x xs, same)
+  | inr later ↦
+      let found = Contains-mapped f xs y later in
+      (found.0, Contains-later x found.0 xs found.1, found.2)
+]
+
 -- a block stands in the pieces where it stands in one of them
 pub places-within : (b : ℕ) (xs : List Piece) (y : Piece) → Contains xs y → places_of b y.chain.blocks ≤ places_of b (placed_in xs)
 places-within b [] y c = absurd (Contains-none y c)

@@ -31,12 +31,11 @@ use Rattle.upload_book.specs.Sweep.{book_after_sweep, part_after_sweep}
 use Rattle.upload_book.specs.TenantBook.{Entry, TenantBook, kept_in, opening_part, visible_upload, with_kept, with_new}
 use Rattle.upload_book.specs.Terminate.{part_after_terminate}
 use Rattle.upload_book.specs.Upload.{Upload, head_row_of}
-use Rattle.upload_book.proofs.Charge.InUse.{Contains-cases, Contains-none}
+use Rattle.upload_book.proofs.Charge.InUse.{Contains-cases, Contains-mapped, Contains-none}
 use Rattle.upload_book.proofs.Lawful.Entries.{Contains-filter, kept_in-with_other, visible_in-Ok}
-use Rattle.upload_book.proofs.Store.BlockBookLemmas.{Contains-mapped}
 
 -- what is kept under an id is kept where one is added,
-kept-push : (entries more : List (Entry Upload)) (id : ℕ) (u : Upload) → kept_in entries id ≡ Some u → kept_in (entries ++ more) id ≡ Some u
+pub kept-push : (entries more : List (Entry Upload)) (id : ℕ) (u : Upload) → kept_in entries id ≡ Some u → kept_in (entries ++ more) id ≡ Some u
 kept-push [] more id u there = absurd cc
 kept-push (e ∷ entries) more id u there = elim (eqb_tells e.id id) [
   | inl same ↦ rw same.0 (rw same.0 at there)

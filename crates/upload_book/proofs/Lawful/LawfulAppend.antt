@@ -1,10 +1,11 @@
 -- A PATCH leaves a lawful book lawful.
-use Rattle.std.proofs.Common.{◌≡◌, ℕ, ◌+◌, ◌≤◌, ◌⊎◌, true, false, cond, not, eqb, ltb, List, ◌++◌, length, Option, Some, None, unwrap_or, is_some, IfSome, refl, inl, inr, sym, ap, ◌∙◌, arith}
+use Rattle.std.proofs.Common.{◌≡◌, ℕ, ◌+◌, ◌<◌, ◌≤◌, ◌⊎◌, true, false, cond, not, eqb, ltb, List, [], ◌++◌, length, get_or, Option, Some, None, unwrap_or, is_some, IfSome, refl, inl, inr, sym, ap, ◌∙◌, arith}
+use Rattle.std.specs.List.{All}
 use Rattle.std.proofs.Math.ListN.{length-map, length-append}
 use Rattle.std.proofs.lemmas.Bool.Decides.{eqb_tells, nat_tests}
 use Rattle.std.proofs.lemmas.Bool.{false≢true}
 use Rattle.std.proofs.lemmas.List.{append-nil, nil_from_length}
-use Rattle.std.proofs.lemmas.List.Elements.{All-map, All-weaker}
+use Rattle.std.proofs.lemmas.List.Elements.{All-map, All-nil, All-weaker}
 use Rattle.upload_book.specs.Account.{blocks_added}
 use Rattle.upload_book.specs.Append.{is_final, or_else, differ, is_too_long, append_refusal, upload_with}
 use Rattle.upload_book.specs.Checksum.{is_mismatch, is_of_other_algorithm}
@@ -17,9 +18,10 @@ use Rattle.upload_book.specs.Expiry.{lifetime_end, renewed}
 use Rattle.upload_book.specs.Lawful.{IsTenantOf, IsUploadOf, IsOfKind, IsWhole, IsGivenIn, IsSegmentOf}
 use Rattle.upload_book.specs.TenantBook.{Entry, TenantBook, kept_in, with_changed}
 use Rattle.upload_book.specs.Upload.{Upload, content_of, offset_of, is_reached, is_complete, IsComplete, head_row_of}
-use Rattle.upload_book.proofs.Lawful.Entries.{ids_of-with_kept, kept_in-All, kept_in-with_other, kept_in-with_same}
+use Rattle.upload_book.proofs.Lawful.Entries.{ids_of-with_kept, kept_in-All, kept_in-place, kept_in-with_other, kept_in-with_same}
 use Rattle.upload_book.proofs.Lawful.FirstRefusal.{test-passed}
 use Rattle.upload_book.proofs.Lawful.LawfulSteps.{IsUploadOf-beside}
+use Rattle.upload_book.proofs.Lawful.SharedLemmas.{ShareParts-with_kept}
 
 -- what is known of a PATCH that is not refused
 pub record IsAppendable (n : Numbers) (account : Account) (u : Upload) (chunk : Chunk) : Type 0 where
@@ -154,6 +156,13 @@ IsSegmentOf-append n account part id u chunk now there can other segment is =
       | inr differs ↦ rw (kept_in-with_other part.uploads id other after differs.1) is
     ]
 
+-- what stands under the id of an upload without parts has none
+no_parts : (n : Numbers) (part : TenantBook) (id : ℕ) (u : Upload) → kept_in part.uploads id ≡ Some u → u.parts ≡ [] → IsTenantOf n part → All (λ (e : Entry Upload). e.id ≡ id → e.kept.parts ≡ []) part.uploads
+no_parts n part id u there none sound = λ k d within named.
+    let both : Some (get_or part.uploads k d).kept ≡ Some u = sym (kept_in-place part.uploads id k d sound.ascending within named) ∙ there in
+    let one : (get_or part.uploads k d).kept ≡ u = (cc) in
+    ap (λ (u : Upload). u.parts) one ∙ none
+
 -- a PATCH that is not refused leaves the tenant's part as it should be
 pub IsTenantOf-append : (n : Numbers) (account : Account) (part : TenantBook) (id : ℕ) (u : Upload) (chunk : Chunk) (now : ℕ) → kept_in part.uploads id ≡ Some u → append_refusal n account (head_row_of u) chunk ≡ None → IsTenantOf n part → IsTenantOf n (with_changed part id (upload_with n u chunk now))
 IsTenantOf-append n account part id u chunk now there none sound =
@@ -163,6 +172,7 @@ IsTenantOf-append n account part id u chunk now there none sound =
     let change : Entry Upload → Entry Upload = λ e. cond (eqb e.id id) (record e { kept = after }) e in
     let sound-u = kept_in-All (IsUploadOf n part) part.uploads id u sound.uploads there in
     let segments = IsSegmentOf-append n account part id u chunk now there can in
+    let whole = IsWhole-from_kind part u.kind u can.own sound-u.kind in
     record {
       first = sound.first;
       last = sound.last;
@@ -173,4 +183,9 @@ IsTenantOf-append n account part id u chunk now there none sound =
         | true ↦ IsUploadOf-append n account part later u chunk now can sound-u
         | false ↦ IsUploadOf-beside n part later e.kept (λ _ given. given) (λ other segment _. segments other segment) here
       ]) part.uploads sound.uploads);
+      later = All-map (λ (e : Entry Upload). All (λ p. p < e.id) e.kept.parts) change part.uploads (All-weaker (λ (e : Entry Upload). All (λ p. p < e.id) e.kept.parts) (λ (e : Entry Upload). All (λ p. p < (change e).id) (change e).kept.parts) (λ e older. elim (eqb e.id id) as (λ same. let now_there : Entry Upload = cond same (record e { kept = after }) e in All (λ p. p < now_there.id) now_there.kept.parts) [
+        | true ↦ rw whole.parts (All-nil (λ p. p < e.id))
+        | false ↦ older
+      ]) part.uploads sound.later);
+      shared = ShareParts-with_kept part.uploads id after whole.parts (no_parts n part id u there whole.parts sound) sound.shared;
     }

@@ -1,10 +1,10 @@
 -- A concatenation leaves a lawful part lawful, and what its tenant pays.
 use Rattle.std.proofs.Common.{◌≡◌, ℕ, ◌<◌, ◌≤◌, Bool, true, false, ◌&&◌, cond, not, ltb, leb, List, [], ◌∷◌, map, length, get_or, Option, Some, None, Result, Ok, Err, IfSome, IsTrue, true≢false, refl, inl, inr, sym, ap, ◌∙◌, subst, arith}
-use Rattle.std.specs.List.{All, cons_option, filter_map, flat_map, zip}
+use Rattle.std.specs.List.{All, Contains, cons_option, filter_map, flat_map, zip}
 use Rattle.std.proofs.Math.ListN.{length-map, length-append}
 use Rattle.std.proofs.lemmas.Bool.{and_parts, eqb-true, leb-false, ltb-false, ltb-true, not-false}
 use Rattle.std.proofs.lemmas.Bool.Decides.{eqb_tells}
-use Rattle.std.proofs.lemmas.List.Elements.{All-cons, All-head, All-map, All-nil, All-tail}
+use Rattle.std.proofs.lemmas.List.Elements.{All-cons, All-contains, All-head, All-map, All-nil, All-tail}
 use Rattle.std.proofs.lemmas.List.Sums.{sum_by-cons}
 use Rattle.block_bodies.specs.Bodies.{blocks_for}
 use Rattle.upload_book.specs.Append.{is_final}
@@ -15,15 +15,17 @@ use Rattle.upload_book.specs.declared.head_row.Kind.{Kind}
 use Rattle.upload_book.specs.declared.head_row.Kind.TheVariants.{Plain, Partial, Final}
 use Rattle.upload_book.specs.declared.refusal.Refusal.{Refusal}
 use Rattle.upload_book.specs.declared.settings.Numbers.{Numbers}
-use Rattle.upload_book.specs.Lawful.{HasParts, IsTenantOf, IsUploadOf, IsGivenIn, IsSegmentOf, IsConcatText, is_kept_metadata}
+use Rattle.upload_book.specs.Lawful.{HasParts, IsTenantOf, IsUploadOf, IsGivenIn, IsSegmentOf, IsConcatText, is_kept_metadata, joined_in}
 use Rattle.upload_book.specs.NewFinal.{NewFinal}
 use Rattle.upload_book.specs.TenantBook.{Entry, TenantBook, is_given, kept_in, visible_upload, with_new}
 use Rattle.upload_book.specs.Upload.{Upload, content_of, offset_of, is_complete, IsComplete, head_row_of}
 use Rattle.upload_book.proofs.Charge.ChargeLemmas.{sources-given}
+use Rattle.upload_book.proofs.Charge.InUse.{Contains-mapped}
 use Rattle.upload_book.proofs.Lawful.Entries.{kept_in-All, kept_in-contains, kept_in-push, visible_in-fresh, visible_in-Ok}
 use Rattle.upload_book.proofs.Lawful.FirstRefusal.{test-passed}
 use Rattle.upload_book.proofs.Lawful.LawfulAppend.{IsWhole-from_kind, complete_tells}
-use Rattle.upload_book.proofs.Lawful.LawfulSteps.{IsTenantOf-with_new}
+use Rattle.upload_book.proofs.Lawful.LawfulSteps.{HasSharedParts, IsTenantOf-with_new}
+use Rattle.upload_book.proofs.Lawful.SharedLemmas.{joined-stand}
 use Rattle.upload_book.proofs.Charge.PriceLemmas.{charge-stays, price-entry, sources-own}
 
 All-cons_option : {Y : Type 0} (P : Y → Type 0) (first : Option Y) (rest : List Y) → IfSome first P → All P rest → All P (cons_option first rest)
@@ -172,11 +174,44 @@ IsUploadOf-final n part new now can asked =
       concat = asked.concat;
     }
 
+-- the segment of a part that was found
+abbrev found_segment : Entry Upload → ℕ × List ℕ
+found_segment e = (e.id, content_of e.kept)
+
+-- a segment of a new final upload is that of its part, which stands
+found-segments : (part : TenantBook) (found : List (Entry Upload)) (a : ℕ × List ℕ) → All (IsFound part) found → Contains (map {A = Entry Upload} {B = ℕ × List ℕ} found_segment found) a
+    → (u : Upload) × (kept_in part.uploads a.0 ≡ Some u) × (content_of u ≡ a.1)
+found-segments part found a each there =
+    let e = Contains-mapped found_segment found a there in
+    let is = All-contains (IsFound part) found e.0 each e.1 in
+    let id : e.0.id ≡ a.0 = ap (λ (s : ℕ × List ℕ). s.0) e.2 in
+    let content : content_of e.0.kept ≡ a.1 = ap (λ (s : ℕ × List ℕ). s.1) e.2 in
+    (e.0.kept, ap (kept_in part.uploads) (sym id) ∙ is.there, content)
+
+-- the parts of a new final upload are earlier, and others that have them have the same bytes of them
+HasSharedParts-final : (n : Numbers) (part : TenantBook) (found : List (Entry Upload)) (new : NewFinal) → All (IsFound part) found → IsTenantOf n part → HasSharedParts part part.next (final_upload found new)
+HasSharedParts-final n part found new each sound = record {
+  earlier = All-map (λ p. p < part.next) (λ (e : Entry Upload). e.id) found (λ k d within. (each k d within).given.1);
+  same = λ a b in_a in_b same.
+      let own = found-segments part found a each (subst (λ l. Contains l a) (zip-maps (λ (e : Entry Upload). e.id) (λ (e : Entry Upload). content_of e.kept) found) in_a) in
+      elim in_b [
+        | inl before ↦
+            let other : IsSegmentOf part b.0 b.1 = All-contains (λ (s : ℕ × List ℕ). IsSegmentOf part s.0 s.1) (joined_in part.uploads) b (joined-stand n part sound.uploads) before in
+            let seen = rw (← same, own.1) at other in
+            sym own.2 ∙ seen.2
+        | inr here ↦
+            let again = found-segments part found b each (subst (λ l. Contains l b) (zip-maps (λ (e : Entry Upload). e.id) (λ (e : Entry Upload). content_of e.kept) found) here) in
+            let both : Some own.0 ≡ Some again.0 = sym own.1 ∙ ap (kept_in part.uploads) same ∙ again.1 in
+            let one : own.0 ≡ again.0 = (cc) in
+            sym own.2 ∙ ap content_of one ∙ again.2
+      ];
+}
+
 -- a concatenation that is not refused leaves the tenant's part as it should be
 pub IsTenantOf-concat : (n : Numbers) (part : TenantBook) (new : NewFinal) (now : ℕ) → concat_refusal n part new now ≡ None → HasLawfulParts new → IsTenantOf n part → IsTenantOf n (with_new part (final_upload (parts_found part now new.parts) new))
 IsTenantOf-concat n part new now none asked sound =
     let can = IsJoinable-from_none n part new now none in
-    IsTenantOf-with_new n part (final_upload (parts_found part now new.parts) new) can.room can.unspent (IsUploadOf-final n part new now can asked) sound
+    IsTenantOf-with_new n part (final_upload (parts_found part now new.parts) new) can.room can.unspent (IsUploadOf-final n part new now can asked) (HasSharedParts-final n part (parts_found part now new.parts) new can.found sound) sound
 
 -- the segment of an upload that is not final
 abbrev own_source : Entry Upload → Source

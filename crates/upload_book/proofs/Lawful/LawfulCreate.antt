@@ -18,7 +18,7 @@ use Rattle.upload_book.specs.Upload.{Upload, offset_of, is_complete, is_reached}
 use Rattle.upload_book.proofs.Charge.ChargeLemmas.{new-own}
 use Rattle.upload_book.proofs.Lawful.FirstRefusal.{test-passed}
 use Rattle.upload_book.proofs.Lawful.LawfulAppend.{ends_within, IsOfKind-renewed}
-use Rattle.upload_book.proofs.Lawful.LawfulSteps.{IsTenantOf-with_new}
+use Rattle.upload_book.proofs.Lawful.LawfulSteps.{HasSharedParts-none, IsTenantOf-with_new}
 
 -- what is known of a creation that is not refused
 pub record IsCreatable (n : Numbers) (account : Account) (part : TenantBook) (new : NewUpload) (first : FirstChunk) : Type 0 where
@@ -84,4 +84,4 @@ pub IsTenantOf-create : (n : Numbers) (account : Account) (part : TenantBook) (n
     → IsTenantOf n (with_new part (created_upload n new first.bytes now))
 IsTenantOf-create n account part new first now none texts sound =
     let can = IsCreatable-from_none n account part new first none in
-    IsTenantOf-with_new n part (created_upload n new first.bytes now) can.room can.id (IsUploadOf-create n _ new first.bytes now can.fits texts) sound
+    IsTenantOf-with_new n part (created_upload n new first.bytes now) can.room can.id (IsUploadOf-create n _ new first.bytes now can.fits texts) (HasSharedParts-none part part.next (created_upload n new first.bytes now) refl) sound

@@ -1,6 +1,6 @@
 -- A DELETE and a sweep leave a lawful book lawful: fewer uploads cost no more, and what is left is as it should be.
 use Rattle.std.proofs.Common.{◌≡◌, ◌⊎◌, ℕ, ◌+◌, ◌-◌, ◌<◌, ◌≤◌, Bool, eqb, not, List, [], ◌∷◌, map, length, get_or, None, refl, inl, inr, ap, ◌∙◌, arith}
-use Rattle.std.specs.List.{filter, sum_by}
+use Rattle.std.specs.List.{All, filter, sum_by}
 use Rattle.std.proofs.lemmas.List.Elements.{All-filter, All-map, All-weaker}
 use Rattle.std.proofs.lemmas.List.Sums.{count_by-le-length, length-filter, sum_by-cons}
 use Rattle.upload_book.specs.Charge.{charge_in}
@@ -14,6 +14,7 @@ use Rattle.upload_book.specs.Terminate.{without, given_back}
 use Rattle.upload_book.specs.Upload.{Upload}
 use Rattle.upload_book.proofs.Lawful.Entries.{kept_in-filter, ascending-filter}
 use Rattle.upload_book.proofs.Lawful.LawfulSteps.{IsUploadOf-beside, IsLawful-with_tenant_book-less}
+use Rattle.upload_book.proofs.Lawful.SharedLemmas.{ShareParts-filter}
 use Rattle.upload_book.proofs.Charge.PriceLemmas.{charge-filter}
 
 -- a part with those uploads that pass a test
@@ -39,6 +40,8 @@ IsTenantOf-filter n p part sound =
       ascending = ascending-filter p part.uploads sound.ascending;
       given = All-filter p (λ (e : Entry Upload). IsGivenIn later e.id) part.uploads sound.given;
       uploads = All-filter p (λ (e : Entry Upload). IsUploadOf n later e.kept) part.uploads (All-weaker (λ (e : Entry Upload). IsUploadOf n part e.kept) (λ (e : Entry Upload). IsUploadOf n later e.kept) beside part.uploads sound.uploads);
+      later = All-filter p (λ (e : Entry Upload). All (λ p. p < e.id) e.kept.parts) part.uploads sound.later;
+      shared = ShareParts-filter p part.uploads sound.shared;
     }
 
 -- a DELETE leaves the tenant's part as it should be

@@ -1,22 +1,24 @@
 -- The book at the start is lawful, and so is one with a part that changed into one that is as it should be.
-use Rattle.std.proofs.Common.{◌≡◌, ℕ, zero, suc, ◌+◌, ◌-◌, ◌<◌, ◌≤◌, List, [], ◌∷◌, map, length, get_or, set, None, refl, sym, ap, ◌∙◌, subst, arith, rules}
+use Rattle.std.proofs.Common.{◌≡◌, ◌⊎◌, ℕ, zero, suc, ◌+◌, ◌-◌, ◌<◌, ◌≤◌, List, [], ◌∷◌, map, length, get_or, set, None, refl, sym, ap, ◌∙◌, subst, arith, rules}
 use Rattle.std.proofs.Math.ListN.{length-append}
 use Rattle.std.proofs.lemmas.List.{map-append}
 use Rattle.std.proofs.lemmas.Slice.Zip.{length-zip, get_or-zip}
-use Rattle.std.proofs.lemmas.List.Elements.{All-push, All-set, All-map, All-weaker}
+use Rattle.std.proofs.lemmas.List.Elements.{All-nil, All-push, All-set, All-map, All-weaker}
 use Rattle.std.proofs.lemmas.List.Sums.{sum_by-cons, sum_by-set}
-use Rattle.std.specs.List.{sum_by}
+use Rattle.std.specs.List.{All, Contains, sum_by, zip}
 use Rattle.upload_book.specs.Charge.{charge_in}
 use Rattle.upload_book.specs.declared.head_row.Kind.{Kind}
 use Rattle.upload_book.specs.declared.head_row.Kind.TheVariants.{Plain, Partial, Final}
 use Rattle.upload_book.specs.declared.settings.Numbers.{Numbers}
 use Rattle.upload_book.specs.declared.settings.TenantQuota.{TenantQuota}
-use Rattle.upload_book.specs.Lawful.{IsLawful, IsTenantOf, IsUploadOf, IsOfKind, IsGivenIn, IsSegmentOf}
+use Rattle.upload_book.specs.Lawful.{IsLawful, IsTenantOf, IsUploadOf, IsOfKind, IsGivenIn, IsSegmentOf, joined_in}
 use Rattle.upload_book.specs.PlainBook.{PlainBook, with_tenant_book, opening_book, tenant_book}
 use Rattle.upload_book.specs.Settings.{Settings, settings_fault}
 use Rattle.upload_book.specs.TenantBook.{Entry, TenantBook, with_new, opening_part}
 use Rattle.upload_book.specs.Upload.{Upload}
+use Rattle.upload_book.proofs.Charge.InUse.{Contains-none}
 use Rattle.upload_book.proofs.Lawful.Entries.{ids-push, kept_in-push}
+use Rattle.upload_book.proofs.Lawful.SharedLemmas.{ShareParts-push, joined-own}
 
 -- a tenant's part at the start is as it should be
 IsTenantOf-opening : (n : Numbers) (quota : ℕ) → IsTenantOf n (opening_part quota)
@@ -27,6 +29,8 @@ IsTenantOf-opening n quota = record {
   ascending = search rules;
   given = search rules;
   uploads = search rules;
+  later = All-nil (λ (e : Entry Upload). All (λ p. p < e.id) e.kept.parts);
+  shared = λ a b in_a in_b same. absurd (Contains-none a in_a);
 }
 
 -- it pays nothing
@@ -137,9 +141,23 @@ IsUploadOf-beside n part later u given same sound = record {
   concat = sound.concat;
 }
 
+-- the parts of an upload are earlier than an id, and it has the bytes of each that others have
+pub record HasSharedParts (part : TenantBook) (id : ℕ) (u : Upload) : Type 0 where
+  pub earlier : All (λ p. p < id) u.parts
+  pub same :
+      (a b : ℕ × List ℕ) → Contains (zip u.parts u.segments) a → Contains (joined_in part.uploads) b ⊎ Contains (zip u.parts u.segments) b
+      → a.0 ≡ b.0 → a.1 ≡ b.1
+
+-- an upload without parts has
+pub HasSharedParts-none : (part : TenantBook) (id : ℕ) (u : Upload) → u.parts ≡ [] → HasSharedParts part id u
+HasSharedParts-none part id u none = record {
+  earlier = rw none (All-nil (λ p. p < id));
+  same = λ a b in_a in_b same. absurd (Contains-none a (subst (λ l. Contains l a) (joined-own u none) in_a));
+}
+
 -- one more upload that is as it should be leaves the tenant's part so, where there is room for it
-pub IsTenantOf-with_new : (n : Numbers) (part : TenantBook) (u : Upload) → length part.uploads < n.uploads → part.next ≤ n.last_id → IsUploadOf n (with_new part u) u → IsTenantOf n part → IsTenantOf n (with_new part u)
-IsTenantOf-with_new n part u room unspent own sound =
+pub IsTenantOf-with_new : (n : Numbers) (part : TenantBook) (u : Upload) → length part.uploads < n.uploads → part.next ≤ n.last_id → IsUploadOf n (with_new part u) u → HasSharedParts part part.next u → IsTenantOf n part → IsTenantOf n (with_new part u)
+IsTenantOf-with_new n part u room unspent own parts sound =
     let added : Entry Upload = record { id = part.next; kept = u } in
     let later : TenantBook = with_new part u in
     let given : (id : ℕ) → IsGivenIn part id → IsGivenIn later id = λ id given. (given.0, omega (arith, given.1)) in
@@ -151,4 +169,6 @@ IsTenantOf-with_new n part u room unspent own sound =
       ascending = rw (map-append (λ (e : Entry Upload). e.id) part.uploads (added ∷ [])) (ids-push _ _ sound.ascending (All-map (λ id. id < part.next) (λ (e : Entry Upload). e.id) part.uploads (All-weaker (λ (e : Entry Upload). IsGivenIn part e.id) (λ (e : Entry Upload). e.id < part.next) (λ e g. g.1) part.uploads sound.given)));
       given = All-push (λ (e : Entry Upload). IsGivenIn later e.id) part.uploads added (All-weaker (λ (e : Entry Upload). IsGivenIn part e.id) (λ (e : Entry Upload). IsGivenIn later e.id) (λ e. given e.id) part.uploads sound.given) (sound.first, omega arith);
       uploads = All-push (λ (e : Entry Upload). IsUploadOf n later e.kept) part.uploads added (All-weaker (λ (e : Entry Upload). IsUploadOf n part e.kept) (λ (e : Entry Upload). IsUploadOf n later e.kept) (λ e. IsUploadOf-beside n part later e.kept given same) part.uploads sound.uploads) own;
+      later = All-push (λ (e : Entry Upload). All (λ p. p < e.id) e.kept.parts) part.uploads added sound.later parts.earlier;
+      shared = ShareParts-push part.uploads added sound.shared parts.same;
     }

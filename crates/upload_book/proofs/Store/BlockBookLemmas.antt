@@ -1,5 +1,5 @@
 -- What the extents of a book are of its pieces: each block is held as often as it stands there, and each reads as its segment.
-use Rattle.std.proofs.Common.{◌≡◌, ℕ, ◌+◌, Bool, true, false, cond, eqb, List, [], ◌∷◌, ◌++◌, map, Option, Some, option_map, inl, inr, refl, sym, ap, ap₂, subst, ◌∙◌, arith}
+use Rattle.std.proofs.Common.{◌≡◌, ℕ, ◌+◌, Bool, true, false, cond, eqb, List, [], ◌∷◌, ◌++◌, map, Option, Some, option_map, refl, sym, ap, ap₂, subst, ◌∙◌, arith}
 use Rattle.std.specs.List.{sum_by, Contains, flat_map}
 use Rattle.std.proofs.lemmas.List.Elements.{All-map, All-weaker}
 use Rattle.std.proofs.lemmas.List.Sums.{sum_by-cons}
@@ -10,7 +10,7 @@ use Rattle.upload_book.specs.BlockBook.{Extent, Extents, AreCounted, AreExtents,
 use Rattle.upload_book.specs.Stored.{StoredTenant, StoredUpload, entry_of, part_of, pieces_of, placed_in, places_on, some_of, ArePieces, HoldsPieces}
 use Rattle.upload_book.specs.TenantBook.{Entry, TenantBook, kept_in}
 use Rattle.upload_book.specs.Upload.{Upload}
-use Rattle.upload_book.proofs.Charge.InUse.{Contains-cases, Contains-first, Contains-later, Contains-none}
+use Rattle.upload_book.proofs.Charge.InUse.{Contains-mapped}
 
 -- the extents of pieces
 abbrev extents : List Piece → List Extent
@@ -52,16 +52,6 @@ AreCounted-stored p tenants stored = record {
       let same = sums-same (λ uploads. some_of (holders_on block uploads)) (λ t. some_of (places_on block t)) tenants (λ t. ap some_of (holders-places block t)) in
       omega (arith, same, stored.apart block);
 }
-
--- what the image of a list has is the image of something that the list has
-pub Contains-mapped : {X Y : Type 0} (f : X → Y) (xs : List X) (y : Y) → Contains (map f xs) y → (x : X) × Contains xs x × (f x ≡ y)
-Contains-mapped f [] y c = absurd (Contains-none y c)
-Contains-mapped {X} {Y} f (x ∷ xs) y c = elim (Contains-cases (f x) y (map f xs) c) [
-  | inl same ↦ (x, Contains-first x xs, same)
-  | inr later ↦
-      let found = Contains-mapped f xs y later in
-      (found.0, Contains-later x found.0 xs found.1, found.2)
-]
 
 -- each extent has as many blocks as its bytes take
 extents-sound : (size : ℕ) (t : StoredTenant) (x : Extent) → ArePieces size t.next (pieces_of t) → Contains (extents_on (tenant_extents t)) x → IsExtent size x

@@ -1,0 +1,4 @@
+-- That a book is put back by its snapshot.
+pub mod SegmentsBack
+pub mod UploadsBack
+pub mod BooksBack

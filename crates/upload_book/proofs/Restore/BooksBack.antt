@@ -1,0 +1,228 @@
+-- A lawful book is put back by its snapshot.
+use Rattle.std.proofs.Common.{◌≡◌, ℕ, ◌+◌, ◌-◌, ◌<◌, ◌≤◌, Bool, true, false, eqb, ltb, not, ◌||◌, List, [], ◌∷◌, ◌++◌, map, length, set, None, refl, sym, ap, ap₂, subst, ◌∙◌, arith, append_assoc, length-append}
+use Rattle.std.specs.List.{All, sum_by}
+use Rattle.std.proofs.lemmas.Bool.Decides.{nat_tests}
+use Rattle.std.proofs.lemmas.List.{append-nil, get_or_at, set_at}
+use Rattle.std.proofs.lemmas.List.Elements.{All-head, All-tail}
+use Rattle.std.proofs.lemmas.List.Sums.{sum_by-cons}
+use Rattle.upload_book.specs.Charge.{charge_in, price}
+use Rattle.upload_book.specs.declared.settings.Numbers.{Numbers}
+use Rattle.upload_book.specs.declared.settings.TenantQuota.{TenantQuota}
+use Rattle.upload_book.specs.Lawful.{IsLawful, IsTenantOf}
+use Rattle.upload_book.specs.PlainBook.{PlainBook, opening_book, tenant_book, with_tenant_book}
+use Rattle.upload_book.specs.declared.refusal.Refusal.TheVariants.{Field, Spent}
+use Rattle.upload_book.specs.Refusal.{first_that_holds}
+use Rattle.upload_book.specs.Restore.{book_after_piece, book_with, part_with, piece_refusal, restore_refusal, sent_back, sent_in}
+use Rattle.upload_book.specs.Restored as piece
+use Rattle.upload_book.specs.Restored.{Restored}
+use Rattle.upload_book.specs.Settings.{Settings}
+use Rattle.upload_book.specs.Snapshot.{AreAccepted, SnapshotsRestore, book_after_pieces, parts_kept, snapshot_of, upload_kept, uploads_kept}
+use Rattle.upload_book.specs.TenantBook.{Entry, TenantBook, opening_part}
+use Rattle.upload_book.specs.Upload.{Upload}
+use Rattle.upload_book.proofs.Charge.SumsBelow.{sum_below-none}
+use Rattle.upload_book.proofs.Lawful.LawfulSteps.{opening_parts}
+use Rattle.upload_book.proofs.Restore.UploadsBack.{IsNextBack, charge-front, front, part-with, restore-kept}
+
+-- a book accepts these pieces, one after another, and is that one after them
+abbrev PutsBack : PlainBook → List Restored → PlainBook → Type 0
+PutsBack b pieces after = AreAccepted b pieces × (book_after_pieces b pieces ≡ after)
+
+after-accepted : (b : PlainBook) (first : Restored) → piece_refusal b first ≡ None → book_after_piece b first ≡ book_with b first
+after-accepted b first none = rw none refl
+
+PutsBack-cons : (b next after : PlainBook) (first : Restored) (others : List Restored) → piece_refusal b first ≡ None → book_with b first ≡ next → PutsBack next others after → PutsBack b (first ∷ others) after
+PutsBack-cons b next after first others none is rest =
+    let step : book_after_piece b first ≡ next = after-accepted b first none ∙ is in
+    ((none, subst (λ b. AreAccepted b others) (sym step) rest.0), ap (λ b. book_after_pieces b others) step ∙ rest.1)
+
+PutsBack-append : (b next after : PlainBook) (some others : List Restored) → PutsBack b some next → PutsBack next others after → PutsBack b (some ++ others) after
+PutsBack-append b next after [] others first rest = subst (λ b. PutsBack b others after) (sym first.1) rest
+PutsBack-append b next after (piece ∷ some) others first rest =
+    let more : PutsBack (book_after_piece b piece) (some ++ others) after = PutsBack-append (book_after_piece b piece) next after some others (first.0.1, first.1) rest in
+    ((first.0.0, more.0), more.1)
+
+-- a book with these parts in which so many blocks were charged, and none released
+abbrev book_of : Settings → List TenantBook → ℕ → PlainBook
+book_of s tenants charged = record { settings = s; tenants = tenants; charged = charged; released = 0 }
+
+-- one in which so many were released
+abbrev book_at : Settings → List TenantBook → ℕ → ℕ → PlainBook
+book_at s tenants charged released = record { settings = s; tenants = tenants; charged = charged; released = released }
+
+-- the part of a tenant becomes another that pays no less
+with-part : (s : Settings) (done rest : List TenantBook) (before later : TenantBook) (charged t : ℕ) → length done ≡ t → charge_in s.numbers before ≤ charge_in s.numbers later
+    → with_tenant_book (book_of s (done ++ before ∷ rest) charged) t later ≡ book_of s (done ++ later ∷ rest) (charged + (charge_in s.numbers later - charge_in s.numbers before))
+with-part s done rest before later charged t place more =
+    let b : PlainBook = book_of s (done ++ before ∷ rest) charged in
+    let here : tenant_book b t ≡ before = get_or_at done before rest (opening_part 0) t place in
+    let tenants : set b.tenants t later ≡ done ++ later ∷ rest = set_at done before rest later t place in
+    let pays : charge_in s.numbers (tenant_book b t) ≡ charge_in s.numbers before = ap (charge_in s.numbers) here in
+    let none : 0 + (charge_in s.numbers (tenant_book b t) - charge_in s.numbers later) ≡ 0 = nothing _ _ _ pays more in
+    let added : charged + (charge_in s.numbers later - charge_in s.numbers (tenant_book b t)) ≡ charged + (charge_in s.numbers later - charge_in s.numbers before) = ap (λ k. charged + (charge_in s.numbers later - k)) pays in
+    one _ _ _ _ _ _ tenants added none
+  where
+    nothing : (k before later : ℕ) → k ≡ before → before ≤ later → 0 + (k - later) ≡ 0
+    nothing k before later is less = omega arith
+
+    one : (a b : List TenantBook) (c d e f : ℕ) → a ≡ b → c ≡ d → e ≡ f → book_at s a c e ≡ book_at s b d f
+    one a b c d e f ab cd ef = rw (ab, cd, ef) refl
+
+-- the same where it pays as much
+with-part-same : (s : Settings) (done rest : List TenantBook) (before later : TenantBook) (charged t : ℕ) → length done ≡ t → charge_in s.numbers before ≡ 0 → charge_in s.numbers later ≡ 0
+    → with_tenant_book (book_of s (done ++ before ∷ rest) charged) t later ≡ book_of s (done ++ later ∷ rest) charged
+with-part-same s done rest before later charged t place none_before none_later =
+    with-part s done rest before later charged t place (omega arith) ∙ ap (book_of s (done ++ later ∷ rest)) (same _ _ _ none_before none_later)
+  where
+    same : (charged before later : ℕ) → before ≡ 0 → later ≡ 0 → charged + (later - before) ≡ charged
+    same charged before later none none_later = omega arith
+
+-- a part without uploads pays nothing
+charge-none : (n : Numbers) (part : TenantBook) → part.uploads ≡ [] → charge_in n part ≡ 0
+charge-none n part none = ap (λ l. charge_in n (record part { uploads = l })) none ∙ sum_below-none part.next (price n.block_size []) (λ origin less. refl)
+
+-- the first uploads of a tenant cost no more than with one more
+front-more : (n : Numbers) (part : TenantBook) (before : List (Entry Upload)) (e : Entry Upload) → charge_in n (front part before) ≤ charge_in n (front part (before ++ e ∷ []))
+front-more n part before e = charge-front n (front part (before ++ e ∷ [])) before (e ∷ []) refl
+
+-- ---- the pieces of a tenant
+
+-- a tenant's next id is put back,
+next-back : (s : Settings) (done rest : List TenantBook) (part : TenantBook) (charged t : ℕ) → length done ≡ t → IsTenantOf s.numbers part
+    → piece_refusal (book_of s (done ++ opening_part part.quota ∷ rest) charged) (piece.Next t part.next) ≡ None
+next-back s done rest part charged t place sound =
+    let here = get_or_at done (opening_part {K = Upload} part.quota) rest (opening_part 0) t place in
+    rw here (neither _ _ (given part.next sound.first) (unspent part.next s.numbers.last_id sound.last))
+  where
+    neither : (a b : Bool) → a ≡ false → b ≡ false → first_that_holds ((a, Field) ∷ (b, Spent) ∷ []) ≡ None
+    neither a b first second = rw (first, second) refl
+
+    given : (next : ℕ) → 0 < next → ltb next 1 ≡ false
+    given next first = grind (arith, nat_tests)
+
+    unspent : (next last : ℕ) → next ≤ last + 1 → ltb (last + 1) next ≡ false
+    unspent next last fits = grind (arith, nat_tests)
+
+-- and stands in its part then
+next-with : (s : Settings) (done rest : List TenantBook) (part : TenantBook) (charged t : ℕ) → length done ≡ t
+    → book_with (book_of s (done ++ opening_part part.quota ∷ rest) charged) (piece.Next t part.next) ≡ book_of s (done ++ front part [] ∷ rest) charged
+next-with s done rest part charged t place =
+    let opening : TenantBook = opening_part part.quota in
+    let b : PlainBook = book_of s (done ++ opening ∷ rest) charged in
+    let here : tenant_book b t ≡ opening = get_or_at done opening rest (opening_part 0) t place in
+    ap (λ (before : TenantBook). with_tenant_book b t (record before { next = part.next })) here
+    ∙ with-part-same s done rest opening (front part []) charged t place (charge-none s.numbers opening refl) (charge-none s.numbers (front part []) refl)
+
+-- what is charged for a tenant's first uploads, and for one more, is charged for these together
+charged-more : (base before later : ℕ) → before ≤ later → base + before + (later - before) ≡ base + later
+charged-more base before later less = omega arith
+
+-- an upload is put back behind those before it
+module _ (s : Settings) (done rest : List TenantBook) (part : TenantBook) (base t : ℕ) (place : length done ≡ t) (sound : IsTenantOf s.numbers part) (paid : charge_in s.numbers part ≤ part.quota)
+    (unspent : base + charge_in s.numbers part ≤ s.numbers.last_total) where
+  -- the book where so many of the tenant's uploads are put back
+  abbrev up_to : List (Entry Upload) → PlainBook
+  up_to before = book_of s (done ++ front part before ∷ rest) (base + charge_in s.numbers (front part before))
+
+  is-next : (before after : List (Entry Upload)) (e : Entry Upload) → part.uploads ≡ before ++ e ∷ after → IsNextBack s.numbers part before after e (base + charge_in s.numbers (front part before))
+  is-next before after e is = record {
+    sound = sound;
+    all = is;
+    paid = paid;
+    unspent = within _ _ _ _ _ (front-more s.numbers part before e) (charge-front s.numbers part (before ++ e ∷ []) after (is ∙ sym (append_assoc before (e ∷ []) after))) unspent;
+  }
+    where
+      within : (base before later all most : ℕ) → before ≤ later → later ≤ all → base + all ≤ most → base + before + (later - before) ≤ most
+      within base before later all most less part fits = omega arith
+
+  upload-back : (before after : List (Entry Upload)) (e : Entry Upload) → part.uploads ≡ before ++ e ∷ after → piece_refusal (up_to before) (piece.Upload t (upload_kept before e)) ≡ None
+  upload-back before after e is =
+      let here : tenant_book (up_to before) t ≡ front part before = get_or_at done (front part before) rest (opening_part 0) t place in
+      ap (λ (p : TenantBook). restore_refusal s.numbers (base + charge_in s.numbers (front part before)) p (upload_kept before e)) here
+      ∙ restore-kept s.numbers part before after e (base + charge_in s.numbers (front part before)) (is-next before after e is)
+
+  upload-with : (before after : List (Entry Upload)) (e : Entry Upload) → part.uploads ≡ before ++ e ∷ after → book_with (up_to before) (piece.Upload t (upload_kept before e)) ≡ up_to (before ++ e ∷ [])
+  upload-with before after e is =
+      let r = upload_kept before e in
+      let here : tenant_book (up_to before) t ≡ front part before = get_or_at done (front part before) rest (opening_part 0) t place in
+      let later : TenantBook = front part (before ++ e ∷ []) in
+      ap (λ (p : TenantBook). with_tenant_book (up_to before) t (part_with p r (sent_back (sent_in p.uploads) r.segments))) here
+      ∙ ap (with_tenant_book (up_to before) t) (part-with s.numbers part before after e (base + charge_in s.numbers (front part before)) (is-next before after e is))
+      ∙ with-part s done rest (front part before) later (base + charge_in s.numbers (front part before)) t place (front-more s.numbers part before e)
+      ∙ ap (book_of s (done ++ later ∷ rest)) (charged-more base _ _ (front-more s.numbers part before e))
+
+  -- and so are all that are left
+  uploads-back : (before after : List (Entry Upload)) → part.uploads ≡ before ++ after → PutsBack (up_to before) (uploads_kept t before after) (up_to part.uploads)
+  uploads-back before [] is = (tt, ap up_to (sym (append-nil before) ∙ sym is))
+  uploads-back before (e ∷ after) is =
+      PutsBack-cons (up_to before) (up_to (before ++ e ∷ [])) (up_to part.uploads) (piece.Upload t (upload_kept before e)) (uploads_kept t (before ++ e ∷ []) after)
+      (upload-back before after e is) (upload-with before after e is)
+      (uploads-back (before ++ e ∷ []) after (is ∙ sym (append_assoc before (e ∷ []) after)))
+
+  -- a tenant's part is put back
+  part-back : (others : List Restored) (after : PlainBook) → PutsBack (book_of s (done ++ part ∷ rest) (base + charge_in s.numbers part)) others after
+      → PutsBack (book_of s (done ++ opening_part part.quota ∷ rest) base) (piece.Next t part.next ∷ (uploads_kept t [] part.uploads ++ others)) after
+  part-back others after rest-back =
+      PutsBack-cons _ (book_of s (done ++ front part [] ∷ rest) base) after (piece.Next t part.next) (uploads_kept t [] part.uploads ++ others)
+      (next-back s done rest part base t place sound) (next-with s done rest part base t place)
+      (PutsBack-append (book_of s (done ++ front part [] ∷ rest) base) (up_to part.uploads) after (uploads_kept t [] part.uploads) others
+      (subst (λ (k : ℕ). PutsBack (book_of s (done ++ front part [] ∷ rest) k) (uploads_kept t [] part.uploads) (up_to part.uploads)) (nothing _ _ (charge-none s.numbers (front part []) refl)) (uploads-back [] part.uploads refl)) rest-back)
+    where
+      nothing : (base k : ℕ) → k ≡ 0 → base + k ≡ base
+      nothing base k none = omega arith
+
+-- the parts of the tenants from a place on are put back
+parts-back : (s : Settings) (done parts : List TenantBook) (todo : List TenantQuota) (base t : ℕ) → length done ≡ t
+    → map {A = TenantBook} {B = ℕ} (λ part. part.quota) parts ≡ map {A = TenantQuota} {B = ℕ} (λ t. t.quota) todo
+    → All (IsTenantOf s.numbers) parts → All (λ part. charge_in s.numbers part ≤ part.quota) parts → base + sum_by (charge_in s.numbers) parts ≤ s.numbers.last_total
+    → PutsBack (book_of s (done ++ opening_parts todo) base) (parts_kept t parts) (book_of s (done ++ parts) (base + sum_by (charge_in s.numbers) parts))
+parts-back s done [] [] base t place quotas sound paid unspent = (tt, ap (book_of s (done ++ [])) (omega arith))
+parts-back s done [] (q ∷ todo) base t place quotas sound paid unspent = absurd (cc)
+parts-back s done (part ∷ parts) [] base t place quotas sound paid unspent = absurd (cc)
+parts-back s done (part ∷ parts) (q ∷ todo) base t place quotas sound paid unspent =
+    let pays : TenantBook → Type 0 = λ (part : TenantBook). charge_in s.numbers part ≤ part.quota in
+    let first : part.quota ≡ q.quota = (cc) in
+    let others : map {A = TenantBook} {B = ℕ} (λ part. part.quota) parts ≡ map {A = TenantQuota} {B = ℕ} (λ t. t.quota) todo = (cc) in
+    let total : sum_by (charge_in s.numbers) (part ∷ parts) ≡ charge_in s.numbers part + sum_by (charge_in s.numbers) parts = sum_by-cons (charge_in s.numbers) part parts in
+    let later : List TenantBook = done ++ part ∷ [] in
+    let front-then : later ++ opening_parts todo ≡ done ++ part ∷ opening_parts todo = append_assoc done (part ∷ []) (opening_parts todo) in
+    let all : later ++ parts ≡ done ++ part ∷ parts = append_assoc done (part ∷ []) parts in
+    let rest : PutsBack (book_of s (later ++ opening_parts todo) (base + charge_in s.numbers part)) (parts_kept (t + 1) parts) (book_of s (later ++ parts) (base + charge_in s.numbers part + sum_by (charge_in s.numbers) parts)) =
+    parts-back s later parts todo (base + charge_in s.numbers part) (t + 1) (omega (arith, place, length-append done (part ∷ []))) others (All-tail (IsTenantOf s.numbers) part parts sound) (All-tail pays part parts paid) (omega (arith, total, unspent)) in
+    let rest-here = subst (λ (tenants : List TenantBook). PutsBack (book_of s tenants (base + charge_in s.numbers part)) (parts_kept (t + 1) parts) (book_of s (later ++ parts) (base + charge_in s.numbers part + sum_by (charge_in s.numbers) parts))) front-then rest in
+    let end : book_of s (later ++ parts) (base + charge_in s.numbers part + sum_by (charge_in s.numbers) parts) ≡ book_of s (done ++ part ∷ parts) (base + sum_by (charge_in s.numbers) (part ∷ parts)) =
+    ap₂ (book_of s) all (omega (arith, total)) in
+    subst (PutsBack (book_of s (done ++ opening_parts (q ∷ todo)) base) (parts_kept t (part ∷ parts))) end
+    (subst (λ (quota : ℕ). PutsBack (book_of s (done ++ opening_part quota ∷ opening_parts todo) base) (parts_kept t (part ∷ parts)) (book_of s (later ++ parts) (base + charge_in s.numbers part + sum_by (charge_in s.numbers) parts))) first
+    (part-back s done (opening_parts todo) part base t place (All-head (IsTenantOf s.numbers) part parts sound) (All-head pays part parts paid) (omega (arith, total, unspent)) (parts_kept (t + 1) parts) _ rest-here))
+
+-- the totals are put back
+totals-back : (s : Settings) (tenants : List TenantBook) (charged released paid : ℕ) → charged ≡ released + paid → charged ≤ s.numbers.last_total
+    → PutsBack (book_of s tenants paid) (piece.Totals charged released ∷ []) (record { settings = s; tenants = tenants; charged = charged; released = released })
+totals-back s tenants charged released paid is last =
+    PutsBack-cons (book_of s tenants paid) (record { settings = s; tenants = tenants; charged = charged; released = released }) _ (piece.Totals charged released) []
+    (neither _ _ _ (same charged released paid is) (more charged released paid is) (few charged s.numbers.last_total last)) refl (tt, refl)
+  where
+    neither : (a b c : Bool) → a ≡ true → b ≡ false → c ≡ false → first_that_holds ((not a || b, Field) ∷ (c, Spent) ∷ []) ≡ None
+    neither a b c first second third = rw (first, second, third) refl
+
+    same : (charged released paid : ℕ) → charged ≡ released + paid → eqb (charged + 0) (released + paid) ≡ true
+    same charged released paid is = grind (arith, nat_tests)
+
+    more : (charged released paid : ℕ) → charged ≡ released + paid → ltb charged paid ≡ false
+    more charged released paid is = grind (arith, nat_tests)
+
+    few : (charged last : ℕ) → charged ≤ last → ltb last charged ≡ false
+    few charged last fits = grind (arith, nat_tests)
+
+book-back : (b : PlainBook) → IsLawful b → PutsBack (opening_book b.settings) (snapshot_of b) b
+book-back b lawful =
+    let paid : ℕ = sum_by (charge_in b.settings.numbers) b.tenants in
+    PutsBack-append (opening_book b.settings) (book_of b.settings b.tenants (0 + paid)) b (parts_kept 0 b.tenants) (piece.Totals b.charged b.released ∷ [])
+    (parts-back b.settings [] b.tenants b.settings.tenants 0 0 refl lawful.quotas lawful.tenants lawful.charges (omega (arith, lawful.totals, lawful.last)))
+    (totals-back b.settings b.tenants b.charged b.released (0 + paid) (omega (arith, lawful.totals)) lawful.last)
+
+pub snapshots_restore : SnapshotsRestore
+snapshots_restore = record {
+  accepted = λ b lawful. (book-back b lawful).0;
+  restored = λ b lawful. (book-back b lawful).1;
+}

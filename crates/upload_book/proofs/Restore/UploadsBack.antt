@@ -1,0 +1,199 @@
+-- An upload of a lawful part is put back behind those before it.
+use Rattle.std.proofs.Common.{◌≡◌, ℕ, ◌+◌, ◌-◌, ◌<◌, ◌≤◌, max, Bool, true, false, ◌&&◌, ltb, leb, not, List, [], ◌∷◌, ◌++◌, map, length, get_or, Option, Some, None, IfSome, IsSome, is_some, unwrap_or, refl, inl, inr, sym, ap, ap₂, subst, ◌∙◌, arith, append_assoc, length-append}
+use Rattle.std.specs.List.{All, Contains, flat_map, list_all, zip}
+use Rattle.std.specs.List.Sorted.{IsStrictlyIncreasing}
+use Rattle.std.proofs.lemmas.Bool.Decides.{nat_tests}
+use Rattle.std.proofs.lemmas.List.{get_or_append_left, get_or_at}
+use Rattle.std.proofs.lemmas.List.Concat.{flat_map-append}
+use Rattle.std.proofs.lemmas.List.Elements.{All-head, All-tail, Contains-append_left}
+use Rattle.std.proofs.lemmas.List.Kept.{AllPairs-from_increasing}
+use Rattle.std.proofs.lemmas.Slice.Zip.{length-zip, get_or-zip}
+use Rattle.std.proofs.Math.ListN.{get_or-map, length-map}
+use Rattle.upload_book.specs.Append.{is_too_long}
+use Rattle.upload_book.specs.Charge.{charge_in, origins, price, sources_of}
+use Rattle.upload_book.specs.Concat.{is_partial}
+use Rattle.upload_book.specs.declared.head_row.Kind.{Kind}
+use Rattle.upload_book.specs.declared.head_row.Kind.TheVariants.{Plain, Partial, Final}
+use Rattle.upload_book.specs.declared.refusal.Refusal.TheVariants.{Field, Unknown, TooLong, PartOpen, Uploads, Spent, Quota}
+use Rattle.upload_book.specs.declared.settings.Numbers.{Numbers}
+use Rattle.upload_book.specs.Lawful.{HasParts, IsOfKind, IsSegmentOf, IsTenantOf, IsUploadOf}
+use Rattle.upload_book.specs.Refusal.{first_that_holds}
+use Rattle.upload_book.specs.Restore.{ends_rightly, is_behind, may_be_part, part_with, refusal_with, restore_refusal, restore_tests, sent_back, sent_in, sent_of, upload_back, with_back}
+use Rattle.upload_book.specs.Snapshot.{segments_kept, upload_kept}
+use Rattle.upload_book.specs.Stored.{parts_of}
+use Rattle.upload_book.specs.TenantBook.{Entry, TenantBook, kept_in}
+use Rattle.upload_book.specs.Upload.{IsComplete, Upload, is_complete, offset_of}
+use Rattle.upload_book.proofs.Charge.PriceLemmas.{price-append, sum_below-le}
+use Rattle.upload_book.proofs.Lawful.Entries.{ids_of}
+use Rattle.upload_book.proofs.Lawful.FinalLemmas.{kept-push}
+use Rattle.upload_book.proofs.Lawful.LawfulAppend.{complete_tells}
+use Rattle.upload_book.proofs.Restore.SegmentsBack.{sent-same, sent_back-kept}
+
+-- a tenant's part with the first of its uploads alone
+abbrev pub front : TenantBook → List (Entry Upload) → TenantBook
+front part before = record part { uploads = before }
+
+-- ---- the upload is the one that was kept
+
+zip-firsts : (ids : List ℕ) (segments : List (List ℕ)) → length segments ≡ length ids → map {A = ℕ × List ℕ} {B = ℕ} (λ s. s.0) (zip ids segments) ≡ ids
+zip-firsts [] segments same = refl
+zip-firsts (id ∷ ids) [] same = absurd (omega arith)
+zip-firsts (id ∷ ids) (s ∷ segments) same = ap (λ rest. id ∷ rest) (zip-firsts ids segments (omega arith))
+
+zip-seconds : (ids : List ℕ) (segments : List (List ℕ)) → length segments ≡ length ids → map {A = ℕ × List ℕ} {B = List ℕ} (λ s. s.1) (zip ids segments) ≡ segments
+zip-seconds [] [] same = refl
+zip-seconds [] (s ∷ segments) same = absurd (omega arith)
+zip-seconds (id ∷ ids) [] same = absurd (omega arith)
+zip-seconds (id ∷ ids) (s ∷ segments) same = ap (λ rest. s ∷ rest) (zip-seconds ids segments (omega arith))
+
+parts-kind : (part : TenantBook) (id : ℕ) (u : Upload) (kind : Kind) → IsOfKind part u kind → parts_of kind (map {A = ℕ × List ℕ} {B = ℕ} (λ s. s.0) (zip (origins kind id u.parts) u.segments)) ≡ u.parts
+parts-kind part id u Plain sound = sym sound.0.parts
+parts-kind part id u Partial sound = sym sound.0.parts
+parts-kind part id u Final sound = zip-firsts u.parts u.segments sound.0.each
+
+segments-kind : (part : TenantBook) (id : ℕ) (u : Upload) (kind : Kind) → IsOfKind part u kind → map {A = ℕ × List ℕ} {B = List ℕ} (λ s. s.1) (zip (origins kind id u.parts) u.segments) ≡ u.segments
+segments-kind part id u Plain sound = zip-seconds (id ∷ []) u.segments sound.0.segment
+segments-kind part id u Partial sound = zip-seconds (id ∷ []) u.segments sound.0.segment
+segments-kind part id u Final sound = zip-seconds u.parts u.segments sound.0.each
+
+upload-kept : (part : TenantBook) (before : List (Entry Upload)) (e : Entry Upload) → IsOfKind part e.kept e.kept.kind → upload_back (upload_kept before e) (sent_of e) ≡ e.kept
+upload-kept part before e sound =
+    ap₂ (λ (parts : List ℕ) (segments : List (List ℕ)). record e.kept { parts = parts; segments = segments }) (parts-kind part e.id e.kept e.kept.kind sound) (segments-kind part e.id e.kept e.kept.kind sound)
+
+-- ---- it passes the tests
+
+is-complete : (u : Upload) → IsComplete u → is_complete u ≡ true
+is-complete u complete = elim (complete_tells u) [ inl both ↦ both.0 | inr open' ↦ absurd (open'.1 complete) ]
+
+none-some : (expires : Option ℕ) → ¬ (IsSome expires) → not (is_some expires) ≡ true
+none-some None never = refl
+none-some (Some end) never = absurd (never refl)
+
+ends-kind : (part : TenantBook) (u : Upload) (kind : Kind) → IsOfKind part u kind → ends_rightly kind (is_complete u) u.expires ≡ true
+ends-kind part u Plain sound = elim (complete_tells u) [
+  | inl complete ↦ rw complete.0 (none-some u.expires (λ some. sound.1.0 some complete.1))
+  | inr open' ↦ rw open'.0 (sound.1.1 open'.1)
+]
+ends-kind part u Partial sound = sound.1
+ends-kind part u Final sound = rw (is-complete u sound.1, sound.2) refl
+
+both : (a b : Bool) → a ≡ true → b ≡ true → (a && b) ≡ true
+both a b first second = rw (first, second) refl
+
+list_all-from : {X : Type 0} (test : X → Bool) (xs : List X) → All (λ x. test x ≡ true) xs → list_all test xs ≡ true
+list_all-from test [] all = refl
+list_all-from test (x ∷ xs) all = rw (All-head (λ x. test x ≡ true) x xs all) (list_all-from test xs (All-tail (λ x. test x ≡ true) x xs all))
+
+-- where ids ascend, those before an entry are below its
+before-below : (before after : List (Entry Upload)) (e : Entry Upload) (n : Numbers) (part : TenantBook) → IsTenantOf n part → part.uploads ≡ before ++ e ∷ after → All (λ (a : Entry Upload). a.id < e.id) before
+before-below before after e n part sound is = λ k d within.
+    let all : List (Entry Upload) = before ++ e ∷ after in
+    let long : length all ≡ length before + length (e ∷ after) = length-append before (e ∷ after) in
+    let ascending = subst (λ l. IsStrictlyIncreasing (ids_of l)) is sound.ascending in
+    let here : (get_or all k d).id ≡ (get_or before k d).id = ap (λ (a : Entry Upload). a.id) (get_or_append_left before (e ∷ after) d k within) in
+    let last : (get_or all (length before) d).id ≡ e.id = ap (λ (a : Entry Upload). a.id) (get_or_at before e after d (length before) refl) in
+    let at : (i : ℕ) → get_or (ids_of all) i d.id ≡ (get_or all i d).id = λ i. get_or-map (λ (a : Entry Upload). a.id) all i d in
+    omega (arith, AllPairs-from_increasing (ids_of all) ascending k (length before) d.id within (omega (arith, length-map all (λ (a : Entry Upload). a.id))), at k, at (length before), here, last)
+
+is-behind : (part : TenantBook) (before : List (Entry Upload)) (id : ℕ) → 0 < id → id < part.next → All (λ (a : Entry Upload). a.id < id) before → is_behind (front part before) id ≡ true
+is-behind part before id some given below =
+    both _ _ (given-test id part.next some given) (list_all-from (λ (a : Entry Upload). ltb a.id id) before (λ k d within. less _ _ (below k d within)))
+  where
+    less : (a b : ℕ) → a < b → ltb a b ≡ true
+    less a b below = grind (arith, nat_tests)
+
+    given-test : (id next : ℕ) → 0 < id → id < next → (ltb 0 id && ltb id next) ≡ true
+    given-test id next some given = grind (arith, nat_tests)
+
+fits-kept : (n : Numbers) (declared : Option ℕ) (offset : ℕ) → IfSome declared (λ most. (offset ≤ most) × (most ≤ n.max_size)) → offset ≤ n.max_size → is_too_long n (unwrap_or declared n.max_size) offset ≡ false
+fits-kept n None offset within size = grind (arith, nat_tests)
+fits-kept n (Some most) offset within size =
+    let long : offset ≤ most = within.0 in
+    let fits : most ≤ n.max_size = within.1 in
+    grind (arith, nat_tests)
+
+-- a part of a final upload may be one where fewer uploads stand
+part-kept : (part : TenantBook) (before after : List (Entry Upload)) (id : ℕ) (segment : List ℕ) → part.uploads ≡ before ++ after → IsSegmentOf part id segment → may_be_part (front part before) id ≡ true
+part-kept part before after id segment is sound = by (kept_in before id) refl where
+  by : (found : Option Upload) → kept_in before id ≡ found → may_be_part (front part before) id ≡ true
+  by None none = rw none refl
+  by (Some u) there =
+      let stands : kept_in part.uploads id ≡ Some u = ap (λ l. kept_in l id) is ∙ kept-push before after id u there in
+      let seen = rw stands at sound in
+      rw there (both _ _ (ap is_partial seen.0) (is-complete u seen.1))
+
+parts-kept : (part : TenantBook) (before after : List (Entry Upload)) (u : Upload) (kind : Kind) → part.uploads ≡ before ++ after → IsOfKind part u kind → list_all (may_be_part (front part before)) u.parts ≡ true
+parts-kept part before after u Plain is sound = rw sound.0.parts refl
+parts-kept part before after u Partial is sound = rw sound.0.parts refl
+parts-kept part before after u Final is sound = list_all-from (may_be_part (front part before)) u.parts (λ k d within.
+    let parts : HasParts part u = sound.0 in
+    let Q : (ℕ × List ℕ) → Type 0 = λ (p : ℕ × List ℕ). IsSegmentOf part p.0 p.1 in
+    let in_segments : k < length u.segments = omega (arith, parts.each) in
+    let pair = get_or-zip u.parts u.segments k (d, []) within in_segments in
+    let segment = subst Q pair (parts.same k (d, []) (omega (arith, length-zip u.parts u.segments))) in
+    part-kept part before after (get_or u.parts k d) (get_or u.segments k []) is segment)
+
+-- the first uploads of a tenant cost no more than all
+pub charge-front : (n : Numbers) (part : TenantBook) (before after : List (Entry Upload)) → part.uploads ≡ before ++ after → charge_in n (front part before) ≤ charge_in n part
+charge-front n part before after is =
+    sum_below-le part.next (price n.block_size (flat_map sources_of before)) (price n.block_size (flat_map sources_of part.uploads)) (λ origin l.
+    let all : price n.block_size (flat_map sources_of part.uploads) origin ≡ max (price n.block_size (flat_map sources_of before) origin) (price n.block_size (flat_map sources_of after) origin) =
+    ap (λ l. price n.block_size (flat_map sources_of l) origin) is ∙ ap (λ l. price n.block_size l origin) (flat_map-append sources_of before after) ∙ price-append n.block_size (flat_map sources_of before) (flat_map sources_of after) origin in
+    omega (arith, all))
+
+none-holds : (a b c d e f g : Bool) → a ≡ true → b ≡ true → c ≡ false → d ≡ true → e ≡ false → f ≡ false → g ≡ false
+    → first_that_holds ((not a, Field) ∷ (not b, Unknown) ∷ (c, TooLong) ∷ (not d, PartOpen) ∷ (e, Uploads) ∷ (f, Spent) ∷ (g, Quota) ∷ []) ≡ None
+none-holds a b c d e f g ia ib ic id ie if' ig = rw (ia, ib, ic, id, ie, if', ig) refl
+
+-- what an upload of a part is put back behind: those before it, where its tenant may pay for all
+pub record IsNextBack (n : Numbers) (part : TenantBook) (before after : List (Entry Upload)) (e : Entry Upload) (charged : ℕ) : Type 0 where
+  pub sound : IsTenantOf n part
+  pub all : part.uploads ≡ before ++ e ∷ after
+  pub paid : charge_in n part ≤ part.quota
+  pub unspent : charged + (charge_in n (front part (before ++ e ∷ [])) - charge_in n (front part before)) ≤ n.last_total
+
+entry-in : (n : Numbers) (part : TenantBook) (before after : List (Entry Upload)) (e : Entry Upload) → part.uploads ≡ before ++ e ∷ after → (P : Entry Upload → Type 0) → All P part.uploads → P e
+entry-in n part before after e is P all =
+    subst P (get_or_at before e after e (length before) refl) (subst (All P) is all (length before) e (omega (arith, length-append before (e ∷ after))))
+
+sent-back : (n : Numbers) (part : TenantBook) (before after : List (Entry Upload)) (e : Entry Upload) → IsTenantOf n part → part.uploads ≡ before ++ e ∷ after
+    → sent_back (sent_in before) (segments_kept (sent_in before) (sent_of e)) ≡ Some (sent_of e)
+sent-back n part before after e sound is =
+    sent_back-kept (sent_in before) (sent_of e) (λ a b in_a in_b same. sent-same n part sound a b (inside a in_a) (inside b in_b) same)
+  where
+    all : sent_in part.uploads ≡ sent_in before ++ sent_of e ++ sent_in after
+    all = ap sent_in is ∙ flat_map-append sent_of before (e ∷ after) ∙ sym (append_assoc (sent_in before) (sent_of e) (sent_in after))
+
+    inside : (a : ℕ × List ℕ) → Contains (sent_in before ++ sent_of e) a → Contains (sent_in part.uploads) a
+    inside a there = subst (λ l. Contains l a) (sym all) (Contains-append_left (sent_in before ++ sent_of e) (sent_in after) a there)
+
+-- it is not refused,
+pub restore-kept : (n : Numbers) (part : TenantBook) (before after : List (Entry Upload)) (e : Entry Upload) (charged : ℕ) → IsNextBack n part before after e charged → restore_refusal n charged (front part before) (upload_kept before e) ≡ None
+restore-kept n part before after e charged can =
+    let own : IsUploadOf n part e.kept = entry-in n part before after e can.all (λ e. IsUploadOf n part e.kept) can.sound.uploads in
+    let given = entry-in n part before after e can.all (λ e. (0 < e.id) × (e.id < part.next)) can.sound.given in
+    let more : part.uploads ≡ before ++ e ∷ [] ++ after = can.all ∙ sym (append_assoc before (e ∷ []) after) in
+    let less : charge_in n (front part (before ++ e ∷ [])) ≤ charge_in n part = charge-front n part (before ++ e ∷ []) after more in
+    let few : length before < n.uploads = omega (arith, can.sound.few, ap (length {A = Entry Upload}) can.all, length-append before (e ∷ after)) in
+    ap (refusal_with n charged (front part before) (upload_kept before e)) (sent-back n part before after e can.sound can.all)
+    ∙ ap (λ u. first_that_holds (restore_tests n charged (front part before) e.id u)) (upload-kept part before e own.kind)
+    ∙ none-holds _ _ _ _ _ _ _ (ends-kind part e.kept e.kept.kind own.kind) (is-behind part before e.id given.0 given.1 (before-below before after e n part can.sound can.all))
+    (fits-kept n e.kept.declared (offset_of e.kept) own.within own.size)
+    (parts-kept part before (e ∷ after) e.kept e.kept.kind can.all own.kind)
+    (not-le _ _ few)
+    (at-most _ _ can.unspent)
+    (at-most _ _ (omega (arith, less, can.paid)))
+  where
+    not-le : (most k : ℕ) → k < most → leb most k ≡ false
+    not-le most k less = grind (arith, nat_tests)
+
+    at-most : (most k : ℕ) → k ≤ most → ltb most k ≡ false
+    at-most most k less = grind (arith, nat_tests)
+
+-- and stands there then
+pub part-with : (n : Numbers) (part : TenantBook) (before after : List (Entry Upload)) (e : Entry Upload) (charged : ℕ) → IsNextBack n part before after e charged
+    → part_with (front part before) (upload_kept before e) (sent_back (sent_in before) (upload_kept before e).segments) ≡ front part (before ++ e ∷ [])
+part-with n part before after e charged can =
+    let own : IsUploadOf n part e.kept = entry-in n part before after e can.all (λ e. IsUploadOf n part e.kept) can.sound.uploads in
+    ap (part_with (front part before) (upload_kept before e)) (sent-back n part before after e can.sound can.all)
+    ∙ ap (with_back (front part before) e.id) (upload-kept part before e own.kind)

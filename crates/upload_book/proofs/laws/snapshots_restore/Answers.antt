@@ -1,0 +1,5 @@
+use Rattle.upload_book.proofs.Restore.BooksBack.{snapshots_restore}
+use Rattle.upload_book.proofs.laws.snapshots_restore.Goals as goal
+
+pub returns : goal.returns
+returns c = snapshots_restore
