@@ -1,4 +1,5 @@
 -- That a book is put back by its snapshot.
 pub mod SegmentsBack
 pub mod UploadsBack
+pub mod LawfulBack
 pub mod BooksBack

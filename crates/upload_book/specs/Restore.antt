@@ -1,5 +1,5 @@
 -- How a book is put back from a snapshot of it, piece by piece: what a piece is, when it is accepted, and the book after it.
-use Rattle.std.specs.Prelude.{ℕ, ◌+◌, ◌-◌, Bool, true, false, not, ◌&&◌, ◌||◌, List, [], ◌∷◌, ◌++◌, flat_map, length, map, zip, nat_lt, nat_le, ◌==◌, Option, Some, None, is_some, option_and_then, option_map, unwrap_or, if◌then◌else◌}
+use Rattle.std.specs.Prelude.{◌≡◌, ℕ, ◌+◌, ◌-◌, ◌<◌, ◌≤◌, Bool, true, false, not, ◌&&◌, ◌||◌, List, [], ◌∷◌, ◌++◌, flat_map, length, map, zip, nat_lt, nat_le, ◌==◌, Option, Some, None, is_some, option_and_then, option_map, unwrap_or, IsTrue, All, if◌then◌else◌, ⊤}
 use Rattle.std.specs.List.{list_all}
 use Rattle.std.specs.Option.{option_map_or}
 use Rattle.upload_book.specs.Append.{is_too_long}
@@ -8,15 +8,36 @@ use Rattle.upload_book.specs.Concat.{is_partial}
 use Rattle.upload_book.specs.declared.head_row.Kind.{Kind}
 use Rattle.upload_book.specs.declared.head_row.Kind.TheVariants.{Plain, Partial, Final}
 use Rattle.upload_book.specs.declared.refusal.Refusal.{Refusal}
-use Rattle.upload_book.specs.declared.refusal.Refusal.TheVariants.{Field, Unknown, TooLong, Part, PartOpen, Uploads, Spent, Quota}
+use Rattle.upload_book.specs.declared.refusal.Refusal.TheVariants.{Field, TooLong, Part, PartOpen, Uploads, Spent, Quota}
 use Rattle.upload_book.specs.declared.settings.Numbers.{Numbers}
+use Rattle.upload_book.specs.Lawful.{IsConcatText, is_kept_metadata}
 use Rattle.upload_book.specs.PlainBook.{PlainBook, tenant_book, with_tenant_book}
 use Rattle.upload_book.specs.Refusal.{first_that_holds}
 use Rattle.upload_book.specs.Restored as piece
 use Rattle.upload_book.specs.Restored.{Restored, RestoredSegment, RestoredUpload}
 use Rattle.upload_book.specs.Stored.{parts_of}
-use Rattle.upload_book.specs.TenantBook.{Entry, TenantBook, is_given, kept_in}
+use Rattle.upload_book.specs.TenantBook.{Entry, TenantBook, kept_in, with_new}
 use Rattle.upload_book.specs.Upload.{Upload, is_complete, offset_of}
+
+-- the segments of an upload that is put back: one of its own brings its bytes, and a final one is of 1 to 32 parts, which are
+-- earlier
+abbrev pub HasSegments : Kind → ℕ → List RestoredSegment → Type 0
+HasSegments Plain id segments = (bytes : List ℕ) × (segments ≡ record { origin = id; bytes = Some bytes } ∷ [])
+HasSegments Partial id segments = (bytes : List ℕ) × (segments ≡ record { origin = id; bytes = Some bytes } ∷ [])
+HasSegments Final id segments =
+    (0 < length segments) × (length segments ≤ 32) × All (λ (s : RestoredSegment). (0 < s.origin) × (s.origin < id)) segments
+
+-- an upload that is put back has the segments of its kind, and texts of their forms
+pub record IsRestorable (r : RestoredUpload) : Type 0 where
+  pub segments : HasSegments r.kind r.id r.segments
+  pub metadata : IsTrue (is_kept_metadata r.metadata)
+  pub concat : IsConcatText r.kind r.concat
+
+-- the book of so many tenants may be asked to put it back
+abbrev pub CanBePutBack : ℕ → Restored → Type 0
+CanBePutBack tenants (piece.Upload tenant r) = (tenant < tenants) × IsRestorable r
+CanBePutBack tenants (piece.Next tenant next) = tenant < tenants
+CanBePutBack tenants (piece.Totals charged released) = ⊤
 
 -- the segments of an upload, each with its origin
 abbrev pub sent_of : Entry Upload → List (ℕ × List ℕ)
@@ -59,9 +80,13 @@ upload_back r sent = record {
   expires = r.expires;
 }
 
--- a part with an upload under this id behind the others
+-- A part whose next id is this one. The ids between were given, and nothing stands under them.
+abbrev pub with_next : TenantBook → ℕ → TenantBook
+with_next part id = record part { next = id }
+
+-- a part with an upload put back under an id, which was not given before
 abbrev pub with_back : TenantBook → ℕ → Upload → TenantBook
-with_back part id u = record part { uploads = part.uploads ++ record { id = id; kept = u } ∷ [] }
+with_back part id u = with_new (with_next part id) u
 
 -- whether an upload ends as its kind asks: one of its own until it is complete, a partial one always, and a final one, which
 -- is complete, never
@@ -71,24 +96,20 @@ ends_rightly Plain false expires = is_some expires
 ends_rightly Partial complete expires = is_some expires
 ends_rightly Final complete expires = complete && not (is_some expires)
 
--- the id was given, and to none of these uploads, which are all earlier
-abbrev pub is_behind : TenantBook → ℕ → Bool
-is_behind part id = is_given part id && list_all (λ (e : Entry Upload). nat_lt e.id id) part.uploads
-
 -- what stands under the id of a part of a final upload, if anything does, is a partial upload with all of its bytes
 abbrev pub may_be_part : TenantBook → ℕ → Bool
 may_be_part part id = option_map_or (λ (u : Upload). is_partial u.kind && is_complete u) (kept_in part.uploads id) true
 
--- the tests of an upload that is put back under an id, where so many blocks were charged so far
+-- The tests of an upload that is put back under an id, where so many blocks were charged so far: the id was not given
+-- before, the upload is as its kind asks, and its tenant may have it and pays for it.
 abbrev pub restore_tests : Numbers → ℕ → TenantBook → ℕ → Upload → List (Bool × Refusal)
 restore_tests n charged part id u =
     let after = charge_in n (with_back part id u) in
-    (not (ends_rightly u.kind (is_complete u) u.expires), Field)
-    ∷ (not (is_behind part id), Unknown)
+    (nat_lt id part.next || not (ends_rightly u.kind (is_complete u) u.expires), Field)
     ∷ (is_too_long n (unwrap_or u.declared n.max_size) (offset_of u), TooLong)
     ∷ (not (list_all (may_be_part part) u.parts), PartOpen)
     ∷ (nat_le n.uploads (length part.uploads), Uploads)
-    ∷ (nat_lt n.last_total (charged + (after - charge_in n part)), Spent)
+    ∷ (nat_lt n.last_id id || nat_lt n.last_total (charged + (after - charge_in n part)), Spent)
     ∷ (nat_lt part.quota after, Quota)
     ∷ []
 
@@ -107,10 +128,9 @@ abbrev pub part_with : TenantBook → RestoredUpload → Option (List (ℕ × Li
 part_with part r None = part
 part_with part r (Some sent) = with_back part r.id (upload_back r sent)
 
--- the tests of a tenant's next id: it has no upload, and no id is given again
+-- the tests of a tenant's next id: no id is given again, and there are so many
 abbrev pub next_tests : Numbers → TenantBook → ℕ → List (Bool × Refusal)
-next_tests n part next =
-    (nat_lt 0 (length part.uploads) || nat_lt next part.next, Field) ∷ (nat_lt (n.last_id + 1) next, Spent) ∷ []
+next_tests n part next = (nat_lt next part.next, Field) ∷ (nat_lt (n.last_id + 1) next, Spent) ∷ []
 
 -- the tests of the totals: what the tenants pay stays their difference, and neither falls
 abbrev pub totals_tests : PlainBook → ℕ → ℕ → List (Bool × Refusal)
@@ -121,16 +141,16 @@ totals_tests b charged released =
 
 -- why a piece is not put back, if it is not
 abbrev pub piece_refusal : PlainBook → Restored → Option Refusal
-piece_refusal b (piece.Next tenant next) = first_that_holds (next_tests b.settings.numbers (tenant_book b tenant) next)
 piece_refusal b (piece.Upload tenant r) = restore_refusal b.settings.numbers b.charged (tenant_book b tenant) r
+piece_refusal b (piece.Next tenant next) = first_that_holds (next_tests b.settings.numbers (tenant_book b tenant) next)
 piece_refusal b (piece.Totals charged released) = first_that_holds (totals_tests b charged released)
 
 -- the book with a piece put back that is not refused
 abbrev pub book_with : PlainBook → Restored → PlainBook
-book_with b (piece.Next tenant next) = with_tenant_book b tenant (record (tenant_book b tenant) { next = next })
 book_with b (piece.Upload tenant r) =
     let part = tenant_book b tenant in
     with_tenant_book b tenant (part_with part r (sent_back (sent_in part.uploads) r.segments))
+book_with b (piece.Next tenant next) = with_tenant_book b tenant (with_next (tenant_book b tenant) next)
 book_with b (piece.Totals charged released) = record b { charged = charged; released = released }
 
 -- the book after a piece; one that is refused leaves it as it was

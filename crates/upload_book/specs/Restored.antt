@@ -18,9 +18,9 @@ pub record RestoredUpload : Type 0 where
   pub concat : List ℕ
   pub expires : Option ℕ
 
--- The id that the next upload of the tenant at a place gets, an upload of the tenant at a place, behind its others, or how
--- many blocks were charged and released so far.
+-- An upload of the tenant at a place, the id that the next upload of the tenant at a place gets, or how many blocks were
+-- charged and released so far.
 pub data Restored : Type 0 where
-  Next : ℕ → ℕ → Restored
   Upload : ℕ → RestoredUpload → Restored
+  Next : ℕ → ℕ → Restored
   Totals : ℕ → ℕ → Restored

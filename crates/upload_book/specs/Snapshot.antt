@@ -1,8 +1,8 @@
 -- A snapshot of a book: the pieces by which it is put back.
-use Rattle.std.specs.Prelude.{◌≡◌, ℕ, ◌+◌, List, [], ◌∷◌, ◌++◌, Some, None, is_some, if◌then◌else◌, ⊤}
+use Rattle.std.specs.Prelude.{◌≡◌, ℕ, ◌+◌, List, [], ◌∷◌, ◌++◌, length, Some, None, is_some, if◌then◌else◌, ⊤}
 use Rattle.upload_book.specs.Lawful.{IsLawful}
 use Rattle.upload_book.specs.PlainBook.{PlainBook, opening_book}
-use Rattle.upload_book.specs.Restore.{book_after_piece, bytes_from, piece_refusal, sent_in, sent_of}
+use Rattle.upload_book.specs.Restore.{CanBePutBack, book_after_piece, bytes_from, piece_refusal, sent_in, sent_of}
 use Rattle.upload_book.specs.Restored as piece
 use Rattle.upload_book.specs.Restored.{Restored, RestoredSegment, RestoredUpload}
 use Rattle.upload_book.specs.TenantBook.{Entry, TenantBook}
@@ -32,11 +32,11 @@ abbrev pub uploads_kept : ℕ → List (Entry Upload) → List (Entry Upload) �
 uploads_kept tenant before [] = []
 uploads_kept tenant before (e ∷ entries) = piece.Upload tenant (upload_kept before e) ∷ uploads_kept tenant (before ++ e ∷ []) entries
 
--- the parts of the tenants from a place on: of each its next id, and then its uploads
+-- the parts of the tenants from a place on: of each its uploads, and then its next id
 abbrev pub parts_kept : ℕ → List TenantBook → List Restored
 parts_kept tenant [] = []
 parts_kept tenant (part ∷ parts) =
-    piece.Next tenant part.next ∷ (uploads_kept tenant [] part.uploads ++ parts_kept (tenant + 1) parts)
+    uploads_kept tenant [] part.uploads ++ piece.Next tenant part.next ∷ parts_kept (tenant + 1) parts
 
 -- the snapshot of a book: the parts of all tenants, and then the totals
 abbrev pub snapshot_of : PlainBook → List Restored
@@ -47,12 +47,15 @@ abbrev pub book_after_pieces : PlainBook → List Restored → PlainBook
 book_after_pieces b [] = b
 book_after_pieces b (first ∷ others) = book_after_pieces (book_after_piece b first) others
 
--- each piece is accepted by the book after those before it
+-- the book after those before it may be asked to put each piece back, and accepts it
 abbrev pub AreAccepted : PlainBook → List Restored → Type 0
 AreAccepted b [] = ⊤
-AreAccepted b (first ∷ others) = (piece_refusal b first ≡ None) × AreAccepted (book_after_piece b first) others
+AreAccepted b (first ∷ others) =
+    CanBePutBack (length b.tenants) first × (piece_refusal b first ≡ None) × AreAccepted (book_after_piece b first) others
 
 -- The snapshot of a lawful book puts it back: the opening book accepts each of its pieces, and is that book after them.
+-- Whatever is put back, a lawful book stays lawful.
 pub record SnapshotsRestore : Type 0 where
+  pub lawful : (b : PlainBook) (restored : Restored) → IsLawful b → CanBePutBack (length b.tenants) restored → IsLawful (book_after_piece b restored)
   pub accepted : (b : PlainBook) → IsLawful b → AreAccepted (opening_book b.settings) (snapshot_of b)
   pub restored : (b : PlainBook) → IsLawful b → book_after_pieces (opening_book b.settings) (snapshot_of b) ≡ b

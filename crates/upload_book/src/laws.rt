@@ -41,8 +41,8 @@ pub fn finals_stay()
     ensures { FinalsStay }
 {}
 
-/// A book is put back by its snapshot: the book at the start accepts each of its pieces, one after another, and is that book
-/// after them.
+/// A lawful book is put back by its snapshot: the book at the start accepts each of its pieces, one after another, and is
+/// that book after them. Whatever is put back, a lawful book stays lawful.
 pub fn snapshots_restore()
     ensures { SnapshotsRestore }
 {}

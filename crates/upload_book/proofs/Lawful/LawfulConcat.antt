@@ -70,7 +70,7 @@ pub IsFound-parts : (part : TenantBook) (now : ℕ) (named : List (Option ℕ)) 
 IsFound-parts part now named =
     All-filter_map (IsFound part) (part_named (λ (u : Upload). u.kind) (λ (u : Upload). u.expires) part now) named (found-named part now)
 
-complete-from_test : (u : Upload) → is_complete u ≡ true → IsComplete u
+pub complete-from_test : (u : Upload) → is_complete u ≡ true → IsComplete u
 complete-from_test u test = elim (complete_tells u) [
   | inl complete ↦ complete.1
   | inr open' ↦ absurd (true≢false (sym test ∙ open'.0))

@@ -3,7 +3,7 @@ use Rattle.std.proofs.Common.{◌≡◌, ℕ, ◌+◌, ◌-◌, ◌<◌, ◌≤�
 use Rattle.std.specs.List.{All, sum_by}
 use Rattle.std.proofs.lemmas.Bool.Decides.{nat_tests}
 use Rattle.std.proofs.lemmas.List.{append-nil, get_or_at, set_at}
-use Rattle.std.proofs.lemmas.List.Elements.{All-head, All-tail}
+use Rattle.std.proofs.lemmas.List.Elements.{All-head, All-nil, All-tail}
 use Rattle.std.proofs.lemmas.List.Sums.{sum_by-cons}
 use Rattle.upload_book.specs.Charge.{charge_in, price}
 use Rattle.upload_book.specs.declared.settings.Numbers.{Numbers}
@@ -12,7 +12,7 @@ use Rattle.upload_book.specs.Lawful.{IsLawful, IsTenantOf}
 use Rattle.upload_book.specs.PlainBook.{PlainBook, opening_book, tenant_book, with_tenant_book}
 use Rattle.upload_book.specs.declared.refusal.Refusal.TheVariants.{Field, Spent}
 use Rattle.upload_book.specs.Refusal.{first_that_holds}
-use Rattle.upload_book.specs.Restore.{book_after_piece, book_with, part_with, piece_refusal, restore_refusal, sent_back, sent_in}
+use Rattle.upload_book.specs.Restore.{CanBePutBack, book_after_piece, book_with, next_tests, part_with, piece_refusal, restore_refusal, sent_back, sent_in}
 use Rattle.upload_book.specs.Restored as piece
 use Rattle.upload_book.specs.Restored.{Restored}
 use Rattle.upload_book.specs.Settings.{Settings}
@@ -21,7 +21,9 @@ use Rattle.upload_book.specs.TenantBook.{Entry, TenantBook, opening_part}
 use Rattle.upload_book.specs.Upload.{Upload}
 use Rattle.upload_book.proofs.Charge.SumsBelow.{sum_below-none}
 use Rattle.upload_book.proofs.Lawful.LawfulSteps.{opening_parts}
-use Rattle.upload_book.proofs.Restore.UploadsBack.{IsNextBack, charge-front, front, part-with, restore-kept}
+use Rattle.upload_book.proofs.Restore.LawfulBack.{IsLawful-piece}
+use Rattle.upload_book.proofs.Restore.SegmentsBack.{sources-below}
+use Rattle.upload_book.proofs.Restore.UploadsBack.{IsNextBack, asked-kept, charge-end, front, least-after, more-paid, next-below, part-with, restore-kept}
 
 -- a book accepts these pieces, one after another, and is that one after them
 abbrev PutsBack : PlainBook → List Restored → PlainBook → Type 0
@@ -30,16 +32,16 @@ PutsBack b pieces after = AreAccepted b pieces × (book_after_pieces b pieces �
 after-accepted : (b : PlainBook) (first : Restored) → piece_refusal b first ≡ None → book_after_piece b first ≡ book_with b first
 after-accepted b first none = rw none refl
 
-PutsBack-cons : (b next after : PlainBook) (first : Restored) (others : List Restored) → piece_refusal b first ≡ None → book_with b first ≡ next → PutsBack next others after → PutsBack b (first ∷ others) after
-PutsBack-cons b next after first others none is rest =
+PutsBack-cons : (b next after : PlainBook) (first : Restored) (others : List Restored) → CanBePutBack (length b.tenants) first → piece_refusal b first ≡ None → book_with b first ≡ next → PutsBack next others after → PutsBack b (first ∷ others) after
+PutsBack-cons b next after first others asked none is rest =
     let step : book_after_piece b first ≡ next = after-accepted b first none ∙ is in
-    ((none, subst (λ b. AreAccepted b others) (sym step) rest.0), ap (λ b. book_after_pieces b others) step ∙ rest.1)
+    ((asked, none, subst (λ b. AreAccepted b others) (sym step) rest.0), ap (λ b. book_after_pieces b others) step ∙ rest.1)
 
 PutsBack-append : (b next after : PlainBook) (some others : List Restored) → PutsBack b some next → PutsBack next others after → PutsBack b (some ++ others) after
 PutsBack-append b next after [] others first rest = subst (λ b. PutsBack b others after) (sym first.1) rest
 PutsBack-append b next after (piece ∷ some) others first rest =
-    let more : PutsBack (book_after_piece b piece) (some ++ others) after = PutsBack-append (book_after_piece b piece) next after some others (first.0.1, first.1) rest in
-    ((first.0.0, more.0), more.1)
+    let more : PutsBack (book_after_piece b piece) (some ++ others) after = PutsBack-append (book_after_piece b piece) next after some others (first.0.2, first.1) rest in
+    ((first.0.0, first.0.1, more.0), more.1)
 
 -- a book with these parts in which so many blocks were charged, and none released
 abbrev book_of : Settings → List TenantBook → ℕ → PlainBook
@@ -67,105 +69,90 @@ with-part s done rest before later charged t place more =
     one : (a b : List TenantBook) (c d e f : ℕ) → a ≡ b → c ≡ d → e ≡ f → book_at s a c e ≡ book_at s b d f
     one a b c d e f ab cd ef = rw (ab, cd, ef) refl
 
--- the same where it pays as much
-with-part-same : (s : Settings) (done rest : List TenantBook) (before later : TenantBook) (charged t : ℕ) → length done ≡ t → charge_in s.numbers before ≡ 0 → charge_in s.numbers later ≡ 0
-    → with_tenant_book (book_of s (done ++ before ∷ rest) charged) t later ≡ book_of s (done ++ later ∷ rest) charged
-with-part-same s done rest before later charged t place none_before none_later =
-    with-part s done rest before later charged t place (omega arith) ∙ ap (book_of s (done ++ later ∷ rest)) (same _ _ _ none_before none_later)
-  where
-    same : (charged before later : ℕ) → before ≡ 0 → later ≡ 0 → charged + (later - before) ≡ charged
-    same charged before later none none_later = omega arith
-
 -- a part without uploads pays nothing
 charge-none : (n : Numbers) (part : TenantBook) → part.uploads ≡ [] → charge_in n part ≡ 0
 charge-none n part none = ap (λ l. charge_in n (record part { uploads = l })) none ∙ sum_below-none part.next (price n.block_size []) (λ origin less. refl)
 
--- the first uploads of a tenant cost no more than with one more
-front-more : (n : Numbers) (part : TenantBook) (before : List (Entry Upload)) (e : Entry Upload) → charge_in n (front part before) ≤ charge_in n (front part (before ++ e ∷ []))
-front-more n part before e = charge-front n (front part (before ++ e ∷ [])) before (e ∷ []) refl
-
 -- ---- the pieces of a tenant
 
--- a tenant's next id is put back,
-next-back : (s : Settings) (done rest : List TenantBook) (part : TenantBook) (charged t : ℕ) → length done ≡ t → IsTenantOf s.numbers part
-    → piece_refusal (book_of s (done ++ opening_part part.quota ∷ rest) charged) (piece.Next t part.next) ≡ None
-next-back s done rest part charged t place sound =
-    let here = get_or_at done (opening_part {K = Upload} part.quota) rest (opening_part 0) t place in
-    rw here (neither _ _ (given part.next sound.first) (unspent part.next s.numbers.last_id sound.last))
-  where
-    neither : (a b : Bool) → a ≡ false → b ≡ false → first_that_holds ((a, Field) ∷ (b, Spent) ∷ []) ≡ None
-    neither a b first second = rw (first, second) refl
-
-    given : (next : ℕ) → 0 < next → ltb next 1 ≡ false
-    given next first = grind (arith, nat_tests)
-
-    unspent : (next last : ℕ) → next ≤ last + 1 → ltb (last + 1) next ≡ false
-    unspent next last fits = grind (arith, nat_tests)
-
--- and stands in its part then
-next-with : (s : Settings) (done rest : List TenantBook) (part : TenantBook) (charged t : ℕ) → length done ≡ t
-    → book_with (book_of s (done ++ opening_part part.quota ∷ rest) charged) (piece.Next t part.next) ≡ book_of s (done ++ front part [] ∷ rest) charged
-next-with s done rest part charged t place =
-    let opening : TenantBook = opening_part part.quota in
-    let b : PlainBook = book_of s (done ++ opening ∷ rest) charged in
-    let here : tenant_book b t ≡ opening = get_or_at done opening rest (opening_part 0) t place in
-    ap (λ (before : TenantBook). with_tenant_book b t (record before { next = part.next })) here
-    ∙ with-part-same s done rest opening (front part []) charged t place (charge-none s.numbers opening refl) (charge-none s.numbers (front part []) refl)
+-- a tenant's place is there
+place-there : (done rest : List TenantBook) (part : TenantBook) (t : ℕ) → length done ≡ t → t < length (done ++ part ∷ rest)
+place-there done rest part t place = omega (arith, place, length-append done (part ∷ rest))
 
 -- what is charged for a tenant's first uploads, and for one more, is charged for these together
 charged-more : (base before later : ℕ) → before ≤ later → base + before + (later - before) ≡ base + later
 charged-more base before later less = omega arith
 
--- an upload is put back behind those before it
 module _ (s : Settings) (done rest : List TenantBook) (part : TenantBook) (base t : ℕ) (place : length done ≡ t) (sound : IsTenantOf s.numbers part) (paid : charge_in s.numbers part ≤ part.quota)
     (unspent : base + charge_in s.numbers part ≤ s.numbers.last_total) where
   -- the book where so many of the tenant's uploads are put back
-  abbrev up_to : List (Entry Upload) → PlainBook
-  up_to before = book_of s (done ++ front part before ∷ rest) (base + charge_in s.numbers (front part before))
+  abbrev up_to : ℕ → List (Entry Upload) → PlainBook
+  up_to next before = book_of s (done ++ front part next before ∷ rest) (base + charge_in s.numbers (front part next before))
 
-  is-next : (before after : List (Entry Upload)) (e : Entry Upload) → part.uploads ≡ before ++ e ∷ after → IsNextBack s.numbers part before after e (base + charge_in s.numbers (front part before))
-  is-next before after e is = record {
-    sound = sound;
-    all = is;
-    paid = paid;
-    unspent = within _ _ _ _ _ (front-more s.numbers part before e) (charge-front s.numbers part (before ++ e ∷ []) after (is ∙ sym (append_assoc before (e ∷ []) after))) unspent;
-  }
-    where
-      within : (base before later all most : ℕ) → before ≤ later → later ≤ all → base + all ≤ most → base + before + (later - before) ≤ most
-      within base before later all most less part fits = omega arith
+  is-here : (next : ℕ) (before : List (Entry Upload)) → tenant_book (up_to next before) t ≡ front part next before
+  is-here next before = get_or_at done (front part next before) rest (opening_part 0) t place
 
-  upload-back : (before after : List (Entry Upload)) (e : Entry Upload) → part.uploads ≡ before ++ e ∷ after → piece_refusal (up_to before) (piece.Upload t (upload_kept before e)) ≡ None
-  upload-back before after e is =
-      let here : tenant_book (up_to before) t ≡ front part before = get_or_at done (front part before) rest (opening_part 0) t place in
-      ap (λ (p : TenantBook). restore_refusal s.numbers (base + charge_in s.numbers (front part before)) p (upload_kept before e)) here
-      ∙ restore-kept s.numbers part before after e (base + charge_in s.numbers (front part before)) (is-next before after e is)
+  -- an upload is put back behind those before it
+  upload-back : (next : ℕ) (before after : List (Entry Upload)) (e : Entry Upload) → IsNextBack s.numbers part next before after e base → piece_refusal (up_to next before) (piece.Upload t (upload_kept before e)) ≡ None
+  upload-back next before after e can =
+      ap (λ (p : TenantBook). restore_refusal s.numbers (base + charge_in s.numbers (front part next before)) p (upload_kept before e)) (is-here next before)
+      ∙ restore-kept s.numbers part next before after e base can
 
-  upload-with : (before after : List (Entry Upload)) (e : Entry Upload) → part.uploads ≡ before ++ e ∷ after → book_with (up_to before) (piece.Upload t (upload_kept before e)) ≡ up_to (before ++ e ∷ [])
-  upload-with before after e is =
+  upload-with : (next : ℕ) (before after : List (Entry Upload)) (e : Entry Upload) → IsNextBack s.numbers part next before after e base → book_with (up_to next before) (piece.Upload t (upload_kept before e)) ≡ up_to (e.id + 1) (before ++ e ∷ [])
+  upload-with next before after e can =
       let r = upload_kept before e in
-      let here : tenant_book (up_to before) t ≡ front part before = get_or_at done (front part before) rest (opening_part 0) t place in
-      let later : TenantBook = front part (before ++ e ∷ []) in
-      ap (λ (p : TenantBook). with_tenant_book (up_to before) t (part_with p r (sent_back (sent_in p.uploads) r.segments))) here
-      ∙ ap (with_tenant_book (up_to before) t) (part-with s.numbers part before after e (base + charge_in s.numbers (front part before)) (is-next before after e is))
-      ∙ with-part s done rest (front part before) later (base + charge_in s.numbers (front part before)) t place (front-more s.numbers part before e)
-      ∙ ap (book_of s (done ++ later ∷ rest)) (charged-more base _ _ (front-more s.numbers part before e))
+      let later : TenantBook = front part (e.id + 1) (before ++ e ∷ []) in
+      let more = more-paid s.numbers part next before after e base can in
+      ap (λ (p : TenantBook). with_tenant_book (up_to next before) t (part_with p r (sent_back (sent_in p.uploads) r.segments))) (is-here next before)
+      ∙ ap (with_tenant_book (up_to next before) t) (part-with s.numbers part next before after e base can)
+      ∙ with-part s done rest (front part next before) later (base + charge_in s.numbers (front part next before)) t place more
+      ∙ ap (book_of s (done ++ later ∷ rest)) (charged-more base _ _ more)
 
-  -- and so are all that are left
-  uploads-back : (before after : List (Entry Upload)) → part.uploads ≡ before ++ after → PutsBack (up_to before) (uploads_kept t before after) (up_to part.uploads)
-  uploads-back before [] is = (tt, ap up_to (sym (append-nil before) ∙ sym is))
-  uploads-back before (e ∷ after) is =
-      PutsBack-cons (up_to before) (up_to (before ++ e ∷ [])) (up_to part.uploads) (piece.Upload t (upload_kept before e)) (uploads_kept t (before ++ e ∷ []) after)
-      (upload-back before after e is) (upload-with before after e is)
-      (uploads-back (before ++ e ∷ []) after (is ∙ sym (append_assoc before (e ∷ []) after)))
+  -- the next id is put back behind all, where it is none of those that were given
+  next-back : (next : ℕ) → next ≤ part.next → piece_refusal (up_to next part.uploads) (piece.Next t part.next) ≡ None
+  next-back next least =
+      ap (λ (p : TenantBook). first_that_holds (next_tests s.numbers p part.next)) (is-here next part.uploads)
+      ∙ neither _ _ (at-most _ _ least) (at-most _ _ sound.last)
+    where
+      neither : (a b : Bool) → a ≡ false → b ≡ false → first_that_holds ((a, Field) ∷ (b, Spent) ∷ []) ≡ None
+      neither a b first second = rw (first, second) refl
+
+      at-most : (most k : ℕ) → k ≤ most → ltb most k ≡ false
+      at-most most k less = grind (arith, nat_tests)
+
+  next-with : (next : ℕ) → charge_in s.numbers (front part next part.uploads) ≡ charge_in s.numbers part → book_with (up_to next part.uploads) (piece.Next t part.next) ≡ book_of s (done ++ part ∷ rest) (base + charge_in s.numbers part)
+  next-with next same =
+      ap (λ (before : TenantBook). with_tenant_book (up_to next part.uploads) t (record before { next = part.next })) (is-here next part.uploads)
+      ∙ with-part s done rest (front part next part.uploads) part (base + charge_in s.numbers (front part next part.uploads)) t place (omega (arith, same))
+      ∙ ap (book_of s (done ++ part ∷ rest)) (charged-more base _ _ (omega (arith, same)))
+
+  -- all uploads that are left are put back, and then the next id
+  uploads-back : (next : ℕ) (before after : List (Entry Upload)) (others : List Restored) (end : PlainBook) → part.uploads ≡ before ++ after → All (λ (a : Entry Upload). a.id < next) before
+      → ((id : ℕ) → 0 < id → All (λ (a : Entry Upload). a.id < id) before → next ≤ id)
+      → PutsBack (book_of s (done ++ part ∷ rest) (base + charge_in s.numbers part)) others end
+      → PutsBack (up_to next before) (uploads_kept t before after ++ piece.Next t part.next ∷ others) end
+  uploads-back next before [] others end is below least rest-back =
+      let all : before ≡ part.uploads = sym (append-nil before) ∙ sym is in
+      let given : All (λ (a : Entry Upload). a.id < part.next) part.uploads = λ k d within. (sound.given k d within).1 in
+      let next-fits : next ≤ part.next = least part.next sound.first (subst (All (λ (a : Entry Upload). a.id < part.next)) (sym all) given) in
+      let same : charge_in s.numbers (front part next part.uploads) ≡ charge_in s.numbers part =
+      charge-end s.numbers part next part.next next-fits (sources-below part.uploads next (subst (All (λ (a : Entry Upload). a.id < next)) all below) sound.later) in
+      subst (λ (uploads : List (Entry Upload)). PutsBack (up_to next uploads) (piece.Next t part.next ∷ others) end) (sym all)
+      (PutsBack-cons (up_to next part.uploads) (book_of s (done ++ part ∷ rest) (base + charge_in s.numbers part)) end (piece.Next t part.next) others
+      (place-there done rest (front part next part.uploads) t place) (next-back next next-fits) (next-with next same) rest-back)
+  uploads-back next before (e ∷ after) others end is below least rest-back =
+      let can : IsNextBack s.numbers part next before after e base = record { sound = sound; all = is; below = below; least = least; paid = paid; unspent = unspent } in
+      PutsBack-cons (up_to next before) (up_to (e.id + 1) (before ++ e ∷ [])) end (piece.Upload t (upload_kept before e)) (uploads_kept t (before ++ e ∷ []) after ++ piece.Next t part.next ∷ others)
+      (place-there done rest (front part next before) t place, asked-kept s.numbers part next before after e base can)
+      (upload-back next before after e can) (upload-with next before after e can)
+      (uploads-back (e.id + 1) (before ++ e ∷ []) after others end (is ∙ sym (append_assoc before (e ∷ []) after)) (next-below s.numbers part next before after e base can) (least-after s.numbers part next before after e base can) rest-back)
 
   -- a tenant's part is put back
-  part-back : (others : List Restored) (after : PlainBook) → PutsBack (book_of s (done ++ part ∷ rest) (base + charge_in s.numbers part)) others after
-      → PutsBack (book_of s (done ++ opening_part part.quota ∷ rest) base) (piece.Next t part.next ∷ (uploads_kept t [] part.uploads ++ others)) after
-  part-back others after rest-back =
-      PutsBack-cons _ (book_of s (done ++ front part [] ∷ rest) base) after (piece.Next t part.next) (uploads_kept t [] part.uploads ++ others)
-      (next-back s done rest part base t place sound) (next-with s done rest part base t place)
-      (PutsBack-append (book_of s (done ++ front part [] ∷ rest) base) (up_to part.uploads) after (uploads_kept t [] part.uploads) others
-      (subst (λ (k : ℕ). PutsBack (book_of s (done ++ front part [] ∷ rest) k) (uploads_kept t [] part.uploads) (up_to part.uploads)) (nothing _ _ (charge-none s.numbers (front part []) refl)) (uploads-back [] part.uploads refl)) rest-back)
+  part-back : (others : List Restored) (end : PlainBook) → PutsBack (book_of s (done ++ part ∷ rest) (base + charge_in s.numbers part)) others end
+      → PutsBack (book_of s (done ++ opening_part part.quota ∷ rest) base) (uploads_kept t [] part.uploads ++ piece.Next t part.next ∷ others) end
+  part-back others end rest-back =
+      subst (λ (k : ℕ). PutsBack (book_of s (done ++ front part 1 [] ∷ rest) k) (uploads_kept t [] part.uploads ++ piece.Next t part.next ∷ others) end) (nothing _ _ (charge-none s.numbers (front part 1 []) refl))
+      (uploads-back 1 [] part.uploads others end refl (All-nil (λ (a : Entry Upload). a.id < 1)) (λ id some below. omega arith) rest-back)
     where
       nothing : (base k : ℕ) → k ≡ 0 → base + k ≡ base
       nothing base k none = omega arith
@@ -200,7 +187,7 @@ totals-back : (s : Settings) (tenants : List TenantBook) (charged released paid 
     → PutsBack (book_of s tenants paid) (piece.Totals charged released ∷ []) (record { settings = s; tenants = tenants; charged = charged; released = released })
 totals-back s tenants charged released paid is last =
     PutsBack-cons (book_of s tenants paid) (record { settings = s; tenants = tenants; charged = charged; released = released }) _ (piece.Totals charged released) []
-    (neither _ _ _ (same charged released paid is) (more charged released paid is) (few charged s.numbers.last_total last)) refl (tt, refl)
+    tt (neither _ _ _ (same charged released paid is) (more charged released paid is) (few charged s.numbers.last_total last)) refl (tt, refl)
   where
     neither : (a b c : Bool) → a ≡ true → b ≡ false → c ≡ false → first_that_holds ((not a || b, Field) ∷ (c, Spent) ∷ []) ≡ None
     neither a b c first second third = rw (first, second, third) refl
@@ -223,6 +210,7 @@ book-back b lawful =
 
 pub snapshots_restore : SnapshotsRestore
 snapshots_restore = record {
+  lawful = IsLawful-piece;
   accepted = λ b lawful. (book-back b lawful).0;
   restored = λ b lawful. (book-back b lawful).1;
 }

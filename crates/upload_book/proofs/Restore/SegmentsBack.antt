@@ -3,18 +3,20 @@ use Rattle.std.proofs.Common.{◌≡◌, ◌⊎◌, ℕ, zero, suc, ◌<◌, con
 use Rattle.std.specs.List.{All, Contains, flat_map, zip}
 use Rattle.std.proofs.lemmas.Bool.Decides.{eqb_tells}
 use Rattle.std.proofs.lemmas.List.{append-nil}
-use Rattle.std.proofs.lemmas.List.Elements.{All-cons, All-contains, All-nil, Contains-append_left, Contains-append_right, Contains-get_or}
-use Rattle.upload_book.specs.Charge.{origins}
+use Rattle.std.proofs.lemmas.List.Elements.{All-cons, All-contains, All-head, All-nil, All-tail, All-weaker, Contains-append_left, Contains-append_right, Contains-get_or}
+use Rattle.std.proofs.lemmas.Slice.Zip.{length-zip}
+use Rattle.upload_book.specs.Charge.{Source, origins, sources_of}
 use Rattle.upload_book.specs.declared.head_row.Kind.{Kind}
 use Rattle.upload_book.specs.declared.head_row.Kind.TheVariants.{Plain, Partial, Final}
 use Rattle.upload_book.specs.declared.settings.Numbers.{Numbers}
 use Rattle.upload_book.specs.Lawful.{IsOfKind, IsSegmentOf, IsTenantOf, joined_in}
-use Rattle.upload_book.specs.Restore.{bytes_back, bytes_from, sent_back, sent_in, sent_of}
+use Rattle.upload_book.specs.Restore.{HasSegments, bytes_back, bytes_from, sent_back, sent_in, sent_of}
+use Rattle.upload_book.specs.Restored.{RestoredSegment}
 use Rattle.upload_book.specs.Snapshot.{segments_kept}
 use Rattle.upload_book.specs.TenantBook.{Entry, TenantBook, kept_in}
 use Rattle.upload_book.specs.Upload.{Upload, content_of}
 use Rattle.upload_book.proofs.Charge.InUse.{Contains-first, Contains-later}
-use Rattle.upload_book.proofs.Charge.PriceLemmas.{All-flat_map}
+use Rattle.upload_book.proofs.Charge.PriceLemmas.{All-flat_map, All-zip_left, sources-All}
 use Rattle.upload_book.proofs.Lawful.Entries.{kept_in-place}
 use Rattle.upload_book.proofs.Lawful.SharedLemmas.{joined_of, joined-stand}
 
@@ -57,18 +59,78 @@ sent_back-kept standing (s ∷ sent) same =
     found (Some bytes) there =
         same (s.0, bytes) s (Contains-append_left standing (s ∷ sent) (s.0, bytes) there) (Contains-append_right standing (s ∷ sent) s (Contains-first s sent)) refl
 
--- What is known of a segment of a tenant's upload: it is that of the upload that stands under its origin, or none stands
--- there, and it is one of a final upload.
-abbrev IsSent : TenantBook → Segment → Type 0
-IsSent part s =
-    ((u : Upload) × (kept_in part.uploads s.0 ≡ Some u) × (content_of u ≡ s.1)) ⊎ ((kept_in part.uploads s.0 ≡ None) × Contains (joined_in part.uploads) s)
+-- ---- what is put back of an upload has the segments of its kind
 
-own-segment : (u : Upload) → length u.segments ≡ 1 → (id : ℕ) → zip (id ∷ []) u.segments ≡ (id, content_of u) ∷ []
+-- an upload that is not final has its bytes as its one segment
+pub own-segment : (u : Upload) → length u.segments ≡ 1 → (id : ℕ) → zip (id ∷ []) u.segments ≡ (id, content_of u) ∷ []
 own-segment u one id = by u.segments one where
   by : (segments : List (List ℕ)) → length segments ≡ 1 → zip (id ∷ []) segments ≡ (id, flat_map (λ segment. segment) segments) ∷ []
   by [] none = absurd (omega arith)
   by (s ∷ t ∷ segments) more = absurd (omega arith)
   by (s ∷ []) one = ap (λ bytes. (id, bytes) ∷ []) (sym (append-nil s))
+
+-- what holds of the origins of segments holds of those that are put back
+kept-All : (P : ℕ → Type 0) (standing sent : List Segment) → All (λ (s : Segment). P s.0) sent → All (λ (s : RestoredSegment). P s.origin) (segments_kept standing sent)
+kept-All P standing [] all = All-nil (λ (s : RestoredSegment). P s.origin)
+kept-All P standing (s ∷ sent) all =
+    All-cons (λ (s : RestoredSegment). P s.origin) _ _ (All-head (λ (s : Segment). P s.0) s sent all) (kept-All P (standing ++ s ∷ []) sent (All-tail (λ (s : Segment). P s.0) s sent all))
+
+kept-length : (standing sent : List Segment) → length (segments_kept standing sent) ≡ length sent
+kept-length standing [] = refl
+kept-length standing (s ∷ sent) = ap suc (kept-length (standing ++ s ∷ []) sent)
+
+-- where all origins are below an id, none stands of it
+bytes_from-none : (standing : List Segment) (id : ℕ) → All (λ (s : Segment). s.0 < id) standing → bytes_from standing id ≡ None
+bytes_from-none [] id below = refl
+bytes_from-none (s ∷ standing) id below = elim (eqb_tells s.0 id) [
+  | inl same ↦ absurd (let first : s.0 < id = All-head (λ (s : Segment). s.0 < id) s standing below in omega (arith, same.1))
+  | inr differs ↦ rw differs.0 (bytes_from-none standing id (All-tail (λ (s : Segment). s.0 < id) s standing below))
+]
+
+own-kept : (standing : List Segment) (id : ℕ) (bytes : List ℕ) → bytes_from standing id ≡ None → segments_kept standing ((id, bytes) ∷ []) ≡ record { origin = id; bytes = Some bytes } ∷ []
+own-kept standing id bytes none = rw none refl
+
+pub segments-kept : (part : TenantBook) (standing : List (ℕ × List ℕ)) (id : ℕ) (u : Upload) (kind : Kind) → IsOfKind part u kind → All (λ (s : ℕ × List ℕ). s.0 < id) standing → All (λ p. p < id) u.parts
+    → HasSegments kind id (segments_kept standing (zip (origins kind id u.parts) u.segments))
+segments-kept part standing id u Plain sound below older =
+    (content_of u, rw (own-segment u sound.0.segment id) (own-kept standing id (content_of u) (bytes_from-none standing id below)))
+segments-kept part standing id u Partial sound below older =
+    (content_of u, rw (own-segment u sound.0.segment id) (own-kept standing id (content_of u) (bytes_from-none standing id below)))
+segments-kept part standing id u Final sound below older =
+    let pairs : List Segment = zip u.parts u.segments in
+    let long : length pairs ≡ length u.parts = omega (arith, length-zip u.parts u.segments, sound.0.each) in (
+      omega (arith, kept-length standing pairs, long, sound.0.some),
+      omega (arith, kept-length standing pairs, long, sound.0.few),
+      kept-All (λ p. (0 < p) × (p < id)) standing pairs (All-zip_left (λ p. (0 < p) × (p < id)) u.parts u.segments (λ k d within. ((sound.0.given k d within).0, older k d within))),
+    )
+
+-- the origins of uploads below an end, of which each is later than its parts, are below it
+origins-below : (end : ℕ) (kind : Kind) (id : ℕ) (parts : List ℕ) → id < end → All (λ p. p < id) parts → All (λ o. o < end) (origins kind id parts)
+origins-below end Plain id parts own older = All-cons (λ o. o < end) id [] own (All-nil (λ o. o < end))
+origins-below end Partial id parts own older = All-cons (λ o. o < end) id [] own (All-nil (λ o. o < end))
+origins-below end Final id parts own older = All-weaker (λ p. p < id) (λ o. o < end) (λ p less. omega arith) parts older
+
+pub sent-below : (entries : List (Entry Upload)) (end : ℕ) → All (λ (e : Entry Upload). e.id < end) entries → All (λ (e : Entry Upload). All (λ p. p < e.id) e.kept.parts) entries → All (λ (s : ℕ × List ℕ). s.0 < end) (sent_in entries)
+sent-below entries end below older =
+    All-flat_map (λ (s : Segment). s.0 < end) sent_of entries (λ k d within.
+    let e : Entry Upload = get_or entries k d in
+    All-zip_left (λ o. o < end) (origins e.kept.kind e.id e.kept.parts) e.kept.segments (origins-below end e.kept.kind e.id e.kept.parts (below k d within) (older k d within)))
+
+-- so are those of the segments that are paid
+pub sources-below : (entries : List (Entry Upload)) (end : ℕ) → All (λ (e : Entry Upload). e.id < end) entries → All (λ (e : Entry Upload). All (λ p. p < e.id) e.kept.parts) entries → All (λ (s : Source). s.origin < end) (flat_map sources_of entries)
+sources-below entries end below older =
+    All-flat_map (λ (s : Source). s.origin < end) sources_of entries (λ k d within.
+    let e : Entry Upload = get_or entries k d in
+    let id : e.id < end = below k d within in
+    sources-All (λ o. o < end) e id (λ final. All-weaker (λ p. p < e.id) (λ o. o < end) (λ p less. omega arith) e.kept.parts (older k d within)))
+
+-- ---- the segments of a tenant
+
+-- What is known of a segment of a tenant's upload: it is that of the upload that stands under its origin, or none stands
+-- there, and it is one of a final upload.
+abbrev IsSent : TenantBook → Segment → Type 0
+IsSent part s =
+    ((u : Upload) × (kept_in part.uploads s.0 ≡ Some u) × (content_of u ≡ s.1)) ⊎ ((kept_in part.uploads s.0 ≡ None) × Contains (joined_in part.uploads) s)
 
 sent-kind : (part : TenantBook) (id : ℕ) (u : Upload) (kind : Kind) → kept_in part.uploads id ≡ Some u → IsOfKind part u kind
     → ((s : Segment) → Contains (zip u.parts u.segments) s → Contains (joined_in part.uploads) s)

@@ -1,37 +1,42 @@
 -- An upload of a lawful part is put back behind those before it.
-use Rattle.std.proofs.Common.{◌≡◌, ℕ, ◌+◌, ◌-◌, ◌<◌, ◌≤◌, max, Bool, true, false, ◌&&◌, ltb, leb, not, List, [], ◌∷◌, ◌++◌, map, length, get_or, Option, Some, None, IfSome, IsSome, is_some, unwrap_or, refl, inl, inr, sym, ap, ap₂, subst, ◌∙◌, arith, append_assoc, length-append}
+use Rattle.std.proofs.Common.{◌≡◌, ℕ, zero, suc, ◌+◌, ◌-◌, ◌<◌, ◌≤◌, max, Bool, true, false, ◌&&◌, ◌||◌, ltb, leb, not, List, [], ◌∷◌, ◌++◌, map, length, get_or, Option, Some, None, IfSome, IsSome, is_some, unwrap_or, refl, inl, inr, sym, ap, ap₂, subst, ◌∙◌, arith, append_assoc, length-append}
 use Rattle.std.specs.List.{All, Contains, flat_map, list_all, zip}
 use Rattle.std.specs.List.Sorted.{IsStrictlyIncreasing}
+use Rattle.std.proofs.lemmas.Bool.{cases_lt}
 use Rattle.std.proofs.lemmas.Bool.Decides.{nat_tests}
 use Rattle.std.proofs.lemmas.List.{get_or_append_left, get_or_at}
 use Rattle.std.proofs.lemmas.List.Concat.{flat_map-append}
-use Rattle.std.proofs.lemmas.List.Elements.{All-head, All-tail, Contains-append_left}
+use Rattle.std.proofs.lemmas.List.Elements.{All-contains, All-head, All-push, All-tail, All-weaker, Contains-append_left, Contains-push}
 use Rattle.std.proofs.lemmas.List.Kept.{AllPairs-from_increasing}
 use Rattle.std.proofs.lemmas.Slice.Zip.{length-zip, get_or-zip}
 use Rattle.std.proofs.Math.ListN.{get_or-map, length-map}
 use Rattle.upload_book.specs.Append.{is_too_long}
-use Rattle.upload_book.specs.Charge.{charge_in, origins, price, sources_of}
+use Rattle.upload_book.specs.Charge.{Source, charge_in, origins, price, sources_of, sum_below}
 use Rattle.upload_book.specs.Concat.{is_partial}
 use Rattle.upload_book.specs.declared.head_row.Kind.{Kind}
 use Rattle.upload_book.specs.declared.head_row.Kind.TheVariants.{Plain, Partial, Final}
-use Rattle.upload_book.specs.declared.refusal.Refusal.TheVariants.{Field, Unknown, TooLong, PartOpen, Uploads, Spent, Quota}
+use Rattle.upload_book.specs.declared.refusal.Refusal.TheVariants.{Field, TooLong, PartOpen, Uploads, Spent, Quota}
 use Rattle.upload_book.specs.declared.settings.Numbers.{Numbers}
 use Rattle.upload_book.specs.Lawful.{HasParts, IsOfKind, IsSegmentOf, IsTenantOf, IsUploadOf}
 use Rattle.upload_book.specs.Refusal.{first_that_holds}
-use Rattle.upload_book.specs.Restore.{ends_rightly, is_behind, may_be_part, part_with, refusal_with, restore_refusal, restore_tests, sent_back, sent_in, sent_of, upload_back, with_back}
+use Rattle.upload_book.specs.Restore.{IsRestorable, ends_rightly, may_be_part, part_with, refusal_with, restore_refusal, restore_tests, sent_back, sent_in, sent_of, upload_back, with_back}
 use Rattle.upload_book.specs.Snapshot.{segments_kept, upload_kept}
 use Rattle.upload_book.specs.Stored.{parts_of}
 use Rattle.upload_book.specs.TenantBook.{Entry, TenantBook, kept_in}
 use Rattle.upload_book.specs.Upload.{IsComplete, Upload, is_complete, offset_of}
-use Rattle.upload_book.proofs.Charge.PriceLemmas.{price-append, sum_below-le}
+use Rattle.upload_book.proofs.Charge.PriceLemmas.{price-append, price-none, sum_below-le}
 use Rattle.upload_book.proofs.Lawful.Entries.{ids_of}
 use Rattle.upload_book.proofs.Lawful.FinalLemmas.{kept-push}
 use Rattle.upload_book.proofs.Lawful.LawfulAppend.{complete_tells}
-use Rattle.upload_book.proofs.Restore.SegmentsBack.{sent-same, sent_back-kept}
+use Rattle.upload_book.proofs.Restore.SegmentsBack.{segments-kept, sent-below, sent-same, sent_back-kept, sources-below}
 
--- a tenant's part with the first of its uploads alone
-abbrev pub front : TenantBook → List (Entry Upload) → TenantBook
-front part before = record part { uploads = before }
+-- a tenant's part with the first of its uploads alone, and a next id
+abbrev pub front : TenantBook → ℕ → List (Entry Upload) → TenantBook
+front part next before = record part { uploads = before; next = next }
+
+-- what the first uploads of a part cost
+abbrev paid_for : Numbers → TenantBook → List (Entry Upload) → ℕ
+paid_for n part before = charge_in n (record part { uploads = before })
 
 -- ---- the upload is the one that was kept
 
@@ -95,16 +100,6 @@ before-below before after e n part sound is = λ k d within.
     let at : (i : ℕ) → get_or (ids_of all) i d.id ≡ (get_or all i d).id = λ i. get_or-map (λ (a : Entry Upload). a.id) all i d in
     omega (arith, AllPairs-from_increasing (ids_of all) ascending k (length before) d.id within (omega (arith, length-map all (λ (a : Entry Upload). a.id))), at k, at (length before), here, last)
 
-is-behind : (part : TenantBook) (before : List (Entry Upload)) (id : ℕ) → 0 < id → id < part.next → All (λ (a : Entry Upload). a.id < id) before → is_behind (front part before) id ≡ true
-is-behind part before id some given below =
-    both _ _ (given-test id part.next some given) (list_all-from (λ (a : Entry Upload). ltb a.id id) before (λ k d within. less _ _ (below k d within)))
-  where
-    less : (a b : ℕ) → a < b → ltb a b ≡ true
-    less a b below = grind (arith, nat_tests)
-
-    given-test : (id next : ℕ) → 0 < id → id < next → (ltb 0 id && ltb id next) ≡ true
-    given-test id next some given = grind (arith, nat_tests)
-
 fits-kept : (n : Numbers) (declared : Option ℕ) (offset : ℕ) → IfSome declared (λ most. (offset ≤ most) × (most ≤ n.max_size)) → offset ≤ n.max_size → is_too_long n (unwrap_or declared n.max_size) offset ≡ false
 fits-kept n None offset within size = grind (arith, nat_tests)
 fits-kept n (Some most) offset within size =
@@ -113,87 +108,159 @@ fits-kept n (Some most) offset within size =
     grind (arith, nat_tests)
 
 -- a part of a final upload may be one where fewer uploads stand
-part-kept : (part : TenantBook) (before after : List (Entry Upload)) (id : ℕ) (segment : List ℕ) → part.uploads ≡ before ++ after → IsSegmentOf part id segment → may_be_part (front part before) id ≡ true
-part-kept part before after id segment is sound = by (kept_in before id) refl where
-  by : (found : Option Upload) → kept_in before id ≡ found → may_be_part (front part before) id ≡ true
+part-kept : (part : TenantBook) (next : ℕ) (before after : List (Entry Upload)) (id : ℕ) (segment : List ℕ) → part.uploads ≡ before ++ after → IsSegmentOf part id segment → may_be_part (front part next before) id ≡ true
+part-kept part next before after id segment is sound = by (kept_in before id) refl where
+  by : (found : Option Upload) → kept_in before id ≡ found → may_be_part (front part next before) id ≡ true
   by None none = rw none refl
   by (Some u) there =
       let stands : kept_in part.uploads id ≡ Some u = ap (λ l. kept_in l id) is ∙ kept-push before after id u there in
       let seen = rw stands at sound in
       rw there (both _ _ (ap is_partial seen.0) (is-complete u seen.1))
 
-parts-kept : (part : TenantBook) (before after : List (Entry Upload)) (u : Upload) (kind : Kind) → part.uploads ≡ before ++ after → IsOfKind part u kind → list_all (may_be_part (front part before)) u.parts ≡ true
-parts-kept part before after u Plain is sound = rw sound.0.parts refl
-parts-kept part before after u Partial is sound = rw sound.0.parts refl
-parts-kept part before after u Final is sound = list_all-from (may_be_part (front part before)) u.parts (λ k d within.
+parts-kept : (part : TenantBook) (next : ℕ) (before after : List (Entry Upload)) (u : Upload) (kind : Kind) → part.uploads ≡ before ++ after → IsOfKind part u kind → list_all (may_be_part (front part next before)) u.parts ≡ true
+parts-kept part next before after u Plain is sound = rw sound.0.parts refl
+parts-kept part next before after u Partial is sound = rw sound.0.parts refl
+parts-kept part next before after u Final is sound = list_all-from (may_be_part (front part next before)) u.parts (λ k d within.
     let parts : HasParts part u = sound.0 in
     let Q : (ℕ × List ℕ) → Type 0 = λ (p : ℕ × List ℕ). IsSegmentOf part p.0 p.1 in
     let in_segments : k < length u.segments = omega (arith, parts.each) in
     let pair = get_or-zip u.parts u.segments k (d, []) within in_segments in
     let segment = subst Q pair (parts.same k (d, []) (omega (arith, length-zip u.parts u.segments))) in
-    part-kept part before after (get_or u.parts k d) (get_or u.segments k []) is segment)
+    part-kept part next before after (get_or u.parts k d) (get_or u.segments k []) is segment)
 
--- the first uploads of a tenant cost no more than all
-pub charge-front : (n : Numbers) (part : TenantBook) (before after : List (Entry Upload)) → part.uploads ≡ before ++ after → charge_in n (front part before) ≤ charge_in n part
-charge-front n part before after is =
-    sum_below-le part.next (price n.block_size (flat_map sources_of before)) (price n.block_size (flat_map sources_of part.uploads)) (λ origin l.
-    let all : price n.block_size (flat_map sources_of part.uploads) origin ≡ max (price n.block_size (flat_map sources_of before) origin) (price n.block_size (flat_map sources_of after) origin) =
-    ap (λ l. price n.block_size (flat_map sources_of l) origin) is ∙ ap (λ l. price n.block_size l origin) (flat_map-append sources_of before after) ∙ price-append n.block_size (flat_map sources_of before) (flat_map sources_of after) origin in
+-- terms that are nothing from a number on do not count
+sum_below-drop : (a b : ℕ) (f : ℕ → ℕ) → a ≤ b → ((k : ℕ) → a ≤ k → f k ≡ 0) → sum_below a f ≡ sum_below b f
+sum_below-drop a zero f less none = let end : a ≡ 0 = omega arith in ap (λ n. sum_below n f) end
+sum_below-drop a (suc b) f less none = elim (cases_lt b a) [
+  | inl last ↦ let end : a ≡ suc b = omega arith in ap (λ n. sum_below n f) end
+  | inr within ↦
+      let rest : sum_below a f ≡ sum_below b f = sum_below-drop a b f within none in
+      omega (arith, rest, none b within)
+]
+
+-- uploads whose segments were sent to ids below two ends cost the same by either
+pub charge-end : (n : Numbers) (part : TenantBook) (a b : ℕ) → a ≤ b → All (λ (s : Source). s.origin < a) (flat_map sources_of part.uploads) → charge_in n (record part { next = a }) ≡ charge_in n (record part { next = b })
+charge-end n part a b less below =
+    sum_below-drop a b (price n.block_size (flat_map sources_of part.uploads)) less (λ k above.
+    price-none n.block_size (flat_map sources_of part.uploads) k (λ i d within same. let here : (get_or (flat_map sources_of part.uploads) i d).origin < a = below i d within in omega (arith, same)))
+
+-- the first uploads of a tenant cost no more than with those after them
+charge-front : (n : Numbers) (part : TenantBook) (before after : List (Entry Upload)) → paid_for n part before ≤ paid_for n part (before ++ after)
+charge-front n part before after =
+    sum_below-le part.next (price n.block_size (flat_map sources_of before)) (price n.block_size (flat_map sources_of (before ++ after))) (λ origin l.
+    let all : price n.block_size (flat_map sources_of (before ++ after)) origin ≡ max (price n.block_size (flat_map sources_of before) origin) (price n.block_size (flat_map sources_of after) origin) =
+    ap (λ l. price n.block_size l origin) (flat_map-append sources_of before after) ∙ price-append n.block_size (flat_map sources_of before) (flat_map sources_of after) origin in
     omega (arith, all))
 
-none-holds : (a b c d e f g : Bool) → a ≡ true → b ≡ true → c ≡ false → d ≡ true → e ≡ false → f ≡ false → g ≡ false
-    → first_that_holds ((not a, Field) ∷ (not b, Unknown) ∷ (c, TooLong) ∷ (not d, PartOpen) ∷ (e, Uploads) ∷ (f, Spent) ∷ (g, Quota) ∷ []) ≡ None
-none-holds a b c d e f g ia ib ic id ie if' ig = rw (ia, ib, ic, id, ie, if', ig) refl
+none-holds : (a b c d e f g h : Bool) → a ≡ false → b ≡ true → c ≡ false → d ≡ true → e ≡ false → f ≡ false → g ≡ false → h ≡ false
+    → first_that_holds ((a || not b, Field) ∷ (c, TooLong) ∷ (not d, PartOpen) ∷ (e, Uploads) ∷ (f || g, Spent) ∷ (h, Quota) ∷ []) ≡ None
+none-holds a b c d e f g h ia ib ic id ie if' ig ih = rw (ia, ib, ic, id, ie, if', ig, ih) refl
 
--- what an upload of a part is put back behind: those before it, where its tenant may pay for all
-pub record IsNextBack (n : Numbers) (part : TenantBook) (before after : List (Entry Upload)) (e : Entry Upload) (charged : ℕ) : Type 0 where
+-- An upload of a part comes next, behind those before it: the next id is the least that is above theirs. Its tenant may
+-- pay for all, where so much is charged beside.
+pub record IsNextBack (n : Numbers) (part : TenantBook) (next : ℕ) (before after : List (Entry Upload)) (e : Entry Upload) (beside : ℕ) : Type 0 where
   pub sound : IsTenantOf n part
   pub all : part.uploads ≡ before ++ e ∷ after
+  pub below : All (λ (a : Entry Upload). a.id < next) before
+  pub least : (id : ℕ) → 0 < id → All (λ (a : Entry Upload). a.id < id) before → next ≤ id
   pub paid : charge_in n part ≤ part.quota
-  pub unspent : charged + (charge_in n (front part (before ++ e ∷ [])) - charge_in n (front part before)) ≤ n.last_total
+  pub unspent : beside + charge_in n part ≤ n.last_total
 
-entry-in : (n : Numbers) (part : TenantBook) (before after : List (Entry Upload)) (e : Entry Upload) → part.uploads ≡ before ++ e ∷ after → (P : Entry Upload → Type 0) → All P part.uploads → P e
-entry-in n part before after e is P all =
-    subst P (get_or_at before e after e (length before) refl) (subst (All P) is all (length before) e (omega (arith, length-append before (e ∷ after))))
+module _ (n : Numbers) (part : TenantBook) (next : ℕ) (before after : List (Entry Upload)) (e : Entry Upload) (beside : ℕ) (can : IsNextBack n part next before after e beside) where
+  entry-in : (P : Entry Upload → Type 0) → All P part.uploads → P e
+  entry-in P all =
+      subst P (get_or_at before e after e (length before) refl) (subst (All P) can.all all (length before) e (omega (arith, length-append before (e ∷ after))))
 
-sent-back : (n : Numbers) (part : TenantBook) (before after : List (Entry Upload)) (e : Entry Upload) → IsTenantOf n part → part.uploads ≡ before ++ e ∷ after
-    → sent_back (sent_in before) (segments_kept (sent_in before) (sent_of e)) ≡ Some (sent_of e)
-sent-back n part before after e sound is =
-    sent_back-kept (sent_in before) (sent_of e) (λ a b in_a in_b same. sent-same n part sound a b (inside a in_a) (inside b in_b) same)
-  where
-    all : sent_in part.uploads ≡ sent_in before ++ sent_of e ++ sent_in after
-    all = ap sent_in is ∙ flat_map-append sent_of before (e ∷ after) ∙ sym (append_assoc (sent_in before) (sent_of e) (sent_in after))
+  given : (0 < e.id) × (e.id < part.next)
+  given = entry-in (λ e. (0 < e.id) × (e.id < part.next)) can.sound.given
 
-    inside : (a : ℕ × List ℕ) → Contains (sent_in before ++ sent_of e) a → Contains (sent_in part.uploads) a
-    inside a there = subst (λ l. Contains l a) (sym all) (Contains-append_left (sent_in before ++ sent_of e) (sent_in after) a there)
+  own : IsUploadOf n part e.kept
+  own = entry-in (λ e. IsUploadOf n part e.kept) can.sound.uploads
 
--- it is not refused,
-pub restore-kept : (n : Numbers) (part : TenantBook) (before after : List (Entry Upload)) (e : Entry Upload) (charged : ℕ) → IsNextBack n part before after e charged → restore_refusal n charged (front part before) (upload_kept before e) ≡ None
-restore-kept n part before after e charged can =
-    let own : IsUploadOf n part e.kept = entry-in n part before after e can.all (λ e. IsUploadOf n part e.kept) can.sound.uploads in
-    let given = entry-in n part before after e can.all (λ e. (0 < e.id) × (e.id < part.next)) can.sound.given in
-    let more : part.uploads ≡ before ++ e ∷ [] ++ after = can.all ∙ sym (append_assoc before (e ∷ []) after) in
-    let less : charge_in n (front part (before ++ e ∷ [])) ≤ charge_in n part = charge-front n part (before ++ e ∷ []) after more in
-    let few : length before < n.uploads = omega (arith, can.sound.few, ap (length {A = Entry Upload}) can.all, length-append before (e ∷ after)) in
-    ap (refusal_with n charged (front part before) (upload_kept before e)) (sent-back n part before after e can.sound can.all)
-    ∙ ap (λ u. first_that_holds (restore_tests n charged (front part before) e.id u)) (upload-kept part before e own.kind)
-    ∙ none-holds _ _ _ _ _ _ _ (ends-kind part e.kept e.kept.kind own.kind) (is-behind part before e.id given.0 given.1 (before-below before after e n part can.sound can.all))
-    (fits-kept n e.kept.declared (offset_of e.kept) own.within own.size)
-    (parts-kept part before (e ∷ after) e.kept e.kept.kind can.all own.kind)
-    (not-le _ _ few)
-    (at-most _ _ can.unspent)
-    (at-most _ _ (omega (arith, less, can.paid)))
-  where
-    not-le : (most k : ℕ) → k < most → leb most k ≡ false
-    not-le most k less = grind (arith, nat_tests)
+  older-before : All (λ (a : Entry Upload). All (λ p. p < a.id) a.kept.parts) before
+  older-before = λ k d within. subst (λ (a : Entry Upload). All (λ p. p < a.id) a.kept.parts) (get_or_append_left before (e ∷ after) d k within)
+      (subst (All (λ (a : Entry Upload). All (λ p. p < a.id) a.kept.parts)) can.all can.sound.later k d (omega (arith, length-append before (e ∷ after))))
 
-    at-most : (most k : ℕ) → k ≤ most → ltb most k ≡ false
-    at-most most k less = grind (arith, nat_tests)
+  earlier : All (λ (a : Entry Upload). a.id < e.id) before
+  earlier = before-below before after e n part can.sound can.all
 
--- and stands there then
-pub part-with : (n : Numbers) (part : TenantBook) (before after : List (Entry Upload)) (e : Entry Upload) (charged : ℕ) → IsNextBack n part before after e charged
-    → part_with (front part before) (upload_kept before e) (sent_back (sent_in before) (upload_kept before e).segments) ≡ front part (before ++ e ∷ [])
-part-with n part before after e charged can =
-    let own : IsUploadOf n part e.kept = entry-in n part before after e can.all (λ e. IsUploadOf n part e.kept) can.sound.uploads in
-    ap (part_with (front part before) (upload_kept before e)) (sent-back n part before after e can.sound can.all)
-    ∙ ap (with_back (front part before) e.id) (upload-kept part before e own.kind)
+  -- its id was not given before
+  pub next-least : next ≤ e.id
+  next-least = can.least e.id given.0 earlier
+
+  -- those before it cost as much by the next id as by the tenant's
+  pub before-paid : charge_in n (front part next before) ≡ paid_for n part before
+  before-paid = charge-end n (record part { uploads = before }) next part.next (omega (arith, next-least, given.1)) (sources-below before next can.below older-before)
+
+  -- and so they do with it
+  pub with-paid : charge_in n (front part (e.id + 1) (before ++ e ∷ [])) ≡ paid_for n part (before ++ e ∷ [])
+  with-paid =
+      charge-end n (record part { uploads = before ++ e ∷ [] }) (e.id + 1) part.next (omega (arith, given.1))
+      (sources-below (before ++ e ∷ []) (e.id + 1) (All-push (λ (a : Entry Upload). a.id < e.id + 1) before e (All-weaker (λ (a : Entry Upload). a.id < e.id) (λ (a : Entry Upload). a.id < e.id + 1) (λ a less. omega arith) before earlier) (omega arith))
+      (All-push (λ (a : Entry Upload). All (λ p. p < a.id) a.kept.parts) before e older-before (entry-in (λ (a : Entry Upload). All (λ p. p < a.id) a.kept.parts) can.sound.later)))
+
+  pub more-paid : charge_in n (front part next before) ≤ charge_in n (front part (e.id + 1) (before ++ e ∷ []))
+  more-paid = omega (arith, before-paid, with-paid, charge-front n part before (e ∷ []))
+
+  -- all cost no less
+  all-paid : charge_in n (front part (e.id + 1) (before ++ e ∷ [])) ≤ charge_in n part
+  all-paid =
+      let regrouped : before ++ e ∷ [] ++ after ≡ part.uploads = append_assoc before (e ∷ []) after ∙ sym can.all in
+      omega (arith, with-paid, charge-front n part (before ++ e ∷ []) after, ap (paid_for n part) regrouped)
+
+  sent-kept : sent_back (sent_in before) (segments_kept (sent_in before) (sent_of e)) ≡ Some (sent_of e)
+  sent-kept =
+      sent_back-kept (sent_in before) (sent_of e) (λ a b in_a in_b same. sent-same n part can.sound a b (inside a in_a) (inside b in_b) same)
+    where
+      all : sent_in part.uploads ≡ sent_in before ++ sent_of e ++ sent_in after
+      all = ap sent_in can.all ∙ flat_map-append sent_of before (e ∷ after) ∙ sym (append_assoc (sent_in before) (sent_of e) (sent_in after))
+
+      inside : (a : ℕ × List ℕ) → Contains (sent_in before ++ sent_of e) a → Contains (sent_in part.uploads) a
+      inside a there = subst (λ l. Contains l a) (sym all) (Contains-append_left (sent_in before ++ sent_of e) (sent_in after) a there)
+
+  -- it may be put back,
+  pub asked-kept : IsRestorable (upload_kept before e)
+  asked-kept = record {
+    segments = segments-kept part (sent_in before) e.id e.kept e.kept.kind own.kind (sent-below before e.id earlier older-before) (entry-in (λ (a : Entry Upload). All (λ p. p < a.id) a.kept.parts) can.sound.later);
+    metadata = own.metadata;
+    concat = own.concat;
+  }
+
+  -- is not refused,
+  pub restore-kept : restore_refusal n (beside + charge_in n (front part next before)) (front part next before) (upload_kept before e) ≡ None
+  restore-kept =
+      let few : length before < n.uploads = omega (arith, can.sound.few, ap (length {A = Entry Upload}) can.all, length-append before (e ∷ after)) in
+      let charged : ℕ = beside + charge_in n (front part next before) in
+      ap (refusal_with n charged (front part next before) (upload_kept before e)) sent-kept
+      ∙ ap (λ u. first_that_holds (restore_tests n charged (front part next before) e.id u)) (upload-kept part before e own.kind)
+      ∙ none-holds _ _ _ _ _ _ _ _ (at-most _ _ next-least) (ends-kind part e.kept e.kept.kind own.kind)
+      (fits-kept n e.kept.declared (offset_of e.kept) own.within own.size)
+      (parts-kept part next before (e ∷ after) e.kept e.kept.kind can.all own.kind)
+      (not-le _ _ few)
+      (at-most _ _ (omega (arith, given.1, can.sound.last)))
+      (at-most _ _ (unspent _ _ _ _ _ more-paid all-paid can.unspent))
+      (at-most _ _ (omega (arith, all-paid, can.paid)))
+    where
+      not-le : (most k : ℕ) → k < most → leb most k ≡ false
+      not-le most k less = grind (arith, nat_tests)
+
+      at-most : (most k : ℕ) → k ≤ most → ltb most k ≡ false
+      at-most most k less = grind (arith, nat_tests)
+
+      unspent : (base before later all most : ℕ) → before ≤ later → later ≤ all → base + all ≤ most → base + before + (later - before) ≤ most
+      unspent base before later all most less part fits = omega arith
+
+  -- and stands there then
+  pub part-with : part_with (front part next before) (upload_kept before e) (sent_back (sent_in before) (upload_kept before e).segments) ≡ front part (e.id + 1) (before ++ e ∷ [])
+  part-with =
+      ap (part_with (front part next before) (upload_kept before e)) sent-kept
+      ∙ ap (with_back (front part next before) e.id) (upload-kept part before e own.kind)
+
+  -- the next id is then the least again
+  pub next-below : All (λ (a : Entry Upload). a.id < e.id + 1) (before ++ e ∷ [])
+  next-below = All-push (λ (a : Entry Upload). a.id < e.id + 1) before e (All-weaker (λ (a : Entry Upload). a.id < e.id) (λ (a : Entry Upload). a.id < e.id + 1) (λ a less. omega arith) before earlier) (omega arith)
+
+  pub least-after : (id : ℕ) → 0 < id → All (λ (a : Entry Upload). a.id < id) (before ++ e ∷ []) → e.id + 1 ≤ id
+  least-after id some below =
+      let last : e.id < id = All-contains (λ (a : Entry Upload). a.id < id) (before ++ e ∷ []) e below (Contains-push before e) in
+      omega arith
