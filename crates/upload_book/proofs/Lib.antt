@@ -2,7 +2,7 @@ pub mod Charge
 pub mod Expiries
 pub mod Heads
 pub mod Lawful
-pub mod Restore
+pub mod Restoring
 pub mod Store
 pub mod Steps
 pub mod LawsLemmas

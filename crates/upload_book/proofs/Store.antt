@@ -7,6 +7,7 @@ pub mod JoinLemmas
 pub mod JoinedLemmas
 pub mod PlainStoredTenants
 pub mod StoreLemmas
+pub mod StoreNext
 pub mod StoreSteps
 pub mod StoreGone
 pub mod AloneLemmas

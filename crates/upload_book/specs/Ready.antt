@@ -1,8 +1,8 @@
 -- When a book is ready for a change: all that it takes was found, and its memory taken.
-use Rattle.std.specs.Prelude.{◌≡◌, ℕ, ◌<◌, ◌≤◌, IsTrue, None, [], length, map, vec_capacity, ⊤}
+use Rattle.std.specs.Prelude.{◌≡◌, ℕ, ◌<◌, ◌≤◌, IsTrue, false, List, None, Some, [], ◌∷◌, length, map, vec_capacity, ⊤}
 use Rattle.block_bodies.specs.Bodies.{HasRoom}
 use Rattle.upload_book.specs.Account.{account_in}
-use Rattle.upload_book.specs.Append.{append_refusal, row_with}
+use Rattle.upload_book.specs.Append.{append_refusal, is_final, row_with}
 use Rattle.upload_book.specs.Book.{StoredBook, plain_of}
 use Rattle.upload_book.specs.declared.change.Change.{Change}
 use Rattle.upload_book.specs.declared.change.Change.TheVariants as change
@@ -13,11 +13,16 @@ use Rattle.upload_book.specs.Concat.{concat_refusal, joined_len}
 use Rattle.upload_book.specs.Create.{creation_refusal, first_end, new_kind}
 use Rattle.upload_book.specs.declared.ready.ReadyEnd.{ReadyEnd}
 use Rattle.upload_book.specs.declared.ready.ReadyFinal.{ReadyFinal}
+use Rattle.upload_book.specs.declared.ready.ReadyNext.{ReadyNext}
+use Rattle.upload_book.specs.declared.ready.ReadyOwn.{ReadyOwn}
+use Rattle.upload_book.specs.declared.ready.ReadyTotals.{ReadyTotals}
 use Rattle.upload_book.specs.declared.ready.ReadyUpload.{ReadyUpload}
 use Rattle.upload_book.specs.declared.ready.Step.{Step}
 use Rattle.upload_book.specs.declared.ready.Step.TheVariants.{Append, Concat, Create, Sweep, Terminate}
 use Rattle.upload_book.specs.Lawful.{IsConcatText, is_kept_metadata}
 use Rattle.upload_book.specs.PlainBook.{tenant_book}
+use Rattle.upload_book.specs.Restore.{IsRestorable, piece_refusal}
+use Rattle.upload_book.specs.Restored as piece
 use Rattle.upload_book.specs.inside.Progress.{progress_in}
 use Rattle.upload_book.specs.BlockStore.{BlockStore, Joins, entry_at, pieces_named, rows_at, upload_at}
 use Rattle.upload_book.specs.inside.Places.{IsVisibleIn}
@@ -68,6 +73,24 @@ pub record IsReadyForFinal (b : StoredBook) (r : ReadyFinal) : Type 0 where
   pub accepted : concat_refusal b.settings.numbers (tenant_book (plain_of b) r.tenant) r.new r.now ≡ None
   pub len : r.len ≡ joined_len (rows_at b.store r.tenant r.new.parts r.now)
   pub listed : IsListed b.store r.tenant r
+
+-- the book is ready to put back a tenant's next id: it does not refuse it
+pub record IsReadyForNext (b : StoredBook) (r : ReadyNext) : Type 0 where
+  pub there : r.tenant < length b.settings.tenants
+  pub accepted : piece_refusal (plain_of b) (piece.Next r.tenant r.next) ≡ None
+
+-- The same of an upload of its own: it is of its form, and there is a body with room for its bytes.
+pub record IsReadyForOwn (b : StoredBook) (r : ReadyOwn) : Type 0 where
+  pub there : r.tenant < length b.settings.tenants
+  pub own : is_final r.upload.kind ≡ false
+  pub form : IsRestorable r.upload
+  pub accepted : piece_refusal (plain_of b) (piece.Upload r.tenant r.upload) ≡ None
+  pub empty : r.body ≡ record no_chain { room = r.body.room }
+  pub room : (bytes : List ℕ) → r.upload.segments ≡ record { origin = r.upload.id; bytes = Some bytes } ∷ [] → HasRoom b.store.pool r.body (length bytes)
+
+-- the same of totals
+abbrev pub IsReadyForTotals : StoredBook → ReadyTotals → Type 0
+IsReadyForTotals b r = piece_refusal (plain_of b) (piece.Totals r.charged r.released) ≡ None
 
 -- the book is ready for a change: for a sweep it always is
 abbrev pub IsReadyForStep : StoredBook → Step → Type 0

@@ -100,12 +100,12 @@ ends_rightly Final complete expires = complete && not (is_some expires)
 abbrev pub may_be_part : TenantBook → ℕ → Bool
 may_be_part part id = option_map_or (λ (u : Upload). is_partial u.kind && is_complete u) (kept_in part.uploads id) true
 
--- The tests of an upload that is put back under an id, where so many blocks were charged so far: the id was not given
--- before, the upload is as its kind asks, and its tenant may have it and pays for it.
+-- The tests of an upload that is put back under an id, where so many blocks were charged so far: it is as its kind asks,
+-- and its tenant may have it and pays for it.
 abbrev pub restore_tests : Numbers → ℕ → TenantBook → ℕ → Upload → List (Bool × Refusal)
 restore_tests n charged part id u =
     let after = charge_in n (with_back part id u) in
-    (nat_lt id part.next || not (ends_rightly u.kind (is_complete u) u.expires), Field)
+    (not (ends_rightly u.kind (is_complete u) u.expires), Field)
     ∷ (is_too_long n (unwrap_or u.declared n.max_size) (offset_of u), TooLong)
     ∷ (not (list_all (may_be_part part) u.parts), PartOpen)
     ∷ (nat_le n.uploads (length part.uploads), Uploads)
@@ -119,9 +119,10 @@ abbrev pub refusal_with : Numbers → ℕ → TenantBook → RestoredUpload → 
 refusal_with n charged part r None = Some Part
 refusal_with n charged part r (Some sent) = first_that_holds (restore_tests n charged part r.id (upload_back r sent))
 
--- why an upload is not put back, if it is not
+-- why an upload is not put back, if it is not; its id has to be one that was not given before
 abbrev pub restore_refusal : Numbers → ℕ → TenantBook → RestoredUpload → Option Refusal
-restore_refusal n charged part r = refusal_with n charged part r (sent_back (sent_in part.uploads) r.segments)
+restore_refusal n charged part r =
+    if nat_lt r.id part.next then Some Field else refusal_with n charged part r (sent_back (sent_in part.uploads) r.segments)
 
 -- the part with the upload of these segments put back
 abbrev pub part_with : TenantBook → RestoredUpload → Option (List (ℕ × List ℕ)) → TenantBook

@@ -1,4 +1,5 @@
 -- What only proofs need: how the book keeps its uploads.
+pub mod Back
 pub mod ChargeAfter
 pub mod HeldBytes
 pub mod Kept

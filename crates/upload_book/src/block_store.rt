@@ -6,6 +6,7 @@ ghost use Rattle.upload_book.specs.Charge.{charge_with};
 ghost use Rattle.upload_book.specs.Concat.{are_complete, are_there, final_upload, joined_len, parts_found};
 ghost use Rattle.upload_book.specs.Create.{new_kind, upload_from};
 ghost use Rattle.upload_book.specs.Ready.{IsListed};
+ghost use Rattle.upload_book.specs.Restore.{with_next};
 ghost use Rattle.upload_book.specs.Lawful.{IsConcatText, is_kept_metadata};
 ghost use Rattle.upload_book.specs.Sweep.{part_after_sweep};
 ghost use Rattle.upload_book.specs.declared.head_row.Kind.TheVariants.{Final};
@@ -157,6 +158,17 @@ impl BlockStore {
         ensures { result ≡ (part_at self.now tenant).next }
     {
         self.stored_tenants[tenant].next
+    }
+
+    /// Sets the id that the tenant's next upload gets; the ids between were given then.
+    pub(crate) fn set_next(&mut self, tenant: usize, next: u64)
+        requires tenant { tenant < length self.old.stored_tenants }
+        requires more { (stored_tenant_at self.old tenant).next ≤ next }
+        ensures plain { plain_in self.new ≡ set (plain_in self.old) tenant (with_next (part_at self.old tenant) next) }
+        ensures pool { self.new.pool ≡ self.old.pool }
+        ensures room_stays { self.new.room ≡ self.old.room }
+    {
+        self.stored_tenants[tenant].next = next;
     }
 
     /// How many uploads the tenant has, expired ones included.

@@ -5,6 +5,7 @@ use crate::head_row::Name;
 use crate::moment::Moment;
 use crate::piece::{Piece, UnheldPiece};
 use crate::progress::Progress;
+use crate::restored::RestoredUpload;
 use block_bodies::Body;
 
 /// A change that [`crate::Book::prepare`] accepted, with all the memory that it takes: [`crate::Book::commit`] makes it.
@@ -73,4 +74,41 @@ pub(crate) struct ReadyFinal<'a> {
 #[derive(Clone, Copy, Debug)]
 pub(crate) struct ReadySweep {
     pub(crate) now: Moment,
+}
+
+/// A tenant's next id that is put back, for the tenant at this place.
+#[derive(Clone, Copy, Debug)]
+pub(crate) struct ReadyNext {
+    pub(crate) tenant: u8,
+    pub(crate) next: u64,
+}
+
+/// Totals that are put back: how many blocks were charged so far, and how many of them were released.
+#[derive(Clone, Copy, Debug)]
+pub(crate) struct ReadyTotals {
+    pub(crate) charged: u64,
+    pub(crate) released: u64,
+}
+
+/// An upload of its own that is put back, for the tenant at this place.
+#[derive(Drop)]
+pub(crate) struct ReadyOwn<'a> {
+    pub(crate) tenant: u8,
+    pub(crate) upload: RestoredUpload<'a>,
+    /// A body with room for its bytes.
+    pub(crate) body: Body,
+}
+
+impl<'a> ReadyOwn<'a> {
+    ghost use Rattle.std.specs.Prelude.{◌≡◌};
+
+    /// Its id, as the tenant's next one.
+    pub(crate) fn next(&self) -> ReadyNext
+        ensures { result ≡ record { tenant = self.now.tenant; next = self.now.upload.id } }
+    {
+        ReadyNext {
+            tenant: self.tenant,
+            next: self.upload.id,
+        }
+    }
 }

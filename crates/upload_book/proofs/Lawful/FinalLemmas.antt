@@ -57,7 +57,7 @@ kept-filter p (e ∷ entries) id u there keeps = elim (eqb_tells e.id id) [
     by false is other rest = rw is rest
 
 -- the part of a tenant after one of its own changes, or another's
-part-after : (b : PlainBook) (tenant t : ℕ) (part : TenantBook) → (tenant_book (with_tenant_book b tenant part) t ≡ tenant_book b t) ⊎ ((t ≡ tenant) × (tenant_book (with_tenant_book b tenant part) t ≡ part))
+pub part-after : (b : PlainBook) (tenant t : ℕ) (part : TenantBook) → (tenant_book (with_tenant_book b tenant part) t ≡ tenant_book b t) ⊎ ((t ≡ tenant) × (tenant_book (with_tenant_book b tenant part) t ≡ part))
 part-after b tenant t part = elim (cases_lt tenant (length b.tenants)) [
   | inr past ↦ inl (ap (λ tenants. get_or tenants t (opening_part 0)) (set_past b.tenants tenant part past))
   | inl within ↦ elim (eqb_tells t tenant) [

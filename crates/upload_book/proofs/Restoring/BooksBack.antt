@@ -21,9 +21,9 @@ use Rattle.upload_book.specs.TenantBook.{Entry, TenantBook, opening_part}
 use Rattle.upload_book.specs.Upload.{Upload}
 use Rattle.upload_book.proofs.Charge.SumsBelow.{sum_below-none}
 use Rattle.upload_book.proofs.Lawful.LawfulSteps.{opening_parts}
-use Rattle.upload_book.proofs.Restore.LawfulBack.{IsLawful-piece}
-use Rattle.upload_book.proofs.Restore.SegmentsBack.{sources-below}
-use Rattle.upload_book.proofs.Restore.UploadsBack.{IsNextBack, asked-kept, charge-end, front, least-after, more-paid, next-below, part-with, restore-kept}
+use Rattle.upload_book.proofs.Restoring.LawfulBack.{IsLawful-piece}
+use Rattle.upload_book.proofs.Restoring.SegmentsBack.{sources-below}
+use Rattle.upload_book.proofs.Restoring.UploadsBack.{IsNextBack, asked-kept, charge-end, front, least-after, more-paid, next-below, part-with, restore-kept}
 
 -- a book accepts these pieces, one after another, and is that one after them
 abbrev PutsBack : PlainBook → List Restored → PlainBook → Type 0

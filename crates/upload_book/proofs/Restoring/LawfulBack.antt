@@ -30,8 +30,9 @@ use Rattle.upload_book.proofs.Lawful.FirstRefusal.{test-passed}
 use Rattle.upload_book.proofs.Lawful.LawfulAppend.{complete_tells, ends_within}
 use Rattle.upload_book.proofs.Lawful.LawfulConcat.{complete-from_test}
 use Rattle.upload_book.proofs.Lawful.LawfulSteps.{HasSharedParts, HasSharedParts-none, IsLawful-with_tenant_book, IsLawful-with_tenant_book-same, IsTenantOf-with_new, IsUploadOf-beside}
-use Rattle.upload_book.proofs.Restore.SegmentsBack.{AreSame, own-segment, sent-same}
-use Rattle.upload_book.proofs.Restore.UploadsBack.{charge-end}
+use Rattle.upload_book.proofs.Restoring.SegmentsBack.{AreSame, own-segment, sent-same}
+use Rattle.upload_book.proofs.Restoring.UploadsBack.{charge-end}
+use Rattle.upload_book.proofs.Store.Pieces.{flat_map-contains}
 
 -- a segment with its origin
 abbrev Segment : Type 0
@@ -148,13 +149,6 @@ same-back standing (s ∷ segments) sent same is =
 
 -- ---- the segments of a lawful part
 
-Contains-flat_map : {X Y : Type 0} (f : X → List Y) (xs : List X) (x : X) (y : Y) → Contains xs x → Contains (f x) y → Contains (flat_map f xs) y
-Contains-flat_map f [] x y there in_y = absurd (Contains-none x there)
-Contains-flat_map {X} {Y} f (z ∷ xs) x y there in_y = elim (Contains-cases z x xs there) [
-  | inl is ↦ Contains-append_left (f z) (flat_map f xs) y (subst (λ (x : X). Contains (f x) y) (sym is) in_y)
-  | inr later ↦ Contains-append_right (f z) (flat_map f xs) y (Contains-flat_map f xs x y later in_y)
-]
-
 -- those of final uploads are among them
 joined-kind : (part : TenantBook) (id : ℕ) (u : Upload) (kind : Kind) (s : Segment) → IsOfKind part u kind → Contains (zip u.parts u.segments) s → Contains (zip (origins kind id u.parts) u.segments) s
 joined-kind part id u Plain s sound there = absurd (Contains-none s (subst (λ (parts : List ℕ). Contains (zip parts u.segments) s) sound.0.parts there))
@@ -176,21 +170,20 @@ own-sent n part id u sound there partial =
     let lawful : IsUploadOf n part u = kept_in-All (IsUploadOf n part) part.uploads id u sound.uploads there in
     let whole : IsWhole u = (subst (IsOfKind part u) partial lawful.kind).0 in
     let segments : sent_of (record { id = id; kept = u }) ≡ (id, content_of u) ∷ [] = ap (λ (kind : Kind). zip (origins kind id u.parts) u.segments) partial ∙ own-segment u whole.segment id in
-    Contains-flat_map sent_of part.uploads (record { id = id; kept = u }) (id, content_of u) (kept_in-contains part.uploads id u there)
+    flat_map-contains sent_of part.uploads (record { id = id; kept = u }) (id, content_of u) (kept_in-contains part.uploads id u there)
     (subst (λ (l : List Segment). Contains l (id, content_of u)) (sym segments) (Contains-first (id, content_of u) []))
 
 -- ---- an upload that is put back
 
 -- what is known of one that is not refused
-record IsAcceptable (n : Numbers) (charged : ℕ) (part : TenantBook) (id : ℕ) (u : Upload) : Type 0 where
-  fresh : part.next ≤ id
-  ends : ends_rightly u.kind (is_complete u) u.expires ≡ true
-  fits : is_too_long n (unwrap_or u.declared n.max_size) (offset_of u) ≡ false
-  parts : list_all (may_be_part part) u.parts ≡ true
-  room : length part.uploads < n.uploads
-  last : id ≤ n.last_id
-  unspent : charged + (charge_in n (with_back part id u) - charge_in n part) ≤ n.last_total
-  paid : charge_in n (with_back part id u) ≤ part.quota
+pub record IsAcceptable (n : Numbers) (charged : ℕ) (part : TenantBook) (id : ℕ) (u : Upload) : Type 0 where
+  pub ends : ends_rightly u.kind (is_complete u) u.expires ≡ true
+  pub fits : is_too_long n (unwrap_or u.declared n.max_size) (offset_of u) ≡ false
+  pub parts : list_all (may_be_part part) u.parts ≡ true
+  pub room : length part.uploads < n.uploads
+  pub last : id ≤ n.last_id
+  pub unspent : charged + (charge_in n (with_back part id u) - charge_in n part) ≤ n.last_total
+  pub paid : charge_in n (with_back part id u) ≤ part.quota
 
 neither : (a b : Bool) → (a || b) ≡ false → (a ≡ false) × (b ≡ false)
 neither true b is = absurd (cc)
@@ -199,17 +192,15 @@ neither false b is = (refl, is)
 IsAcceptable-from_none : (n : Numbers) (charged : ℕ) (part : TenantBook) (id : ℕ) (u : Upload) → first_that_holds (restore_tests n charged part id u) ≡ None → IsAcceptable n charged part id u
 IsAcceptable-from_none n charged part id u none =
     let after = charge_in n (with_back part id u) in
-    let field = test-passed (ltb id part.next || not (ends_rightly u.kind (is_complete u) u.expires)) _ _ none in
+    let field = test-passed (not (ends_rightly u.kind (is_complete u) u.expires)) _ _ none in
     let fits = test-passed (is_too_long n (unwrap_or u.declared n.max_size) (offset_of u)) _ _ field.1 in
     let parts = test-passed (not (list_all (may_be_part part) u.parts)) _ _ fits.1 in
     let room = test-passed (leb n.uploads (length part.uploads)) _ _ parts.1 in
     let unspent = test-passed (ltb n.last_id id || ltb n.last_total (charged + (after - charge_in n part))) _ _ room.1 in
     let paid = test-passed (ltb part.quota after) _ _ unspent.1 in
-    let first = neither _ _ field.0 in
     let two = neither _ _ unspent.0 in
     record {
-      fresh = ltb-false id part.next first.0;
-      ends = not-false _ first.1;
+      ends = not-false _ field.0;
       fits = fits.0;
       parts = not-false _ parts.0;
       room = leb-false n.uploads (length part.uploads) room.0;
@@ -220,15 +211,19 @@ IsAcceptable-from_none n charged part id u none =
 
 -- one that is not refused has its segments
 pub record IsBack (n : Numbers) (charged : ℕ) (part : TenantBook) (r : RestoredUpload) : Type 0 where
-  sent : List Segment
-  is : sent_back (sent_in part.uploads) r.segments ≡ Some sent
-  can : IsAcceptable n charged part r.id (upload_back r sent)
+  pub fresh : part.next ≤ r.id
+  pub sent : List Segment
+  pub is : sent_back (sent_in part.uploads) r.segments ≡ Some sent
+  pub can : IsAcceptable n charged part r.id (upload_back r sent)
 
-IsBack-from_none : (n : Numbers) (charged : ℕ) (part : TenantBook) (r : RestoredUpload) → restore_refusal n charged part r ≡ None → IsBack n charged part r
-IsBack-from_none n charged part r none = by (sent_back (sent_in part.uploads) r.segments) refl none where
-  by : (found : Option (List Segment)) → sent_back (sent_in part.uploads) r.segments ≡ found → refusal_with n charged part r found ≡ None → IsBack n charged part r
-  by None is never = absurd (cc)
-  by (Some sent) is none = record { sent = sent; is = is; can = IsAcceptable-from_none n charged part r.id (upload_back r sent) none }
+pub IsBack-from_none : (n : Numbers) (charged : ℕ) (part : TenantBook) (r : RestoredUpload) → restore_refusal n charged part r ≡ None → IsBack n charged part r
+IsBack-from_none n charged part r none =
+    let given = test-passed (ltb r.id part.next) _ _ none in
+    by (sent_back (sent_in part.uploads) r.segments) refl (ltb-false r.id part.next given.0) given.1
+  where
+    by : (found : Option (List Segment)) → sent_back (sent_in part.uploads) r.segments ≡ found → part.next ≤ r.id → refusal_with n charged part r found ≡ None → IsBack n charged part r
+    by None is fresh never = absurd (cc)
+    by (Some sent) is fresh none = record { fresh = fresh; sent = sent; is = is; can = IsAcceptable-from_none n charged part r.id (upload_back r sent) none }
 
 -- an upload of its own has one segment
 own-sent-one : (standing : List Segment) (id : ℕ) (segments : List RestoredSegment) (sent : List Segment) → (bytes : List ℕ) × (segments ≡ record { origin = id; bytes = Some bytes } ∷ []) → sent_back standing segments ≡ Some sent
@@ -364,7 +359,7 @@ module _ (n : Numbers) (charged : ℕ) (part : TenantBook) (r : RestoredUpload) 
       record { within = within.0; size = within.1; kind = of-kind r.kind refl; metadata = form.metadata; concat = form.concat }
 
 -- a later next id leaves a part as it should be
-IsTenantOf-next : (n : Numbers) (part : TenantBook) (next : ℕ) → part.next ≤ next → next ≤ n.last_id + 1 → IsTenantOf n part → IsTenantOf n (with_next part next)
+pub IsTenantOf-next : (n : Numbers) (part : TenantBook) (next : ℕ) → part.next ≤ next → next ≤ n.last_id + 1 → IsTenantOf n part → IsTenantOf n (with_next part next)
 IsTenantOf-next n part next more few sound =
     let given : (id : ℕ) → IsGivenIn part id → IsGivenIn (with_next part next) id = λ id given. (given.0, omega (arith, given.1)) in
     record {
@@ -386,21 +381,21 @@ charge-next n part next more sound = sym (charge-end n part part.next next more 
 pub IsTenantOf-back : (n : Numbers) (charged : ℕ) (part : TenantBook) (r : RestoredUpload) → IsTenantOf n part → IsRestorable r → (back : IsBack n charged part r) → IsTenantOf n (with_back part r.id (upload_back r back.sent))
 IsTenantOf-back n charged part r sound form back =
     IsTenantOf-with_new n (with_next part r.id) (upload_back r back.sent) back.can.room back.can.last (upload-sound n charged part r sound form back) (shared-kind n charged part r sound form back r.kind refl)
-    (IsTenantOf-next n part r.id back.can.fresh (omega (arith, back.can.last)) sound)
+    (IsTenantOf-next n part r.id back.fresh (omega (arith, back.can.last)) sound)
 
 -- ---- the book
 
 tenant-sound : (b : PlainBook) (t : ℕ) → IsLawful b → t < length b.tenants → IsTenantOf b.settings.numbers (tenant_book b t)
 tenant-sound b t lawful within = lawful.tenants t (opening_part 0) within
 
-IsLawful-upload : (b : PlainBook) (t : ℕ) (r : RestoredUpload) → IsLawful b → t < length b.tenants → IsRestorable r → restore_refusal b.settings.numbers b.charged (tenant_book b t) r ≡ None → IsLawful (book_with b (piece.Upload t r))
+pub IsLawful-upload : (b : PlainBook) (t : ℕ) (r : RestoredUpload) → IsLawful b → t < length b.tenants → IsRestorable r → restore_refusal b.settings.numbers b.charged (tenant_book b t) r ≡ None → IsLawful (book_with b (piece.Upload t r))
 IsLawful-upload b t r lawful within form none =
     let part : TenantBook = tenant_book b t in
     let back = IsBack-from_none b.settings.numbers b.charged part r none in
     subst (λ (found : Option (List Segment)). IsLawful (with_tenant_book b t (part_with part r found))) (sym back.is)
     (IsLawful-with_tenant_book b t (with_back part r.id (upload_back r back.sent)) lawful within refl (IsTenantOf-back b.settings.numbers b.charged part r (tenant-sound b t lawful within) form back) back.can.paid back.can.unspent)
 
-IsLawful-next : (b : PlainBook) (t next : ℕ) → IsLawful b → t < length b.tenants → first_that_holds (next_tests b.settings.numbers (tenant_book b t) next) ≡ None → IsLawful (book_with b (piece.Next t next))
+pub IsLawful-next : (b : PlainBook) (t next : ℕ) → IsLawful b → t < length b.tenants → first_that_holds (next_tests b.settings.numbers (tenant_book b t) next) ≡ None → IsLawful (book_with b (piece.Next t next))
 IsLawful-next b t next lawful within none =
     let part : TenantBook = tenant_book b t in
     let sound = tenant-sound b t lawful within in
@@ -409,7 +404,7 @@ IsLawful-next b t next lawful within none =
     let more : part.next ≤ next = ltb-false next part.next given.0 in
     IsLawful-with_tenant_book-same b t (with_next part next) lawful within refl (IsTenantOf-next b.settings.numbers part next more (ltb-false _ next unspent.0) sound) (charge-next b.settings.numbers part next more sound)
 
-IsLawful-totals : (b : PlainBook) (charged released : ℕ) → IsLawful b → first_that_holds (totals_tests b charged released) ≡ None → IsLawful (book_with b (piece.Totals charged released))
+pub IsLawful-totals : (b : PlainBook) (charged released : ℕ) → IsLawful b → first_that_holds (totals_tests b charged released) ≡ None → IsLawful (book_with b (piece.Totals charged released))
 IsLawful-totals b charged released lawful none =
     let field = test-passed (not (eqb (charged + b.released) (released + b.charged)) || ltb charged b.charged) _ _ none in
     let spent = test-passed (ltb b.settings.numbers.last_total charged) _ _ field.1 in

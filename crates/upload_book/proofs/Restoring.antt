@@ -3,3 +3,7 @@ pub mod SegmentsBack
 pub mod UploadsBack
 pub mod LawfulBack
 pub mod BooksBack
+pub mod NextSteps
+pub mod OwnBack
+pub mod OwnSteps
+pub mod TwoSteps

@@ -80,7 +80,7 @@ kept-length standing [] = refl
 kept-length standing (s ∷ sent) = ap suc (kept-length (standing ++ s ∷ []) sent)
 
 -- where all origins are below an id, none stands of it
-bytes_from-none : (standing : List Segment) (id : ℕ) → All (λ (s : Segment). s.0 < id) standing → bytes_from standing id ≡ None
+pub bytes_from-none : (standing : List Segment) (id : ℕ) → All (λ (s : Segment). s.0 < id) standing → bytes_from standing id ≡ None
 bytes_from-none [] id below = refl
 bytes_from-none (s ∷ standing) id below = elim (eqb_tells s.0 id) [
   | inl same ↦ absurd (let first : s.0 < id = All-head (λ (s : Segment). s.0 < id) s standing below in omega (arith, same.1))

@@ -1,5 +1,5 @@
 -- An upload of a lawful part is put back behind those before it.
-use Rattle.std.proofs.Common.{◌≡◌, ℕ, zero, suc, ◌+◌, ◌-◌, ◌<◌, ◌≤◌, max, Bool, true, false, ◌&&◌, ◌||◌, ltb, leb, not, List, [], ◌∷◌, ◌++◌, map, length, get_or, Option, Some, None, IfSome, IsSome, is_some, unwrap_or, refl, inl, inr, sym, ap, ap₂, subst, ◌∙◌, arith, append_assoc, length-append}
+use Rattle.std.proofs.Common.{◌≡◌, ℕ, zero, suc, ◌+◌, ◌-◌, ◌<◌, ◌≤◌, max, Bool, true, false, ◌&&◌, ◌||◌, cond, ltb, leb, not, List, [], ◌∷◌, ◌++◌, map, length, get_or, Option, Some, None, IfSome, IsSome, is_some, unwrap_or, refl, inl, inr, sym, ap, ap₂, subst, ◌∙◌, arith, append_assoc, length-append}
 use Rattle.std.specs.List.{All, Contains, flat_map, list_all, zip}
 use Rattle.std.specs.List.Sorted.{IsStrictlyIncreasing}
 use Rattle.std.proofs.lemmas.Bool.{cases_lt}
@@ -28,7 +28,7 @@ use Rattle.upload_book.proofs.Charge.PriceLemmas.{price-append, price-none, sum_
 use Rattle.upload_book.proofs.Lawful.Entries.{ids_of}
 use Rattle.upload_book.proofs.Lawful.FinalLemmas.{kept-push}
 use Rattle.upload_book.proofs.Lawful.LawfulAppend.{complete_tells}
-use Rattle.upload_book.proofs.Restore.SegmentsBack.{segments-kept, sent-below, sent-same, sent_back-kept, sources-below}
+use Rattle.upload_book.proofs.Restoring.SegmentsBack.{segments-kept, sent-below, sent-same, sent_back-kept, sources-below}
 
 -- a tenant's part with the first of its uploads alone, and a next id
 abbrev pub front : TenantBook → ℕ → List (Entry Upload) → TenantBook
@@ -152,9 +152,9 @@ charge-front n part before after =
     ap (λ l. price n.block_size l origin) (flat_map-append sources_of before after) ∙ price-append n.block_size (flat_map sources_of before) (flat_map sources_of after) origin in
     omega (arith, all))
 
-none-holds : (a b c d e f g h : Bool) → a ≡ false → b ≡ true → c ≡ false → d ≡ true → e ≡ false → f ≡ false → g ≡ false → h ≡ false
-    → first_that_holds ((a || not b, Field) ∷ (c, TooLong) ∷ (not d, PartOpen) ∷ (e, Uploads) ∷ (f || g, Spent) ∷ (h, Quota) ∷ []) ≡ None
-none-holds a b c d e f g h ia ib ic id ie if' ig ih = rw (ia, ib, ic, id, ie, if', ig, ih) refl
+none-holds : (b c d e f g h : Bool) → b ≡ true → c ≡ false → d ≡ true → e ≡ false → f ≡ false → g ≡ false → h ≡ false
+    → first_that_holds ((not b, Field) ∷ (c, TooLong) ∷ (not d, PartOpen) ∷ (e, Uploads) ∷ (f || g, Spent) ∷ (h, Quota) ∷ []) ≡ None
+none-holds b c d e f g h ib ic id ie if' ig ih = rw (ib, ic, id, ie, if', ig, ih) refl
 
 -- An upload of a part comes next, behind those before it: the next id is the least that is above theirs. Its tenant may
 -- pay for all, where so much is charged beside.
@@ -231,9 +231,10 @@ module _ (n : Numbers) (part : TenantBook) (next : ℕ) (before after : List (En
   restore-kept =
       let few : length before < n.uploads = omega (arith, can.sound.few, ap (length {A = Entry Upload}) can.all, length-append before (e ∷ after)) in
       let charged : ℕ = beside + charge_in n (front part next before) in
-      ap (refusal_with n charged (front part next before) (upload_kept before e)) sent-kept
+      ap (λ (given : Bool). cond given (Some Field) (refusal_with n charged (front part next before) (upload_kept before e) (sent_back (sent_in before) (segments_kept (sent_in before) (sent_of e))))) (at-most _ _ next-least)
+      ∙ ap (refusal_with n charged (front part next before) (upload_kept before e)) sent-kept
       ∙ ap (λ u. first_that_holds (restore_tests n charged (front part next before) e.id u)) (upload-kept part before e own.kind)
-      ∙ none-holds _ _ _ _ _ _ _ _ (at-most _ _ next-least) (ends-kind part e.kept e.kept.kind own.kind)
+      ∙ none-holds _ _ _ _ _ _ _ (ends-kind part e.kept e.kept.kind own.kind)
       (fits-kept n e.kept.declared (offset_of e.kept) own.within own.size)
       (parts-kept part next before (e ∷ after) e.kept e.kept.kind can.all own.kind)
       (not-le _ _ few)

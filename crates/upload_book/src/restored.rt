@@ -1,0 +1,111 @@
+use crate::create::NewUpload;
+use crate::head_row::Kind;
+use crate::moment::Moment;
+use std::marker::Model;
+
+/// A segment of an upload that is put back. A contract sees its bytes as a list.
+#[derive(Drop)]
+pub struct RestoredSegment<'a> {
+    /// The upload to which its bytes were sent.
+    pub origin: u64,
+    /// Its bytes, or `None` where they are those of a segment of the same origin that stands.
+    pub bytes: Option<&'a [u8]>,
+}
+
+impl<'a> Model for RestoredSegment<'a> {
+    ghost use Rattle.std.specs.Prelude.{List, ℕ, option_map};
+    ghost use Rattle.std.specs.Borrow.{Bor};
+    ghost use Rattle.upload_book.specs.Restored as spec;
+
+    ghost Value = { spec.RestoredSegment };
+
+    ghost view = { λ s. record {
+      origin = s.origin;
+      bytes = option_map (λ (bytes : Bor (List ℕ)). bytes.now) s.bytes;
+    } };
+}
+
+/// An upload that is put back. A contract sees its texts as lists of bytes.
+#[derive(Drop)]
+pub struct RestoredUpload<'a> {
+    pub id: u64,
+    pub kind: Kind,
+    /// Its length in bytes, where that is known.
+    pub declared: Option<u64>,
+    /// Its one segment, or those of a final upload, part by part.
+    pub segments: &'a [RestoredSegment<'a>],
+    /// `Upload-Metadata`; empty where there is none.
+    pub metadata: &'a [u8],
+    /// `Upload-Concat`; empty where there is none.
+    pub concat: &'a [u8],
+    /// When it expires, if it does.
+    pub expires: Option<Moment>,
+}
+
+impl<'a> Model for RestoredUpload<'a> {
+    ghost use Rattle.upload_book.specs.Restored as spec;
+
+    ghost Value = { spec.RestoredUpload };
+
+    ghost view = { λ u. record {
+      id = u.id;
+      kind = u.kind;
+      declared = u.declared;
+      segments = u.segments.now;
+      metadata = u.metadata.now;
+      concat = u.concat.now;
+      expires = u.expires;
+    } };
+}
+
+impl<'a> RestoredUpload<'a> {
+    ghost use Rattle.std.specs.Prelude.{◌≡◌, ◌<◌, ℕ, List, [], ◌∷◌, Some, length};
+    ghost use Rattle.upload_book.specs.inside.Back.{new_of};
+    ghost use Rattle.upload_book.specs.Restore.{ends_rightly};
+
+    /// The bytes of one that is not final, which it brings.
+    pub(crate) fn own_bytes(&self) -> &'a [u8]
+        requires { 0 < length self.now.segments }
+        ensures { (bytes : List ℕ) → self.now.segments ≡ record { origin = self.now.id; bytes = Some bytes } ∷ []
+            → result.now ≡ bytes }
+    {
+        self.segments[0].own_bytes()
+    }
+
+    /// One that is not final, as a new upload without its bytes and its end.
+    pub(crate) fn as_new(&self) -> NewUpload<'a>
+        ensures { result ≡ new_of self.now }
+    {
+        NewUpload {
+            partial: self.kind == Kind::Partial,
+            length: self.declared,
+            metadata: self.metadata,
+            concat: self.concat,
+        }
+    }
+
+    /// Whether it ends as its kind asks, where it is complete or not.
+    pub(crate) fn ends_rightly(&self, complete: bool) -> bool
+        ensures { result ≡ ends_rightly self.now.kind complete self.now.expires }
+    {
+        match self.kind {
+            Kind::Plain => self.expires.is_some() != complete,
+            Kind::Partial => self.expires.is_some(),
+            Kind::Final => complete && self.expires.is_none(),
+        }
+    }
+}
+
+impl<'a> RestoredSegment<'a> {
+    ghost use Rattle.std.specs.Prelude.{◌≡◌, ℕ, List, Some};
+
+    // Its bytes, where it brings them.
+    fn own_bytes(&self) -> &'a [u8]
+        ensures { (bytes : List ℕ) → self.now.bytes ≡ Some bytes → result.now ≡ bytes }
+    {
+        match self.bytes {
+            Some(bytes) => bytes,
+            None => b"",
+        }
+    }
+}
