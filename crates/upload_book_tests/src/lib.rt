@@ -21,6 +21,8 @@ mod plain;
 #[cfg(test)]
 mod quotas;
 #[cfg(test)]
+mod restores;
+#[cfg(test)]
 mod settings;
 #[cfg(test)]
 mod steps;

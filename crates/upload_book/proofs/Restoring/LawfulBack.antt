@@ -1,6 +1,6 @@
 -- Whatever is put back, a lawful book stays lawful.
 use Rattle.std.proofs.Common.{◌≡◌, ◌≢◌, ◌⊎◌, ℕ, suc, ◌+◌, ◌-◌, ◌<◌, ◌≤◌, Bool, true, false, ◌||◌, eqb, ltb, leb, not, List, [], ◌∷◌, ◌++◌, map, length, get_or, Option, Some, None, IfSome, IsSome, is_some, unwrap_or, true≢false, refl, inl, inr, sym, ap, subst, ◌∙◌, arith, append_assoc}
-use Rattle.std.specs.List.{All, Contains, flat_map, list_all, zip}
+use Rattle.std.specs.List.{All, Contains, list_all, zip}
 use Rattle.std.specs.Option.{option_and_then, option_map}
 use Rattle.std.proofs.lemmas.Bool.{and_parts, eqb-true, leb-false, ltb-false, not-false}
 use Rattle.std.proofs.lemmas.Bool.Decides.{eqb_tells}
