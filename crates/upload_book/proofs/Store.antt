@@ -8,6 +8,8 @@ pub mod JoinedLemmas
 pub mod PlainStoredTenants
 pub mod StoreLemmas
 pub mod StoreNext
+pub mod BackLemmas
+pub mod StoreMore
 pub mod StoreSteps
 pub mod StoreGone
 pub mod AloneLemmas

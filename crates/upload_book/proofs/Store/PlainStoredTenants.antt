@@ -72,7 +72,7 @@ entry-same p q e same =
     ap with_upload (upload-same p q e.kept same)
 
 -- the blocks of an entry stand where its pieces do
-entry-places : (b : ℕ) (entries : List (Entry StoredUpload)) (e : Entry StoredUpload) → Contains entries e → 0 < places_at b e → 0 < places_of b (placed_in (flat_map kept_pieces entries))
+pub entry-places : (b : ℕ) (entries : List (Entry StoredUpload)) (e : Entry StoredUpload) → Contains entries e → 0 < places_at b e → 0 < places_of b (placed_in (flat_map kept_pieces entries))
 entry-places b entries e c some =
     omega (arith, places-entries b entries, get_or-le-sum_by (places_at b) entries c.0 e c.1, ap (places_at b) c.2)
 
