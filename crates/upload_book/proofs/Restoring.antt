@@ -7,3 +7,4 @@ pub mod NextSteps
 pub mod OwnBack
 pub mod OwnSteps
 pub mod TwoSteps
+pub mod PiecesLeft

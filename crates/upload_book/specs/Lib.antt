@@ -30,6 +30,7 @@ pub mod PlainBook
 pub mod Ready
 pub mod Refusal
 pub mod Restore
+pub mod RestoreLaws
 pub mod Restored
 pub mod Settings
 pub mod Snapshot

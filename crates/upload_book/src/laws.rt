@@ -1,6 +1,7 @@
 //! Laws of the definitions that the contracts cite: each is the contract of a function that does nothing.
 ghost use Rattle.upload_book.specs.FinalLaws.{FinalsStay};
 ghost use Rattle.upload_book.specs.Laws.{AccountsFollow, FollowOrder, HeadsFollow, ResumedPatch, RowsFollow};
+ghost use Rattle.upload_book.specs.RestoreLaws.{PiecesLeave};
 ghost use Rattle.upload_book.specs.Snapshot.{SnapshotsRestore};
 
 /// The tests that decide on a creation, on a concatenation, on a PATCH and on a GET follow the one order of
@@ -45,4 +46,10 @@ pub fn finals_stay()
 /// that book after them. Whatever is put back, a lawful book stays lawful.
 pub fn snapshots_restore()
     ensures { SnapshotsRestore }
+{}
+
+/// Whatever is put back of a book, each upload that stands stays as it is; and each upload of the book then was there, or is
+/// the one that was put back, with the bytes that came with it or that stand.
+pub fn pieces_leave()
+    ensures { PiecesLeave }
 {}

@@ -105,14 +105,14 @@ module _ (n : Numbers) (part : TenantBook) (id now charged : ℕ) (u : Upload) (
   stays-sweep never = kept-filter (λ e. not (has_expired now e.kept.expires)) part.uploads id u there (λ e named same. rw same (rw never refl))
 
 -- and so to the book
-stays-book : (b : PlainBook) (tenant : ℕ) (part : TenantBook) (name : Name) (u : Upload) → StandsAs b name u → (name.tenant ≡ tenant → kept_in part.uploads name.id ≡ Some u) → StandsAs (with_tenant_book b tenant part) name u
+pub stays-book : (b : PlainBook) (tenant : ℕ) (part : TenantBook) (name : Name) (u : Upload) → StandsAs b name u → (name.tenant ≡ tenant → kept_in part.uploads name.id ≡ Some u) → StandsAs (with_tenant_book b tenant part) name u
 stays-book b tenant part name u there own = elim (part-after b tenant name.tenant part) [
   | inl same ↦ ap (λ (part : TenantBook). kept_in part.uploads name.id) same ∙ there
   | inr its ↦ ap (λ (part : TenantBook). kept_in part.uploads name.id) its.1 ∙ own its.0
 ]
 
 -- the same under the tenant's own place
-moved : (b : PlainBook) (tenant : ℕ) (name : Name) (u : Upload) → StandsAs b name u → name.tenant ≡ tenant → kept_in (tenant_book b tenant).uploads name.id ≡ Some u
+pub moved : (b : PlainBook) (tenant : ℕ) (name : Name) (u : Upload) → StandsAs b name u → name.tenant ≡ tenant → kept_in (tenant_book b tenant).uploads name.id ≡ Some u
 moved b tenant name u there same = ap (λ t. kept_in (tenant_book b t).uploads name.id) (sym same) ∙ there
 
 stays-event : (b : PlainBook) (change : Change) (now : ℕ) (name : Name) (u : Upload) → u.kind ≡ Final → u.expires ≡ None → StandsAs b name u → change ≢ Terminate name → StandsAs (book_after_change b change now) name u
