@@ -6,5 +6,4 @@ pub mod BooksBack
 pub mod NextSteps
 pub mod OwnBack
 pub mod OwnSteps
-pub mod TwoSteps
 pub mod PiecesLeft

@@ -119,10 +119,10 @@ abbrev pub refusal_with : Numbers → ℕ → TenantBook → RestoredUpload → 
 refusal_with n charged part r None = Some Part
 refusal_with n charged part r (Some sent) = first_that_holds (restore_tests n charged part r.id (upload_back r sent))
 
--- why an upload is not put back, if it is not; its id has to be one that was not given before
+-- why an upload is not put back, if it is not; it has to get the tenant's next id
 abbrev pub restore_refusal : Numbers → ℕ → TenantBook → RestoredUpload → Option Refusal
 restore_refusal n charged part r =
-    if nat_lt r.id part.next then Some Field else refusal_with n charged part r (sent_back (sent_in part.uploads) r.segments)
+    if not (r.id == part.next) then Some Field else refusal_with n charged part r (sent_back (sent_in part.uploads) r.segments)
 
 -- the part with the upload of these segments put back
 abbrev pub part_with : TenantBook → RestoredUpload → Option (List (ℕ × List ℕ)) → TenantBook

@@ -27,10 +27,11 @@ upload_kept before e = record {
   expires = e.kept.expires;
 }
 
--- the uploads of the tenant at a place, in their order, behind those before them
+-- the uploads of the tenant at a place, in their order, behind those before them: each as the tenant's next one
 abbrev pub uploads_kept : ℕ → List (Entry Upload) → List (Entry Upload) → List Restored
 uploads_kept tenant before [] = []
-uploads_kept tenant before (e ∷ entries) = piece.Upload tenant (upload_kept before e) ∷ uploads_kept tenant (before ++ e ∷ []) entries
+uploads_kept tenant before (e ∷ entries) =
+    piece.Next tenant e.id ∷ piece.Upload tenant (upload_kept before e) ∷ uploads_kept tenant (before ++ e ∷ []) entries
 
 -- the parts of the tenants from a place on: of each its uploads, and then its next id
 abbrev pub parts_kept : ℕ → List TenantBook → List Restored

@@ -98,17 +98,3 @@ pub(crate) struct ReadyOwn<'a> {
     /// A body with room for its bytes.
     pub(crate) body: Body,
 }
-
-impl<'a> ReadyOwn<'a> {
-    ghost use Rattle.std.specs.Prelude.{◌≡◌};
-
-    /// Its id, as the tenant's next one.
-    pub(crate) fn next(&self) -> ReadyNext
-        ensures { result ≡ record { tenant = self.now.tenant; next = self.now.upload.id } }
-    {
-        ReadyNext {
-            tenant: self.tenant,
-            next: self.upload.id,
-        }
-    }
-}

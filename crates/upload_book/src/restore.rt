@@ -6,7 +6,6 @@ ghost use Rattle.upload_book.specs.Book.{plain_of};
 ghost use Rattle.upload_book.specs.inside.Back.{own_tests};
 ghost use Rattle.upload_book.specs.Append.{is_final};
 ghost use Rattle.upload_book.specs.declared.refusal.Refusal.TheVariants.{Memory};
-ghost use Rattle.upload_book.specs.PlainBook.{tenant_book};
 ghost use Rattle.upload_book.specs.Ready.{IsReadyForNext, IsReadyForOwn, IsReadyForTotals};
 ghost use Rattle.upload_book.specs.Refusal.{IsAnswer, first_that_holds};
 ghost use Rattle.upload_book.specs.Restore.{IsRestorable, book_after_piece, next_tests, piece_refusal};
@@ -27,8 +26,8 @@ impl Book {
     /// Puts back an upload of its own of the tenant at this place, under its id. Its bytes are copied once, and its tenant pays
     /// the blocks that they take.
     ///
-    /// It is refused by the first of these that applies: Field, where the id was given before, or the upload does not end as its
-    /// kind asks; TooLong, where its length is above the greatest size, or its bytes go past its length; Uploads, where the
+    /// It is refused by the first of these that applies: Field, where it has not the tenant's next id, or does not end as its kind
+    /// asks; TooLong, where its length is above the greatest size, or its bytes go past its length; Uploads, where the
     /// tenant has its greatest number of uploads; Spent, where the tenant has not so many ids, or the blocks that all tenants
     /// may be charged are used up; Quota. Where none of them does, it may be refused as Memory: there was none for the list of
     /// its blocks. A refusal leaves the book as it was.
@@ -82,8 +81,7 @@ impl Book {
     // Puts back a tenant's next id.
     fn put_next(&mut self, ready: ReadyNext)
         requires { IsReadyForNext self.old ready }
-        ensures plain { plain_of self.new ≡ book_after_piece (plain_of self.old) (piece.Next ready.tenant ready.next) }
-        ensures pool { self.new.store.pool ≡ self.old.store.pool }
+        ensures { plain_of self.new ≡ book_after_piece (plain_of self.old) (piece.Next ready.tenant ready.next) }
     {
         self.store.set_next(usize::from(ready.tenant), ready.next);
     }
@@ -126,20 +124,6 @@ impl Book {
     // Puts back an upload of its own.
     fn put_own(&mut self, ready: ReadyOwn)
         requires { IsReadyForOwn self.old ready }
-        ensures { plain_of self.new
-            ≡ book_after_piece (plain_of self.old) (piece.Upload ready.entry.tenant ready.entry.upload) }
-    {
-        // the settings tell that the book is lawful
-        let _lawful = self.settings();
-        let next = ready.next();
-        self.put_next(next);
-        self.add_own(ready);
-    }
-
-    // The same where it gets the tenant's next id.
-    fn add_own(&mut self, ready: ReadyOwn)
-        requires ready { IsReadyForOwn self.old ready }
-        requires next { (tenant_book (plain_of self.old) ready.tenant).next ≡ ready.upload.id }
         ensures { plain_of self.new
             ≡ book_after_piece (plain_of self.old) (piece.Upload ready.entry.tenant ready.entry.upload) }
     {
@@ -226,7 +210,7 @@ fn own_refusal(
     let last_total = numbers.last_total;
     let added = len.div_ceil(numbers.block_size);
     let is_complete = upload.declared == Some(len);
-    if upload.id < store.next(tenant) || !upload.ends_rightly(is_complete) {
+    if upload.id != store.next(tenant) || !upload.ends_rightly(is_complete) {
         Some(Refusal::Field)
     } else if most > numbers.max_size || len > most {
         Some(Refusal::TooLong)

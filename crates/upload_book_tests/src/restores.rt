@@ -118,6 +118,7 @@ fn a_book_is_put_back(rt: HostRuntime) {
     requested(&rt, &mut was);
     let mut book = new_book(&rt, rt.alloc(), NUMBERS);
     for row in &ROWS {
+        assert!(&rt; restore_next(&rt, &mut book, row.0) == Ok(()));
         assert!(&rt; restore(&rt, &mut book, row) == Ok(()));
     }
     assert!(&rt; restore_next(&rt, &mut book, 6) == Ok(()));
@@ -136,7 +137,7 @@ static REFUSED: [(Row<'static>, Refusal); 8] = [
     ((2, true, Some(2), b"hi", None), Refusal::Field),
     ((2, false, Some(1), b"hi", Some(4600)), Refusal::TooLong),
     ((2, false, Some(65), b"hi", Some(4600)), Refusal::TooLong),
-    ((10, false, None, b"hi", Some(4600)), Refusal::Spent),
+    ((3, false, None, b"hi", Some(4600)), Refusal::Field),
     (
         (
             2,
@@ -191,4 +192,18 @@ fn what_is_not_put_back(rt: HostRuntime) {
         &(3, false, None, b"", Some(4600)),
         Refusal::Uploads,
     );
+}
+
+#[test]
+fn ids_that_are_not_put_back(rt: HostRuntime) {
+    let numbers = Numbers {
+        last_id: 9,
+        ..NUMBERS
+    };
+    let mut book = new_book(&rt, rt.alloc(), numbers);
+    let last: Row = (10, false, None, b"", Some(4600));
+    assert_refused(&rt, &mut book, &last, Refusal::Field);
+    assert!(&rt; restore_next(&rt, &mut book, 10) == Ok(()));
+    assert_refused(&rt, &mut book, &last, Refusal::Spent);
+    assert!(&rt; restore_next(&rt, &mut book, 9) == Err(Refusal::Field));
 }

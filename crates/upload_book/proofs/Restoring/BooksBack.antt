@@ -23,7 +23,7 @@ use Rattle.upload_book.proofs.Charge.SumsBelow.{sum_below-none}
 use Rattle.upload_book.proofs.Lawful.LawfulSteps.{opening_parts}
 use Rattle.upload_book.proofs.Restoring.LawfulBack.{IsLawful-piece}
 use Rattle.upload_book.proofs.Restoring.SegmentsBack.{sources-below}
-use Rattle.upload_book.proofs.Restoring.UploadsBack.{IsNextBack, asked-kept, charge-end, front, least-after, more-paid, next-below, part-with, restore-kept}
+use Rattle.upload_book.proofs.Restoring.UploadsBack.{IsNextBack, asked-kept, before-below, before-paid, charge-end, front, given, least-after, more-paid, next-below, part-with, restore-kept}
 
 -- a book accepts these pieces, one after another, and is that one after them
 abbrev PutsBack : PlainBook → List Restored → PlainBook → Type 0
@@ -93,10 +93,10 @@ module _ (s : Settings) (done rest : List TenantBook) (part : TenantBook) (base 
   is-here next before = get_or_at done (front part next before) rest (opening_part 0) t place
 
   -- an upload is put back behind those before it
-  upload-back : (next : ℕ) (before after : List (Entry Upload)) (e : Entry Upload) → IsNextBack s.numbers part next before after e base → piece_refusal (up_to next before) (piece.Upload t (upload_kept before e)) ≡ None
-  upload-back next before after e can =
+  upload-back : (next : ℕ) (before after : List (Entry Upload)) (e : Entry Upload) → IsNextBack s.numbers part next before after e base → next ≡ e.id → piece_refusal (up_to next before) (piece.Upload t (upload_kept before e)) ≡ None
+  upload-back next before after e can at =
       ap (λ (p : TenantBook). restore_refusal s.numbers (base + charge_in s.numbers (front part next before)) p (upload_kept before e)) (is-here next before)
-      ∙ restore-kept s.numbers part next before after e base can
+      ∙ restore-kept s.numbers part next before after e base can at
 
   upload-with : (next : ℕ) (before after : List (Entry Upload)) (e : Entry Upload) → IsNextBack s.numbers part next before after e base → book_with (up_to next before) (piece.Upload t (upload_kept before e)) ≡ up_to (e.id + 1) (before ++ e ∷ [])
   upload-with next before after e can =
@@ -108,11 +108,10 @@ module _ (s : Settings) (done rest : List TenantBook) (part : TenantBook) (base 
       ∙ with-part s done rest (front part next before) later (base + charge_in s.numbers (front part next before)) t place more
       ∙ ap (book_of s (done ++ later ∷ rest)) (charged-more base _ _ more)
 
-  -- the next id is put back behind all, where it is none of those that were given
-  next-back : (next : ℕ) → next ≤ part.next → piece_refusal (up_to next part.uploads) (piece.Next t part.next) ≡ None
-  next-back next least =
-      ap (λ (p : TenantBook). first_that_holds (next_tests s.numbers p part.next)) (is-here next part.uploads)
-      ∙ neither _ _ (at-most _ _ least) (at-most _ _ sound.last)
+  -- a next id is put back, where it is none of those that were given
+  next-back : (next later : ℕ) (before : List (Entry Upload)) → next ≤ later → later ≤ s.numbers.last_id + 1 → piece_refusal (up_to next before) (piece.Next t later) ≡ None
+  next-back next later before least fits =
+      ap (λ (p : TenantBook). first_that_holds (next_tests s.numbers p later)) (is-here next before) ∙ neither _ _ (at-most _ _ least) (at-most _ _ fits)
     where
       neither : (a b : Bool) → a ≡ false → b ≡ false → first_that_holds ((a, Field) ∷ (b, Spent) ∷ []) ≡ None
       neither a b first second = rw (first, second) refl
@@ -120,11 +119,18 @@ module _ (s : Settings) (done rest : List TenantBook) (part : TenantBook) (base 
       at-most : (most k : ℕ) → k ≤ most → ltb most k ≡ false
       at-most most k less = grind (arith, nat_tests)
 
-  next-with : (next : ℕ) → charge_in s.numbers (front part next part.uploads) ≡ charge_in s.numbers part → book_with (up_to next part.uploads) (piece.Next t part.next) ≡ book_of s (done ++ part ∷ rest) (base + charge_in s.numbers part)
-  next-with next same =
-      ap (λ (before : TenantBook). with_tenant_book (up_to next part.uploads) t (record before { next = part.next })) (is-here next part.uploads)
-      ∙ with-part s done rest (front part next part.uploads) part (base + charge_in s.numbers (front part next part.uploads)) t place (omega (arith, same))
-      ∙ ap (book_of s (done ++ part ∷ rest)) (charged-more base _ _ (omega (arith, same)))
+  next-with : (next later : ℕ) (before : List (Entry Upload)) → charge_in s.numbers (front part next before) ≡ charge_in s.numbers (front part later before) → book_with (up_to next before) (piece.Next t later) ≡ up_to later before
+  next-with next later before same =
+      ap (λ (part : TenantBook). with_tenant_book (up_to next before) t (record part { next = later })) (is-here next before)
+      ∙ with-part s done rest (front part next before) (front part later before) (base + charge_in s.numbers (front part next before)) t place (omega (arith, same))
+      ∙ ap (book_of s (done ++ front part later before ∷ rest)) (charged-more base _ _ (omega (arith, same)))
+
+  entry-given : (before : List (Entry Upload)) (e : Entry Upload) (after : List (Entry Upload)) → part.uploads ≡ before ++ e ∷ after → 0 < e.id
+  entry-given before e after is =
+      subst (λ (e : Entry Upload). 0 < e.id) (get_or_at before e after e (length before) refl) (subst (All (λ (e : Entry Upload). (0 < e.id) × (e.id < part.next))) is sound.given (length before) e (omega (arith, length-append before (e ∷ after)))).0
+
+  entry-earlier : (before : List (Entry Upload)) (e : Entry Upload) (after : List (Entry Upload)) → part.uploads ≡ before ++ e ∷ after → All (λ (a : Entry Upload). a.id < e.id) before
+  entry-earlier before e after is = before-below before after e s.numbers part sound is
 
   -- all uploads that are left are put back, and then the next id
   uploads-back : (next : ℕ) (before after : List (Entry Upload)) (others : List Restored) (end : PlainBook) → part.uploads ≡ before ++ after → All (λ (a : Entry Upload). a.id < next) before
@@ -139,13 +145,17 @@ module _ (s : Settings) (done rest : List TenantBook) (part : TenantBook) (base 
       charge-end s.numbers part next part.next next-fits (sources-below part.uploads next (subst (All (λ (a : Entry Upload). a.id < next)) all below) sound.later) in
       subst (λ (uploads : List (Entry Upload)). PutsBack (up_to next uploads) (piece.Next t part.next ∷ others) end) (sym all)
       (PutsBack-cons (up_to next part.uploads) (book_of s (done ++ part ∷ rest) (base + charge_in s.numbers part)) end (piece.Next t part.next) others
-      (place-there done rest (front part next part.uploads) t place) (next-back next next-fits) (next-with next same) rest-back)
+      (place-there done rest (front part next part.uploads) t place) (next-back next part.next part.uploads next-fits sound.last) (next-with next part.next part.uploads same) rest-back)
   uploads-back next before (e ∷ after) others end is below least rest-back =
-      let can : IsNextBack s.numbers part next before after e base = record { sound = sound; all = is; below = below; least = least; paid = paid; unspent = unspent } in
-      PutsBack-cons (up_to next before) (up_to (e.id + 1) (before ++ e ∷ [])) end (piece.Upload t (upload_kept before e)) (uploads_kept t (before ++ e ∷ []) after ++ piece.Next t part.next ∷ others)
-      (place-there done rest (front part next before) t place, asked-kept s.numbers part next before after e base can)
-      (upload-back next before after e can) (upload-with next before after e can)
-      (uploads-back (e.id + 1) (before ++ e ∷ []) after others end (is ∙ sym (append_assoc before (e ∷ []) after)) (next-below s.numbers part next before after e base can) (least-after s.numbers part next before after e base can) rest-back)
+      let can : IsNextBack s.numbers part next before after e base = record { sound = sound; all = is; below = below; fresh = least e.id (entry-given before e after is) (entry-earlier before e after is); paid = paid; unspent = unspent } in
+      let here : IsNextBack s.numbers part e.id before after e base = record { sound = sound; all = is; below = entry-earlier before e after is; fresh = omega arith; paid = paid; unspent = unspent } in
+      let id = given s.numbers part next before after e base can in
+      PutsBack-cons (up_to next before) (up_to e.id before) end (piece.Next t e.id) (piece.Upload t (upload_kept before e) ∷ uploads_kept t (before ++ e ∷ []) after ++ piece.Next t part.next ∷ others)
+      (place-there done rest (front part next before) t place) (next-back next e.id before can.fresh (omega (arith, id.1, sound.last))) (next-with next e.id before (before-paid s.numbers part next before after e base can ∙ sym (before-paid s.numbers part e.id before after e base here)))
+      (PutsBack-cons (up_to e.id before) (up_to (e.id + 1) (before ++ e ∷ [])) end (piece.Upload t (upload_kept before e)) (uploads_kept t (before ++ e ∷ []) after ++ piece.Next t part.next ∷ others)
+      (place-there done rest (front part e.id before) t place, asked-kept s.numbers part e.id before after e base here)
+      (upload-back e.id before after e here refl) (upload-with e.id before after e here)
+      (uploads-back (e.id + 1) (before ++ e ∷ []) after others end (is ∙ sym (append_assoc before (e ∷ []) after)) (next-below s.numbers part e.id before after e base here) (least-after s.numbers part e.id before after e base here) rest-back))
 
   -- a tenant's part is put back
   part-back : (others : List Restored) (end : PlainBook) → PutsBack (book_of s (done ++ part ∷ rest) (base + charge_in s.numbers part)) others end

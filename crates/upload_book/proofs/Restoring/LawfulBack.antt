@@ -211,6 +211,7 @@ IsAcceptable-from_none n charged part id u none =
 
 -- one that is not refused has its segments
 pub record IsBack (n : Numbers) (charged : ℕ) (part : TenantBook) (r : RestoredUpload) : Type 0 where
+  pub next : part.next ≡ r.id
   pub fresh : part.next ≤ r.id
   pub sent : List Segment
   pub is : sent_back (sent_in part.uploads) r.segments ≡ Some sent
@@ -218,12 +219,13 @@ pub record IsBack (n : Numbers) (charged : ℕ) (part : TenantBook) (r : Restore
 
 pub IsBack-from_none : (n : Numbers) (charged : ℕ) (part : TenantBook) (r : RestoredUpload) → restore_refusal n charged part r ≡ None → IsBack n charged part r
 IsBack-from_none n charged part r none =
-    let given = test-passed (ltb r.id part.next) _ _ none in
-    by (sent_back (sent_in part.uploads) r.segments) refl (ltb-false r.id part.next given.0) given.1
+    let given = test-passed (not (eqb r.id part.next)) _ _ none in
+    let next : r.id ≡ part.next = eqb-true r.id part.next (not-false _ given.0) in
+    by (sent_back (sent_in part.uploads) r.segments) refl (sym next) given.1
   where
-    by : (found : Option (List Segment)) → sent_back (sent_in part.uploads) r.segments ≡ found → part.next ≤ r.id → refusal_with n charged part r found ≡ None → IsBack n charged part r
-    by None is fresh never = absurd (cc)
-    by (Some sent) is fresh none = record { fresh = fresh; sent = sent; is = is; can = IsAcceptable-from_none n charged part r.id (upload_back r sent) none }
+    by : (found : Option (List Segment)) → sent_back (sent_in part.uploads) r.segments ≡ found → part.next ≡ r.id → refusal_with n charged part r found ≡ None → IsBack n charged part r
+    by None is next never = absurd (cc)
+    by (Some sent) is next none = record { next = next; fresh = omega arith; sent = sent; is = is; can = IsAcceptable-from_none n charged part r.id (upload_back r sent) none }
 
 -- an upload of its own has one segment
 own-sent-one : (standing : List Segment) (id : ℕ) (segments : List RestoredSegment) (sent : List Segment) → (bytes : List ℕ) × (segments ≡ record { origin = id; bytes = Some bytes } ∷ []) → sent_back standing segments ≡ Some sent

@@ -1,7 +1,7 @@
 -- An upload of its own that is put back: it is a new one under its id, with its bytes.
 use Rattle.std.proofs.Common.{◌≡◌, ℕ, ◌+◌, ◌-◌, ◌<◌, ◌≤◌, Bool, false, ◌||◌, ltb, leb, not, List, [], ◌∷◌, ◌++◌, length, Option, Some, unwrap_or, refl, inl, inr, sym, ap, ap₂, ◌∙◌, arith, append-nil}
 use Rattle.std.specs.List.{All}
-use Rattle.std.proofs.lemmas.Bool.{cases_Bool, ltb-false}
+use Rattle.std.proofs.lemmas.Bool.Decides.{eqb_tells}
 use Rattle.std.proofs.lemmas.List.Elements.{All-weaker}
 use Rattle.upload_book.specs.Account.{account_in, blocks_added}
 use Rattle.upload_book.specs.Append.{is_final, is_too_long}
@@ -97,9 +97,9 @@ module _ (n : Numbers) (charged : ℕ) (part : TenantBook) (r : RestoredUpload) 
 
   -- it is refused by its own tests
   pub refusal-own : first_that_holds (own_tests n (account_in n part charged) part r (length bytes)) ≡ restore_refusal n charged part r
-  refusal-own = elim (cases_Bool (ltb r.id part.next)) [
-    | inl given ↦ rw given refl
-    | inr new ↦
-        let fresh : part.next ≤ r.id = ltb-false r.id part.next new in
-        rw new (sym (tests-own fresh) ∙ ap (λ (u : Upload). first_that_holds (restore_tests n charged part r.id u)) (sym (upload-own r bytes own)) ∙ ap (refusal_with n charged part r) (sym (sent-own fresh)))
+  refusal-own = elim (eqb_tells r.id part.next) [
+    | inr other ↦ rw other.0 refl
+    | inl same ↦
+        let fresh : part.next ≤ r.id = (let next : r.id ≡ part.next = same.1 in omega arith) in
+        rw same.0 (sym (tests-own fresh) ∙ ap (λ (u : Upload). first_that_holds (restore_tests n charged part r.id u)) (sym (upload-own r bytes own)) ∙ ap (refusal_with n charged part r) (sym (sent-own fresh)))
   ]

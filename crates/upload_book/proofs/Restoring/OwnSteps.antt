@@ -58,8 +58,8 @@ module _ (b : StoredBook) (t : ℕ) (r : RestoredUpload) (bytes : List ℕ) (is 
   back : IsBack b.settings.numbers b.charged part r
   back = IsBack-from_none b.settings.numbers b.charged part r is.none
 
-  pub own-fresh : part.next ≤ r.id
-  own-fresh = back.fresh
+  pub own-next : part.next ≡ r.id
+  own-next = back.next
 
   sent-is : back.sent ≡ (r.id, bytes) ∷ []
   sent-is =
@@ -122,45 +122,44 @@ module _ (b : StoredBook) (t : ℕ) (r : RestoredUpload) (bytes : List ℕ) (is 
   own-lawful : IsLawful (with_tenant_book (plain_of b) t (with_back part r.id made))
   own-lawful = subst IsLawful with-own (IsLawful-upload (plain_of b) t r is.kept.lawful (part-within b t is.within) is.form is.none)
 
-  -- where its id is the next one it is a new upload
-  module _ (next : part.next ≡ r.id) where
-    new-own : with_back part r.id made ≡ with_new part made
-    new-own = ap (λ (id : ℕ). with_back part id made) (sym next)
+  -- as its id is the next one it is a new upload
+  new-own : with_back part r.id made ≡ with_new part made
+  new-own = ap (λ (id : ℕ). with_back part id made) (sym own-next)
 
-    -- the store with it
-    pub own-follows : (s : BlockStore) → plain_in s ≡ set (plain_in b.store) t (with_new (part_at b.store t) made) → SameSizes b.store.pool s.pool → s.room ≡ b.store.room → Follows b s t (with_new part made)
-    own-follows s plain sizes room = record {
-      plain = plain ∙ ap (λ part. set (plain_in b.store) t (with_new part made)) (sym (part-plain b t));
-      sizes = sizes;
-      room = room;
-    }
+  -- the store with it
+  pub own-follows : (s : BlockStore) → plain_in s ≡ set (plain_in b.store) t (with_new (part_at b.store t) made) → SameSizes b.store.pool s.pool → s.room ≡ b.store.room → Follows b s t (with_new part made)
+  own-follows s plain sizes room = record {
+    plain = plain ∙ ap (λ part. set (plain_in b.store) t (with_new part made)) (sym (part-plain b t));
+    sizes = sizes;
+    room = room;
+  }
 
-    own-totals : (charged : ℕ) → charged ≡ b.charged + own_blocks → with_tenant_book (plain_of b) t (with_new part made) ≡ book_at (plain_of b) (set (plain_in b.store) t (with_new part made)) charged b.released
-    own-totals charged at =
-        with_tenant_book-more (plain_of b) t own_blocks (with_new part made) (ap (charge_in b.settings.numbers) (sym new-own) ∙ pays)
-        ∙ ap (λ charged. book_at (plain_of b) (set (plain_in b.store) t (with_new part made)) charged b.released) (sym at)
+  own-totals : (charged : ℕ) → charged ≡ b.charged + own_blocks → with_tenant_book (plain_of b) t (with_new part made) ≡ book_at (plain_of b) (set (plain_in b.store) t (with_new part made)) charged b.released
+  own-totals charged at =
+      with_tenant_book-more (plain_of b) t own_blocks (with_new part made) (ap (charge_in b.settings.numbers) (sym new-own) ∙ pays)
+      ∙ ap (λ charged. book_at (plain_of b) (set (plain_in b.store) t (with_new part made)) charged b.released) (sym at)
 
-    -- the upload gets its end
-    pub own-renewed : IsRenewed (plain_of b) b.expiries.list t r.id (with_new part made) None r.expires
-    own-renewed =
-        let below = ids-below b.settings.numbers part sound in
-        subst (λ (id : ℕ). IsRenewed (plain_of b) b.expiries.list t id (with_new part made) None r.expires) next
-        (record {
-          lawful = is.kept.lawful;
-          are = is.kept.expiries;
-          within = part-within b t is.within;
-          was = next-none part below;
-          has = HasEnd-new part made below;
-          after = subst (λ (part : TenantBook). IsLawful (with_tenant_book (plain_of b) t part)) new-own own-lawful;
-        })
+  -- the upload gets its end
+  pub own-renewed : IsRenewed (plain_of b) b.expiries.list t r.id (with_new part made) None r.expires
+  own-renewed =
+      let below = ids-below b.settings.numbers part sound in
+      subst (λ (id : ℕ). IsRenewed (plain_of b) b.expiries.list t id (with_new part made) None r.expires) own-next
+      (record {
+        lawful = is.kept.lawful;
+        are = is.kept.expiries;
+        within = part-within b t is.within;
+        was = next-none part below;
+        has = HasEnd-new part made below;
+        after = subst (λ (part : TenantBook). IsLawful (with_tenant_book (plain_of b) t part)) new-own own-lawful;
+      })
 
-    -- it makes a book
-    pub IsBook-own : (s : BlockStore) (charged : ℕ) (e : ExpiryList) → Follows b s t (with_new part made) → charged ≡ b.charged + own_blocks → IsIndex b t (with_new part made) e → IsBook (record (stored_with b s charged b.released) { expiries = e })
-    IsBook-own s charged e follows at index =
-        IsBook-follows b s t (with_new part made) charged b.released e is.kept follows (own-totals charged at) own-renewed.after index
+  -- it makes a book
+  pub IsBook-own : (s : BlockStore) (charged : ℕ) (e : ExpiryList) → Follows b s t (with_new part made) → charged ≡ b.charged + own_blocks → IsIndex b t (with_new part made) e → IsBook (record (stored_with b s charged b.released) { expiries = e })
+  IsBook-own s charged e follows at index =
+      IsBook-follows b s t (with_new part made) charged b.released e is.kept follows (own-totals charged at) own-renewed.after index
 
-    -- which is the plain book with it
-    pub plain-own : (s : BlockStore) (charged : ℕ) → Follows b s t (with_new part made) → charged ≡ b.charged + own_blocks → plain_of (stored_with b s charged b.released) ≡ book_after_piece (plain_of b) (piece.Upload t r)
-    plain-own s charged follows at =
-        plain-follows b s t (with_new part made) charged b.released follows (own-totals charged at)
-        ∙ ap (with_tenant_book (plain_of b) t) (sym new-own) ∙ sym with-own ∙ sym (after-none (plain_of b) (piece.Upload t r) is.none)
+  -- which is the plain book with it
+  pub plain-own : (s : BlockStore) (charged : ℕ) → Follows b s t (with_new part made) → charged ≡ b.charged + own_blocks → plain_of (stored_with b s charged b.released) ≡ book_after_piece (plain_of b) (piece.Upload t r)
+  plain-own s charged follows at =
+      plain-follows b s t (with_new part made) charged b.released follows (own-totals charged at)
+      ∙ ap (with_tenant_book (plain_of b) t) (sym new-own) ∙ sym with-own ∙ sym (after-none (plain_of b) (piece.Upload t r) is.none)

@@ -1,5 +1,5 @@
 -- An upload of a lawful part is put back behind those before it.
-use Rattle.std.proofs.Common.{◌≡◌, ℕ, zero, suc, ◌+◌, ◌-◌, ◌<◌, ◌≤◌, max, Bool, true, false, ◌&&◌, ◌||◌, cond, ltb, leb, not, List, [], ◌∷◌, ◌++◌, map, length, get_or, Option, Some, None, IfSome, IsSome, is_some, unwrap_or, refl, inl, inr, sym, ap, ap₂, subst, ◌∙◌, arith, append_assoc, length-append}
+use Rattle.std.proofs.Common.{◌≡◌, ℕ, zero, suc, ◌+◌, ◌-◌, ◌<◌, ◌≤◌, max, Bool, true, false, ◌&&◌, ◌||◌, cond, eqb, ltb, leb, not, List, [], ◌∷◌, ◌++◌, map, length, get_or, Option, Some, None, IfSome, IsSome, is_some, unwrap_or, refl, inl, inr, sym, ap, ap₂, subst, ◌∙◌, arith, append_assoc, length-append}
 use Rattle.std.specs.List.{All, Contains, flat_map, list_all, zip}
 use Rattle.std.specs.List.Sorted.{IsStrictlyIncreasing}
 use Rattle.std.proofs.lemmas.Bool.{cases_lt}
@@ -90,7 +90,7 @@ list_all-from test [] all = refl
 list_all-from test (x ∷ xs) all = rw (All-head (λ x. test x ≡ true) x xs all) (list_all-from test xs (All-tail (λ x. test x ≡ true) x xs all))
 
 -- where ids ascend, those before an entry are below its
-before-below : (before after : List (Entry Upload)) (e : Entry Upload) (n : Numbers) (part : TenantBook) → IsTenantOf n part → part.uploads ≡ before ++ e ∷ after → All (λ (a : Entry Upload). a.id < e.id) before
+pub before-below : (before after : List (Entry Upload)) (e : Entry Upload) (n : Numbers) (part : TenantBook) → IsTenantOf n part → part.uploads ≡ before ++ e ∷ after → All (λ (a : Entry Upload). a.id < e.id) before
 before-below before after e n part sound is = λ k d within.
     let all : List (Entry Upload) = before ++ e ∷ after in
     let long : length all ≡ length before + length (e ∷ after) = length-append before (e ∷ after) in
@@ -156,13 +156,13 @@ none-holds : (b c d e f g h : Bool) → b ≡ true → c ≡ false → d ≡ tru
     → first_that_holds ((not b, Field) ∷ (c, TooLong) ∷ (not d, PartOpen) ∷ (e, Uploads) ∷ (f || g, Spent) ∷ (h, Quota) ∷ []) ≡ None
 none-holds b c d e f g h ib ic id ie if' ig ih = rw (ib, ic, id, ie, if', ig, ih) refl
 
--- An upload of a part comes next, behind those before it: the next id is the least that is above theirs. Its tenant may
--- pay for all, where so much is charged beside.
+-- An upload of a part comes next, behind those before it: the next id is above theirs, and not above its. Its tenant may pay
+-- for all, where so much is charged beside.
 pub record IsNextBack (n : Numbers) (part : TenantBook) (next : ℕ) (before after : List (Entry Upload)) (e : Entry Upload) (beside : ℕ) : Type 0 where
   pub sound : IsTenantOf n part
   pub all : part.uploads ≡ before ++ e ∷ after
   pub below : All (λ (a : Entry Upload). a.id < next) before
-  pub least : (id : ℕ) → 0 < id → All (λ (a : Entry Upload). a.id < id) before → next ≤ id
+  pub fresh : next ≤ e.id
   pub paid : charge_in n part ≤ part.quota
   pub unspent : beside + charge_in n part ≤ n.last_total
 
@@ -171,7 +171,7 @@ module _ (n : Numbers) (part : TenantBook) (next : ℕ) (before after : List (En
   entry-in P all =
       subst P (get_or_at before e after e (length before) refl) (subst (All P) can.all all (length before) e (omega (arith, length-append before (e ∷ after))))
 
-  given : (0 < e.id) × (e.id < part.next)
+  pub given : (0 < e.id) × (e.id < part.next)
   given = entry-in (λ e. (0 < e.id) × (e.id < part.next)) can.sound.given
 
   own : IsUploadOf n part e.kept
@@ -181,12 +181,12 @@ module _ (n : Numbers) (part : TenantBook) (next : ℕ) (before after : List (En
   older-before = λ k d within. subst (λ (a : Entry Upload). All (λ p. p < a.id) a.kept.parts) (get_or_append_left before (e ∷ after) d k within)
       (subst (All (λ (a : Entry Upload). All (λ p. p < a.id) a.kept.parts)) can.all can.sound.later k d (omega (arith, length-append before (e ∷ after))))
 
-  earlier : All (λ (a : Entry Upload). a.id < e.id) before
+  pub earlier : All (λ (a : Entry Upload). a.id < e.id) before
   earlier = before-below before after e n part can.sound can.all
 
   -- its id was not given before
   pub next-least : next ≤ e.id
-  next-least = can.least e.id given.0 earlier
+  next-least = can.fresh
 
   -- those before it cost as much by the next id as by the tenant's
   pub before-paid : charge_in n (front part next before) ≡ paid_for n part before
@@ -226,12 +226,12 @@ module _ (n : Numbers) (part : TenantBook) (next : ℕ) (before after : List (En
     concat = own.concat;
   }
 
-  -- is not refused,
-  pub restore-kept : restore_refusal n (beside + charge_in n (front part next before)) (front part next before) (upload_kept before e) ≡ None
-  restore-kept =
+  -- is not refused where it gets the next id,
+  pub restore-kept : next ≡ e.id → restore_refusal n (beside + charge_in n (front part next before)) (front part next before) (upload_kept before e) ≡ None
+  restore-kept next-is =
       let few : length before < n.uploads = omega (arith, can.sound.few, ap (length {A = Entry Upload}) can.all, length-append before (e ∷ after)) in
       let charged : ℕ = beside + charge_in n (front part next before) in
-      ap (λ (given : Bool). cond given (Some Field) (refusal_with n charged (front part next before) (upload_kept before e) (sent_back (sent_in before) (segments_kept (sent_in before) (sent_of e))))) (at-most _ _ next-least)
+      ap (λ (other : Bool). cond other (Some Field) (refusal_with n charged (front part next before) (upload_kept before e) (sent_back (sent_in before) (segments_kept (sent_in before) (sent_of e))))) (itself _ _ next-is)
       ∙ ap (refusal_with n charged (front part next before) (upload_kept before e)) sent-kept
       ∙ ap (λ u. first_that_holds (restore_tests n charged (front part next before) e.id u)) (upload-kept part before e own.kind)
       ∙ none-holds _ _ _ _ _ _ _ (ends-kind part e.kept e.kept.kind own.kind)
@@ -242,6 +242,9 @@ module _ (n : Numbers) (part : TenantBook) (next : ℕ) (before after : List (En
       (at-most _ _ (unspent _ _ _ _ _ more-paid all-paid can.unspent))
       (at-most _ _ (omega (arith, all-paid, can.paid)))
     where
+      itself : (next id : ℕ) → next ≡ id → not (eqb id next) ≡ false
+      itself next id is = grind (arith, nat_tests)
+
       not-le : (most k : ℕ) → k < most → leb most k ≡ false
       not-le most k less = grind (arith, nat_tests)
 

@@ -1,5 +1,5 @@
 -- An upload of its own as it is put back: as a new one with its bytes and its end.
-use Rattle.std.specs.Prelude.{ℕ, Bool, not, ◌||◌, List, [], ◌∷◌, length, nat_lt, nat_le, unwrap_or}
+use Rattle.std.specs.Prelude.{ℕ, Bool, not, ◌||◌, List, [], ◌∷◌, length, nat_lt, nat_le, ◌==◌, unwrap_or}
 use Rattle.upload_book.specs.Account.{account_with, blocks_added}
 use Rattle.upload_book.specs.Append.{is_too_long}
 use Rattle.upload_book.specs.Concat.{is_partial}
@@ -26,7 +26,7 @@ new_of r = record {
 abbrev pub own_tests : Numbers → Account → TenantBook → RestoredUpload → ℕ → List (Bool × Refusal)
 own_tests n account part r len =
     let after = account_with account (blocks_added n 0 len) in
-    (nat_lt r.id part.next || not (ends_rightly r.kind (is_reached r.declared len) r.expires), Field)
+    (not (r.id == part.next) || not (ends_rightly r.kind (is_reached r.declared len) r.expires), Field)
     ∷ (is_too_long n (unwrap_or r.declared n.max_size) len, TooLong)
     ∷ (nat_le n.uploads (length part.uploads), Uploads)
     ∷ (nat_lt n.last_id r.id || nat_lt n.last_total after.charged, Spent)

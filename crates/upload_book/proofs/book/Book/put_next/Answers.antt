@@ -41,8 +41,8 @@ invariant_of-self c =
     IsBook-next b r.tenant r.next c.self.invariant (within b c.args.self.now r c.self.invariant c.self.view_is c.requires) (ready b c.args.self.now r c.self.invariant c.self.view_is c.requires).accepted c.set_next.new.self
     (numbered b c.args.self.now r c.self.invariant c.self.view_is c.requires c.from.result c.set_next.new.self c.from.ensures c.set_next.ensures.plain c.set_next.ensures.pool c.set_next.ensures.room_stays)
 
-pub returns-clause-plain : goal.returns-clause-plain
-returns-clause-plain c =
+pub returns : goal.returns
+returns c =
     let b = the_view c.self.inside in
     let r = c.args.ready in
     rw (← c.self.view_is) (plain-numbered b r.tenant r.next c.self.invariant (within b c.args.self.now r c.self.invariant c.self.view_is c.requires) (ready b c.args.self.now r c.self.invariant c.self.view_is c.requires).accepted c.set_next.new.self

@@ -1,61 +1,160 @@
-use Rattle.std.proofs.Common.{◌≡◌, ℕ, ◌<◌, List, length, sym, ap, subst, ◌∙◌, arith}
-use Rattle.std.proofs.Math.ListN.{length-map}
-use Rattle.block_bodies.specs.Bodies.{HasRoom}
-use Rattle.block_pool.specs.Blocks.{Blocks}
-use Rattle.upload_book.specs.Book.{StoredBook, plain_of}
-use Rattle.upload_book.specs.declared.ready.ReadyNext.{ReadyNext}
+use Rattle.std.proofs.Common.{◌≡◌, ◌+◌, ◌<◌, ◌≤◌, ℕ, List, [], ◌∷◌, length, set, None, Some, Fits, w64, ap, ap₂, sym, ◌∙◌, subst, arith}
+use Rattle.block_bodies.specs.Changes.{SameSizes}
+use Rattle.upload_book.specs.Account.{blocks_between}
+use Rattle.upload_book.specs.Book.{StoredBook, IsBook, plain_of}
+use Rattle.upload_book.specs.contracts.book.Book.{the_view}
+use Rattle.upload_book.specs.Create.{upload_from}
 use Rattle.upload_book.specs.declared.ready.ReadyOwn.{ReadyOwn}
-use Rattle.upload_book.specs.declared.settings.TenantQuota.{TenantQuota}
-use Rattle.upload_book.specs.Lawful.{IsLawful}
-use Rattle.upload_book.specs.PlainBook.{PlainBook, tenant_book}
-use Rattle.upload_book.specs.Ready.{IsReadyForNext, IsReadyForOwn}
-use Rattle.upload_book.specs.Restore.{book_after_piece, piece_refusal}
-use Rattle.upload_book.specs.Restored as piece
-use Rattle.upload_book.specs.TenantBook.{TenantBook}
-use Rattle.upload_book.proofs.Restoring.TwoSteps.{two-after, two-is, two-next, two-none, two-settings}
+use Rattle.upload_book.specs.Expiries.{ends_of}
+use Rattle.upload_book.specs.declared.settings.Numbers.{Numbers}
+use Rattle.upload_book.specs.inside.Back.{new_of}
+use Rattle.upload_book.specs.NewUpload.{NewUpload}
+use Rattle.upload_book.specs.PlainBook.{tenant_book}
+use Rattle.upload_book.specs.Ready.{IsReadyForOwn}
+use Rattle.upload_book.specs.Restored.{RestoredUpload}
+use Rattle.upload_book.specs.BlockStore.{BlockStore, part_at, plain_in, stored_tenant_at}
+use Rattle.upload_book.specs.TenantBook.{TenantBook, with_new}
+use Rattle.upload_book.proofs.Restoring.OwnBack.{own-form}
+use Rattle.upload_book.proofs.Restoring.OwnSteps.{IsBook-own, IsOwnBack, own-charged, own-follows, own-id, own-next, own-renewed, own-room, own-room_blocks, own-taken, own_blocks, plain-own}
+use Rattle.upload_book.proofs.Steps.BookSteps.{Follows, expiries-room_is, part-plain, stored_tenants-settings}
+use Rattle.upload_book.proofs.Expiries.ExpirySteps.{AreExpiries-renewed, IsRenewed, renewed-few, renewed-known, renewed-room}
 use Rattle.upload_book.proofs.book.Book.put_own.Goals as goal
 
--- each tenant of the settings has a part
-within-tenants : (b : PlainBook) (t : ℕ) → IsLawful b → t < length b.settings.tenants → t < length b.tenants
-within-tenants b t lawful there =
-    let same : length b.tenants ≡ length b.settings.tenants = sym (length-map b.tenants (λ (part : TenantBook). part.quota)) ∙ ap (length {A = ℕ}) lawful.quotas ∙ length-map b.settings.tenants (λ (t : TenantQuota). t.quota) in
-    omega (arith, same)
+-- what was read of a book that is ready for an upload of its own under the next id
+record IsRead (b w : StoredBook) (r : ReadyOwn) (u : RestoredUpload) (place : ℕ) (read : List ℕ) (new : NewUpload) : Type 0 where
+  kept : IsBook b
+  is : b ≡ w
+  asked : IsReadyForOwn w r
+  upload : u ≡ r.upload
+  at : place ≡ r.tenant
+  read_is : (bytes : List ℕ) → r.upload.segments ≡ record { origin = r.upload.id; bytes = Some bytes } ∷ [] → read ≡ bytes
+  new_is : new ≡ new_of r.upload
 
-module _ (w m : StoredBook) (r : ReadyOwn) (n : ReadyNext) (numbered : n ≡ record { tenant = r.tenant; next = r.upload.id }) (lawful : IsLawful (plain_of w)) (asked : IsReadyForOwn w r) (put : plain_of m ≡ book_after_piece (plain_of w) (piece.Next n.tenant n.next)) (pool : m.store.pool ≡ w.store.pool) where
-  after : plain_of m ≡ book_after_piece (plain_of w) (piece.Next r.tenant r.upload.id)
-  after = put ∙ ap (λ (n : ReadyNext). book_after_piece (plain_of w) (piece.Next n.tenant n.next)) numbered
+module _ {b w : StoredBook} {r : ReadyOwn} {u : RestoredUpload} {place : ℕ} {read : List ℕ} {new : NewUpload} (s : IsRead b w r u place read new) where
+  ready : IsReadyForOwn b r
+  ready = subst (λ (b : StoredBook). IsReadyForOwn b r) (sym s.is) s.asked
 
-  within : r.tenant < length (plain_of w).tenants
-  within = within-tenants (plain_of w) r.tenant lawful asked.there
+  own_read : (bytes : List ℕ) × (r.upload.segments ≡ record { origin = r.upload.id; bytes = Some bytes } ∷ [])
+  own_read = own-form r.upload.kind r.upload.id r.upload.segments s.asked.own s.asked.form.segments
 
-  ready : IsReadyForOwn m r
-  ready = record {
-    there = subst (λ (b : PlainBook). r.tenant < length b.settings.tenants) (sym after) (subst (λ s. r.tenant < length s.tenants) (sym (two-settings (plain_of w) r.tenant r.upload lawful within asked.accepted)) asked.there);
-    own = asked.own;
-    form = asked.form;
-    accepted = ap (λ (b : PlainBook). piece_refusal b (piece.Upload r.tenant r.upload)) after ∙ two-none (plain_of w) r.tenant r.upload lawful within asked.accepted;
-    empty = asked.empty;
-    room = λ (bytes : List ℕ) is. subst (λ (p : Blocks). HasRoom p r.body (length bytes)) (sym pool) (asked.room bytes is);
-  }
+  abbrev bytes : List ℕ
+  bytes = own_read.0
 
-  next : (tenant_book (plain_of m) r.tenant).next ≡ r.upload.id
-  next = ap (λ (b : PlainBook). (tenant_book b r.tenant).next) after ∙ two-is (plain_of w) r.tenant r.upload lawful within asked.accepted
+  same : read ≡ bytes
+  same = s.read_is bytes own_read.1
 
-  both : (b : PlainBook) → b ≡ book_after_piece (plain_of m) (piece.Upload r.tenant r.upload) → b ≡ book_after_piece (plain_of w) (piece.Upload r.tenant r.upload)
-  both b is = is ∙ ap (λ (b : PlainBook). book_after_piece b (piece.Upload r.tenant r.upload)) after ∙ two-after (plain_of w) r.tenant r.upload lawful within asked.accepted
+  within : r.tenant < length b.store.stored_tenants
+  within = let there = ready.there in omega (arith, stored_tenants-settings b s.kept)
 
-pub put_next-requires : goal.put_next-requires
-put_next-requires c =
-    let w = c.args.self.now in
-    let r = c.args.ready in
-    let lawful : IsLawful (plain_of w) = c.settings-lawful.ensures.lawful in
-    subst (IsReadyForNext w) (sym c.next-next.ensures) (record { there = c.requires.there; accepted = two-next (plain_of w) r.tenant r.upload lawful (within-tenants (plain_of w) r.tenant lawful c.requires.there) c.requires.accepted })
+  back : IsOwnBack b r.tenant r.upload bytes
+  back = record { kept = s.kept; within = within; own = ready.own; form = ready.form; its = own_read.1; none = ready.accepted }
 
-pub add_own-requires-clause-ready : goal.add_own-requires-clause-ready
-add_own-requires-clause-ready c = ready c.args.self.now c.put_next.new.self c.args.ready c.next-next.result c.next-next.ensures c.settings-lawful.ensures.lawful c.requires c.put_next.ensures.plain c.put_next.ensures.pool
+  next : (tenant_book (plain_of b) r.tenant).next ≡ r.upload.id
+  next = own-next b r.tenant r.upload bytes back
 
-pub add_own-requires-clause-next : goal.add_own-requires-clause-next
-add_own-requires-clause-next c = next c.args.self.now c.put_next.new.self c.args.ready c.next-next.result c.next-next.ensures c.settings-lawful.ensures.lawful c.requires c.put_next.ensures.plain c.put_next.ensures.pool
+  next_stored : (stored_tenant_at b.store place).next ≡ r.upload.id
+  next_stored = ap (λ t. (part_at b.store t).next) s.at ∙ ap (λ (part : TenantBook). part.next) (sym (part-plain b r.tenant)) ∙ next
+
+  id_read : u.id ≡ r.upload.id
+  id_read = ap (λ (u : RestoredUpload). u.id) s.upload
+
+  expires_read : u.expires ≡ r.upload.expires
+  expires_read = ap (λ (u : RestoredUpload). u.expires) s.upload
+
+  -- the store has the upload
+  follows : (st : BlockStore) → plain_in st ≡ set (plain_in b.store) place (with_new (part_at b.store place) (upload_from new read u.expires)) → SameSizes b.store.pool st.pool → st.room ≡ b.store.room
+      → Follows b st r.tenant (with_new (tenant_book (plain_of b) r.tenant) (upload_from (new_of r.upload) bytes r.upload.expires))
+  follows st plain sizes room =
+      own-follows b r.tenant r.upload bytes back st
+      (plain ∙ ap (λ t. set (plain_in b.store) t (with_new (part_at b.store t) (upload_from new read u.expires))) s.at
+      ∙ ap (λ new. set (plain_in b.store) r.tenant (with_new (part_at b.store r.tenant) (upload_from new read u.expires))) s.new_is
+      ∙ ap₂ (λ bytes expires. set (plain_in b.store) r.tenant (with_new (part_at b.store r.tenant) (upload_from (new_of r.upload) bytes expires))) same expires_read)
+      sizes room
+
+  -- it gets its end
+  renewed : IsRenewed (plain_of b) b.expiries.list r.tenant u.id (with_new (tenant_book (plain_of b) r.tenant) (upload_from (new_of r.upload) bytes r.upload.expires)) None u.expires
+  renewed =
+      let made = with_new (tenant_book (plain_of b) r.tenant) (upload_from (new_of r.upload) bytes r.upload.expires) in
+      subst (λ id. IsRenewed (plain_of b) b.expiries.list r.tenant id made None u.expires) (sym id_read)
+      (subst (λ end. IsRenewed (plain_of b) b.expiries.list r.tenant r.upload.id made None end) (sym expires_read) (own-renewed b r.tenant r.upload bytes back))
+
+  taken : (n : ℕ) → n ≡ blocks_between b.store.pool.block_size 0 (length read) → n ≡ own_blocks b r.tenant r.upload bytes back
+  taken n at = own-taken b r.tenant r.upload bytes back n (at ∙ ap (λ (bytes : List ℕ). blocks_between b.store.pool.block_size 0 (length bytes)) same)
+
+-- what is charged in all fits
+fits_taken : (charged taken blocks most : ℕ) → most < 18446744073709551616 → taken ≡ blocks → charged + blocks ≤ most → Fits w64 (charged + taken)
+fits_taken charged taken blocks most fits same within = omega arith
+
+pub create-requires-clause-tenant : goal.create-requires-clause-tenant
+create-requires-clause-tenant c =
+    let s : IsRead (the_view c.self.inside) c.args.self.now c.args.ready (record { id = c.upload.inside.id; kind = c.upload.inside.kind; declared = c.upload.inside.declared; segments = c.upload.inside.segments.now; metadata = c.upload.inside.metadata.now; concat = c.upload.inside.concat.now; expires = c.upload.inside.expires }) c.from-place.result c.own_bytes-bytes.result.now c.as_new-new.result =
+    record { kept = c.self.invariant; is = c.self.view_is; asked = c.requires; upload = c.upload.view_is; at = c.from-place.ensures; read_is = c.own_bytes-bytes.ensures; new_is = c.as_new-new.ensures } in
+    rw c.from-place.ensures (within s)
+
+pub create-requires-clause-room : goal.create-requires-clause-room
+create-requires-clause-room c =
+    let s : IsRead (the_view c.self.inside) c.args.self.now c.args.ready (record { id = c.upload.inside.id; kind = c.upload.inside.kind; declared = c.upload.inside.declared; segments = c.upload.inside.segments.now; metadata = c.upload.inside.metadata.now; concat = c.upload.inside.concat.now; expires = c.upload.inside.expires }) c.from-place.result c.own_bytes-bytes.result.now c.as_new-new.result =
+    record { kept = c.self.invariant; is = c.self.view_is; asked = c.requires; upload = c.upload.view_is; at = c.from-place.ensures; read_is = c.own_bytes-bytes.ensures; new_is = c.as_new-new.ensures } in
+    rw c.from-place.ensures (own-room (the_view c.self.inside) c.args.ready.tenant c.args.ready.upload (bytes s) (back s))
+
+pub create-requires-clause-id : goal.create-requires-clause-id
+create-requires-clause-id c =
+    let s : IsRead (the_view c.self.inside) c.args.self.now c.args.ready (record { id = c.upload.inside.id; kind = c.upload.inside.kind; declared = c.upload.inside.declared; segments = c.upload.inside.segments.now; metadata = c.upload.inside.metadata.now; concat = c.upload.inside.concat.now; expires = c.upload.inside.expires }) c.from-place.result c.own_bytes-bytes.result.now c.as_new-new.result =
+    record { kept = c.self.invariant; is = c.self.view_is; asked = c.requires; upload = c.upload.view_is; at = c.from-place.ensures; read_is = c.own_bytes-bytes.ensures; new_is = c.as_new-new.ensures } in
+    let id = own-id (the_view c.self.inside) c.args.ready.tenant c.args.ready.upload (bytes s) (back s) in
+    omega (arith, id, next_stored s)
+
+pub create-requires-clause-blocks : goal.create-requires-clause-blocks
+create-requires-clause-blocks c =
+    let s : IsRead (the_view c.self.inside) c.args.self.now c.args.ready (record { id = c.upload.inside.id; kind = c.upload.inside.kind; declared = c.upload.inside.declared; segments = c.upload.inside.segments.now; metadata = c.upload.inside.metadata.now; concat = c.upload.inside.concat.now; expires = c.upload.inside.expires }) c.from-place.result c.own_bytes-bytes.result.now c.as_new-new.result =
+    record { kept = c.self.invariant; is = c.self.view_is; asked = c.requires; upload = c.upload.view_is; at = c.from-place.ensures; read_is = c.own_bytes-bytes.ensures; new_is = c.as_new-new.ensures } in
+    rw (same s) (own-room_blocks (the_view c.self.inside) c.args.ready.tenant c.args.ready.upload (bytes s) (back s))
+
+pub create-requires-clause-listed : goal.create-requires-clause-listed
+create-requires-clause-listed c =
+    let s : IsRead (the_view c.self.inside) c.args.self.now c.args.ready (record { id = c.upload.inside.id; kind = c.upload.inside.kind; declared = c.upload.inside.declared; segments = c.upload.inside.segments.now; metadata = c.upload.inside.metadata.now; concat = c.upload.inside.concat.now; expires = c.upload.inside.expires }) c.from-place.result c.own_bytes-bytes.result.now c.as_new-new.result =
+    record { kept = c.self.invariant; is = c.self.view_is; asked = c.requires; upload = c.upload.view_is; at = c.from-place.ensures; read_is = c.own_bytes-bytes.ensures; new_is = c.as_new-new.ensures } in
+    rw (same s) ((ready s).room (bytes s) (own_read s).1)
+
+pub overflow_add-self : goal.overflow_add-self
+overflow_add-self c =
+    let s : IsRead (the_view c.self.inside) c.args.self.now c.args.ready (record { id = c.upload.inside.id; kind = c.upload.inside.kind; declared = c.upload.inside.declared; segments = c.upload.inside.segments.now; metadata = c.upload.inside.metadata.now; concat = c.upload.inside.concat.now; expires = c.upload.inside.expires }) c.from-place.result c.own_bytes-bytes.result.now c.as_new-new.result =
+    record { kept = c.self.invariant; is = c.self.view_is; asked = c.requires; upload = c.upload.view_is; at = c.from-place.ensures; read_is = c.own_bytes-bytes.ensures; new_is = c.as_new-new.ensures } in
+    fits_taken _ _ _ _ (subst (λ (n : Numbers). n.last_total < 18446744073709551616) c.numbers-in_range.ensures.value c.numbers-in_range.ensures.last_total) (taken s c.create.result c.create.ensures.taken) (own-charged (the_view c.self.inside) c.args.ready.tenant c.args.ready.upload (bytes s) (back s))
+
+pub set_end-requires-clause-known : goal.set_end-requires-clause-known
+set_end-requires-clause-known c =
+    let s : IsRead (the_view c.self.inside) c.args.self.now c.args.ready (record { id = c.upload.inside.id; kind = c.upload.inside.kind; declared = c.upload.inside.declared; segments = c.upload.inside.segments.now; metadata = c.upload.inside.metadata.now; concat = c.upload.inside.concat.now; expires = c.upload.inside.expires }) c.from-place.result c.own_bytes-bytes.result.now c.as_new-new.result =
+    record { kept = c.self.invariant; is = c.self.view_is; asked = c.requires; upload = c.upload.view_is; at = c.from-place.ensures; read_is = c.own_bytes-bytes.ensures; new_is = c.as_new-new.ensures } in
+    renewed-known (renewed s)
+
+pub set_end-requires-clause-room : goal.set_end-requires-clause-room
+set_end-requires-clause-room c =
+    let s : IsRead (the_view c.self.inside) c.args.self.now c.args.ready (record { id = c.upload.inside.id; kind = c.upload.inside.kind; declared = c.upload.inside.declared; segments = c.upload.inside.segments.now; metadata = c.upload.inside.metadata.now; concat = c.upload.inside.concat.now; expires = c.upload.inside.expires }) c.from-place.result c.own_bytes-bytes.result.now c.as_new-new.result =
+    record { kept = c.self.invariant; is = c.self.view_is; asked = c.requires; upload = c.upload.view_is; at = c.from-place.ensures; read_is = c.own_bytes-bytes.ensures; new_is = c.as_new-new.ensures } in
+    let b = the_view c.self.inside in
+    subst (λ n. length b.expiries.list ≤ n) (expiries-room_is b c.self.invariant) (renewed-few (renewed s))
+
+pub set_end-requires-clause-more : goal.set_end-requires-clause-more
+set_end-requires-clause-more c =
+    let s : IsRead (the_view c.self.inside) c.args.self.now c.args.ready (record { id = c.upload.inside.id; kind = c.upload.inside.kind; declared = c.upload.inside.declared; segments = c.upload.inside.segments.now; metadata = c.upload.inside.metadata.now; concat = c.upload.inside.concat.now; expires = c.upload.inside.expires }) c.from-place.result c.own_bytes-bytes.result.now c.as_new-new.result =
+    record { kept = c.self.invariant; is = c.self.view_is; asked = c.requires; upload = c.upload.view_is; at = c.from-place.ensures; read_is = c.own_bytes-bytes.ensures; new_is = c.as_new-new.ensures } in
+    let b = the_view c.self.inside in
+    λ none some. subst (λ n. length b.expiries.list < n) (expiries-room_is b c.self.invariant) (renewed-room (renewed s) none some)
+
+pub invariant_of-self : goal.invariant_of-self
+invariant_of-self c =
+    let s : IsRead (the_view c.self.inside) c.args.self.now c.args.ready (record { id = c.upload.inside.id; kind = c.upload.inside.kind; declared = c.upload.inside.declared; segments = c.upload.inside.segments.now; metadata = c.upload.inside.metadata.now; concat = c.upload.inside.concat.now; expires = c.upload.inside.expires }) c.from-place.result c.own_bytes-bytes.result.now c.as_new-new.result =
+    record { kept = c.self.invariant; is = c.self.view_is; asked = c.requires; upload = c.upload.view_is; at = c.from-place.ensures; read_is = c.own_bytes-bytes.ensures; new_is = c.as_new-new.ensures } in
+    let b = the_view c.self.inside in
+    IsBook-own b c.args.ready.tenant c.args.ready.upload (bytes s) (back s) c.create.new.self (b.charged + c.create.result) c.set_end.new.self
+    (follows s c.create.new.self c.create.ensures.plain c.create.ensures.sizes c.create.ensures.room_stays) (ap (λ n. b.charged + n) (taken s c.create.result c.create.ensures.taken))
+    (record { expiries = AreExpiries-renewed (renewed s) c.set_end.new.self.list (c.set_end.ensures.ends (ends_of (plain_of b)) c.self.invariant.expiries (renewed s).was); room = c.set_end.ensures.room_stays })
 
 pub returns : goal.returns
-returns c = both c.args.self.now c.put_next.new.self c.args.ready c.next-next.result c.next-next.ensures c.settings-lawful.ensures.lawful c.requires c.put_next.ensures.plain c.put_next.ensures.pool (plain_of c.add_own.new.self) c.add_own.ensures
+returns c =
+    let s : IsRead (the_view c.self.inside) c.args.self.now c.args.ready (record { id = c.upload.inside.id; kind = c.upload.inside.kind; declared = c.upload.inside.declared; segments = c.upload.inside.segments.now; metadata = c.upload.inside.metadata.now; concat = c.upload.inside.concat.now; expires = c.upload.inside.expires }) c.from-place.result c.own_bytes-bytes.result.now c.as_new-new.result =
+    record { kept = c.self.invariant; is = c.self.view_is; asked = c.requires; upload = c.upload.view_is; at = c.from-place.ensures; read_is = c.own_bytes-bytes.ensures; new_is = c.as_new-new.ensures } in
+    let b = the_view c.self.inside in
+    rw (← c.self.view_is) (plain-own b c.args.ready.tenant c.args.ready.upload (bytes s) (back s) c.create.new.self (b.charged + c.create.result)
+    (follows s c.create.new.self c.create.ensures.plain c.create.ensures.sizes c.create.ensures.room_stays) (ap (λ n. b.charged + n) (taken s c.create.result c.create.ensures.taken)))
