@@ -27,3 +27,10 @@ pub record ServesKept (s : Settings) (request : Request) (now : ℕ) (reply : Re
   pub granted : Desk
   pub grants : granted ≡ record old { room = granted.room }
   pub serves : ServesTurn s request now reply granted new
+
+-- The desk may have been granted room for records, and may then have ended the uploads that had expired at a moment, or read
+-- that there were none.
+pub record SweepsKept (s : Settings) (now : ℕ) (old new : Desk) : Type 0 where
+  pub granted : Desk
+  pub grants : granted ≡ record old { room = granted.room }
+  pub sweeps : SweepsExpired s now granted new ⊎ (new ≡ granted)

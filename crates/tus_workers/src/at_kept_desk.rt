@@ -1,6 +1,6 @@
-ghost use Rattle.std.specs.Prelude.{◌≡◌, ◌⊎◌, IsTrue, is_some};
+ghost use Rattle.std.specs.Prelude.{◌≡◌, IsTrue, is_some};
 ghost use mathlib.Core.List.{IsPrefix};
-ghost use Rattle.tus_workers.specs.Serving.{ServesKept, SweepsExpired};
+ghost use Rattle.tus_workers.specs.Serving.{ServesKept, SweepsKept};
 
 use crate::at_desk::AtDesk;
 use crate::holding::HoldsBack;
@@ -9,7 +9,7 @@ use http_wire::Answer;
 use std::sync::Wait;
 use std::sync::ledger::Ledger;
 use tus_shared::{Charges, Desk, Gate};
-use tus_steps::{PlacedReply, Request};
+use tus_steps::{Method, PlacedReply, Request};
 use upload_book::Moment;
 
 /// How many bytes the record of a change has at most, besides the body of its request: its texts are of a head of at most
@@ -17,7 +17,7 @@ use upload_book::Moment;
 const RECORD_BYTES: u64 = 32_768;
 
 /// A desk of a store that may outlive its process, as what answers the requests of connections. Where changes are journalled
-/// it holds back its replies, and before a request there is made room for the record of what that may change.
+/// it holds back its replies, and before a request, or a sweep, there is made room for the record of what that may change.
 #[derive(Drop)]
 pub struct AtKeptDesk<
     'a,
@@ -59,11 +59,38 @@ impl<
             .keep(self.at.rt, self.at.shared, &mut self.at.desk)
     }
 
-    // Ends the uploads that have expired at this moment, unless it was asked for that before.
+    // Ends the uploads that have expired at this moment, unless it was asked for that before. Room for the record of that is
+    // made first.
     pub(crate) fn sweep_once(&mut self, now: Moment)
-        ensures { SweepsExpired C.settings now self.old.at.desk self.new.at.desk ⊎ (self.new.at.desk ≡ self.old.at.desk) }
+        ensures { SweepsKept C.settings now self.old.at.desk self.new.at.desk }
     {
+        self.make_sweep_room(now);
         self.at.sweep_once(now);
+    }
+
+    // Sees to it that there is room for the record of a sweep, where it was not asked yet whether uploads have expired at this
+    // moment.
+    fn make_sweep_room(&mut self, now: Moment)
+        ensures { self.new.at.desk ≡ record self.old.at.desk { room = self.new.at.desk.room } }
+    {
+        if self.at.asked != Some(now) {
+            self.keeping.make_room(self.at.rt, &mut self.at.desk, 0);
+        }
+    }
+
+    // Sees to it that there is room for the records of what a request may do at this moment: what it changes, and the sweep
+    // before it. A HEAD does neither, and asks for none.
+    fn make_room_for(&mut self, request: &Request, now: Moment)
+        ensures { self.new.at.desk ≡ record self.old.at.desk { room = self.new.at.desk.room } }
+    {
+        match request.method {
+            Method::Post | Method::Patch | Method::Delete => {
+                let bytes = (request.body.len() as u64).saturating_add(RECORD_BYTES);
+                self.keeping.make_room(self.at.rt, &mut self.at.desk, bytes);
+            }
+            Method::Get | Method::Options | Method::Other => self.make_sweep_room(now),
+            Method::Head => {}
+        }
     }
 
     // The desk, without what keeps what happens there.
@@ -101,8 +128,7 @@ impl<
     }
 
     fn answer(&mut self, request: &Request, now: Moment, reply: &mut PlacedReply) {
-        let bytes = (request.body.len() as u64).saturating_add(RECORD_BYTES);
-        self.keeping.make_room(self.at.rt, &mut self.at.desk, bytes);
+        self.make_room_for(request, now);
         self.at.answer(request, now, reply);
     }
 }

@@ -1,5 +1,6 @@
 //! A worker that serves many clients at once, over its one desk.
-ghost use Rattle.std.specs.Prelude.{◌≡◌, ◌+◌, ◌≤◌, ◌<◌, ◌^◌, None, true, false};
+ghost use Rattle.std.specs.Prelude.{◌≡◌, ◌+◌, ◌≤◌, ◌<◌, ◌^◌, None, Some, true, false};
+ghost use Rattle.tus_workers.specs.Serving.{SweepsKept};
 
 use crate::accept::Accept;
 use crate::at_desk::AtDesk;
@@ -380,7 +381,7 @@ impl<
                     .crowd
                     .admit(door.registry(), stream, attended, second);
                 let now = rounds.clock.moment();
-                let has_swept = sweep_expired(self.rt, &mut worker.desk, self.shared, now);
+                let has_swept = self.sweep_once(&mut worker.desk, &mut rounds.asked, now);
                 rounds.note_sweeps(u64::from(has_swept));
             }
             Entry::Refused => self.say(
@@ -388,6 +389,20 @@ impl<
             ),
             Entry::Nobody => {}
         }
+    }
+
+    // Ends the uploads that have expired at this moment, unless it was asked for that before. Room for the record of that is made
+    // first. It tells whether it looked for them with the lock.
+    fn sweep_once(&self, desk: &mut Desk<C, R, M>, asked: &mut Option<Moment>, now: Moment) -> bool
+        ensures sweeps { SweepsKept C.settings now desk.old desk.new }
+        ensures asked { asked.new ≡ Some now }
+    {
+        if *asked == Some(now) {
+            return false;
+        }
+        *asked = Some(now);
+        self.keeping.make_room(self.rt, desk, 0);
+        sweep_expired(self.rt, desk, self.shared, now)
     }
 
     // Whether it has more clients than others, by more than one.

@@ -47,8 +47,6 @@ pub(crate) struct Watch<'a> {
     sweeps: u64,
     // How many lines were lost that nobody counted yet.
     lost: u64,
-    // The last write to the log failed, so its last line may be a part of one.
-    is_torn: bool,
 }
 
 impl<'a> Watch<'a> {
@@ -65,7 +63,6 @@ impl<'a> Watch<'a> {
             accepted: 0,
             sweeps: 0,
             lost: 0,
-            is_torn: false,
         }
     }
 
@@ -166,18 +163,14 @@ impl<'a> Watch<'a> {
     }
 
     // Writes the lines that wait. Where that fails they are lost.
-    fn write<H: Eprint>(&mut self, rt: &H) {
+    fn write<H: Wait + Eprint>(&mut self, rt: &H) {
         if self.log.waiting().is_empty() {
             return;
-        }
-        if self.is_torn {
-            self.is_torn = !self.watching.write(rt, b"\n");
         }
         if self.watching.write(rt, self.log.waiting()) {
             self.log.clear();
             return;
         }
-        self.is_torn = true;
         let lines = self
             .log
             .waiting()

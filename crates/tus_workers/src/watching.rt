@@ -22,6 +22,8 @@ pub enum LogTarget {
 pub struct Watching {
     pub(crate) counts: Mutex<Counts>,
     log: Option<LogTarget>,
+    // Whether the log's file ends within a line, since a write to it failed in part. Who writes to the file holds it.
+    is_torn: Mutex<bool>,
     // Where numbers are asked for, until a worker has taken it.
     metrics: Mutex<Option<TcpListener>>,
     // The file by which the system tells how many pages of the process are in memory.
@@ -40,6 +42,7 @@ impl Watching {
         Watching {
             counts: Mutex::new(Counts::new(alloc)),
             log,
+            is_torn: Mutex::new(false),
             metrics: Mutex::new(metrics),
             pages,
         }
@@ -55,18 +58,32 @@ impl Watching {
         self.metrics.lock(rt).take()
     }
 
-    /// Writes lines to the log. It is false where that failed; then a part of them may have been written.
-    pub(crate) fn write<H: Eprint>(&self, rt: &H, lines: &[u8]) -> bool {
+    /// Writes lines to the log. It is false where that failed; then a part of them may have been written, and the next lines
+    /// begin behind the end of a line.
+    pub(crate) fn write<H: Wait + Eprint>(&self, rt: &H, lines: &[u8]) -> bool {
         match &self.log {
             None => true,
-            Some(LogTarget::Errors) => match str::from_utf8(lines) {
-                Ok(text) => rt.eprint(text).is_ok(),
-                Err(_) => false,
-            },
+            Some(LogTarget::Errors) => print_each(rt, lines),
             Some(LogTarget::File(file)) => {
+                let mut is_torn = self.is_torn.lock(rt);
                 let mut file = file;
-                file.write_all(lines).is_ok()
+                if *is_torn && file.write_all(b"\n").is_err() {
+                    return false;
+                }
+                *is_torn = file.write_all(lines).is_err();
+                !*is_torn
             }
         }
     }
+}
+
+// Prints each line to standard error in a call of its own, since a longer text is written in pieces, between which those of
+// another worker may come. Whether all could be written.
+fn print_each<H: Eprint>(rt: &H, lines: &[u8]) -> bool {
+    lines
+        .split_inclusive(|byte| *byte == b'\n')
+        .all(|line| match str::from_utf8(line) {
+            Ok(text) => rt.eprint(text).is_ok(),
+            Err(_) => false,
+        })
 }
