@@ -4,6 +4,7 @@ sys.path.insert(0, os.path.dirname(os.path.dirname(os.path.abspath(__file__))))
 import re
 import socket
 import tempfile
+import time
 from clients import Server, creation, patch, reply, request
 
 BODY = b'a' * (16 << 20)
@@ -17,6 +18,8 @@ with tempfile.TemporaryDirectory() as folder:
         reply(client)
         client.sendall(patch('/files/acme/1', 0, BODY))
         reply(client)
+        while 'PATCH' not in open(path).read():
+            time.sleep(0.01)
         client.sendall(request('GET', '/files/acme/1'))
         balance = server.process.stdout.read()
     for line in open(path):
