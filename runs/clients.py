@@ -50,9 +50,19 @@ def free_port():
         return free.getsockname()[1]
 
 
-def asked_at(port, question, *fields, address='127.0.0.1'):
-    """What is answered at the port for numbers."""
-    with socket.create_connection((address, port), timeout=30) as client:
+def other_address():
+    """An address of this machine that is not on its loopback; none where it has none."""
+    with socket.socket(socket.AF_INET, socket.SOCK_DGRAM) as probe:
+        try:
+            probe.connect(('192.0.2.1', 9))
+        except OSError:
+            return None
+        return probe.getsockname()[0]
+
+
+def asked_at(port, question, *fields, address='127.0.0.1', source=None):
+    """What is answered at the port for numbers, of this address, to who asks from that one."""
+    with socket.create_connection((address, port), timeout=30, source_address=source and (source, 0)) as client:
         client.sendall('\r\n'.join([f'{question} HTTP/1.1', 'Host: x', *fields, '', '']).encode())
         return everything(client)
 

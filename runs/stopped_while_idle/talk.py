@@ -1,20 +1,8 @@
 import os
 import sys
 sys.path.insert(0, os.path.dirname(os.path.dirname(os.path.abspath(__file__))))
-import socket
 import time
-from clients import Server, asked_at, creation, everything, free_port, patch, reply
-
-
-def other_address():
-    """An address of this machine that is not on its loopback; none where it has none."""
-    with socket.socket(socket.AF_INET, socket.SOCK_DGRAM) as probe:
-        try:
-            probe.connect(('192.0.2.1', 9))
-        except OSError:
-            return None
-        return probe.getsockname()[0]
-
+from clients import Server, asked_at, creation, everything, free_port, other_address, patch, reply
 
 port = free_port()
 server = Server([*sys.argv[1:], '--address', '0.0.0.0', '--metrics', str(port)])
@@ -26,8 +14,9 @@ for _ in range(2):
 print('GET /health', asked_at(port, 'GET /health').splitlines()[0])
 print('GET /stop', asked_at(port, 'GET /stop'))
 print('by a page', asked_at(port, 'POST /stop', 'Origin: http://x'))
+# Who comes from an address that is neither of the loopback nor the one that is asked is as one on another machine.
 address = other_address()
-refused = asked_at(port, 'POST /stop', address=address).split(' ')[1] if address else '403'
+refused = asked_at(port, 'POST /stop', source=address).split(' ')[1] if address else '403'
 print('from elsewhere', refused)
 print('GET /health', asked_at(port, 'GET /health').splitlines()[0])
 began = time.monotonic()

@@ -7,6 +7,9 @@ from clients import Server, creation, everything, patch, request
 
 HOSTILE = b'GET /files/acme/1\x0a"Thu, 01 Jan 1970 00:00:00 GMT" 1.2.3.4:5 acme GET / HTTP/1.1\r\nHost: x\r\n\r\n'
 
+# Of an upload that never was, of a tenant that is none, of no upload, and of a tenant.
+REFUSED = ['/files/acme/9', '/files/nobody/1', '/nowhere', '/files/acme']
+
 with tempfile.TemporaryDirectory() as folder:
     path = os.path.join(folder, 'log')
     server = Server([*sys.argv[1:], '--log', path])
@@ -19,6 +22,11 @@ with tempfile.TemporaryDirectory() as folder:
         everything(client)
     with server.connect() as client:
         client.sendall(patch('/files/acme/1', 5, b'he', length=5))
+        everything(client)
+    with server.connect() as client:
+        client.sendall(b''.join(request('HEAD', path) for path in REFUSED) + request('DELETE', '/files/acme/1')
+                       + request('HEAD', '/files/acme/1') + b'HEAD /files/acme/1 HTTP/1.1\r\nHost: x\r\n\r\n'
+                       + request('OPTIONS', '*', 'Connection: close'))
         everything(client)
     balance = server.process.stdout.read()
     for line in open(path):

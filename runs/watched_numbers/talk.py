@@ -32,7 +32,7 @@ port = free_port()
 server = Server([*sys.argv[1:], '--metrics', str(port)])
 with server.connect() as client:
     client.sendall(creation('acme', 5) + patch('/files/acme/1', 0, b'hello') + request('HEAD', '/files/acme/1')
-                   + creation('beta', 9000) + patch('/files/beta/1', 0, b'x' * 5000)
+                   + creation('beta', 9000) + creation('beta', 1) + patch('/files/beta/1', 0, b'x' * 5000)
                    + request('OPTIONS', '*', 'Connection: close'))
     everything(client)
 with server.connect() as client:

@@ -1,10 +1,10 @@
-ghost use Rattle.std.specs.Prelude.{◌≡◌, ℕ, ◌+◌, ◌-◌, ◌*◌, ◌%◌, ◌^◌, ◌<◌, ◌≤◌, ◌↔◌, [], ◌∷◌, ◌++◌, length, take, max, min, IfOk, IfErr, IsOk, OnOk, OnErr, slice_get, slice_index, vec_len, vec_capacity};
+ghost use Rattle.std.specs.Prelude.{◌≡◌, ℕ, ◌+◌, ◌-◌, ◌*◌, ◌%◌, ◌^◌, ◌<◌, ◌≤◌, ◌↔◌, [], ◌∷◌, ◌++◌, drop, length, take, max, min, IfOk, IfErr, IsOk, OnOk, OnErr, slice_get, slice_index, vec_len, vec_capacity};
 ghost use Rattle.block_pool.specs.Blocks.{free_in, places_of, count_at};
 ghost use Rattle.block_bodies.specs.Bodies.{Chain, IsBodyOf, IsHeld, IsLastOwn, HasRoom, StandsOnce, blocks_with, content_of};
 ghost use Rattle.block_bodies.specs.Changes.{GivesBack, Holds, MayHold, Puts};
 
 use crate::fault::BodyFault;
-use crate::unheld::Unheld;
+use crate::unheld::{Unheld, hold_each};
 use block_pool::{BlockId, Pool};
 use std::alloc::{AllocError, Global};
 use std::marker::Model;
@@ -41,6 +41,17 @@ impl Body {
             blocks: Vec::new(alloc),
             len: 0,
         }
+    }
+
+    /// A body of no bytes whose list has room for so many blocks. An `AllocError` says that there was no memory for it,
+    /// which never comes for no blocks.
+    pub fn with_room(alloc: Global, blocks: usize) -> Result<Body, AllocError>
+        ensures value { IfOk result (λ x. x ≡ record { blocks = []; len = 0; room = x.room }) }
+        ensures room { IfOk result (λ x. blocks ≤ x.room) }
+        ensures once { IfOk result (λ x. StandsOnce x.blocks) }
+        ensures empty { blocks ≡ 0 → IsOk result }
+    {
+        Ok(Body::of(Vec::with_capacity(alloc, blocks)?, 0))
     }
 
     pub(crate) fn of(blocks: Vec<BlockId>, len: u64) -> Body
@@ -228,6 +239,23 @@ impl Body {
         Ok(self.list()?.hold(pool))
     }
 
+    /// Makes a body that has no blocks one of these blocks, each held once more. It cannot fail, takes no memory and touches
+    /// no byte: the body's list has room for the blocks. Each must be held less than 2^64 - 1 times.
+    pub fn share_into(&self, body: &mut Body, pool: &mut Pool)
+        requires may { MayHold pool.old self.now.blocks }
+        requires empty { body.old.blocks ≡ [] }
+        requires room { length self.now.blocks ≤ body.old.room }
+        ensures blocks { body.new.blocks ≡ self.now.blocks }
+        ensures len { body.new.len ≡ self.now.len }
+        ensures once { StandsOnce body.new.blocks }
+        ensures holds { Holds pool.old self.now.blocks pool.new }
+    {
+        hold_each(pool, &self.blocks);
+        let copied = body.blocks.extend_from_slice(&self.blocks);
+        prove!(copied.is_ok());
+        body.len = self.len;
+    }
+
     /// A copy of the list of blocks, which [`Unheld::hold`] makes a body. An `AllocError` says that there was
     /// no memory for it, which never comes where there are no blocks.
     pub fn list(&self) -> Result<Unheld, AllocError>
@@ -270,6 +298,23 @@ impl Body {
             prove!(copied.is_ok());
             left -= n;
         }
+    }
+
+    /// The body's bytes from an offset on, as many as lie together in one block; none from its end on. So a body can be read
+    /// piece by piece where it lies. It takes no memory and copies no byte.
+    pub fn bytes_from<'a>(&self, pool: &'a Pool, offset: u64) -> &'a [u8]
+        requires { IsBodyOf pool.now self.now }
+        ensures bytes { result.now ≡ take (length result.now) (drop offset (content_of pool.now self.now)) }
+        ensures some { offset < self.now.len → 0 < length result.now }
+    {
+        if offset >= self.len {
+            return &[];
+        }
+        let size = u64::from(pool.block_size());
+        let block = self.blocks[(offset / size) as usize];
+        let start = offset % size;
+        let end = (self.len - (offset - start)).min(size);
+        &pool.bytes(block)[start as usize..end as usize]
     }
 
     /// Ends the body: each of its blocks is held once less. Gives how many became free, which are those that

@@ -48,7 +48,8 @@ impl Unheld {
     }
 }
 
-fn hold_each(pool: &mut Pool, blocks: &[BlockId])
+/// Holds each block of a list once more.
+pub(crate) fn hold_each(pool: &mut Pool, blocks: &[BlockId])
     requires { MayHold pool.old blocks.now }
     ensures { Holds pool.old blocks.now pool.new }
 {

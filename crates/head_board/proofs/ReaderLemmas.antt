@@ -15,9 +15,11 @@ use Rattle.upload_book.proofs.Heads.HeadParts.{head_part-tenant, row-kept}
 use Rattle.head_board.specs.declared.board_copy.BoardCopy.{BoardCopy}
 use Rattle.head_board.specs.declared.board_copy.View.{View}
 use Rattle.head_board.specs.declared.head_reader.Found.{Found}
+use Rattle.head_board.specs.declared.totals.Totals.{Totals}
 use Rattle.head_board.specs.Board.{row_read}
 use Rattle.head_board.specs.Events.{HaveHappened, book_at}
 use Rattle.head_board.specs.Expired.{NoneHasExpired}
+use Rattle.head_board.specs.Totals.{totals_of}
 use Rattle.head_board.specs.inside.EventLog.{LogPrefix}
 use Rattle.head_board.specs.inside.Showing.{IsFound, log_of}
 
@@ -74,4 +76,15 @@ none-right v s seen now (Some f) knows log there found = (
   subst (λ (t : LogPrefix). IsPrefix seen.events t.events) (sym found.0) there.begins,
   found-happened v s seen f knows there found.0,
   subst (λ (h : Heads). NoneHasExpired now h) (found-heads v s seen f knows there found.0) found.1,
+)
+
+-- and the totals after what happened
+pub totals-right : (v : View) (s : BoardCopy) (seen found : LogPrefix) (totals : Totals) → v.knows ≡ true → log_of v.log ≡ seen.book → IsFound v seen s
+    → found ≡ s.seen → totals ≡ totals_of s.table
+    → (found.book ≡ seen.book) × IsPrefix seen.events found.events × HaveHappened v.settings found.events × (totals ≡ totals_of (heads_of (book_at v.settings found.events)))
+totals-right v s seen found totals knows log there is told = (
+  ap (λ (t : LogPrefix). t.book) is ∙ sym (there.fits knows).1 ∙ log,
+  subst (λ (t : LogPrefix). IsPrefix seen.events t.events) (sym is) there.begins,
+  found-happened v s seen found knows there is,
+  told ∙ ap totals_of (found-heads v s seen found knows there is),
 )

@@ -12,6 +12,8 @@ use Rattle.upload_book.specs.Settings.{Settings}
 use Rattle.head_board.specs.Event.{Event}
 use Rattle.head_board.specs.Events.{HaveHappened, book_at}
 use Rattle.head_board.specs.Expired.{NoneHasExpired}
+use Rattle.head_board.specs.Totals.{totals_of}
+use Rattle.head_board.specs.declared.totals.Totals.{Totals}
 
 -- The settings of the book, the log of the events that were shown, and all of these.
 pub record BoardView : Type 0 where
@@ -49,3 +51,9 @@ pub record SeesNoneExpired (s : Settings) (seen events : List Event) (now : ℕ)
   pub begins : IsPrefix seen events
   pub happened : HaveHappened s events
   pub none : NoneHasExpired now (heads_of (book_at s events))
+
+-- Who has seen some events reads totals: those of the plain book after events that begin with these.
+pub record ReadsTotals (s : Settings) (seen events : List Event) (totals : Totals) : Type 0 where
+  pub begins : IsPrefix seen events
+  pub happened : HaveHappened s events
+  pub tells : totals ≡ totals_of (heads_of (book_at s events))

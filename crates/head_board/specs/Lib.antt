@@ -4,5 +4,6 @@ pub mod Event
 pub mod Events
 pub mod Expired
 pub mod Room
+pub mod Totals
 pub mod Laws
 pub mod inside

@@ -1,8 +1,9 @@
 ghost use Rattle.std.specs.Prelude.{◌≡◌, false, true, IfNone, IfOk, IfSome, Ok, Some};
 ghost use mathlib.Core.List.{IsPrefix};
-ghost use Rattle.head_board.specs.Board.{ReadsHead, SeesNoneExpired, row_read};
+ghost use Rattle.head_board.specs.Board.{ReadsHead, ReadsTotals, SeesNoneExpired, row_read};
 ghost use Rattle.head_board.specs.Events.{HaveHappened, book_at};
 ghost use Rattle.head_board.specs.Expired.{NoneHasExpired};
+ghost use Rattle.head_board.specs.Totals.{totals_of};
 ghost use Rattle.head_board.specs.inside.Showing.{log_of};
 ghost use Rattle.left_right.specs.Sides.{view as known_at};
 ghost use Rattle.upload_book.specs.Heads.{heads_of, shown};
@@ -13,6 +14,7 @@ use crate::board_copy::BoardCopy;
 use crate::entering::{Missed, enter};
 use crate::event_log::SeenEvents;
 use crate::showing::BoardReader;
+use crate::totals::Totals;
 use core::mem::replace_with;
 use std::marker::Model;
 use upload_book::{HeadRow, Moment, Name, Refusal};
@@ -71,6 +73,13 @@ struct EndQuery {
 #[derive(Drop)]
 struct Found {
     read: Result<(), Refusal>,
+    seen: SeenEvents,
+}
+
+// What is found: totals, and the events on which they rest.
+#[derive(Drop)]
+struct FoundTotals {
+    totals: Totals,
     seen: SeenEvents,
 }
 
@@ -168,6 +177,33 @@ impl HeadReader {
             }
         }
     }
+
+    /// Reads what the board tells of all tenants: what is charged and paid, and how many uploads each has. It is at least as
+    /// new as what the reader has seen, and the reader has seen the events on which it rests then. It takes no lock and no
+    /// memory, waits for nobody, and looks at no row.
+    ///
+    /// `None` says that the reader has missed the board, as [`HeadReader::look`] does. All else of the reader is as it was.
+    pub fn totals(&mut self) -> Option<Totals>
+        ensures reads { IfSome result (ReadsTotals self.old.settings self.old.events self.new.events) }
+        ensures sees { IfSome result (λ totals. self.new ≡ record self.old { events = self.new.events }) }
+        ensures misses { IfNone result (self.new ≡ record self.old { missed = true }) }
+    {
+        match replace_with(&mut self.seat, self.seen.again(), read_totals) {
+            Ok(
+                FoundTotals {
+                    totals,
+                    seen: shown,
+                },
+            ) => {
+                self.seen = shown;
+                Some(totals)
+            }
+            Err(missed) => {
+                self.missed = Some(missed);
+                None
+            }
+        }
+    }
 }
 
 // Enters the board, and reads what it shows, with the row put to its place. The place at the board is the same after it.
@@ -242,4 +278,38 @@ fn seen_unexpired(copy: &BoardCopy, now: Moment) -> Option<SeenEvents>
         return None;
     }
     Some(copy.seen.again())
+}
+
+// Enters the board, and tells the totals that it shows. The place is the same after it.
+fn read_totals(seat: Seat, seen: SeenEvents) -> (Seat, Result<FoundTotals, Missed>)
+    requires knows { (known_at seat.reader.place).knows ≡ true }
+    requires log { log_of (known_at seat.reader.place).log ≡ seen.book }
+    ensures place { known_at result.0.reader.place ≡ known_at seat.reader.place }
+    ensures found { IfOk result.1 (λ found.
+        (found.seen.book ≡ seen.book)
+        × IsPrefix seen.events found.seen.events
+        × HaveHappened (known_at seat.reader.place).settings found.seen.events
+        × (found.totals ≡ totals_of (heads_of (book_at (known_at seat.reader.place).settings found.seen.events)))) }
+{
+    let Seat { reader, row } = seat;
+    match enter(reader, &seen) {
+        Ok(reading) => {
+            let found = totals_on(reading.get());
+            let reader = reading.leave();
+            (Seat { reader, row }, Ok(found))
+        }
+        Err((reader, missed)) => (Seat { reader, row }, Err(missed)),
+    }
+}
+
+// The totals of a copy, and the events on which they rest.
+fn totals_on(copy: &BoardCopy) -> FoundTotals
+    ensures seen { result.seen ≡ copy.now.seen }
+    ensures totals { result.totals ≡ totals_of copy.now.table }
+{
+    let seen = copy.seen.again();
+    FoundTotals {
+        totals: copy.table.totals(),
+        seen,
+    }
 }

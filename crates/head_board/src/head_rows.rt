@@ -141,8 +141,8 @@ impl HeadRows {
         first
     }
 
-    // How many rows there are.
-    fn count(&self) -> usize
+    /// How many rows there are.
+    pub(crate) fn count(&self) -> usize
         ensures { result ≡ length self.now.part.uploads }
     {
         self.rows.len()

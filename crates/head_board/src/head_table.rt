@@ -1,6 +1,8 @@
 ghost use Rattle.std.specs.Prelude.{◌≡◌, ◌<◌, false, length, map, set, All, IfOk, if◌then◌else◌};
+ghost use Rattle.std.specs.List.{range_with_len};
 ghost use Rattle.head_board.specs.Expired.{NoneHasExpired};
 ghost use Rattle.head_board.specs.Room.{heads_noted};
+ghost use Rattle.head_board.specs.Totals.{totals_of, upload_count};
 ghost use Rattle.head_board.specs.inside.HeadTable.{is_taken, opening_parts, parts_noted};
 ghost use Rattle.head_board.specs.inside.Rows.{AreBounded};
 ghost use Rattle.upload_book.specs.declared.board_line.HeadChange.TheVariants as head;
@@ -11,6 +13,7 @@ ghost use Rattle.upload_book.specs.Terminate.{without};
 
 use crate::first_end::earlier;
 use crate::head_rows::HeadRows;
+use crate::totals::Totals;
 use std::alloc::{AllocError, Global};
 use std::marker::Model;
 use upload_book::{
@@ -69,6 +72,37 @@ impl HeadTable {
         ensures { result.now ≡ self.now.accounts }
     {
         &self.accounts
+    }
+
+    /// The accounts, and how many uploads each tenant has. It looks at no row.
+    pub fn totals(&self) -> Totals
+        ensures { result ≡ totals_of self.now }
+    {
+        Totals {
+            accounts: self.accounts,
+            uploads: self.upload_counts(),
+        }
+    }
+
+    // How many uploads each of 16 tenants has, by its place.
+    fn upload_counts(&self) -> [u64; 16]
+        ensures { result ≡ map (upload_count self.now) (range_with_len 0 16) }
+    {
+        let mut counts = [0; 16];
+        for tenant in 0..16 {
+            counts[tenant] = self.upload_count(tenant);
+        }
+        counts
+    }
+
+    // How many uploads the tenant at this place has.
+    fn upload_count(&self, tenant: usize) -> u64
+        ensures { result ≡ upload_count self.now tenant }
+    {
+        match self.parts.get(tenant) {
+            Some(part) => part.count() as u64,
+            None => 0,
+        }
     }
 
     /// What a HEAD of an upload finds at this moment: Unknown where its tenant is not there or never had the id, Gone

@@ -15,9 +15,11 @@ mod head_table;
 mod kept_row;
 pub mod laws;
 mod showing;
+mod totals;
 
 pub use board::Board;
 pub use event::{Coming, Event};
 pub use event_log::{Opened, SeenEvents};
 pub use head_reader::HeadReader;
 pub use head_table::HeadTable;
+pub use totals::Totals;

@@ -81,7 +81,11 @@ fn readers_see_what_is_shown(rt: HostRuntime) -> Result<(), Fail> {
     assert_seen(&rt, &mut other, Ok(5));
     assert!(rt; !one.may_expire(moment(&rt, 4599)));
     assert!(rt; one.may_expire(moment(&rt, 4600)));
+    let totals = one.totals().expect(&rt, "entered");
+    assert!(rt; totals.uploads[0] == 1);
+    assert!(rt; totals.accounts == book.accounts());
     drop(board);
+    assert!(rt; one.totals().is_none());
     assert!(rt;
         one.look(&name(0, 1), moment(&rt, 1000), &mut HeadRow::empty())
             .is_none()

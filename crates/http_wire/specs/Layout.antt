@@ -44,7 +44,11 @@ request_at p text =
       body = drop p.head_len text;
     }
 
--- the same with its framing
+-- the target of that request, as it was sent
+abbrev pub target_at : Layout → List ℕ → List ℕ
+target_at p text = span_bytes (take p.head_len text) p.target
+
+-- the request with its framing
 abbrev pub framed_at : List ℕ → Layout → FramedRequest
 framed_at text p = record { request = request_at p text; framing = p.framing }
 

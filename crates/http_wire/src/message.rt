@@ -15,13 +15,21 @@ pub struct Message<'a> {
 }
 
 impl Message<'_> {
-    ghost use Rattle.http_wire.specs.Message.{request_in};
+    ghost use Rattle.http_wire.specs.Message.{request_in, target_in};
 
     /// The request of the message, whose fields and body are lent.
     pub fn request(&self) -> Request<'_>
         ensures { result ≡ request_in self.now }
     {
         request_in(&self.layout, self.text)
+    }
+
+    /// The target of the request, as it was sent (RFC 9112, section 3.2).
+    pub fn target(&self) -> &[u8]
+        ensures { result.now ≡ target_in self.now }
+    {
+        let (head, _) = self.text.split_at(self.layout.head_len);
+        self.layout.target.of(head)
     }
 
     /// How the reply is framed.

@@ -1,5 +1,5 @@
 -- A file that is read frame by frame, and its tail that is cleared.
-use Rattle.std.proofs.Common.{◌≡◌, ◌⊎◌, ℕ, ◌+◌, ◌-◌, ◌<◌, ◌≤◌, List, [], ◌∷◌, ◌++◌, length, get_or, take, drop, refl, sym, ap, subst, ◌∙◌, append_assoc, arith, length-append, inl, inr}
+use Rattle.std.proofs.Common.{◌≡◌, ◌≢◌, ◌⊎◌, ℕ, zero, suc, ◌+◌, ◌-◌, ◌<◌, ◌≤◌, List, [], ◌∷◌, ◌++◌, length, get_or, take, drop, refl, sym, ap, subst, ◌∙◌, append_assoc, arith, length-append, inl, inr}
 use Rattle.std.specs.List.{AllByRecursion}
 use Rattle.std.proofs.lemmas.List.{append-nil, drop_at, ext_get_or, get_or_append_left, get_or-drop, get_or-take, length-drop, length-replicate, length-take, take_at, take-append-drop}
 use Rattle.sqlite_disk.specs.Disk.{Holds, Mixed, Only, Torn as WasTorn}
@@ -9,25 +9,37 @@ use Rattle.journal_frames.specs.declared.tail.Tail.TheVariants.{Torn}
 use Rattle.journal_frames.proofs.TornTails.{stays_torn}
 use Rattle.journal_frames.proofs.WholeFrames.{frames_again}
 use Rattle.journal_file.specs.Journal.{LeavesOldOr}
+use Rattle.journal_file.specs.JournalError.{IsDamagedAt}
 use Rattle.journal_file.specs.Recovered.{EndsAt}
+use Rattle.journal_file.specs.declared.error.Damage.{Damage}
 use Rattle.journal_file.proofs.Bytes.{overwritten, zeros-at}
 use Rattle.journal_file.proofs.Losses.{AllByRecursion-append, frames-append, loses_by_index}
 
 -- ---- reading
 
--- the payloads that were read so far, and what is left
-pub record ReadSoFar (key : ℕ) (file rest : List ℕ) : Type 0 where
+-- the payloads that were read so far, how many they are, and what is left
+pub record ReadSoFar (key : ℕ) (file rest : List ℕ) (count : ℕ) : Type 0 where
   pub read : List (List ℕ)
   pub whole : file ≡ frames key read ++ rest
   pub payloads : recovered key file ≡ read ++ recovered key rest
   pub tail : tail_of key file ≡ tail_of key rest
   pub fits : AllByRecursion Fits read
+  pub counted : length read ≡ count
+  pub few : count + length rest ≤ length file
 
-pub read_none : (key : ℕ) (file rest : List ℕ) → rest ≡ file → ReadSoFar key file rest
-read_none key file rest is = record { read = []; whole = sym is; payloads = ap (recovered key) (sym is); tail = ap (tail_of key) (sym is); fits = tt }
+pub read_none : (key : ℕ) (file rest : List ℕ) → rest ≡ file → ReadSoFar key file rest 0
+read_none key file rest is = record {
+  read = [];
+  whole = sym is;
+  payloads = ap (recovered key) (sym is);
+  tail = ap (tail_of key) (sym is);
+  fits = tt;
+  counted = refl;
+  few = omega (arith, ap length is);
+}
 
-pub read_more : (key : ℕ) (file rest payload behind : List ℕ) → ReadSoFar key file rest → recovered key rest ≡ payload ∷ recovered key behind → tail_of key rest ≡ tail_of key behind → rest ≡ frame key payload ++ behind → Fits payload → ReadSoFar key file behind
-read_more key file rest payload behind so_far payloads tail stands fits = record {
+pub read_more : (key : ℕ) (file rest payload behind : List ℕ) (count : ℕ) → ReadSoFar key file rest count → recovered key rest ≡ payload ∷ recovered key behind → tail_of key rest ≡ tail_of key behind → rest ≡ frame key payload ++ behind → Fits payload → length behind < length rest → ReadSoFar key file behind (count + 1)
+read_more key file rest payload behind count so_far payloads tail stands fits shorter = record {
   read = so_far.read ++ payload ∷ [];
   whole =
       so_far.whole
@@ -37,12 +49,32 @@ read_more key file rest payload behind so_far payloads tail stands fits = record
   payloads = so_far.payloads ∙ ap (λ (ps : List (List ℕ)). so_far.read ++ ps) payloads ∙ sym (append_assoc so_far.read (payload ∷ []) (recovered key behind));
   tail = so_far.tail ∙ tail;
   fits = AllByRecursion-append so_far.read (payload ∷ []) so_far.fits (fits, tt);
+  counted = omega (arith, length-append so_far.read (payload ∷ []), so_far.counted);
+  few = omega (arith, so_far.few, shorter);
 }
 
--- nothing more is read
-pub ends_at : (key : ℕ) (file rest : List ℕ) → ReadSoFar key file rest → recovered key rest ≡ [] → tail_of key rest ≡ Torn → EndsAt key file (length file - length rest)
-ends_at key file rest so_far none torn =
-    let all : recovered key file ≡ so_far.read = so_far.payloads ∙ ap (λ (ps : List (List ℕ)). so_far.read ++ ps) none ∙ append-nil so_far.read in
+-- nothing more is read: these are all payloads, and their frames end there
+pub all_read : (key : ℕ) (file rest : List ℕ) (count : ℕ) → (so_far : ReadSoFar key file rest count) → recovered key rest ≡ [] → recovered key file ≡ so_far.read
+all_read key file rest count so_far none = so_far.payloads ∙ ap (λ (ps : List (List ℕ)). so_far.read ++ ps) none ∙ append-nil so_far.read
+
+pub all_counted : (key : ℕ) (file rest : List ℕ) (count : ℕ) → ReadSoFar key file rest count → recovered key rest ≡ [] → count ≡ length (recovered key file)
+all_counted key file rest count so_far none = sym so_far.counted ∙ ap length (sym (all_read key file rest count so_far none))
+
+pub ends_there : (key : ℕ) (file rest : List ℕ) (count : ℕ) → ReadSoFar key file rest count → recovered key rest ≡ [] → length (frames key (recovered key file)) ≡ length file - length rest
+ends_there key file rest count so_far none =
+    let end : length (frames key so_far.read) ≡ length file - length rest = omega (arith, ap length so_far.whole, length-append (frames key so_far.read) rest) in
+    ap (λ (ps : List (List ℕ)). length (frames key ps)) (all_read key file rest count so_far none) ∙ end
+
+pub damaged_at : (key : ℕ) (file rest : List ℕ) (count : ℕ) (damage : Damage) → ReadSoFar key file rest count → recovered key rest ≡ [] → tail_of key rest ≢ Torn → damage.at ≡ length file - length rest → damage.len ≡ length file → IsDamagedAt key file damage
+damaged_at key file rest count damage so_far none other at len = record {
+  tail = λ torn. other (sym so_far.tail ∙ torn);
+  place = at ∙ sym (ends_there key file rest count so_far none);
+  len = len;
+}
+
+pub ends_at : (key : ℕ) (file rest : List ℕ) (count : ℕ) → ReadSoFar key file rest count → recovered key rest ≡ [] → tail_of key rest ≡ Torn → EndsAt key file (length file - length rest)
+ends_at key file rest count so_far none torn =
+    let all : recovered key file ≡ so_far.read = all_read key file rest count so_far none in
     let end : length (frames key so_far.read) ≡ length file - length rest = omega (arith, ap length so_far.whole, length-append (frames key so_far.read) rest) in
     let behind : drop (length file - length rest) file ≡ rest = ap (drop (length file - length rest)) so_far.whole ∙ drop_at (frames key so_far.read) rest (length file - length rest) end in
     record {
@@ -66,8 +98,8 @@ read_whole bytes file len holds = ext_get_or 0 bytes file len each
     each : (i : ℕ) → i < length bytes → get_or bytes i 0 ≡ get_or file i 0
     each i within = let here : get_or file (0 + i) 0 ≡ get_or bytes i 0 = (holds (omega arith)).each i within in sym here ∙ ap (λ (n : ℕ). get_or file n 0) (omega arith)
 
-pub room_behind : (key : ℕ) (file rest : List ℕ) → ReadSoFar key file rest → recovered key rest ≡ [] → tail_of key rest ≡ Torn → length file - length rest + 16 ≤ length file
-room_behind key file rest so_far none torn = omega (arith, tail_is_long key rest none torn, ap length so_far.whole, length-append (frames key so_far.read) rest)
+pub room_behind : (key : ℕ) (file rest : List ℕ) (count : ℕ) → ReadSoFar key file rest count → recovered key rest ≡ [] → tail_of key rest ≡ Torn → length file - length rest + 16 ≤ length file
+room_behind key file rest count so_far none torn = omega (arith, tail_is_long key rest none torn, ap length so_far.whole, length-append (frames key so_far.read) rest)
 
 -- ---- clearing
 

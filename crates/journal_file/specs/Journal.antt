@@ -38,6 +38,10 @@ module _ {D : Type 0} {g : Ghosts D} where
   abbrev pub room_of : Journal D g → ℕ
   room_of journal = journal.blank - 16
 
+  -- how many bytes the frames have
+  abbrev pub end_of : Journal D g → ℕ
+  end_of journal = journal.end
+
   -- how far the zeros reach
   abbrev pub len_of : Journal D g → ℕ
   len_of journal = journal.end + journal.blank

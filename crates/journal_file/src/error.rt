@@ -5,6 +5,15 @@ use std::alloc::AllocError;
 use std::io;
 use thiserror::Error;
 
+/// Where a file is not what a crash leaves of a journal under its key.
+#[derive(Clone, Copy, Debug, PartialEq, Eq)]
+pub struct Damage {
+    /// The place, in bytes from 0, of the first frame that is none: so many bytes are whole frames.
+    pub at: usize,
+    /// How many bytes the file has.
+    pub len: usize,
+}
+
 /// Why a call of a journal failed.
 #[derive(Debug, Drop, Error)]
 pub enum JournalError {
@@ -19,14 +28,22 @@ pub enum JournalError {
     #[error("the disk does not leave each byte old or new")]
     NotMixing,
     /// The file is not one that a crash leaves of a journal under this key.
-    #[error("the file is damaged, or of another key")]
-    Damaged,
+    #[error("the file is damaged, or of another key, at byte {} of {}", .0.at, .0.len)]
+    Damaged(Damage),
     /// There is no memory.
     #[error("out of memory")]
     Memory,
     /// A call of the disk failed. What a crash leaves is known, and nothing else: open the file again.
     #[error("the disk: {0}")]
     Disk(io::Error),
+}
+
+impl From<Damage> for JournalError {
+    ghost from_gives = { λ damage why. why ≡ errors.Damaged damage };
+
+    fn from(damage: Damage) -> JournalError {
+        JournalError::Damaged(damage)
+    }
 }
 
 impl From<AllocError> for JournalError {

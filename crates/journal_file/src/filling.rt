@@ -16,7 +16,7 @@ pub(crate) fn check_disk<D: Disk>(disk: &D) -> Result<(), JournalError>
       no_room = ⊥;
       is_usable = D.is_usable disk.now;
       is_mixing = D.is_mixing disk.now;
-      damaged = ⊥;
+      damaged = λ _. ⊥;
       memory = ⊥;
       disk = ⊥;
     })) }
@@ -43,7 +43,7 @@ pub(crate) fn sync_disk<D: Disk>(disk: &mut D) -> Result<(), JournalError>
       no_room = ⊥;
       is_usable = D.is_usable disk.old;
       is_mixing = true;
-      damaged = ⊥;
+      damaged = λ _. ⊥;
       memory = ⊥;
       disk = MoreFaults (D.faults disk.old) (D.faults disk.new);
     })) }
@@ -75,7 +75,7 @@ pub(crate) fn fill<D: Disk>(
       no_room = ⊥;
       is_usable = true;
       is_mixing = true;
-      damaged = ⊥;
+      damaged = λ _. ⊥;
       memory = ⊤;
       disk = MoreFaults (D.faults disk.old) (D.faults disk.new);
     })) }

@@ -4,7 +4,7 @@ ghost use Rattle.sqlite_disk.specs.Disk.{MoreFaults};
 ghost use Rattle.journal_frames.specs.Crash.{Leaves};
 ghost use Rattle.journal_frames.specs.Frames.{frames, recovered, tail_of, Fits};
 ghost use Rattle.journal_frames.specs.declared.tail.Tail.TheVariants.{Torn};
-ghost use Rattle.journal_file.specs.JournalError.{IsReason, IsRefusal};
+ghost use Rattle.journal_file.specs.JournalError.{IsDamagedAt, IsReason, IsRefusal};
 
 use crate::error::JournalError;
 use crate::filling::{check_disk, fill, sync_disk};
@@ -48,7 +48,7 @@ pub struct NotOpened<D: Disk> {
 }
 
 impl<D: Disk> Journal<D> {
-    ghost use Rattle.journal_file.specs.Journal.{disk_of, key_of, len_of, room_of, IsJournal};
+    ghost use Rattle.journal_file.specs.Journal.{disk_of, end_of, key_of, len_of, room_of, IsJournal};
 
     /// Makes an empty journal under this key with so much room, over whatever the file held. A crash before it is `Ok` may
     /// leave any file.
@@ -70,7 +70,7 @@ impl<D: Disk> Journal<D> {
           no_room = 2 ^ 62 < room + 16;
           is_usable = D.is_usable disk;
           is_mixing = false;
-          damaged = ⊥;
+          damaged = λ _. ⊥;
           memory = ⊤;
           disk = ⊤;
         })) }
@@ -111,7 +111,7 @@ impl<D: Disk> Journal<D> {
           no_room = IsTrue (D.is_clean not.disk) → 2 ^ 62 < length (D.seen not.disk);
           is_usable = D.is_usable disk;
           is_mixing = false;
-          damaged = IsTrue (D.is_clean not.disk) → tail_of key (D.seen disk) ≢ Torn;
+          damaged = λ damage. IsTrue (D.is_clean not.disk) → IsDamagedAt key (D.seen disk) damage;
           memory = ⊤;
           disk = MoreFaults (D.faults disk) (D.faults not.disk);
         }) not.why) }
@@ -166,6 +166,24 @@ impl<D: Disk> Journal<D> {
         self.blank - MARGIN
     }
 
+    /// How many bytes its frames have, those that were not synced too.
+    pub fn frames_len(&self) -> usize
+        ensures value { result ≡ end_of self.now }
+        ensures frames { (synced unsynced : List (List ℕ))
+            → IsJournal self.now synced unsynced
+            → result ≡ length (frames (key_of self.now) (synced ++ unsynced)) }
+    {
+        self.end
+    }
+
+    /// How many bytes its frames and the zeros behind them have. A file that could not be made longer may have more.
+    pub fn file_len(&self) -> usize
+        ensures value { result ≡ len_of self.now }
+        ensures zeros { result ≡ end_of self.now + room_of self.now + 16 }
+    {
+        self.end + self.blank
+    }
+
     /// Appends whole frames, in one write, without a sync. The key of the frames is the journal's.
     ///
     /// `Err` is NoRoom where they are more bytes than there is room, Unusable, NotMixing, or Disk.
@@ -190,7 +208,7 @@ impl<D: Disk> Journal<D> {
           no_room = room_of self.old < length bytes.now;
           is_usable = D.is_usable (disk_of self.old);
           is_mixing = D.is_mixing (disk_of self.old);
-          damaged = ⊥;
+          damaged = λ _. ⊥;
           memory = ⊥;
           disk = MoreFaults (D.faults (disk_of self.old)) (D.faults (disk_of self.new));
         })) }
@@ -221,7 +239,7 @@ impl<D: Disk> Journal<D> {
           no_room = ⊥;
           is_usable = D.is_usable (disk_of self.old);
           is_mixing = true;
-          damaged = ⊥;
+          damaged = λ _. ⊥;
           memory = ⊥;
           disk = MoreFaults (D.faults (disk_of self.old)) (D.faults (disk_of self.new));
         })) }
@@ -251,7 +269,7 @@ impl<D: Disk> Journal<D> {
           no_room = 2 ^ 62 < len_of self.old + more;
           is_usable = D.is_usable (disk_of self.old);
           is_mixing = D.is_mixing (disk_of self.old);
-          damaged = ⊥;
+          damaged = λ _. ⊥;
           memory = ⊤;
           disk = MoreFaults (D.faults (disk_of self.old)) (D.faults (disk_of self.new));
         })) }

@@ -6,6 +6,6 @@ mod filling;
 mod journal;
 mod recovered;
 
-pub use error::JournalError;
+pub use error::{Damage, JournalError};
 pub use journal::{Journal, NotOpened, Opened};
-pub use recovered::{Recovered, recover};
+pub use recovered::{Recovered, WholeFrames, recover, whole_frames};

@@ -2,10 +2,11 @@ ghost use Rattle.std.specs.Prelude.{◌≡◌, ◌≢◌, ◌⊎◌, ◌+◌, �
 ghost use Rattle.sqlite_disk.specs.Disk.{MoreFaults, Only};
 ghost use Rattle.journal_frames.specs.Frames.{recovered, tail_of};
 ghost use Rattle.journal_frames.specs.declared.tail.Tail.TheVariants.{Torn};
-ghost use Rattle.journal_file.specs.JournalError.{IsReason};
+ghost use Rattle.journal_file.specs.JournalError.{IsDamagedAt, IsReason};
+ghost use Rattle.journal_file.specs.declared.error.Damage.{Damage};
 ghost use Rattle.journal_file.specs.Recovered.{EndsAt, IsRecovered};
 
-use crate::error::JournalError;
+use crate::error::{Damage, JournalError};
 use crate::filling::{check_disk, fill, sync_disk};
 use journal_frames::{Frames, Tail};
 use sqlite_disk::Disk;
@@ -23,8 +24,8 @@ pub struct Recovered {
 /// Reads the file of a journal under this key, writes zeros over what a crash left behind its whole frames, and syncs. It
 /// may crash too, and be called again.
 ///
-/// `Err` is Unusable; Damaged, where no crash leaves such a file of a journal under this key; NotMixing; Memory; or
-/// Disk. Where it is Damaged nothing was written.
+/// `Err` is Unusable; Damaged with the place, where no crash leaves such a file of a journal under this key; NotMixing;
+/// Memory; or Disk. Where it is Damaged nothing was written.
 pub fn recover<D: Disk>(alloc: Global, disk: &mut D, key: u64) -> Result<Recovered, JournalError>
     // Where the disk told no lie, these are all payloads that are recovered of the file.
     ensures recovered { IfOk result (λ found. IsTrue (D.is_clean disk.new)
@@ -33,7 +34,7 @@ pub fn recover<D: Disk>(alloc: Global, disk: &mut D, key: u64) -> Result<Recover
     ensures usable { OnOk result (IsTrue (D.is_usable disk.new)) }
     ensures room { IfOk result (λ found. 16 ≤ found.blank) }
     // A damaged file is left as it reads.
-    ensures damaged { IsErrOf result JournalError.Damaged → D.seen disk.new ≡ D.seen disk.old }
+    ensures damaged { (damage : Damage) → IsErrOf result (JournalError.Damaged damage) → D.seen disk.new ≡ D.seen disk.old }
     // A crash meanwhile leaves what one could have left before, or the same payloads.
     ensures any_crash { IsTrue (D.is_clean disk.new)
         → (c : List ℕ) → D.may_leave disk.new c
@@ -43,13 +44,14 @@ pub fn recover<D: Disk>(alloc: Global, disk: &mut D, key: u64) -> Result<Recover
       no_room = ⊥;
       is_usable = D.is_usable disk.old;
       is_mixing = false;
-      damaged = IsTrue (D.is_clean disk.new) → tail_of key (D.seen disk.old) ≢ Torn;
+      damaged = λ damage. IsTrue (D.is_clean disk.new) → IsDamagedAt key (D.seen disk.old) damage;
       memory = ⊤;
       disk = MoreFaults (D.faults disk.old) (D.faults disk.new);
     })) }
 {
     let mut frames = read_synced(alloc, disk)?;
-    let end = end_of_frames(key, &frames)?;
+    let found = whole_frames(key, &frames)?;
+    let end = found.end;
     let blank = frames.len() - end;
     check_disk(disk)?;
     fill(alloc, disk, end, blank)?;
@@ -70,7 +72,7 @@ fn read_synced<D: Disk>(alloc: Global, disk: &mut D) -> Result<Vec<u8>, JournalE
       no_room = ⊥;
       is_usable = D.is_usable disk.old;
       is_mixing = true;
-      damaged = ⊥;
+      damaged = λ _. ⊥;
       memory = ⊤;
       disk = MoreFaults (D.faults disk.old) (D.faults disk.new);
     })) }
@@ -82,25 +84,41 @@ fn read_synced<D: Disk>(alloc: Global, disk: &mut D) -> Result<Vec<u8>, JournalE
     Ok(file)
 }
 
-// Where the whole frames of a file end, if a torn tail stands behind them.
-fn end_of_frames(key: u64, file: &[u8]) -> Result<usize, JournalError>
-    ensures found { IfOk result (EndsAt key file.now) }
-    ensures room { IfOk result (λ end. end + 16 ≤ length file.now) }
-    ensures why { IfErr result (IsReason (record {
-      no_room = ⊥;
-      is_usable = true;
-      is_mixing = true;
-      damaged = tail_of key file.now ≢ Torn;
-      memory = ⊥;
-      disk = ⊥;
-    })) }
+/// The whole frames that stand first in a file.
+#[derive(Clone, Copy, Debug, PartialEq, Eq)]
+pub struct WholeFrames {
+    /// How many there are.
+    pub count: usize,
+    /// How many bytes they have: the place, from 0, where a torn tail begins.
+    pub end: usize,
+}
+
+/// Reads the bytes of a journal's file under its key, frame by frame, up to the torn tail that a crash leaves, or zeros. It
+/// takes no memory, and nothing is required of the bytes.
+///
+/// `Err` is the place of the damage, where no crash leaves such a file of a journal under this key.
+pub fn whole_frames(key: u64, file: &[u8]) -> Result<WholeFrames, Damage>
+    ensures end { IfOk result (λ found. EndsAt key file.now found.end) }
+    ensures count { IfOk result (λ found. found.count ≡ length (recovered key file.now)) }
+    ensures room { IfOk result (λ found. found.end + 16 ≤ length file.now) }
+    ensures damaged { IfErr result (IsDamagedAt key file.now) }
 {
     let mut frames = Frames::new(key, file);
+    let mut count: usize = 0;
     'frames: loop {
         match frames.next() {
-            Ok(_) => {}
-            Err(Tail::Torn) => return Ok(file.len() - frames.rest.len()),
-            Err(_) => return Err(JournalError::Damaged),
+            Ok(_) => count += 1,
+            Err(Tail::Torn) => {
+                let end = file.len() - frames.rest.len();
+                return Ok(WholeFrames { count, end });
+            }
+            Err(_) => {
+                let at = file.len() - frames.rest.len();
+                return Err(Damage {
+                    at,
+                    len: file.len(),
+                });
+            }
         }
     }
 }

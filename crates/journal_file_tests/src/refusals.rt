@@ -1,7 +1,7 @@
 //! Why calls of a journal fail, each reason once.
 use crate::payloads::{KEY, frames_of};
 use crate::torn_disk::TornDisk;
-use journal_file::{Journal, JournalError, recover};
+use journal_file::{Damage, Journal, JournalError, Recovered, WholeFrames, recover, whole_frames};
 use sqlite_disk::{Disk, Fuse, Memory};
 use std::test::Fail;
 
@@ -48,31 +48,46 @@ fn unusable(rt: HostRuntime) -> Result<(), Fail> {
     Ok(())
 }
 
-// A file of another key, one that was changed where it lies, one that ends behind its frames, and none.
+// A file of another key, one that was changed where its second frame lies, one that ends behind its frames, and one without a
+// byte: each is told with the place of the first frame that is none.
 #[test]
 fn damaged(rt: HostRuntime) -> Result<(), Fail> {
     let alloc = rt.alloc();
-    let mut journal = Journal::create(alloc, TornDisk::new(alloc), KEY, 30)?;
-    journal.append(&frames_of(alloc, &[b"ab"])?)?;
+    let mut journal = Journal::create(alloc, TornDisk::new(alloc), KEY, 60)?;
+    journal.append(&frames_of(alloc, &[b"ab", b"cd"])?)?;
     journal.sync()?;
     let mut disk = journal.into_disk();
-    assert!(rt;
-        matches!(
-            recover(alloc, &mut disk, KEY + 1),
-            Err(JournalError::Damaged)
-        )
-    );
+    assert!(rt; is_damaged_at(recover(alloc, &mut disk, KEY + 1), 0, 76));
     assert!(rt; recover(alloc, &mut disk, KEY).is_ok());
     assert!(rt; disk.may_be_used());
-    disk.write_at(24, b"ba")?;
-    assert!(rt; matches!(recover(alloc, &mut disk, KEY), Err(JournalError::Damaged)));
+    disk.write_at(50, b"dc")?;
+    assert!(rt; is_damaged_at(recover(alloc, &mut disk, KEY), 26, 76));
     assert!(rt; disk.may_be_used());
-    disk.write_at(24, b"ab")?;
-    disk.set_len(26)?;
-    assert!(rt; matches!(recover(alloc, &mut disk, KEY), Err(JournalError::Damaged)));
+    disk.write_at(50, b"cd")?;
+    disk.set_len(52)?;
+    assert!(rt; is_damaged_at(recover(alloc, &mut disk, KEY), 52, 52));
     assert!(rt; disk.may_be_used());
     disk.set_len(0)?;
-    assert!(rt; matches!(recover(alloc, &mut disk, KEY), Err(JournalError::Damaged)));
+    assert!(rt; is_damaged_at(recover(alloc, &mut disk, KEY), 0, 0));
+    Ok(())
+}
+
+fn is_damaged_at(recovered: Result<Recovered, JournalError>, at: usize, len: usize) -> bool {
+    match recovered {
+        Err(JournalError::Damaged(damage)) => damage == Damage { at, len },
+        _ => false,
+    }
+}
+
+// The whole frames of a file are counted, and a torn tail behind them is no damage.
+#[test]
+fn counted(rt: HostRuntime) -> Result<(), Fail> {
+    let alloc = rt.alloc();
+    let mut file = frames_of(alloc, &[b"ab", b"cde"])?;
+    file.extend_from_slice(&[0, 0, 0, 0, 0, 0, 0, 9, 0, 0, 0, 0, 0, 0, 0, 0])?;
+    file.extend_from_slice(&[0; 16])?;
+    let found = whole_frames(KEY, &file);
+    assert!(rt; found == Ok(WholeFrames { count: 2, end: 53 }));
     Ok(())
 }
 
@@ -83,6 +98,6 @@ fn not_opened(rt: HostRuntime) {
     let Err(not) = Journal::open(alloc, TornDisk::new(alloc), KEY) else {
         panic!(&rt; "an empty file was opened");
     };
-    assert!(rt; matches!(not.why, JournalError::Damaged));
+    assert!(rt; matches!(not.why, JournalError::Damaged(Damage { at: 0, len: 0 })));
     assert!(rt; not.disk.bytes().is_empty());
 }

@@ -1,7 +1,7 @@
 -- What is kept as events are, and what a crash leaves of it.
 use Rattle.logbook.specs.Pages.{Book}
-use Rattle.std.proofs.Common.{◌≡◌, ℕ, ◌≤◌, Bool, false, List, [], ◌∷◌, ◌++◌, map, take, drop, Option, Some, Result, Ok, Err, OnOk, refl, sym, ap, subst, ◌∙◌, append_assoc}
-use Rattle.std.proofs.lemmas.List.{append-nil, map-append, take-append-drop, take-map}
+use Rattle.std.proofs.Common.{◌≡◌, ℕ, ◌-◌, ◌≤◌, Bool, false, List, [], ◌∷◌, ◌++◌, length, map, take, drop, Option, Some, Result, Ok, Err, OnOk, refl, sym, ap, subst, ◌∙◌, append_assoc, arith}
+use Rattle.std.proofs.lemmas.List.{append-nil, length-append, length-map, map-append, take-append-drop, take-map}
 use mathlib.Core.List.{IsPrefix}
 use Rattle.sqlite_disk.specs.declared.Disk.{Ghosts}
 use Rattle.book_replay.specs.Replay.{record_of, records_of}
@@ -38,6 +38,13 @@ frames-records key (e ∷ events) = ap (λ (fs : List (List ℕ)). event_frame (
 
 pub frames-queued : (journal : Option ℕ) (key : ℕ) (waiting : List (List ℕ)) (more : List Event) → journal ≡ Some key → waiting ≡ event_frames journal more → waiting ≡ frames_each key (event_records more)
 frames-queued journal key waiting more is are = are ∙ ap (λ (j : Option ℕ). event_frames j more) is ∙ frames-records key more
+
+-- as many frames were taken as events are behind those that were kept
+pub taken-count : {V : Type 0} (items : V → List ℕ) (journal : Option ℕ) (kept reached more : List Event) (waiting : List V) → reached ≡ kept ++ more → map {A = V} {B = List ℕ} items waiting ≡ event_frames journal more
+    → length waiting ≡ length reached - length kept
+taken-count items journal kept reached more waiting reaches are =
+    let each : length waiting ≡ length more = sym (length-map waiting items) ∙ ap (length {A = List ℕ}) are ∙ length-map more (event_frame journal) in
+    omega (arith, each, ap (length {A = Event}) reaches, length-append kept more)
 
 -- what holds whatever a call answered
 pub on_ok : {A E : Type 0} (r : Result A E) (P : Type 0) → P → OnOk r P

@@ -17,7 +17,11 @@ use Rattle.tus_shared.specs.declared.again_fault.AgainFault.TheVariants as again
 use Rattle.tus_shared.specs.Steps.{IsMade, IsNextEvent, IsNotMade}
 use Rattle.tus_shared.proofs.EventLemmas.{at-one, at-settings}
 use Rattle.journal_keeper.specs.Opening.{IsFinal, IsMadeAgain}
-use Rattle.std.proofs.Common.{◌≡◌, ℕ, true, false, List, [], ◌∷◌, ◌++◌, length, Option, Some, None, Result, Ok, Err, OnOk, refl, sym, ap, ◌∙◌, append_assoc, arith}
+use Rattle.journal_file.specs.JournalError.{IsDamagedAt, IsReason, Reasons, TellsDamage}
+use Rattle.journal_file.specs.declared.error.Damage.{Damage}
+use Rattle.journal_file.specs.declared.error.JournalError.{JournalError}
+use Rattle.journal_file.specs.declared.error.JournalError.TheVariants.{NoRoom, Unusable, NotMixing, Damaged, Memory, Disk}
+use Rattle.std.proofs.Common.{◌≡◌, ℕ, Bool, true, false, IsTrue, List, [], ◌∷◌, ◌++◌, length, Option, Some, None, Result, Ok, Err, OnOk, refl, sym, ap, subst, ◌∙◌, append_assoc, arith}
 use Rattle.journal_records.specs.Records.{record_bytes}
 use Rattle.tus_shared.specs.Desk.{Desk, Moves}
 use Rattle.journal_keeper.specs.Keeper.{event_records}
@@ -33,6 +37,20 @@ use Rattle.journal_frames.proofs.WholeFrames.{frames_again}
 pub nothing-recovered : (key : ℕ) → recovered key [] ≡ []
 unfolding reading.read_past
 nothing-recovered key = refl
+
+-- the place of a damage is that of the file which this disk had, too
+pub damage-told : {D : Type 0} (seen : D → List ℕ) (is_clean : D → Bool) (key : ℕ) (first opened last : D) (reasons : Reasons) (why : JournalError)
+    → IsReason reasons why
+    → ((damage : Damage) → reasons.damaged damage → IsTrue (is_clean last) → IsDamagedAt key (seen opened) damage)
+    → seen opened ≡ seen first
+    → TellsDamage seen is_clean key first why
+damage-told seen is_clean key first opened last reasons NoRoom is told same = tt
+damage-told seen is_clean key first opened last reasons Unusable is told same = tt
+damage-told seen is_clean key first opened last reasons NotMixing is told same = tt
+damage-told seen is_clean key first opened last reasons (Damaged damage) is told same =
+    (last, λ clean. subst (λ (file : List ℕ). IsDamagedAt key file damage) same (told damage is clean))
+damage-told seen is_clean key first opened last reasons Memory is told same = tt
+damage-told seen is_clean key first opened last reasons (Disk error) is told same = tt
 
 -- frames are read again
 pub recovered-frames : (key : ℕ) (payloads : List (List ℕ)) → AllByRecursion Fits payloads → recovered key (frames key payloads) ≡ payloads

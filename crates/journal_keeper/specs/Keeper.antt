@@ -1,5 +1,5 @@
 -- The keeper of a store's journal: what it keeps, and what a crash leaves of that.
-use Rattle.std.specs.Prelude.{◌≡◌, ℕ, ◌≤◌, Bool, false, IsTrue, List, [], map, Option, Some}
+use Rattle.std.specs.Prelude.{◌≡◌, ℕ, ◌-◌, ◌≤◌, Bool, false, IsTrue, List, [], length, map, Option, Some}
 use mathlib.Core.List.{IsPrefix}
 use Rattle.logbook.specs.Pages.{Book}
 use Rattle.sqlite_disk.specs.declared.Disk.{Ghosts}
@@ -12,15 +12,20 @@ use Rattle.upload_book.specs.Events.{ChangeEvent}
 use Rattle.upload_book.specs.Settings.{Settings}
 use Rattle.head_board.specs.Event.{Event}
 use Rattle.head_board.specs.Events.{HaveHappened, change_event}
+use Rattle.journal_keeper.specs.Numbers.{more}
+use Rattle.journal_keeper.specs.declared.numbers.SyncCounts.{SyncCounts}
 
 -- What is seen of a keeper: the key of its journal; the events that are kept there; whether a write or a sync has failed; how
--- many bytes of room it granted to desks, and has not seen used; how many bytes may still be appended; and the disk.
+-- many bytes of room it granted to desks, and has not seen used; how many bytes may still be appended, and how many the frames
+-- of the records have; what it has synced; and the disk.
 pub record KeeperView (D : Type 0) : Type 0 where
   pub key : ℕ
   pub kept : List Event
   pub failed : Bool
   pub promised : ℕ
   pub room : ℕ
+  pub bytes : ℕ
+  pub synced : SyncCounts
   pub disk : D
 
 -- the records of events, one each, in their order
@@ -35,6 +40,12 @@ pub record IsLeft (key : ℕ) (s : Settings) (kept : List Event) (file : List �
   pub happened : HaveHappened s events
   pub records : recovered key file ≡ event_records events
   pub torn : tail_of key file ≡ Torn
+
+-- One sync more was made, which kept the events that are kept since; and no time is lost.
+pub record CountsSync {D : Type 0} (before after : KeeperView D) : Type 0 where
+  pub once : after.synced.syncs ≡ more 1 before.synced.syncs
+  pub each : after.synced.records ≡ more (length after.kept - length before.kept) before.synced.records
+  pub longer : before.synced.micros ≤ after.synced.micros
 
 -- What every keeper keeps. Its key is that of the opening, and its events are of the log of the opening, and happened. Where
 -- the disk had told no lie when the journal was opened: while no write or sync has failed, the journal has exactly the records

@@ -1,4 +1,5 @@
 pub mod Granting
 pub mod Keeper
+pub mod Numbers
 pub mod Opening
 pub mod Waiting

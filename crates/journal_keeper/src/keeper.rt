@@ -1,15 +1,18 @@
-ghost use Rattle.std.specs.Prelude.{◌≡◌, ◌+◌, ◌-◌, ◌≤◌, ℕ, List, [], Some, true, false, IsTrue, IsErrOf, OnErr, OnOk};
+ghost use Rattle.std.specs.Prelude.{◌≡◌, ◌+◌, ◌-◌, ◌≤◌, ℕ, List, [], length, Some, true, false, IsTrue, IsErrOf, OnErr, OnOk};
 ghost use mathlib.Core.List.{IsPrefix};
 ghost use Rattle.head_board.specs.Events.{HaveHappened};
 ghost use Rattle.tus_shared.specs.Journal.{journal_len};
-ghost use Rattle.journal_file.specs.Journal.{disk_of, key_of, room_of, IsJournal};
-ghost use Rattle.journal_keeper.specs.Keeper.{event_records, IsLeft};
+ghost use Rattle.journal_file.specs.Journal.{disk_of, end_of, key_of, room_of, IsJournal};
+ghost use Rattle.journal_frames.specs.Frames.{frames};
+ghost use Rattle.journal_keeper.specs.Keeper.{event_records, CountsSync, IsLeft};
+ghost use Rattle.journal_keeper.specs.Numbers.{no_syncs};
 ghost use Rattle.journal_keeper.specs.Granting.{Grants, HasRoom, IsNeeded, MayGrant};
 
 use crate::fault::KeepFault;
 use crate::granting::{AHEAD, SPARE, needed_for};
 use crate::journalled::Journalled;
 use crate::keeping::make_room;
+use crate::numbers::{KeeperNumbers, SyncCounts};
 use crate::taking::{keep_waiting, tell};
 use journal_file::Journal;
 use sqlite_disk::Disk;
@@ -17,11 +20,13 @@ use std::alloc::Global;
 use std::marker::{Model, PhantomData};
 use std::sync::Wait;
 use std::sync::ledger::Ledger;
+use std::time;
 use tus_shared::{Desk, SeenEvents, Shared};
 
 /// Keeps the changes of a store in a journal: the events that are kept, and how much of the journal's room desks were granted
-/// and have not been seen to use. A contract sees these, whether keeping has failed, and the disk. Whatever became of a
-/// keeper, a crash leaves all that it keeps, where the disk had told no lie when the journal was opened.
+/// and have not been seen to use. A contract sees these, whether keeping has failed, what was synced, how large the journal is,
+/// and the disk. Whatever became of a keeper, a crash leaves all that it keeps, where the disk had told no lie when the journal
+/// was opened.
 #[derive(Drop)]
 pub struct Keeper<D: Disk, C: Journalled> {
     alloc: Global,
@@ -29,11 +34,12 @@ pub struct Keeper<D: Disk, C: Journalled> {
     front: SeenEvents,
     granted: u64,
     has_failed: bool,
+    synced: SyncCounts,
     opening: PhantomData<C>,
 }
 
 impl<D: Disk, C: Journalled> Model for Keeper<D, C> {
-    ghost use Rattle.journal_file.specs.Journal.{disk_of, key_of, room_of};
+    ghost use Rattle.journal_file.specs.Journal.{disk_of, end_of, key_of, room_of};
     ghost use Rattle.journal_keeper.specs.Keeper.{IsKeeper, KeeperView};
 
     ghost Value = { KeeperView D };
@@ -44,6 +50,8 @@ impl<D: Disk, C: Journalled> Model for Keeper<D, C> {
       failed = k.has_failed;
       promised = k.granted;
       room = room_of k.journal;
+      bytes = end_of k.journal;
+      synced = k.synced;
       disk = disk_of k.journal;
     } };
 
@@ -51,7 +59,8 @@ impl<D: Disk, C: Journalled> Model for Keeper<D, C> {
 }
 
 impl<D: Disk, C: Journalled> Keeper<D, C> {
-    /// A keeper of the events whose records a journal has, all synced, and no others. None of its room was granted.
+    /// A keeper of the events whose records a journal has, all synced, and no others. None of its room was granted, and it has
+    /// synced nothing.
     pub fn new(alloc: Global, journal: Journal<D>, front: SeenEvents) -> Keeper<D, C>
         requires key { C.journal ≡ Some (key_of journal) }
         requires log { front.book ≡ C.log }
@@ -63,6 +72,8 @@ impl<D: Disk, C: Journalled> Keeper<D, C> {
           failed = false;
           promised = 0;
           room = room_of journal;
+          bytes = end_of journal;
+          synced = no_syncs;
           disk = disk_of journal;
         } }
     {
@@ -72,6 +83,7 @@ impl<D: Disk, C: Journalled> Keeper<D, C> {
             front,
             granted: 0,
             has_failed: false,
+            synced: SyncCounts::none(),
             opening: PhantomData,
         }
     }
@@ -88,6 +100,22 @@ impl<D: Disk, C: Journalled> Keeper<D, C> {
         ensures { result ≡ record { book = C.log; events = self.now.kept } }
     {
         self.front.again()
+    }
+
+    /// What it has synced since it was made, and how large its journal is.
+    pub fn numbers(&self) -> KeeperNumbers
+        ensures synced { result.synced ≡ self.now.synced }
+        ensures bytes { result.bytes ≡ self.now.bytes }
+        // Until keeping fails these are the frames of the records that are kept, and no others.
+        ensures frames { IsTrue C.honest → self.now.failed ≡ false
+            → result.bytes ≡ length (frames self.now.key (event_records self.now.kept)) }
+        ensures file { result.file_bytes ≡ self.now.bytes + self.now.room + 16 }
+    {
+        KeeperNumbers {
+            synced: self.synced,
+            bytes: self.journal.frames_len() as u64,
+            file_bytes: self.journal.file_len() as u64,
+        }
     }
 
     /// The disk, lent.
@@ -117,12 +145,13 @@ impl<D: Disk, C: Journalled> Keeper<D, C> {
 
     /// Keeps all that this desk has seen, and tells it so. Where that is kept already, as by a call for another desk, nothing is
     /// asked of the disk. Else the records that wait are taken out of the queue of the store, appended to the journal and
-    /// synced, once for all. It takes the lock of the store for a moment, and may wait for desks.
+    /// synced, once for all, which is counted where it succeeds. It takes the lock of the store for a moment, and may wait for
+    /// desks.
     ///
     /// `Err` is Journal where a write or a sync failed, or where the journal has no room for what waits and none can be made;
     /// Queue, Frame or Desk, which come in no run where this keeper alone takes the records of the store and tells its desks;
     /// and from then on Ended. Then the desk is told nothing, and nothing more is kept than before.
-    pub fn keep<R: Ledger, M: Ledger, B: Wait + Drop, W: Wait>(
+    pub fn keep<R: Ledger, M: Ledger, B: Wait + Drop, W: Wait + time::Clock>(
         &mut self,
         rt: &W,
         shared: &Shared<C, R, M, B>,
@@ -146,6 +175,9 @@ impl<D: Disk, C: Journalled> Keeper<D, C> {
         ensures ended { self.old.failed ≡ true → IsErrOf result KeepFault.Ended × (self.new ≡ self.old) }
         // What is kept already is asked of no disk.
         ensures rests { self.old.failed ≡ false → IsPrefix desk.old.seen self.old.kept → OnOk result (self.new ≡ self.old) }
+        // Else one sync is counted where it succeeded, and the events that are kept by it; and none where it failed.
+        ensures counts { ¬ (IsPrefix desk.old.seen self.old.kept) → OnOk result (CountsSync self.old self.new) }
+        ensures uncounted { OnErr result (self.new.synced ≡ self.old.synced) }
     {
         if self.has_failed {
             return Err(KeepFault::Ended);
@@ -157,6 +189,7 @@ impl<D: Disk, C: Journalled> Keeper<D, C> {
             return told;
         }
         self.has_failed = true;
+        let mut synced = self.synced;
         let reached = keep_waiting(
             rt,
             self.alloc,
@@ -165,9 +198,11 @@ impl<D: Disk, C: Journalled> Keeper<D, C> {
             &self.front,
             &seen,
             &mut self.granted,
+            &mut synced,
         )?;
         tell(&reached, desk)?;
         self.front = reached;
+        self.synced = synced;
         self.has_failed = false;
         Ok(())
     }
@@ -190,6 +225,7 @@ impl<D: Disk, C: Journalled> Keeper<D, C> {
         ensures kept { self.new.kept ≡ self.old.kept }
         ensures failed { self.new.failed ≡ self.old.failed }
         ensures key { self.new.key ≡ self.old.key }
+        ensures synced { self.new.synced ≡ self.old.synced }
         ensures room { self.old.room ≤ self.new.room }
     {
         if self.has_failed {
@@ -212,6 +248,7 @@ impl<D: Disk, C: Journalled> Keeper<D, C> {
         ensures kept { self.new.kept ≡ self.old.kept }
         ensures failed { self.new.failed ≡ self.old.failed }
         ensures key { self.new.key ≡ self.old.key }
+        ensures synced { self.new.synced ≡ self.old.synced }
         ensures room { self.old.room ≤ self.new.room }
     {
         if desk.room() >= room {

@@ -3,9 +3,11 @@ ghost use Rattle.std.specs.Prelude.{◌≡◌, [], length, Some, None, All, fals
 ghost use Rattle.book_replay.specs.Replay.{after_accepted, after_record, replayed};
 ghost use Rattle.head_board.specs.Event.{Event};
 ghost use Rattle.head_board.specs.Events.{HaveHappened, book_at};
-ghost use Rattle.journal_file.specs.Journal.{disk_of, key_of, room_of, IsJournal};
+ghost use Rattle.journal_file.specs.Journal.{disk_of, end_of, key_of, room_of, IsJournal};
+ghost use Rattle.journal_file.specs.JournalError.{TellsDamage};
 ghost use Rattle.journal_frames.specs.Frames.{recovered};
 ghost use Rattle.journal_keeper.specs.Keeper.{event_records};
+ghost use Rattle.journal_keeper.specs.Numbers.{no_syncs};
 ghost use Rattle.journal_keeper.specs.Opening.{IsFinal, IsMadeAgain, IsReopenFault};
 ghost use Rattle.tus_shared.specs.Desk.{Moves};
 ghost use Rattle.tus_shared.specs.Steps.{IsNextEvent};
@@ -31,7 +33,8 @@ const FIRST_ROOM: usize = 1 << 20;
 /// Opens the journal that the file of a disk holds under this key, as [`Journal::open`] does, with the frames of all its
 /// records; or, where the file has no byte, makes one without a record. It may crash meanwhile, and be called again.
 ///
-/// `Err` as of `Journal::open` and [`Journal::create`], or Disk where the disk does not tell how long the file is.
+/// `Err` as of `Journal::open` and [`Journal::create`], or Disk where the disk does not tell how long the file is. Where it is
+/// Damaged, its place is that of the damage, if the disk told no lie.
 pub fn open_journal<D: Disk>(
     alloc: Global,
     mut disk: D,
@@ -45,6 +48,7 @@ where
     ensures all { IfOk result (λ it. IsTrue (D.is_clean (disk_of it.journal))
         → recovered key it.frames.items ≡ recovered key (D.seen disk)) }
     ensures key { IfOk result (λ it. key_of it.journal ≡ key) }
+    ensures damaged { IfErr result (TellsDamage D.seen D.is_clean key disk) }
 {
     if !disk.may_be_used() {
         return Err(JournalError::Unusable);
@@ -114,6 +118,8 @@ where
       failed = false;
       promised = 0;
       room = room_of opened.journal;
+      bytes = end_of opened.journal;
+      synced = no_syncs;
       disk = disk_of opened.journal;
     }) }
 {

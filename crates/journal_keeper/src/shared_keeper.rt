@@ -6,9 +6,11 @@ use crate::fault::KeepFault;
 use crate::granting::needed_for;
 use crate::journalled::Journalled;
 use crate::keeper::Keeper;
+use crate::numbers::KeeperNumbers;
 use sqlite_disk::Disk;
 use std::sync::ledger::Ledger;
 use std::sync::{Mutex, Wait};
+use std::time;
 use tus_shared::{Desk, Shared};
 
 /// A keeper behind a lock of its own, which all desks of its store share. One desk's sync serves all that wait for the lock
@@ -16,13 +18,17 @@ use tus_shared::{Desk, Shared};
 #[derive(Drop)]
 pub struct SharedKeeper<D: Disk, C: Journalled> {
     keeper: Mutex<Keeper<D, C>>,
+    // What the keeper told when it was used last. Nobody waits for a disk while this lock is held.
+    numbers: Mutex<KeeperNumbers>,
 }
 
 impl<D: Disk, C: Journalled> SharedKeeper<D, C> {
     /// Puts a keeper behind a lock.
     pub fn new(keeper: Keeper<D, C>) -> SharedKeeper<D, C> {
+        let numbers = Mutex::new(keeper.numbers());
         SharedKeeper {
             keeper: Mutex::new(keeper),
+            numbers,
         }
     }
 
@@ -30,7 +36,7 @@ impl<D: Disk, C: Journalled> SharedKeeper<D, C> {
     /// else that of the keeper, and that of the store for a moment. It may wait for other desks.
     ///
     /// `Err` as of `Keeper::keep`; then the desk is told nothing.
-    pub fn keep<R: Ledger, M: Ledger, B: Wait + Drop, W: Wait>(
+    pub fn keep<R: Ledger, M: Ledger, B: Wait + Drop, W: Wait + time::Clock>(
         &self,
         rt: &W,
         shared: &Shared<C, R, M, B>,
@@ -43,7 +49,10 @@ impl<D: Disk, C: Journalled> SharedKeeper<D, C> {
         if desk.is_kept() {
             return Ok(());
         }
-        self.keeper.lock(rt).keep(rt, shared, desk)
+        let mut keeper = self.keeper.lock(rt);
+        let kept = keeper.keep(rt, shared, desk);
+        *self.numbers.lock(rt) = keeper.numbers();
+        kept
     }
 
     /// Sees to it that a desk may queue so many bytes of records, and 65,536 more, where the journal has or gets room for
@@ -57,13 +66,21 @@ impl<D: Disk, C: Journalled> SharedKeeper<D, C> {
         ensures { MayHaveMore bytes desk.old desk.new }
     {
         if needed_for(desk.room(), bytes).is_some() {
-            self.keeper.lock(rt).make_room(desk, bytes);
+            let mut keeper = self.keeper.lock(rt);
+            keeper.make_room(desk, bytes);
+            *self.numbers.lock(rt) = keeper.numbers();
         }
+    }
+
+    /// What the keeper told when it was used last ([`Keeper::numbers`]). It waits for no disk: the lock that it takes is held
+    /// only while numbers are copied.
+    pub fn numbers<W: Wait>(&self, rt: &W) -> KeeperNumbers {
+        *self.numbers.lock(rt)
     }
 
     /// The keeper, out of the lock.
     pub fn into_keeper(self) -> Keeper<D, C> {
-        let SharedKeeper { keeper } = self;
+        let SharedKeeper { keeper, numbers: _ } = self;
         keeper.into_inner()
     }
 }

@@ -1,25 +1,37 @@
 //! The records of a store that wait, taken and kept.
-ghost use Rattle.std.specs.Prelude.{◌≡◌, ◌-◌, ◌≤◌, ℕ, List, [], Some, IfOk, OnErr, OnOk, map};
+ghost use Rattle.std.specs.Prelude.{◌≡◌, ◌-◌, ◌≤◌, ℕ, List, [], length, Some, IfOk, OnErr, OnOk, map};
 ghost use mathlib.Core.List.{IsPrefix};
 ghost use Rattle.head_board.specs.Events.{HaveHappened};
 ghost use Rattle.journal_file.specs.Journal.{disk_of, key_of, room_of, IsJournal};
 ghost use Rattle.journal_keeper.specs.Keeper.{event_records, IsLeft};
+ghost use Rattle.journal_keeper.specs.Numbers.{more};
 ghost use Rattle.tus_shared.specs.Journal.{journal_len, AreTaken};
 
 use crate::fault::KeepFault;
 use crate::keeping::{keep_frames, len_of_all};
+use crate::numbers::{SyncCounts, micros_since};
 use journal_file::Journal;
 use sqlite_disk::Disk;
 use std::alloc::Global;
 use std::sync::Wait;
 use std::sync::ledger::Ledger;
+use std::time;
+use std::time::Instant;
 use tus_shared::{Charges, Desk, Records, SeenEvents, Shared};
 
 /// Takes the records out of the queue of the store that wait behind what is kept, and keeps them. Gives how far the events
-/// are kept then, which is no less than was seen; and of the room that was granted their bytes are used.
+/// are kept then, which is no less than was seen; of the room that was granted their bytes are used, and one sync is counted,
+/// with them and with the time that they took.
 ///
 /// `Err` where the queue begins elsewhere, or ends before what was seen, or a write or a sync failed.
-pub(crate) fn keep_waiting<D: Disk, C: Charges, R: Ledger, M: Ledger, B: Wait + Drop, W: Wait>(
+pub(crate) fn keep_waiting<
+    D: Disk,
+    C: Charges,
+    R: Ledger,
+    M: Ledger,
+    B: Wait + Drop,
+    W: Wait + time::Clock,
+>(
     rt: &W,
     alloc: Global,
     shared: &Shared<C, R, M, B>,
@@ -27,6 +39,7 @@ pub(crate) fn keep_waiting<D: Disk, C: Charges, R: Ledger, M: Ledger, B: Wait + 
     front: &SeenEvents,
     seen: &SeenEvents,
     granted: &mut u64,
+    synced: &mut SyncCounts,
 ) -> Result<SeenEvents, KeepFault>
     requires key { C.journal ≡ Some (key_of journal.old) }
     requires front { front.now.book ≡ C.log }
@@ -45,9 +58,15 @@ pub(crate) fn keep_waiting<D: Disk, C: Charges, R: Ledger, M: Ledger, B: Wait + 
     ensures used { IfOk result (λ reached. granted.new
         ≡ granted.old - (journal_len C.journal reached.events - journal_len C.journal front.now.events)) }
     ensures covered { granted.old ≤ room_of journal.old → OnOk result (granted.new ≤ room_of journal.new) }
+    ensures once { OnOk result (synced.new.syncs ≡ more 1 synced.old.syncs) }
+    ensures each { IfOk result (λ reached. synced.new.records
+        ≡ more (length reached.events - length front.now.events) synced.old.records) }
+    ensures longer { synced.old.micros ≤ synced.new.micros }
 {
     let taken = take_behind(rt, shared, front, seen)?;
+    let start = Instant::now(rt).ok();
     keep_frames(alloc, journal, &taken.frames)?;
+    *synced = synced.with(taken.frames.len() as u64, micros_since(rt, &start));
     *granted = granted.saturating_sub(len_of_all(&taken.frames));
     Ok(taken.reached)
 }

@@ -5,7 +5,7 @@ ghost use Rattle.journal_file.specs.Journal.{key_of, IsJournal};
 use crate::requests::{Asked, settings, turn};
 use crate::torn_disk::TornDisk;
 use journal_file::{Journal, JournalError};
-use journal_frames::Frames;
+use journal_frames::{Frames, HEADER_LEN};
 use journal_keeper::{Journalled, KeepFault, Keeper, SharedKeeper, open_journal};
 use sqlite_disk::Fuse;
 use std::alloc::Global;
@@ -14,6 +14,7 @@ use std::process::Abort;
 use std::sync::Wait;
 use std::sync::ledger::{Blank, Ledger};
 use std::test::Fail;
+use std::time;
 use tus_shared::{Desk, NoGate, Opened, Shared};
 use tus_steps::Reply;
 use upload_book::{Refusal, Settings};
@@ -54,7 +55,7 @@ fn makes<C: Journalled, R: Ledger, M: Ledger, W: Wait + Abort>(
 }
 
 // What one desk has kept is kept of the other too, which is only told so.
-fn one_sync_serves_both<C: Journalled, R: Ledger, M: Ledger, W: Wait + Abort>(
+fn one_sync_serves_both<C: Journalled, R: Ledger, M: Ledger, W: Wait + Abort + time::Clock>(
     rt: &W,
     shared: &Shared<C, R, M, &W>,
     keeper: Keeper<Fuse<TornDisk>, C>,
@@ -71,10 +72,15 @@ fn one_sync_serves_both<C: Journalled, R: Ledger, M: Ledger, W: Wait + Abort>(
     assert!(rt; first.is_kept() && !second.is_kept());
     assert!(rt; keeper.keep(rt, shared, second).is_ok());
     assert!(rt; second.is_kept());
+    let numbers = keeper.numbers(rt);
+    assert!(rt; numbers.synced.syncs == 1 && numbers.synced.records == 2);
     let keeper = keeper.into_keeper();
     let seen = second.seen_events();
     assert!(rt; seen.begins(&keeper.kept()) && keeper.kept().begins(&seen));
-    assert!(rt; count(keeper.disk().inner().bytes()) == 2);
+    let file = keeper.disk().inner().bytes();
+    assert!(rt; count(file) == 2);
+    assert!(rt; numbers.file_bytes == file.len() as u64);
+    assert!(rt; numbers.bytes == len_of_frames(file));
 }
 
 // A desk is granted 65,536 bytes and 4 MiB beyond what it asks for, and nothing where it has enough.
@@ -107,7 +113,7 @@ fn disk_is_nearly_full<C: Journalled, R: Ledger, M: Ledger, W: Wait + Abort>(
 }
 
 // On a full disk no room is granted, and a change is refused. An upload can still be ended, and all is kept.
-fn disk_is_full<C: Journalled, R: Ledger, M: Ledger, W: Wait + Abort>(
+fn disk_is_full<C: Journalled, R: Ledger, M: Ledger, W: Wait + Abort + time::Clock>(
     rt: &W,
     shared: &Shared<C, R, M, &W>,
     mut keeper: Keeper<Fuse<TornDisk>, C>,
@@ -125,7 +131,7 @@ fn disk_is_full<C: Journalled, R: Ledger, M: Ledger, W: Wait + Abort>(
 }
 
 // After a sync that failed the desk is told nothing, and nothing more is kept.
-fn sync_fails<C: Journalled, R: Ledger, M: Ledger, W: Wait + Abort>(
+fn sync_fails<C: Journalled, R: Ledger, M: Ledger, W: Wait + Abort + time::Clock>(
     rt: &W,
     shared: &Shared<C, R, M, &W>,
     mut keeper: Keeper<Fuse<TornDisk>, C>,
@@ -138,6 +144,7 @@ fn sync_fails<C: Journalled, R: Ledger, M: Ledger, W: Wait + Abort>(
     assert!(rt; !desk.is_kept() && keeper.has_failed());
     let again = keeper.keep(rt, shared, desk);
     assert!(rt; matches!(again, Err(KeepFault::Ended)));
+    assert!(rt; keeper.numbers().synced.syncs == 0);
 }
 
 // How many records stand in frames under the key, up to ten.
@@ -152,8 +159,20 @@ fn count(frames: &[u8]) -> u64 {
     found
 }
 
+// How many bytes the frames under the key have, up to ten of them.
+fn len_of_frames(file: &[u8]) -> u64 {
+    let mut frames = Frames::new(KEY, file);
+    let mut len: u64 = 0;
+    for _ in 0..10 {
+        if let Ok(payload) = frames.next() {
+            len = len.saturating_add((HEADER_LEN + payload.len()) as u64);
+        }
+    }
+    len
+}
+
 // After a crash all that was kept is found, whatever else was lost; and nothing under another key.
-fn is_left_after_a_crash<C: Journalled, R: Ledger, M: Ledger, W: Wait + Abort>(
+fn is_left_after_a_crash<C: Journalled, R: Ledger, M: Ledger, W: Wait + Abort + time::Clock>(
     rt: &W,
     alloc: Global,
     shared: &Shared<C, R, M, &W>,
@@ -172,12 +191,12 @@ fn is_left_after_a_crash<C: Journalled, R: Ledger, M: Ledger, W: Wait + Abort>(
     }
     let left = keeper.disk().inner().after_crash(0)?;
     let other = open_journal(alloc, left, KEY + 1);
-    assert!(rt; matches!(other, Err(JournalError::Damaged)));
+    assert!(rt; matches!(other, Err(JournalError::Damaged(_))));
     Ok(())
 }
 
 // Plays a scene at two desks of a new store, over an empty journal.
-fn play<C: Journalled, R: Ledger, M: Ledger, W: Wait + Abort>(
+fn play<C: Journalled, R: Ledger, M: Ledger, W: Wait + Abort + time::Clock>(
     rt: &W,
     alloc: Global,
     settings: Settings,
@@ -231,7 +250,7 @@ fn play<C: Journalled, R: Ledger, M: Ledger, W: Wait + Abort>(
 }
 
 // The scene over a disk with room for so many bytes, that is frozen after so many calls.
-fn play_at<W: Wait + Abort>(
+fn play_at<W: Wait + Abort + time::Clock>(
     rt: &W,
     alloc: Global,
     all: usize,

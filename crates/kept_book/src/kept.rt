@@ -1,5 +1,8 @@
 ghost use Rattle.std.specs.Prelude.{◌≡◌, ◌++◌, [], ℕ, List, true, length, IsTrue, IfErr, IfOk, IsErrOf, OnErr, OnOk};
 ghost use Rattle.journal_file.specs.Journal.{disk_of};
+ghost use Rattle.journal_file.specs.JournalError.{IsDamagedAt};
+ghost use Rattle.journal_file.specs.declared.error.Damage.{Damage};
+ghost use Rattle.journal_file.specs.declared.error.JournalError.TheVariants as JournalError;
 ghost use Rattle.journal_frames.specs.Frames.{recovered, tail_of};
 ghost use Rattle.journal_frames.specs.declared.tail.Tail.TheVariants.{Torn};
 ghost use Rattle.tus_steps.specs.PlacedReply.{reply_in};
@@ -54,6 +57,7 @@ impl<D: Disk> KeptBook<D> {
         ensures kept { IfOk result (λ kept. IsKept kept settings []) }
         ensures key { IfOk result (λ kept. key_in kept ≡ key) }
         ensures clean { IfOk result (λ kept. D.is_clean (disk_in kept) ≡ D.is_clean disk) }
+        ensures outside { IfErr result IsOutsideFile }
     {
         let book = Book::new(alloc, settings)?;
         let journal = Journal::create(alloc, disk, key, room)?;
@@ -83,6 +87,8 @@ impl<D: Disk> KeptBook<D> {
             → recovered key (D.seen disk) ≡ records_of events
             → tail_of key (D.seen disk) ≡ Torn
             → IfErr result (λ not. IsTrue (D.is_clean not.disk) → IsOutsideFile not.why) }
+        ensures damaged { IfErr result (λ not. (damage : Damage) → not.why ≡ OpenFault.Journal (JournalError.Damaged damage)
+            → IsTrue (D.is_clean not.disk) → IsDamagedAt key (D.seen disk) damage) }
         ensures key { IfOk result (λ kept. key_in kept ≡ key) }
     {
         let opened = match Journal::open(alloc, disk, key) {

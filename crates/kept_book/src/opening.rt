@@ -1,5 +1,6 @@
-ghost use Rattle.std.specs.Prelude.{◌≡◌, ℕ, List, IfOk};
+ghost use Rattle.std.specs.Prelude.{◌≡◌, ℕ, List, IfErr, IfOk};
 ghost use Rattle.kept_book.specs.Kept.{key_in, IsOpened};
+ghost use Rattle.kept_book.specs.OpenFault.{TellsPlace};
 
 use crate::fault::{NotKept, OpenFault};
 use crate::kept::KeptBook;
@@ -14,7 +15,8 @@ const FIRST_ROOM: usize = 1 << 20;
 /// Opens the book that the file of a disk holds, as [`KeptBook::open`] does; or, where the file is empty, makes one without
 /// an upload, as [`KeptBook::create`] does.
 ///
-/// `Err` as of these two, or Journal with the error of the disk where it does not tell how long the file is.
+/// `Err` as of these two, or Journal with the error of the disk where it does not tell how long the file is. Where it is
+/// Damaged, its place is that of the damage, if the disk told no lie.
 pub fn open_or_create<D: Disk>(
     alloc: Global,
     settings: Settings,
@@ -25,6 +27,7 @@ where
     D: Drop,
     ensures opened { IfOk result (IsOpened settings key disk) }
     ensures key { IfOk result (λ kept. key_in kept ≡ key) }
+    ensures damaged { IfErr result (TellsPlace D.seen D.is_clean key disk) }
 {
     if !disk.may_be_used() {
         return Err(OpenFault::Journal(JournalError::Unusable));

@@ -38,12 +38,17 @@ fn is_found(
             Ok(false)
         }
         Err(NotKept { why, .. }) => {
-            assert!(rt;
-                matches!(why, OpenFault::Journal(JournalError::Damaged)),
-                "{why}"
-            );
+            assert!(rt; is_damage_before(&why, place), "{why}");
             Ok(true)
         }
+    }
+}
+
+// It is told as damage that begins at this byte of the file, or before it.
+fn is_damage_before(why: &OpenFault, place: usize) -> bool {
+    match why {
+        OpenFault::Journal(JournalError::Damaged(damage)) => damage.at <= place,
+        _ => false,
     }
 }
 
@@ -70,6 +75,6 @@ fn another_key(rt: HostRuntime) -> Result<(), Fail> {
     let Err(not) = KeptBook::open(rt.alloc(), settings(&rt), disk, KEY + 1) else {
         panic!(&rt; "opened");
     };
-    assert!(rt; matches!(not.why, OpenFault::Journal(JournalError::Damaged)));
+    assert!(rt; matches!(not.why, OpenFault::Journal(JournalError::Damaged(_))));
     Ok(())
 }

@@ -71,6 +71,10 @@ family_text f = lead_text f.name f.help f.kind ++ flat_map (sample_text f.name) 
 abbrev pub plain : ℕ → Sample
 plain n = record { suffix = []; labels = []; value = decimal n }
 
+-- microseconds without labels, as seconds
+abbrev pub seconds_sample : ℕ → Sample
+seconds_sample micros = record { suffix = []; labels = []; value = seconds_text micros }
+
 -- a number under one label
 abbrev pub labelled : List ℕ → List ℕ → ℕ → Sample
 labelled name value n = record { suffix = []; labels = (record { name = name; value = value }) ∷ []; value = decimal n }
@@ -115,6 +119,10 @@ counter name help n = record { name = name; help = help; kind = codes "counter";
 
 abbrev pub gauge : List ℕ → List ℕ → ℕ → Family
 gauge name help n = record { name = name; help = help; kind = codes "gauge"; samples = plain n ∷ [] }
+
+-- microseconds that only rise, told in seconds
+abbrev pub seconds_counter : List ℕ → List ℕ → ℕ → Family
+seconds_counter name help micros = record { name = name; help = help; kind = codes "counter"; samples = seconds_sample micros ∷ [] }
 
 -- a number that only rises, for each method and status
 abbrev pub by_reply : List ℕ → List ℕ → List ReplyCount → Family

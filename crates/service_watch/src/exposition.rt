@@ -2,7 +2,7 @@
 ghost use Rattle.std.specs.Prelude.{◌≡◌, ◌++◌, map, decimal, OnOk, codes, [], ◌∷◌};
 ghost use Rattle.std.specs.List.{flat_map};
 ghost use Rattle.service_watch.specs.Metrics as spec;
-ghost use Rattle.service_watch.specs.Metrics.{bound_sample, bucket_sample, by_name, by_reply, count_sample, counter, family_text, gauge, help_line, histogram_ends, label_byte, label_text, label_value, labelled, labels_text, lead_text, named_sample, of_tenants, plain, reply_labels, reply_sample, sample_text, sum_sample, type_line};
+ghost use Rattle.service_watch.specs.Metrics.{bound_sample, bucket_sample, by_name, by_reply, count_sample, counter, family_text, gauge, help_line, histogram_ends, label_byte, label_text, label_value, labelled, labels_text, lead_text, named_sample, of_tenants, plain, reply_labels, reply_sample, sample_text, seconds_counter, seconds_sample, sum_sample, type_line};
 
 use crate::counts::{Bucket, Histogram, NamedCount, ReplyCount};
 use crate::put::put_number;
@@ -66,6 +66,19 @@ pub(crate) fn put_gauge(
 {
     put_lead(out, name, help, b"gauge")?;
     put_plain(out, name, number)
+}
+
+/// Puts a family of seconds that only rise.
+pub(crate) fn put_seconds_counter(
+    out: &mut Vec<u8>,
+    name: &[u8],
+    help: &[u8],
+    micros: u64,
+) -> Result<(), AllocError>
+    ensures { OnOk result (out.new.items ≡ out.old.items ++ family_text (seconds_counter name.now help.now micros)) }
+{
+    put_lead(out, name, help, b"counter")?;
+    put_plain_seconds(out, name, micros)
 }
 
 /// Puts a family of numbers that only rise, one for each method and status.
@@ -137,6 +150,29 @@ pub(crate) fn put_quotas(
     put_each_quota(out, name, tenants)
 }
 
+/// Puts how many uploads each tenant has.
+pub(crate) fn put_uploads(
+    out: &mut Vec<u8>,
+    name: &[u8],
+    help: &[u8],
+    tenants: &[TenantNumbers],
+) -> Result<(), AllocError>
+    ensures { OnOk result (out.new.items ≡ out.old.items ++ family_text (of_tenants name.now help.now (λ t. t.uploads) tenants.now)) }
+{
+    put_lead(out, name, help, b"gauge")?;
+    put_each_uploads(out, name, tenants)
+}
+
+#[tactic(auto, unfolding(crate::specs::Metrics::sample_text, crate::specs::Metrics::labels_text))]
+fn put_plain_seconds(out: &mut Vec<u8>, name: &[u8], micros: u64) -> Result<(), AllocError>
+    ensures { OnOk result (out.new.items ≡ out.old.items ++ sample_text name.now (seconds_sample micros)) }
+{
+    out.extend_from_slice(name)?;
+    out.extend_from_slice(b" ")?;
+    put_seconds(out, micros)?;
+    out.extend_from_slice(b"\n")
+}
+
 #[tactic(auto, unfolding(crate::specs::Metrics::sample_text, crate::specs::Metrics::labels_text))]
 fn put_plain(out: &mut Vec<u8>, name: &[u8], number: u64) -> Result<(), AllocError>
     ensures { OnOk result (out.new.items ≡ out.old.items ++ sample_text name.now (plain number)) }
@@ -196,6 +232,21 @@ fn put_each_quota(
 {
     for tenant in tenants {
         put_labelled(out, name, b"tenant", tenant.name.as_slice(), tenant.quota)?;
+    }
+    Ok(())
+}
+
+// Puts how many uploads each tenant has.
+fn put_each_uploads(
+    out: &mut Vec<u8>,
+    name: &[u8],
+    tenants: &[TenantNumbers],
+) -> Result<(), AllocError>
+    ensures { OnOk result (out.new.items ≡ out.old.items
+        ++ flat_map (sample_text name.now) (map (λ t. labelled (codes "tenant") t.name t.uploads) tenants.now)) }
+{
+    for tenant in tenants {
+        put_labelled(out, name, b"tenant", tenant.name.as_slice(), tenant.uploads)?;
     }
     Ok(())
 }

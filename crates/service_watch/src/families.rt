@@ -6,6 +6,7 @@ ghost use Rattle.service_watch.specs.Metrics.{family_text};
 use crate::counts::{Histogram, NamedCount, ReplyCount};
 use crate::exposition::{
     put_by_name, put_by_reply, put_counter, put_gauge, put_histogram, put_paid, put_quotas,
+    put_seconds_counter, put_uploads,
 };
 use crate::snapshot::TenantNumbers;
 use std::alloc::{AllocError, Global};
@@ -94,6 +95,21 @@ pub(crate) fn put_tenant_quota(
         out,
         b"cadrusmo_tenant_quota_blocks",
         b"Blocks that a tenant may pay.",
+        tenants,
+    )
+}
+
+#[tactic(auto, unfolding(crate::specs::Families::tenant_uploads))]
+pub(crate) fn put_tenant_uploads(
+    out: &mut Vec<u8>,
+    tenants: &[TenantNumbers],
+) -> Result<(), AllocError>
+    ensures { OnOk result (out.new.items ≡ out.old.items ++ family_text (families.tenant_uploads tenants.now)) }
+{
+    put_uploads(
+        out,
+        b"cadrusmo_tenant_uploads",
+        b"Uploads that a tenant has.",
         tenants,
     )
 }
@@ -190,6 +206,66 @@ pub(crate) fn put_sweeps(out: &mut Vec<u8>, number: u64) -> Result<(), AllocErro
         out,
         b"cadrusmo_sweeps_total",
         b"Looks for uploads that have expired.",
+        number,
+    )
+}
+
+#[tactic(auto, unfolding(crate::specs::Families::journal_syncs))]
+pub(crate) fn put_journal_syncs(out: &mut Vec<u8>, number: u64) -> Result<(), AllocError>
+    ensures { OnOk result (out.new.items ≡ out.old.items ++ family_text (families.journal_syncs number)) }
+{
+    put_counter(
+        out,
+        b"cadrusmo_journal_syncs_total",
+        b"Syncs of records to the journal.",
+        number,
+    )
+}
+
+#[tactic(auto, unfolding(crate::specs::Families::journal_records))]
+pub(crate) fn put_journal_records(out: &mut Vec<u8>, number: u64) -> Result<(), AllocError>
+    ensures { OnOk result (out.new.items ≡ out.old.items ++ family_text (families.journal_records number)) }
+{
+    put_counter(
+        out,
+        b"cadrusmo_journal_records_total",
+        b"Records kept in the journal since the start.",
+        number,
+    )
+}
+
+#[tactic(auto, unfolding(crate::specs::Families::journal_sync_seconds))]
+pub(crate) fn put_journal_sync_seconds(out: &mut Vec<u8>, micros: u64) -> Result<(), AllocError>
+    ensures { OnOk result (out.new.items ≡ out.old.items ++ family_text (families.journal_sync_seconds micros)) }
+{
+    put_seconds_counter(
+        out,
+        b"cadrusmo_journal_sync_seconds_total",
+        b"Seconds of appending records and syncing them.",
+        micros,
+    )
+}
+
+#[tactic(auto, unfolding(crate::specs::Families::journal_bytes))]
+pub(crate) fn put_journal_bytes(out: &mut Vec<u8>, number: u64) -> Result<(), AllocError>
+    ensures { OnOk result (out.new.items ≡ out.old.items ++ family_text (families.journal_bytes number)) }
+{
+    put_gauge(
+        out,
+        b"cadrusmo_journal_bytes",
+        b"Bytes of the file of the journal that records fill.",
+        number,
+    )
+}
+
+#[tactic(auto, unfolding(crate::specs::Families::journal_file_bytes))]
+pub(crate) fn put_journal_file_bytes(out: &mut Vec<u8>, number: u64) -> Result<(), AllocError>
+    ensures { OnOk result (out.new.items ≡ out.old.items ++ family_text (families.journal_file_bytes number)) }
+{
+    put_gauge(
+        out,
+        b"cadrusmo_journal_file_bytes",
+        b"Bytes of the file of the journal, with the zeros ahead.",
         number,
     )
 }

@@ -21,4 +21,4 @@ pub use cut::Cut;
 pub use line::{CutLine, RequestLine, method_name};
 pub use log::Log;
 pub use metrics::metrics_text;
-pub use snapshot::{Snapshot, TenantNumbers};
+pub use snapshot::{JournalNumbers, Snapshot, TenantNumbers};

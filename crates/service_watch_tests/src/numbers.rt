@@ -1,6 +1,7 @@
 //! Numbers in Prometheus' text format.
 use service_watch::{
-    Counts, Snapshot, TenantNumbers, WORD_MAX, Word, count_named, count_reply, metrics_text,
+    Counts, JournalNumbers, Snapshot, TenantNumbers, WORD_MAX, Word, count_named, count_reply,
+    metrics_text,
 };
 use std::alloc::Global;
 use std::process::Abort;
@@ -45,6 +46,13 @@ fn snapshot<'a>(counts: &'a Counts, tenants: &'a [TenantNumbers]) -> Snapshot<'a
         blocks_free: 9,
         blocks_charged: 7,
         blocks_released: 6,
+        journal: Some(JournalNumbers {
+            syncs: 3,
+            records: 5,
+            micros: 1_250_000,
+            bytes: 640,
+            file_bytes: 1_048_592,
+        }),
         resident: Some(4096),
     }
 }
@@ -125,6 +133,7 @@ fn other_numbers(rt: HostRuntime) -> Result<(), Fail> {
         name: Tenant::of(b"acme"),
         paid: 3,
         quota: 8,
+        uploads: 2,
     }];
     let text = metrics_text(rt.alloc(), &snapshot(&counts, &tenants))?;
     assert_line(&rt, &text, b"# TYPE cadrusmo_request_seconds histogram");
@@ -134,6 +143,21 @@ fn other_numbers(rt: HostRuntime) -> Result<(), Fail> {
         &text,
         b"cadrusmo_tenant_quota_blocks{tenant=\"acme\"} 8",
     );
+    assert_line(&rt, &text, b"cadrusmo_tenant_uploads{tenant=\"acme\"} 2");
     assert_line(&rt, &text, b"process_resident_memory_bytes 4096");
+    Ok(())
+}
+
+#[test]
+fn numbers_of_a_journal(rt: HostRuntime) -> Result<(), Fail> {
+    let counts = Counts::new(rt.alloc());
+    let text = metrics_text(rt.alloc(), &snapshot(&counts, &[]))?;
+    assert_line(&rt, &text, b"# TYPE cadrusmo_journal_syncs_total counter");
+    assert_line(&rt, &text, b"cadrusmo_journal_syncs_total 3");
+    assert_line(&rt, &text, b"cadrusmo_journal_records_total 5");
+    assert_line(&rt, &text, b"cadrusmo_journal_sync_seconds_total 1.25");
+    assert_line(&rt, &text, b"# TYPE cadrusmo_journal_bytes gauge");
+    assert_line(&rt, &text, b"cadrusmo_journal_bytes 640");
+    assert_line(&rt, &text, b"cadrusmo_journal_file_bytes 1048592");
     Ok(())
 }

@@ -17,7 +17,7 @@ use Rattle.journal_keeper.specs.declared.fault.ReopenFault.{ReopenFault}
 use Rattle.journal_keeper.specs.declared.fault.ReopenFault.TheVariants as reopening
 use Rattle.tus_server.specs.JournalFault.{fault_of_reopening}
 use Rattle.tus_server.specs.Lines.{Settles, balance_text, listening_text}
-use Rattle.tus_server.specs.Serve.{BreaksOff, IsPlaceAsked, KeepsQuiet, PrintsBoth, ServeEnds, ServesEach, is_of_kept_service, is_of_service, serve_settings}
+use Rattle.tus_server.specs.Serve.{BreaksOff, IsPlaceAsked, KeepsQuiet, PrintsBoth, ServeEnds, ServesEach, has_port_twice, is_of_kept_service, is_of_service, serve_settings}
 use Rattle.tus_server.specs.Sockets.{AreUnstopped, Sockets}
 use Rattle.tus_server.specs.StreamUse.{StreamUse, IsUntouched}
 use Rattle.tus_server.specs.declared.cause.Cause.{Cause}
@@ -115,6 +115,7 @@ abbrev cause_in : RunFault → Cause
 cause_in (run.Wire cause) = cause
 cause_in run.Words = Output
 cause_in run.Address = Output
+cause_in run.Ports = Output
 cause_in (run.Settings why) = Output
 cause_in (run.Journal why) = Output
 cause_in run.Memory = Output
@@ -132,6 +133,7 @@ abbrev has_cause : RunFault → Bool
 has_cause (run.Wire cause) = true
 has_cause run.Words = false
 has_cause run.Address = false
+has_cause run.Ports = false
 has_cause (run.Settings why) = false
 has_cause (run.Journal why) = false
 has_cause run.Memory = false
@@ -154,27 +156,29 @@ reopening-no_cause reopening.Waiting = refl
 pub reopening-by_cause : {T : Type 0} (P : Cause → Type 0) (r : Result T RunFault) (why : ReopenFault) → r ≡ Err (fault_of_reopening why) → (cause : Cause) → r ≡ Err (run.Wire cause) → P cause
 reopening-by_cause P r why is cause named = absurd (true≢false (sym (ap ends_by_cause named) ∙ ap ends_by_cause is ∙ reopening-no_cause why))
 
--- how `serve` ends, by what became of it after its settings and its address were taken and the file of its journal was opened
-pub ServeEnds-kept : {L A W T : Type 0} (seen : Sockets L A) (arguments : ServeArguments) (output : StreamUse W) (s : Settings) (r : Result T RunFault) → serve_settings arguments ≡ Ok s → IsSome arguments.journal
+-- how `serve` ends, by what became of it after its settings, its address and its ports were taken and the file of its journal was opened
+pub ServeEnds-kept : {L A W T : Type 0} (seen : Sockets L A) (arguments : ServeArguments) (output : StreamUse W) (s : Settings) (r : Result T RunFault) → serve_settings arguments ≡ Ok s → has_port_twice arguments ≡ false → IsSome arguments.journal
     → IfErr r (λ fault. is_of_kept_service fault ≡ true) → (r ≡ Err run.Memory → IsUntouched output)
     → ((cause : Cause) → r ≡ Err (run.Wire cause) → BreaksOff seen arguments s output cause) → ((why : JournalFault) → r ≡ Err (run.Journal why) → KeepsQuiet output why)
     → OnOk r (ServesEach seen arguments s output) → ServeEnds seen arguments output r
-ServeEnds-kept seen arguments output s (Ok v) given some late memory breaks lacks all = record { settings = s; is_given = given; serves = all }
-ServeEnds-kept seen arguments output s (Err run.Words) given some late memory breaks lacks all = absurd (true≢false (sym late))
-ServeEnds-kept seen arguments output s (Err run.Address) given some late memory breaks lacks all = absurd (true≢false (sym late))
-ServeEnds-kept seen arguments output s (Err (run.Settings why)) given some late memory breaks lacks all = absurd (true≢false (sym late))
-ServeEnds-kept seen arguments output s (Err (run.Journal why)) given some late memory breaks lacks all = (some, lacks why refl)
-ServeEnds-kept seen arguments output s (Err (run.Wire cause)) given some late memory breaks lacks all = record { settings = s; is_given = given; breaks = breaks cause refl }
-ServeEnds-kept seen arguments output s (Err run.Memory) given some late memory breaks lacks all = memory refl
+ServeEnds-kept seen arguments output s (Ok v) given apart some late memory breaks lacks all = record { settings = s; is_given = given; apart = apart; serves = all }
+ServeEnds-kept seen arguments output s (Err run.Words) given apart some late memory breaks lacks all = absurd (true≢false (sym late))
+ServeEnds-kept seen arguments output s (Err run.Address) given apart some late memory breaks lacks all = absurd (true≢false (sym late))
+ServeEnds-kept seen arguments output s (Err run.Ports) given apart some late memory breaks lacks all = absurd (true≢false (sym late))
+ServeEnds-kept seen arguments output s (Err (run.Settings why)) given apart some late memory breaks lacks all = absurd (true≢false (sym late))
+ServeEnds-kept seen arguments output s (Err (run.Journal why)) given apart some late memory breaks lacks all = (some, lacks why refl)
+ServeEnds-kept seen arguments output s (Err (run.Wire cause)) given apart some late memory breaks lacks all = record { settings = s; is_given = given; apart = apart; breaks = breaks cause refl }
+ServeEnds-kept seen arguments output s (Err run.Memory) given apart some late memory breaks lacks all = memory refl
 
 -- the same without a journal
-pub ServeEnds-from : {L A W T : Type 0} (seen : Sockets L A) (arguments : ServeArguments) (output : StreamUse W) (s : Settings) (r : Result T RunFault) → serve_settings arguments ≡ Ok s
+pub ServeEnds-from : {L A W T : Type 0} (seen : Sockets L A) (arguments : ServeArguments) (output : StreamUse W) (s : Settings) (r : Result T RunFault) → serve_settings arguments ≡ Ok s → has_port_twice arguments ≡ false
     → IfErr r (λ fault. is_of_service fault ≡ true) → (r ≡ Err run.Memory → IsUntouched output)
     → ((cause : Cause) → r ≡ Err (run.Wire cause) → BreaksOff seen arguments s output cause) → OnOk r (ServesEach seen arguments s output) → ServeEnds seen arguments output r
-ServeEnds-from seen arguments output s (Ok v) given late memory breaks all = record { settings = s; is_given = given; serves = all }
-ServeEnds-from seen arguments output s (Err run.Words) given late memory breaks all = absurd (true≢false (sym late))
-ServeEnds-from seen arguments output s (Err run.Address) given late memory breaks all = absurd (true≢false (sym late))
-ServeEnds-from seen arguments output s (Err (run.Settings why)) given late memory breaks all = absurd (true≢false (sym late))
-ServeEnds-from seen arguments output s (Err (run.Journal why)) given late memory breaks all = absurd (true≢false (sym late))
-ServeEnds-from seen arguments output s (Err (run.Wire cause)) given late memory breaks all = record { settings = s; is_given = given; breaks = breaks cause refl }
-ServeEnds-from seen arguments output s (Err run.Memory) given late memory breaks all = memory refl
+ServeEnds-from seen arguments output s (Ok v) given apart late memory breaks all = record { settings = s; is_given = given; apart = apart; serves = all }
+ServeEnds-from seen arguments output s (Err run.Words) given apart late memory breaks all = absurd (true≢false (sym late))
+ServeEnds-from seen arguments output s (Err run.Address) given apart late memory breaks all = absurd (true≢false (sym late))
+ServeEnds-from seen arguments output s (Err run.Ports) given apart late memory breaks all = absurd (true≢false (sym late))
+ServeEnds-from seen arguments output s (Err (run.Settings why)) given apart late memory breaks all = absurd (true≢false (sym late))
+ServeEnds-from seen arguments output s (Err (run.Journal why)) given apart late memory breaks all = absurd (true≢false (sym late))
+ServeEnds-from seen arguments output s (Err (run.Wire cause)) given apart late memory breaks all = record { settings = s; is_given = given; apart = apart; breaks = breaks cause refl }
+ServeEnds-from seen arguments output s (Err run.Memory) given apart late memory breaks all = memory refl

@@ -16,6 +16,11 @@ port_fault_of error.PermissionDenied = Forbidden
 port_fault_of error.AddrNotAvailable = NotHere
 port_fault_of _ = Refused
 
+-- what an error of listening at the port for numbers is: where the machine has no such address, what it is at any port of it
+abbrev pub metrics_cause_of : ErrorKind → Cause
+metrics_cause_of error.AddrNotAvailable = Port NotHere
+metrics_cause_of _ = Metrics
+
 -- The cause names a stream that has failed, where these say whether the reader and the writer have: a conversation has no
 -- other cause.
 abbrev pub NamesCause : Bool → Bool → Cause → Type 0

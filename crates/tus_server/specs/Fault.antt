@@ -13,12 +13,13 @@ use Rattle.tus_server.specs.Sentences.{sentence_of}
 use Rattle.tus_server.specs.StreamUse.{StreamUse, IsUntouched}
 use Rattle.tus_server.specs.declared.cause.Cause.TheVariants.{Input, Output}
 use Rattle.tus_server.specs.declared.fault.RunFault.{RunFault}
-use Rattle.tus_server.specs.declared.fault.RunFault.TheVariants.{Words, Address, Settings, Wire, Journal, Memory}
+use Rattle.tus_server.specs.declared.fault.RunFault.TheVariants.{Words, Address, Ports, Settings, Wire, Journal, Memory}
 
 -- the exit status of a run with this fault
 abbrev pub status_of : RunFault → ℕ
 status_of Words = 2
 status_of Address = 2
+status_of Ports = 2
 status_of (Settings fault) = 2
 status_of (Wire cause) = 3
 status_of Memory = 4
@@ -28,6 +29,7 @@ status_of (Journal fault) = 5
 abbrev pub words_of : RunFault → List ℕ
 words_of Words = codes "words"
 words_of Address = codes "address"
+words_of Ports = codes "words"
 words_of (Settings fault) = codes "settings: " ++ fault_word fault
 words_of (Wire cause) = codes "wire"
 words_of (Journal fault) = codes "journal: " ++ journal_word fault
@@ -76,6 +78,7 @@ fault_of_opening opening.Board = Memory
 abbrev pub IsFaultOf : {T : Type 0} → Result T SettingsFault → RunFault → Type 0
 IsFaultOf given Words = ⊥
 IsFaultOf given Address = ⊥
+IsFaultOf given Ports = ⊥
 IsFaultOf given (Settings fault) = given ≡ Err fault
 IsFaultOf given (Wire cause) = ⊥
 IsFaultOf given (Journal why) = ⊥

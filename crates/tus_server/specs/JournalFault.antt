@@ -20,7 +20,7 @@ journal_word File = codes "file"
 journal_word NoFolder = codes "file"
 journal_word Busy = codes "busy"
 journal_word (Settings why) = codes "settings"
-journal_word Damaged = codes "damaged"
+journal_word (Damaged damage) = codes "damaged"
 journal_word (Record number) = codes "record"
 journal_word Disk = codes "disk"
 
@@ -34,7 +34,7 @@ fault_of_file file.HotJournal = run.Journal File
 -- what an error of a journal is to the program
 abbrev pub fault_of_journal : JournalError → RunFault
 fault_of_journal error.Memory = run.Memory
-fault_of_journal error.Damaged = run.Journal Damaged
+fault_of_journal (error.Damaged damage) = run.Journal (Damaged damage)
 fault_of_journal _ = run.Journal Disk
 
 -- what it is to the program that a kept book could not be opened
@@ -54,6 +54,7 @@ fault_of_reopening reopening.Waiting = run.Journal Disk
 abbrev pub IsOfJournal : RunFault → Type 0
 IsOfJournal run.Words = ⊥
 IsOfJournal run.Address = ⊥
+IsOfJournal run.Ports = ⊥
 IsOfJournal (run.Settings why) = ⊥
 IsOfJournal (run.Wire cause) = ⊥
 IsOfJournal (run.Journal why) = ⊤

@@ -41,7 +41,7 @@ IsWrongFor new text (journal.Settings why) = IsWrong new text why
 IsWrongFor new text journal.File = ⊥
 IsWrongFor new text journal.NoFolder = ⊥
 IsWrongFor new text journal.Busy = ⊥
-IsWrongFor new text journal.Damaged = ⊥
+IsWrongFor new text (journal.Damaged damage) = ⊥
 IsWrongFor new text (journal.Record number) = ⊥
 IsWrongFor new text journal.Disk = ⊥
 
@@ -49,6 +49,7 @@ IsWrongFor new text journal.Disk = ⊥
 abbrev pub IsMismatch : Settings → List ℕ → RunFault → Type 0
 IsMismatch new text run.Words = ⊥
 IsMismatch new text run.Address = ⊥
+IsMismatch new text run.Ports = ⊥
 IsMismatch new text (run.Settings why) = ⊥
 IsMismatch new text (run.Wire cause) = ⊥
 IsMismatch new text (run.Journal why) = IsWrongFor new text why

@@ -101,4 +101,5 @@ module _ {D : Type 0} (seen : D → List ℕ) (may_leave : D → List ℕ → Ty
     KeptTalkEnds (Err (run.Journal why)) = IsOk (talk_settings arguments) × LacksJournal why
     KeptTalkEnds (Err run.Memory) = KeepsStreams arguments reader writer
     KeptTalkEnds (Err run.Address) = ⊥
+    KeptTalkEnds (Err run.Ports) = ⊥
     KeptTalkEnds (Err run.Words) = ⊥

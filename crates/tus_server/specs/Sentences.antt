@@ -163,21 +163,23 @@ difference_text (OtherTenant place journal options) =
 
 -- the settings beside a journal are not those of the options
 abbrev pub mismatch_text : Mismatch → List ℕ → List ℕ
-mismatch_text Missing path = shown path ++ codes " has a journal and no settings: put its file settings back, or give another --journal\n"
-mismatch_text Unreadable path = shown path ++ codes "/settings gives no settings: put back what it was, or give another --journal\n"
+mismatch_text Missing path = shown path ++ codes " has a journal and no settings: put its file settings back, or give another folder\n"
+mismatch_text Unreadable path = shown path ++ codes "/settings gives no settings: put back what it was, or give another folder\n"
 mismatch_text (Differs difference) path = difference_text difference
 
 -- a journal can't be had, or failed; its path stands as it was given
 abbrev pub journal_text : JournalFault → List ℕ → List ℕ
 journal_text NoFolder path = shown path ++ codes " is a file and no folder: give --journal a folder, which is made where there is none\n"
 journal_text (Settings why) path = mismatch_text why path
-journal_text File path = shown path ++ codes " can't be made, or its journal can't be opened: see its rights, and that the journal is a file with one name\n"
+journal_text File path = shown path ++ codes " can't be made, or its journal can't be opened: see its rights and its parent's, and that the journal is a file with one name\n"
 journal_text Busy path = shown path ++ codes " is another process's journal: end that, or give another --journal\n"
-journal_text Damaged path = shown path ++ codes " is damaged, or no journal; nothing was written to it: give a copy of it, or another --journal\n"
+journal_text (Damaged damage) path =
+    shown path ++ codes " is damaged from byte " ++ decimal damage.at ++ codes " of " ++ decimal damage.len
+    ++ codes " on, or no journal; nothing was written to it: give a copy of it, or another folder\n"
 journal_text (Record number) path =
     codes "record " ++ decimal number ++ codes " of " ++ shown path
     ++ codes " is of no change that these settings allow: give those that it was made with\n"
-journal_text Disk path = shown path ++ codes " could not be read or written: see its disk. What any reply told is in it\n"
+journal_text Disk path = shown path ++ codes " could not be read or written: see its disk, and its rights. What any reply told is in it\n"
 
 -- a word of the command line is no text
 abbrev pub no_text : List ℕ
@@ -195,6 +197,10 @@ words_memory_text = codes "there was no memory to read the command line or to sh
 abbrev pub address_text : List ℕ → List ℕ
 address_text word = shown word ++ codes ": an address is one of IPv4 or IPv6, as 127.0.0.1 or ::1\n"
 
+-- clients and numbers were to have the same port
+abbrev pub ports_text : ℕ → List ℕ
+ports_text port = codes "--port and --metrics are both " ++ decimal port ++ codes ": give each a port of its own\n"
+
 -- the numbers, the words NAME:QUOTA, the address and the port of a command; `talk` has neither of these
 abbrev pub numbers_in : CommandArguments → Numbers
 numbers_in (talk arguments) = arguments.numbers
@@ -209,6 +215,7 @@ tenant_words (serve arguments) = arguments.tenants
 abbrev pub sentence_of : CommandArguments → RunFault → List ℕ
 sentence_of arguments run.Words = untold_text
 sentence_of arguments run.Address = address_text (address_in arguments)
+sentence_of arguments run.Ports = ports_text (port_in arguments)
 sentence_of arguments (run.Settings why) = settings_text why (numbers_in arguments) (tenant_words arguments)
 sentence_of arguments (run.Wire cause) = cause_text cause arguments
 sentence_of arguments (run.Journal why) = journal_text why (journal_in arguments)

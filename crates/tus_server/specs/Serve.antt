@@ -1,7 +1,8 @@
 -- How `serve` ends. What is written on its connections is the workers' (`serve_stream` of `tus_workers`).
-use Rattle.std.specs.Prelude.{◌≡◌, ◌⊎◌, ⊤, ℕ, ◌≤◌, Bool, true, false, List, ◌++◌, length, take, IsSome, None, Result, Ok, Err}
+use Rattle.std.specs.Prelude.{◌≡◌, ◌⊎◌, ⊤, ℕ, ◌≤◌, ◌==◌, ◌&&◌, nat_lt, Bool, true, false, List, ◌++◌, length, take, IsSome, None, Result, Ok, Err}
 use Rattle.std.specs.Io.KnownBytes.{Appends}
 use Rattle.std.specs.Net.Grammar.{IsIpText}
+use Rattle.std.specs.Option.{option_map_or}
 use Rattle.std.specs.Net.ToAddrs.{IsHostAndPort}
 use Rattle.std.specs.declared.net.ip_addr.IpAddr.{IpAddr}
 use Rattle.std.specs.declared.net.socket_addr.SocketAddr.{SocketAddr}
@@ -16,6 +17,7 @@ use Rattle.tus_server.specs.Sockets.{AreUnstopped, HasFailed, HaveAccepted, Sock
 use Rattle.tus_server.specs.StreamUse.{StreamUse, IsAlive, IsUntouched}
 use Rattle.tus_server.specs.declared.cause.Cause.{Cause}
 use Rattle.tus_server.specs.declared.cause.Cause.TheVariants.{Input, Output, Port, Workers, Accept, Log, Metrics}
+use Rattle.tus_server.specs.declared.cause.PortFault.TheVariants.{NotHere}
 use Rattle.tus_server.specs.declared.journal_fault.JournalFault.{JournalFault}
 use Rattle.tus_server.specs.declared.journal_fault.JournalFault.TheVariants as journal
 use Rattle.tus_server.specs.declared.fault.RunFault.{RunFault}
@@ -28,6 +30,10 @@ serve_settings arguments = settings_given arguments.numbers arguments.tenants
 -- the arguments ask for this address and port
 abbrev pub IsPlaceAsked : ServeArguments → SocketAddr → Type 0
 IsPlaceAsked arguments place = IsHostAndPort arguments.address arguments.port place
+
+-- numbers are to be asked for at the port of the clients; port 0 is any that is free, and so no other's
+abbrev pub has_port_twice : ServeArguments → Bool
+has_port_twice arguments = option_map_or (λ port. nat_lt 0 port && port == arguments.port) arguments.metrics false
 
 -- `serve` was asked for with these arguments, and so with these settings; it has these sockets and this output
 module _ {L A W : Type 0} (seen : Sockets L A) (arguments : ServeArguments) (s : Settings) (output : StreamUse W) where
@@ -90,10 +96,11 @@ module _ {L A W : Type 0} (seen : Sockets L A) (arguments : ServeArguments) (s :
   BreaksOff Log = IsUntouched output
   BreaksOff Metrics = IsUntouched output
 
--- a fault that comes after the settings and the address were taken, with a journal or without one
+-- a fault that comes after the settings, the address and the ports were taken, with a journal or without one
 abbrev pub is_of_kept_service : RunFault → Bool
 is_of_kept_service run.Words = false
 is_of_kept_service run.Address = false
+is_of_kept_service run.Ports = false
 is_of_kept_service (run.Settings why) = false
 is_of_kept_service (run.Wire cause) = true
 is_of_kept_service (run.Journal why) = true
@@ -103,6 +110,7 @@ is_of_kept_service run.Memory = true
 abbrev pub is_of_service : RunFault → Bool
 is_of_service run.Words = false
 is_of_service run.Address = false
+is_of_service run.Ports = false
 is_of_service (run.Settings why) = false
 is_of_service (run.Wire cause) = true
 is_of_service (run.Journal why) = false
@@ -116,8 +124,12 @@ KeepsQuiet output journal.File = IsUntouched output
 KeepsQuiet output journal.NoFolder = IsUntouched output
 KeepsQuiet output journal.Busy = IsUntouched output
 KeepsQuiet output (journal.Settings why) = IsUntouched output
-KeepsQuiet output journal.Damaged = IsUntouched output
+KeepsQuiet output (journal.Damaged damage) = IsUntouched output
 KeepsQuiet output (journal.Record number) = IsUntouched output
+
+-- what watches can't be had: the file of the log, or the port for numbers, or the machine has no such address
+abbrev pub IsOfWatching : RunFault → Type 0
+IsOfWatching fault = (fault ≡ run.Wire Log) ⊎ (fault ≡ run.Wire Metrics) ⊎ (fault ≡ run.Wire (Port NotHere))
 
 -- `serve` was asked for with these arguments, with these sockets and this output
 module _ {L A W : Type 0} (seen : Sockets L A) (arguments : ServeArguments) (output : StreamUse W) where
@@ -125,21 +137,24 @@ module _ {L A W : Type 0} (seen : Sockets L A) (arguments : ServeArguments) (out
   pub record ServesAll : Type 0 where
     pub settings : Settings
     pub is_given : serve_settings arguments ≡ Ok settings
+    pub apart : has_port_twice arguments ≡ false
     pub serves : ServesEach seen arguments settings output
 
   -- a socket or the output failed, by this cause
   pub record BreaksService (cause : Cause) : Type 0 where
     pub settings : Settings
     pub is_given : serve_settings arguments ≡ Ok settings
+    pub apart : has_port_twice arguments ≡ false
     pub breaks : BreaksOff seen arguments settings output cause
 
   -- How `serve` ends: well, or a socket or its output failed, or it lacked the journal that it was asked for, or refused the
-  -- settings or the address, or lacked memory to begin with. In the last three nothing was printed.
+  -- settings, the address or the ports, or lacked memory to begin with. In the last four nothing was printed.
   abbrev pub ServeEnds : {T : Type 0} → Result T RunFault → Type 0
   ServeEnds (Ok _) = ServesAll
   ServeEnds (Err (run.Wire cause)) = BreaksService cause
   ServeEnds (Err (run.Settings why)) = (serve_settings arguments ≡ Err why) × IsUntouched output
   ServeEnds (Err run.Memory) = IsUntouched output
   ServeEnds (Err run.Address) = ((a : IpAddr) → ¬ (IsIpText arguments.address a)) × IsUntouched output
+  ServeEnds (Err run.Ports) = (has_port_twice arguments ≡ true) × IsUntouched output
   ServeEnds (Err (run.Journal why)) = IsSome arguments.journal × KeepsQuiet output why
   ServeEnds (Err run.Words) = ⊥

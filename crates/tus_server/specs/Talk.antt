@@ -81,5 +81,6 @@ module _ {R W : Type 0} (arguments : TalkArguments) (reader : StreamUse R) (writ
   TalkEnds (Err (run.Settings why)) = (talk_settings arguments ≡ Err why) × IsUntouched reader × IsUntouched writer
   TalkEnds (Err run.Memory) = KeepsStreams
   TalkEnds (Err run.Address) = ⊥
+  TalkEnds (Err run.Ports) = ⊥
   TalkEnds (Err (run.Journal why)) = ⊥
   TalkEnds (Err run.Words) = ⊥

@@ -13,11 +13,13 @@ Example, which asks what the server can do:
   printf 'OPTIONS * HTTP/1.1\\r\\nHost: x\\r\\n\\r\\n' | tus-server talk acme:8
 
 Exit status:
-  0  The conversation ended, in whatever way, or all connections were served, or help was asked for
-  2  The command line or the settings are refused, and nothing was read
-  3  A read or a write failed; of serve: the port could not be had, or no connection accepted
-  4  There was no memory to begin with, and nothing was read
-  5  The journal could not be had, and nothing was read, or it failed
+  0  The conversation ended, in whatever way; of serve: all connections were served, or a stop was asked for and the server
+     ended; or help or the version was asked for
+  2  The command line or the settings are refused, and no request was read
+  3  A read or a write failed; of serve: a port, that for numbers too, a worker's socket or the log could not be had, or a
+     worker could accept no more connections
+  4  There was no memory to begin with, and no request was read
+  5  The journal could not be had, and no request was read, or it failed
 At 2, 3, 4 and 5 standard error says why.";
 
 const TALK_HELP: &str = "\

@@ -32,6 +32,8 @@ pub enum RunFault {
     Words,
     /// The address is none of IPv4 or IPv6.
     Address,
+    /// Numbers are to be asked for at the port of the clients.
+    Ports,
     /// The settings have a fault.
     Settings(SettingsFault),
     /// A read or a write failed, or of `serve` a socket.
@@ -43,20 +45,20 @@ pub enum RunFault {
 }
 
 impl RunFault {
-    /// The exit status of the program: 2 for the words, the address and the settings, 3 for the connection, 4 for
+    /// The exit status of the program: 2 for the words, the address, the ports and the settings, 3 for the connection, 4 for
     /// memory, 5 for the journal.
     pub fn status(&self) -> u8
         ensures { result ≡ status_of self.now }
     {
         match self {
-            RunFault::Words | RunFault::Address | RunFault::Settings(_) => 2,
+            RunFault::Words | RunFault::Address | RunFault::Ports | RunFault::Settings(_) => 2,
             RunFault::Wire(_) => 3,
             RunFault::Memory => 4,
             RunFault::Journal(_) => 5,
         }
     }
 
-    /// The line that names the fault: `tus-server: `, then `words`, `address`, `settings: ` and the word of
+    /// The line that names the fault: `tus-server: `, then `words` (also of the ports), `address`, `settings: ` and the word of
     /// its fault, `wire`, `journal: ` and the word of its fault, or `memory`, and LF.
     #[tactic(auto, using(crate::proofs::FaultLemmas::short_word))]
     pub fn line(&self) -> ArrayString<LINE_MAX>
@@ -65,7 +67,7 @@ impl RunFault {
         let mut line = ArrayString::new();
         line.push_str("tus-server: ");
         match self {
-            RunFault::Words => line.push_str("words"),
+            RunFault::Words | RunFault::Ports => line.push_str("words"),
             RunFault::Address => line.push_str("address"),
             RunFault::Settings(fault) => {
                 line.push_str("settings: ");
@@ -186,7 +188,7 @@ impl From<JournalError> for RunFault {
     fn from(error: JournalError) -> RunFault {
         match error {
             JournalError::Memory => RunFault::Memory,
-            JournalError::Damaged => RunFault::Journal(JournalFault::Damaged),
+            JournalError::Damaged(damage) => RunFault::Journal(JournalFault::Damaged(damage)),
             _ => RunFault::Journal(JournalFault::Disk),
         }
     }

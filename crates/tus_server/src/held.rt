@@ -1,4 +1,7 @@
 //! How much a book holds.
+ghost use Rattle.std.specs.Prelude.{◌≡◌, ◌<◌, length};
+ghost use Rattle.upload_book.specs.Book.{plain_of};
+ghost use Rattle.upload_book.specs.PlainBook.{tenant_book};
 
 use upload_book::{Book, Moment, Name, Refusal};
 
@@ -38,24 +41,29 @@ pub fn held_in(book: &Book) -> Held {
     all
 }
 
-/// What the book holds for the tenant at this place, from 0, those uploads too that have expired. Each id that was given is
-/// looked for.
-pub fn held_for(book: &Book, tenant: u8) -> Held {
-    let mut held = Held::none();
+/// What the book holds for the tenant at this place, from 0, those uploads too that have expired.
+fn held_for(book: &Book, tenant: u8) -> Held
+    requires { tenant < length (plain_of book.now).settings.tenants }
+    ensures { result.uploads ≡ length (tenant_book (plain_of book.now) tenant).uploads }
+{
+    Held {
+        uploads: book.upload_count(tenant),
+        bytes: bytes_for(book, tenant),
+    }
+}
+
+/// How many bytes the uploads of the tenant at this place have together. Each id that was given is looked for.
+fn bytes_for(book: &Book, tenant: u8) -> u64 {
+    let mut bytes: u64 = 0;
     let Some(start) = Moment::new(0) else {
-        return held;
+        return bytes;
     };
     for id in 1..u64::MAX {
         match book.look(&Name { tenant, id }, start) {
-            Ok(row) => {
-                held = held.and(Held {
-                    uploads: 1,
-                    bytes: row.offset,
-                });
-            }
-            Err(Refusal::Unknown) => return held,
+            Ok(row) => bytes = bytes.saturating_add(row.offset),
+            Err(Refusal::Unknown) => return bytes,
             Err(_) => {}
         }
     }
-    held
+    bytes
 }

@@ -3,6 +3,7 @@ ghost use Rattle.std.specs.Prelude.{◌≡◌, ◌≤◌, length};
 ghost use Rattle.tus_server.specs.JournalFault.{journal_word};
 
 use crate::difference::Difference;
+use journal_file::Damage;
 
 /// What is wrong with a journal.
 #[derive(Clone, Copy, Debug, PartialEq, Eq)]
@@ -15,8 +16,8 @@ pub enum JournalFault {
     Busy,
     /// The settings that stand beside it are not those of the options.
     Settings(Mismatch),
-    /// Its file is damaged, or is no journal.
-    Damaged,
+    /// Its file is damaged, or is no journal, from this place on.
+    Damaged(Damage),
     /// The record of this number, counted from 1, is of no change that a book of the settings takes.
     Record(u64),
     /// A read, a write or a sync of its file, or of its settings, failed.
@@ -44,7 +45,7 @@ impl JournalFault {
             JournalFault::File | JournalFault::NoFolder => "file",
             JournalFault::Busy => "busy",
             JournalFault::Settings(_) => "settings",
-            JournalFault::Damaged => "damaged",
+            JournalFault::Damaged(_) => "damaged",
             JournalFault::Record(_) => "record",
             JournalFault::Disk => "disk",
         }

@@ -1,9 +1,12 @@
 //! How the program keeps what happens at its desks.
+ghost use Rattle.std.specs.Prelude.{◌≡◌};
 
-use journal_keeper::{Journalled, SharedKeeper};
+use journal_keeper::{Journalled, KeeperNumbers, SharedKeeper};
+use service_watch::JournalNumbers;
 use sqlite_disk::Disk;
 use std::sync::Wait;
 use std::sync::ledger::Ledger;
+use std::time;
 use tus_shared::{Desk, Shared};
 use tus_workers::Keeping;
 
@@ -26,7 +29,35 @@ impl<D: Disk, C: Journalled, R: Ledger, M: Ledger, B: Wait + Drop> Keeping<C, R,
         self.keeper.make_room(rt, desk, bytes);
     }
 
-    fn keep<W: Wait>(&self, rt: &W, shared: &Shared<C, R, M, B>, desk: &mut Desk<C, R, M>) -> bool {
+    fn keep<W: Wait + time::Clock>(
+        &self,
+        rt: &W,
+        shared: &Shared<C, R, M, B>,
+        desk: &mut Desk<C, R, M>,
+    ) -> bool {
         self.keeper.keep(rt, shared, desk).is_ok()
+    }
+
+    fn numbers<W: Wait>(&self, rt: &W) -> Option<JournalNumbers> {
+        Some(told_numbers(self.keeper.numbers(rt)))
+    }
+}
+
+/// The numbers of a keeper, as they are told.
+fn told_numbers(numbers: KeeperNumbers) -> JournalNumbers
+    ensures { result ≡ record {
+      syncs = numbers.synced.syncs;
+      records = numbers.synced.records;
+      micros = numbers.synced.micros;
+      bytes = numbers.bytes;
+      file_bytes = numbers.file_bytes;
+    } }
+{
+    JournalNumbers {
+        syncs: numbers.synced.syncs,
+        records: numbers.synced.records,
+        micros: numbers.synced.micros,
+        bytes: numbers.bytes,
+        file_bytes: numbers.file_bytes,
     }
 }

@@ -4,7 +4,7 @@ ghost use Rattle.std.specs.List.{before_first, list_any};
 ghost use Rattle.arrayvec.specs.ArrayString.{array_string_len};
 ghost use Rattle.clap.specs.Walk.{texts};
 ghost use Rattle.tus_server.specs.Arguments.{arguments_of};
-ghost use Rattle.tus_server.specs.Sentences.{address_in, address_text, cause_text, difference_text, journal_in, journal_text, log_in, memory_text, metrics_in, mismatch_text, name_twice, numbers_in, outside_text, pool_text, port_in, port_text, quota_in, quota_sum, quota_text, sentence_of, settings_text, shown, shown_byte, sum_text, tenant_words, tenants_text, twice_text, untold_text, word_rule, word_text, wrong_word};
+ghost use Rattle.tus_server.specs.Sentences.{address_in, address_text, cause_text, difference_text, journal_in, journal_text, log_in, memory_text, metrics_in, mismatch_text, name_twice, numbers_in, outside_text, pool_text, port_in, port_text, ports_text, quota_in, quota_sum, quota_text, sentence_of, settings_text, shown, shown_byte, sum_text, tenant_words, tenants_text, twice_text, untold_text, word_rule, word_text, wrong_word};
 ghost use Rattle.tus_server.specs.Settings.{is_colon};
 
 use crate::cause::{Cause, PortFault};
@@ -15,6 +15,7 @@ use crate::options::CommandOptions;
 use crate::settings::tenant_of;
 use arrayvec::ArrayString;
 use itoa::Buffer;
+use journal_file::Damage;
 use tus_text::is_tenant_name;
 use upload_book::{Numbers, SettingsFault};
 
@@ -46,6 +47,7 @@ pub fn sentence(fault: &RunFault, command: &CommandOptions) -> ArrayString<SENTE
         RunFault::Words => line(UNTOLD),
         RunFault::Settings(why) => settings_line(*why, numbers_of(command), tenants_of(command)),
         RunFault::Address => address_line(address_of(command)),
+        RunFault::Ports => ports_line(port_of(command)),
         RunFault::Wire(cause) => cause_line(*cause, command),
         RunFault::Journal(why) => journal_line(why, journal_of(command)),
         RunFault::Memory => memory_line(numbers_of(command)),
@@ -355,7 +357,7 @@ fn journal_line(why: &JournalFault, path: &str) -> ArrayString<SENTENCE_MAX>
     match why {
         JournalFault::File => path_is(
             path,
-            " can't be made, or its journal can't be opened: see its rights, and that the journal is a file with one name\n",
+            " can't be made, or its journal can't be opened: see its rights and its parent's, and that the journal is a file with one name\n",
         ),
         JournalFault::NoFolder => path_is(
             path,
@@ -366,16 +368,30 @@ fn journal_line(why: &JournalFault, path: &str) -> ArrayString<SENTENCE_MAX>
             path,
             " is another process's journal: end that, or give another --journal\n",
         ),
-        JournalFault::Damaged => path_is(
-            path,
-            " is damaged, or no journal; nothing was written to it: give a copy of it, or another --journal\n",
-        ),
+        JournalFault::Damaged(damage) => damage_line(damage, path),
         JournalFault::Record(number) => record_line(*number, path),
         JournalFault::Disk => path_is(
             path,
-            " could not be read or written: see its disk. What any reply told is in it\n",
+            " could not be read or written: see its disk, and its rights. What any reply told is in it\n",
         ),
     }
+}
+
+/// The file of a journal is damaged.
+fn damage_line(damage: &Damage, path: &str) -> ArrayString<SENTENCE_MAX>
+    ensures { result.bytes ≡ journal_text (JournalFault.Damaged damage.now) path.now }
+{
+    let mut digits = Buffer::new();
+    let mut line = ArrayString::new();
+    line.push_str(shown(path).as_str());
+    line.push_str(" is damaged from byte ");
+    line.push_str(digits.format(damage.at));
+    line.push_str(" of ");
+    line.push_str(digits.format(damage.len));
+    line.push_str(
+        " on, or no journal; nothing was written to it: give a copy of it, or another folder\n",
+    );
+    line
 }
 
 /// The settings beside a journal are not those of the options.
@@ -385,11 +401,11 @@ fn mismatch_line(why: &Mismatch, path: &str) -> ArrayString<SENTENCE_MAX>
     match why {
         Mismatch::Missing => path_is(
             path,
-            " has a journal and no settings: put its file settings back, or give another --journal\n",
+            " has a journal and no settings: put its file settings back, or give another folder\n",
         ),
         Mismatch::Unreadable => path_is(
             path,
-            "/settings gives no settings: put back what it was, or give another --journal\n",
+            "/settings gives no settings: put back what it was, or give another folder\n",
         ),
         Mismatch::Differs(difference) => difference_line(difference),
     }
@@ -480,6 +496,18 @@ fn address_line(word: &str) -> ArrayString<SENTENCE_MAX>
     let mut line = ArrayString::new();
     line.push_str(shown(word).as_str());
     line.push_str(": an address is one of IPv4 or IPv6, as 127.0.0.1 or ::1\n");
+    line
+}
+
+/// Clients and numbers were to have the same port.
+fn ports_line(port: u16) -> ArrayString<SENTENCE_MAX>
+    ensures { result.bytes ≡ ports_text port }
+{
+    let mut digits = Buffer::new();
+    let mut line = ArrayString::new();
+    line.push_str("--port and --metrics are both ");
+    line.push_str(digits.format(port));
+    line.push_str(": give each a port of its own\n");
     line
 }
 

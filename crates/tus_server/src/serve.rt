@@ -1,12 +1,14 @@
 //! The command `serve`, after its command line was read.
 ghost use Rattle.std.specs.Prelude.{◌≡◌, ◌⊎◌, false, true, OnOk, OnErr, IfOk, IsErrOf, IfErr, vec_len};
+ghost use Rattle.std.specs.IoError.{error_kind};
 ghost use Rattle.std.specs.Net.Grammar.{IsIpText};
 ghost use Rattle.std.specs.Net.ToAddrs.{IsHostAndPort};
 ghost use Rattle.std.specs.declared.net.ip_addr.IpAddr.{IpAddr};
 ghost use Rattle.http_wire.specs.Writes.{Writes};
 ghost use Rattle.tus_server.specs.Arguments.{serve_arguments_of};
+ghost use Rattle.tus_server.specs.Cause.{metrics_cause_of};
 ghost use Rattle.tus_server.specs.Lines.{Settles, balance_text};
-ghost use Rattle.tus_server.specs.Serve.{BreaksOff, IsPlaceAsked, ServeEnds, ServesEach, is_of_service};
+ghost use Rattle.tus_server.specs.Serve.{BreaksOff, IsOfWatching, IsPlaceAsked, ServeEnds, ServesEach, has_port_twice, is_of_service};
 ghost use Rattle.tus_server.specs.Sockets.{sockets};
 ghost use Rattle.tus_server.specs.StreamUse.{used};
 ghost use Rattle.tus_server.specs.declared.cause.Cause.{Cause};
@@ -25,7 +27,7 @@ use http_wire::{Sink, WireFault, put_all};
 use sqlite_disk::Disk;
 use std::alloc::Global;
 use std::fs::{File, Files, OpenOptions};
-use std::io::Eprint;
+use std::io::{Eprint, Error, ErrorKind};
 use std::marker::Brand;
 use std::net::{IpAddr, Net, SocketAddr, TcpListener, TcpStream};
 use std::sync::Wait;
@@ -43,7 +45,7 @@ use upload_book::Settings;
 /// the book that it keeps ([`serve_kept`]), once its settings were looked at ([`check_settings`]). It prints where it listens before it accepts anything, and at its end what
 /// was charged, released and is held.
 ///
-/// It is `Ok` where each worker accepted all of its connections, or was stopped. The error is the fault of the settings or the address, `RunFault::Wire`
+/// It is `Ok` where each worker accepted all of its connections, or was stopped. The error is the fault of the settings, the address or the ports, `RunFault::Wire`
 /// where a port, a worker's socket or the log could not be had, where a line could not be printed or where an accept failed, each by
 /// its cause, `RunFault::Memory` where there was no memory for the book or its board, or the journal's. After the first and
 /// after want of memory nothing was printed, nor where the journal could not be had.
@@ -76,6 +78,7 @@ where
 {
     let settings = settings_with(alloc, options.numbers, options.tenants)?;
     let place = place_of(options.address, options.port)?;
+    check_ports(options)?;
     if let Some(path) = options.journal {
         let Folder { mut disk, mut file } = journals.open(path)?;
         check_settings(alloc, &mut file, &mut disk, &settings)?;
@@ -257,7 +260,7 @@ fn watched<N: Net<Stream = TcpStream, Listener = TcpListener> + Files<File = Fil
     options: &ServeOptions,
     place: SocketAddr,
 ) -> Result<Commons, RunFault>
-    ensures { IfErr result (λ fault. (fault ≡ RunFault.Wire Cause.Log) ⊎ (fault ≡ RunFault.Wire Cause.Metrics)) }
+    ensures { IfErr result IsOfWatching }
 {
     if options.log.is_some() || options.metrics.is_some() {
         let log = log_at(rt, options.log)?;
@@ -291,20 +294,32 @@ fn log_at<N: Files<File = File>>(
     }
 }
 
-/// A listener at this port of the address, if numbers are to be asked for. The error is that it could not be had.
+/// A listener at this port of the address, if numbers are to be asked for. The error is that it could not be had, or, as for
+/// clients, that the machine has no such address.
 fn metrics_at<N: Net<Stream = TcpStream, Listener = TcpListener>>(
     net: &N,
     place: SocketAddr,
     port: Option<u16>,
 ) -> Result<Option<TcpListener>, RunFault>
-    ensures { IfErr result (λ fault. fault ≡ RunFault.Wire Cause.Metrics) }
+    ensures { IfErr result IsOfWatching }
 {
     let Some(port) = port else {
         return Ok(None);
     };
     match TcpListener::bind(net, SocketAddr::new(place.ip(), port)) {
         Ok(listener) => Ok(Some(listener)),
-        Err(_) => Err(RunFault::Wire(Cause::Metrics)),
+        Err(error) => Err(metrics_fault(&error)),
+    }
+}
+
+/// What an error of listening at the port for numbers is. That the machine has no such address is told as for clients.
+fn metrics_fault(error: &Error) -> RunFault
+    ensures value { result ≡ RunFault.Wire (metrics_cause_of (error_kind error.now)) }
+    ensures of_watching { IsOfWatching result }
+{
+    match error.kind() {
+        ErrorKind::AddrNotAvailable => RunFault::Wire(Cause::Port(PortFault::NotHere)),
+        _ => RunFault::Wire(Cause::Metrics),
     }
 }
 
@@ -317,6 +332,29 @@ fn place_of(address: &str, port: u16) -> Result<SocketAddr, RunFault>
     match address.parse::<IpAddr>() {
         Ok(ip) => Ok(SocketAddr::new(ip, port)),
         Err(_) => Err(RunFault::Address),
+    }
+}
+
+/// Sees to it that clients and numbers have a port each. The error is `RunFault::Ports`, where they are to have the same one.
+fn check_ports(options: &ServeOptions) -> Result<(), RunFault>
+    ensures apart { OnOk result (has_port_twice (serve_arguments_of options.now) ≡ false) }
+    ensures fault { IfErr result (λ fault. fault ≡ RunFault.Ports) }
+    ensures twice { OnErr result (has_port_twice (serve_arguments_of options.now) ≡ true) }
+{
+    if has_port_twice(options) {
+        Err(RunFault::Ports)
+    } else {
+        Ok(())
+    }
+}
+
+/// Whether numbers are to be asked for at the port of the clients. Port 0 is any that is free.
+fn has_port_twice(options: &ServeOptions) -> bool
+    ensures { result ≡ has_port_twice (serve_arguments_of options.now) }
+{
+    match options.metrics {
+        Some(port) => port > 0 && port == options.port,
+        None => false,
     }
 }
 

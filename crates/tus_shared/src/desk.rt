@@ -3,7 +3,7 @@ ghost use Rattle.tus_steps.specs.Asked.{change_in as change_asked};
 ghost use Rattle.tus_steps.specs.Changing.{IsFound};
 ghost use Rattle.tus_steps.specs.declared.asked.Asked.TheVariants as asks;
 ghost use Rattle.tus_steps.specs.PlacedReply.{reply_in};
-ghost use Rattle.head_board.specs.Board.{ReadsHead, SeesNoneExpired, row_read};
+ghost use Rattle.head_board.specs.Board.{ReadsHead, ReadsTotals, SeesNoneExpired, row_read};
 ghost use Rattle.tus_shared.specs.Answers.{Answers, AnswersBatch, AnswersTurn, MissesBoard, OnlySeesMore, SeesHead, Sweeps};
 ghost use Rattle.tus_shared.specs.Desk.{next_count};
 ghost use Rattle.tus_shared.specs.Journal.{change_frame};
@@ -13,7 +13,7 @@ use crate::charges::Charges;
 use crate::gate::{Gate, NoGate, Stop};
 use crate::shared::Shared;
 use crate::turn::Turn;
-use head_board::{HeadReader, SeenEvents};
+use head_board::{HeadReader, SeenEvents, Totals};
 use std::alloc::Global;
 use std::marker::Model;
 use std::sync::Wait;
@@ -151,6 +151,17 @@ impl<C: Charges, R: Ledger, M: Ledger> Desk<C, R, M> {
         ensures missed { self.old.missed ≡ true → self.new.missed ≡ true }
     {
         self.reader.may_expire(now)
+    }
+
+    /// Reads on the board what is charged and paid, and how many uploads each tenant has. It is at least as new as anything
+    /// that this desk has reported. The desk's counts stay. It takes no lock and no memory, waits for nobody, and looks at no
+    /// upload. `None` says that the desk has missed the board, which happens in no run.
+    pub fn totals(&mut self) -> Option<Totals>
+        ensures reads { IfSome result (ReadsTotals C.settings self.old.seen self.new.seen) }
+        ensures sees { IfSome result (λ totals. OnlySeesMore self.old self.new) }
+        ensures misses { IfNone result (MissesBoard self.old self.new) }
+    {
+        self.reader.totals()
     }
 
     /// Answers a turn, and passes the gate on the way: at `Before`, then with the lock at `Locked`, if it takes the

@@ -8,6 +8,7 @@ use crate::keeping::Keeping;
 use http_wire::Answer;
 use std::sync::Wait;
 use std::sync::ledger::Ledger;
+use std::time;
 use tus_shared::{Charges, Desk, Gate};
 use tus_steps::{Method, PlacedReply, Request};
 use upload_book::Moment;
@@ -48,15 +49,6 @@ impl<
         ensures { result.at.desk ≡ at.entry.desk }
     {
         AtKeptDesk { at, keeping }
-    }
-
-    /// Keeps all that the desk has seen. Says whether that is kept.
-    pub fn keep(&mut self) -> bool
-        ensures kept { IsTrue result → IsPrefix self.new.at.desk.seen self.new.at.desk.kept }
-        ensures alone { self.new.at.desk ≡ record self.old.at.desk { kept = self.new.at.desk.kept } }
-    {
-        self.keeping
-            .keep(self.at.rt, self.at.shared, &mut self.at.desk)
     }
 
     // Ends the uploads that have expired at this moment, unless it was asked for that before. Room for the record of that is
@@ -106,6 +98,26 @@ impl<
         ensures { result.now ≡ self.now.at.desk }
     {
         &self.at.desk
+    }
+}
+
+impl<
+    'a,
+    C: Charges,
+    R: Ledger,
+    M: Ledger,
+    W: Wait + time::Clock,
+    B: Wait + Drop,
+    G: Gate,
+    K: Keeping<C, R, M, B>,
+> AtKeptDesk<'a, C, R, M, W, B, G, K> {
+    /// Keeps all that the desk has seen. Says whether that is kept.
+    pub fn keep(&mut self) -> bool
+        ensures kept { IsTrue result → IsPrefix self.new.at.desk.seen self.new.at.desk.kept }
+        ensures alone { self.new.at.desk ≡ record self.old.at.desk { kept = self.new.at.desk.kept } }
+    {
+        self.keeping
+            .keep(self.at.rt, self.at.shared, &mut self.at.desk)
     }
 }
 

@@ -138,7 +138,8 @@ impl<
     }
 
     // Opens the door, and goes round until all connections were accepted and have ended, or a stop was asked for; then it winds
-    // up. It is false where the system failed before that, or nothing more could be kept.
+    // up. Where numbers are asked for at this worker, it also waits for the other workers. It is false where the system failed
+    // before that, or nothing more could be kept.
     fn go_round<A: Accept>(
         &self,
         worker: &mut Worker<C, R, M, A>,
@@ -166,7 +167,7 @@ impl<
                 worker.acceptor.stop();
                 return self.wind_up(worker, door, rounds, events);
             }
-            if door.is_done() && rounds.crowd.len() == 0 {
+            if door.is_done() && self.may_leave(&rounds) {
                 return true;
             }
             if !self.goes_on(door, &rounds, &mut events) {
@@ -177,7 +178,7 @@ impl<
             });
             self.take_in(worker, door, &mut rounds);
             rounds.publish(self.rt);
-            self.answer_questions(worker.desk.settings(), door, &mut rounds, &events);
+            self.answer_questions(&mut worker.desk, door, &mut rounds, &events);
         }
         false
     }
@@ -205,7 +206,7 @@ impl<
             });
             self.tell_of_clients(&mut rounds);
             rounds.publish(self.rt);
-            self.answer_questions(worker.desk.settings(), door, &mut rounds, &events);
+            self.answer_questions(&mut worker.desk, door, &mut rounds, &events);
             if self.may_leave(&rounds) {
                 return true;
             }
@@ -257,7 +258,7 @@ impl<
     // Answers who asks for numbers.
     fn answer_questions(
         &self,
-        settings: &Settings,
+        desk: &mut Desk<C, R, M>,
         door: &Door,
         rounds: &mut Rounds<'a, H>,
         events: &Events,
@@ -270,7 +271,7 @@ impl<
             let Some(asked) = metrics.next_question() else {
                 return;
             };
-            let reply = self.reply_to(asked.question, watching, settings).ok();
+            let reply = self.reply_to(asked.question, watching, desk).ok();
             metrics.reply(asked.key, reply);
         }
     }

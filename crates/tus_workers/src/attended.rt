@@ -150,6 +150,14 @@ impl Attended {
         }
     }
 
+    /// How many bytes of replies are to be sent.
+    pub fn pending_len(&self) -> usize {
+        match &self.connection {
+            Some(connection) => connection.pending_len(),
+            None => 0,
+        }
+    }
+
     /// How many bytes are held of a body that it sends, and of replies that it takes; and while no body is under way, those for
     /// which its buffers have room since a large one came.
     pub fn held(&self) -> usize {

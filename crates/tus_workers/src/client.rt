@@ -317,11 +317,11 @@ impl Client {
         }
     }
 
-    /// Whether it has not been sent all replies that were put.
-    pub fn is_sending(&self) -> bool {
+    /// How many bytes of the replies that were put are not sent yet.
+    pub fn unsent(&self) -> u64 {
         match self.standing {
-            Standing::Talks | Standing::Waits(_) => self.attended.busy() == Busy::Reply,
-            Standing::Lingers(_) => false,
+            Standing::Talks | Standing::Waits(_) => self.attended.pending_len() as u64,
+            Standing::Lingers(_) => 0,
         }
     }
 

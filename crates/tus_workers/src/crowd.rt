@@ -165,12 +165,13 @@ impl<'a, W: Wait + time::Clock> Crowd<'a, W> {
             second,
         );
         note_body(self.rt, self.bodies, &self.settings, client, holder);
-        let was_sent = !client.is_sending();
+        let unsent = client.unsent();
         gather(
             &mut self.watch,
             self.rt,
+            &self.settings,
             client,
-            was_sent,
+            unsent,
             next == Next::Ends,
         );
         self.go_after(key, next);
@@ -255,12 +256,13 @@ impl<'a, W: Wait + time::Clock> Crowd<'a, W> {
         };
         let next = client.send(&mut self.free, second);
         note_body(self.rt, self.bodies, &self.settings, client, holder);
-        let was_sent = !client.is_sending();
+        let unsent = client.unsent();
         gather(
             &mut self.watch,
             self.rt,
+            &self.settings,
             client,
-            was_sent,
+            unsent,
             next == Next::Ends,
         );
         self.go_after(key, next);
@@ -370,9 +372,16 @@ impl<'a, W: Wait + time::Clock> Crowd<'a, W> {
     ) {
         if let Some(client) = self.clients.get_mut(key) {
             note_cut(&mut self.watch, client, why);
-            let was_sent = !client.is_sending();
+            let unsent = client.unsent();
             client.cut(self.alloc, &mut self.free, answerer, clock);
-            gather(&mut self.watch, self.rt, client, was_sent, true);
+            gather(
+                &mut self.watch,
+                self.rt,
+                &self.settings,
+                client,
+                unsent,
+                true,
+            );
             self.remove(key);
         }
     }
@@ -405,12 +414,13 @@ fn begin_turn<W: time::Clock>(watch: &Option<Watch>, rt: &W, client: &mut Client
     }
 }
 
-// Takes what was seen of a client after its turn, whose replies were all sent or not.
+// Takes what was seen of a client after its turn, of whose replies so many bytes are not sent yet.
 fn gather<W: time::Clock>(
     watch: &mut Option<Watch>,
     rt: &W,
+    settings: &Settings,
     client: &mut Client,
-    was_sent: bool,
+    unsent: u64,
     has_ended: bool,
 ) {
     if let Some(watch) = watch {
@@ -418,7 +428,7 @@ fn gather<W: time::Clock>(
             watch.cut(client, Cut::Failed);
         }
         let micros = watch.micros(rt);
-        watch.gather(client, micros, was_sent, has_ended);
+        watch.gather(settings, client, micros, unsent, has_ended);
     }
 }
 

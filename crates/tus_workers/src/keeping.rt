@@ -1,9 +1,11 @@
 //! What keeps the changes of a store beyond its process.
-ghost use Rattle.std.specs.Prelude.{◌≡◌, IsTrue};
+ghost use Rattle.std.specs.Prelude.{◌≡◌, IsTrue, None};
 ghost use mathlib.Core.List.{IsPrefix};
 
+use service_watch::JournalNumbers;
 use std::sync::Wait;
 use std::sync::ledger::Ledger;
+use std::time;
 use tus_shared::{Charges, Desk, Shared};
 
 /// What keeps what happens at the desks of a store, so that it outlives the process.
@@ -15,9 +17,17 @@ pub trait Keeping<C: Charges, R: Ledger, M: Ledger, B: Wait + Drop> {
 
     /// Keeps all that a desk has seen, and tells the desk. Says whether that is kept. It may wait for other desks, and for a
     /// disk.
-    fn keep<W: Wait>(&self, rt: &W, shared: &Shared<C, R, M, B>, desk: &mut Desk<C, R, M>) -> bool
+    fn keep<W: Wait + time::Clock>(
+        &self,
+        rt: &W,
+        shared: &Shared<C, R, M, B>,
+        desk: &mut Desk<C, R, M>,
+    ) -> bool
         ensures kept { IsTrue result → IsPrefix desk.new.seen desk.new.kept }
         ensures alone { desk.new ≡ record desk.old { kept = desk.new.kept } };
+
+    /// The numbers of the journal in which it is kept, if there is one. It waits for no disk.
+    fn numbers<W: Wait>(&self, rt: &W) -> Option<JournalNumbers>;
 }
 
 /// Nothing outlives the process.
@@ -27,12 +37,18 @@ pub struct NoJournal;
 impl<C: Charges, R: Ledger, M: Ledger, B: Wait + Drop> Keeping<C, R, M, B> for NoJournal {
     fn make_room<W: Wait>(&self, _rt: &W, _desk: &mut Desk<C, R, M>, _bytes: u64) {}
 
-    fn keep<W: Wait>(
+    fn keep<W: Wait + time::Clock>(
         &self,
         _rt: &W,
         _shared: &Shared<C, R, M, B>,
         desk: &mut Desk<C, R, M>,
     ) -> bool {
         desk.is_kept()
+    }
+
+    fn numbers<W: Wait>(&self, _rt: &W) -> Option<JournalNumbers>
+        ensures { result ≡ None }
+    {
+        None
     }
 }

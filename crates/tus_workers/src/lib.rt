@@ -13,6 +13,7 @@ mod commons;
 mod crowd;
 mod descriptors;
 mod door;
+mod head_word;
 mod holding;
 mod keeping;
 mod machine_clock;

@@ -6,6 +6,7 @@ use mio::{Events, Interest, Registry, Token};
 use slab::Slab;
 use std::alloc::{AllocError, Global};
 use std::io::{ErrorKind, Read, Write};
+use std::net::SocketAddr;
 use std::{io, net};
 
 /// The token of the listener. No client has it, since there are fewer keys.
@@ -151,7 +152,7 @@ impl MetricsDoor {
     fn take_in(&mut self, alloc: Global, registry: &Registry, second: u64) {
         match self.listener.accept() {
             Ok((stream, peer)) if self.askers.len() < ASKERS_MAX => {
-                let is_near = peer.ip().to_canonical().is_loopback();
+                let is_near = is_near(&stream, &peer);
                 self.admit(alloc, registry, stream, is_near, second);
             }
             Err(error) if error.kind() != ErrorKind::WouldBlock => {
@@ -297,6 +298,15 @@ impl Asker {
 // Whether the whole head of a request is there.
 fn has_head(request: &[u8]) -> bool {
     request.windows(HEAD_END.len()).any(|part| part == HEAD_END)
+}
+
+// Whether who asks is on this machine: at a loopback address, or at the one that was asked.
+fn is_near(stream: &TcpStream, peer: &SocketAddr) -> bool {
+    let peer = peer.ip().to_canonical();
+    match stream.local_addr() {
+        Ok(own) if own.ip().to_canonical() == peer => true,
+        _ => peer.is_loopback(),
+    }
 }
 
 // What a request asks for.

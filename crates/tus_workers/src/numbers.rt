@@ -4,6 +4,7 @@ use crate::keeping::Keeping;
 use crate::metrics_door::{Question, reply_with};
 use crate::watching::Watching;
 use crate::workers::Workers;
+use head_board::Totals;
 use service_watch::{Snapshot, TenantNumbers, metrics_text};
 use std::alloc::{AllocError, Global};
 use std::fs::File;
@@ -12,18 +13,11 @@ use std::sync::Wait;
 use std::sync::atomic::Ordering;
 use std::sync::ledger::Ledger;
 use std::{str, time};
-use tus_shared::Charges;
+use tus_shared::{Charges, Desk};
 use upload_book::{Accounts, Settings};
 
-/// The bytes of a page of memory.
+/// The bytes of a page of memory on x86-64, the only processor that the toolchain builds for.
 const PAGE_SIZE: u64 = 4_096;
-
-/// What is read of the book for the numbers.
-#[derive(Clone, Copy)]
-struct Store {
-    accounts: Accounts,
-    free: u64,
-}
 
 impl<
     'a,
@@ -39,14 +33,17 @@ impl<
         &self,
         question: Question,
         watching: &Watching,
-        settings: &Settings,
+        desk: &mut Desk<C, R, M>,
     ) -> Result<Vec<u8>, AllocError> {
         let alloc = self.alloc;
         match question {
-            Question::Metrics => {
-                let text = self.numbers(watching, settings)?;
-                reply_with(alloc, b"200 OK", b"", &text)
-            }
+            Question::Metrics => match desk.totals() {
+                Some(totals) => {
+                    let text = self.numbers(watching, desk.settings(), &totals)?;
+                    reply_with(alloc, b"200 OK", b"", &text)
+                }
+                None => reply_with(alloc, b"503 Service Unavailable", b"", b"no board\n"),
+            },
             Question::Health if self.is_to_stop() => {
                 reply_with(alloc, b"503 Service Unavailable", b"", b"stopping\n")
             }
@@ -82,15 +79,16 @@ impl<
         }
     }
 
-    // All numbers, as text. The book is locked for a moment. The error is that memory is lacking.
-    fn numbers(&self, watching: &Watching, settings: &Settings) -> Result<Vec<u8>, AllocError> {
-        let store = self.shared.look(self.rt, |book| {
-            Store {
-                accounts: book.accounts(),
-                free: book.free_blocks(),
-            }
-        });
-        let tenants = tenants_of(self.alloc, settings, &store.accounts)?;
+    // All numbers, as text, with the totals that the board told. The book is not locked; the numbers of the journal are, for a
+    // moment. The error is that memory is lacking.
+    fn numbers(
+        &self,
+        watching: &Watching,
+        settings: &Settings,
+        totals: &Totals,
+    ) -> Result<Vec<u8>, AllocError> {
+        let journal = self.keeping.numbers(self.rt);
+        let tenants = tenants_of(self.alloc, settings, totals)?;
         let counts = watching.counts.lock(self.rt);
         metrics_text(
             self.alloc,
@@ -98,27 +96,38 @@ impl<
                 counts: &counts,
                 tenants: &tenants,
                 connections: self.commons.open.load(Ordering::Relaxed),
-                blocks_free: store.free,
-                blocks_charged: store.accounts.charged,
-                blocks_released: store.accounts.released,
+                blocks_free: blocks_free(settings, &totals.accounts),
+                blocks_charged: totals.accounts.charged,
+                blocks_released: totals.accounts.released,
+                journal,
                 resident: resident_bytes(&watching.pages),
             },
         )
     }
 }
 
-// What each tenant pays and may pay. The error is that memory is lacking.
+// How many blocks are free: all but those that the tenants pay.
+fn blocks_free(settings: &Settings, accounts: &Accounts) -> u64 {
+    let mut free = settings.numbers().blocks;
+    for paid in accounts.charge {
+        free = free.saturating_sub(paid);
+    }
+    free
+}
+
+// The numbers of each tenant. The error is that memory is lacking.
 fn tenants_of(
     alloc: Global,
     settings: &Settings,
-    accounts: &Accounts,
+    totals: &Totals,
 ) -> Result<Vec<TenantNumbers>, AllocError> {
     let mut tenants = Vec::new(alloc);
-    for place in 0..settings.tenant_count().min(accounts.charge.len()) {
+    for place in 0..settings.tenant_count().min(totals.uploads.len()) {
         tenants.push(TenantNumbers {
             name: settings.tenant_name(place as u8).copied(),
-            paid: accounts.charge[place],
+            paid: totals.accounts.charge[place],
             quota: settings.quota(place),
+            uploads: totals.uploads[place],
         })?;
     }
     Ok(tenants)

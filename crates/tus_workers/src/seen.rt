@@ -1,19 +1,24 @@
 //! What is seen of the requests of one client, until it is told.
-ghost use Rattle.std.specs.Prelude.{◌≤◌, IfSome};
+ghost use Rattle.std.specs.Prelude.{◌≤◌, IfSome, vec_len};
 
+use crate::head_word::head_refusal;
 use crate::observer::Observer;
-use http_wire::{Connection, Incoming};
+use http_wire::{Connection, Incoming, Message};
 use service_watch::{WORD_MAX, Word};
 use std::alloc::Global;
 use std::net::SocketAddr;
-use tus_steps::{Method, Request};
+use tus_steps::Method;
 use tus_text::Path;
+use upload_book::Settings;
 
 /// What every reply begins with, before its status.
 const VERSION: &[u8] = b"HTTP/1.1 ";
 
 /// What stands between the head of a reply and its body.
 const EMPTY_LINE: &[u8] = b"\r\n\r\n";
+
+/// The most bytes of a target that are told.
+const TARGET_MAX: usize = 1_024;
 
 /// The least status of a refusal.
 const REFUSED: u16 = 400;
@@ -24,9 +29,11 @@ pub(crate) struct Answered {
     /// The method in force; none where no whole head came.
     pub method: Option<Method>,
     pub path: Path,
+    /// What was asked for where the path names no tenant, or the first bytes of it.
+    pub target: Vec<u8>,
     /// The status of its reply; none where it gets none.
     pub status: Option<u16>,
-    /// The word of its refusal, as the body of the reply tells it: that to a HEAD has none.
+    /// The word of its refusal, as the body of the reply tells it. That to a HEAD has none: its word is found when it is told.
     pub word: Word,
     /// How many bytes came of its body, and how many its reply has.
     pub received: u64,
@@ -46,6 +53,7 @@ pub(crate) struct Record {
     pub sent: u64,
     /// How many requests can't be told, since memory is lacking.
     pub lost: u64,
+    alloc: Global,
     // What is being answered, and how many bytes were pending before.
     asked: Option<Answered>,
     before: usize,
@@ -60,6 +68,18 @@ pub(crate) struct Seen {
     pub record: Option<Box<Record>>,
 }
 
+impl Answered {
+    /// Finds the word of a HEAD that was refused. The word of any other request stays.
+    pub fn name_refusal(&mut self, settings: &Settings) {
+        let (Some(Method::Head), Some(status)) = (self.method, self.status) else {
+            return;
+        };
+        if let Some(refusal) = head_refusal(settings, &self.path, status) {
+            self.word = Word::of(refusal.word().as_bytes());
+        }
+    }
+}
+
 impl Record {
     /// Nothing is known yet of this client.
     pub fn new(alloc: Global, peer: Option<SocketAddr>) -> Self {
@@ -69,6 +89,7 @@ impl Record {
             received: 0,
             sent: 0,
             lost: 0,
+            alloc,
             asked: None,
             before: 0,
             now: 0,
@@ -76,14 +97,28 @@ impl Record {
         }
     }
 
+    /// Of how many requests, the first ones, all of the reply was sent, where so many bytes are not sent yet.
+    pub fn sent_among(&self, unsent: u64) -> usize
+        ensures { result ≤ vec_len self.entry.now.answered }
+    {
+        let mut behind: u64 = 0;
+        for place in (0..self.answered.len()).rev() {
+            if behind >= unsent {
+                return place + 1;
+            }
+            behind = behind.saturating_add(self.answered[place].sent);
+        }
+        0
+    }
+
     fn ask(&mut self, connection: &Connection) {
         let began = self.began.unwrap_or(self.now);
         self.began = None;
         self.before = connection.pending_len();
         self.asked = match connection.incoming() {
-            Some(Incoming::Message(message)) => Some(answered_of(&message.request(), began)),
-            Some(Incoming::CutPatch(message, _)) => Some(answered_of(&message.request(), began)),
-            Some(Incoming::Refused(_, _)) => Some(unknown_at(began)),
+            Some(Incoming::Message(message)) => Some(answered_of(self.alloc, &message, began)),
+            Some(Incoming::CutPatch(message, _)) => Some(answered_of(self.alloc, &message, began)),
+            Some(Incoming::Refused(_, _)) => Some(unknown_at(self.alloc, began)),
             _ => None,
         };
     }
@@ -143,10 +178,12 @@ impl Observer for Seen {
 }
 
 // What is known of a request before it is answered.
-fn answered_of(request: &Request, began: u64) -> Answered {
+fn answered_of(alloc: Global, message: &Message, began: u64) -> Answered {
+    let request = message.request();
     Answered {
         method: Some(request.method),
         path: copied(&request.path),
+        target: target_of(alloc, message, &request.path),
         status: None,
         word: Word::empty(),
         received: request.body.len() as u64,
@@ -156,16 +193,27 @@ fn answered_of(request: &Request, began: u64) -> Answered {
 }
 
 // The same of one whose head did not come whole.
-fn unknown_at(began: u64) -> Answered {
+fn unknown_at(alloc: Global, began: u64) -> Answered {
     Answered {
         method: None,
         path: Path::Other,
+        target: Vec::new(alloc),
         status: None,
         word: Word::empty(),
         received: 0,
         sent: 0,
         began,
     }
+}
+
+// The first bytes of the target of a request whose path names no tenant; nothing where memory is lacking.
+fn target_of(alloc: Global, message: &Message, path: &Path) -> Vec<u8> {
+    let mut target = Vec::new(alloc);
+    if matches!(path, Path::Other) {
+        let sent = message.target();
+        let _kept = target.extend_from_slice(sent.get(..TARGET_MAX).unwrap_or(sent));
+    }
+    target
 }
 
 fn copied(path: &Path) -> Path {

@@ -13,7 +13,7 @@ use std::sync::Wait;
 use std::time::Instant;
 use std::{mem, time};
 use tus_text::Path;
-use upload_book::Moment;
+use upload_book::{Moment, Settings};
 
 /// Something that is to be told.
 #[derive(Drop)]
@@ -94,9 +94,16 @@ impl<'a> Watch<'a> {
         self.sweeps = self.sweeps.saturating_add(sweeps);
     }
 
-    /// Takes what was seen of a client after a turn that ended at this microsecond. Its requests are told once all that is
-    /// pending was sent, or its connection has ended.
-    pub fn gather(&mut self, client: &mut Client, micros: u64, was_sent: bool, has_ended: bool) {
+    /// Takes what was seen of a client after a turn that ended at this microsecond, of whose replies so many bytes are not sent
+    /// yet. A request is told once all of its reply was sent, or the connection has ended.
+    pub fn gather(
+        &mut self,
+        settings: &Settings,
+        client: &mut Client,
+        micros: u64,
+        unsent: u64,
+        has_ended: bool,
+    ) {
         let Some(record) = &mut client.seen.record else {
             return;
         };
@@ -106,13 +113,20 @@ impl<'a> Watch<'a> {
         record.received = 0;
         record.sent = 0;
         record.lost = 0;
-        if record.answered.is_empty() || !(was_sent || has_ended) {
+        let sent = record.sent_among(unsent);
+        let told = if has_ended {
+            record.answered.len()
+        } else {
+            sent
+        };
+        if told == 0 {
             return;
         }
         let peer = record.peer;
-        for answered in mem::replace(&mut record.answered, Vec::new(self.alloc)) {
+        for (place, mut answered) in record.answered.drain(..told).enumerate() {
+            answered.name_refusal(settings);
             let micros = micros.saturating_sub(answered.began);
-            let was_sent = was_sent && answered.status.is_some();
+            let was_sent = place < sent && answered.status.is_some();
             self.finish(Finished::Request {
                 peer,
                 answered,
@@ -237,7 +251,7 @@ fn put_request(
     was_sent: bool,
 ) -> Result<(), AllocError> {
     let peer = peer_text(alloc, peer)?;
-    let path = path_text(alloc, &answered.path)?;
+    let path = path_text(alloc, answered)?;
     let line = RequestLine {
         moment: now,
         peer: peer.as_bytes(),
@@ -296,10 +310,10 @@ fn tenant_of(path: &Path) -> &[u8] {
     }
 }
 
-// The text of a path; nothing of one that names no upload nor its tenant.
-fn path_text(alloc: Global, path: &Path) -> Result<Vec<u8>, AllocError> {
+// The text of a path.
+fn path_text(alloc: Global, answered: &Answered) -> Result<Vec<u8>, AllocError> {
     let mut text = Vec::new(alloc);
-    match path {
+    match &answered.path {
         Path::Create { tenant } => {
             text.extend_from_slice(b"/files/")?;
             text.extend_from_slice(tenant.as_slice())?;
@@ -311,7 +325,7 @@ fn path_text(alloc: Global, path: &Path) -> Result<Vec<u8>, AllocError> {
             text.extend_from_slice(b"/")?;
             text.extend_from_slice(id.as_bytes())?;
         }
-        Path::Other => {}
+        Path::Other => text.extend_from_slice(&answered.target)?,
     }
     Ok(text)
 }

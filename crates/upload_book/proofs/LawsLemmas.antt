@@ -5,7 +5,7 @@ use Rattle.std.specs.Result.{IsOk}
 use Rattle.std.proofs.lemmas.Bool.Decides.{nat_tests}
 use Rattle.upload_book.specs.Account.{account_in, account_with, blocks_added, blocks_between}
 use Rattle.upload_book.specs.Charge.{charge_in}
-use Rattle.upload_book.specs.declared.account.Account.{Account}
+use Rattle.upload_book.specs.declared.board_line.Account.{Account}
 use Rattle.upload_book.specs.Append.{is_final, or_else, differ, is_too_long, append_refusal, append_answer, appended_upload, part_after_append, row_with, telling, told, upload_with}
 use Rattle.upload_book.specs.Chunk.{Chunk}
 use Rattle.upload_book.specs.declared.append.Appended.{Appended}

@@ -2,8 +2,12 @@
 pub mod SegmentsBack
 pub mod UploadsBack
 pub mod LawfulBack
+pub mod FinalFound
+pub mod FinalRooms
+pub mod FinalBack
 pub mod BooksBack
 pub mod NextSteps
 pub mod OwnBack
 pub mod OwnSteps
+pub mod FinalSteps
 pub mod PiecesLeft

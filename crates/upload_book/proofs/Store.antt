@@ -9,7 +9,7 @@ pub mod PlainStoredTenants
 pub mod StoreLemmas
 pub mod StoreNext
 pub mod BackLemmas
-pub mod StoreMore
+pub mod BackGrows
 pub mod StoreSteps
 pub mod StoreGone
 pub mod AloneLemmas
@@ -24,4 +24,5 @@ pub mod StoreRenew
 pub mod HoldersLemmas
 pub mod BlockBookLemmas
 pub mod StoreJoin
+pub mod StoreBack
 pub mod StoreReserve

@@ -2,7 +2,7 @@
 use Rattle.std.specs.Prelude.{ℕ, ◌+◌, ◌-◌}
 use Rattle.block_bodies.specs.Bodies.{blocks_for}
 use Rattle.upload_book.specs.Charge.{charge_in}
-use Rattle.upload_book.specs.declared.account.Account.{Account}
+use Rattle.upload_book.specs.declared.board_line.Account.{Account}
 use Rattle.upload_book.specs.declared.settings.Numbers.{Numbers}
 use Rattle.upload_book.specs.TenantBook.{TenantBook}
 

@@ -5,7 +5,7 @@ use Rattle.block_pool.specs.Blocks.{Blocks, bytes_of, count_at, free_in, places_
 use Rattle.block_bodies.specs.Bodies.{StandsOnce, blocks_for}
 use Rattle.upload_book.specs.declared.head_row.Kind.TheVariants.{Plain}
 use Rattle.upload_book.specs.declared.head_row.Name.{Name}
-use Rattle.upload_book.specs.declared.piece.Piece.{Piece}
+use Rattle.upload_book.specs.declared.pieces.Piece.{Piece}
 use Rattle.upload_book.specs.Book.{StoredBook}
 use Rattle.upload_book.specs.Charge.{charge_in}
 use Rattle.upload_book.specs.PlainBook.{PlainBook, tenant_book}

@@ -4,7 +4,7 @@ use Rattle.block_pool.specs.Blocks.{Blocks, bytes_at, count_at, free_in}
 use Rattle.upload_book.specs.Concat.{parts_found, rows_of}
 use Rattle.upload_book.specs.declared.head_row.HeadRow.{HeadRow}
 use Rattle.upload_book.specs.declared.head_row.Kind.TheVariants.{Plain}
-use Rattle.upload_book.specs.declared.piece.Piece.{Piece}
+use Rattle.upload_book.specs.declared.pieces.Piece.{Piece}
 use Rattle.upload_book.specs.declared.settings.TenantQuota.{TenantQuota}
 use Rattle.upload_book.specs.NewFinal.{NewFinal}
 use Rattle.upload_book.specs.Stored.{StoredTenant, StoredUpload, block_at, part_of, parts_kept, segment_of, upload_of}

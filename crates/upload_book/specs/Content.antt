@@ -28,3 +28,12 @@ content_answer id now n part = bytes_of (visible_upload part id now)
 -- a GET that is answered so gives more bytes than there is room for
 abbrev pub LacksRoom : ℕ → Result (List ℕ) Refusal → Type 0
 LacksRoom room answer = IsOkAnd answer (λ bytes. room < length bytes)
+
+-- The bytes that a visible upload has so far, whether these are all of them or not. No request asks for them.
+abbrev pub bytes_had : Result Upload Refusal → Result (List ℕ) Refusal
+bytes_had (Ok u) = Ok (content_of u)
+bytes_had (Err refusal) = Err refusal
+
+-- the bytes so far of the upload of an id at a moment
+abbrev pub so_far_answer : ℕ → ℕ → Numbers → TenantBook → Result (List ℕ) Refusal
+so_far_answer id now n part = bytes_had (visible_upload part id now)

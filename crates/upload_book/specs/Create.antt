@@ -3,7 +3,7 @@ use Rattle.std.specs.Prelude.{ℕ, Bool, not, ◌||◌, List, [], ◌∷◌, len
 use Rattle.upload_book.specs.Account.{account_in, account_with, blocks_added}
 use Rattle.upload_book.specs.Append.{is_too_long}
 use Rattle.upload_book.specs.Checksum.{is_mismatch, is_of_other_algorithm}
-use Rattle.upload_book.specs.declared.account.Account.{Account}
+use Rattle.upload_book.specs.declared.board_line.Account.{Account}
 use Rattle.upload_book.specs.declared.create.Created.{Created}
 use Rattle.upload_book.specs.FirstChunk.{FirstChunk, no_chunk}
 use Rattle.upload_book.specs.NewUpload.{NewUpload}

@@ -29,14 +29,11 @@ pub mod Order
 pub mod PlainBook
 pub mod Ready
 pub mod Refusal
-pub mod Restore
-pub mod RestoreLaws
-pub mod Restored
 pub mod Settings
-pub mod Snapshot
 pub mod Stored
 pub mod Sweep
 pub mod TenantBook
 pub mod Terminate
 pub mod Upload
 pub mod inside
+pub mod snapshot

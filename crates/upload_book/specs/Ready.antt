@@ -8,6 +8,7 @@ use Rattle.upload_book.specs.declared.change.Change.{Change}
 use Rattle.upload_book.specs.declared.change.Change.TheVariants as change
 use Rattle.upload_book.specs.declared.head_row.Kind.TheVariants.{Final}
 use Rattle.upload_book.specs.declared.ready.Ready.{Ready}
+use Rattle.upload_book.specs.declared.ready.ReadyBack.{ReadyBack}
 use Rattle.upload_book.specs.declared.ready.ReadyChunk.{ReadyChunk}
 use Rattle.upload_book.specs.Concat.{concat_refusal, joined_len}
 use Rattle.upload_book.specs.Create.{creation_refusal, first_end, new_kind}
@@ -21,12 +22,13 @@ use Rattle.upload_book.specs.declared.ready.Step.{Step}
 use Rattle.upload_book.specs.declared.ready.Step.TheVariants.{Append, Concat, Create, Sweep, Terminate}
 use Rattle.upload_book.specs.Lawful.{IsConcatText, is_kept_metadata}
 use Rattle.upload_book.specs.PlainBook.{tenant_book}
-use Rattle.upload_book.specs.Restore.{IsRestorable, piece_refusal}
-use Rattle.upload_book.specs.Restored as piece
+use Rattle.upload_book.specs.snapshot.Restore.{IsRestorable, piece_refusal}
+use Rattle.upload_book.specs.declared.restored.Restored.TheVariants as piece
+use Rattle.upload_book.specs.inside.FinalBack.{AreRoomsFor}
 use Rattle.upload_book.specs.inside.Progress.{progress_in}
-use Rattle.upload_book.specs.BlockStore.{BlockStore, Joins, entry_at, pieces_named, rows_at, upload_at}
+use Rattle.upload_book.specs.BlockStore.{BlockStore, Joins, entry_at, pieces_named, rows_at, stored_tenant_at, upload_at}
 use Rattle.upload_book.specs.inside.Places.{IsVisibleIn}
-use Rattle.upload_book.specs.Stored.{segment_of}
+use Rattle.upload_book.specs.Stored.{pieces_of, segment_of}
 use Rattle.upload_book.specs.inside.Pieces.{as_piece, no_chain, own_chain}
 use Rattle.upload_book.specs.Upload.{head_row_of}
 
@@ -87,6 +89,17 @@ pub record IsReadyForOwn (b : StoredBook) (r : ReadyOwn) : Type 0 where
   pub accepted : piece_refusal (plain_of b) (piece.Upload r.tenant r.upload) ≡ None
   pub empty : r.body ≡ record no_chain { room = r.body.room }
   pub room : (bytes : List ℕ) → r.upload.segments ≡ record { origin = r.upload.id; bytes = Some bytes } ∷ [] → HasRoom b.store.pool r.body (length bytes)
+
+-- The same of a final upload: there is an empty body with room for each of its segments, and an empty list with room for
+-- its pieces.
+pub record IsReadyForBack (b : StoredBook) (r : ReadyBack) : Type 0 where
+  pub there : r.tenant < length b.settings.tenants
+  pub final : r.upload.kind ≡ Final
+  pub form : IsRestorable r.upload
+  pub accepted : piece_refusal (plain_of b) (piece.Upload r.tenant r.upload) ≡ None
+  pub rooms : AreRoomsFor b.store.pool.block_size (pieces_of (stored_tenant_at b.store r.tenant)) r.upload.segments r.bodies.items
+  pub empty : r.pieces.items ≡ []
+  pub listed : length r.upload.segments ≤ vec_capacity r.pieces
 
 -- the same of totals
 abbrev pub IsReadyForTotals : StoredBook → ReadyTotals → Type 0

@@ -7,7 +7,7 @@ use Rattle.upload_book.specs.Charge.{Source, charge_of}
 use Rattle.upload_book.specs.Concat.{part_named, parts_named}
 use Rattle.upload_book.specs.declared.head_row.Kind.{Kind}
 use Rattle.upload_book.specs.declared.head_row.Kind.TheVariants.{Plain, Partial, Final}
-use Rattle.upload_book.specs.declared.piece.Piece.{Piece}
+use Rattle.upload_book.specs.declared.pieces.Piece.{Piece}
 use Rattle.upload_book.specs.TenantBook.{TenantBook, TenantPart, Entry}
 use Rattle.upload_book.specs.Upload.{Upload}
 

@@ -1,6 +1,7 @@
 -- What only proofs need: how the book keeps its uploads.
 pub mod Back
 pub mod ChargeAfter
+pub mod FinalBack
 pub mod HeldBytes
 pub mod Kept
 pub mod Notes

@@ -51,7 +51,7 @@ impl<'a> Model for Chunk<'a> {
 impl<'a> Chunk<'a> {
     ghost use Rattle.std.specs.Prelude.{Some, IfSome};
     ghost use Rattle.upload_book.specs.Append.{append_refusal, refusal_by_row};
-    ghost use Rattle.upload_book.specs.declared.account.Account.{Account};
+    ghost use Rattle.upload_book.specs.declared.board_line.Account.{Account};
 
     /// Why a PATCH with these bytes is refused before their checksum is compared, where a HEAD tells this of its upload:
     /// the first that applies of IsFinal, Media, Offset, LengthFixed, TooLong and Algorithm. While the upload is so,

@@ -1,12 +1,13 @@
-ghost use Rattle.std.specs.Prelude.{◌≡◌, ◌≢◌, ◌+◌, ◌-◌, ◌<◌, ◌≤◌, ◌^◌, ◌==◌, [], length, map, min, position, set, vec_capacity, All, None, IfOk, IfErr, IfSome, IfNone, IsOk, IsTrue, OnOk, OnErr};
-ghost use Rattle.std.specs.List.{range_with_len, sum_by};
+ghost use Rattle.std.specs.Prelude.{◌≡◌, ◌≢◌, ℕ, ◌+◌, ◌-◌, ◌<◌, ◌≤◌, ◌^◌, ◌==◌, List, [], length, map, min, option_map, position, set, vec_capacity, All, None, Some, IfOk, IfErr, IfSome, IfNone, IsOk, IsTrue, OnOk, OnErr};
+ghost use Rattle.std.specs.List.{list_all, range_with_len, sum_by};
 ghost use Rattle.block_pool.specs.Blocks.{IsWithinLimits, all_free, free_in, size_of};
 ghost use Rattle.upload_book.specs.Account.{blocks_between};
 ghost use Rattle.upload_book.specs.Charge.{charge_with};
 ghost use Rattle.upload_book.specs.Concat.{are_complete, are_there, final_upload, joined_len, parts_found};
 ghost use Rattle.upload_book.specs.Create.{new_kind, upload_from};
 ghost use Rattle.upload_book.specs.Ready.{IsListed};
-ghost use Rattle.upload_book.specs.Restore.{with_next};
+ghost use Rattle.upload_book.specs.inside.FinalBack.{AreRoomsFor, brought_in, left_with, sent_len};
+ghost use Rattle.upload_book.specs.snapshot.Restore.{may_be_part, sent_back, sent_in, upload_back, with_next};
 ghost use Rattle.upload_book.specs.Lawful.{IsConcatText, is_kept_metadata};
 ghost use Rattle.upload_book.specs.Sweep.{part_after_sweep};
 ghost use Rattle.upload_book.specs.declared.head_row.Kind.TheVariants.{Final};
@@ -14,9 +15,9 @@ ghost use Rattle.upload_book.specs.inside.Kept.{stored_tenant_of, HasUploadRoom}
 ghost use Rattle.upload_book.specs.Settings.{settings_fault};
 ghost use Rattle.upload_book.specs.inside.Progress.{progress_in};
 ghost use Rattle.upload_book.specs.BlockStore.{opening_stored_tenants, plain_in, stored_tenant_at, part_at, pieces_named, entry_at, holders_at, rows_at, upload_at, Joins};
-ghost use Rattle.upload_book.specs.inside.Places.{with_bytes, with_upload, without_upload, AreFew, IsAlone, IsPartIn, IsVisibleIn};
+ghost use Rattle.upload_book.specs.inside.Places.{with_bytes, with_upload, without_upload, AreFew, IsAlone, IsPartIn, IsVisibleIn, MayKeep};
 ghost use Rattle.upload_book.specs.Stored as kept;
-ghost use Rattle.upload_book.specs.Stored.{part_kept, segment_of, HoldsPieces};
+ghost use Rattle.upload_book.specs.Stored.{part_kept, pieces_of, segment_of, HoldsPieces};
 ghost use Rattle.upload_book.specs.inside.Pieces.{as_piece, no_chain, own_chain, HasOwnPiece};
 ghost use Rattle.block_bodies.specs.Bodies.{HasRoom};
 ghost use Rattle.block_bodies.specs.Changes.{SameSizes};
@@ -24,15 +25,16 @@ ghost use Rattle.upload_book.specs.TenantBook.{visible_upload, with_new};
 ghost use Rattle.upload_book.specs.Upload.{content_of, head_row_of, offset_of};
 
 use crate::create::NewUpload;
+use crate::final_back::Left;
 use crate::head_row::Name;
 use crate::lent_row::LentRow;
 use crate::moment::Moment;
 use crate::parts_seen::PartsSeen;
-use crate::piece::UnheldPiece;
-use crate::pieces::hold_each;
+use crate::pieces::{UnheldPiece, hold_each};
 use crate::progress::Progress;
-use crate::ready::ReadyFinal;
+use crate::ready::{ReadyBack, ReadyFinal};
 use crate::refusal::Refusal;
+use crate::restored::RestoredSegment;
 use crate::settings::Settings;
 use crate::stored_tenant::StoredTenant;
 use crate::stored_upload::{StoredUpload, body_for};
@@ -405,6 +407,86 @@ impl BlockStore {
         let upload = StoredUpload::joined(stored_tenant.next, &new, pieces, len, texts);
         stored_tenant.uploads.push_reserved(upload);
         stored_tenant.next += 1;
+    }
+
+    /// What is left of limits where these segments of a final upload are put back, one after another; `None` where one lacks
+    /// its bytes or brings them again.
+    pub(crate) fn left(
+        &self,
+        tenant: usize,
+        segments: &[RestoredSegment],
+        limits: Left,
+    ) -> Option<Left>
+        requires { tenant < length self.now.stored_tenants }
+        ensures { result ≡ option_map
+            (λ sent. left_with limits (sent_len sent) (brought_in self.now.pool.block_size segments.now))
+            (sent_back (sent_in (part_at self.now tenant).uploads) segments.now) }
+    {
+        let size = u64::from(self.pool.block_size());
+        self.stored_tenants[tenant].left(segments, limits, size)
+    }
+
+    /// Whether what stands under the origin of each segment, if anything does, is a partial upload with all of its bytes.
+    pub(crate) fn may_be_parts(&self, tenant: usize, segments: &[RestoredSegment]) -> bool
+        requires { tenant < length self.now.stored_tenants }
+        ensures { result ≡ list_all (λ s. may_be_part (part_at self.now tenant) s.origin) segments.now }
+    {
+        self.stored_tenants[tenant].may_be_parts(segments)
+    }
+
+    /// An empty body for each segment of a final upload, with room for its blocks. The error is that there was no memory for
+    /// the lists of them.
+    pub(crate) fn rooms_for(
+        &self,
+        alloc: Global,
+        tenant: usize,
+        segments: &[RestoredSegment],
+    ) -> Result<Vec<Body>, AllocError>
+        requires { tenant < length self.now.stored_tenants }
+        ensures { IfOk result (λ v. AreRoomsFor self.now.pool.block_size
+            (pieces_of (stored_tenant_at self.now tenant)) segments.now v.items) }
+    {
+        let size = u64::from(self.pool.block_size());
+        self.stored_tenants[tenant].rooms_for(alloc, segments, size)
+    }
+
+    /// Keeps a final upload that is put back as the tenant's next one. Gives how many blocks were taken for what it
+    /// brings.
+    pub(crate) fn put_back(&mut self, tenant: usize, ready: ReadyBack) -> u64
+        requires { MayKeep self.old tenant ready }
+        ensures plain { (sent : List (ℕ × List ℕ))
+            → sent_back (sent_in (part_at self.old tenant).uploads) ready.entry.upload.segments ≡ Some sent
+            → plain_in self.new ≡ set (plain_in self.old) tenant
+            (with_new (part_at self.old tenant) (upload_back ready.entry.upload sent)) }
+        ensures taken { result ≡ brought_in self.old.pool.block_size ready.entry.upload.segments }
+        ensures sizes { SameSizes self.old.pool self.new.pool }
+        ensures room_stays { self.new.room ≡ self.old.room }
+    {
+        let ReadyBack {
+            upload,
+            bodies,
+            pieces,
+            ..
+        } = ready;
+        let before = self.pool.free();
+        let mut pieces = pieces;
+        let pool = &mut self.pool;
+        self.stored_tenants[tenant].bring_each(upload.segments, bodies, pool, &mut pieces);
+        let taken = u64::from(before - self.pool.free());
+        let stored_tenant = &mut self.stored_tenants[tenant];
+        let texts = stored_tenant.spare.pop().unwrap();
+        let len = upload.declared.unwrap_or(0);
+        let upload = StoredUpload::joined(
+            stored_tenant.next,
+            &upload.as_final(),
+            pieces,
+            len,
+            texts,
+        );
+        stored_tenant.uploads.push_reserved(upload);
+        stored_tenant.next += 1;
+        stored_tenant.charge += taken;
+        taken
     }
 
     /// Tells the length and the end of the upload at a place, which is not a final one.

@@ -12,6 +12,17 @@ pub enum HeadChange {
     Swept(Moment),
 }
 
+/// What a tenant pays and may pay, in blocks.
+#[derive(Clone, Copy, Debug, PartialEq, Eq)]
+pub struct Account {
+    /// What the tenant pays for its uploads, expired ones included.
+    pub charge: u64,
+    /// What it may pay.
+    pub quota: u64,
+    /// What all tenants together were charged so far.
+    pub charged: u64,
+}
+
 /// What all tenants were charged so far, what was released of it, and what each of them pays, in blocks.
 #[derive(Clone, Copy, Debug, PartialEq, Eq)]
 pub struct Accounts {

@@ -11,9 +11,8 @@ ghost use Rattle.upload_book.specs.PlainBook.{opening_book, tenant_book};
 ghost use Rattle.upload_book.specs.BlockStore.{holders_at};
 ghost use Rattle.upload_book.specs.Stored.{HoldsPieces};
 
-use crate::account::Account;
 use crate::block_store::BlockStore;
-use crate::board_line::Accounts;
+use crate::board_line::{Account, Accounts};
 use crate::expiry_list::{Expiring, ExpiryList};
 use crate::head_row::Name;
 use crate::settings::Settings;
@@ -87,6 +86,14 @@ impl Book {
         ensures { result ≡ charge_in (plain_of self.now).settings.numbers (tenant_book (plain_of self.now) tenant) }
     {
         self.store.charge(usize::from(tenant))
+    }
+
+    /// How many uploads the tenant at this place has, expired ones included. It goes over none of them.
+    pub fn upload_count(&self, tenant: u8) -> u64
+        requires { tenant < length (plain_of self.now).settings.tenants }
+        ensures { result ≡ length (tenant_book (plain_of self.now) tenant).uploads }
+    {
+        self.store.count(usize::from(tenant)) as u64
     }
 
     /// How many blocks all tenants together were charged so far.

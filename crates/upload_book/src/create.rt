@@ -10,8 +10,8 @@ ghost use Rattle.upload_book.specs.Ready.{IsReadyForUpload};
 ghost use Rattle.upload_book.specs.Refusal.{IsAnswer};
 ghost use Rattle.upload_book.specs.BlockStore.{part_at};
 
-use crate::account::Account;
 use crate::block_store::BlockStore;
+use crate::board_line::Account;
 use crate::book::Book;
 use crate::checksum::{is_mismatch, is_of_other_algorithm};
 use crate::expiry::{lifetime_end, renewed};

@@ -1,8 +1,8 @@
 //! Laws of the definitions that the contracts cite: each is the contract of a function that does nothing.
 ghost use Rattle.upload_book.specs.FinalLaws.{FinalsStay};
 ghost use Rattle.upload_book.specs.Laws.{AccountsFollow, FollowOrder, HeadsFollow, ResumedPatch, RowsFollow};
-ghost use Rattle.upload_book.specs.RestoreLaws.{PiecesLeave};
-ghost use Rattle.upload_book.specs.Snapshot.{SnapshotsRestore};
+ghost use Rattle.upload_book.specs.snapshot.RestoreLaws.{PiecesLeave};
+ghost use Rattle.upload_book.specs.snapshot.Snapshot.{SnapshotsRestore};
 
 /// The tests that decide on a creation, on a concatenation, on a PATCH and on a GET follow the one order of
 /// refusals.

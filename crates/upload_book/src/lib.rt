@@ -2,7 +2,6 @@
 //! book of byte lists answers it.
 #![tactic(auto)]
 
-mod account;
 mod accounts_after;
 mod append;
 mod block_store;
@@ -16,9 +15,9 @@ mod content;
 mod create;
 mod expiry;
 mod expiry_list;
+mod final_back;
 mod head_note;
 mod head_row;
-mod held_bytes;
 pub mod laws;
 mod lent_row;
 mod line;
@@ -27,7 +26,6 @@ mod moment;
 mod operation;
 mod parts_seen;
 mod payload;
-mod piece;
 mod pieces;
 mod prepare;
 mod progress;
@@ -37,6 +35,7 @@ mod restore;
 mod restored;
 mod settings;
 mod settings_fault;
+mod so_far;
 mod stored_tenant;
 mod stored_upload;
 mod sweep;
@@ -59,7 +58,7 @@ pub use operation::Operation;
 pub use payload::Payload;
 pub use ready::Ready;
 pub use refusal::Refusal;
-pub use restored::{RestoredSegment, RestoredUpload};
+pub use restored::{Restored, RestoredSegment, RestoredUpload};
 pub use settings::{Numbers, Settings, TenantQuota};
 pub use settings_fault::SettingsFault;
 pub use sweep::Swept;

@@ -1,15 +1,39 @@
 //! Lists of pieces: their blocks are held, read and given back one after another.
-ghost use Rattle.std.specs.Prelude.{◌≡◌, ◌+◌, ◌-◌, ◌<◌, ◌≤◌, ◌++◌, drop, map, length, vec_len, vec_capacity};
+ghost use Rattle.std.specs.Prelude.{◌≡◌, ◌+◌, ◌-◌, ◌<◌, ◌≤◌, ◌++◌, drop, map, length, option_map, vec_len, vec_capacity};
 ghost use Rattle.block_pool.specs.Blocks.{free_in};
 ghost use Rattle.block_bodies.specs.Bodies.{IsHeld};
 ghost use Rattle.block_bodies.specs.Changes.{GivesBack, Holds, MayHold};
 ghost use Rattle.upload_book.specs.Charge.{price};
 ghost use Rattle.upload_book.specs.inside.ChargeAfter.{sources_in};
+ghost use Rattle.upload_book.specs.inside.FinalBack.{chain_from};
 ghost use Rattle.upload_book.specs.Stored.{pieces_len, placed_in};
 ghost use Rattle.upload_book.specs.inside.Pieces.{as_piece, bytes_of, AreBodies};
 
-use crate::piece::{Piece, UnheldPiece};
+use block_bodies::{Body, Unheld};
 use block_pool::Pool;
+
+/// Bytes in blocks, with the upload to which they were sent, their origin.
+#[derive(Drop)]
+pub(crate) struct Piece {
+    pub(crate) origin: u64,
+    pub(crate) chain: Body,
+}
+
+/// A piece whose blocks are not held for it yet.
+#[derive(Drop)]
+pub(crate) struct UnheldPiece {
+    pub(crate) origin: u64,
+    pub(crate) chain: Unheld,
+}
+
+/// How the bytes of an upload are held.
+#[derive(Drop)]
+pub(crate) enum HeldBytes {
+    /// Those that were sent to it, in a body of its own. It may be a partial upload, for later final ones.
+    Own { partial: bool, body: Body },
+    /// Those of its parts, piece by piece, which are so many together: it is a final upload.
+    Joined { len: u64, pieces: Vec<Piece> },
+}
 
 /// Reads the bytes of the pieces onto the end of `bytes`, which has room for them.
 pub(crate) fn read_each(pieces: &[Piece], pool: &Pool, bytes: &mut Vec<u8>)
@@ -69,4 +93,16 @@ pub(crate) fn price_from(pieces: &[Piece], from: usize, size: u64, origin: u64) 
         }
     }
     most
+}
+
+/// The body of the first of the pieces that has this origin, where there is one.
+pub(crate) fn chain_from(pieces: &[Piece], origin: u64) -> Option<&Body>
+    ensures { option_map (λ chain. chain.now) result ≡ chain_from pieces.now origin }
+{
+    for place in 0..pieces.len() {
+        if pieces[place].origin == origin {
+            return Some(&pieces[place].chain);
+        }
+    }
+    None
 }

@@ -3,8 +3,8 @@ ghost use Rattle.upload_book.specs.Append.{append_refusal, differ, refusal_by_ro
 ghost use Rattle.upload_book.specs.inside.Progress.{row_at, progress_in};
 ghost use Rattle.upload_book.specs.Upload.{is_reached};
 
-use crate::account::Account;
 use crate::append::Chunk;
+use crate::board_line::Account;
 use crate::checksum::{is_mismatch, is_of_other_algorithm};
 use crate::expiry::{lifetime_end, renewed};
 use crate::head_row::{HeadRow, Kind};

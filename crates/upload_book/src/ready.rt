@@ -3,7 +3,7 @@ use crate::concat::NewFinal;
 use crate::create::{FirstChunk, NewUpload};
 use crate::head_row::Name;
 use crate::moment::Moment;
-use crate::piece::{Piece, UnheldPiece};
+use crate::pieces::{Piece, UnheldPiece};
 use crate::progress::Progress;
 use crate::restored::RestoredUpload;
 use block_bodies::Body;
@@ -97,4 +97,15 @@ pub(crate) struct ReadyOwn<'a> {
     pub(crate) upload: RestoredUpload<'a>,
     /// A body with room for its bytes.
     pub(crate) body: Body,
+}
+
+/// A final upload that is put back, for the tenant at this place.
+#[derive(Drop)]
+pub(crate) struct ReadyBack<'a> {
+    pub(crate) tenant: u8,
+    pub(crate) upload: RestoredUpload<'a>,
+    /// An empty body for each of its segments, with room for it.
+    pub(crate) bodies: Vec<Body>,
+    /// An empty list with room for its pieces.
+    pub(crate) pieces: Vec<Piece>,
 }

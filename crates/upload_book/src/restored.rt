@@ -1,7 +1,29 @@
+use crate::concat::NewFinal;
 use crate::create::NewUpload;
 use crate::head_row::Kind;
 use crate::moment::Moment;
 use std::marker::Model;
+
+/// A piece of a book that is put back.
+#[derive(Drop)]
+pub enum Restored<'a> {
+    /// An upload of the tenant at this place in the settings.
+    Upload {
+        tenant: u8,
+        upload: RestoredUpload<'a>,
+    },
+    /// The id that the next upload of the tenant at this place gets. The ids between were given, and nothing stands under
+    /// them.
+    Next {
+        tenant: u8,
+        next: u64,
+    },
+    /// How many blocks all tenants together were charged so far, and how many of them were released.
+    Totals {
+        charged: u64,
+        released: u64,
+    },
+}
 
 /// A segment of an upload that is put back. A contract sees its bytes as a list.
 #[derive(Drop)]
@@ -15,7 +37,7 @@ pub struct RestoredSegment<'a> {
 impl<'a> Model for RestoredSegment<'a> {
     ghost use Rattle.std.specs.Prelude.{List, ℕ, option_map};
     ghost use Rattle.std.specs.Borrow.{Bor};
-    ghost use Rattle.upload_book.specs.Restored as spec;
+    ghost use Rattle.upload_book.specs.snapshot.Restored as spec;
 
     ghost Value = { spec.RestoredSegment };
 
@@ -43,7 +65,7 @@ pub struct RestoredUpload<'a> {
 }
 
 impl<'a> Model for RestoredUpload<'a> {
-    ghost use Rattle.upload_book.specs.Restored as spec;
+    ghost use Rattle.upload_book.specs.snapshot.Restored as spec;
 
     ghost Value = { spec.RestoredUpload };
 
@@ -61,7 +83,8 @@ impl<'a> Model for RestoredUpload<'a> {
 impl<'a> RestoredUpload<'a> {
     ghost use Rattle.std.specs.Prelude.{◌≡◌, ◌<◌, ℕ, List, [], ◌∷◌, Some, length};
     ghost use Rattle.upload_book.specs.inside.Back.{new_of};
-    ghost use Rattle.upload_book.specs.Restore.{ends_rightly};
+    ghost use Rattle.upload_book.specs.inside.FinalBack.{final_named};
+    ghost use Rattle.upload_book.specs.snapshot.Restore.{ends_rightly};
 
     /// The bytes of one that is not final, which it brings.
     pub(crate) fn own_bytes(&self) -> &'a [u8]
@@ -84,6 +107,17 @@ impl<'a> RestoredUpload<'a> {
         }
     }
 
+    /// A final one, as a new one of no parts, which its pieces give.
+    pub(crate) fn as_final(&self) -> NewFinal<'a>
+        ensures { result ≡ final_named self.now }
+    {
+        NewFinal {
+            parts: &[],
+            metadata: self.metadata,
+            concat: self.concat,
+        }
+    }
+
     /// Whether it ends as its kind asks, where it is complete or not.
     pub(crate) fn ends_rightly(&self, complete: bool) -> bool
         ensures { result ≡ ends_rightly self.now.kind complete self.now.expires }
@@ -97,7 +131,29 @@ impl<'a> RestoredUpload<'a> {
 }
 
 impl<'a> RestoredSegment<'a> {
-    ghost use Rattle.std.specs.Prelude.{◌≡◌, ℕ, List, Some};
+    ghost use Rattle.std.specs.Prelude.{◌≡◌, ◌<◌, ℕ, List, Some, length, option_map};
+    ghost use Rattle.upload_book.specs.inside.FinalBack.{brought_blocks};
+
+    /// How many bytes it brings, where it does.
+    pub(crate) fn len(&self) -> Option<u64>
+        ensures { result ≡ option_map length self.now.bytes }
+    {
+        match self.bytes {
+            Some(bytes) => Some(bytes.len() as u64),
+            None => None,
+        }
+    }
+
+    /// How many blocks of a size the bytes take that it brings.
+    pub(crate) fn blocks(&self, size: u64) -> u64
+        requires { 0 < size }
+        ensures { result ≡ brought_blocks size self.now }
+    {
+        match self.bytes {
+            Some(bytes) => (bytes.len() as u64).div_ceil(size),
+            None => 0,
+        }
+    }
 
     // Its bytes, where it brings them.
     fn own_bytes(&self) -> &'a [u8]

@@ -1,5 +1,6 @@
-ghost use Rattle.std.specs.Prelude.{◌≡◌, ◌==◌, None, IfOk, IfErr, IfSome, IfNone, position};
-ghost use Rattle.upload_book.specs.Stored.{part_kept};
+ghost use Rattle.std.specs.Prelude.{◌≡◌, ◌==◌, ◌++◌, None, IfOk, IfErr, IfSome, IfNone, option_map, position};
+ghost use Rattle.upload_book.specs.inside.FinalBack.{chain_from};
+ghost use Rattle.upload_book.specs.Stored.{part_kept, pieces_of};
 ghost use Rattle.upload_book.specs.TenantBook.{opening_part, visible_in};
 
 use crate::head_row::Kind;
@@ -7,6 +8,7 @@ use crate::moment::Moment;
 use crate::refusal::Refusal;
 use crate::stored_upload::StoredUpload;
 use crate::texts::Texts;
+use block_bodies::Body;
 use std::alloc::{AllocError, Global};
 
 /// A tenant's part of the book: its quota in blocks, the id that its next upload gets, the blocks that it
@@ -74,5 +76,17 @@ impl StoredTenant {
         ensures { result ≡ position (λ e. e.id == id) self.now.uploads.items }
     {
         self.uploads.iter().position(|upload| upload.id() == id)
+    }
+
+    /// The body of the first of the tenant's pieces that has this origin, where there is one.
+    pub(crate) fn chain_from(&self, origin: u64) -> Option<&Body>
+        ensures { option_map (λ chain. chain.now) result ≡ chain_from (pieces_of (stored_tenant_of self.now)) origin }
+    {
+        for place in 0..self.uploads.len() {
+            if let Some(chain) = self.uploads[place].chain_from(origin) {
+                return Some(chain);
+            }
+        }
+        None
     }
 }

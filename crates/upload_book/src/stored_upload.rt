@@ -1,19 +1,21 @@
-ghost use Rattle.std.specs.Prelude.{◌≡◌, ◌≢◌, ◌+◌, ◌<◌, ◌≤◌, [], ◌∷◌, ◌++◌, drop, get_or, length, map, vec_len, vec_capacity, IfOk, IsOk, OnOk, OnErr, IsTrue};
+ghost use Rattle.std.specs.Prelude.{◌≡◌, ◌≢◌, ◌+◌, ◌<◌, ◌≤◌, ◌&&◌, [], ◌∷◌, ◌++◌, drop, get_or, length, map, option_map, vec_len, vec_capacity, IfOk, IsOk, OnOk, OnErr, IsTrue};
 ghost use Rattle.block_pool.specs.Blocks.{Blocks, free_in};
 ghost use Rattle.block_bodies.specs.Bodies.{HasRoom, IsBodyOf, IsHeld, IsLastOwn, StandsOnce, blocks_for, blocks_with};
 ghost use Rattle.block_bodies.specs.Changes.{Puts, GivesBack};
 ghost use Rattle.upload_book.specs.Charge.{price};
+ghost use Rattle.upload_book.specs.Concat.{is_partial};
 ghost use Rattle.upload_book.specs.Create.{new_kind};
 ghost use Rattle.upload_book.specs.declared.head_row.Kind.TheVariants.{Final};
-ghost use Rattle.upload_book.specs.declared.piece.Piece.{Piece};
+ghost use Rattle.upload_book.specs.declared.pieces.Piece.{Piece};
 ghost use Rattle.upload_book.specs.Expiry.{has_expired};
 ghost use Rattle.upload_book.specs.inside.ChargeAfter.{is_left, sources_in};
+ghost use Rattle.upload_book.specs.inside.FinalBack.{chain_from};
 ghost use Rattle.upload_book.specs.Lawful.{is_kept_metadata, IsConcatText};
 ghost use Rattle.upload_book.specs.inside.Progress.{progress_in};
 ghost use Rattle.upload_book.specs.inside.Places.{with_chain, with_head};
 ghost use Rattle.upload_book.specs.Stored.{block_at, pieces_len, placed_in, segment_of, upload_of};
 ghost use Rattle.upload_book.specs.inside.Pieces.{as_piece, bytes_of, final_of, new_stored, no_chain, own_chain, AreBodies, ReadsWhole};
-ghost use Rattle.upload_book.specs.Upload.{head_row_of, content_of as upload_content_of};
+ghost use Rattle.upload_book.specs.Upload.{head_row_of, is_complete, content_of as upload_content_of};
 
 use crate::charge_after::Ended;
 use crate::concat::NewFinal;
@@ -21,11 +23,11 @@ use crate::create::NewUpload;
 use crate::expiry::has_expired;
 use crate::head_note::Growth;
 use crate::head_row::Kind;
-use crate::held_bytes::HeldBytes;
 use crate::lent_row::LentRow;
 use crate::moment::Moment;
-use crate::piece::{Piece, UnheldPiece};
-use crate::pieces::{give_back_each, price_from, read_each};
+use crate::pieces::{
+    HeldBytes, Piece, UnheldPiece, chain_from, give_back_each, price_from, read_each,
+};
 use crate::progress::Progress;
 use crate::texts::Texts;
 use block_bodies::{Body, BodyFault};
@@ -199,6 +201,17 @@ impl StoredUpload {
         }
     }
 
+    /// Whether it is a partial upload with all of its bytes.
+    pub(crate) fn may_be_part(&self) -> bool
+        ensures { (p : Blocks) → ReadsWhole p self.now.kept.pieces
+            → result ≡ (is_partial self.now.kept.kind && is_complete (upload_of p self.now.kept)) }
+    {
+        match self.kind() {
+            Kind::Partial => self.progress().is_complete(),
+            Kind::Plain | Kind::Final => false,
+        }
+    }
+
     /// The bytes of the upload, copied once out of the pool into this vector, whatever it had before. The error is
     /// that it has too little room for them and got no more.
     pub(crate) fn read(&self, pool: &Pool, room: Vec<u8>) -> Result<Vec<u8>, AllocError>
@@ -281,6 +294,17 @@ impl StoredUpload {
                 .div_ceil(size),
             HeldBytes::Own { .. } => 0,
             HeldBytes::Joined { pieces, .. } => price_from(pieces, piece, size, origin),
+        }
+    }
+
+    /// The body of the first of the upload's pieces that has this origin, where there is one.
+    pub(crate) fn chain_from(&self, origin: u64) -> Option<&Body>
+        ensures { option_map (λ chain. chain.now) result ≡ chain_from self.now.kept.pieces origin }
+    {
+        match &self.held {
+            HeldBytes::Own { body, .. } if self.id == origin => Some(body),
+            HeldBytes::Own { .. } => None,
+            HeldBytes::Joined { pieces, .. } => chain_from(pieces, origin),
         }
     }
 

@@ -1,14 +1,16 @@
 //! A book that is put back, piece by piece, beside the one that it was.
 
-ghost use Rattle.std.specs.Prelude.{◌≡◌, ℕ, false, List, [], ◌∷◌, Some};
-ghost use Rattle.upload_book.specs.Append.{is_final};
-ghost use Rattle.upload_book.specs.Restore.{IsRestorable};
-ghost use Rattle.upload_book.specs.Restored as spec;
+ghost use Rattle.std.specs.Prelude.{◌≡◌, ℕ, List, [], ◌∷◌, Some};
+ghost use Rattle.upload_book.specs.declared.head_row.Kind.TheVariants.{Final};
+ghost use Rattle.upload_book.specs.snapshot.Restore.{HasSegments, IsRestorable};
 
-use crate::books::{ACME, NUMBERS, acme, moment, new_book, new_upload, part, patch};
+use crate::books::{ACME, NUMBERS, acme, moment, new_book, new_final, new_upload, part, patch};
 use crate::plain::PlainRow;
 use std::process::Abort;
-use upload_book::{Book, Kind, Moment, Numbers, Refusal, RestoredSegment, RestoredUpload};
+use tus_text::{Concat, read_concat};
+use upload_book::{
+    Book, Kind, Moment, Numbers, Refusal, Restored, RestoredSegment, RestoredUpload,
+};
 
 /// An upload of its own that is put back: its id, whether it is a part, its length, its bytes and the second at which it
 /// expires.
@@ -23,8 +25,7 @@ fn own_upload<'a>(
     expires: Option<Moment>,
 ) -> RestoredUpload<'a>
     requires { (bytes : List ℕ) × (segments.now ≡ record { origin = id; bytes = Some bytes } ∷ []) }
-    ensures form { IsRestorable result }
-    ensures own { is_final result.kind ≡ false }
+    ensures { IsRestorable result }
 {
     if partial {
         RestoredUpload {
@@ -59,13 +60,21 @@ fn restore(rt: &impl Abort, book: &mut Book, row: &Row) -> Result<(), Refusal> {
     }];
     let expires = expires.and_then(Moment::new);
     let upload = own_upload(partial, id, declared, &segments, expires);
-    book.restore_own(acme, upload)
+    book.restore(Restored::Upload {
+        tenant: acme,
+        upload,
+    })
 }
 
 // Puts back acme's next id.
 fn restore_next(rt: &impl Abort, book: &mut Book, next: u64) -> Result<(), Refusal> {
     let acme = book.settings().tenant(ACME).expect(rt, "acme");
-    book.restore_next(acme, next)
+    book.restore(Restored::Next { tenant: acme, next })
+}
+
+// Puts back the totals.
+fn restore_totals(book: &mut Book, charged: u64, released: u64) -> Result<(), Refusal> {
+    book.restore(Restored::Totals { charged, released })
 }
 
 // Creates an upload of acme.
@@ -122,7 +131,7 @@ fn a_book_is_put_back(rt: HostRuntime) {
         assert!(&rt; restore(&rt, &mut book, row) == Ok(()));
     }
     assert!(&rt; restore_next(&rt, &mut book, 6) == Ok(()));
-    assert!(&rt; book.restore_totals(6, 1) == Ok(()));
+    assert!(&rt; restore_totals(&mut book, 6, 1) == Ok(()));
     assert!(&rt; told(&rt, &book) == told(&rt, &was));
     assert!(&rt; book.accounts() == was.accounts());
     assert!(&rt; book.expiries() == was.expiries());
@@ -175,10 +184,10 @@ fn what_is_not_put_back(rt: HostRuntime) {
     }
     assert!(&rt; restore_next(&rt, &mut book, 1) == Err(Refusal::Field));
     assert!(&rt; restore_next(&rt, &mut book, 11) == Err(Refusal::Spent));
-    assert!(&rt; book.restore_totals(2, 1) == Err(Refusal::Field));
-    assert!(&rt; book.restore_totals(10, 10) == Err(Refusal::Spent));
-    assert!(&rt; book.restore_totals(9, 9) == Ok(()));
-    assert!(&rt; book.restore_totals(8, 8) == Err(Refusal::Field));
+    assert!(&rt; restore_totals(&mut book, 2, 1) == Err(Refusal::Field));
+    assert!(&rt; restore_totals(&mut book, 10, 10) == Err(Refusal::Spent));
+    assert!(&rt; restore_totals(&mut book, 9, 9) == Ok(()));
+    assert!(&rt; restore_totals(&mut book, 8, 8) == Err(Refusal::Field));
     assert_refused(
         &rt,
         &mut book,
@@ -206,4 +215,217 @@ fn ids_that_are_not_put_back(rt: HostRuntime) {
     assert!(&rt; restore_next(&rt, &mut book, 10) == Ok(()));
     assert_refused(&rt, &mut book, &last, Refusal::Spent);
     assert!(&rt; restore_next(&rt, &mut book, 9) == Err(Refusal::Field));
+}
+
+/// A final upload of two parts that is put back: its id, its length, its parts, and the second at which it expires.
+type FinalRow<'a> = (u64, u64, PartRow<'a>, PartRow<'a>, Option<u64>);
+
+/// A part of it: its id, and the bytes that it brings.
+type PartRow<'a> = (u64, Option<&'a [u8]>);
+
+// One that is put back with these segments, without metadata. The book keeps its text, and does not read it.
+fn final_upload<'a>(
+    rt: &impl Abort,
+    id: u64,
+    declared: u64,
+    segments: &'a [RestoredSegment<'a>],
+    expires: Option<Moment>,
+) -> RestoredUpload<'a>
+    requires { HasSegments Final id segments.now }
+    ensures form { IsRestorable result }
+    ensures kind { result.kind ≡ Final }
+{
+    let concat = b"final;/files/acme/1";
+    let Some(Concat::Final(_)) = read_concat(concat) else {
+        panic!(rt; "a concat text");
+    };
+    RestoredUpload {
+        id,
+        kind: Kind::Final,
+        declared: Some(declared),
+        segments,
+        metadata: b"",
+        concat,
+        expires,
+    }
+}
+
+// Puts back a final upload of acme.
+fn restore_final(rt: &impl Abort, book: &mut Book, row: &FinalRow) -> Result<(), Refusal> {
+    let acme = book.settings().tenant(ACME).expect(rt, "acme");
+    let (id, declared, first, second, expires) = *row;
+    assert!(rt; 0 < first.0 && first.0 < id && 0 < second.0 && second.0 < id);
+    let segments = [
+        RestoredSegment {
+            origin: first.0,
+            bytes: first.1,
+        },
+        RestoredSegment {
+            origin: second.0,
+            bytes: second.1,
+        },
+    ];
+    let expires = expires.and_then(Moment::new);
+    let upload = final_upload(rt, id, declared, &segments, expires);
+    book.restore(Restored::Upload {
+        tenant: acme,
+        upload,
+    })
+}
+
+// Joins two parts of acme.
+fn join(rt: &impl Abort, book: &mut Book, first: u64, second: u64) {
+    let acme = book.settings().tenant(ACME).expect(rt, "acme");
+    let parts = [Some(first), Some(second)];
+    let made = book.concat(acme, new_final(rt, &parts), moment(rt, 1000));
+    assert!(rt; made.is_ok());
+}
+
+// A book of acme with a final upload of one part twice and one of it and another, whose parts have ended, and with one of a
+// part that stands.
+fn joined(rt: &impl Abort, book: &mut Book) {
+    let now = moment(rt, 1000);
+    part(rt, book, b"abcde");
+    part(rt, book, b"fg");
+    join(rt, book, 1, 1);
+    join(rt, book, 1, 2);
+    assert!(rt; book.terminate(&acme(1), now).is_ok());
+    assert!(rt; book.terminate(&acme(2), now).is_ok());
+    part(rt, book, b"hi");
+    join(rt, book, 5, 5);
+}
+
+// What puts back those whose parts have ended: of each part the bytes come once.
+const FINAL_ROWS: [FinalRow<'static>; 2] = [
+    (3, 10, (1, Some(b"abcde")), (1, None), None),
+    (4, 7, (1, None), (2, Some(b"fg")), None),
+];
+
+// Puts it back.
+fn restored(rt: &impl Abort, book: &mut Book) {
+    for row in &FINAL_ROWS {
+        assert!(rt; restore_next(rt, book, row.0) == Ok(()));
+        assert!(rt; restore_final(rt, book, row) == Ok(()));
+    }
+    let own: Row = (5, true, Some(2), b"hi", Some(4600));
+    assert!(rt; restore(rt, book, &own) == Ok(()));
+    let last: FinalRow = (6, 4, (5, None), (5, None), None);
+    assert!(rt; restore_final(rt, book, &last) == Ok(()));
+    assert!(rt; restore_next(rt, book, 7) == Ok(()));
+    assert!(rt; restore_totals(book, 4, 0) == Ok(()));
+}
+
+// How many uploads acme has.
+fn count(rt: &impl Abort, book: &Book) -> u64 {
+    let acme = book.settings().tenant(ACME).expect(rt, "acme");
+    book.upload_count(acme)
+}
+
+// Asserts that an upload has the same bytes in both books, in blocks that as many hold.
+fn assert_same(rt: &impl Abort, book: &Book, was: &Book, id: u64) {
+    let name = acme(id);
+    let now = moment(rt, 1000);
+    let bytes = book.content(&name, now, book.no_room()).expect(rt, "bytes");
+    let before = was.content(&name, now, was.no_room()).expect(rt, "bytes");
+    assert!(rt; bytes.as_slice() == before.as_slice());
+    assert!(rt; book.holders(&name, 0, 0) == was.holders(&name, 0, 0));
+    assert!(rt; book.holders(&name, 1, 0) == was.holders(&name, 1, 0));
+}
+
+#[test]
+fn finals_are_put_back(rt: HostRuntime) {
+    let mut was = new_book(&rt, rt.alloc(), NUMBERS);
+    joined(&rt, &mut was);
+    let mut book = new_book(&rt, rt.alloc(), NUMBERS);
+    restored(&rt, &mut book);
+    assert!(&rt; count(&rt, &book) == 4);
+    assert!(&rt; told(&rt, &book) == told(&rt, &was));
+    assert!(&rt; book.accounts() == was.accounts());
+    assert!(&rt; book.expiries() == was.expiries());
+    assert!(&rt; book.free_blocks() == was.free_blocks());
+    for id in 3..7 {
+        assert_same(&rt, &book, &was, id);
+    }
+}
+
+// What is not put back behind acme's part 1 of 5 bytes and its part 2, which lacks some, where 4 is the next id.
+static REFUSED_FINALS: [(FinalRow<'static>, Refusal); 8] = [
+    ((5, 10, (1, None), (1, None), None), Refusal::Field),
+    ((4, 10, (1, None), (1, Some(b"abcde")), None), Refusal::Part),
+    ((4, 10, (1, None), (3, None), None), Refusal::Part),
+    ((4, 11, (1, None), (1, None), None), Refusal::Field),
+    ((4, 10, (1, None), (1, None), Some(4600)), Refusal::Field),
+    (
+        (
+            4,
+            66,
+            (3, Some(b"012345678901234567890123456789012")),
+            (3, None),
+            None,
+        ),
+        Refusal::TooLong,
+    ),
+    ((4, 7, (1, None), (2, None), None), Refusal::PartOpen),
+    (
+        (
+            4,
+            29,
+            (1, None),
+            (3, Some(b"012345678901234567890123")),
+            None,
+        ),
+        Refusal::Quota,
+    ),
+];
+
+// Nothing that is refused changes what HEADs tell, or what is charged.
+fn assert_final_refused(rt: &impl Abort, book: &mut Book, row: &FinalRow, refusal: Refusal) {
+    let before = (told(rt, book), book.accounts());
+    assert!(rt;
+        restore_final(rt, book, row) == Err(refusal),
+        "it is refused otherwise"
+    );
+    assert!(rt; (told(rt, book), book.accounts()) == before);
+}
+
+// Puts back acme's part 1 of 5 bytes and its part 2, which lacks some; 4 is then the next id.
+fn with_parts(rt: &impl Abort, book: &mut Book) {
+    let whole: Row = (1, true, Some(5), b"abcde", Some(4600));
+    assert!(rt; restore(rt, book, &whole) == Ok(()));
+    let open: Row = (2, true, Some(9), b"fg", Some(4600));
+    assert!(rt; restore(rt, book, &open) == Ok(()));
+    assert!(rt; restore_next(rt, book, 4) == Ok(()));
+}
+
+#[test]
+fn finals_that_are_not_put_back(rt: HostRuntime) {
+    let mut book = new_book(&rt, rt.alloc(), NUMBERS);
+    with_parts(&rt, &mut book);
+    for (row, refusal) in &REFUSED_FINALS {
+        assert_final_refused(&rt, &mut book, row, *refusal);
+    }
+    let held: FinalRow = (4, 10, (1, None), (1, None), None);
+    assert!(&rt; restore_final(&rt, &mut book, &held) == Ok(()));
+}
+
+#[test]
+fn finals_past_the_last(rt: HostRuntime) {
+    let few = Numbers {
+        uploads: 2,
+        ..NUMBERS
+    };
+    let mut book = new_book(&rt, rt.alloc(), few);
+    with_parts(&rt, &mut book);
+    let held: FinalRow = (4, 10, (1, None), (1, None), None);
+    assert_final_refused(&rt, &mut book, &held, Refusal::Uploads);
+    let spent = Numbers {
+        last_total: 4,
+        ..NUMBERS
+    };
+    let mut book = new_book(&rt, rt.alloc(), spent);
+    with_parts(&rt, &mut book);
+    let two: FinalRow = (4, 10, (1, None), (3, Some(b"01234")), None);
+    assert_final_refused(&rt, &mut book, &two, Refusal::Spent);
+    let one: FinalRow = (4, 9, (1, None), (3, Some(b"0123")), None);
+    assert!(&rt; restore_final(&rt, &mut book, &one) == Ok(()));
 }

@@ -110,3 +110,39 @@ fn a_content_is_handed_over(rt: HostRuntime) {
     let used = Vec::from_slice(rt.alloc(), b"others");
     assert_handed_over(&rt, &book, used.expect(&rt, "memory"), b"abcde");
 }
+
+// Acme's first upload, which has five of its nine bytes.
+fn unfinished(rt: &impl Abort, book: &mut Book) {
+    let tenant = book.settings().tenant(ACME).expect(rt, "acme");
+    let new = NewUpload {
+        partial: false,
+        length: Some(9),
+        metadata: b"",
+        concat: b"",
+    };
+    assert!(rt; book.create(tenant, new, moment(rt, 1000)).is_ok());
+    let chunk = Chunk {
+        offset: 0,
+        length: None,
+        typed: true,
+        check: None,
+        bytes: Payload::new(b"abcde"),
+    };
+    assert!(rt; book.append(&acme(1), chunk, moment(rt, 1000)).is_ok());
+}
+
+// Why there are no bytes of an upload so far.
+fn refused_so_far(rt: &impl Abort, book: &Book, name: &Name) -> Option<Refusal> {
+    book.so_far(name, moment(rt, 1000), book.no_room()).err()
+}
+
+#[test]
+fn the_bytes_so_far(rt: HostRuntime) {
+    let mut book = new_book(&rt, rt.alloc(), NUMBERS);
+    unfinished(&rt, &mut book);
+    let bytes = book.so_far(&acme(1), moment(&rt, 1000), book.no_room());
+    assert!(rt; bytes.expect(&rt, "the bytes").as_slice() == b"abcde".as_slice());
+    assert!(rt; refused_so_far(&rt, &book, &acme(2)) == Some(Refusal::Unknown));
+    assert!(rt; book.terminate(&acme(1), moment(&rt, 1000)).is_ok());
+    assert!(rt; refused_so_far(&rt, &book, &acme(1)) == Some(Refusal::Gone));
+}

@@ -7,7 +7,7 @@ use Rattle.std.proofs.lemmas.List.Concat.{flat_map-append}
 use Rattle.std.proofs.lemmas.List.Elements.{filter-append}
 use Rattle.block_bodies.specs.Bodies.{blocks_for}
 use Rattle.upload_book.specs.Charge.{Source, charge_of, price}
-use Rattle.upload_book.specs.declared.piece.Piece.{Piece}
+use Rattle.upload_book.specs.declared.pieces.Piece.{Piece}
 use Rattle.upload_book.specs.inside.ChargeAfter.{cost_of, is_left, left, left_beside, left_to, sources_in, sources_kept}
 use Rattle.upload_book.specs.Stored.{StoredUpload}
 use Rattle.upload_book.specs.TenantBook.{Entry}

@@ -12,7 +12,7 @@ use Rattle.upload_book.specs.Append.{is_final, append_refusal, upload_with}
 use Rattle.upload_book.specs.Charge.{Source, sources_of, charge_in}
 use Rattle.upload_book.specs.Chunk.{Chunk}
 use Rattle.upload_book.specs.Create.{created_upload, new_kind}
-use Rattle.upload_book.specs.declared.account.Account.{Account}
+use Rattle.upload_book.specs.declared.board_line.Account.{Account}
 use Rattle.upload_book.specs.declared.head_row.Kind.TheVariants.{Partial, Final}
 use Rattle.upload_book.specs.declared.settings.Numbers.{Numbers}
 use Rattle.upload_book.specs.Lawful.{IsTenantOf, IsUploadOf, IsOfKind, IsGivenIn, IsSegmentOf, IsWhole, HasParts}

@@ -8,7 +8,7 @@ use Rattle.block_pool.specs.Blocks.{Blocks, size_of, count_at, free_in, places_o
 use Rattle.block_pool.proofs.BlocksLaws.{below_size, free_in-numbers, places_of-append, places_of-cons, places_of-one_same, places_of-one_other}
 use Rattle.block_bodies.specs.Bodies.{blocks_for}
 use Rattle.upload_book.specs.Charge.{Source, sum_below, price, charge_of}
-use Rattle.upload_book.specs.declared.piece.Piece.{Piece}
+use Rattle.upload_book.specs.declared.pieces.Piece.{Piece}
 use Rattle.upload_book.specs.Stored.{StoredTenant, pieces_of, placed_in, places_on, charge_on, some_of, Agree, IsPiece, ArePieces, HoldsPieces}
 use Rattle.upload_book.proofs.Charge.SumsBelow.{sum_below-same, sum_below-add, sum_below-none, sum_below-ones, sum_below-one, sum_below-sum_by, sum_by-range, sum_by-same, some_of-sum_by}
 

@@ -8,7 +8,7 @@ use Rattle.block_bodies.specs.Bodies.{Chain, content_of}
 use Rattle.upload_book.specs.Charge.{Source, origins, sources_of, charge_of, charge_with}
 use Rattle.upload_book.specs.declared.head_row.Kind.{Kind}
 use Rattle.upload_book.specs.declared.head_row.Kind.TheVariants.{Plain, Partial, Final}
-use Rattle.upload_book.specs.declared.piece.Piece.{Piece}
+use Rattle.upload_book.specs.declared.pieces.Piece.{Piece}
 use Rattle.upload_book.specs.Stored.{StoredTenant, StoredUpload, parts_of, entry_of, part_of, charge_on, pieces_of}
 use Rattle.upload_book.specs.inside.Pieces.{own_chain, HasOwnPiece, ReadsWhole}
 use Rattle.upload_book.specs.TenantBook.{Entry}

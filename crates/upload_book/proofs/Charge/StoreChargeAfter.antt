@@ -4,7 +4,7 @@ use Rattle.std.specs.List.{Contains, filter, remove}
 use Rattle.std.proofs.lemmas.List.Elements.{All-filter}
 use Rattle.block_pool.specs.Blocks.{Blocks}
 use Rattle.upload_book.specs.Charge.{charge_with}
-use Rattle.upload_book.specs.declared.piece.Piece.{Piece}
+use Rattle.upload_book.specs.declared.pieces.Piece.{Piece}
 use Rattle.upload_book.specs.declared.stored_tenant.StoredTenant.{StoredTenant as KeptTenant}
 use Rattle.upload_book.specs.declared.block_store.BlockStore.TheInside.{Inside}
 use Rattle.upload_book.specs.Expiry.{has_expired}

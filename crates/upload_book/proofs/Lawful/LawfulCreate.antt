@@ -7,7 +7,7 @@ use Rattle.upload_book.specs.Account.{blocks_added}
 use Rattle.upload_book.specs.Append.{is_too_long}
 use Rattle.upload_book.specs.Checksum.{is_mismatch, is_of_other_algorithm}
 use Rattle.upload_book.specs.Create.{creation_refusal, created_upload, new_kind}
-use Rattle.upload_book.specs.declared.account.Account.{Account}
+use Rattle.upload_book.specs.declared.board_line.Account.{Account}
 use Rattle.upload_book.specs.declared.settings.Numbers.{Numbers}
 use Rattle.upload_book.specs.Expiry.{lifetime_end, renewed}
 use Rattle.upload_book.specs.FirstChunk.{FirstChunk}

@@ -12,11 +12,11 @@ use Rattle.upload_book.specs.Lawful.{IsLawful, IsTenantOf}
 use Rattle.upload_book.specs.PlainBook.{PlainBook, opening_book, tenant_book, with_tenant_book}
 use Rattle.upload_book.specs.declared.refusal.Refusal.TheVariants.{Field, Spent}
 use Rattle.upload_book.specs.Refusal.{first_that_holds}
-use Rattle.upload_book.specs.Restore.{CanBePutBack, book_after_piece, book_with, next_tests, part_with, piece_refusal, restore_refusal, sent_back, sent_in}
-use Rattle.upload_book.specs.Restored as piece
-use Rattle.upload_book.specs.Restored.{Restored}
+use Rattle.upload_book.specs.snapshot.Restore.{CanBePutBack, book_after_piece, book_with, next_tests, part_with, piece_refusal, restore_refusal, sent_back, sent_in}
+use Rattle.upload_book.specs.declared.restored.Restored.TheVariants as piece
+use Rattle.upload_book.specs.declared.restored.Restored.{Restored}
 use Rattle.upload_book.specs.Settings.{Settings}
-use Rattle.upload_book.specs.Snapshot.{AreAccepted, SnapshotsRestore, book_after_pieces, parts_kept, snapshot_of, upload_kept, uploads_kept}
+use Rattle.upload_book.specs.snapshot.Snapshot.{AreAccepted, SnapshotsRestore, book_after_pieces, parts_kept, snapshot_of, upload_kept, uploads_kept}
 use Rattle.upload_book.specs.TenantBook.{Entry, TenantBook, opening_part}
 use Rattle.upload_book.specs.Upload.{Upload}
 use Rattle.upload_book.proofs.Charge.SumsBelow.{sum_below-none}

@@ -17,9 +17,10 @@ use Rattle.upload_book.specs.declared.settings.Numbers.{Numbers}
 use Rattle.upload_book.specs.Lawful.{HasParts, IsGivenIn, IsLawful, IsOfKind, IsSegmentOf, IsTenantOf, IsUploadOf, IsWhole, joined_in}
 use Rattle.upload_book.specs.PlainBook.{PlainBook, tenant_book, with_tenant_book}
 use Rattle.upload_book.specs.Refusal.{first_that_holds}
-use Rattle.upload_book.specs.Restore.{CanBePutBack, HasSegments, IsRestorable, book_after_piece, book_with, bytes_back, bytes_from, ends_rightly, may_be_part, next_tests, part_with, piece_refusal, refusal_with, restore_refusal, restore_tests, sent_back, sent_in, sent_of, totals_tests, upload_back, with_back, with_next}
-use Rattle.upload_book.specs.Restored as piece
-use Rattle.upload_book.specs.Restored.{Restored, RestoredSegment, RestoredUpload}
+use Rattle.upload_book.specs.snapshot.Restore.{CanBePutBack, HasSegments, IsRestorable, book_after_piece, book_with, bytes_back, bytes_from, ends_rightly, may_be_part, next_tests, part_with, piece_refusal, refusal_with, restore_refusal, restore_tests, sent_back, sent_in, sent_of, totals_tests, upload_back, with_back, with_next}
+use Rattle.upload_book.specs.declared.restored.Restored.TheVariants as piece
+use Rattle.upload_book.specs.declared.restored.Restored.{Restored}
+use Rattle.upload_book.specs.snapshot.Restored.{RestoredSegment, RestoredUpload}
 use Rattle.upload_book.specs.Stored.{parts_of}
 use Rattle.upload_book.specs.TenantBook.{Entry, TenantBook, kept_in, opening_part}
 use Rattle.upload_book.specs.Upload.{IsComplete, Upload, content_of, is_complete, offset_of}
@@ -41,14 +42,14 @@ Segment = ℕ × List ℕ
 -- ---- the segments that are put back
 
 -- what the first of several segments is, and the others
-record IsSentFirst (standing : List Segment) (s : RestoredSegment) (segments : List RestoredSegment) (sent : List Segment) : Type 0 where
-  bytes : List ℕ
-  others : List Segment
-  found : bytes_back (bytes_from standing s.origin) s.bytes ≡ Some bytes
-  rest : sent_back (standing ++ (s.origin, bytes) ∷ []) segments ≡ Some others
-  is : sent ≡ (s.origin, bytes) ∷ others
+pub record IsSentFirst (standing : List (ℕ × List ℕ)) (s : RestoredSegment) (segments : List RestoredSegment) (sent : List (ℕ × List ℕ)) : Type 0 where
+  pub bytes : List ℕ
+  pub others : List (ℕ × List ℕ)
+  pub found : bytes_back (bytes_from standing s.origin) s.bytes ≡ Some bytes
+  pub rest : sent_back (standing ++ (s.origin, bytes) ∷ []) segments ≡ Some others
+  pub is : sent ≡ (s.origin, bytes) ∷ others
 
-sent-first : (standing : List Segment) (s : RestoredSegment) (segments : List RestoredSegment) (sent : List Segment) → sent_back standing (s ∷ segments) ≡ Some sent → IsSentFirst standing s segments sent
+pub sent-first : (standing : List (ℕ × List ℕ)) (s : RestoredSegment) (segments : List RestoredSegment) (sent : List (ℕ × List ℕ)) → sent_back standing (s ∷ segments) ≡ Some sent → IsSentFirst standing s segments sent
 sent-first standing s segments sent = by (bytes_back (bytes_from standing s.origin) s.bytes) refl where
   others_of : (bytes : List ℕ) → bytes_back (bytes_from standing s.origin) s.bytes ≡ Some bytes → (rest : Option (List Segment)) → sent_back (standing ++ (s.origin, bytes) ∷ []) segments ≡ rest
       → option_map (λ (others : List Segment). (s.origin, bytes) ∷ others) rest ≡ Some sent → IsSentFirst standing s segments sent
@@ -234,7 +235,7 @@ own-sent-one standing id segments sent form is =
     length-map sent (λ (s : Segment). s.1) ∙ sent-length standing segments sent is ∙ ap length form.1
 
 -- it ends as its kind asks
-never-some : (expires : Option ℕ) → not (is_some expires) ≡ true → expires ≡ None
+pub never-some : (expires : Option ℕ) → not (is_some expires) ≡ true → expires ≡ None
 never-some None never = refl
 never-some (Some end) never = absurd (cc)
 
@@ -247,7 +248,7 @@ plain-ends u ends = elim (complete_tells u) [
 ]
 
 -- the segments of a final one are those with its parts
-zip-sent : (sent : List Segment) → zip (map {A = Segment} {B = ℕ} (λ s. s.0) sent) (map {A = Segment} {B = List ℕ} (λ s. s.1) sent) ≡ sent
+pub zip-sent : (sent : List (ℕ × List ℕ)) → zip (map {A = ℕ × List ℕ} {B = ℕ} (λ s. s.0) sent) (map {A = ℕ × List ℕ} {B = List ℕ} (λ s. s.1) sent) ≡ sent
 zip-sent [] = refl
 zip-sent (s ∷ sent) = ap (λ (rest : List Segment). s ∷ rest) (zip-sent sent)
 

@@ -16,8 +16,8 @@ use Rattle.upload_book.specs.declared.settings.Numbers.{Numbers}
 use Rattle.upload_book.specs.inside.Back.{new_of, own_tests}
 use Rattle.upload_book.specs.Lawful.{IsTenantOf}
 use Rattle.upload_book.specs.Refusal.{first_that_holds}
-use Rattle.upload_book.specs.Restore.{HasSegments, ends_rightly, refusal_with, restore_refusal, restore_tests, sent_back, sent_in, upload_back, with_back}
-use Rattle.upload_book.specs.Restored.{RestoredSegment, RestoredUpload}
+use Rattle.upload_book.specs.snapshot.Restore.{HasSegments, ends_rightly, refusal_with, restore_refusal, restore_tests, sent_back, sent_in, upload_back, with_back}
+use Rattle.upload_book.specs.snapshot.Restored.{RestoredSegment, RestoredUpload}
 use Rattle.upload_book.specs.Stored.{parts_of}
 use Rattle.upload_book.specs.TenantBook.{Entry, TenantBook}
 use Rattle.upload_book.specs.Upload.{Upload, is_reached}

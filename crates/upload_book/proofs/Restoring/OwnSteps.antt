@@ -15,9 +15,9 @@ use Rattle.upload_book.specs.inside.Back.{new_of}
 use Rattle.upload_book.specs.Lawful.{IsConcatText, IsLawful, IsTenantOf}
 use Rattle.upload_book.specs.PlainBook.{tenant_book, with_tenant_book}
 use Rattle.upload_book.specs.BlockStore.{BlockStore, plain_in, part_at, stored_tenant_at}
-use Rattle.upload_book.specs.Restore.{IsRestorable, book_after_piece, book_with, part_with, piece_refusal, upload_back, with_back}
-use Rattle.upload_book.specs.Restored as piece
-use Rattle.upload_book.specs.Restored.{RestoredSegment, RestoredUpload}
+use Rattle.upload_book.specs.snapshot.Restore.{IsRestorable, book_after_piece, book_with, part_with, piece_refusal, upload_back, with_back}
+use Rattle.upload_book.specs.declared.restored.Restored.TheVariants as piece
+use Rattle.upload_book.specs.snapshot.Restored.{RestoredSegment, RestoredUpload}
 use Rattle.upload_book.specs.Stored.{entry_of}
 use Rattle.upload_book.specs.TenantBook.{TenantBook, with_new}
 use Rattle.upload_book.specs.Upload.{Upload}

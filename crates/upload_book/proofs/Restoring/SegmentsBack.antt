@@ -10,9 +10,9 @@ use Rattle.upload_book.specs.declared.head_row.Kind.{Kind}
 use Rattle.upload_book.specs.declared.head_row.Kind.TheVariants.{Plain, Partial, Final}
 use Rattle.upload_book.specs.declared.settings.Numbers.{Numbers}
 use Rattle.upload_book.specs.Lawful.{IsOfKind, IsSegmentOf, IsTenantOf, joined_in}
-use Rattle.upload_book.specs.Restore.{HasSegments, bytes_back, bytes_from, sent_back, sent_in, sent_of}
-use Rattle.upload_book.specs.Restored.{RestoredSegment}
-use Rattle.upload_book.specs.Snapshot.{segments_kept}
+use Rattle.upload_book.specs.snapshot.Restore.{HasSegments, bytes_back, bytes_from, sent_back, sent_in, sent_of}
+use Rattle.upload_book.specs.snapshot.Restored.{RestoredSegment}
+use Rattle.upload_book.specs.snapshot.Snapshot.{segments_kept}
 use Rattle.upload_book.specs.TenantBook.{Entry, TenantBook, kept_in}
 use Rattle.upload_book.specs.Upload.{Upload, content_of}
 use Rattle.upload_book.proofs.Charge.InUse.{Contains-first, Contains-later}

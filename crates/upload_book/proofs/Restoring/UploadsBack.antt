@@ -19,8 +19,8 @@ use Rattle.upload_book.specs.declared.refusal.Refusal.TheVariants.{Field, TooLon
 use Rattle.upload_book.specs.declared.settings.Numbers.{Numbers}
 use Rattle.upload_book.specs.Lawful.{HasParts, IsOfKind, IsSegmentOf, IsTenantOf, IsUploadOf}
 use Rattle.upload_book.specs.Refusal.{first_that_holds}
-use Rattle.upload_book.specs.Restore.{IsRestorable, ends_rightly, may_be_part, part_with, refusal_with, restore_refusal, restore_tests, sent_back, sent_in, sent_of, upload_back, with_back}
-use Rattle.upload_book.specs.Snapshot.{segments_kept, upload_kept}
+use Rattle.upload_book.specs.snapshot.Restore.{IsRestorable, ends_rightly, may_be_part, part_with, refusal_with, restore_refusal, restore_tests, sent_back, sent_in, sent_of, upload_back, with_back}
+use Rattle.upload_book.specs.snapshot.Snapshot.{segments_kept, upload_kept}
 use Rattle.upload_book.specs.Stored.{parts_of}
 use Rattle.upload_book.specs.TenantBook.{Entry, TenantBook, kept_in}
 use Rattle.upload_book.specs.Upload.{IsComplete, Upload, is_complete, offset_of}

@@ -11,14 +11,14 @@ use Rattle.block_pool.specs.Blocks.{Blocks}
 use Rattle.upload_book.specs.Concat.{are_complete, are_there, is_partial, joined_len, part_named, partial_seen, parts_found, rows_of}
 use Rattle.upload_book.specs.declared.head_row.HeadRow.{HeadRow}
 use Rattle.upload_book.specs.declared.parts_seen.PartsSeen.{PartsSeen}
-use Rattle.upload_book.specs.declared.piece.UnheldPiece.{UnheldPiece}
+use Rattle.upload_book.specs.declared.pieces.UnheldPiece.{UnheldPiece}
 use Rattle.upload_book.specs.declared.progress.Progress.{Progress}
 use Rattle.upload_book.specs.inside.Progress.{progress_in}
 use Rattle.upload_book.specs.BlockStore.{BlockStore, entry_at, part_at, pieces_named as pieces_at, rows_at, stored_tenant_at, upload_at}
 use Rattle.upload_book.specs.inside.Places.{IsPartIn}
 use Rattle.upload_book.specs.declared.head_row.Kind.{Kind}
 use Rattle.upload_book.specs.declared.head_row.Kind.TheVariants.{Plain, Partial, Final}
-use Rattle.upload_book.specs.declared.piece.Piece.{Piece}
+use Rattle.upload_book.specs.declared.pieces.Piece.{Piece}
 use Rattle.upload_book.specs.declared.refusal.Refusal.{Refusal}
 use Rattle.upload_book.specs.declared.refusal.Refusal.TheVariants.{Unknown, Gone}
 use Rattle.upload_book.specs.Expiry.{has_expired}

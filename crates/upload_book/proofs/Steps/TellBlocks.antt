@@ -15,7 +15,7 @@ use Rattle.upload_book.specs.Book.{StoredBook, IsBook, plain_of}
 use Rattle.upload_book.specs.Charge.{charge_with}
 use Rattle.upload_book.specs.declared.head_row.Kind.TheVariants.{Plain, Partial, Final}
 use Rattle.upload_book.specs.declared.settings.Numbers.{Numbers}
-use Rattle.upload_book.specs.declared.piece.Piece.{Piece}
+use Rattle.upload_book.specs.declared.pieces.Piece.{Piece}
 use Rattle.upload_book.specs.inside.Pieces.{HasOwnPiece, own_chain}
 use Rattle.upload_book.specs.Lawful.{IsOfKind, IsUploadOf}
 use Rattle.upload_book.specs.Stored.{StoredTenant, StoredUpload, HoldsPieces, upload_of}

@@ -14,7 +14,7 @@ use Rattle.upload_book.specs.declared.head_row.Kind.TheVariants.{Plain, Partial,
 use Rattle.upload_book.specs.Lawful.{IsOfKind}
 use Rattle.upload_book.specs.BlockStore.{BlockStore, no_upload, stored_tenant_at, part_at, entry_at}
 use Rattle.upload_book.specs.inside.Places.{IsAlone as IsAloneIn}
-use Rattle.upload_book.specs.declared.piece.Piece.{Piece}
+use Rattle.upload_book.specs.declared.pieces.Piece.{Piece}
 use Rattle.upload_book.specs.Stored.{StoredTenant, StoredUpload, entry_of, parts_of}
 use Rattle.upload_book.specs.inside.Pieces.{own_chain, HasOwnPiece}
 use Rattle.upload_book.specs.TenantBook.{Entry, TenantBook}

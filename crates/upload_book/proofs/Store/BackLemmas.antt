@@ -1,18 +1,18 @@
 -- One more piece at the end of a tenant's: a copy of one that it has, or one whose bytes are brought.
-use Rattle.std.proofs.Common.{◌≡◌, ◌≢◌, ◌⊎◌, ℕ, ◌+◌, ◌<◌, ◌≤◌, List, [], ◌∷◌, ◌++◌, length, refl, inl, inr, ap, sym, subst, ◌∙◌, arith}
+use Rattle.std.proofs.Common.{◌≡◌, ◌≢◌, ◌⊎◌, ℕ, ◌+◌, ◌<◌, ◌≤◌, List, [], ◌∷◌, ◌++◌, refl, inl, inr, ap, sym, subst, ◌∙◌, arith}
 use Rattle.std.specs.List.{Contains}
 use Rattle.std.proofs.lemmas.List.Elements.{Contains-push_cases}
 use Rattle.block_pool.specs.Blocks.{Blocks, count_at, places_of}
 use Rattle.block_pool.proofs.BlocksLaws.{places_of-append}
 use Rattle.block_bodies.specs.Bodies.{Chain, StandsOnce}
 use Rattle.block_bodies.specs.Changes.{Holds, Puts}
-use Rattle.upload_book.specs.declared.piece.Piece.{Piece}
+use Rattle.upload_book.specs.declared.pieces.Piece.{Piece}
 use Rattle.upload_book.specs.inside.Pieces.{no_chain}
-use Rattle.upload_book.specs.Stored.{Agree, ArePieces, HoldsPieces, IsPiece, Segment, StoredTenant, charge_on, pieces_of, placed_in, places_on}
+use Rattle.upload_book.specs.Stored.{Agree, ArePieces, IsPiece, Segment, StoredTenant, pieces_of, placed_in, places_on}
 use Rattle.upload_book.proofs.Charge.InUse.{places-within}
 use Rattle.upload_book.proofs.Store.Pieces.{ArePieces-copies, IsCopyIn, places-joined}
 use Rattle.upload_book.proofs.Store.PutLemmas.{own_piece}
-use Rattle.upload_book.proofs.Store.StoredTenants.{Changes, IsStoredOn, IsStoredOn-stored_tenant, IsStoredTenant, charge-changed, places_on-held}
+use Rattle.upload_book.proofs.Store.StoredTenants.{Changes, IsStoredOn, places_on-held}
 
 -- a part with one more piece, of which no id is given again
 pub record HasOneMore (old : StoredTenant) (x : Piece) (new : StoredTenant) : Type 0 where
@@ -97,21 +97,3 @@ Changes-brought p old origin bytes q y new on is given alone f once = record {
         | inl before' ↦ on.pieces.agree v w before before'
       ]
     ]
-
--- the tenant pays nothing for a piece that is held once more,
-pub held-charge : (p : Blocks) (stored_tenants : List StoredTenant) (t : ℕ) (old : StoredTenant) (x : Piece) (q : Blocks) (new : StoredTenant) → HoldsPieces p stored_tenants → IsStoredTenant stored_tenants t old → HasOneMore old x new → IsCopyIn (pieces_of old) x → Holds p x.chain.blocks q
-    → charge_on p.block_size new ≡ charge_on p.block_size old
-held-charge p stored_tenants t old x q new stored part is copy h =
-    stays _ _ _ _ (charge-changed p stored_tenants t old q new stored part (Changes-held p old x q new (IsStoredOn-stored_tenant p stored_tenants t old stored part) is copy h)) h.free
-  where
-    stays : (f g a b : ℕ) → g + b ≡ f + a → g ≡ f → b ≡ a
-    stays f g a b change free = omega arith
-
--- and for one whose bytes are brought its blocks
-pub brought-charge : (p : Blocks) (stored_tenants : List StoredTenant) (t : ℕ) (old : StoredTenant) (origin : ℕ) (bytes : List ℕ) (q : Blocks) (y : Chain) (new : StoredTenant) → HoldsPieces p stored_tenants → IsStoredTenant stored_tenants t old → HasOneMore old (own_piece origin y) new → origin < new.next
-    → ((z : Piece) → Contains (pieces_of old) z → z.origin ≢ origin) → Puts p no_chain bytes q y → StandsOnce y.blocks → charge_on p.block_size new ≡ charge_on p.block_size old + length y.blocks
-brought-charge p stored_tenants t old origin bytes q y new stored part is given alone f once =
-    more _ _ _ _ _ (charge-changed p stored_tenants t old q new stored part (Changes-brought p old origin bytes q y new (IsStoredOn-stored_tenant p stored_tenants t old stored part) is given alone f once)) f.free
-  where
-    more : (f g a b n : ℕ) → g + b ≡ f + a → g + n ≡ f + 0 → b ≡ a + n
-    more f g a b n change free = omega arith

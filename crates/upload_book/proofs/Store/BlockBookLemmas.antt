@@ -5,7 +5,7 @@ use Rattle.std.proofs.lemmas.List.Elements.{All-map, All-weaker}
 use Rattle.std.proofs.lemmas.List.Sums.{sum_by-cons}
 use Rattle.block_pool.specs.Blocks.{Blocks, places_of}
 use Rattle.block_bodies.specs.Bodies.{content_of}
-use Rattle.upload_book.specs.declared.piece.Piece.{Piece}
+use Rattle.upload_book.specs.declared.pieces.Piece.{Piece}
 use Rattle.upload_book.specs.BlockBook.{Extent, Extents, AreCounted, AreExtents, IsExtent, bytes_in, extent_of, upload_extents, tenant_extents, extents_on, holders_on}
 use Rattle.upload_book.specs.Stored.{StoredTenant, StoredUpload, entry_of, part_of, pieces_of, placed_in, places_on, some_of, ArePieces, HoldsPieces}
 use Rattle.upload_book.specs.TenantBook.{Entry, TenantBook, kept_in}

@@ -4,7 +4,7 @@ use Rattle.std.specs.List.{Contains}
 use Rattle.block_pool.specs.Blocks.{Blocks}
 use Rattle.block_bodies.specs.Bodies.{IsHeld, IsBodyOf}
 use Rattle.block_bodies.specs.Changes.{GivesBack}
-use Rattle.upload_book.specs.declared.piece.Piece.{Piece}
+use Rattle.upload_book.specs.declared.pieces.Piece.{Piece}
 use Rattle.upload_book.specs.Stored.{StoredTenant, StoredUpload, pieces_of, placed_in, charge_on, ArePieces, HoldsPieces}
 use Rattle.upload_book.specs.TenantBook.{Entry}
 use Rattle.upload_book.proofs.Charge.InUse.{places-within}

@@ -10,7 +10,7 @@ use Rattle.block_pool.specs.Blocks.{Blocks, count_at, places_of}
 use Rattle.block_bodies.specs.Bodies.{Chain, blocks_for}
 use Rattle.block_bodies.specs.Changes.{Holds, MayHold}
 use Rattle.block_bodies.proofs.BodiesLaws.{blocks_for-none}
-use Rattle.upload_book.specs.declared.piece.Piece.{Piece}
+use Rattle.upload_book.specs.declared.pieces.Piece.{Piece}
 use Rattle.upload_book.specs.Stored.{StoredTenant, StoredUpload, pieces_of, placed_in, places_on, charge_on, Agree, IsPiece, ArePieces, HoldsPieces, Segment, segment_of}
 use Rattle.upload_book.specs.TenantBook.{Entry, with_new}
 use Rattle.upload_book.proofs.Charge.InUse.{places-within, places-found, Contains-cases, Contains-none}
@@ -19,7 +19,7 @@ use Rattle.upload_book.proofs.Store.StoredTenants.{IsStoredTenant, IsStoredOn, I
 use Rattle.upload_book.proofs.Store.PutLemmas.{own_piece}
 
 -- one more upload's pieces stand after the others
-pieces-with_new : (old : StoredTenant) (kept : StoredUpload) → pieces_of (with_new old kept) ≡ pieces_of old ++ (kept.pieces ++ [])
+pub pieces-with_new : (old : StoredTenant) (kept : StoredUpload) → pieces_of (with_new old kept) ≡ pieces_of old ++ (kept.pieces ++ [])
 pieces-with_new old kept = flat_map-append kept_pieces old.uploads (record { id = old.next; kept = kept } ∷ [])
 
 -- a block stands on the stored part with one more upload as often as on the stored part and in the upload

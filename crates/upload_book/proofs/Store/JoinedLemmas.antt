@@ -6,7 +6,7 @@ use Rattle.block_pool.proofs.BlocksLaws.{places_of-append}
 use Rattle.block_bodies.specs.Bodies.{IsHeld}
 use Rattle.block_bodies.specs.Changes.{GivesBack, Holds, MayHold}
 use Rattle.block_bodies.proofs.BodiesLaws.{Holds-parts, GivesBack-parts}
-use Rattle.upload_book.specs.declared.piece.Piece.{Piece}
+use Rattle.upload_book.specs.declared.pieces.Piece.{Piece}
 use Rattle.upload_book.specs.Stored.{placed_in}
 use Rattle.upload_book.proofs.Store.Pieces.{places-joined}
 

@@ -5,7 +5,7 @@ use Rattle.std.proofs.lemmas.List.Sums.{sum_by-cons}
 use Rattle.block_pool.specs.Blocks.{Blocks}
 use Rattle.block_bodies.specs.Bodies.{Chain, content_of}
 use Rattle.upload_book.specs.declared.head_row.Kind.TheVariants.{Final}
-use Rattle.upload_book.specs.declared.piece.Piece.{Piece}
+use Rattle.upload_book.specs.declared.pieces.Piece.{Piece}
 use Rattle.upload_book.specs.Stored.{StoredTenant, StoredUpload, upload_of, parts_of, pieces_len, Segment, segment_of}
 use Rattle.upload_book.specs.inside.Pieces.{own_chain, bytes_of, HasOwnPiece, ReadsWhole}
 use Rattle.upload_book.specs.TenantBook.{Entry}

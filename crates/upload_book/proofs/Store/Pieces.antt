@@ -10,7 +10,7 @@ use Rattle.std.proofs.lemmas.List.Sums.{sum_by-set, sum_by-remove, sum_by-cons}
 use Rattle.block_pool.specs.Blocks.{places_of}
 use Rattle.block_pool.proofs.BlocksLaws.{places_of-append}
 use Rattle.block_bodies.specs.Bodies.{blocks_for}
-use Rattle.upload_book.specs.declared.piece.Piece.{Piece}
+use Rattle.upload_book.specs.declared.pieces.Piece.{Piece}
 use Rattle.upload_book.specs.Stored.{StoredTenant, StoredUpload, pieces_of, placed_in, places_on, Agree, IsPiece, ArePieces, Segment, segment_of}
 use Rattle.upload_book.specs.TenantBook.{Entry}
 use Rattle.upload_book.proofs.Charge.InUse.{Contains-first, Contains-later, Contains-cases, Contains-none}

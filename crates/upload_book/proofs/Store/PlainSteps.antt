@@ -3,7 +3,7 @@ use Rattle.std.proofs.Common.{◌≡◌, ℕ, List, [], ◌∷◌, ◌++◌, map
 use Rattle.block_pool.specs.Blocks.{Blocks}
 use Rattle.block_bodies.specs.Bodies.{Chain, content_of}
 use Rattle.block_bodies.specs.Changes.{Puts}
-use Rattle.upload_book.specs.declared.piece.Piece.{Piece}
+use Rattle.upload_book.specs.declared.pieces.Piece.{Piece}
 use Rattle.upload_book.specs.Stored.{StoredUpload, upload_of, parts_of}
 use Rattle.upload_book.specs.Upload.{Upload, content_of as upload_content_of}
 use Rattle.upload_book.proofs.Store.PlainStoredTenants.{content-own}

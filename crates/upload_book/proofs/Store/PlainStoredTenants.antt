@@ -9,7 +9,7 @@ use Rattle.block_pool.specs.Blocks.{Blocks, bytes_at, bytes_of, places_of}
 use Rattle.block_pool.proofs.BlocksLaws.{bytes_of-same}
 use Rattle.block_bodies.specs.Bodies.{Chain, content_of}
 use Rattle.block_bodies.specs.Changes.{Puts, Holds, GivesBack}
-use Rattle.upload_book.specs.declared.piece.Piece.{Piece}
+use Rattle.upload_book.specs.declared.pieces.Piece.{Piece}
 use Rattle.upload_book.specs.Stored.{StoredTenant, StoredUpload, upload_of, entry_of, part_of, placed_in, places_on, parts_of, HoldsPieces, Segment, segment_of}
 use Rattle.upload_book.specs.TenantBook.{Entry, TenantBook, with_new}
 use Rattle.upload_book.specs.Upload.{Upload, content_of as upload_content_of}

@@ -6,7 +6,7 @@ use Rattle.block_pool.specs.Blocks.{Blocks, count_at, places_of}
 use Rattle.block_pool.proofs.BlocksLaws.{places_of-append, places_of-at}
 use Rattle.block_bodies.specs.Bodies.{Chain, IsBodyOf, IsLastOwn}
 use Rattle.block_bodies.specs.Changes.{Puts}
-use Rattle.upload_book.specs.declared.piece.Piece.{Piece}
+use Rattle.upload_book.specs.declared.pieces.Piece.{Piece}
 use Rattle.upload_book.specs.Stored.{StoredTenant, StoredUpload, pieces_of, placed_in, places_on, charge_on, Agree, IsPiece, HoldsPieces}
 use Rattle.upload_book.specs.TenantBook.{Entry}
 use Rattle.upload_book.proofs.Charge.InUse.{places-within, places-found, Contains-first, Contains-cases, Contains-none}

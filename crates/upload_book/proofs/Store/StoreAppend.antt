@@ -16,7 +16,7 @@ use Rattle.upload_book.specs.inside.Kept.{stored_tenant_of, store_of, HasUploadR
 use Rattle.upload_book.specs.inside.Places as places
 use Rattle.upload_book.specs.BlockStore.{BlockStore, plain_in, part_at, stored_tenant_at}
 use Rattle.upload_book.specs.inside.Places.{with_chain, with_head, with_upload, with_bytes}
-use Rattle.upload_book.specs.declared.piece.Piece.{Piece}
+use Rattle.upload_book.specs.declared.pieces.Piece.{Piece}
 use Rattle.upload_book.specs.Stored.{StoredTenant, StoredUpload, part_of, upload_of, pieces_of, charge_on, HoldsPieces}
 use Rattle.upload_book.specs.inside.Pieces.{own_chain, ReadsWhole, HasOwnPiece}
 use Rattle.upload_book.specs.TenantBook.{Entry}

@@ -11,8 +11,8 @@ use Rattle.block_bodies.specs.Changes.{Holds, MayHold}
 use Rattle.upload_book.specs.Charge.{charge_with}
 use Rattle.upload_book.specs.Concat.{final_upload, joined_len, parts_found, rows_of}
 use Rattle.upload_book.specs.declared.head_row.Kind.TheVariants.{Final}
-use Rattle.upload_book.specs.declared.piece.Piece.{Piece}
-use Rattle.upload_book.specs.declared.piece.UnheldPiece.{UnheldPiece}
+use Rattle.upload_book.specs.declared.pieces.Piece.{Piece}
+use Rattle.upload_book.specs.declared.pieces.UnheldPiece.{UnheldPiece}
 use Rattle.upload_book.specs.declared.stored_tenant.StoredTenant.{StoredTenant as KeptTenant}
 use Rattle.upload_book.specs.declared.block_store.BlockStore.TheInside.{Inside}
 use Rattle.upload_book.specs.inside.Kept.{stored_tenant_of, store_of, HasUploadRoom, IsKept}

@@ -9,7 +9,7 @@ use Rattle.upload_book.specs.declared.stored_tenant.StoredTenant.{StoredTenant a
 use Rattle.upload_book.specs.declared.block_store.BlockStore.TheInside.{Inside}
 use Rattle.upload_book.specs.inside.Kept.{stored_tenant_of, store_of, HasUploadRoom, IsKept}
 use Rattle.upload_book.specs.BlockStore.{plain_in, part_at}
-use Rattle.upload_book.specs.declared.piece.Piece.{Piece}
+use Rattle.upload_book.specs.declared.pieces.Piece.{Piece}
 use Rattle.upload_book.specs.Stored.{StoredTenant, StoredUpload, part_of, pieces_of, upload_of, charge_on, HoldsPieces}
 use Rattle.upload_book.specs.inside.Pieces.{own_chain, ReadsWhole, HasOwnPiece}
 use Rattle.upload_book.specs.TenantBook.{Entry, with_new}

@@ -3,13 +3,13 @@ use Rattle.std.specs.Prelude.{ℕ, Bool, not, ◌||◌, List, [], ◌∷◌, len
 use Rattle.upload_book.specs.Account.{account_with, blocks_added}
 use Rattle.upload_book.specs.Append.{is_too_long}
 use Rattle.upload_book.specs.Concat.{is_partial}
-use Rattle.upload_book.specs.declared.account.Account.{Account}
+use Rattle.upload_book.specs.declared.board_line.Account.{Account}
 use Rattle.upload_book.specs.declared.refusal.Refusal.{Refusal}
 use Rattle.upload_book.specs.declared.refusal.Refusal.TheVariants.{Field, TooLong, Uploads, Spent, Quota}
 use Rattle.upload_book.specs.declared.settings.Numbers.{Numbers}
 use Rattle.upload_book.specs.NewUpload.{NewUpload}
-use Rattle.upload_book.specs.Restore.{ends_rightly}
-use Rattle.upload_book.specs.Restored.{RestoredUpload}
+use Rattle.upload_book.specs.snapshot.Restore.{ends_rightly}
+use Rattle.upload_book.specs.snapshot.Restored.{RestoredUpload}
 use Rattle.upload_book.specs.TenantBook.{TenantBook}
 use Rattle.upload_book.specs.Upload.{is_reached}
 

@@ -2,7 +2,7 @@
 use Rattle.std.specs.Prelude.{◌≡◌, ℕ, ◌+◌, ◌<◌, ◌^◌, Bool, true, not, List, ◌++◌, Contains, drop, flat_map, map, take, Option, Some, None}
 use Rattle.std.specs.List.{filter}
 use Rattle.upload_book.specs.Charge.{Source, charge_of}
-use Rattle.upload_book.specs.declared.piece.Piece.{Piece}
+use Rattle.upload_book.specs.declared.pieces.Piece.{Piece}
 use Rattle.upload_book.specs.declared.stored_tenant.StoredTenant.{StoredTenant as KeptTenant}
 use Rattle.upload_book.specs.Expiry.{has_expired}
 use Rattle.upload_book.specs.inside.Kept.{stored_tenant_of}

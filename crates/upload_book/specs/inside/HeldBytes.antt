@@ -3,9 +3,9 @@ use Rattle.std.specs.Prelude.{◌≡◌, ℕ, List, [], ◌∷◌, ⊤}
 use Rattle.upload_book.specs.Create.{new_kind}
 use Rattle.upload_book.specs.declared.head_row.Kind.{Kind}
 use Rattle.upload_book.specs.declared.head_row.Kind.TheVariants.{Final}
-use Rattle.upload_book.specs.declared.held_bytes.HeldBytes.{HeldBytes}
-use Rattle.upload_book.specs.declared.held_bytes.HeldBytes.TheVariants.{Own, Joined}
-use Rattle.upload_book.specs.declared.piece.Piece.{Piece}
+use Rattle.upload_book.specs.declared.pieces.HeldBytes.{HeldBytes}
+use Rattle.upload_book.specs.declared.pieces.HeldBytes.TheVariants.{Own, Joined}
+use Rattle.upload_book.specs.declared.pieces.Piece.{Piece}
 use Rattle.upload_book.specs.Stored.{pieces_len}
 
 -- the kind of an upload whose bytes are held so

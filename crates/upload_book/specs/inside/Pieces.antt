@@ -3,8 +3,8 @@ use Rattle.std.specs.Prelude.{◌≡◌, ◌≢◌, ℕ, List, [], ◌∷◌, Co
 use Rattle.block_pool.specs.Blocks.{Blocks}
 use Rattle.block_bodies.specs.Bodies.{Chain, IsBodyOf, content_of}
 use Rattle.upload_book.specs.declared.head_row.Kind.TheVariants.{Final}
-use Rattle.upload_book.specs.declared.piece.Piece.{Piece}
-use Rattle.upload_book.specs.declared.piece.UnheldPiece.{UnheldPiece}
+use Rattle.upload_book.specs.declared.pieces.Piece.{Piece}
+use Rattle.upload_book.specs.declared.pieces.UnheldPiece.{UnheldPiece}
 use Rattle.upload_book.specs.Create.{new_kind}
 use Rattle.upload_book.specs.NewFinal.{NewFinal}
 use Rattle.upload_book.specs.NewUpload.{NewUpload}

@@ -1,13 +1,19 @@
 -- What stands at a place of a tenant's part in a store, and the part with another upload there.
-use Rattle.std.specs.Prelude.{◌≡◌, ◌≢◌, ℕ, ◌<◌, ◌≤◌, List, [], ◌∷◌, ◌++◌, map, length, set, Option, Some, All, Ok}
-use Rattle.std.specs.List.{remove}
+use Rattle.std.specs.Prelude.{◌≡◌, ◌≢◌, ℕ, ◌+◌, ◌<◌, ◌≤◌, ◌^◌, List, [], ◌∷◌, ◌++◌, map, length, set, vec_capacity, Option, None, Some, All, Ok}
+use Rattle.std.specs.List.{remove, sum_by}
 use Rattle.std.specs.List.Sorted.{IsStrictlyIncreasing}
 use Rattle.block_bodies.specs.Bodies.{Chain}
+use Rattle.block_pool.specs.Blocks.{size_of}
+use Rattle.upload_book.specs.Charge.{charge_with}
+use Rattle.upload_book.specs.declared.ready.ReadyBack.{ReadyBack}
+use Rattle.upload_book.specs.inside.FinalBack.{AreRoomsFor, brought_in, sent_len}
+use Rattle.upload_book.specs.snapshot.Restore.{IsRestorable, sent_back, sent_in}
+use Rattle.upload_book.specs.snapshot.Restored.{RestoredSegment}
 use Rattle.upload_book.specs.declared.head_row.Kind.TheVariants.{Final}
-use Rattle.upload_book.specs.Stored.{StoredUpload, part_kept}
+use Rattle.upload_book.specs.Stored.{StoredUpload, part_kept, pieces_of}
 use Rattle.upload_book.specs.TenantBook.{TenantPart, Entry, visible_upload}
 use Rattle.upload_book.specs.Upload.{Upload, content_of}
-use Rattle.upload_book.specs.BlockStore.{BlockStore, stored_tenant_at, part_at, entry_at, upload_at}
+use Rattle.upload_book.specs.BlockStore.{BlockStore, plain_in, stored_tenant_at, part_at, entry_at, upload_at}
 
 -- the upload with the id stands at this place of its tenant's part
 pub record IsPlaceOf (s : BlockStore) (tenant id place : ℕ) : Type 0 where
@@ -60,3 +66,23 @@ with_upload part place e = record part { uploads = set part.uploads place e }
 -- a part without the entry at a place
 abbrev pub without_upload : {K : Type 0} → TenantPart K → ℕ → TenantPart K
 without_upload part place = record part { uploads = remove part.uploads place }
+
+-- A store may keep a final upload that is put back as a tenant's next one: its segments are had, there is room for it and for
+-- the blocks of what it brings, and it is of its form.
+pub record MayKeep (s : BlockStore) (t : ℕ) (r : ReadyBack) : Type 0 where
+  pub tenant : t < length s.stored_tenants
+  pub room : length (stored_tenant_at s t).uploads < s.room
+  pub next : (stored_tenant_at s t).next + 1 < 2 ^ 64
+  pub few : AreFew s t
+  pub form : IsRestorable r.upload
+  pub final : r.upload.kind ≡ Final
+  pub given : All (λ (x : RestoredSegment). x.origin < (stored_tenant_at s t).next) r.upload.segments
+  pub segments : length r.upload.segments ≤ 32
+  pub sent : List (ℕ × List ℕ)
+  pub had : sent_back (sent_in (part_at s t).uploads) r.upload.segments ≡ Some sent
+  pub whole : r.upload.declared ≡ Some (sent_len sent)
+  pub expires : r.upload.expires ≡ None
+  pub fits : sum_by (charge_with s.pool.block_size) (plain_in s) + brought_in s.pool.block_size r.upload.segments ≤ size_of s.pool
+  pub rooms : AreRoomsFor s.pool.block_size (pieces_of (stored_tenant_at s t)) r.upload.segments r.bodies.items
+  pub empty : r.pieces.items ≡ []
+  pub listed : length r.upload.segments ≤ vec_capacity r.pieces

@@ -10,23 +10,23 @@ pub returns-in_err-fill-clause-any_crash : goal.returns-in_err-fill-clause-any_c
 returns-in_err-fill-clause-any_crash g c = λ clean left may.
     let file = c.deref.result.now in
     let file_is = c.deref.ensures.value ∙ c.in_ok-frames.ensures.bytes (subst (λ (b : Bool). IsTrue b) c.fill.ensures.clean clean) in
-    let size : c.len.result - c.in_ok-end.end ≡ length file - c.in_ok-end.end = search rules in
-    inr (cleared_crash c.args.key file c.in_ok-end.end c.in_ok-end.ensures.found (g.D.Disk.seen c.args.disk.now) _ _ _ file_is size c.in_ok-frames.ensures.synced c.fill.ensures.crash left may)
+    let size : c.len.result - c.in_ok-found.found.end ≡ length file - c.in_ok-found.found.end = search rules in
+    inr (cleared_crash c.args.key file c.in_ok-found.found.end c.in_ok-found.ensures.end (g.D.Disk.seen c.args.disk.now) _ _ _ file_is size c.in_ok-frames.ensures.synced c.fill.ensures.crash left may)
 
 pub returns-clause-any_crash : goal.returns-clause-any_crash
 returns-clause-any_crash g c = λ clean left may.
     let file = c.deref.result.now in
     let file_is = c.deref.ensures.value ∙ c.in_ok-frames.ensures.bytes (subst (λ (b : Bool). IsTrue b) c.fill.ensures.clean clean) in
-    let size : c.len.result - c.in_ok-end.end ≡ length file - c.in_ok-end.end = search rules in
-    inr (cleared_crash c.args.key file c.in_ok-end.end c.in_ok-end.ensures.found (g.D.Disk.seen c.args.disk.now) _ _ _ file_is size c.in_ok-frames.ensures.synced c.fill.ensures.crash left may)
+    let size : c.len.result - c.in_ok-found.found.end ≡ length file - c.in_ok-found.found.end = search rules in
+    inr (cleared_crash c.args.key file c.in_ok-found.found.end c.in_ok-found.ensures.end (g.D.Disk.seen c.args.disk.now) _ _ _ file_is size c.in_ok-frames.ensures.synced c.fill.ensures.crash left may)
 
 pub returns-clause-recovered : goal.returns-clause-recovered
 returns-clause-recovered g c = λ clean.
     let key = c.args.key in
     let file = c.deref.result.now in
-    let end = c.in_ok-end.end in
+    let end = c.in_ok-found.found.end in
     let n = c.len.result - end in
-    let ends = c.in_ok-end.ensures.found in
+    let ends = c.in_ok-found.ensures.end in
     let file_is = c.deref.ensures.value ∙ c.in_ok-frames.ensures.bytes (subst (λ (b : Bool). IsTrue b) c.fill.ensures.clean clean) in
     let size : n ≡ length file - end = search rules in
     let seen_is = c.read_synced.ensures.seen ∙ sym file_is in

@@ -1,9 +1,9 @@
-use Rattle.std.proofs.Common.{◌≡◌, ℕ, List, [], Vec, Global, map, sym, ap, subst, ◌∙◌}
+use Rattle.std.proofs.Common.{◌≡◌, ℕ, ◌-◌, List, [], Vec, Global, length, map, sym, ap, subst, ◌∙◌, rules}
 use Rattle.journal_file.specs.Journal.{key_of, IsJournal}
 use Rattle.head_board.specs.Events.{HaveHappened}
 use Rattle.journal_keeper.specs.Keeper.{event_records}
 use Rattle.journal_keeper.specs.Waiting.{frames_each}
-use Rattle.journal_keeper.proofs.KeeperLemmas.{frames-queued, left-all, left-more, records-append}
+use Rattle.journal_keeper.proofs.KeeperLemmas.{frames-queued, left-all, left-more, records-append, taken-count}
 use Rattle.journal_keeper.proofs.taking.keep_waiting.Goals as goal
 
 pub returns-in_err-taken-clause-crash : goal.returns-in_err-taken-clause-crash
@@ -35,3 +35,10 @@ returns-clause-crash g c = λ is left may.
     let are : map {A = Vec ℕ Global} {B = List ℕ} (λ frame. frame.items) c.deref.result.now ≡ frames_each key (event_records taken.more) =
     ap (map {A = Vec ℕ Global} {B = List ℕ} (λ frame. frame.items)) c.deref.ensures.value ∙ frames-queued g.C.Charges.journal key _ taken.more c.requires.key taken.are in
     left-more key g.C.Charges.settings front taken.more left (subst (HaveHappened g.C.Charges.settings) taken.reaches taken.happened) (c.keep_frames.ensures.crash (event_records front) (event_records taken.more) is are left may)
+
+pub returns-clause-each : goal.returns-clause-each
+returns-clause-each g c =
+    let taken = c.in_ok-taken.ensures.taken in
+    let each : length c.in_ok-taken.taken.frames.items ≡ length c.in_ok-taken.taken.reached.events - length c.args.front.now.events =
+    taken-count {V = Vec ℕ Global} (λ frame. frame.items) g.C.Charges.journal c.args.front.now.events c.in_ok-taken.taken.reached.events taken.more c.in_ok-taken.taken.frames.items taken.reaches taken.are in
+    search rules

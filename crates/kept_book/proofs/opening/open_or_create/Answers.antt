@@ -4,6 +4,7 @@ use Rattle.journal_frames.specs.Frames.{recovered}
 use Rattle.kept_book.specs.declared.kept.KeptBook.{KeptBook}
 use Rattle.kept_book.specs.Kept.{disk_in, IsKept, IsOpened}
 use Rattle.kept_book.proofs.KeptLemmas.{kept-of-none}
+use Rattle.kept_book.proofs.OpeningLemmas.{place-told}
 use Rattle.kept_book.proofs.opening.open_or_create.Goals as goal
 
 -- what follows from two things of a result
@@ -24,3 +25,7 @@ returns-then-len-eq0-clause-opened g c =
 
 pub returns-in-Ok-open-clause-opened : goal.returns-in-Ok-open-clause-opened
 returns-in-Ok-open-clause-opened g c = λ events happened all clean. c.in-Ok-open.ensures.opened events happened (ap (recovered c.args.key) c.in-Ok.ensures.seen ∙ all) clean
+
+pub returns-in-Err-open-clause-damaged : goal.returns-in-Err-open-clause-damaged
+returns-in-Err-open-clause-damaged g c =
+    place-told g.D.Disk.seen g.D.Disk.is_clean c.args.key c.args.disk c.len.new.self c.in-Err-open.not.disk c.in-Err-open.not.why c.in-Err-open.ensures.damaged c.in-Ok.ensures.seen

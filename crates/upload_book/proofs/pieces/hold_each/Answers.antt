@@ -1,8 +1,8 @@
 use Rattle.std.proofs.Common.{◌≡◌, List, [], ◌∷◌, ◌++◌, map, length, sym, ap, ◌∙◌, subst, arith, append_assoc}
 use Rattle.std.proofs.lemmas.List.{map-append}
 use Rattle.block_bodies.specs.Changes.{Holds, MayHold}
-use Rattle.upload_book.specs.declared.piece.Piece.{Piece}
-use Rattle.upload_book.specs.declared.piece.UnheldPiece.{UnheldPiece}
+use Rattle.upload_book.specs.declared.pieces.Piece.{Piece}
+use Rattle.upload_book.specs.declared.pieces.UnheldPiece.{UnheldPiece}
 use Rattle.upload_book.specs.Stored.{placed_in}
 use Rattle.upload_book.specs.inside.Pieces.{as_piece}
 use Rattle.upload_book.proofs.Store.JoinedLemmas.{MayHold-next, Holds-next}

@@ -1,7 +1,7 @@
 use Rattle.std.proofs.Common.{◌≡◌, List, [], ◌∷◌, ◌++◌, sym, ap, ◌∙◌, subst, append_assoc}
 use Rattle.block_bodies.specs.Bodies.{IsHeld}
 use Rattle.block_bodies.proofs.EachBlock.{GivesBack-none}
-use Rattle.upload_book.specs.declared.piece.Piece.{Piece}
+use Rattle.upload_book.specs.declared.pieces.Piece.{Piece}
 use Rattle.upload_book.specs.Stored.{placed_in}
 use Rattle.upload_book.proofs.Store.JoinedLemmas.{IsHeld-next, GivesBack-next}
 use Rattle.upload_book.proofs.pieces.release_each.Goals as goal

@@ -1,6 +1,6 @@
 use Rattle.std.proofs.Common.{ℕ, ap₂, sym}
 use Rattle.upload_book.specs.contracts.book.Book.{the_view}
-use Rattle.upload_book.specs.declared.account.Account.{Account}
+use Rattle.upload_book.specs.declared.board_line.Account.{Account}
 use Rattle.upload_book.proofs.Steps.BookSteps.{part-quota}
 use Rattle.upload_book.proofs.book.Book.account.Goals as goal
 

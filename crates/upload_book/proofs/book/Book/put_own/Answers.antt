@@ -11,7 +11,7 @@ use Rattle.upload_book.specs.inside.Back.{new_of}
 use Rattle.upload_book.specs.NewUpload.{NewUpload}
 use Rattle.upload_book.specs.PlainBook.{tenant_book}
 use Rattle.upload_book.specs.Ready.{IsReadyForOwn}
-use Rattle.upload_book.specs.Restored.{RestoredUpload}
+use Rattle.upload_book.specs.snapshot.Restored.{RestoredUpload}
 use Rattle.upload_book.specs.BlockStore.{BlockStore, part_at, plain_in, stored_tenant_at}
 use Rattle.upload_book.specs.TenantBook.{TenantBook, with_new}
 use Rattle.upload_book.proofs.Restoring.OwnBack.{own-form}

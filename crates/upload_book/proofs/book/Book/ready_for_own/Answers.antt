@@ -4,7 +4,7 @@ use Rattle.upload_book.specs.Append.{is_final}
 use Rattle.upload_book.specs.BlockStore.{part_at}
 use Rattle.upload_book.specs.Book.{IsBook, StoredBook, plain_of}
 use Rattle.upload_book.specs.contracts.book.Book.{the_view}
-use Rattle.upload_book.specs.declared.account.Account.{Account}
+use Rattle.upload_book.specs.declared.board_line.Account.{Account}
 use Rattle.upload_book.specs.declared.ready.ReadyOwn.{ReadyOwn}
 use Rattle.upload_book.specs.declared.refusal.Refusal.{Refusal}
 use Rattle.upload_book.specs.declared.refusal.Refusal.TheVariants.{Memory}
@@ -14,9 +14,9 @@ use Rattle.upload_book.specs.inside.Pieces.{no_chain}
 use Rattle.upload_book.specs.PlainBook.{tenant_book}
 use Rattle.upload_book.specs.Ready.{IsReadyForOwn}
 use Rattle.upload_book.specs.Refusal.{IsAnswer, first_that_holds}
-use Rattle.upload_book.specs.Restore.{IsRestorable, piece_refusal}
-use Rattle.upload_book.specs.Restored as piece
-use Rattle.upload_book.specs.Restored.{RestoredUpload}
+use Rattle.upload_book.specs.snapshot.Restore.{IsRestorable, piece_refusal}
+use Rattle.upload_book.specs.declared.restored.Restored.TheVariants as piece
+use Rattle.upload_book.specs.snapshot.Restored.{RestoredUpload}
 use Rattle.upload_book.proofs.Restoring.OwnBack.{own-form, refusal-own}
 use Rattle.upload_book.proofs.Restoring.OwnSteps.{IsOwnBack, own-room_blocks}
 use Rattle.upload_book.proofs.Steps.BookLemmas.{IsTenantOf-book}

@@ -1,6 +1,6 @@
 use Rattle.std.proofs.Common.{◌≡◌, List, [], ◌∷◌, sym, ap, ◌∙◌, subst}
 use Rattle.std.specs.List.{Contains}
-use Rattle.upload_book.specs.declared.piece.Piece.{Piece}
+use Rattle.upload_book.specs.declared.pieces.Piece.{Piece}
 use Rattle.upload_book.specs.inside.HeldBytes.{pieces_in}
 use Rattle.upload_book.specs.Stored.{StoredUpload}
 use Rattle.upload_book.specs.TenantBook.{Entry}

@@ -1,0 +1,67 @@
+//! The numbers of a keeper: what it has synced, and how large its journal is.
+ghost use Rattle.std.specs.Prelude.{◌≡◌, ◌≤◌};
+ghost use Rattle.journal_keeper.specs.Numbers.{no_syncs, synced_with};
+
+use std::time;
+use std::time::Instant;
+
+/// What a keeper has synced since it was made. Each number stays at 2^64 - 1 once it is there.
+#[derive(Clone, Copy)]
+pub struct SyncCounts {
+    /// How often records were synced. Syncs that failed are left out, and so are those of more room.
+    pub syncs: u64,
+    /// How many records became kept by these syncs.
+    pub records: u64,
+    /// The microseconds that appending and syncing these records took.
+    pub micros: u64,
+}
+
+impl SyncCounts {
+    /// Nothing was synced yet.
+    pub(crate) fn none() -> SyncCounts
+        ensures { result ≡ no_syncs }
+    {
+        SyncCounts {
+            syncs: 0,
+            records: 0,
+            micros: 0,
+        }
+    }
+
+    /// One sync more, of so many records, that took so many microseconds.
+    pub(crate) fn with(self, records: u64, micros: u64) -> SyncCounts
+        ensures value { result ≡ synced_with records micros self }
+        ensures longer { self.micros ≤ result.micros }
+    {
+        SyncCounts {
+            syncs: self.syncs.saturating_add(1),
+            records: self.records.saturating_add(records),
+            micros: self.micros.saturating_add(micros),
+        }
+    }
+}
+
+/// What a keeper has synced, and how large its journal is.
+#[derive(Clone, Copy)]
+pub struct KeeperNumbers {
+    /// What was synced since the keeper was made.
+    pub synced: SyncCounts,
+    /// The bytes of the journal's file that records fill.
+    pub bytes: u64,
+    /// The bytes of the journal's file, with the zeros ahead.
+    pub file_bytes: u64,
+}
+
+/// The microseconds since then; 0 where the machine's clock can't be read.
+pub(crate) fn micros_since<H: time::Clock>(rt: &H, start: &Option<Instant>) -> u64 {
+    let Some(start) = start else {
+        return 0;
+    };
+    match start.elapsed(rt) {
+        Ok(elapsed) => elapsed
+            .as_secs()
+            .saturating_mul(1_000_000)
+            .saturating_add(u64::from(elapsed.subsec_micros())),
+        Err(_) => 0,
+    }
+}
