@@ -83,7 +83,8 @@ fn readers_see_what_is_shown(rt: HostRuntime) -> Result<(), Fail> {
     assert!(rt; one.may_expire(moment(&rt, 4600)));
     let totals = one.totals().expect(&rt, "entered");
     assert!(rt; totals.uploads[0] == 1);
-    assert!(rt; totals.accounts == book.accounts());
+    assert!(rt; totals.accounts.charge[0] == 2);
+    assert!(rt; totals.accounts.charged == 2);
     drop(board);
     assert!(rt; one.totals().is_none());
     assert!(rt;
