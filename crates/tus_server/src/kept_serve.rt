@@ -52,7 +52,10 @@ pub fn serve_kept<
         + time::Clock
         + Eprint
         + Files<File = File>
-        + Sync,
+        + Sync
+        + Send
+        + Copy
+        + 'static,
     W: Sink,
 >(
     rt: &H,
@@ -118,7 +121,10 @@ fn serve_journalled<
         + time::Clock
         + Eprint
         + Files<File = File>
-        + Sync,
+        + Sync
+        + Send
+        + Copy
+        + 'static,
     W: Sink,
 >(
     rt: &H,

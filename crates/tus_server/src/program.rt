@@ -51,7 +51,10 @@ pub fn run<
         + time::Clock
         + Eprint
         + Files<File = File>
-        + Sync,
+        + Sync
+        + Send
+        + Copy
+        + 'static,
     J: Journals<Disk = D>,
     R: Source,
     W: Sink,
@@ -97,7 +100,10 @@ fn perform<
         + time::Clock
         + Eprint
         + Files<File = File>
-        + Sync,
+        + Sync
+        + Send
+        + Copy
+        + 'static,
     J: Journals<Disk = D>,
     R: Source,
     W: Sink,

@@ -58,7 +58,10 @@ pub fn serve<
         + time::Clock
         + Eprint
         + Files<File = File>
-        + Sync,
+        + Sync
+        + Send
+        + Copy
+        + 'static,
     J: Journals<Disk = D>,
     W: Sink,
 >(
@@ -112,7 +115,10 @@ fn serve_with<
         + time::Clock
         + Eprint
         + Files<File = File>
-        + Sync,
+        + Sync
+        + Send
+        + Copy
+        + 'static,
     W: Sink,
 >(
     rt: &H,
@@ -177,7 +183,10 @@ pub(crate) fn serve_desks<
         + time::Clock
         + Eprint
         + Files<File = File>
-        + Sync,
+        + Sync
+        + Send
+        + Copy
+        + 'static,
     B: Wait + Drop + Send,
     K: Keeping<C, R, M, B> + Sync,
     W: Sink,
@@ -253,8 +262,18 @@ where
 
 /// Has the workers watched, where the options ask for a log or a port for numbers. The error is that the file of the log can't
 /// be opened, or that the port can't be had.
-fn watched<N: Net<Stream = TcpStream, Listener = TcpListener> + Files<File = File>>(
-    rt: &N,
+fn watched<
+    H: Threads
+        + Wait
+        + Net<Stream = TcpStream, Listener = TcpListener>
+        + time::Clock
+        + Eprint
+        + Files<File = File>
+        + Send
+        + Copy
+        + 'static,
+>(
+    rt: &H,
     alloc: Global,
     mut commons: Commons,
     options: &ServeOptions,
@@ -266,7 +285,7 @@ fn watched<N: Net<Stream = TcpStream, Listener = TcpListener> + Files<File = Fil
         let log = log_at(rt, options.log)?;
         let metrics = metrics_at(rt, place, options.metrics)?;
         let pages = File::open(rt, "/proc/self/statm").ok();
-        commons.watch_by(Watching::new(alloc, log, metrics, pages));
+        commons.watch_by(Watching::new(rt, alloc, log, metrics, pages));
     }
     Ok(commons)
 }

@@ -4,9 +4,10 @@ use crate::bodies::Bodies;
 use crate::watching::Watching;
 use crate::work_options::WorkOptions;
 use std::alloc::{AllocError, Global};
-use std::io;
 use std::net::Net;
+use std::sync::Wait;
 use std::sync::atomic::{AtomicBool, AtomicU64, Ordering};
+use std::{io, time};
 
 /// The most bodies that stand in the table of all workers.
 const BODIES_MAX: usize = 65_536;
@@ -65,6 +66,14 @@ impl Commons {
             return Ok(());
         }
         self.bodies.watch(net)
+    }
+
+    /// Waits until the log has all of its lines, where there is one, for some seconds at most. It is to be called after the workers
+    /// have ended.
+    pub(crate) fn finish_log<W: Wait + time::Clock>(&self, rt: &W) {
+        if let Some(watching) = &self.watching {
+            watching.finish(rt);
+        }
     }
 
     /// Notes that a worker has begun.

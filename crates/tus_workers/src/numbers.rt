@@ -89,7 +89,8 @@ impl<
     ) -> Result<Vec<u8>, AllocError> {
         let journal = self.keeping.numbers(self.rt);
         let tenants = tenants_of(self.alloc, settings, totals)?;
-        let counts = watching.counts.lock(self.rt);
+        let mut counts = watching.counts.lock(self.rt);
+        counts.lost_lines = counts.lost_lines.saturating_add(watching.take_lost());
         metrics_text(
             self.alloc,
             &Snapshot {

@@ -1,13 +1,13 @@
 //! What a worker has seen, until it is told.
 
 use crate::client::Client;
+use crate::log_writer::line_count;
 use crate::seen::{Answered, Record, Seen};
 use crate::watching::Watching;
 use service_watch::{
     Counts, Cut, CutLine, Log, RequestLine, WORD_MAX, Word, count_named, count_reply, method_name,
 };
 use std::alloc::{AllocError, Global};
-use std::io::Eprint;
 use std::net::SocketAddr;
 use std::sync::Wait;
 use std::time::Instant;
@@ -151,8 +151,8 @@ impl<'a> Watch<'a> {
         }
     }
 
-    /// Counts what was seen, and writes its lines to the log, at this moment.
-    pub fn publish<H: Wait + Eprint>(&mut self, rt: &H, now: Moment) {
+    /// Counts what was seen, and has its lines written to the log, at this moment.
+    pub fn publish<W: Wait>(&mut self, rt: &W, now: Moment) {
         if self.is_quiet() {
             return;
         }
@@ -176,23 +176,13 @@ impl<'a> Watch<'a> {
             && self.lost == 0
     }
 
-    // Writes the lines that wait. Where that fails they are lost.
-    fn write<H: Wait + Eprint>(&mut self, rt: &H) {
-        if self.log.waiting().is_empty() {
-            return;
+    // Has the lines that wait written. Where there is no room for them they are lost.
+    fn write<W: Wait>(&mut self, rt: &W) {
+        let lines = self.log.waiting();
+        if !lines.is_empty() && !self.watching.write(rt, lines) {
+            self.lost = self.lost.saturating_add(line_count(lines));
         }
-        if self.watching.write(rt, self.log.waiting()) {
-            self.log.clear();
-            return;
-        }
-        let lines = self
-            .log
-            .waiting()
-            .iter()
-            .filter(|byte| **byte == b'\n')
-            .count();
         self.log.clear();
-        self.lost = self.lost.saturating_add(lines as u64);
     }
 
     // Puts the line of what is to be told behind those that wait.

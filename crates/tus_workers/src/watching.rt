@@ -1,29 +1,20 @@
 //! How the workers of a server are watched.
 
+use crate::log_writer::{LogTarget, LogWriter};
 use service_watch::Counts;
 use std::alloc::Global;
 use std::fs::File;
-use std::io::{Eprint, Write};
+use std::io::Eprint;
 use std::net::TcpListener;
-use std::str;
 use std::sync::{Mutex, Wait};
-
-/// Where the lines of a log go.
-#[derive(Drop)]
-pub enum LogTarget {
-    /// To standard error.
-    Errors,
-    /// To the end of a file that was opened for that.
-    File(File),
-}
+use std::thread::Threads;
+use std::time;
 
 /// How the workers of a server are watched, and what they have counted.
 #[derive(Drop)]
 pub struct Watching {
     pub(crate) counts: Mutex<Counts>,
-    log: Option<LogTarget>,
-    // Whether the log's file ends within a line, since a write to it failed in part. Who writes to the file holds it.
-    is_torn: Mutex<bool>,
+    log: Option<LogWriter>,
     // Where numbers are asked for, until a worker has taken it.
     metrics: Mutex<Option<TcpListener>>,
     // The file by which the system tells how many pages of the process are in memory.
@@ -32,17 +23,22 @@ pub struct Watching {
 
 impl Watching {
     /// A log, where there is one, and a listener at which numbers are asked for, where there is one. By the file `pages` the
-    /// system tells how many pages of the process are in memory, as `/proc/self/statm` of Linux.
-    pub fn new(
+    /// system tells how many pages of the process are in memory, as `/proc/self/statm` of Linux. The log is written by a thread
+    /// of its own; where that can't be had, this is said on standard error, and every line of it is counted as lost.
+    pub fn new<H: Threads + Wait + Eprint + time::Clock + Copy + Send + 'static>(
+        rt: &H,
         alloc: Global,
         log: Option<LogTarget>,
         metrics: Option<TcpListener>,
         pages: Option<File>,
     ) -> Self {
+        let log = match log {
+            Some(target) => Some(LogWriter::start(rt, alloc, target)),
+            None => None,
+        };
         Watching {
             counts: Mutex::new(Counts::new(alloc)),
             log,
-            is_torn: Mutex::new(false),
             metrics: Mutex::new(metrics),
             pages,
         }
@@ -58,32 +54,26 @@ impl Watching {
         self.metrics.lock(rt).take()
     }
 
-    /// Writes lines to the log. It is false where that failed; then a part of them may have been written, and the next lines
-    /// begin behind the end of a line.
-    pub(crate) fn write<H: Wait + Eprint>(&self, rt: &H, lines: &[u8]) -> bool {
+    /// Has lines written to the log. It is false where there is no room for them; then they are lost.
+    pub(crate) fn write<W: Wait>(&self, rt: &W, lines: &[u8]) -> bool {
         match &self.log {
+            Some(log) => log.put(rt, lines),
             None => true,
-            Some(LogTarget::Errors) => print_each(rt, lines),
-            Some(LogTarget::File(file)) => {
-                let mut is_torn = self.is_torn.lock(rt);
-                let mut file = file;
-                if *is_torn && file.write_all(b"\n").is_err() {
-                    return false;
-                }
-                *is_torn = file.write_all(lines).is_err();
-                !*is_torn
-            }
         }
     }
-}
 
-// Prints each line to standard error in a call of its own, since a longer text is written in pieces, between which those of
-// another worker may come. Whether all could be written.
-fn print_each<H: Eprint>(rt: &H, lines: &[u8]) -> bool {
-    lines
-        .split_inclusive(|byte| *byte == b'\n')
-        .all(|line| match str::from_utf8(line) {
-            Ok(text) => rt.eprint(text).is_ok(),
-            Err(_) => false,
-        })
+    /// How many lines could not be written, since this was last asked.
+    pub(crate) fn take_lost(&self) -> u64 {
+        match &self.log {
+            Some(log) => log.take_lost(),
+            None => 0,
+        }
+    }
+
+    /// Waits until all lines were written, for some seconds at most. No more may be written.
+    pub(crate) fn finish<W: Wait + time::Clock>(&self, rt: &W) {
+        if let Some(log) = &self.log {
+            log.finish(rt);
+        }
+    }
 }

@@ -41,7 +41,8 @@ const REST_READS: usize = 4096;
 /// memory for them, it ends, and says so on standard error. Where changes are journalled each worker serves its clients side by
 /// side, and no reply is sent before `keeping` has kept all that its desk has seen; where it can keep nothing more, all workers
 /// end. Once a stop was asked for where numbers are, which needs a grace in the options, each worker accepts nothing more, lets
-/// go who has no message under way, and ends when the others have had their replies, or are cut off after the grace.
+/// go who has no message under way, and ends when the others have had their replies, or are cut off after the grace. At last it
+/// waits until the log has its lines, for some seconds at most.
 pub fn work_all<
     A: Accept + Send,
     C: Charges + Send + Sync,
@@ -82,6 +83,7 @@ pub fn work_all<
         threads,
         &|number, worker: &mut Worker<C, R, M, A>| { common.work(number, worker) },
     );
+    commons.finish_log(rt);
 }
 
 /// What the workers of a server share.
