@@ -7,6 +7,7 @@ All three are up at once, and are measured by turns of 0.6 seconds, five of each
 the first. Numbers are asked for once a second. The log is a file in memory. It needs gcc and two processors.
 """
 import os
+import re
 import shutil
 import socket
 import statistics
@@ -21,13 +22,15 @@ SECONDS = 0.6
 TURNS = 5
 
 
-def asked_each_second(port, is_over):
-    """Asks for numbers each second, as Prometheus would more rarely."""
+def asked_each_second(port, is_over, lost):
+    """Asks for numbers each second, as Prometheus would more rarely, and keeps how many lines were lost."""
     while not is_over.wait(1):
+        text = b''
         with socket.create_connection(('127.0.0.1', port), timeout=10) as asker:
             asker.sendall(b'GET /metrics HTTP/1.1\r\nHost: x\r\nConnection: close\r\n\r\n')
-            while asker.recv(65536):
-                pass
+            while part := asker.recv(65536):
+                text += part
+        lost.append(int(re.search(rb'^cadrusmo_log_lines_lost_total (\d+)$', text, re.M).group(1)))
 
 
 def start(program, folder, port, words, processors):
@@ -55,12 +58,11 @@ def measure(folder, program):
     half = len(processors) // 2
     load = built(folder, 'load')
     log, both = f'{folder}/log', f'{folder}/both'
-    servers = [start(program, folder, 18080, [], processors[:half]),
-               start(program, folder, 18081, ['--log', log], processors[:half]),
-               start(program, folder, 18082, ['--log', both, '--metrics', '18083'], processors[:half])]
-    is_over = threading.Event()
-    asker = threading.Thread(target=asked_each_second, args=(18083, is_over))
+    servers, is_over, lost = [], threading.Event(), []
+    asker = threading.Thread(target=asked_each_second, args=(18083, is_over, lost))
     try:
+        for port, words in ((18080, []), (18081, ['--log', log]), (18082, ['--log', both, '--metrics', '18083'])):
+            servers.append(start(program, folder, port, words, processors[:half]))
         os.sched_setaffinity(0, processors[half:])
         asker.start()
         print('| what | a second, with nothing asked for | with `--log` | with `--log` and `--metrics` |\n|---|---|---|---|')
@@ -69,10 +71,11 @@ def measure(folder, program):
         for size, name in ((4096, '4 KiB'), (65536, '64 KiB')):
             for count in (1, 4, 16, 64):
                 row(load, servers, 'patches', count, size, f'PATCHes of {name}')
-        print(f'\n{sum(1 for _ in open(both, "rb")):,} lines of the log were written by the last')
+        print(f'\n{sum(1 for _ in open(both, "rb")):,} lines of the log were written by the last, and {lost[-1]:,} were lost')
     finally:
         is_over.set()
-        asker.join()
+        if asker.is_alive():
+            asker.join()
         for server in servers:
             server.process.terminate()
             server.process.wait()
