@@ -98,6 +98,18 @@ def reply(client, has_body=True):
     return head.decode(), body
 
 
+def answered(client, data, count, start):
+    """Sends these bytes so often, and gives how many replies come that begin so, until as many came or the server closes."""
+    client.sendall(data * count)
+    replies = 0
+    rest = b''
+    while replies < count and (part := client.recv(65536)):
+        rest += part
+        replies += rest.count(start)
+        rest = rest[-len(start) + 1:]
+    return replies
+
+
 def status(client, has_body=True):
     return reply(client, has_body)[0].split(' ')[1]
 

@@ -4,6 +4,7 @@ use crate::bodies::Bodies;
 use crate::watching::Watching;
 use crate::work_options::WorkOptions;
 use std::alloc::{AllocError, Global};
+use std::io::Eprint;
 use std::net::Net;
 use std::sync::Wait;
 use std::sync::atomic::{AtomicBool, AtomicU64, Ordering};
@@ -70,7 +71,7 @@ impl Commons {
 
     /// Waits until the log has all of its lines, where there is one, for some seconds at most. It is to be called after the workers
     /// have ended.
-    pub(crate) fn finish_log<W: Wait + time::Clock>(&self, rt: &W) {
+    pub(crate) fn finish_log<H: Wait + Eprint + time::Clock>(&self, rt: &H) {
         if let Some(watching) = &self.watching {
             watching.finish(rt);
         }

@@ -2,17 +2,23 @@
 
 use std::alloc::{AllocError, Global};
 use std::fs::File;
-use std::io::{Eprint, Write};
+use std::io::{Eprint, ErrorKind, Write};
 use std::sync::atomic::{AtomicU64, Ordering};
 use std::sync::{Arc, Condvar, CondvarTimeouts, Mutex, Wait};
 use std::thread::{Threads, sleep, spawn};
 use std::time::Duration;
 use std::{mem, str, time};
 
-/// The most bytes of lines that wait to be written. Lines that would be more are lost.
-const WAITING_MAX: usize = 1_048_576;
+/// The most bytes of lines that wait to be written: more than the requests of one round of a worker can have, each with the
+/// longest target.
+const WAITING_MAX: usize = 16_777_216;
 
-/// For how many milliseconds lines gather after a write, so that one write serves many.
+/// The most room of a list of lines that is kept for the next ones.
+const ROOM_KEPT: usize = 1_048_576;
+
+/// Lines of fewer bytes were few, so that others gather before the next write, for so many milliseconds.
+const FEW_BYTES: usize = 65_536;
+
 const GATHER_MILLIS: u64 = 5;
 
 /// For how many seconds the end of a server waits at most for lines that are not written yet.
@@ -32,6 +38,8 @@ pub enum LogTarget {
 pub(crate) struct LogWriter {
     // None where there is no such thread.
     queue: Option<Arc<Queue, Global>>,
+    // Whether the lines go to a file, and not to standard error.
+    has_file: bool,
 }
 
 impl LogWriter {
@@ -41,19 +49,25 @@ impl LogWriter {
         alloc: Global,
         target: LogTarget,
     ) -> Self {
+        let has_file = match &target {
+            LogTarget::Errors => false,
+            LogTarget::File(_) => true,
+        };
         let queue = start_writing(*rt, alloc, target).ok();
         if queue.is_none() {
-            let _ = rt.eprintln("tus-server: no log is written, since there is no thread for it");
+            let _ = rt.eprintln(
+                "tus-server: no log is written, since there is no thread or no memory for it",
+            );
         }
-        LogWriter { queue }
+        LogWriter { queue, has_file }
     }
 
-    /// Puts lines behind those that wait, and waits for nobody who reads them. It is false where there is no room for them;
-    /// then they are lost.
-    pub fn put<W: Wait>(&self, rt: &W, lines: &[u8]) -> bool {
+    /// Puts lines behind those that wait, as many of the first ones as there is room for, and waits for nobody who reads them.
+    /// The others are lost: it gives how many these are.
+    pub fn put<W: Wait>(&self, rt: &W, lines: &[u8]) -> u64 {
         match &self.queue {
             Some(queue) => queue.put(rt, lines),
-            None => false,
+            None => line_count(lines),
         }
     }
 
@@ -65,10 +79,14 @@ impl LogWriter {
         }
     }
 
-    /// Waits until all lines were written, for some seconds at most. No more may be put.
-    pub fn finish<W: Wait + time::Clock>(&self, rt: &W) {
-        if let Some(queue) = &self.queue {
-            queue.finish(rt);
+    /// Waits until all lines were written, for some seconds at most. No more are taken. Where some are left then that are for a
+    /// file, this is said on standard error.
+    pub fn finish<H: Wait + Eprint + time::Clock>(&self, rt: &H) {
+        let Some(queue) = &self.queue else {
+            return;
+        };
+        if !queue.finish(rt) && self.has_file {
+            let _ = rt.eprintln("tus-server: the log lacks its last lines, since nobody took them");
         }
     }
 }
@@ -81,6 +99,21 @@ struct Waiting {
     is_complete: bool,
     // None is left, and none is being written.
     is_written: bool,
+}
+
+impl Waiting {
+    // Puts as many of the first lines as there is room for, and gives how many bytes these have.
+    fn put(&mut self, lines: &[u8]) -> usize {
+        if self.is_complete {
+            return 0;
+        }
+        let room = WAITING_MAX.saturating_sub(self.lines.len());
+        let fitting = whole_lines(lines, room);
+        match self.lines.extend_from_slice(fitting) {
+            Ok(()) => fitting.len(),
+            Err(_) => 0,
+        }
+    }
 }
 
 /// What workers and the thread that writes share.
@@ -96,13 +129,17 @@ struct Queue {
 }
 
 impl Queue {
-    fn put<W: Wait>(&self, rt: &W, lines: &[u8]) -> bool {
+    // Puts as many of the first lines as there is room for, and gives how many are lost.
+    fn put<W: Wait>(&self, rt: &W, lines: &[u8]) -> u64 {
         let mut waiting = self.waiting.lock(rt);
-        let room = WAITING_MAX.saturating_sub(waiting.lines.len());
-        let is_put = lines.len() <= room && waiting.lines.extend_from_slice(lines).is_ok();
+        let put = waiting.put(lines);
         drop(waiting);
         self.came.notify_one();
-        is_put
+        if put == lines.len() {
+            0
+        } else {
+            line_count(lines.get(put..).unwrap_or(lines))
+        }
     }
 
     // Waits for lines, and exchanges them for this empty list. It is false once no more come.
@@ -116,14 +153,16 @@ impl Queue {
         !waiting.is_written
     }
 
-    fn finish<W: Wait + time::Clock>(&self, rt: &W) {
+    // Waits until all were written, for some seconds at most; whether they were.
+    fn finish<W: Wait + time::Clock>(&self, rt: &W) -> bool {
         let mut waiting = self.waiting.lock(rt);
         waiting.is_complete = true;
         self.came.notify_one();
         let most = Duration::from_secs(END_SECONDS);
-        let _ = self
+        let (waiting, _) = self
             .written
             .wait_timeout_while(rt, waiting, most, |waiting| !waiting.is_written);
+        waiting.is_written
     }
 }
 
@@ -167,42 +206,87 @@ fn write_lines<H: Wait + Eprint + time::Clock>(
             queue.written.notify_all();
             return;
         }
-        if !write(rt, target, &lines, &mut is_torn) {
-            queue.lost.fetch_add(line_count(&lines), Ordering::SeqCst);
+        let lost = write(rt, target, &lines, &mut is_torn);
+        queue.lost.fetch_add(lost, Ordering::SeqCst);
+        let were_few = lines.len() < FEW_BYTES;
+        if lines.capacity() > ROOM_KEPT {
+            lines = Vec::new(alloc);
         }
         lines.clear();
-        sleep(rt, Duration::from_millis(GATHER_MILLIS));
+        if were_few {
+            sleep(rt, Duration::from_millis(GATHER_MILLIS));
+        }
     }
 }
 
-// Writes lines. It is false where that failed; then a part of them may have been written. A file ends within a line after
-// that (`is_torn`), and the next lines begin behind the end of it.
-fn write<H: Eprint>(rt: &H, target: &LogTarget, lines: &[u8], is_torn: &mut bool) -> bool {
+// Writes lines, and gives how many of them were not written whole. A file ends within a line after such a one (`is_torn`), and
+// the next lines begin behind the end of it.
+fn write<H: Eprint>(rt: &H, target: &LogTarget, lines: &[u8], is_torn: &mut bool) -> u64 {
     match target {
         LogTarget::Errors => print_each(rt, lines),
         LogTarget::File(file) => {
-            let mut file = file;
-            if *is_torn && file.write_all(b"\n").is_err() {
-                return false;
+            if *is_torn && !write_front(file, b"\n").is_empty() {
+                return line_count(lines);
             }
-            *is_torn = file.write_all(lines).is_err();
-            !*is_torn
+            let rest = write_front(file, lines);
+            let written = lines.len().saturating_sub(rest.len());
+            let (front, _) = lines.split_at(written);
+            *is_torn = !front.is_empty() && !front.ends_with(b"\n");
+            line_count(rest)
         }
     }
 }
 
-// Prints each line to standard error in a call of its own, since a longer text is written in pieces, between which what workers
-// say may come. Whether all could be written.
-fn print_each<H: Eprint>(rt: &H, lines: &[u8]) -> bool {
-    lines
-        .split_inclusive(|byte| *byte == b'\n')
-        .all(|line| match str::from_utf8(line) {
-            Ok(text) => rt.eprint(text).is_ok(),
-            Err(_) => false,
-        })
+// Writes as many of the first bytes as can be written, and gives the rest.
+fn write_front<'a>(file: &File, bytes: &'a [u8]) -> &'a [u8] {
+    let mut file = file;
+    let mut rest = bytes;
+    for _ in 0..u64::MAX {
+        if rest.is_empty() {
+            return rest;
+        }
+        match file.write(rest) {
+            Ok(0) => return rest,
+            Ok(count) => rest = rest.get(count..).unwrap_or(b""),
+            Err(error) => match error.kind() {
+                ErrorKind::Interrupted => {}
+                _ => return rest,
+            },
+        }
+    }
+    rest
+}
+
+// Prints each line to standard error by itself, and gives how many could not be printed.
+fn print_each<H: Eprint>(rt: &H, lines: &[u8]) -> u64 {
+    let mut lost: u64 = 0;
+    for line in lines.split_inclusive(|byte| *byte == b'\n') {
+        if !is_printed(rt, line) {
+            lost = lost.saturating_add(1);
+        }
+    }
+    lost
+}
+
+fn is_printed<H: Eprint>(rt: &H, line: &[u8]) -> bool {
+    match str::from_utf8(line) {
+        Ok(text) => rt.eprint(text).is_ok(),
+        Err(_) => false,
+    }
+}
+
+// The first of these lines, as many as have so many bytes together at most.
+fn whole_lines(lines: &[u8], most: usize) -> &[u8] {
+    let front = lines.get(..most).unwrap_or(lines);
+    for end in (0..front.len()).rev() {
+        if front[end] == b'\n' {
+            return front.split_at(end + 1).0;
+        }
+    }
+    b""
 }
 
 /// How many lines these are.
-pub(crate) fn line_count(lines: &[u8]) -> u64 {
+fn line_count(lines: &[u8]) -> u64 {
     lines.iter().filter(|byte| **byte == b'\n').count() as u64
 }

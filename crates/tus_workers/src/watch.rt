@@ -1,7 +1,6 @@
 //! What a worker has seen, until it is told.
 
 use crate::client::Client;
-use crate::log_writer::line_count;
 use crate::seen::{Answered, Record, Seen};
 use crate::watching::Watching;
 use service_watch::{
@@ -176,11 +175,11 @@ impl<'a> Watch<'a> {
             && self.lost == 0
     }
 
-    // Has the lines that wait written. Where there is no room for them they are lost.
+    // Has the lines that wait written. Those for which there is no room are lost.
     fn write<W: Wait>(&mut self, rt: &W) {
         let lines = self.log.waiting();
-        if !lines.is_empty() && !self.watching.write(rt, lines) {
-            self.lost = self.lost.saturating_add(line_count(lines));
+        if !lines.is_empty() {
+            self.lost = self.lost.saturating_add(self.watching.write(rt, lines));
         }
         self.log.clear();
     }

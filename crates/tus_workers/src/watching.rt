@@ -54,11 +54,11 @@ impl Watching {
         self.metrics.lock(rt).take()
     }
 
-    /// Has lines written to the log. It is false where there is no room for them; then they are lost.
-    pub(crate) fn write<W: Wait>(&self, rt: &W, lines: &[u8]) -> bool {
+    /// Has lines written to the log, and gives how many of them are lost, since there is no room for them.
+    pub(crate) fn write<W: Wait>(&self, rt: &W, lines: &[u8]) -> u64 {
         match &self.log {
             Some(log) => log.put(rt, lines),
-            None => true,
+            None => 0,
         }
     }
 
@@ -71,7 +71,7 @@ impl Watching {
     }
 
     /// Waits until all lines were written, for some seconds at most. No more may be written.
-    pub(crate) fn finish<W: Wait + time::Clock>(&self, rt: &W) {
+    pub(crate) fn finish<H: Wait + Eprint + time::Clock>(&self, rt: &H) {
         if let Some(log) = &self.log {
             log.finish(rt);
         }
