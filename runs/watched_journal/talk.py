@@ -1,4 +1,5 @@
 import os
+import re
 import subprocess
 import sys
 sys.path.insert(0, os.path.dirname(os.path.dirname(os.path.abspath(__file__))))
@@ -28,6 +29,11 @@ def tell(port, path, seconds):
     print('file:', int(told['cadrusmo_journal_file_bytes']) == len(file), 'families:', len(told))
 
 
+def looked(*words):
+    """What `journal` says of the journal that the server has."""
+    return subprocess.run([sys.argv[1], 'journal', *words], capture_output=True, text=True, check=True).stdout
+
+
 with tempfile.TemporaryDirectory() as folder:
     words = [*sys.argv[1:], '--journal', os.path.join(folder, 'uploads'), '--metrics']
     path = os.path.join(folder, 'uploads', 'journal')
@@ -41,6 +47,9 @@ with tempfile.TemporaryDirectory() as folder:
             client.sendall(change)
             print(status(client))
         tell(port, path, time.monotonic() - start)
+        uploads = os.path.dirname(path)
+        print(re.sub(r'file: \d+', 'file: N', looked('check', uploads)), end='')
+        print(looked('export', uploads, 'acme/1'))
         client.sendall(request('HEAD', '/files/acme/1'))
         print(status(client, has_body=False))
     tell(port, path, time.monotonic() - start)

@@ -19,14 +19,14 @@ use Rattle.tus_steps.specs.declared.reply.Reply.{Reply}
 use Rattle.upload_book.specs.Events.{ChangeEvent, book_after_all}
 use Rattle.upload_book.specs.PlainBook.{PlainBook, opening_book}
 use Rattle.upload_book.specs.Settings.{Settings}
-use Rattle.tus_server.specs.Arguments.{TalkArguments}
-use Rattle.tus_server.specs.Fault.{fault_of_wire}
+use Rattle.server_words.specs.Arguments.{TalkArguments}
+use Rattle.server_words.specs.Fault.{fault_of_wire}
+use Rattle.server_words.specs.StreamUse.{StreamUse, IsAlive}
+use Rattle.server_words.specs.declared.fault.RunFault.{RunFault}
+use Rattle.server_words.specs.declared.fault.RunFault.TheVariants as run
 use Rattle.tus_server.specs.KeptStep.{KeptState, AnswersKept, FailsKept, StaysFailed, IsStepKept, IsJournalStep, working}
 use Rattle.tus_server.specs.KeptTalk.{KeptTalkEnds, HoldsKept, LosesKept, OutlivesCrash, TalksKept, BreaksKept, journal_key}
-use Rattle.tus_server.specs.StreamUse.{StreamUse, IsAlive}
-use Rattle.tus_server.specs.Talk.{moments_at, talk_settings}
-use Rattle.tus_server.specs.declared.fault.RunFault.{RunFault}
-use Rattle.tus_server.specs.declared.fault.RunFault.TheVariants as run
+use Rattle.tus_server.specs.Talk.{moments_at}
 use Rattle.tus_server.proofs.SimulationLemmas.{Conversation-like, Breaks-like}
 use Rattle.tus_server.proofs.TalkLemmas.{Keeps-appended, Keeps-consumed, is_ok_by, laid, not_err}
 

@@ -12,19 +12,19 @@ use Rattle.http_wire.specs.declared.fault.WireFault.{WireFault}
 use Rattle.tus_shared.specs.Desk.{Desk}
 use Rattle.tus_shared.specs.declared.balance.Balance.{Balance}
 use Rattle.upload_book.specs.Settings.{Settings}
-use Rattle.tus_server.specs.Arguments.{ServeArguments}
+use Rattle.server_words.specs.Arguments.{ServeArguments}
 use Rattle.journal_keeper.specs.declared.fault.ReopenFault.{ReopenFault}
 use Rattle.journal_keeper.specs.declared.fault.ReopenFault.TheVariants as reopening
-use Rattle.tus_server.specs.JournalFault.{fault_of_reopening}
+use Rattle.server_words.specs.JournalFault.{fault_of_reopening}
+use Rattle.server_words.specs.StreamUse.{StreamUse, IsUntouched}
+use Rattle.server_words.specs.declared.cause.Cause.{Cause}
+use Rattle.server_words.specs.declared.cause.Cause.TheVariants.{Output, Accept}
+use Rattle.server_words.specs.declared.journal_fault.JournalFault.{JournalFault}
+use Rattle.server_words.specs.declared.fault.RunFault.{RunFault}
+use Rattle.server_words.specs.declared.fault.RunFault.TheVariants as run
 use Rattle.tus_server.specs.Lines.{Settles, balance_text, listening_text}
 use Rattle.tus_server.specs.Serve.{BreaksOff, IsPlaceAsked, KeepsQuiet, PrintsBoth, ServeEnds, ServesEach, has_port_twice, is_of_kept_service, is_of_service, serve_settings}
 use Rattle.tus_server.specs.Sockets.{AreUnstopped, Sockets}
-use Rattle.tus_server.specs.StreamUse.{StreamUse, IsUntouched}
-use Rattle.tus_server.specs.declared.cause.Cause.{Cause}
-use Rattle.tus_server.specs.declared.cause.Cause.TheVariants.{Output, Accept}
-use Rattle.tus_server.specs.declared.journal_fault.JournalFault.{JournalFault}
-use Rattle.tus_server.specs.declared.fault.RunFault.{RunFault}
-use Rattle.tus_server.specs.declared.fault.RunFault.TheVariants as run
 
 false_unless : (b : Bool) → (b ≡ true → ⊥) → b ≡ false
 false_unless true never = absurd (never refl)

@@ -19,10 +19,10 @@ use Rattle.http_wire.specs.declared.fault.WireFault.TheVariants as wire
 use Rattle.upload_book.specs.PlainBook.{PlainBook, opening_book}
 use Rattle.upload_book.specs.Settings.{Settings}
 use Rattle.upload_book.specs.declared.settings_fault.SettingsFault.{SettingsFault}
-use Rattle.tus_server.specs.Arguments.{TalkArguments}
-use Rattle.tus_server.specs.Fault.{fault_of_wire}
-use Rattle.tus_server.specs.StreamUse.{StreamUse, IsAlive}
-use Rattle.tus_server.specs.Talk.{BreaksTalk, LosesTalk, TalkEnds, Talks, moments_at, talk_settings}
+use Rattle.server_words.specs.Arguments.{TalkArguments}
+use Rattle.server_words.specs.Fault.{fault_of_wire}
+use Rattle.server_words.specs.StreamUse.{StreamUse, IsAlive}
+use Rattle.tus_server.specs.Talk.{BreaksTalk, LosesTalk, TalkEnds, Talks, moments_at}
 
 -- where no byte was read, all are left
 pub Keeps-consumed : (old new : Option (List ℕ)) (got : List ℕ) → Consumes old new got → got ≡ [] → Keeps old new

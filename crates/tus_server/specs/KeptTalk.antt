@@ -11,15 +11,15 @@ use Rattle.kept_book.specs.Kept.{IsLeft}
 use Rattle.upload_book.specs.Events.{ChangeEvent, book_after_all}
 use Rattle.upload_book.specs.PlainBook.{PlainBook, opening_book}
 use Rattle.upload_book.specs.Settings.{Settings}
-use Rattle.tus_server.specs.Arguments.{TalkArguments}
-use Rattle.tus_server.specs.Cause.{NamesCause}
+use Rattle.server_words.specs.Arguments.{TalkArguments}
+use Rattle.server_words.specs.Cause.{NamesCause}
+use Rattle.server_words.specs.StreamUse.{StreamUse, IsAlive, IsUntouched}
+use Rattle.server_words.specs.declared.fault.RunFault.{RunFault}
+use Rattle.server_words.specs.declared.fault.RunFault.TheVariants as run
+use Rattle.server_words.specs.declared.journal_fault.JournalFault.{JournalFault}
+use Rattle.server_words.specs.declared.journal_fault.JournalFault.TheVariants.{Disk}
 use Rattle.tus_server.specs.KeptStep.{KeptState, IsJournalStep, working}
-use Rattle.tus_server.specs.StreamUse.{StreamUse, IsAlive, IsUntouched}
-use Rattle.tus_server.specs.Talk.{KeepsStreams, moments_at, talk_settings}
-use Rattle.tus_server.specs.declared.fault.RunFault.{RunFault}
-use Rattle.tus_server.specs.declared.fault.RunFault.TheVariants as run
-use Rattle.tus_server.specs.declared.journal_fault.JournalFault.{JournalFault}
-use Rattle.tus_server.specs.declared.journal_fault.JournalFault.TheVariants.{Disk}
+use Rattle.tus_server.specs.Talk.{KeepsStreams, moments_at}
 
 -- the key under which the program's journals are: the letters of `tus-jour` as a number
 abbrev pub journal_key : ℕ

@@ -4,18 +4,20 @@ use Rattle.std.specs.Io.KnownBytes.{Appends}
 use Rattle.clap.specs.Words.{IsAmong, Text}
 use Rattle.clap.specs.declared.error.kind.ErrorKind.{ErrorKind}
 use Rattle.clap.specs.declared.error.kind.ErrorKind.TheVariants.{DisplayHelp, DisplayVersion, OutOfMemory}
-use Rattle.tus_server.specs.Arguments.{CommandArguments, TalkArguments, talk, serve, arguments_in}
-use Rattle.tus_server.specs.CommandLine.{faults_in}
-use Rattle.tus_server.specs.Fault.{Reports, WritesLines, WritesOrFails}
+use Rattle.server_words.specs.Arguments.{CommandArguments, TalkArguments, talk, serve, check, export, arguments_in}
+use Rattle.server_words.specs.CommandLine.{faults_in}
+use Rattle.server_words.specs.Fault.{Reports, WritesLines, WritesOrFails}
+use Rattle.server_words.specs.Sentences.{output_text, untold_text, words_memory_text}
+use Rattle.server_words.specs.StreamUse.{StreamUse, IsAlive, IsUntouched}
+use Rattle.server_words.specs.declared.cause.Cause.TheVariants.{Output}
+use Rattle.server_words.specs.declared.fault.RunFault.{RunFault}
+use Rattle.server_words.specs.declared.fault.RunFault.TheVariants.{Words, Wire, Memory}
+use Rattle.tus_server.specs.Export.{IsExported, IsFaultOfExport}
 use Rattle.tus_server.specs.KeptTalk.{KeptTalkEnds}
-use Rattle.tus_server.specs.Sentences.{output_text, untold_text, words_memory_text}
+use Rattle.tus_server.specs.ReadJournal.{IsChecked, IsFaultOfFiles, LookEnds}
 use Rattle.tus_server.specs.Serve.{ServeEnds}
 use Rattle.tus_server.specs.Sockets.{Sockets}
-use Rattle.tus_server.specs.StreamUse.{StreamUse, IsAlive, IsUntouched}
 use Rattle.tus_server.specs.Talk.{TalkEnds}
-use Rattle.tus_server.specs.declared.cause.Cause.TheVariants.{Output}
-use Rattle.tus_server.specs.declared.fault.RunFault.{RunFault}
-use Rattle.tus_server.specs.declared.fault.RunFault.TheVariants.{Words, Wire, Memory}
 
 -- why words are not taken: memory was lacking, or they have this fault or ask for this
 abbrev pub IsReason : List Text → ErrorKind → Type 0
@@ -74,9 +76,10 @@ module _ {W E : Type 0} (kind : ErrorKind) (status : ℕ) (writer : StreamUse W)
   abbrev pub Explains : Type 0
   Explains = ((text : List ℕ) × Tells text) ⊎ RefusesUntold ⊎ EndsForMemory
 
--- over these sockets and disks
+-- over these sockets and disks, and folders of which this is so: at a path one has the bytes of a journal's file, and the text
+-- of the settings beside it
 module _ {L A D R W E : Type 0} (seen : Sockets L A) (read : D → List ℕ) (may_leave : D → List ℕ → Type 0) (is_clean : D → Bool)
-    (status : ℕ) (reader : StreamUse R) (writer : StreamUse W) (errors : StreamUse E) where
+    (has : List ℕ → List ℕ → List ℕ → Type 0) (status : ℕ) (reader : StreamUse R) (writer : StreamUse W) (errors : StreamUse E) where
   -- how `talk` ends, with a journal or without one
   abbrev pub TalkEndsBy : {T : Type 0} → Option Text → TalkArguments → Result T RunFault → Type 0
   TalkEndsBy None arguments outcome = TalkEnds arguments reader writer outcome
@@ -92,6 +95,13 @@ module _ {L A D R W E : Type 0} (seen : Sockets L A) (read : D → List ℕ) (ma
   Performs (Some (serve arguments)) =
       (outcome : Result (Unit {0}) RunFault) × ServeEnds seen arguments writer outcome × IsUntouched reader
       × Reports (serve arguments) outcome status errors
+  Performs (Some (check folder)) =
+      (outcome : Result (Unit {0}) RunFault) × LookEnds (has folder) IsChecked IsFaultOfFiles writer outcome × IsUntouched reader
+      × Reports (check folder) outcome status errors
+  Performs (Some (export arguments)) =
+      (outcome : Result (Unit {0}) RunFault)
+      × LookEnds (has arguments.folder) (IsExported arguments.upload) (IsFaultOfExport arguments.upload) writer outcome
+      × IsUntouched reader × Reports (export arguments) outcome status errors
 
   -- how a run ends whose words are these
   pub data RunEnds (words : List Text) : Type 0 where

@@ -10,18 +10,18 @@ use Rattle.tus_shared.specs.Desk.{Desk}
 use Rattle.tus_shared.specs.declared.balance.Balance.{Balance}
 use Rattle.upload_book.specs.Settings.{Settings}
 use Rattle.upload_book.specs.declared.settings_fault.SettingsFault.{SettingsFault}
-use Rattle.tus_server.specs.Arguments.{ServeArguments}
+use Rattle.server_words.specs.Arguments.{ServeArguments}
+use Rattle.server_words.specs.Settings.{settings_given}
+use Rattle.server_words.specs.StreamUse.{StreamUse, IsAlive, IsUntouched}
+use Rattle.server_words.specs.declared.cause.Cause.{Cause}
+use Rattle.server_words.specs.declared.cause.Cause.TheVariants.{Input, Output, Port, Workers, Accept, Log, Metrics}
+use Rattle.server_words.specs.declared.cause.PortFault.TheVariants.{NotHere}
+use Rattle.server_words.specs.declared.journal_fault.JournalFault.{JournalFault}
+use Rattle.server_words.specs.declared.journal_fault.JournalFault.TheVariants as journal
+use Rattle.server_words.specs.declared.fault.RunFault.{RunFault}
+use Rattle.server_words.specs.declared.fault.RunFault.TheVariants as run
 use Rattle.tus_server.specs.Lines.{Settles, balance_text, listening_text}
-use Rattle.tus_server.specs.Settings.{settings_given}
 use Rattle.tus_server.specs.Sockets.{AreUnstopped, HasFailed, HaveAccepted, Sockets}
-use Rattle.tus_server.specs.StreamUse.{StreamUse, IsAlive, IsUntouched}
-use Rattle.tus_server.specs.declared.cause.Cause.{Cause}
-use Rattle.tus_server.specs.declared.cause.Cause.TheVariants.{Input, Output, Port, Workers, Accept, Log, Metrics}
-use Rattle.tus_server.specs.declared.cause.PortFault.TheVariants.{NotHere}
-use Rattle.tus_server.specs.declared.journal_fault.JournalFault.{JournalFault}
-use Rattle.tus_server.specs.declared.journal_fault.JournalFault.TheVariants as journal
-use Rattle.tus_server.specs.declared.fault.RunFault.{RunFault}
-use Rattle.tus_server.specs.declared.fault.RunFault.TheVariants as run
 
 -- the settings of the arguments, or their first fault
 abbrev pub serve_settings : ServeArguments → Result Settings SettingsFault
@@ -122,10 +122,12 @@ abbrev pub KeepsQuiet : {W : Type 0} → StreamUse W → JournalFault → Type 0
 KeepsQuiet output journal.Disk = ⊤
 KeepsQuiet output journal.File = IsUntouched output
 KeepsQuiet output journal.NoFolder = IsUntouched output
+KeepsQuiet output journal.NoJournal = IsUntouched output
 KeepsQuiet output journal.Busy = IsUntouched output
 KeepsQuiet output (journal.Settings why) = IsUntouched output
 KeepsQuiet output (journal.Damaged damage) = IsUntouched output
 KeepsQuiet output (journal.Record number) = IsUntouched output
+KeepsQuiet output (journal.Upload why) = IsUntouched output
 
 -- what watches can't be had: the file of the log, or the port for numbers, or the machine has no such address
 abbrev pub IsOfWatching : RunFault → Type 0

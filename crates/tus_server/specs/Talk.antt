@@ -10,16 +10,12 @@ use Rattle.tus_steps.specs.Step.{IsStep}
 use Rattle.upload_book.specs.PlainBook.{PlainBook, opening_book}
 use Rattle.upload_book.specs.Settings.{Settings}
 use Rattle.upload_book.specs.declared.settings_fault.SettingsFault.{SettingsFault}
-use Rattle.tus_server.specs.Arguments.{TalkArguments}
-use Rattle.tus_server.specs.Cause.{NamesCause}
-use Rattle.tus_server.specs.Settings.{settings_given}
-use Rattle.tus_server.specs.StreamUse.{StreamUse, IsAlive, IsUntouched, KeepsBytes}
-use Rattle.tus_server.specs.declared.fault.RunFault.{RunFault}
-use Rattle.tus_server.specs.declared.fault.RunFault.TheVariants as run
-
--- the settings of the arguments, or their first fault
-abbrev pub talk_settings : TalkArguments → Result Settings SettingsFault
-talk_settings arguments = settings_given arguments.numbers arguments.tenants
+use Rattle.server_words.specs.Arguments.{TalkArguments}
+use Rattle.server_words.specs.Cause.{NamesCause}
+use Rattle.server_words.specs.Settings.{talk_settings}
+use Rattle.server_words.specs.StreamUse.{StreamUse, IsAlive, IsUntouched, KeepsBytes}
+use Rattle.server_words.specs.declared.fault.RunFault.{RunFault}
+use Rattle.server_words.specs.declared.fault.RunFault.TheVariants as run
 
 -- the moments of the messages: one moment, for 4,096 of them
 unfoldable pub moments_at : ℕ → List ℕ

@@ -1,7 +1,9 @@
 //! How much a book holds.
-ghost use Rattle.std.specs.Prelude.{◌≡◌, ◌<◌, length};
+ghost use Rattle.std.specs.Prelude.{◌≡◌, ◌+◌, ◌<◌, Err, IfNone, IfSome, length};
+ghost use Rattle.tus_server.specs.Held.{IsHeldFor, IsHeldIn, bytes_in, bytes_told, capped};
 ghost use Rattle.upload_book.specs.Book.{plain_of};
-ghost use Rattle.upload_book.specs.PlainBook.{tenant_book};
+ghost use Rattle.upload_book.specs.Look.{look_answer};
+ghost use Rattle.upload_book.specs.PlainBook.{answer_of, tenant_book};
 
 use upload_book::{Book, Moment, Name, Refusal};
 
@@ -14,7 +16,9 @@ pub struct Held {
 
 impl Held {
     /// Nothing.
-    pub fn none() -> Held {
+    pub fn none() -> Held
+        ensures { result ≡ record { uploads = 0; bytes = 0 } }
+    {
         Held {
             uploads: 0,
             bytes: 0,
@@ -22,7 +26,10 @@ impl Held {
     }
 
     /// Both together.
-    pub fn and(self, other: Held) -> Held {
+    pub fn and(self, other: Held) -> Held
+        ensures uploads { result.uploads ≡ capped (self.uploads + other.uploads) }
+        ensures bytes { result.bytes ≡ capped (self.bytes + other.bytes) }
+    {
         Held {
             uploads: self.uploads.saturating_add(other.uploads),
             bytes: self.bytes.saturating_add(other.bytes),
@@ -30,21 +37,22 @@ impl Held {
     }
 }
 
-/// What the book holds for all of its tenants.
-pub fn held_in(book: &Book) -> Held {
+/// What the book holds for all of its tenants, those uploads too that have expired.
+pub fn held_in(book: &Book) -> Held
+    ensures { IsHeldIn (plain_of book.now) result }
+{
+    let count = book.settings().tenant_count();
     let mut all = Held::none();
-    for tenant in 0..16u8 {
-        if usize::from(tenant) < book.settings().tenant_count() {
-            all = all.and(held_for(book, tenant));
-        }
+    for tenant in 0..count {
+        all = all.and(held_for(book, tenant as u8));
     }
     all
 }
 
-/// What the book holds for the tenant at this place, from 0, those uploads too that have expired.
+/// What the book holds for the tenant at this place, from 0.
 fn held_for(book: &Book, tenant: u8) -> Held
     requires { tenant < length (plain_of book.now).settings.tenants }
-    ensures { result.uploads ≡ length (tenant_book (plain_of book.now) tenant).uploads }
+    ensures { IsHeldFor (plain_of book.now).settings.numbers (tenant_book (plain_of book.now) tenant) result }
 {
     Held {
         uploads: book.upload_count(tenant),
@@ -53,17 +61,32 @@ fn held_for(book: &Book, tenant: u8) -> Held
 }
 
 /// How many bytes the uploads of the tenant at this place have together. Each id that was given is looked for.
-fn bytes_for(book: &Book, tenant: u8) -> u64 {
+fn bytes_for(book: &Book, tenant: u8) -> u64
+    requires { tenant < length (plain_of book.now).settings.tenants }
+    ensures { result ≡ capped (bytes_in (plain_of book.now).settings.numbers (tenant_book (plain_of book.now) tenant)) }
+{
+    let _ = book.settings();
     let mut bytes: u64 = 0;
-    let Some(start) = Moment::new(0) else {
-        return bytes;
-    };
     for id in 1..u64::MAX {
-        match book.look(&Name { tenant, id }, start) {
-            Ok(row) => bytes = bytes.saturating_add(row.offset),
-            Err(Refusal::Unknown) => return bytes,
-            Err(_) => {}
+        match bytes_at(book, &Name { tenant, id }) {
+            Some(more) => bytes = bytes.saturating_add(more),
+            None => return bytes,
         }
     }
     bytes
+}
+
+/// How many bytes the upload of this name has, none where it has ended; None where its id was never given.
+fn bytes_at(book: &Book, name: &Name) -> Option<u64>
+    ensures told { IfSome result (λ bytes. bytes ≡ bytes_told (answer_of (plain_of book.now) name.now.tenant (look_answer name.now.id 0))) }
+    ensures unknown { IfNone result (answer_of (plain_of book.now) name.now.tenant (look_answer name.now.id 0) ≡ Err Refusal.Unknown) }
+{
+    let Some(start) = Moment::new(0) else {
+        unreachable!("dates can name the first second");
+    };
+    match book.look(name, start) {
+        Ok(row) => Some(row.offset),
+        Err(Refusal::Unknown) => None,
+        Err(_) => Some(0),
+    }
 }

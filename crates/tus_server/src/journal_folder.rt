@@ -1,17 +1,16 @@
 //! The settings beside a journal: what is asked of them before it is opened, and what is put once it was.
 ghost use Rattle.std.specs.Prelude.{◌≡◌, ◌≢◌, [], false, Some, None, IfErr, IfOk, IfSome, IsErrOf, IsSome, IsTrue, OnOk};
 ghost use Rattle.kept_book.specs.Kept.{key_in, IsOpened};
-ghost use Rattle.tus_server.specs.JournalFault.{IsOfJournal, IsOfSystem};
-ghost use Rattle.tus_server.specs.JournalSettings.{Follows, IsMismatch};
-ghost use Rattle.tus_server.specs.SettingsFile.{settings_text};
-ghost use Rattle.tus_server.specs.declared.journal_fault.JournalFault.{JournalFault};
+ghost use Rattle.server_words.specs.JournalFault.{IsOfJournal, IsOfSystem};
+ghost use Rattle.server_words.specs.SettingsFile.{settings_text};
+ghost use Rattle.server_words.specs.declared.journal_fault.JournalFault.{JournalFault};
+ghost use Rattle.tus_server.specs.JournalSettings.{Follows, Gives, IsMismatch, IsUnreadable};
 
-use crate::difference::first_difference;
-use crate::fault::RunFault;
-use crate::journal_fault::{JournalFault, Mismatch};
 use crate::journals::{JOURNAL_KEY, SettingsFile};
-use crate::settings_file::{read_settings, settings_text};
 use kept_book::{KeptBook, open_or_create};
+use server_words::{
+    JournalFault, Mismatch, RunFault, first_difference, read_settings, settings_text,
+};
 use sqlite_disk::Disk;
 use std::alloc::Global;
 use std::str;
@@ -96,17 +95,26 @@ fn compare(alloc: Global, text: &[u8], settings: &Settings) -> Result<(), RunFau
     ensures follows { OnOk result (Follows settings.now text.now) }
     ensures mismatch { IfErr result (IsMismatch settings.now text.now) }
 {
-    let Ok(text) = str::from_utf8(text) else {
-        return Err(RunFault::Journal(JournalFault::Settings(Mismatch::Unreadable)));
-    };
-    let Some(journal) = read_settings(alloc, text)? else {
-        return Err(RunFault::Journal(JournalFault::Settings(Mismatch::Unreadable)));
-    };
+    let journal = journal_settings(alloc, text)?;
     match first_difference(&journal, settings) {
         Some(difference) => Err(RunFault::Journal(JournalFault::Settings(Mismatch::Differs(
             difference,
         )))),
         None => Ok(()),
+    }
+}
+
+/// The settings that the text beside a journal gives. The error is Settings with Unreadable where it gives none, or Memory.
+pub fn journal_settings(alloc: Global, text: &[u8]) -> Result<Settings, RunFault>
+    ensures given { IfOk result (λ settings. Gives text.now (Some settings)) }
+    ensures fault { IfErr result (IsUnreadable text.now) }
+{
+    let Ok(text) = str::from_utf8(text) else {
+        return Err(RunFault::Journal(JournalFault::Settings(Mismatch::Unreadable)));
+    };
+    match read_settings(alloc, text)? {
+        Some(settings) => Ok(settings),
+        None => Err(RunFault::Journal(JournalFault::Settings(Mismatch::Unreadable))),
     }
 }
 

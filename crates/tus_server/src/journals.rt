@@ -1,10 +1,9 @@
 //! Where journals lie: each in a folder, beside the settings that it is of.
-ghost use Rattle.std.specs.Prelude.{◌≡◌, List, ℕ, Option, Some, IfErr, OnOk, option_map};
+ghost use Rattle.std.specs.Prelude.{◌≡◌, List, ℕ, Option, Some, IfErr, IfOk, OnOk, option_map, ⊤};
 ghost use Rattle.std.specs.Borrow.{Bor};
-ghost use Rattle.tus_server.specs.JournalFault.{IsOfJournal, IsOfSystem};
+ghost use Rattle.server_words.specs.JournalFault.{IsOfJournal, IsOfSystem, IsUnread};
 
-use crate::fault::RunFault;
-use crate::journal_fault::{JournalFault, Mismatch};
+use server_words::{JournalFault, Mismatch, RunFault};
 use sqlite_disk::{Disk, Unknown};
 use sqlite_std_file::File as DiskFile;
 use std::fs::{File, OpenFile};
@@ -23,6 +22,9 @@ pub trait Journals {
 
     type File: SettingsFile + Drop;
 
+    /// What the folder at a path has, when it is read: the bytes of its journal's file, and the text of the settings beside it.
+    ghost has: { Self → List ℕ → List ℕ → List ℕ → Type 0 };
+
     /// The journal in the folder at a path, and the settings beside it. The folder is made where there is none, and so is the
     /// journal's file, without a byte. No other process can have the journal until its disk is let go. Beside it stands a
     /// file without a byte, whose name ends in `-wal`.
@@ -32,6 +34,25 @@ pub trait Journals {
     /// Unreadable where the settings are far too long; Disk where they can't be read; or Memory.
     fn open(&self, path: &str) -> Result<Folder<Self::Disk, Self::File>, RunFault>
         ensures { IfErr result IsOfJournal };
+
+    /// Reads the journal in the folder at a path, and the settings beside it. Nothing is made or written, and no lock is taken:
+    /// another process may have the journal, and write to it meanwhile.
+    ///
+    /// The error is NoJournal where there is no folder, or no file for the journal in it, or one that can't be opened; Settings
+    /// with Missing where no settings stand beside it, or with Unreadable where they are far too long; Disk where a read
+    /// fails; or Memory.
+    fn read(&self, path: &str) -> Result<JournalFiles, RunFault>
+        ensures read { IfOk result (λ files. has self.now path.now files.journal.items files.settings.items) }
+        ensures fault { IfErr result IsUnread };
+}
+
+/// What was read of the folder of a journal.
+#[derive(Drop)]
+pub struct JournalFiles {
+    /// The bytes of the journal's file.
+    pub journal: Vec<u8>,
+    /// The text of the settings beside it.
+    pub settings: Vec<u8>,
 }
 
 /// The folder of a journal.
@@ -71,6 +92,8 @@ impl<'a> Journals for MachineJournals<'a> {
 
     type File = MachineSettings<'a>;
 
+    ghost has = { λ _ _ _ _. ⊤ };
+
     fn open(&self, path: &str) -> Result<Folder<DiskFile, MachineSettings<'a>>, RunFault> {
         make_folder(self.rt, path)?;
         let journal = format!(in self.rt.alloc(); "{path}/journal")?;
@@ -80,6 +103,15 @@ impl<'a> Journals for MachineJournals<'a> {
             disk: files.db,
             file,
         })
+    }
+
+    fn read(&self, path: &str) -> Result<JournalFiles, RunFault> {
+        let alloc = self.rt.alloc();
+        let journal = read_journal(self.rt, format!(in alloc; "{path}/journal")?.as_str())?;
+        match read_text(self.rt, format!(in alloc; "{path}/settings")?.as_str())? {
+            Some(settings) => Ok(JournalFiles { journal, settings }),
+            None => Err(RunFault::Journal(JournalFault::Settings(Mismatch::Missing))),
+        }
     }
 }
 
@@ -154,9 +186,35 @@ fn sync_parent(rt: &HostRuntime, path: &str) -> io::Result<()> {
     File::open(rt, parent.as_str())?.sync_all()
 }
 
+/// The bytes of a journal's file.
+fn read_journal(rt: &HostRuntime, path: &str) -> Result<Vec<u8>, RunFault>
+    ensures { IfErr result IsUnread }
+{
+    let found = fs::metadata(rt, path).map_err(no_journal)?;
+    if !found.is_file() {
+        return Err(RunFault::Journal(JournalFault::NoJournal));
+    }
+    let mut file = File::open(rt, path).map_err(no_journal)?;
+    let mut bytes = Vec::with_capacity(rt.alloc(), found.len() as usize)?;
+    file.read_to_end(&mut bytes).map_err(disk_fault)?;
+    Ok(bytes)
+}
+
+/// What it is to the program that a journal's file can't be read at all.
+fn no_journal(error: io::Error) -> RunFault
+    ensures { IsUnread result }
+{
+    if error.kind() == ErrorKind::OutOfMemory {
+        RunFault::Memory
+    } else {
+        RunFault::Journal(JournalFault::NoJournal)
+    }
+}
+
 /// The text of a file; None where there is no such file.
 fn read_text(rt: &HostRuntime, path: &str) -> Result<Option<Vec<u8>>, RunFault>
-    ensures { IfErr result IsOfJournal }
+    ensures of_journal { IfErr result IsOfJournal }
+    ensures unread { IfErr result IsUnread }
 {
     let mut file = match File::open(rt, path) {
         Ok(file) => file,

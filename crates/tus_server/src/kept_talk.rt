@@ -1,17 +1,14 @@
 //! The command `talk` with a journal.
 ghost use Rattle.std.specs.Prelude.{◌≡◌, false};
-ghost use Rattle.tus_server.specs.Arguments.{talk_arguments_of};
+ghost use Rattle.server_words.specs.Arguments.{talk_arguments_of};
+ghost use Rattle.server_words.specs.StreamUse.{used};
 ghost use Rattle.tus_server.specs.KeptTalk.{KeptTalkEnds};
-ghost use Rattle.tus_server.specs.StreamUse.{used};
 
 use crate::at_journal::AtJournal;
-use crate::fault::RunFault;
-use crate::journal_fault::JournalFault;
 use crate::journal_folder::open_kept;
 use crate::journals::{Folder, Journals};
-use crate::options::TalkOptions;
-use crate::settings::settings_with;
 use http_wire::{Sink, Source, converse};
+use server_words::{JournalFault, RunFault, TalkOptions, settings_with};
 use sqlite_disk::Disk;
 use std::alloc::Global;
 use tus_workers::MESSAGES_MAX;

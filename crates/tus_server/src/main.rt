@@ -1,40 +1,31 @@
-//! The server's program: `tus-server talk` holds one conversation over its standard streams, and `tus-server
-//! serve` answers connections.
+//! The server's program: `tus-server talk` holds one conversation over its standard streams, `tus-server serve` answers
+//! connections, and `tus-server journal` looks into what either keeps.
 #![tactic(auto)]
 
 ghost use Rattle.std.specs.Prelude.{◌≡◌, ◌≢◌};
 ghost use Rattle.std.specs.IoError.{error_kind};
 
-mod arguments;
 mod at_journal;
-mod cause;
-mod command_line;
-mod difference;
-mod fault;
+mod check;
+mod export;
 mod held;
-mod journal_fault;
 mod journal_folder;
 mod journals;
 mod keeping;
 mod kept_serve;
 mod kept_talk;
 mod lines;
-mod options;
+mod printing;
 mod program;
-mod quota;
-mod sentence;
+mod reading;
 mod serve;
-mod settings;
-mod settings_file;
 mod started;
 mod talk;
-mod version;
 
-use crate::fault::{RunFault, report_fault};
 use crate::journals::MachineJournals;
 use crate::program::run;
-use crate::sentence::{NO_TEXT, WORDS_MEMORY};
 use http_wire::Tapped;
+use server_words::{NO_TEXT, RunFault, WORDS_MEMORY, report_fault};
 use std::env;
 use std::io::{Error, ErrorKind};
 use std::process::ExitCode;

@@ -2,24 +2,24 @@
 ghost use Rattle.std.specs.Prelude.{◌≡◌, ◌≢◌, false, map};
 ghost use Rattle.clap.specs.Values.{kind_of};
 ghost use Rattle.clap.specs.Words.{subcommand_rows_of};
-ghost use Rattle.tus_server.specs.Arguments.{arguments_entered};
+ghost use Rattle.server_words.specs.Arguments.{arguments_entered};
+ghost use Rattle.server_words.specs.StreamUse.{used};
 ghost use Rattle.tus_server.specs.Run.{Explains, Performs, RunEnds, Tells};
 ghost use Rattle.tus_server.specs.Sockets.{sockets};
-ghost use Rattle.tus_server.specs.StreamUse.{used};
 
-use crate::arguments::command_options;
-use crate::cause::Cause;
-use crate::command_line::parsed;
-use crate::fault::{RunFault, put_or_fail, report, report_fault};
+use crate::check::check;
+use crate::export::export;
 use crate::journals::Journals;
 use crate::kept_talk::talk_kept;
-use crate::options::CommandOptions;
-use crate::sentence::{OUTPUT, UNTOLD, WORDS_MEMORY};
 use crate::serve::serve;
 use crate::talk::talk;
 use clap::ArgMatches;
 use clap::error::ErrorKind;
 use http_wire::{Sink, Source, put_all};
+use server_words::{
+    Cause, CommandOptions, OUTPUT, RunFault, UNTOLD, WORDS_MEMORY, command_options, parsed,
+    put_or_fail, report, report_fault,
+};
 use sqlite_disk::Disk;
 use std::alloc::Global;
 use std::convert::AsStr;
@@ -76,7 +76,7 @@ where
     requires writer { W.has_failed writer.old ≡ false }
     requires errors { E.has_failed errors.old ≡ false }
     ensures { RunEnds (sockets L.asked L.place L.Acceptor.accepted L.Acceptor.has_failed L.Acceptor.is_stopped)
-        D.seen D.may_leave D.is_clean result
+        D.seen D.may_leave D.is_clean (J.has journals.now) result
         (used R.remaining R.has_failed reader.old reader.new)
         (used W.contents W.has_failed writer.old writer.new)
         (used E.contents E.has_failed errors.old errors.new) (map S.text words.now) }
@@ -125,7 +125,7 @@ where
     requires writer { W.has_failed writer.old ≡ false }
     requires errors { E.has_failed errors.old ≡ false }
     ensures { Performs (sockets L.asked L.place L.Acceptor.accepted L.Acceptor.has_failed L.Acceptor.is_stopped)
-        D.seen D.may_leave D.is_clean result
+        D.seen D.may_leave D.is_clean (J.has journals.now) result
         (used R.remaining R.has_failed reader.old reader.new)
         (used W.contents W.has_failed writer.old writer.new)
         (used E.contents E.has_failed errors.old errors.new)
@@ -142,6 +142,14 @@ where
         Some(CommandOptions::Serve(options)) => {
             let outcome = serve::<L, D, H, J, W>(rt, journals, alloc, &options, writer);
             report(outcome, &CommandOptions::Serve(options), errors)
+        }
+        Some(CommandOptions::Check(folder)) => {
+            let outcome = check(journals, alloc, folder, writer);
+            report(outcome, &CommandOptions::Check(folder), errors)
+        }
+        Some(CommandOptions::Export(options)) => {
+            let outcome = export(journals, alloc, &options, writer);
+            report(outcome, &CommandOptions::Export(options), errors)
         }
         None => REFUSED,
     }

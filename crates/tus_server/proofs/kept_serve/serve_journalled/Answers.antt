@@ -1,12 +1,12 @@
 use Rattle.std.proofs.Common.{◌≡◌, ◌∙◌, true, Some, Result, Ok, Err, OnOk, inl, inr, ap, arith, length, sym}
 use Rattle.std.proofs.lemmas.Result.{err_from_is_err_and}
-use Rattle.tus_server.specs.Arguments.{serve_arguments_of}
-use Rattle.tus_server.specs.JournalFault.{IsOfSystem}
+use Rattle.server_words.specs.Arguments.{serve_arguments_of}
+use Rattle.server_words.specs.JournalFault.{IsOfSystem}
+use Rattle.server_words.specs.SettingsFile.{settings_text}
+use Rattle.server_words.specs.StreamUse.{used}
+use Rattle.server_words.specs.declared.fault.RunFault.{RunFault}
 use Rattle.tus_server.specs.Serve.{BreaksOff, is_of_kept_service}
-use Rattle.tus_server.specs.SettingsFile.{settings_text}
 use Rattle.tus_server.specs.Sockets.{sockets}
-use Rattle.tus_server.specs.StreamUse.{used}
-use Rattle.tus_server.specs.declared.fault.RunFault.{RunFault}
 use Rattle.upload_book.specs.Settings.{Settings}
 use Rattle.tus_server.proofs.DeskLemmas.{new_desks-last, new_desks-length}
 use Rattle.tus_server.proofs.ServeLemmas.{reopening-by_cause, reopening-kept}

@@ -1,11 +1,11 @@
 use Rattle.std.proofs.Common.{Bool, false, Result, Err, inr, refl, ap, ◌∙◌, sym, subst}
 use Rattle.std.proofs.lemmas.Result.{err_from_is_err_and}
 use Rattle.http_wire.specs.Exchange.{Exchange}
-use Rattle.tus_server.specs.Arguments.{talk_arguments_of}
+use Rattle.server_words.specs.Arguments.{talk_arguments_of}
+use Rattle.server_words.specs.StreamUse.{used}
+use Rattle.server_words.specs.declared.fault.RunFault.{RunFault}
 use Rattle.tus_server.specs.KeptTalk.{HoldsKept, KeptTalkEnds}
-use Rattle.tus_server.specs.StreamUse.{used}
 use Rattle.tus_server.specs.declared.at_journal.AtJournal.{AtJournal}
-use Rattle.tus_server.specs.declared.fault.RunFault.{RunFault}
 use Rattle.tus_server.proofs.KeptTalkLemmas.{KeptTalkEnds-broken, holds}
 use Rattle.tus_server.proofs.TalkLemmas.{is_ok_by}
 use Rattle.tus_server.proofs.kept_talk.talk_kept.Goals as goal

@@ -4,13 +4,13 @@ use Rattle.std.proofs.lemmas.Result.{err_from_is_err_and}
 use Rattle.std.specs.Io.KnownBytes.{Appends}
 use Rattle.std.specs.Vec.{with_items}
 use Rattle.tus_workers.specs.declared.work_options.WorkOptions.{WorkOptions}
-use Rattle.tus_server.specs.Arguments.{serve_arguments_of}
-use Rattle.tus_server.specs.Fault.{fault_of_wire}
+use Rattle.server_words.specs.Arguments.{serve_arguments_of}
+use Rattle.server_words.specs.Fault.{fault_of_wire}
+use Rattle.server_words.specs.StreamUse.{used}
+use Rattle.server_words.specs.declared.cause.Cause.TheVariants.{Accept, Output, Port, Workers}
 use Rattle.tus_server.specs.Lines.{listening_text}
 use Rattle.tus_server.specs.Serve.{BreaksOff, IsPlaceAsked}
 use Rattle.tus_server.specs.Sockets.{sockets}
-use Rattle.tus_server.specs.StreamUse.{used}
-use Rattle.tus_server.specs.declared.cause.Cause.TheVariants.{Accept, Output, Port, Workers}
 use Rattle.tus_server.proofs.ServeLemmas.{BreaksOff-failed, BreaksOff-second, PrintsBoth-lines, ServesEach-whole, by_cause, unstopped-unasked}
 use Rattle.tus_server.proofs.serve.serve_desks.Goals as goal
 

@@ -2,10 +2,10 @@ use Rattle.std.proofs.Common.{Result, Err, ap, ◌∙◌, sym, subst}
 use Rattle.std.proofs.lemmas.Result.{err_from_is_err_and}
 use Rattle.http_wire.specs.Exchange.{Exchange}
 use Rattle.upload_book.specs.Book.{StoredBook}
-use Rattle.tus_server.specs.Arguments.{talk_arguments_of}
-use Rattle.tus_server.specs.StreamUse.{used}
+use Rattle.server_words.specs.Arguments.{talk_arguments_of}
+use Rattle.server_words.specs.StreamUse.{used}
+use Rattle.server_words.specs.declared.fault.RunFault.{RunFault}
 use Rattle.tus_server.specs.Talk.{TalkEnds}
-use Rattle.tus_server.specs.declared.fault.RunFault.{RunFault}
 use Rattle.tus_server.proofs.TalkLemmas.{TalkEnds-broken, TalkEnds-held}
 use Rattle.tus_server.proofs.talk.talk.Goals as goal
 

@@ -1,0 +1,9 @@
+pub mod ArgumentsLemmas
+pub mod CommandLineLemmas
+pub mod FaultLemmas
+pub mod HelpLemmas
+pub mod MadeAgainLemmas
+pub mod SentenceLemmas
+pub mod SettingsFileLemmas
+pub mod SettingsLemmas
+pub mod TenantLemmas

@@ -1,0 +1,33 @@
+use Rattle.std.proofs.Common.{◌∙◌, ap, codes}
+use Rattle.std.proofs.lemmas.Result.{IfOk-weaker}
+use Rattle.clap.specs.Words.{App, Rule, with_rule}
+use Rattle.server_words.specs.CommandLine.{flag_rule, option_between, text_rule}
+use Rattle.server_words.proofs.CommandLineLemmas.{added}
+use Rattle.server_words.proofs.command_line.service.Goals as goal
+
+abbrev address : Rule
+address = text_rule (codes "address") (codes "127.0.0.1")
+
+abbrev port : Rule
+port = option_between (codes "port") (codes "0") 0 65535
+
+abbrev workers : Rule
+workers = option_between (codes "workers") (codes "2") 1 16
+
+abbrev connections : Rule
+connections = option_between (codes "connections") (codes "1") 1 4096
+
+abbrev forever : Rule
+forever = flag_rule (codes "forever")
+
+abbrev idle : Rule
+idle = option_between (codes "idle") (codes "60") 0 86400
+
+pub returns : goal.returns
+returns c =
+    let first = added _ _ _ address c.in_ok-arg.ensures c.address.ensures.local c.address.ensures.rule in
+    let one = added _ _ _ port c.in_ok-arg-2.ensures c.port.ensures.local c.port.ensures.rule ∙ ap (λ (a : App). with_rule a port) first in
+    let two = added _ _ _ workers c.in_ok-arg-3.ensures c.workers.ensures.local c.workers.ensures.rule ∙ ap (λ (a : App). with_rule a workers) one in
+    let three = added _ _ _ connections c.in_ok-arg-4.ensures c.connections.ensures.local c.connections.ensures.rule ∙ ap (λ (a : App). with_rule a connections) two in
+    let four = added _ _ _ forever c.in_ok-arg-5.ensures c.forever.ensures.local c.forever.ensures.rule ∙ ap (λ (a : App). with_rule a forever) three in
+    IfOk-weaker c.arg-6.result _ _ (λ r h. added _ _ r idle h c.idle.ensures.local c.idle.ensures.rule ∙ ap (λ (a : App). with_rule a idle) four) c.arg-6.ensures

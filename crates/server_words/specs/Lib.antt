@@ -1,0 +1,12 @@
+pub mod Arguments
+pub mod Cause
+pub mod CommandLine
+pub mod Fault
+pub mod JournalFault
+pub mod MadeAgain
+pub mod MayFollow
+pub mod Quota
+pub mod Sentences
+pub mod Settings
+pub mod SettingsFile
+pub mod StreamUse

@@ -1,0 +1,242 @@
+//! How the options are read from what was found in the command line.
+ghost use Rattle.std.specs.Borrow.{Bor};
+ghost use Rattle.std.specs.Prelude.{◌≡◌, ℕ, IfSome, List, codes, false, option_map};
+ghost use Rattle.clap.specs.Walk.{rows_of};
+ghost use Rattle.clap.specs.Words.{first_of, found_of, subcommand_rows_of};
+ghost use Rattle.server_words.specs.Arguments.{arguments_entered, arguments_of, at_once_given, bounds_given, check, connections_given, export, export_arguments, grace_given, is_by_readiness, is_set, metrics_set, moment_set, number_given, number_under, numbers_given, port_given, serve, serve_arguments, talk, talk_arguments, work_given, workers_given};
+ghost use Rattle.upload_book.specs.Settings.{is_outside};
+
+use crate::options::{CommandOptions, ExportOptions, ServeOptions, TalkOptions};
+use clap::ArgMatches;
+use tus_workers::{Bounds, WorkOptions};
+use upload_book::{Moment, Numbers};
+
+/// The command that was entered, with its options. None where there is none, its moment is past the year 9999, it has no
+/// address, one of its ports is none, or it is to have no worker or more than 16.
+pub fn command_options<'m, 'a>(matches: &'m ArgMatches<'a>) -> Option<CommandOptions<'m, 'a>>
+    ensures { option_map arguments_of result ≡ arguments_entered (subcommand_rows_of matches.now) }
+{
+    if let Some(found) = matches.subcommand_matches("talk") {
+        return talk_options(found);
+    }
+    if let Some(found) = matches.subcommand_matches("serve") {
+        return serve_options(found);
+    }
+    match matches.subcommand_matches("check") {
+        Some(found) => check_options(found),
+        None => export_options(matches.subcommand_matches("export")?),
+    }
+}
+
+/// The command `talk`, with the options that were found.
+fn talk_options<'m, 'a>(found: &'m ArgMatches<'a>) -> Option<CommandOptions<'m, 'a>>
+    ensures { option_map arguments_of result ≡ option_map talk (talk_arguments (rows_of (found_of found.now))) }
+{
+    Some(CommandOptions::Talk(TalkOptions {
+        numbers: numbers_of(found),
+        moment: Moment::new(number_of(found, "moment"))?,
+        journal: found.get_str("journal"),
+        tenants: found.get_strs("tenant")?,
+    }))
+}
+
+/// The command `serve`, with the options that were found.
+fn serve_options<'m, 'a>(found: &'m ArgMatches<'a>) -> Option<CommandOptions<'m, 'a>>
+    ensures { option_map arguments_of result ≡ option_map serve (serve_arguments (rows_of (found_of found.now))) }
+{
+    let address = found.get_str("address")?;
+    let work = work_of(found)?;
+    let port = port_of(found)?;
+    let workers = workers_of(found)?;
+    let metrics = metrics_of(found)?;
+    let journal = text_given(found, "journal");
+    let log = text_given(found, "log");
+    Some(CommandOptions::Serve(ServeOptions {
+        numbers: numbers_of(found),
+        tenants: found.get_strs("tenant")?,
+        address,
+        port,
+        journal,
+        workers,
+        work,
+        log,
+        metrics,
+    }))
+}
+
+/// The command `journal check`, with its folder.
+fn check_options<'m, 'a>(found: &'m ArgMatches<'a>) -> Option<CommandOptions<'m, 'a>>
+    ensures { option_map arguments_of result ≡ option_map check (first_of (codes "folder") (rows_of (found_of found.now))) }
+{
+    Some(CommandOptions::Check(text_given(found, "folder")?))
+}
+
+/// The command `journal export`, with its folder and its upload.
+fn export_options<'m, 'a>(found: &'m ArgMatches<'a>) -> Option<CommandOptions<'m, 'a>>
+    ensures { option_map arguments_of result ≡ option_map export (export_arguments (rows_of (found_of found.now))) }
+{
+    Some(CommandOptions::Export(ExportOptions {
+        folder: text_given(found, "folder")?,
+        upload: text_given(found, "upload")?,
+    }))
+}
+
+/// The numbers that the options give. Ids and totals are bounded by their type alone.
+fn numbers_of(found: &ArgMatches) -> Numbers
+    ensures { result ≡ numbers_given (rows_of (found_of found.now)) }
+{
+    Numbers {
+        blocks: number_of(found, "blocks"),
+        block_size: number_of(found, "block-size"),
+        lifetime: number_of(found, "lifetime"),
+        max_size: number_of(found, "max-size"),
+        uploads: number_of(found, "uploads"),
+        last_id: u64::MAX - 1,
+        last_total: u64::MAX,
+    }
+}
+
+/// The number of the option of this name; 0 where it has none, which its default rules out.
+fn number_of(found: &ArgMatches, name: &str) -> u64
+    ensures { result ≡ number_under name.now (rows_of (found_of found.now)) }
+{
+    number_given(found, name).unwrap_or(0)
+}
+
+/// The number of the option of this name, if it has one.
+fn number_given(found: &ArgMatches, name: &str) -> Option<u64>
+    ensures { result ≡ number_given name.now (rows_of (found_of found.now)) }
+{
+    found.get_one::<u64>(name)
+}
+
+/// Whether the flag of this name is set.
+fn is_set(found: &ArgMatches, name: &str) -> bool
+    ensures { result ≡ is_set name.now (rows_of (found_of found.now)) }
+{
+    found.get_one::<bool>(name).unwrap_or(false)
+}
+
+/// The text of the option of this name, if it has one.
+fn text_given<'a>(found: &ArgMatches<'a>, name: &str) -> Option<&'a str>
+    ensures { option_map (λ (text : Bor (List ℕ)). text.now) result ≡ first_of name.now (rows_of (found_of found.now)) }
+{
+    found.get_str(name)
+}
+
+/// Whether clients are served by readiness: there is a journal, a log, or a port at which numbers are asked for.
+fn is_by_readiness(found: &ArgMatches) -> bool
+    ensures { result ≡ is_by_readiness (rows_of (found_of found.now)) }
+{
+    text_given(found, "journal").is_some()
+        || text_given(found, "log").is_some()
+        || number_given(found, "metrics").is_some()
+}
+
+/// The port at which numbers are asked for, if there is one; None where the number is none.
+fn metrics_of(found: &ArgMatches) -> Option<Option<u16>>
+    ensures { result ≡ metrics_set (number_given (codes "metrics") (rows_of (found_of found.now))) }
+{
+    match number_given(found, "metrics") {
+        Some(port) if port > 65_535 => None,
+        Some(port) => Some(Some(port as u16)),
+        None => Some(None),
+    }
+}
+
+/// How many workers the option gives; None where the number is not from 1 to 16.
+fn workers_of(found: &ArgMatches) -> Option<usize>
+    ensures given { result ≡ workers_given (rows_of (found_of found.now)) }
+    ensures in_range { IfSome result (λ workers. is_outside workers 16 ≡ false) }
+{
+    let workers = number_of(found, "workers");
+    if workers == 0 || workers > 16 {
+        None
+    } else {
+        Some(workers as usize)
+    }
+}
+
+/// The port that the option gives; None where the number is none.
+fn port_of(found: &ArgMatches) -> Option<u16>
+    ensures { result ≡ port_given (rows_of (found_of found.now)) }
+{
+    let port = number_of(found, "port");
+    if port <= 65_535 {
+        Some(port as u16)
+    } else {
+        None
+    }
+}
+
+/// What each worker is asked for; None where the moment is past the year 9999, or a worker is to hold no connection or more
+/// than 16,384.
+fn work_of(found: &ArgMatches) -> Option<WorkOptions>
+    ensures { result ≡ work_given (rows_of (found_of found.now)) }
+{
+    let moment = moment_of(found)?;
+    let at_once = at_once_of(found)?;
+    Some(WorkOptions {
+        moment,
+        connections: connections_of(found),
+        at_once,
+        bounds: bounds_of(found),
+        body_memory: number_of(found, "body-memory"),
+        by_readiness: is_by_readiness(found),
+        grace: grace_of(found),
+    })
+}
+
+/// For how many seconds messages may still end once a stop was asked for, if it can be.
+fn grace_of(found: &ArgMatches) -> Option<u64>
+    ensures { result ≡ grace_given (rows_of (found_of found.now)) }
+{
+    match number_given(found, "metrics") {
+        Some(_) => Some(number_of(found, "grace")),
+        None => None,
+    }
+}
+
+/// How many connections a worker holds at once; None where the number is not from 1 to 16,384.
+fn at_once_of(found: &ArgMatches) -> Option<usize>
+    ensures { result ≡ at_once_given (rows_of (found_of found.now)) }
+{
+    match number_given(found, "at-once") {
+        Some(number) if number == 0 || number > 16_384 => None,
+        Some(number) => Some(number as usize),
+        None if is_set(found, "forever") => Some(8192),
+        None => Some(1),
+    }
+}
+
+/// What a client may take at most.
+fn bounds_of(found: &ArgMatches) -> Bounds
+    ensures { result ≡ bounds_given (rows_of (found_of found.now)) }
+{
+    Bounds {
+        idle: number_of(found, "idle"),
+        message_seconds: number_of(found, "message-seconds"),
+        least_rate: number_of(found, "least-rate"),
+    }
+}
+
+/// How many connections a worker accepts: without a bound it is the greatest number.
+fn connections_of(found: &ArgMatches) -> u64
+    ensures { result ≡ connections_given (rows_of (found_of found.now)) }
+{
+    if is_set(found, "forever") {
+        u64::MAX
+    } else {
+        number_of(found, "connections")
+    }
+}
+
+/// The moment that is set, if any; None where it is past the year 9999.
+fn moment_of(found: &ArgMatches) -> Option<Option<Moment>>
+    ensures { result ≡ moment_set (number_given (codes "moment") (rows_of (found_of found.now))) }
+{
+    match number_given(found, "moment") {
+        Some(secs) => Some(Some(Moment::new(secs)?)),
+        None => Some(None),
+    }
+}

@@ -1,0 +1,28 @@
+//! The words of the server: what its command line says, the settings that words and numbers give, and what it says of faults.
+//! Nothing here opens a file or a socket; the lines of a fault go to a stream that the caller has.
+#![tactic(auto)]
+
+mod arguments;
+mod cause;
+mod command_line;
+mod difference;
+mod fault;
+mod journal_fault;
+mod options;
+mod quota;
+mod sentence;
+mod settings;
+mod settings_file;
+mod version;
+
+pub use arguments::command_options;
+pub use cause::{Cause, PortFault};
+pub use command_line::parsed;
+pub use difference::{Difference, first_difference};
+pub use fault::{RunFault, put_or_fail, report, report_fault};
+pub use journal_fault::{JournalFault, Mismatch, NoUpload};
+pub use options::{CommandOptions, ExportOptions, ServeOptions, TalkOptions};
+pub use quota::read_quota;
+pub use sentence::{Excerpt, NO_TEXT, OUTPUT, UNTOLD, WORDS_MEMORY};
+pub use settings::settings_with;
+pub use settings_file::{read_settings, settings_text};

@@ -1,0 +1,60 @@
+//! What the command line asks for: a command with its options.
+ghost use Rattle.std.specs.Prelude.{◌≡◌, None, false};
+ghost use Rattle.upload_book.specs.Settings.{is_outside};
+
+use tus_workers::WorkOptions;
+use upload_book::{Moment, Numbers};
+
+/// A command with what it was asked for.
+#[derive(Clone, Copy)]
+pub enum CommandOptions<'m, 'a> {
+    Talk(TalkOptions<'m, 'a>),
+    Serve(ServeOptions<'m, 'a>),
+    /// `journal check`, of the journal in this folder.
+    Check(&'a str),
+    Export(ExportOptions<'a>),
+}
+
+/// What the command `talk` was asked for.
+#[derive(Clone, Copy)]
+pub struct TalkOptions<'m, 'a> {
+    pub numbers: Numbers,
+    /// The moment of every message.
+    pub moment: Moment,
+    /// The folder of the journal, where there is one.
+    pub journal: Option<&'a str>,
+    /// Words NAME:QUOTA, as they were given.
+    pub tenants: &'m [&'a str],
+}
+
+/// What the command `serve` was asked for.
+#[derive(Clone, Copy)]
+pub struct ServeOptions<'m, 'a> {
+    pub numbers: Numbers,
+    /// Words NAME:QUOTA, as they were given.
+    pub tenants: &'m [&'a str],
+    /// The address that is listened at, as it was given.
+    pub address: &'a str,
+    /// The port that is listened at; 0 is any that is free.
+    pub port: u16,
+    /// The folder of the journal, where there is one.
+    pub journal: Option<&'a str>,
+    /// How many workers there are, from 1 to 16.
+    pub workers: usize,
+    pub work: WorkOptions,
+    /// The file of the log, where there is one; `-` is standard error.
+    pub log: Option<&'a str>,
+    /// The port at which numbers and a stop are asked for, where there is one.
+    pub metrics: Option<u16>,
+    pub ghost workers_in_range: { is_outside workers 16 ≡ false },
+    pub ghost grace_with_port: { metrics ≡ None → work.grace ≡ None },
+}
+
+/// What the command `journal export` was asked for.
+#[derive(Clone, Copy)]
+pub struct ExportOptions<'a> {
+    /// The folder of the journal.
+    pub folder: &'a str,
+    /// The upload in it, as TENANT/ID.
+    pub upload: &'a str,
+}

@@ -1,8 +1,0 @@
-use Rattle.std.proofs.Common.{◌≡◌, ◌+◌, drop}
-use Rattle.tus_server.specs.MayFollow.{tenant_difference}
-use Rattle.tus_server.proofs.difference.tenant_difference.Given as goal
-
--- up to this place nothing differs
-abbrev pub invariant-loop-place : goal.invariant-loop-place
-invariant-loop-place l =
-    tenant_difference 1 l.journal.tenants l.options.tenants ≡ tenant_difference (l.place + 1) (drop l.place l.journal.tenants) (drop l.place l.options.tenants)

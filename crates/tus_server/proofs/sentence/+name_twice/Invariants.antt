@@ -1,5 +1,0 @@
-use Rattle.std.proofs.Common.{length}
-use Rattle.tus_server.proofs.sentence.+name_twice.Given as goal
-
-abbrev pub decreases-name_twice : goal.decreases-name_twice
-decreases-name_twice l = length l.words.now

@@ -1,5 +1,0 @@
-use Rattle.std.proofs.Common.{length}
-use Rattle.tus_server.proofs.sentence.+quota_sum.Given as goal
-
-abbrev pub decreases-quota_sum : goal.decreases-quota_sum
-decreases-quota_sum l = length l.words.now

@@ -1,9 +1,0 @@
-use Rattle.std.proofs.Common.{◌≡◌, List, ℕ, ◌++◌, map, take}
-use Rattle.upload_book.specs.declared.settings.TenantQuota.{TenantQuota}
-use Rattle.tus_server.specs.SettingsFile.{lines, number_words, tenant_word}
-use Rattle.tus_server.proofs.settings_file.settings_text.Given as goal
-
--- the text has the numbers, and the tenants so far
-abbrev pub invariant-loop-place : goal.invariant-loop-place
-invariant-loop-place l =
-    l.text.items ≡ lines (number_words l.settings.numbers ++ map {A = TenantQuota} {B = List ℕ} tenant_word (take l.place l.settings.tenants))
