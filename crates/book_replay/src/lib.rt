@@ -2,11 +2,13 @@
 #![tactic(auto)]
 
 mod fault;
+mod fitting;
 mod laws;
 mod made;
 mod replaying;
 
 pub use fault::ReplayFault;
+pub use fitting::tell_fits;
 pub use laws::{events_are_replayed, replays_tell_events};
 pub use made::can_be_made;
 pub use replaying::replay;

@@ -1,22 +1,25 @@
 -- What is kept as events are, and what a crash leaves of it.
 use Rattle.logbook.specs.Pages.{Book}
-use Rattle.std.proofs.Common.{◌≡◌, ℕ, ◌-◌, ◌≤◌, Bool, false, List, [], ◌∷◌, ◌++◌, length, map, take, drop, Option, Some, Result, Ok, Err, OnOk, refl, sym, ap, subst, ◌∙◌, append_assoc, arith}
+use Rattle.std.proofs.Common.{◌≡◌, ℕ, ◌+◌, ◌-◌, ◌≤◌, Bool, false, List, [], ◌∷◌, ◌++◌, length, map, take, drop, Option, Some, None, Result, Ok, Err, OnOk, refl, sym, ap, subst, ◌∙◌, append_assoc, arith}
 use Rattle.std.proofs.lemmas.List.{append-nil, length-append, length-map, map-append, take-append-drop, take-map}
 use mathlib.Core.List.{IsPrefix}
 use Rattle.sqlite_disk.specs.declared.Disk.{Ghosts}
-use Rattle.book_replay.specs.Replay.{record_of, records_of}
+use Rattle.book_replay.specs.Replay.{AllHappen, after_record, goes_on, record_of, records_of, replayed}
+use Rattle.book_replay.proofs.ReplayLemmas.{all-replayed}
 use Rattle.journal_file.specs.declared.journal.Journal.{Journal}
 use Rattle.journal_file.specs.Journal.{disk_of, key_of, room_of, IsJournal}
 use Rattle.journal_file.proofs.JournalLemmas.{journal_leaves}
 use Rattle.journal_frames.specs.Crash.{Leaves}
-use Rattle.upload_book.specs.Events.{ChangeEvent}
+use Rattle.upload_book.specs.Events.{ChangeEvent, book_after_event}
+use Rattle.upload_book.specs.PlainBook.{PlainBook, opening_book}
 use Rattle.upload_book.specs.Settings.{Settings}
 use Rattle.head_board.specs.Event.{Event}
-use Rattle.head_board.specs.Events.{HaveHappened, change_event}
-use Rattle.tus_shared.specs.Journal.{event_frame, event_frames}
+use Rattle.head_board.specs.Events.{HaveHappened, book_at, change_event}
+use Rattle.tus_shared.specs.Journal.{CanBeReplayed, event_frame, event_frames}
 use Rattle.tus_shared.proofs.EventLemmas.{happened-first}
 use Rattle.tus_shared.proofs.LogLaws.{prefix-on}
-use Rattle.journal_keeper.specs.Keeper.{event_records, IsKeeper, IsLeft}
+use Rattle.tus_shared.proofs.QueueLemmas.{after-more}
+use Rattle.journal_keeper.specs.Keeper.{event_records, AreReplayed, IsKeeper, IsLeft}
 use Rattle.journal_keeper.specs.Waiting.{frames_each}
 
 -- ---- records of events
@@ -51,19 +54,63 @@ pub on_ok : {A E : Type 0} (r : Result A E) (P : Type 0) → P → OnOk r P
 on_ok (Ok x) P p = p
 on_ok (Err why) P p = tt
 
+-- ---- the book that is made of records
+
+-- what can be made again of more records, can be of the first
+replay-first : (b : PlainBook) (first more : List Event) → AllHappen b (map {A = Event} {B = ChangeEvent} change_event (first ++ more)) → AllHappen b (map {A = Event} {B = ChangeEvent} change_event first)
+replay-first b [] more all = tt
+replay-first b (e ∷ first) more all = (all.0, replay-first (book_after_event b (change_event e)) first more all.1)
+
+replay-front : (s : Settings) (kept first more : List Event) → CanBeReplayed s kept (first ++ more) → CanBeReplayed s kept first
+replay-front s kept first more all = replay-first (book_at s kept) first more all
+
+-- the records behind some of which a book is made are made on that book
+goes-more : (number : ℕ) (first more : List (List ℕ)) (next : PlainBook) (made : Option PlainBook)
+    → ((b : PlainBook) → replayed (number + 1) b first ≡ Ok next → replayed (number + 1) b (first ++ more) ≡ replayed ((number + 1) + length first) next more)
+    → goes_on number made (λ after. replayed (number + 1) after first) ≡ Ok next
+    → goes_on number made (λ after. replayed (number + 1) after (first ++ more)) ≡ replayed ((number + 1) + length first) next more
+goes-more number first more next None rest is = absurd (cc (is))
+goes-more number first more next (Some b) rest is = rest b is
+
+pub replayed-more : (number : ℕ) (b next : PlainBook) (first more : List (List ℕ)) → replayed number b first ≡ Ok next → replayed number b (first ++ more) ≡ replayed (number + length first) next more
+replayed-more number b next [] more is =
+    let nothing : number ≡ number + length {A = List ℕ} [] = omega arith in
+    ap (λ (x : PlainBook). replayed number x more) (ok_is b next is) ∙ ap (λ (n : ℕ). replayed n next more) nothing
+  where
+    ok_is : (x y : PlainBook) → (let left : Result PlainBook ℕ = Ok x in let right : Result PlainBook ℕ = Ok y in left ≡ right) → x ≡ y
+    ok_is x y is = cc
+replayed-more number b next (bytes ∷ first) more is =
+    let one_more : (number + 1) + length first ≡ number + length (bytes ∷ first) = omega arith in
+    goes-more number first more next (after_record b bytes) (λ after made. replayed-more (number + 1) after next first more made) is
+    ∙ ap (λ (n : ℕ). replayed n next more) one_more
+
+made-same : (x y : PlainBook) → x ≡ y → (let left : Result PlainBook ℕ = Ok x in let right : Result PlainBook ℕ = Ok y in left ≡ right)
+made-same x y is = cc
+
+-- so of the records of more events the book after these is made
+pub replayed-after : (s : Settings) (kept more : List Event) → AreReplayed s kept → CanBeReplayed s kept more → AreReplayed s (kept ++ more)
+replayed-after s kept more again others =
+    ap (replayed 1 (opening_book s)) (records-append kept more)
+    ∙ replayed-more 1 (opening_book s) (book_at s kept) (event_records kept) (event_records more) again
+    ∙ all-replayed (1 + length (event_records kept)) (book_at s kept) (map {A = Event} {B = ChangeEvent} change_event more) others
+    ∙ made-same _ _ (sym (after-more (opening_book s) kept more))
+
 -- ---- a crash
 
 -- that leaves all that was synced, and the first so many of the records of events that come next
-pub left-more : (key : ℕ) (s : Settings) (kept more : List Event) (c : List ℕ) → HaveHappened s (kept ++ more) → Leaves key (event_records kept) (event_records more) c → IsLeft key s kept c
-left-more key s kept more c happened left =
+pub left-more : (key : ℕ) (s : Settings) (kept more : List Event) (c : List ℕ) → HaveHappened s (kept ++ more) → AreReplayed s kept → CanBeReplayed s kept more → Leaves key (event_records kept) (event_records more) c → IsLeft key s kept c
+left-more key s kept more c happened again others left =
     let n = left.kept in
+    let front = replay-front s kept (take n more) (drop n more) (subst (CanBeReplayed s kept) (sym (take-append-drop n more)) others) in
+    let are = left.payloads ∙ ap (λ (rs : List (List ℕ)). event_records kept ++ rs) (records-take n more) ∙ sym (records-append kept (take n more)) in
     let all : (kept ++ take n more) ++ drop n more ≡ kept ++ more = append_assoc kept (take n more) (drop n more) ∙ ap (λ (events : List Event). kept ++ events) (take-append-drop n more) in
     record {
       events = kept ++ take n more;
       begins = (take n more, refl);
       happened = happened-first s (kept ++ take n more) (drop n more) (subst (HaveHappened s) (sym all) happened);
-      records = left.payloads ∙ ap (λ (rs : List (List ℕ)). event_records kept ++ rs) (records-take n more) ∙ sym (records-append kept (take n more));
+      records = are;
       torn = left.behind;
+      again = ap (replayed 1 (opening_book s)) are ∙ replayed-after s kept (take n more) again front;
     }
 
 -- what is left of more is left of less
@@ -74,13 +121,14 @@ left-less key s less kept c begins left = record {
   happened = left.happened;
   records = left.records;
   torn = left.torn;
+  again = left.again;
 }
 
 module _ {D : Type 0} {g : Ghosts D} where
   -- a journal with the records of these events, all synced
-  pub left-all : (journal : Journal D g) (s : Settings) (kept : List Event) → HaveHappened s kept → IsJournal journal (event_records kept) [] → (c : List ℕ) → g.may_leave (disk_of journal) c → IsLeft (key_of journal) s kept c
-  left-all journal s kept happened is c may =
-      left-more _ s kept [] c (subst (HaveHappened s) (sym (append-nil kept)) happened) (journal_leaves journal (event_records kept) [] is c may)
+  pub left-all : (journal : Journal D g) (s : Settings) (kept : List Event) → HaveHappened s kept → AreReplayed s kept → IsJournal journal (event_records kept) [] → (c : List ℕ) → g.may_leave (disk_of journal) c → IsLeft (key_of journal) s kept c
+  left-all journal s kept happened again is c may =
+      left-more _ s kept [] c (subst (HaveHappened s) (sym (append-nil kept)) happened) again tt (journal_leaves journal (event_records kept) [] is c may)
 
   -- a journal that was made longer, and has room for all that is promised now
   pub kept-longer : (old new : Journal D g) (s : Settings) (log : Book) (own : Option ℕ) (honest : Bool) (front : Book) (kept : List Event) (before now : ℕ) (failed : Bool)
@@ -91,21 +139,23 @@ module _ {D : Type 0} {g : Ghosts D} where
     key = is.key ∙ ap (λ (k : ℕ). Some k) (sym key);
     front_log = is.front_log;
     happened = is.happened;
+    again = is.again;
     holds = λ well honest. stays (event_records kept) (is.holds well honest);
-    left = λ honest c may. left-all new s kept is.happened (stays (event_records kept) (is.holds well honest)) c may;
+    left = λ honest c may. left-all new s kept is.happened is.again (stays (event_records kept) (is.holds well honest)) c may;
     covered = λ well. covers;
   }
 
   -- a journal that keeps more events
   pub kept-more : (old new : Journal D g) (s : Settings) (log : Book) (own : Option ℕ) (honest : Bool) (front reached_log : Book) (kept reached : List Event) (before now : ℕ) (failed : Bool)
-      → failed ≡ false → IsKeeper s log own honest old front kept before failed → key_of new ≡ key_of old → reached_log ≡ log → HaveHappened s reached
+      → failed ≡ false → IsKeeper s log own honest old front kept before failed → key_of new ≡ key_of old → reached_log ≡ log → HaveHappened s reached → AreReplayed s reached
       → (IsJournal old (event_records kept) [] → IsJournal new (event_records reached) []) → (before ≤ room_of old → now ≤ room_of new)
       → IsKeeper s log own honest new reached_log reached now false
-  kept-more old new s log own honest front reached_log kept reached before now failed well is key log_is happened holds covers = record {
+  kept-more old new s log own honest front reached_log kept reached before now failed well is key log_is happened again holds covers = record {
     key = is.key ∙ ap (λ (k : ℕ). Some k) (sym key);
     front_log = log_is;
     happened = happened;
+    again = again;
     holds = λ _ honest. holds (is.holds well honest);
-    left = λ honest c may. left-all new s reached happened (holds (is.holds well honest)) c may;
+    left = λ honest c may. left-all new s reached happened again (holds (is.holds well honest)) c may;
     covered = λ _. covers (is.covered well);
   }

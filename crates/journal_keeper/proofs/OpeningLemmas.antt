@@ -1,14 +1,16 @@
 -- What is read of a journal that was opened, and what a store is after its changes were made again.
 use Rattle.std.specs.Prelude.{option_and_then, option_map}
 use Rattle.std.proofs.lemmas.Bool.{and_from, cond-true}
+use Rattle.std.proofs.lemmas.List.Elements.{All-weaker}
+use mathlib.Core.List.{IsPrefix}
 use Rattle.upload_book.specs.Change.{CanBeMade, book_after_change}
 use Rattle.upload_book.specs.declared.change.Change.{Change}
 use Rattle.upload_book.specs.Events.{ChangeEvent}
-use Rattle.upload_book.specs.PlainBook.{PlainBook}
+use Rattle.upload_book.specs.PlainBook.{PlainBook, opening_book}
 use Rattle.upload_book.specs.Settings.{Settings}
 use Rattle.journal_records.specs.Reading.{record_at}
 use Rattle.book_replay.specs.Made.{can_be_made}
-use Rattle.book_replay.specs.Replay.{accepts, after_accepted, after_record}
+use Rattle.book_replay.specs.Replay.{accepts, after_accepted, after_record, replayed}
 use Rattle.book_replay.proofs.ReplayLemmas.{after_accepted-refused, after_accepted-unasked}
 use Rattle.head_board.specs.Event.{Event}
 use Rattle.head_board.specs.Events.{book_at}
@@ -16,15 +18,18 @@ use Rattle.tus_shared.specs.declared.again_fault.AgainFault.{AgainFault}
 use Rattle.tus_shared.specs.declared.again_fault.AgainFault.TheVariants as again
 use Rattle.tus_shared.specs.Steps.{IsMade, IsNextEvent, IsNotMade}
 use Rattle.tus_shared.proofs.EventLemmas.{at-one, at-settings}
-use Rattle.journal_keeper.specs.Opening.{IsFinal, IsMadeAgain}
+use Rattle.tus_shared.proofs.LogLaws.{prefix-on}
+use Rattle.journal_keeper.specs.declared.fault.ReopenFault.{ReopenFault}
+use Rattle.journal_keeper.specs.declared.fault.ReopenFault.TheVariants.{Record, Memory as NoMemory, Waiting}
+use Rattle.journal_keeper.specs.Opening.{IsFinal, IsMadeAgain, IsOutsideRecords, IsRecovered, IsReopenFault}
 use Rattle.journal_file.specs.JournalError.{IsDamagedAt, IsReason, Reasons, TellsDamage}
 use Rattle.journal_file.specs.declared.error.Damage.{Damage}
 use Rattle.journal_file.specs.declared.error.JournalError.{JournalError}
 use Rattle.journal_file.specs.declared.error.JournalError.TheVariants.{NoRoom, Unusable, NotMixing, Damaged, Memory, Disk}
-use Rattle.std.proofs.Common.{◌≡◌, ℕ, Bool, true, false, IsTrue, List, [], ◌∷◌, ◌++◌, length, Option, Some, None, Result, Ok, Err, OnOk, refl, sym, ap, subst, ◌∙◌, append_assoc, arith}
+use Rattle.std.proofs.Common.{◌≡◌, ℕ, Bool, true, false, IsTrue, List, [], ◌∷◌, ◌++◌, length, All, Option, Some, None, Result, Ok, Err, OnOk, refl, sym, ap, subst, ◌∙◌, append_assoc, arith}
 use Rattle.journal_records.specs.Records.{record_bytes}
 use Rattle.tus_shared.specs.Desk.{Desk, Moves}
-use Rattle.journal_keeper.specs.Keeper.{event_records}
+use Rattle.journal_keeper.specs.Keeper.{event_records, AreReplayed, IsLeft}
 use Rattle.journal_keeper.proofs.KeeperLemmas.{records-append}
 use Rattle.std.specs.List.{AllByRecursion}
 use Rattle.std.proofs.lemmas.List.{append-nil}
@@ -115,3 +120,43 @@ moves-on s first before after old desk new so_far step = record {
   released = omega (arith, so_far.released, step.released);
   made = omega (arith, so_far.made, step.made);
 }
+
+-- where no record is left the book is made
+pub replayed_ended : (number : ℕ) (b : PlainBook) (rest : List (List ℕ)) → rest ≡ [] → replayed number b rest ≡ Ok b
+replayed_ended number b rest is = ap (replayed number b) is
+
+-- of the records of what was made its book is made
+pub made-replayed : (s : Settings) (made : List Event) (records : List (List ℕ)) → event_records made ≡ records → replayed 1 (opening_book s) records ≡ Ok (book_at s made) → AreReplayed s made
+made-replayed s made records are is = ap (replayed 1 (opening_book s)) are ∙ is
+
+-- ---- what a crash left, made again
+
+-- the book of its records is the plain book after their events
+pub book-left : (key : ℕ) (s : Settings) (kept : List Event) (file : List ℕ) (records : List (List ℕ)) (book : PlainBook) (left : IsLeft key s kept file) → records ≡ recovered key file
+    → replayed 1 (opening_book s) records ≡ Ok book → book ≡ book_at s left.events
+book-left key s kept file records book left are made = ok_is book (book_at s left.events) (sym made ∙ ap (replayed 1 (opening_book s)) are ∙ left.again)
+  where
+    ok_is : (x y : PlainBook) → (let left : Result PlainBook ℕ = Ok x in let right : Result PlainBook ℕ = Ok y in left ≡ right) → x ≡ y
+    ok_is x y is = cc
+
+-- these begin with all that any desk was told to be kept, where the keeper kept that
+pub all-recovered : {A E : Type 0} (made : Result A E) (key : ℕ) (s : Settings) (kept : List Event) (desks : List Desk) (file : List ℕ) (book : PlainBook) (left : IsLeft key s kept file)
+    → All (λ (d : Desk). IsPrefix d.kept kept) desks → OnOk made (book ≡ book_at s left.events) → OnOk made (IsRecovered s desks book)
+all-recovered (Ok it) key s kept desks file book left told is = record {
+  events = left.events;
+  begins = All-weaker _ _ (λ (d : Desk) (begins : IsPrefix d.kept kept). prefix-on d.kept kept left.events begins left.begins) desks told;
+  happened = left.happened;
+  is = is;
+}
+all-recovered (Err why) key s kept desks file book left told is = tt
+
+-- and none of them is refused
+pub records-accepted : (key : ℕ) (s : Settings) (told : List Event) (file : List ℕ) (records : List (List ℕ)) (why : ReopenFault) → IsLeft key s told file → records ≡ recovered key file
+    → IsReopenFault (replayed 1 (opening_book s) records) why → IsOutsideRecords why
+records-accepted key s told file records (Record number) left are told_so = clash (replayed 1 (opening_book s) records) number (book_at s left.events) told_so (ap (replayed 1 (opening_book s)) are ∙ left.again)
+  where
+    clash : (made : Result PlainBook ℕ) (n : ℕ) (b : PlainBook) → made ≡ Err n → made ≡ Ok b → ⊥
+    clash (Ok x) n b is other = absurd (cc (is))
+    clash (Err m) n b is other = absurd (cc (other))
+records-accepted key s told file records NoMemory left are told_so = tt
+records-accepted key s told file records Waiting left are told_so = tt

@@ -1,17 +1,18 @@
 -- The keeper of a store's journal: what it keeps, and what a crash leaves of that.
-use Rattle.std.specs.Prelude.{◌≡◌, ℕ, ◌-◌, ◌≤◌, Bool, false, IsTrue, List, [], length, map, Option, Some}
+use Rattle.std.specs.Prelude.{◌≡◌, ℕ, ◌-◌, ◌≤◌, Bool, false, IsTrue, List, [], length, map, Option, Some, Ok}
 use mathlib.Core.List.{IsPrefix}
 use Rattle.logbook.specs.Pages.{Book}
 use Rattle.sqlite_disk.specs.declared.Disk.{Ghosts}
-use Rattle.book_replay.specs.Replay.{records_of}
+use Rattle.book_replay.specs.Replay.{records_of, replayed}
 use Rattle.journal_file.specs.declared.journal.Journal.{Journal}
 use Rattle.journal_file.specs.Journal.{disk_of, key_of, room_of, IsJournal}
 use Rattle.journal_frames.specs.Frames.{recovered, tail_of}
 use Rattle.journal_frames.specs.declared.tail.Tail.TheVariants.{Torn}
 use Rattle.upload_book.specs.Events.{ChangeEvent}
+use Rattle.upload_book.specs.PlainBook.{opening_book}
 use Rattle.upload_book.specs.Settings.{Settings}
 use Rattle.head_board.specs.Event.{Event}
-use Rattle.head_board.specs.Events.{HaveHappened, change_event}
+use Rattle.head_board.specs.Events.{HaveHappened, book_at, change_event}
 use Rattle.journal_keeper.specs.Numbers.{more}
 use Rattle.journal_keeper.specs.declared.numbers.SyncCounts.{SyncCounts}
 
@@ -32,14 +33,19 @@ pub record KeeperView (D : Type 0) : Type 0 where
 abbrev pub event_records : List Event → List (List ℕ)
 event_records events = records_of (map {A = Event} {B = ChangeEvent} change_event events)
 
+-- the book that is made of the records of these events is the plain book after them (`book_replay/specs/Replay`)
+abbrev pub AreReplayed : Settings → List Event → Type 0
+AreReplayed s events = replayed 1 (opening_book s) (event_records events) ≡ Ok (book_at s events)
+
 -- What a crash leaves where these events are kept: the records of events that begin with them and happened to a book of these
--- settings, one after another, and no damage.
+-- settings, one after another, and no damage. The book that is made of these records is the plain book after these events.
 pub record IsLeft (key : ℕ) (s : Settings) (kept : List Event) (file : List ℕ) : Type 0 where
   pub events : List Event
   pub begins : IsPrefix kept events
   pub happened : HaveHappened s events
   pub records : recovered key file ≡ event_records events
   pub torn : tail_of key file ≡ Torn
+  pub again : replayed 1 (opening_book s) (recovered key file) ≡ Ok (book_at s events)
 
 -- One sync more was made, which kept the events that are kept since; and no time is lost.
 pub record CountsSync {D : Type 0} (before after : KeeperView D) : Type 0 where
@@ -47,13 +53,15 @@ pub record CountsSync {D : Type 0} (before after : KeeperView D) : Type 0 where
   pub each : after.synced.records ≡ more (length after.kept - length before.kept) before.synced.records
   pub longer : before.synced.micros ≤ after.synced.micros
 
--- What every keeper keeps. Its key is that of the opening, and its events are of the log of the opening, and happened. Where
--- the disk had told no lie when the journal was opened: while no write or sync has failed, the journal has exactly the records
--- of these events, all synced; and failed or not, a crash leaves all of them. The journal has room for all that was granted.
+-- What every keeper keeps. Its key is that of the opening, and its events are of the log of the opening, and happened; the book
+-- that is made of their records is the plain book after them. Where the disk had told no lie when the journal was opened: while
+-- no write or sync has failed, the journal has exactly the records of these events, all synced; and failed or not, a crash
+-- leaves all of them. The journal has room for all that was granted.
 pub record IsKeeper {D : Type 0} {g : Ghosts D} (s : Settings) (log : Book) (own : Option ℕ) (honest : Bool) (journal : Journal D g) (front : Book) (kept : List Event) (promised : ℕ) (failed : Bool) : Type 0 where
   pub key : own ≡ Some (key_of journal)
   pub front_log : front ≡ log
   pub happened : HaveHappened s kept
+  pub again : AreReplayed s kept
   pub holds : failed ≡ false → IsTrue honest → IsJournal journal (event_records kept) []
   pub left : IsTrue honest → (c : List ℕ) → g.may_leave (disk_of journal) c → IsLeft (key_of journal) s kept c
   pub covered : failed ≡ false → promised ≤ room_of journal

@@ -1,9 +1,13 @@
 -- A store whose changes are made again of the records that a journal has.
-use Rattle.std.specs.Prelude.{◌≡◌, ◌≢◌, ℕ, List, [], ◌∷◌, ◌++◌, Result, Err, ⊤}
+use Rattle.std.specs.Prelude.{◌≡◌, ◌≢◌, ℕ, List, [], ◌∷◌, ◌++◌, All, Result, Err, ⊤}
+use mathlib.Core.List.{IsPrefix}
 use Rattle.journal_records.specs.Records.{record_bytes}
 use Rattle.upload_book.specs.declared.refusal.Refusal.TheVariants as refusal
 use Rattle.upload_book.specs.PlainBook.{PlainBook}
+use Rattle.upload_book.specs.Settings.{Settings}
 use Rattle.head_board.specs.Event.{Event}
+use Rattle.head_board.specs.Events.{HaveHappened, book_at}
+use Rattle.tus_shared.specs.Desk.{Desk}
 use Rattle.tus_shared.specs.declared.again_fault.AgainFault.{AgainFault}
 use Rattle.tus_shared.specs.declared.again_fault.AgainFault.TheVariants as again
 use Rattle.journal_keeper.specs.declared.fault.ReopenFault.{ReopenFault}
@@ -22,6 +26,20 @@ abbrev pub IsReopenFault : Result PlainBook ℕ → ReopenFault → Type 0
 IsReopenFault made (Record number) = made ≡ Err number
 IsReopenFault made Memory = ⊤
 IsReopenFault made Waiting = ⊤
+
+-- it lies in something else than the records: none of them is refused
+abbrev pub IsOutsideRecords : ReopenFault → Type 0
+IsOutsideRecords (Record number) = ⊥
+IsOutsideRecords Memory = ⊤
+IsOutsideRecords Waiting = ⊤
+
+-- The book is the plain book after a list of events, which happened to a book of these settings since its opening, one after
+-- another. The list begins with all that any of the desks was told to be kept.
+pub record IsRecovered (s : Settings) (desks : List Desk) (book : PlainBook) : Type 0 where
+  pub events : List Event
+  pub begins : All (λ (d : Desk). IsPrefix d.kept events) desks
+  pub happened : HaveHappened s events
+  pub is : book ≡ book_at s events
 
 -- the change is not made again whatever memory there is, and whatever waits
 abbrev pub IsFinal : AgainFault → Type 0

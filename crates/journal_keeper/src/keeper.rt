@@ -4,7 +4,7 @@ ghost use Rattle.head_board.specs.Events.{HaveHappened};
 ghost use Rattle.tus_shared.specs.Journal.{journal_len};
 ghost use Rattle.journal_file.specs.Journal.{disk_of, end_of, key_of, room_of, IsJournal};
 ghost use Rattle.journal_frames.specs.Frames.{frames};
-ghost use Rattle.journal_keeper.specs.Keeper.{event_records, CountsSync, IsLeft};
+ghost use Rattle.journal_keeper.specs.Keeper.{event_records, AreReplayed, CountsSync, IsLeft};
 ghost use Rattle.journal_keeper.specs.Numbers.{no_syncs};
 ghost use Rattle.journal_keeper.specs.Granting.{Grants, HasRoom, IsNeeded, MayGrant};
 
@@ -65,6 +65,7 @@ impl<D: Disk, C: Journalled> Keeper<D, C> {
         requires key { C.journal ≡ Some (key_of journal) }
         requires log { front.book ≡ C.log }
         requires happened { HaveHappened C.settings front.events }
+        requires again { AreReplayed C.settings front.events }
         requires journal { IsTrue C.honest → IsJournal journal (event_records front.events) [] }
         ensures { result ≡ record {
           key = key_of journal;
@@ -133,8 +134,8 @@ impl<D: Disk, C: Journalled> Keeper<D, C> {
         journal.into_disk()
     }
 
-    /// Tells what a crash leaves: the records of events that begin with all that are kept, and no damage. It does also after
-    /// keeping has failed.
+    /// Tells what a crash leaves: the records of events that begin with all that are kept, of which their book is made again, and
+    /// no damage. It does also after keeping has failed.
     pub fn tell_crash(&self)
         ensures happened { HaveHappened C.settings self.now.kept }
         ensures left { IsTrue C.honest

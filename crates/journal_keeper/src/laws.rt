@@ -1,13 +1,23 @@
 //! Laws of what is kept: each is the contract of a function that does nothing.
-ghost use Rattle.std.specs.Prelude.{ℕ, List, IsTrue};
+ghost use Rattle.std.specs.Prelude.{◌≡◌, ℕ, List, [], Some, All, IfErr, IsTrue, OnOk};
 ghost use mathlib.Core.List.{IsPrefix};
+ghost use Rattle.head_board.specs.Events.{book_at};
+ghost use Rattle.journal_file.specs.Journal.{key_of, IsJournal};
+ghost use Rattle.journal_frames.specs.Frames.{recovered};
 ghost use Rattle.journal_keeper.specs.Keeper.{IsLeft};
+ghost use Rattle.journal_keeper.specs.Opening.{IsOutsideRecords, IsRecovered};
+ghost use Rattle.tus_shared.specs.Desk as spec;
 
+use crate::fault::ReopenFault;
 use crate::journalled::Journalled;
 use crate::keeper::Keeper;
+use crate::opening::{Reopened, reopen};
+use journal_file::Opened;
 use sqlite_disk::Disk;
+use std::alloc::Global;
+use std::sync::Wait;
 use std::sync::ledger::Ledger;
-use tus_shared::Desk;
+use tus_shared::{Desk, Store};
 
 /// A law: where a keeper keeps all that a desk has seen, as it does once [`Keeper::keep`] has told the desk so and from then
 /// on, a crash leaves the records of events that begin with all that the desk has seen, and no damage. All replies of the desk
@@ -21,4 +31,61 @@ pub fn what_was_told_is_left<D: Disk, C: Journalled, R: Ledger, M: Ledger>(
         → (c : List ℕ) → D.may_leave keeper.now.disk c → IsLeft keeper.now.key C.settings desk.now.seen c }
 {
     keeper.tell_crash();
+}
+
+/// The sentence, for several desks: after a crash at any moment the recovered book is the plain book after a list of changes
+/// that begins with everything that any reply told.
+///
+/// Before the crash there were a keeper, whatever became of it, and desks of its store. The keeper keeps all that any of them
+/// was told to be kept, as [`Keeper::keep`] leaves it. A reply rests on what its desk has seen, and is sent only once the desk
+/// was told that all of this is kept ([`Desk::is_kept`]). Then the machine crashed, and the journal was opened
+/// ([`crate::open_journal`]) on a file that the disk may leave. Of it a store is made again here, by [`reopen`]. Its book
+/// ([`Store::headline`]) is the plain book after one list of events, which begins with all that any of the desks was told to be
+/// kept; and none of its records is refused.
+///
+/// The premises. The disk keeps what it synced, and leaves each other byte as it was or as it was written: that is supposed of
+/// what it `may_leave`. It told no lie while the journal was opened: of the time before the crash that is `honest`; of that
+/// after it, that the records which were read are those of the file, as `open_journal` says where the disk told none. The
+/// settings and the key are the same.
+pub fn what_was_told_is_recovered<
+    D: Disk,
+    C: Journalled,
+    R: Ledger,
+    M: Ledger,
+    E: Journalled,
+    S: Ledger,
+    N: Ledger,
+    B: Wait + Drop,
+>(
+    alloc: Global,
+    keeper: &Keeper<D, C>,
+    desks: &[Desk<C, R, M>],
+    store: &mut Store<E, S, N, B>,
+    first: &mut Desk<E, S, N>,
+    opened: Opened<D>,
+    key: u64,
+) -> Result<Reopened<D, E>, ReopenFault>
+where
+    D: Drop,
+    requires told { All (λ (d : spec.Desk). IsPrefix d.kept keeper.now.kept) desks.now }
+    requires same_key { keeper.now.key ≡ key }
+    requires same_settings { E.settings ≡ C.settings }
+    // as of `reopen`
+    requires store { store.old ≡ [] }
+    requires seen { first.old.seen ≡ [] }
+    requires kept { first.old.kept ≡ [] }
+    requires key { key_of opened.journal ≡ key }
+    requires journal { E.journal ≡ Some key }
+    requires honest { IsTrue E.honest → IsJournal opened.journal (recovered key opened.frames.items) [] }
+    ensures recovered { IsTrue C.honest → (file : List ℕ)
+        → D.may_leave keeper.now.disk file
+        → recovered key opened.frames.items ≡ recovered key file
+        → OnOk result (IsRecovered C.settings desks.now (book_at C.settings store.new)) }
+    ensures accepts { IsTrue C.honest → (file : List ℕ)
+        → D.may_leave keeper.now.disk file
+        → recovered key opened.frames.items ≡ recovered key file
+        → IfErr result IsOutsideRecords }
+{
+    keeper.tell_crash();
+    reopen(alloc, store, first, opened, key)
 }

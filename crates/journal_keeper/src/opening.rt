@@ -1,14 +1,14 @@
 //! A journal that is opened, and a store whose changes are made again of its records.
-ghost use Rattle.std.specs.Prelude.{◌≡◌, [], length, Some, None, All, false, IsTrue, IfErr, IfOk, IsErrOf, OnErr, OnOk};
+ghost use Rattle.std.specs.Prelude.{◌≡◌, ℕ, List, [], length, Some, None, Ok, All, false, IsTrue, IfErr, IfOk, IsErrOf, OnErr, OnOk};
 ghost use Rattle.book_replay.specs.Replay.{after_accepted, after_record, replayed};
 ghost use Rattle.head_board.specs.Event.{Event};
 ghost use Rattle.head_board.specs.Events.{HaveHappened, book_at};
 ghost use Rattle.journal_file.specs.Journal.{disk_of, end_of, key_of, room_of, IsJournal};
 ghost use Rattle.journal_file.specs.JournalError.{TellsDamage};
 ghost use Rattle.journal_frames.specs.Frames.{recovered};
-ghost use Rattle.journal_keeper.specs.Keeper.{event_records};
+ghost use Rattle.journal_keeper.specs.Keeper.{event_records, IsLeft};
 ghost use Rattle.journal_keeper.specs.Numbers.{no_syncs};
-ghost use Rattle.journal_keeper.specs.Opening.{IsFinal, IsMadeAgain, IsReopenFault};
+ghost use Rattle.journal_keeper.specs.Opening.{IsFinal, IsMadeAgain, IsOutsideRecords, IsReopenFault};
 ghost use Rattle.tus_shared.specs.Desk.{Moves};
 ghost use Rattle.tus_shared.specs.Steps.{IsNextEvent};
 ghost use Rattle.upload_book.specs.PlainBook.{opening_book};
@@ -80,8 +80,8 @@ pub struct Reopened<D: Disk, C: Journalled> {
 }
 
 /// Makes all changes again, in their order and at this desk, whose records a journal has that was opened under this key; and
-/// gives the keeper of these, and how many they are. The store and the desk are new. After it the desk has seen all of these events, and knows that
-/// they are kept.
+/// gives the keeper of these, and how many they are. The store and the desk are new. After it the desk has seen all of these
+/// events, and knows that they are kept.
 ///
 /// `Err` is Record, with the number of the first record, from 1, that can't be read, or whose change no book of these settings
 /// takes there; Memory; or Waiting, which comes in no run where the store is new.
@@ -100,6 +100,15 @@ where
     requires key { key_of opened.journal ≡ key }
     requires journal { C.journal ≡ Some key }
     requires honest { IsTrue C.honest → IsJournal opened.journal (recovered key opened.frames.items) [] }
+    // Where the journal was opened on a file that a crash left of these settings, the book is the plain book after the events
+    // whose records were left; and none of these is refused.
+    ensures recovered { (kept : List Event) (file : List ℕ) (left : IsLeft key C.settings kept file)
+        → recovered key opened.frames.items ≡ recovered key file
+        → OnOk result (book_at C.settings store.new ≡ book_at C.settings left.events) }
+    ensures accepts { (kept : List Event) (file : List ℕ)
+        → IsLeft key C.settings kept file
+        → recovered key opened.frames.items ≡ recovered key file
+        → IfErr result IsOutsideRecords }
     // The records of what is kept are those that the journal has.
     ensures records { IfOk result (λ it. event_records it.keeper.kept ≡ recovered key opened.frames.items) }
     ensures here { IfOk result (λ it. All (λ (e : Event). e.desk ≡ desk.old.number) it.keeper.kept) }
@@ -131,6 +140,7 @@ where
 }
 
 // Makes the changes of all records again, at a new desk of a new store, and gives how many they are.
+#[tactic(auto, using(crate::proofs::OpeningLemmas::replayed_ended))]
 fn make_all_again<C: Charges, R: Ledger, M: Ledger, B: Wait + Drop>(
     store: &mut Store<C, R, M, B>,
     desk: &mut Desk<C, R, M>,
@@ -140,6 +150,8 @@ fn make_all_again<C: Charges, R: Ledger, M: Ledger, B: Wait + Drop>(
     requires seen { desk.old.seen ≡ [] }
     ensures happened { HaveHappened C.settings store.new }
     ensures records { OnOk result (event_records store.new ≡ recovered records.entry.key records.entry.rest.now) }
+    ensures made { OnOk result (replayed 1 (opening_book C.settings) (recovered records.entry.key records.entry.rest.now)
+        ≡ Ok (book_at C.settings store.new)) }
     ensures count { IfOk result (λ count. count ≡ length (recovered records.entry.key records.entry.rest.now)) }
     ensures here { All (λ (e : Event). e.desk ≡ desk.old.number) store.new }
     ensures seen { desk.new.seen ≡ store.new }

@@ -3,7 +3,7 @@ ghost use Rattle.std.specs.Prelude.{◌≡◌, ◌-◌, ◌≤◌, ℕ, List, []
 ghost use mathlib.Core.List.{IsPrefix};
 ghost use Rattle.head_board.specs.Events.{HaveHappened};
 ghost use Rattle.journal_file.specs.Journal.{disk_of, key_of, room_of, IsJournal};
-ghost use Rattle.journal_keeper.specs.Keeper.{event_records, IsLeft};
+ghost use Rattle.journal_keeper.specs.Keeper.{event_records, AreReplayed, IsLeft};
 ghost use Rattle.journal_keeper.specs.Numbers.{more};
 ghost use Rattle.tus_shared.specs.Journal.{journal_len, AreTaken};
 
@@ -45,10 +45,12 @@ pub(crate) fn keep_waiting<
     requires front { front.now.book ≡ C.log }
     requires seen { seen.now.book ≡ C.log }
     requires happened { HaveHappened C.settings front.now.events }
+    requires again { AreReplayed C.settings front.now.events }
     ensures log { IfOk result (λ reached. reached.book ≡ C.log) }
     ensures more { IfOk result (λ reached. IsPrefix front.now.events reached.events) }
     ensures seen { IfOk result (λ reached. IsPrefix seen.now.events reached.events) }
     ensures happened { IfOk result (λ reached. HaveHappened C.settings reached.events) }
+    ensures again { IfOk result (λ reached. AreReplayed C.settings reached.events) }
     ensures kept { IsJournal journal.old (event_records front.now.events) []
         → IfOk result (λ reached. IsJournal journal.new (event_records reached.events) []) }
     // Whatever it answers, a crash leaves all that was kept.

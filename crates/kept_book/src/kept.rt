@@ -16,11 +16,11 @@ ghost use Rattle.kept_book.specs.OpenFault.{IsOutsideFile};
 ghost use Rattle.kept_book.specs.Sweeping.{IsSwept};
 ghost use Rattle.upload_book.specs.Sweep.{EndsNone};
 
-use crate::copied::{copied, tell_fits};
+use crate::copied::copied;
 use crate::done::Done;
 use crate::fault::{KeepFault, NotKept, OpenFault};
 use crate::log::Log;
-use book_replay::replay;
+use book_replay::{replay, tell_fits};
 use journal_file::{Journal, NotOpened};
 use journal_frames::Frames;
 use sqlite_disk::Disk;

@@ -1,15 +1,18 @@
 -- What waits in the queue of a store, step by step.
 use Rattle.std.specs.Prelude.{⊤}
-use Rattle.std.proofs.Common.{◌≡◌, ℕ, suc, length-append, ◌+◌, ◌≤◌, Bool, true, false, List, [], ◌∷◌, ◌++◌, append_assoc, zero-add, length, Option, Some, None, is_some, IsSome, IfSome, option_map, refl, sym, ap, ap₂, subst, ◌∙◌, arith}
+use Rattle.std.proofs.Common.{◌≡◌, ℕ, suc, length-append, ◌+◌, ◌≤◌, Bool, true, false, List, [], ◌∷◌, ◌++◌, append_assoc, zero-add, length, map, Option, Some, None, is_some, IsSome, IfSome, option_map, refl, sym, ap, ap₂, subst, ◌∙◌, arith}
 use Rattle.std.proofs.lemmas.List.{append-nil, map-append}
 use Rattle.std.proofs.lemmas.List.Sums.{sum_by-append}
 use mathlib.Core.List.{IsPrefix}
 use Rattle.logbook.specs.Pages.{Book}
+use Rattle.book_replay.specs.Replay.{AllHappen, Happens}
 use Rattle.upload_book.specs.declared.change.Change.{Change}
+use Rattle.upload_book.specs.Events.{ChangeEvent, book_after_all, book_after_event}
+use Rattle.upload_book.specs.PlainBook.{PlainBook, opening_book}
 use Rattle.upload_book.specs.Settings.{Settings}
 use Rattle.head_board.specs.Event.{Event}
-use Rattle.head_board.specs.Events.{HaveHappened}
-use Rattle.tus_shared.specs.Journal.{AreTaken, change_frame, event_frame, event_frames, journal_len}
+use Rattle.head_board.specs.Events.{HaveHappened, book_at, change_event}
+use Rattle.tus_shared.specs.Journal.{AreTaken, CanBeReplayed, change_frame, event_frame, event_frames, journal_len}
 use Rattle.tus_shared.specs.inside.QueueRule.{IsFramed, IsQueued, QueueView, Takes, Waits, new_queue, passed}
 use Rattle.tus_shared.proofs.ChangeLemmas.{event_by}
 
@@ -33,20 +36,37 @@ IsFrameOf journal e frame = IfSome frame (λ (bytes : List ℕ). bytes ≡ event
 frame-is : (journal : Option ℕ) (e : Event) (frame : Option (List ℕ)) (bytes : List ℕ) → frame ≡ Some bytes → IsFrameOf journal e frame → bytes ≡ event_frame journal e
 frame-is journal e frame bytes there is = subst (IsFrameOf journal e) there is
 
+-- the book after some events and then others
+pub after-more : (b : PlainBook) (first more : List Event) → book_after_all b (map {A = Event} {B = ChangeEvent} change_event (first ++ more))
+    ≡ book_after_all (book_after_all b (map {A = Event} {B = ChangeEvent} change_event first)) (map {A = Event} {B = ChangeEvent} change_event more)
+after-more b [] more = refl
+after-more b (e ∷ first) more = after-more (book_after_event b (change_event e)) first more
+
+-- one event more that can be made again
+replay-one : (b : PlainBook) (events : List Event) (e : Event) → AllHappen b (map {A = Event} {B = ChangeEvent} change_event events)
+    → Happens (book_after_all b (map {A = Event} {B = ChangeEvent} change_event events)) (change_event e) → AllHappen b (map {A = Event} {B = ChangeEvent} change_event (events ++ e ∷ []))
+replay-one b [] e all here = (here, tt)
+replay-one b (first ∷ events) e all here = (all.0, replay-one (book_after_event b (change_event first)) events e all.1 here)
+
+pub replayed-on : (s : Settings) (before more events : List Event) (e : Event) → events ≡ before ++ more → CanBeReplayed s before more → Happens (book_at s events) (change_event e) → CanBeReplayed s before (more ++ e ∷ [])
+replayed-on s before more events e is again here =
+    replay-one (book_at s before) more e again (subst (λ (b : PlainBook). Happens b (change_event e)) (ap (book_at s) is ∙ after-more (opening_book s) before more) here)
+
 -- the queue of a store after one event more
-pub queue-on : (journal : Option ℕ) (log : Book) (events after : List Event) (e : Event) (frame : Option (List ℕ)) (old new : Option QueueView) (room spare left : ℕ)
-    → IsFramed true old frame room spare new left → IsFrameOf journal e frame → after ≡ events ++ e ∷ [] → IsQueued journal log events old → IsQueued journal log after new
-queue-on journal log events after e frame None new room spare left framed is next queued = subst (IsQueued journal log after) (sym framed.1) (record { there = queued.there; waits = tt })
-queue-on journal log events after e frame (Some waiting) new room spare left framed is next queued =
-    let w : Waits journal log events waiting = queued.waits in
+pub queue-on : (s : Settings) (journal : Option ℕ) (log : Book) (events after : List Event) (e : Event) (frame : Option (List ℕ)) (old new : Option QueueView) (room spare left : ℕ)
+    → IsFramed true old frame room spare new left → IsFrameOf journal e frame → after ≡ events ++ e ∷ [] → Happens (book_at s events) (change_event e) → IsQueued s journal log events old → IsQueued s journal log after new
+queue-on s journal log events after e frame None new room spare left framed is next here queued = subst (IsQueued s journal log after) (sym framed.1) (record { there = queued.there; waits = tt })
+queue-on s journal log events after e frame (Some waiting) new room spare left framed is next here queued =
+    let w : Waits s journal log events waiting = queued.waits in
     let frames : waiting.frames ++ framed.bytes ∷ [] ≡ event_frames journal w.more ++ event_frame journal e ∷ [] = ap₂ (λ (fs : List (List ℕ)) (b : List ℕ). fs ++ b ∷ []) w.frames_are (frame-is journal e frame framed.bytes framed.is is) in
-    subst (IsQueued journal log after) (sym framed.queued) (record {
+    subst (IsQueued s journal log after) (sym framed.queued) (record {
       there = queued.there;
       waits = record {
         log_is = w.log_is;
         more = w.more ++ e ∷ [];
         reaches = next ∙ ap (λ (l : List Event). l ++ e ∷ []) w.reaches ∙ append_assoc waiting.behind w.more (e ∷ []);
         frames_are = frames ∙ sym (map-append (event_frame journal) w.more (e ∷ []));
+        again = replayed-on s waiting.behind w.more events e w.reaches w.again here;
       };
     })
 
@@ -83,41 +103,42 @@ spends-one journal own before after e room left now is next stays spent =
     omega arith
 
 -- a queue in which nothing waits begins behind more events
-pub queue-passed : (journal : Option ℕ) (log : Book) (events all : List Event) (old : Option QueueView) → IfSome old (λ (q : QueueView). q.frames ≡ []) → IsQueued journal log events old → IsQueued journal log all (passed old log all)
-queue-passed journal log events all None idle queued = record { there = queued.there; waits = tt }
-queue-passed journal log events all (Some waiting) idle queued = record {
+pub queue-passed : (s : Settings) (journal : Option ℕ) (log : Book) (events all : List Event) (old : Option QueueView) → IfSome old (λ (q : QueueView). q.frames ≡ []) → IsQueued s journal log events old → IsQueued s journal log all (passed old log all)
+queue-passed s journal log events all None idle queued = record { there = queued.there; waits = tt }
+queue-passed s journal log events all (Some waiting) idle queued = record {
   there = queued.there;
-  waits = record { log_is = refl; more = []; reaches = sym (append-nil all); frames_are = idle };
+  waits = record { log_is = refl; more = []; reaches = sym (append-nil all); frames_are = idle; again = tt };
 }
 
 -- that of a new store
-pub queue-new : (journal : Option ℕ) (log : Book) → IsQueued journal log [] (new_queue journal log [])
-queue-new None log = record { there = refl; waits = tt }
-queue-new (Some key) log = record { there = refl; waits = record { log_is = refl; more = []; reaches = refl; frames_are = refl } }
+pub queue-new : (s : Settings) (journal : Option ℕ) (log : Book) → IsQueued s journal log [] (new_queue journal log [])
+queue-new s None log = record { there = refl; waits = tt }
+queue-new s (Some key) log = record { there = refl; waits = record { log_is = refl; more = []; reaches = refl; frames_are = refl; again = tt } }
 
 -- frames that are taken out of the queue
-pub frames-taken : (s : Settings) (journal : Option ℕ) (log : Book) (events from : List Event) (waiting : List (List ℕ)) (old new : Option QueueView) → HaveHappened s events → Takes old from waiting log events new → IsQueued journal log events old
+pub frames-taken : (s : Settings) (journal : Option ℕ) (log : Book) (events from : List Event) (waiting : List (List ℕ)) (old new : Option QueueView) → HaveHappened s events → Takes old from waiting log events new → IsQueued s journal log events old
     → AreTaken s journal from events waiting
 frames-taken s journal log events from waiting old new happened takes queued =
-    let w : Waits journal log events takes.queue = (subst (IsQueued journal log events) takes.was queued).waits in
+    let w : Waits s journal log events takes.queue = (subst (IsQueued s journal log events) takes.was queued).waits in
     record {
       more = w.more;
       happened = happened;
       reaches = w.reaches ∙ ap (λ (l : List Event). l ++ w.more) (sym takes.begins);
       are = takes.all ∙ w.frames_are;
+      again = subst (λ (before : List Event). CanBeReplayed s before w.more) (sym takes.begins) w.again;
     }
 
-pub queue-taken : (journal : Option ℕ) (log : Book) (events from : List Event) (waiting : List (List ℕ)) (old new : Option QueueView) → Takes old from waiting log events new → IsQueued journal log events old → IsQueued journal log events new
-queue-taken journal log events from waiting old new takes queued =
-    let there : true ≡ is_some journal = (subst (IsQueued journal log events) takes.was queued).there in
-    subst (IsQueued journal log events) (sym takes.empty) (record {
+pub queue-taken : (s : Settings) (journal : Option ℕ) (log : Book) (events from : List Event) (waiting : List (List ℕ)) (old new : Option QueueView) → Takes old from waiting log events new → IsQueued s journal log events old → IsQueued s journal log events new
+queue-taken s journal log events from waiting old new takes queued =
+    let there : true ≡ is_some journal = (subst (IsQueued s journal log events) takes.was queued).there in
+    subst (IsQueued s journal log events) (sym takes.empty) (record {
       there = there;
-      waits = record { log_is = refl; more = []; reaches = sym (append-nil events); frames_are = refl };
+      waits = record { log_is = refl; more = []; reaches = sym (append-nil events); frames_are = refl; again = tt };
     })
 
 -- a queue is there where there is a journal
-pub queue-journal : (journal : Option ℕ) (log : Book) (events : List Event) (queue : Option QueueView) → IsQueued journal log events queue → IsSome queue → IsSome journal
-queue-journal journal log events queue queued there = sym queued.there ∙ there
+pub queue-journal : (s : Settings) (journal : Option ℕ) (log : Book) (events : List Event) (queue : Option QueueView) → IsQueued s journal log events queue → IsSome queue → IsSome journal
+queue-journal s journal log events queue queued there = sym queued.there ∙ there
 
 -- a frame that was made of a change is that of its event
 pub frame-given : {V : Type 0} (frame : Option V) (items : V → List ℕ) (journal : Option ℕ) (desk : ℕ) (change : Change) (now : ℕ)

@@ -1,13 +1,15 @@
 -- The journal of a store: the frames of the records of what happened, one for each event, which wait to be written.
 use Rattle.std.specs.Prelude.{◌≡◌, ℕ, List, [], ◌∷◌, ◌++◌, length, map, Option, Some, None}
 use Rattle.std.specs.List.{sum_by}
+use Rattle.book_replay.specs.Replay.{AllHappen}
 use Rattle.journal_frames.specs.Frames.{frames}
 use Rattle.journal_records.specs.Records.{record_bytes}
 use Rattle.upload_book.specs.declared.change.Change.{Change}
 use Rattle.upload_book.specs.declared.change.Change.TheVariants as change
+use Rattle.upload_book.specs.Events.{ChangeEvent}
 use Rattle.upload_book.specs.Settings.{Settings}
 use Rattle.head_board.specs.Event.{Event}
-use Rattle.head_board.specs.Events.{HaveHappened}
+use Rattle.head_board.specs.Events.{HaveHappened, book_at, change_event}
 
 -- the frame of the record of a change and its moment, under the key of the journal; without a journal there is none
 abbrev pub change_frame : Option ℕ → Change → ℕ → List ℕ
@@ -35,10 +37,16 @@ spare_of (change.Concat tenant new) = 65536
 spare_of (change.Terminate name) = 0
 spare_of change.Sweep = 0
 
+-- The events happened, one after another, to the book after those before them, and each can be made again of its record: a
+-- book may be asked for its change and accepts it, and a record holds its numbers (`book_replay/specs/Replay`, `Happens`).
+abbrev pub CanBeReplayed : Settings → List Event → List Event → Type 0
+CanBeReplayed s before events = AllHappen (book_at s before) (map {A = Event} {B = ChangeEvent} change_event events)
+
 -- Frames that were taken out of a queue which began behind some events: they are those of the records of all events after
--- these, up to the last that happened, one each, in their order.
+-- these, up to the last that happened, one each, in their order. Of these records the events can be made again.
 pub record AreTaken (s : Settings) (journal : Option ℕ) (from reached : List Event) (waiting : List (List ℕ)) : Type 0 where
   pub more : List Event
   pub happened : HaveHappened s reached
   pub reaches : reached ≡ from ++ more
   pub are : waiting ≡ event_frames journal more
+  pub again : CanBeReplayed s from more

@@ -21,7 +21,7 @@ use crate::desk::Desk;
 use crate::making::make_ready;
 use crate::queue::{RecordQueue, Records, is_idle, pass_queue, queue_frame, take_queue};
 use crate::store_ledger::StoreLedger;
-use book_replay::can_be_made;
+use book_replay::{can_be_made, tell_fits};
 use head_board::{Board, SeenEvents};
 use std::marker::Model;
 use std::sync::Wait;
@@ -58,7 +58,7 @@ impl<C: Charges, R: Ledger, M: Ledger, B: Wait + Drop> Model for Store<C, R, M, 
         (record { total = s.charged.book.total; parts = s.charged.rest.parts; rest = s.charged.rest.amount })
         (record { total = s.released.book.total; parts = s.released.rest.parts; rest = s.released.rest.amount })
         (record { total = s.made.book.total; parts = s.made.rest.parts; rest = s.made.rest.amount })
-        × IsQueued C.journal C.log s.board.events s.queue };
+        × IsQueued C.settings C.journal C.log s.board.events s.queue };
 }
 
 impl<C: Charges, R: Ledger, M: Ledger, B: Wait + Drop> Store<C, R, M, B> {
@@ -232,6 +232,9 @@ impl<C: Charges, R: Ledger, M: Ledger, B: Wait + Drop> Store<C, R, M, B> {
     {
         // the contract of this call tells that the book is lawful
         let _lawful = self.book.settings();
+        // and these two that the change can be made again of its record
+        let _in_range = now.secs();
+        tell_fits(self.book.settings().tenant_count(), &change);
         let spare = spare_for(&change);
         let ready = match self.book.prepare(change, now) {
             Ok(ready) => ready,

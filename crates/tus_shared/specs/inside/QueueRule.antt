@@ -1,8 +1,9 @@
 -- What waits in the queue of a store.
 use Rattle.std.specs.Prelude.{◌≡◌, ℕ, ◌+◌, ◌≤◌, Bool, true, false, List, [], ◌∷◌, ◌++◌, length, Option, Some, None, is_some, IfSome}
 use Rattle.logbook.specs.Pages.{Book}
+use Rattle.upload_book.specs.Settings.{Settings}
 use Rattle.head_board.specs.Event.{Event}
-use Rattle.tus_shared.specs.Journal.{event_frames}
+use Rattle.tus_shared.specs.Journal.{event_frames, CanBeReplayed}
 
 -- what is seen of a queue: which log its events are in, the events whose records were taken out of it, and the frames that wait
 pub record QueueView : Type 0 where
@@ -10,17 +11,18 @@ pub record QueueView : Type 0 where
   pub behind : List Event
   pub frames : List (List ℕ)
 
--- the frames of the records of all events that come after those, one each, in their order
-pub record Waits (journal : Option ℕ) (log : Book) (events : List Event) (queue : QueueView) : Type 0 where
+-- the frames of the records of all events that come after those, one each, in their order; of these they can be made again
+pub record Waits (s : Settings) (journal : Option ℕ) (log : Book) (events : List Event) (queue : QueueView) : Type 0 where
   pub log_is : queue.log ≡ log
   pub more : List Event
   pub reaches : events ≡ queue.behind ++ more
   pub frames_are : queue.frames ≡ event_frames journal more
+  pub again : CanBeReplayed s queue.behind more
 
 -- there is a queue exactly where there is a journal
-pub record IsQueued (journal : Option ℕ) (log : Book) (events : List Event) (queue : Option QueueView) : Type 0 where
+pub record IsQueued (s : Settings) (journal : Option ℕ) (log : Book) (events : List Event) (queue : Option QueueView) : Type 0 where
   pub there : is_some queue ≡ is_some journal
-  pub waits : IfSome queue (Waits journal log events)
+  pub waits : IfSome queue (Waits s journal log events)
 
 -- a frame was queued: it is the last of those that wait, and the room fell by its length, and has so much to spare
 pub record Queues (waiting : QueueView) (frame : Option (List ℕ)) (room spare : ℕ) (queue : Option QueueView) (left : ℕ) : Type 0 where

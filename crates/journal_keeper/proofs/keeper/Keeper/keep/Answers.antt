@@ -13,7 +13,7 @@ returns-then-begins-clause-kept g c =
 pub invariant_of-self-2 : goal.invariant_of-self-2
 invariant_of-self-2 g c =
     let told = c.in_ok-reached.ensures in
-    kept-more c.self.inside.journal c.keep_waiting.new.journal _ _ _ _ _ _ _ _ c.self.inside.granted _ _ c.if-self.false c.self.invariant told.key told.log told.happened told.kept told.covered
+    kept-more c.self.inside.journal c.keep_waiting.new.journal _ _ _ _ _ _ _ _ c.self.inside.granted _ _ c.if-self.false c.self.invariant told.key told.log told.happened told.again told.kept told.covered
 
 pub returns-clause-keeps : goal.returns-clause-keeps
 returns-clause-keeps g c = subst (λ (events : List Event). IsPrefix events c.in_ok-reached.reached.events) (ap (λ k. k.kept) c.self.view_is) c.in_ok-reached.ensures.more

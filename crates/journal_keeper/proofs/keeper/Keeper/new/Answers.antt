@@ -7,7 +7,8 @@ invariant_of-result g c = record {
   key = c.requires.key;
   front_log = c.requires.log;
   happened = c.requires.happened;
+  again = c.requires.again;
   holds = λ well honest. c.requires.journal honest;
-  left = λ honest left may. left-all c.args.journal g.C.Charges.settings c.args.front.events c.requires.happened (c.requires.journal honest) left may;
+  left = λ honest left may. left-all c.args.journal g.C.Charges.settings c.args.front.events c.requires.happened c.requires.again (c.requires.journal honest) left may;
   covered = λ well. omega arith;
 }

@@ -1,5 +1,8 @@
-use Rattle.std.proofs.Common.{◌≡◌, ◌++◌, ◌∷◌, [], List, ℕ, ◌+◌, Bool, true, false, Option, IsSome, ap, refl, rules, sym, subst, inl, ◌∙◌}
+use Rattle.std.proofs.Common.{◌≡◌, ◌≤◌, ◌++◌, ◌∷◌, [], List, length, ℕ, ◌+◌, Bool, true, false, Option, IsSome, ap, refl, rules, sym, subst, inl, ◌∙◌}
+use Rattle.book_replay.specs.Replay.{Happens}
+use Rattle.upload_book.specs.Change.{CanBeMade}
 use Rattle.upload_book.specs.Lawful.{IsLawful}
+use Rattle.upload_book.specs.Settings.{Settings}
 use Rattle.head_board.specs.Event.{Event}
 use Rattle.head_board.specs.Events.{book_at}
 use Rattle.tus_shared.specs.Desk.{Desk}
@@ -7,12 +10,18 @@ use Rattle.tus_shared.specs.Journal.{journal_len}
 use Rattle.tus_shared.specs.Steps.{IsNextEvent}
 use Rattle.tus_shared.specs.inside.QueueRule.{IsQueued, QueueView}
 use Rattle.tus_shared.proofs.ChangeLemmas.{done-made, done-refused, done-unkept, event_by}
+use Rattle.tus_shared.proofs.EventLemmas.{at-settings}
 use Rattle.tus_shared.proofs.QueueLemmas.{frame-given, framed-spares, framed-spends, queue-journal, queue-on, queue-stays, spends-one}
 use Rattle.tus_shared.proofs.ReadyLemmas.{accepted-as}
 use Rattle.tus_shared.proofs.store.Store.make.Goals as goal
 
 pub prepare-requires : goal.prepare-requires
 prepare-requires g c = rw c.self.invariant.0.settings c.requires.change
+
+pub tell_fits-requires : goal.tell_fits-requires
+tell_fits-requires g c =
+    let count : c.tenant_count.result ≡ length g.C.Charges.settings.tenants = c.tenant_count.ensures ∙ ap (λ (s : Settings). length s.tenants) (c.settings.ensures.value ∙ c.self.invariant.0.settings) in
+    subst (λ (n : ℕ). CanBeMade n c.args.change) (sym count) c.requires.change
 
 pub invariant_of-self : goal.invariant_of-self
 invariant_of-self g c = (rw c.prepare.ensures.plain c.self.invariant.0, c.self.invariant.1)
@@ -49,7 +58,7 @@ invariant_of-self-then-not-queue_frame g c =
     let framed = rw no_place at c.queue_frame.ensures in
     let stays = queue-stays _ c.self.inside.queue c.queue_frame.new.queue c.desk.inside.room c.spare_for-spare.result c.queue_frame.new.room framed in (
       rw c.prepare.ensures.plain c.self.invariant.0,
-      subst (λ (q : Option QueueView). IsQueued g.C.Charges.journal g.C.Charges.log c.self.inside.board.events q) (sym stays.0) c.self.invariant.1,
+      subst (λ (q : Option QueueView). IsQueued g.C.Charges.settings g.C.Charges.journal g.C.Charges.log c.self.inside.board.events q) (sym stays.0) c.self.invariant.1,
     )
 
 pub invariant_of-desk : goal.invariant_of-desk
@@ -74,7 +83,7 @@ returns-then-not-queue_frame-clause-done g c =
     let stays = queue-stays _ c.self.inside.queue c.queue_frame.new.queue c.desk.inside.room c.spare_for-spare.result c.queue_frame.new.room framed in
     let events = c.self.inside.board.events in
     let b = book_at g.C.Charges.settings events in
-    let there = queue-journal g.C.Charges.journal g.C.Charges.log events c.self.inside.queue c.self.invariant.1 stays.2 in
+    let there = queue-journal g.C.Charges.settings g.C.Charges.journal g.C.Charges.log events c.self.inside.queue c.self.invariant.1 stays.2 in
     let journalled = subst (λ (j : Option ℕ). IsSome j) (sym c.desk.invariant.journal_is) there in
     let accepted = accepted-as b c.prepare.new.self c.in-Ok.ready c.args.change c.args.now (c.prepare.ensures.plain ∙ c.self.invariant.0.at.is) c.in-Ok.ensures.change c.in-Ok.ensures.now c.in-Ok.ensures.ready in
     rw (← c.self.view_is, ← c.desk.view_is) (done-unkept c.desk.inside.journal b events c.desk.inside.number c.args.change c.args.now journalled accepted)
@@ -109,6 +118,7 @@ make_ready-requires-clause-store g c = rw c.prepare.ensures.plain c.self.invaria
 
 pub invariant_of-self-2 : goal.invariant_of-self-2
 invariant_of-self-2 g c =
+    let s = g.C.Charges.settings in
     let journal = g.C.Charges.journal in
     let events = c.self.inside.board.events in
     let after = c.make_ready.new.board.events in
@@ -116,9 +126,14 @@ invariant_of-self-2 g c =
     let place : c.queue_frame.result ≡ true = search rules in
     let framed = rw place at c.queue_frame.ensures in
     let given = frame-given c.args.frame (λ f. f.items) journal number c.args.change c.args.now c.requires.frame in
-    let next : IsNextEvent events number c.args.change c.args.now after = rw (c.in-Ok.ensures.change, c.in-Ok.ensures.now) at c.make_ready.ensures.next in (
+    let next : IsNextEvent events number c.args.change c.args.now after = rw (c.in-Ok.ensures.change, c.in-Ok.ensures.now) at c.make_ready.ensures.next in
+    let b = book_at s events in
+    let moment = subst (λ (n : ℕ). n ≤ 253402300799) c.secs-in_range.ensures.value c.secs-in_range.ensures.range in
+    let asked = subst (λ (of : Settings). CanBeMade (length of.tenants) c.args.change) (sym (at-settings s events)) c.requires.change in
+    let accepted = accepted-as b c.prepare.new.self c.in-Ok.ready c.args.change c.args.now (c.prepare.ensures.plain ∙ c.self.invariant.0.at.is) c.in-Ok.ensures.change c.in-Ok.ensures.now c.in-Ok.ensures.ready in
+    let here : Happens b (record { change = c.args.change; now = c.args.now }) = record { asked = asked; accepted = accepted; moment = moment; fits = c.tell_fits.ensures } in (
       c.make_ready.ensures.store,
-      queue-on journal g.C.Charges.log events after (event_by number c.args.change c.args.now) _ c.self.inside.queue c.queue_frame.new.queue c.desk.inside.room c.spare_for-spare.result c.queue_frame.new.room framed given next c.self.invariant.1,
+      queue-on g.C.Charges.settings journal g.C.Charges.log events after (event_by number c.args.change c.args.now) _ c.self.inside.queue c.queue_frame.new.queue c.desk.inside.room c.spare_for-spare.result c.queue_frame.new.room framed given next here c.self.invariant.1,
     )
 
 pub returns-clause-happened : goal.returns-clause-happened

@@ -14,7 +14,7 @@ invariant_of-store g c =
     let events = ap (λ (v : BoardView). v.events) c.in-Ok-opened.ensures.board in
     let keyed = c.queue_of-queue.ensures ∙ ap (λ (j : Option ℕ). new_queue j c.again.result.book c.again.result.events) c.requires.journal in
     let is = keyed ∙ ap₂ (λ (b : Book) (es : List Event). new_queue journal b es) (ap (λ (p : LogPrefix). p.book) c.again.ensures ∙ c.requires.log) (ap (λ (p : LogPrefix). p.events) c.again.ensures ∙ c.args.opened.empty) in
-    let new = subst (λ (q : Option QueueView). IsQueued journal log [] q) (sym is) (queue-new journal log) in (
+    let new = subst (λ (q : Option QueueView). IsQueued g.C.Charges.settings journal log [] q) (sym is) (queue-new g.C.Charges.settings journal log) in (
       search rules,
-      subst (λ (es : List Event). IsQueued journal log es c.queue_of-queue.result) (sym events) new,
+      subst (λ (es : List Event). IsQueued g.C.Charges.settings journal log es c.queue_of-queue.result) (sym events) new,
     )
