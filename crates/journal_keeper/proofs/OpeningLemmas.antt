@@ -141,12 +141,13 @@ book-left key s kept file records book left are made = ok_is book (book_at s lef
 
 -- these begin with all that any desk was told to be kept, where the keeper kept that
 pub all-recovered : {A E : Type 0} (made : Result A E) (key : ℕ) (s : Settings) (kept : List Event) (desks : List Desk) (file : List ℕ) (book : PlainBook) (left : IsLeft key s kept file)
-    → All (λ (d : Desk). IsPrefix d.kept kept) desks → OnOk made (book ≡ book_at s left.events) → OnOk made (IsRecovered s desks book)
+    → All (λ (d : Desk). IsPrefix d.kept kept) desks → OnOk made (book ≡ book_at s left.events) → OnOk made (IsRecovered key file s desks book)
 all-recovered (Ok it) key s kept desks file book left told is = record {
   events = left.events;
   begins = All-weaker _ _ (λ (d : Desk) (begins : IsPrefix d.kept kept). prefix-on d.kept kept left.events begins left.begins) desks told;
   happened = left.happened;
   is = is;
+  made = left.again ∙ ap Ok (sym is);
 }
 all-recovered (Err why) key s kept desks file book left told is = tt
 

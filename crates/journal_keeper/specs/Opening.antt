@@ -1,9 +1,11 @@
 -- A store whose changes are made again of the records that a journal has.
-use Rattle.std.specs.Prelude.{◌≡◌, ◌≢◌, ℕ, List, [], ◌∷◌, ◌++◌, All, Result, Err, ⊤}
+use Rattle.std.specs.Prelude.{◌≡◌, ◌≢◌, ℕ, List, [], ◌∷◌, ◌++◌, All, Result, Ok, Err, ⊤}
 use mathlib.Core.List.{IsPrefix}
+use Rattle.book_replay.specs.Replay.{replayed}
+use Rattle.journal_frames.specs.Frames.{recovered}
 use Rattle.journal_records.specs.Records.{record_bytes}
 use Rattle.upload_book.specs.declared.refusal.Refusal.TheVariants as refusal
-use Rattle.upload_book.specs.PlainBook.{PlainBook}
+use Rattle.upload_book.specs.PlainBook.{PlainBook, opening_book}
 use Rattle.upload_book.specs.Settings.{Settings}
 use Rattle.head_board.specs.Event.{Event}
 use Rattle.head_board.specs.Events.{HaveHappened, book_at}
@@ -34,12 +36,14 @@ IsOutsideRecords Memory = ⊤
 IsOutsideRecords Waiting = ⊤
 
 -- The book is the plain book after a list of events, which happened to a book of these settings since its opening, one after
--- another. The list begins with all that any of the desks was told to be kept.
-pub record IsRecovered (s : Settings) (desks : List Desk) (book : PlainBook) : Type 0 where
+-- another. The list begins with all that any of the desks was told to be kept. Nothing happened to the book but what the
+-- records of the file make.
+pub record IsRecovered (key : ℕ) (file : List ℕ) (s : Settings) (desks : List Desk) (book : PlainBook) : Type 0 where
   pub events : List Event
   pub begins : All (λ (d : Desk). IsPrefix d.kept events) desks
   pub happened : HaveHappened s events
   pub is : book ≡ book_at s events
+  pub made : replayed 1 (opening_book s) (recovered key file) ≡ Ok book
 
 -- the change is not made again whatever memory there is, and whatever waits
 abbrev pub IsFinal : AgainFault → Type 0

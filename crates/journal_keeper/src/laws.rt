@@ -41,7 +41,7 @@ pub fn what_was_told_is_left<D: Disk, C: Journalled, R: Ledger, M: Ledger>(
 /// was told that all of this is kept ([`Desk::is_kept`]). Then the machine crashed, and the journal was opened
 /// ([`crate::open_journal`]) on a file that the disk may leave. Of it a store is made again here, by [`reopen`]. Its book
 /// ([`Store::headline`]) is the plain book after one list of events, which begins with all that any of the desks was told to be
-/// kept; and none of its records is refused.
+/// kept; it is the one that the records of the file make, and none of these is refused.
 ///
 /// The premises. The disk keeps what it synced, and leaves each other byte as it was or as it was written: that is supposed of
 /// what it `may_leave`. It told no lie while the journal was opened: of the time before the crash that is `honest`; of that
@@ -80,7 +80,7 @@ where
     ensures recovered { IsTrue C.honest → (file : List ℕ)
         → D.may_leave keeper.now.disk file
         → recovered key opened.frames.items ≡ recovered key file
-        → OnOk result (IsRecovered C.settings desks.now (book_at C.settings store.new)) }
+        → OnOk result (IsRecovered key file C.settings desks.now (book_at C.settings store.new)) }
     ensures accepts { IsTrue C.honest → (file : List ℕ)
         → D.may_leave keeper.now.disk file
         → recovered key opened.frames.items ≡ recovered key file

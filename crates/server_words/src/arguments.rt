@@ -12,7 +12,7 @@ use tus_workers::{Bounds, WorkOptions};
 use upload_book::{Moment, Numbers};
 
 /// The command that was entered, with its options. None where there is none, its moment is past the year 9999, it has no
-/// address, one of its ports is none, or it is to have no worker or more than 16.
+/// address, no folder or no upload where it needs one, one of its ports is none, or it is to have no worker or more than 16.
 pub fn command_options<'m, 'a>(matches: &'m ArgMatches<'a>) -> Option<CommandOptions<'m, 'a>>
     ensures { option_map arguments_of result ≡ arguments_entered (subcommand_rows_of matches.now) }
 {

@@ -64,9 +64,9 @@ const CHECK_HELP: &str = "\
 It reads the settings and the journal, makes all changes again in memory, and prints one line:
   N records, N uploads, N bytes; file: N bytes, N of records, N torn
 The bytes of the uploads count those of a final upload once more. The torn bytes are what stands behind the records up to
-the last byte that is not 0: what a crash has left of a record that was being written.
-Where the journal is damaged, or a record is of no change that the settings allow, the status is 5, and standard error
-says where.";
+the last byte that is not 0: what a crash has left of a record, or what a server is writing just now.
+Where there is no journal or no settings, the journal is damaged, or a record is of no change that the settings allow, the
+status is 5, and standard error says what is wrong, and where.";
 
 const EXPORT_HELP: &str = "\
 The bytes are those that the upload has, whether they are all of it or not; one that has expired is there until a server
@@ -248,7 +248,7 @@ fn upload<'a>(alloc: Global) -> Arg<'a>
     Arg::new(alloc, "upload")
         .value_name("TENANT/ID")
         .required(true)
-        .help("The upload, as acme/1: the end of the path at which it was created")
+        .help("The upload, as acme/1: what follows /files/ in its Location")
 }
 
 /// The word that names the folder of a journal.

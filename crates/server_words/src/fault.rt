@@ -39,7 +39,7 @@ pub enum RunFault {
     Settings(SettingsFault),
     /// A read or a write failed, or of `serve` a socket.
     Wire(Cause),
-    /// The journal can't be had, or failed.
+    /// The journal can't be had, or failed, or has no such upload.
     Journal(JournalFault),
     /// There was no memory to begin with.
     Memory,

@@ -21,6 +21,7 @@ use Rattle.upload_book.specs.PlainBook.{PlainBook, opening_book}
 use Rattle.upload_book.specs.Settings.{Settings}
 use Rattle.server_words.specs.Arguments.{TalkArguments}
 use Rattle.server_words.specs.Fault.{fault_of_wire}
+use Rattle.server_words.specs.Settings.{talk_settings}
 use Rattle.server_words.specs.StreamUse.{StreamUse, IsAlive}
 use Rattle.server_words.specs.declared.fault.RunFault.{RunFault}
 use Rattle.server_words.specs.declared.fault.RunFault.TheVariants as run

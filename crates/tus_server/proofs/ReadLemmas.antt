@@ -20,36 +20,36 @@ use Rattle.server_words.specs.declared.fault.RunFault.TheVariants as run
 
 -- ---- how a command ends
 
-module _ {W : Type 0} (T : Type 0) (Has : List ℕ → List ℕ → Type 0) (Tells : List ℕ → List ℕ → List ℕ → Type 0) (Lacks : List ℕ → List ℕ → RunFault → Type 0) (writer : StreamUse W) where
+module _ {W : Type 0} (T : Type 0) (Finds : Result (List ℕ × List ℕ) RunFault → Type 0) (Tells : List ℕ → List ℕ → List ℕ → Type 0) (Lacks : List ℕ → List ℕ → RunFault → Type 0) (writer : StreamUse W) where
   -- the files were not read
-  pub ends-unread : (fault : RunFault) → IsUnread fault → IsUntouched writer → LookEnds Has Tells Lacks writer {T = T} (Err fault)
-  ends-unread run.Words unread same = absurd unread
-  ends-unread run.Address unread same = absurd unread
-  ends-unread run.Ports unread same = absurd unread
-  ends-unread (run.Settings what) unread same = absurd unread
-  ends-unread (run.Wire cause) unread same = absurd unread
-  ends-unread (run.Journal what) unread same = (same, inl unread)
-  ends-unread run.Memory unread same = (same, inl unread)
+  pub ends-unread : (fault : RunFault) → IsUnread fault → Finds (Err fault) → IsUntouched writer → LookEnds Finds Tells Lacks writer {T = T} (Err fault)
+  ends-unread run.Words unread found same = absurd unread
+  ends-unread run.Address unread found same = absurd unread
+  ends-unread run.Ports unread found same = absurd unread
+  ends-unread (run.Settings what) unread found same = absurd unread
+  ends-unread (run.Wire cause) unread found same = absurd unread
+  ends-unread (run.Journal what) unread found same = (same, inl (unread, found))
+  ends-unread run.Memory unread found same = (same, inl (unread, found))
 
   -- something is wrong with them
-  pub ends-wrong : (journal settings : List ℕ) → Has journal settings → (fault : RunFault) → Lacks journal settings fault → ((cause : Cause) → ¬ (Lacks journal settings (run.Wire cause)))
-      → IsUntouched writer → LookEnds Has Tells Lacks writer {T = T} (Err fault)
-  ends-wrong journal settings has run.Words lacks other same = (same, inr (record { journal = journal; settings = settings; has = has; lacks = lacks }))
-  ends-wrong journal settings has run.Address lacks other same = (same, inr (record { journal = journal; settings = settings; has = has; lacks = lacks }))
-  ends-wrong journal settings has run.Ports lacks other same = (same, inr (record { journal = journal; settings = settings; has = has; lacks = lacks }))
-  ends-wrong journal settings has (run.Settings what) lacks other same = (same, inr (record { journal = journal; settings = settings; has = has; lacks = lacks }))
-  ends-wrong journal settings has (run.Wire cause) lacks other same = absurd (other cause lacks)
-  ends-wrong journal settings has (run.Journal what) lacks other same = (same, inr (record { journal = journal; settings = settings; has = has; lacks = lacks }))
-  ends-wrong journal settings has run.Memory lacks other same = (same, inr (record { journal = journal; settings = settings; has = has; lacks = lacks }))
+  pub ends-wrong : (journal settings : List ℕ) → Finds (Ok (journal, settings)) → (fault : RunFault) → Lacks journal settings fault → ((cause : Cause) → ¬ (Lacks journal settings (run.Wire cause)))
+      → IsUntouched writer → LookEnds Finds Tells Lacks writer {T = T} (Err fault)
+  ends-wrong journal settings finds run.Words lacks other same = (same, inr (record { journal = journal; settings = settings; finds = finds; lacks = lacks }))
+  ends-wrong journal settings finds run.Address lacks other same = (same, inr (record { journal = journal; settings = settings; finds = finds; lacks = lacks }))
+  ends-wrong journal settings finds run.Ports lacks other same = (same, inr (record { journal = journal; settings = settings; finds = finds; lacks = lacks }))
+  ends-wrong journal settings finds (run.Settings what) lacks other same = (same, inr (record { journal = journal; settings = settings; finds = finds; lacks = lacks }))
+  ends-wrong journal settings finds (run.Wire cause) lacks other same = absurd (other cause lacks)
+  ends-wrong journal settings finds (run.Journal what) lacks other same = (same, inr (record { journal = journal; settings = settings; finds = finds; lacks = lacks }))
+  ends-wrong journal settings finds run.Memory lacks other same = (same, inr (record { journal = journal; settings = settings; finds = finds; lacks = lacks }))
 
   -- a text of them was written, or a prefix of it
-  pub ends-printed : (journal settings text : List ℕ) → Has journal settings → Tells journal settings text → WritesOrFails writer.before writer.after writer.has_failed text → (r : Result T RunFault)
-      → OnOk r (writer.has_failed ≡ false) → OnErr r (writer.has_failed ≡ true) → IfErr r (λ fault. fault ≡ run.Wire Output) → LookEnds Has Tells Lacks writer r
-  ends-printed journal settings text has tells written (Ok v) alive failed is =
-      (record { journal = journal; settings = settings; has = has; text = text; tells = tells; written = written }, alive)
-  ends-printed journal settings text has tells written (Err fault) alive failed is =
-      subst (λ (f : RunFault). LookEnds Has Tells Lacks writer {T = T} (Err f)) (sym is)
-      (record { journal = journal; settings = settings; has = has; text = text; tells = tells; written = written }, failed, refl)
+  pub ends-printed : (journal settings text : List ℕ) → Finds (Ok (journal, settings)) → Tells journal settings text → WritesOrFails writer.before writer.after writer.has_failed text → (r : Result T RunFault)
+      → OnOk r (writer.has_failed ≡ false) → OnErr r (writer.has_failed ≡ true) → IfErr r (λ fault. fault ≡ run.Wire Output) → LookEnds Finds Tells Lacks writer r
+  ends-printed journal settings text finds tells written (Ok v) alive failed is =
+      (record { journal = journal; settings = settings; finds = finds; text = text; tells = tells; written = written }, alive)
+  ends-printed journal settings text finds tells written (Err fault) alive failed is =
+      subst (λ (f : RunFault). LookEnds Finds Tells Lacks writer {T = T} (Err f)) (sym is)
+      (record { journal = journal; settings = settings; finds = finds; text = text; tells = tells; written = written }, failed, refl)
 
 -- ---- what stands in a file
 

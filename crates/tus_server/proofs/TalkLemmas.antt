@@ -21,6 +21,7 @@ use Rattle.upload_book.specs.Settings.{Settings}
 use Rattle.upload_book.specs.declared.settings_fault.SettingsFault.{SettingsFault}
 use Rattle.server_words.specs.Arguments.{TalkArguments}
 use Rattle.server_words.specs.Fault.{fault_of_wire}
+use Rattle.server_words.specs.Settings.{talk_settings}
 use Rattle.server_words.specs.StreamUse.{StreamUse, IsAlive}
 use Rattle.tus_server.specs.Talk.{BreaksTalk, LosesTalk, TalkEnds, Talks, moments_at}
 

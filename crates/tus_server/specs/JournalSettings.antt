@@ -34,6 +34,10 @@ pub record Departs (new : Settings) (text : List ℕ) (difference : Difference) 
 abbrev pub GivesNone : List ℕ → Type 0
 GivesNone text = (¬ (IsUtf8 text)) ⊎ Gives text None
 
+-- the text gives settings
+abbrev pub GivesSome : List ℕ → Type 0
+GivesSome text = (given : Settings) × Gives text (Some given)
+
 -- the text gives no settings, or memory was lacking
 abbrev pub IsUnreadable : List ℕ → RunFault → Type 0
 IsUnreadable text (run.Journal (journal.Settings Unreadable)) = GivesNone text

@@ -13,6 +13,7 @@ use Rattle.upload_book.specs.PlainBook.{PlainBook, opening_book}
 use Rattle.upload_book.specs.Settings.{Settings}
 use Rattle.server_words.specs.Arguments.{TalkArguments}
 use Rattle.server_words.specs.Cause.{NamesCause}
+use Rattle.server_words.specs.Settings.{talk_settings}
 use Rattle.server_words.specs.StreamUse.{StreamUse, IsAlive, IsUntouched}
 use Rattle.server_words.specs.declared.fault.RunFault.{RunFault}
 use Rattle.server_words.specs.declared.fault.RunFault.TheVariants as run

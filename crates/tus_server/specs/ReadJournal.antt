@@ -17,7 +17,7 @@ use Rattle.server_words.specs.declared.fault.RunFault.TheVariants as run
 use Rattle.server_words.specs.declared.journal_fault.JournalFault.{JournalFault}
 use Rattle.server_words.specs.declared.journal_fault.JournalFault.TheVariants as why
 use Rattle.server_words.specs.declared.journal_fault.Mismatch.TheVariants.{Unreadable}
-use Rattle.tus_server.specs.JournalSettings.{Gives, GivesNone}
+use Rattle.tus_server.specs.JournalSettings.{Gives, GivesNone, GivesSome}
 use Rattle.tus_server.specs.KeptTalk.{journal_key}
 use Rattle.tus_server.specs.declared.held.Held.{Held}
 
@@ -35,11 +35,16 @@ pub record IsReadTo (journal : List ℕ) (found : WholeFrames) : Type 0 where
   pub end : found.end ≡ length (frames journal_key (recovered journal_key journal))
   pub tail : (journal ≡ []) ⊎ IsTornTail journal_key (drop found.end journal)
 
--- what is wrong with the files; a file without a byte is that of a journal that has just begun
+-- the file is that of a journal which is not damaged
+abbrev pub IsWhole : List ℕ → Type 0
+IsWhole journal = (found : WholeFrames) × IsReadTo journal found
+
+-- What is wrong with the files, where all that comes before it is right: the settings, then the frames of the file, then their
+-- records. A file without a byte is that of a journal that has just begun.
 abbrev pub IsWrongWith : List ℕ → List ℕ → JournalFault → Type 0
 IsWrongWith journal settings (why.Settings what) = (what ≡ Unreadable) × GivesNone settings
-IsWrongWith journal settings (why.Damaged damage) = (journal ≢ []) × IsDamagedAt journal_key journal damage
-IsWrongWith journal settings (why.Record number) = Makes journal settings (Err number)
+IsWrongWith journal settings (why.Damaged damage) = GivesSome settings × (journal ≢ []) × IsDamagedAt journal_key journal damage
+IsWrongWith journal settings (why.Record number) = IsWhole journal × Makes journal settings (Err number)
 IsWrongWith journal settings fault = ⊥
 
 -- why no book is made of the files: one of them is wrong, or memory was lacking
@@ -77,13 +82,14 @@ pub record IsChecked (journal settings line : List ℕ) : Type 0 where
   pub read : IsReadTo journal found
   pub tells : IsLineOf journal found book line
 
--- a command that looks into a journal, by what a text has to tell of the files, and why there is none
-module _ {W : Type 0} (Has : List ℕ → List ℕ → Type 0) (Tells : List ℕ → List ℕ → List ℕ → Type 0) (Lacks : List ℕ → List ℕ → RunFault → Type 0) (writer : StreamUse W) where
+-- A command that looks into a journal: by what comes of reading its folder, which is the bytes of the journal's file and the
+-- text of the settings beside it, or a fault; what a text has to tell of these files; and why there is none.
+module _ {W : Type 0} (Finds : Result (List ℕ × List ℕ) RunFault → Type 0) (Tells : List ℕ → List ℕ → List ℕ → Type 0) (Lacks : List ℕ → List ℕ → RunFault → Type 0) (writer : StreamUse W) where
   -- the files were read, and this text of them was written, or where the stream has failed a prefix of it
   pub record Shows : Type 0 where
     pub journal : List ℕ
     pub settings : List ℕ
-    pub has : Has journal settings
+    pub finds : Finds (Ok (journal, settings))
     pub text : List ℕ
     pub tells : Tells journal settings text
     pub written : WritesOrFails writer.before writer.after writer.has_failed text
@@ -92,11 +98,12 @@ module _ {W : Type 0} (Has : List ℕ → List ℕ → Type 0) (Tells : List ℕ
   pub record Refuses (fault : RunFault) : Type 0 where
     pub journal : List ℕ
     pub settings : List ℕ
-    pub has : Has journal settings
+    pub finds : Finds (Ok (journal, settings))
     pub lacks : Lacks journal settings fault
 
-  -- How the command ends: its text was written, or standard output has failed, or nothing was written, and this is wrong.
+  -- How the command ends: its text was written, or standard output has failed; or nothing was written, and the files were not
+  -- read, or this is wrong with them.
   abbrev pub LookEnds : {T : Type 0} → Result T RunFault → Type 0
   LookEnds (Ok _) = Shows × (writer.has_failed ≡ false)
   LookEnds (Err (run.Wire cause)) = Shows × (writer.has_failed ≡ true) × (cause ≡ Output)
-  LookEnds (Err fault) = IsUntouched writer × (IsUnread fault ⊎ Refuses fault)
+  LookEnds (Err fault) = IsUntouched writer × ((IsUnread fault × Finds (Err fault)) ⊎ Refuses fault)

@@ -76,10 +76,9 @@ module _ {W E : Type 0} (kind : ErrorKind) (status : ℕ) (writer : StreamUse W)
   abbrev pub Explains : Type 0
   Explains = ((text : List ℕ) × Tells text) ⊎ RefusesUntold ⊎ EndsForMemory
 
--- over these sockets and disks, and folders of which this is so: at a path one has the bytes of a journal's file, and the text
--- of the settings beside it
+-- over these sockets and disks, and folders, of which this is known: what comes of reading the one at a path
 module _ {L A D R W E : Type 0} (seen : Sockets L A) (read : D → List ℕ) (may_leave : D → List ℕ → Type 0) (is_clean : D → Bool)
-    (has : List ℕ → List ℕ → List ℕ → Type 0) (status : ℕ) (reader : StreamUse R) (writer : StreamUse W) (errors : StreamUse E) where
+    (finds : List ℕ → Result (List ℕ × List ℕ) RunFault → Type 0) (status : ℕ) (reader : StreamUse R) (writer : StreamUse W) (errors : StreamUse E) where
   -- how `talk` ends, with a journal or without one
   abbrev pub TalkEndsBy : {T : Type 0} → Option Text → TalkArguments → Result T RunFault → Type 0
   TalkEndsBy None arguments outcome = TalkEnds arguments reader writer outcome
@@ -96,11 +95,11 @@ module _ {L A D R W E : Type 0} (seen : Sockets L A) (read : D → List ℕ) (ma
       (outcome : Result (Unit {0}) RunFault) × ServeEnds seen arguments writer outcome × IsUntouched reader
       × Reports (serve arguments) outcome status errors
   Performs (Some (check folder)) =
-      (outcome : Result (Unit {0}) RunFault) × LookEnds (has folder) IsChecked IsFaultOfFiles writer outcome × IsUntouched reader
+      (outcome : Result (Unit {0}) RunFault) × LookEnds (finds folder) IsChecked IsFaultOfFiles writer outcome × IsUntouched reader
       × Reports (check folder) outcome status errors
   Performs (Some (export arguments)) =
       (outcome : Result (Unit {0}) RunFault)
-      × LookEnds (has arguments.folder) (IsExported arguments.upload) (IsFaultOfExport arguments.upload) writer outcome
+      × LookEnds (finds arguments.folder) (IsExported arguments.upload) (IsFaultOfExport arguments.upload) writer outcome
       × IsUntouched reader × Reports (export arguments) outcome status errors
 
   -- how a run ends whose words are these

@@ -30,7 +30,7 @@ pub fn check<J: Journals, W: Sink>(
     writer: &mut W,
 ) -> Result<(), RunFault>
     requires { W.has_failed writer.old ≡ false }
-    ensures { LookEnds (J.has journals.now path.now) IsChecked IsFaultOfFiles
+    ensures { LookEnds (J.finds journals.now path.now) IsChecked IsFaultOfFiles
         (used W.contents W.has_failed writer.old writer.new) result }
 {
     let files = journals.read(path)?;

@@ -27,7 +27,7 @@ pub fn export<J: Journals, W: Sink>(
     writer: &mut W,
 ) -> Result<(), RunFault>
     requires { W.has_failed writer.old ≡ false }
-    ensures { LookEnds (J.has journals.now options.now.folder.now) (IsExported options.now.upload.now)
+    ensures { LookEnds (J.finds journals.now options.now.folder.now) (IsExported options.now.upload.now)
         (IsFaultOfExport options.now.upload.now) (used W.contents W.has_failed writer.old writer.new) result }
 {
     let files = journals.read(options.folder)?;

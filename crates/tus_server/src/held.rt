@@ -65,6 +65,7 @@ fn bytes_for(book: &Book, tenant: u8) -> u64
     requires { tenant < length (plain_of book.now).settings.tenants }
     ensures { result ≡ capped (bytes_in (plain_of book.now).settings.numbers (tenant_book (plain_of book.now) tenant)) }
 {
+    // Its contract tells that the book is lawful, so that all ids which were given are below the last number.
     let _ = book.settings();
     let mut bytes: u64 = 0;
     for id in 1..u64::MAX {

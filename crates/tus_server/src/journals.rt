@@ -1,7 +1,8 @@
 //! Where journals lie: each in a folder, beside the settings that it is of.
-ghost use Rattle.std.specs.Prelude.{◌≡◌, List, ℕ, Option, Some, IfErr, IfOk, OnOk, option_map, ⊤};
+ghost use Rattle.std.specs.Prelude.{◌≡◌, List, ℕ, Option, Some, Result, Ok, Err, IfErr, IfOk, OnOk, option_map, ⊤};
 ghost use Rattle.std.specs.Borrow.{Bor};
 ghost use Rattle.server_words.specs.JournalFault.{IsOfJournal, IsOfSystem, IsUnread};
+ghost use Rattle.server_words.specs.declared.fault.RunFault.{RunFault};
 
 use server_words::{JournalFault, Mismatch, RunFault};
 use sqlite_disk::{Disk, Unknown};
@@ -22,8 +23,9 @@ pub trait Journals {
 
     type File: SettingsFile + Drop;
 
-    /// What the folder at a path has, when it is read: the bytes of its journal's file, and the text of the settings beside it.
-    ghost has: { Self → List ℕ → List ℕ → List ℕ → Type 0 };
+    /// What comes of reading the folder at a path: the bytes of its journal's file, and the text of the settings beside it; or
+    /// this fault.
+    ghost finds: { Self → List ℕ → Result (List ℕ × List ℕ) RunFault → Type 0 };
 
     /// The journal in the folder at a path, and the settings beside it. The folder is made where there is none, and so is the
     /// journal's file, without a byte. No other process can have the journal until its disk is let go. Beside it stands a
@@ -38,12 +40,13 @@ pub trait Journals {
     /// Reads the journal in the folder at a path, and the settings beside it. Nothing is made or written, and no lock is taken:
     /// another process may have the journal, and write to it meanwhile.
     ///
-    /// The error is NoJournal where there is no folder, or no file for the journal in it, or one that can't be opened; Settings
-    /// with Missing where no settings stand beside it, or with Unreadable where they are far too long; Disk where a read
+    /// The error is NoJournal where there is no folder, or no file for the journal in it, or one that can't be opened, or is no
+    /// regular file; Settings with Missing where no settings stand beside it, or with Unreadable where they are far too long; Disk where a read
     /// fails; or Memory.
     fn read(&self, path: &str) -> Result<JournalFiles, RunFault>
-        ensures read { IfOk result (λ files. has self.now path.now files.journal.items files.settings.items) }
-        ensures fault { IfErr result IsUnread };
+        ensures read { IfOk result (λ files. finds self.now path.now (Ok (files.journal.items, files.settings.items))) }
+        ensures fault { IfErr result (λ fault. finds self.now path.now (Err fault)) }
+        ensures unread { IfErr result IsUnread };
 }
 
 /// What was read of the folder of a journal.
@@ -92,7 +95,7 @@ impl<'a> Journals for MachineJournals<'a> {
 
     type File = MachineSettings<'a>;
 
-    ghost has = { λ _ _ _ _. ⊤ };
+    ghost finds = { λ _ _ _. ⊤ };
 
     fn open(&self, path: &str) -> Result<Folder<DiskFile, MachineSettings<'a>>, RunFault> {
         make_folder(self.rt, path)?;
@@ -107,6 +110,7 @@ impl<'a> Journals for MachineJournals<'a> {
 
     fn read(&self, path: &str) -> Result<JournalFiles, RunFault> {
         let alloc = self.rt.alloc();
+        // The journal first: settings that are put meanwhile are those of a start that made all of its changes again.
         let journal = read_journal(self.rt, format!(in alloc; "{path}/journal")?.as_str())?;
         match read_text(self.rt, format!(in alloc; "{path}/settings")?.as_str())? {
             Some(settings) => Ok(JournalFiles { journal, settings }),
@@ -251,7 +255,7 @@ fn file_fault(error: io::Error) -> RunFault
     }
 }
 
-/// What it is to the program that settings can't be read or written.
+/// What it is to the program that a journal's file can't be read, or settings can't be read or written.
 fn disk_fault(error: io::Error) -> RunFault
     ensures { IsOfSystem result }
 {

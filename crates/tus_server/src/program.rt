@@ -37,10 +37,10 @@ const REFUSED: u8 = 2;
 /// Does what the words of the command line ask for, over these streams, and gives the exit status. The first word is
 /// the program's name.
 ///
-/// The status is 0 where all was done, 2 where the words or the settings are refused, 3 where a read or a write
-/// failed, or of `serve` a socket, 4 where there was no memory to begin with, and 5 where a journal can't be had. Words that are not taken are answered
-/// on `errors`, and help on `writer`. At 3 and 4, and at 2 for the settings, the line that names the fault and a sentence on
-/// it are written to `errors`, whose own faults are passed over.
+/// The status is 0 where all was done, 2 where the words, the settings or the address are refused, 3 where a read or a write
+/// failed, or of `serve` a socket, 4 where there was no memory to begin with, and 5 where a journal can't be had. Words that
+/// are not taken are answered on `errors`, and help on `writer`. At 3, 4 and 5, and at 2 for words that were taken, the line
+/// that names the fault and a sentence on it are written to `errors`, whose own faults are passed over.
 pub fn run<
     L: Listener,
     S: AsStr,
@@ -76,7 +76,7 @@ where
     requires writer { W.has_failed writer.old ≡ false }
     requires errors { E.has_failed errors.old ≡ false }
     ensures { RunEnds (sockets L.asked L.place L.Acceptor.accepted L.Acceptor.has_failed L.Acceptor.is_stopped)
-        D.seen D.may_leave D.is_clean (J.has journals.now) result
+        D.seen D.may_leave D.is_clean (J.finds journals.now) result
         (used R.remaining R.has_failed reader.old reader.new)
         (used W.contents W.has_failed writer.old writer.new)
         (used E.contents E.has_failed errors.old errors.new) (map S.text words.now) }
@@ -125,7 +125,7 @@ where
     requires writer { W.has_failed writer.old ≡ false }
     requires errors { E.has_failed errors.old ≡ false }
     ensures { Performs (sockets L.asked L.place L.Acceptor.accepted L.Acceptor.has_failed L.Acceptor.is_stopped)
-        D.seen D.may_leave D.is_clean (J.has journals.now) result
+        D.seen D.may_leave D.is_clean (J.finds journals.now) result
         (used R.remaining R.has_failed reader.old reader.new)
         (used W.contents W.has_failed writer.old writer.new)
         (used E.contents E.has_failed errors.old errors.new)

@@ -13,7 +13,7 @@ returns-clause-recovered g c = λ honest file may opened.
     let here = subst (λ (s : Settings). IsLeft c.args.key s kept file) (sym c.requires.same_settings) left in
     let book = book_at g.E.Charges.settings c.reopen.new.store in
     let made = all-recovered c.reopen.result c.args.key g.E.Charges.settings kept c.args.desks.now file book here c.requires.told (c.reopen.ensures.recovered kept file here opened) in
-    subst (λ (s : Settings). OnOk c.reopen.result (IsRecovered s c.args.desks.now (book_at s c.reopen.new.store))) c.requires.same_settings made
+    subst (λ (s : Settings). OnOk c.reopen.result (IsRecovered c.args.key file s c.args.desks.now (book_at s c.reopen.new.store))) c.requires.same_settings made
 
 pub returns-clause-accepts : goal.returns-clause-accepts
 returns-clause-accepts g c = λ honest file may opened.
