@@ -46,8 +46,8 @@ def done(load, server, kind, count, what):
     return counted / (time.monotonic() - begun)
 
 
-def row(load, servers, kind, count, what, name):
-    rates = [[done(load, server, kind, count, what or server.small) for server in servers] for _ in range(TURNS)]
+def row(load, servers, kind, count, what, name, turns=TURNS):
+    rates = [[done(load, server, kind, count, what or server.small) for server in servers] for _ in range(turns)]
     ratios = [statistics.median(turn[place] / turn[0] for turn in rates) for place in range(1, len(servers))]
     plain = statistics.median(turn[0] for turn in rates)
     print(f'| {name}, {count} connections | {plain:,.0f} | {" | ".join(f"{ratio:.2f}" for ratio in ratios)} |', flush=True)
