@@ -7,11 +7,9 @@ Both are up at once with nothing asked for, and are measured by turns of 0.6 sec
 first, and the median of the ratios of the second to it. It needs gcc and two processors.
 """
 import os
-import shutil
 import sys
-import tempfile
 from measure import built
-from watched import row, start
+from watched import in_memory, row, start
 
 TURNS = 9
 
@@ -37,13 +35,5 @@ def measure(folder, programs):
             server.process.wait()
 
 
-def main():
-    folder = tempfile.mkdtemp(dir='/dev/shm')
-    try:
-        measure(folder, sys.argv[1:3])
-    finally:
-        shutil.rmtree(folder, ignore_errors=True)
-
-
 if __name__ == '__main__':
-    main()
+    in_memory(measure, sys.argv[1:3])

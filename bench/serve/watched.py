@@ -81,13 +81,14 @@ def measure(folder, program):
             server.process.wait()
 
 
-def main():
+def in_memory(measure, *given):
+    """Measures with a folder in memory, which is removed after it."""
     folder = tempfile.mkdtemp(dir='/dev/shm')
     try:
-        measure(folder, sys.argv[1])
+        measure(folder, *given)
     finally:
         shutil.rmtree(folder, ignore_errors=True)
 
 
 if __name__ == '__main__':
-    main()
+    in_memory(measure, sys.argv[1])
