@@ -1,8 +1,10 @@
 -- The test of a change decides whether a book may be asked for it.
-use Rattle.std.proofs.Common.{◌≡◌, ℕ, ◌<◌, ◌≤◌, leb, ltb, List, [], length, Option, Some, None, refl, codes}
+use Rattle.std.proofs.Common.{◌≡◌, ℕ, ◌<◌, ◌≤◌, Bool, true, false, ◌&&◌, eqb, leb, ltb, List, [], ◌∷◌, length, Option, Some, None, is_some, refl, ap, codes, arith}
 use Rattle.std.specs.Bool.{Decides, IsTrue}
-use Rattle.std.proofs.lemmas.Bool.{le-leb, leb-true}
+use Rattle.std.specs.List.{All, list_all}
+use Rattle.std.proofs.lemmas.Bool.{and_parts, eq-eqb, eqb-true, le-leb, leb-true}
 use Rattle.std.proofs.lemmas.Bool.Decides.{Decides-and, Decides-like, Decides-ltb}
+use Rattle.std.proofs.lemmas.List.Elements.{All-cons, All-head, All-nil, All-tail}
 use Rattle.std.proofs.lemmas.Slice.Eq.{bytes_eq-Decides}
 use Rattle.tus_text.specs.Concat.{concat_of}
 use Rattle.tus_text.specs.declared.concat.Concat.{Concat}
@@ -14,10 +16,14 @@ use Rattle.upload_book.specs.declared.change.Change.{Change}
 use Rattle.upload_book.specs.declared.change.Change.TheVariants as change
 use Rattle.upload_book.specs.declared.head_row.Kind.{Kind}
 use Rattle.upload_book.specs.declared.head_row.Kind.TheVariants.{Plain, Partial, Final}
+use Rattle.upload_book.specs.declared.restored.Restored.{Restored}
+use Rattle.upload_book.specs.declared.restored.Restored.TheVariants as piece
 use Rattle.upload_book.specs.Lawful.{IsConcatText, is_kept_metadata}
 use Rattle.upload_book.specs.NewFinal.{NewFinal}
 use Rattle.upload_book.specs.NewUpload.{NewUpload}
-use Rattle.book_replay.specs.Made.{can_be_made, is_concat_text, is_final, is_upload, names_parts}
+use Rattle.upload_book.specs.snapshot.Restore.{CanBePutBack, HasSegments, IsRestorable}
+use Rattle.upload_book.specs.snapshot.Restored.{RestoredSegment, RestoredUpload}
+use Rattle.book_replay.specs.Made.{can_be_made, can_be_put_back, has_segments, is_concat_text, is_earlier, is_final, is_own, is_restorable, is_upload, names_parts}
 
 names-decides : (read : Option Concat) → Decides (names_parts read) ((parts : List PartPath) × (read ≡ Some (concat.Final parts)))
 names-decides (Some (concat.Final parts)) = (λ e. (parts, refl), λ h. refl)
@@ -43,6 +49,56 @@ final-decides new =
     Decides-like (is_final new) (λ h. (h.0.0.0, h.0.0.1, h.0.1, h.1)) (λ h. (((h.0, h.1), h.2), h.3))
     (Decides-and _ _ (Decides-and _ _ (Decides-and _ _ (Decides-ltb 0 (length new.parts)) (leb-decides (length new.parts) 32)) (kept-decides new.metadata)) (text-decides Final new.concat))
 
+-- a test of each element
+list_all-decides : {X : Type 0} (test : X → Bool) (P : X → Type 0) → ((x : X) → Decides (test x) (P x)) → (xs : List X) → Decides (list_all test xs) (All P xs)
+list_all-decides test P each [] = (λ e. All-nil P, λ h. refl)
+list_all-decides test P each (x ∷ xs) =
+    Decides-like (list_all test (x ∷ xs)) (λ h. All-cons P x xs h.0 h.1) (λ h. (All-head P x xs h, All-tail P x xs h))
+    (Decides-and (test x) (list_all test xs) (each x) (list_all-decides test P each xs))
+
+-- what the first segment has
+abbrev first_origin : List RestoredSegment → ℕ
+first_origin [] = 0
+first_origin (s ∷ segments) = s.origin
+
+abbrev first_bytes : List RestoredSegment → Option (List ℕ)
+first_bytes [] = None
+first_bytes (s ∷ segments) = s.bytes
+
+-- the one segment of an upload of its own
+own-decides : (id : ℕ) (segments : List RestoredSegment) → Decides (eqb (length segments) 1 && list_all (is_own id) segments) ((bytes : List ℕ) × (segments ≡ record { origin = id; bytes = Some bytes } ∷ []))
+own-decides id [] = (λ e. absurd (cc), λ h. let is = h.1 in absurd (cc))
+own-decides id (s ∷ t ∷ segments) = (λ e. absurd (let two = eqb-true (length (s ∷ t ∷ segments)) 1 (and_parts _ _ e).0 in omega (arith, two)), λ h. let is = h.1 in absurd (cc))
+own-decides id (s ∷ []) = by s.origin s.bytes where
+  by : (origin : ℕ) (brought : Option (List ℕ))
+      → Decides (eqb origin id && is_some brought && true) ((bytes : List ℕ) × ((let one : List RestoredSegment = record { origin = origin; bytes = brought } ∷ [] in one) ≡ record { origin = id; bytes = Some bytes } ∷ []))
+  by origin None = (λ e. absurd (let none : false ≡ true = (and_parts (eqb origin id) false (and_parts (eqb origin id && false) true e).0).1 in cc), λ h. let is : (let none : Option (List ℕ) = None in none) ≡ Some h.0 = ap first_bytes h.1 in absurd (cc))
+  by origin (Some bytes) = (
+    λ e. (bytes, ap (λ (o : ℕ). record { origin = o; bytes = Some bytes } ∷ []) (eqb-true origin id (and_parts _ _ (and_parts _ _ e).0).0)),
+    λ h. (let same : origin ≡ id = ap first_origin h.1 in rw (eq-eqb origin id same) refl),
+  )
+
+-- the segments of a final one
+earlier-decides : (id : ℕ) (segments : List RestoredSegment) → Decides (list_all (is_earlier id) segments) (All (λ (s : RestoredSegment). (0 < s.origin) × (s.origin < id)) segments)
+earlier-decides id segments = list_all-decides (is_earlier id) (λ (s : RestoredSegment). (0 < s.origin) × (s.origin < id)) (λ s. Decides-and _ _ (Decides-ltb 0 s.origin) (Decides-ltb s.origin id)) segments
+
+segments-decide : (kind : Kind) (id : ℕ) (segments : List RestoredSegment) → Decides (has_segments kind id segments) (HasSegments kind id segments)
+segments-decide Plain id segments = own-decides id segments
+segments-decide Partial id segments = own-decides id segments
+segments-decide Final id segments =
+    Decides-like (has_segments Final id segments) (λ h. (h.0.0, h.0.1, h.1)) (λ h. ((h.0, h.1), h.2))
+    (Decides-and _ _ (Decides-and _ _ (Decides-ltb 0 (length segments)) (leb-decides (length segments) 32)) (earlier-decides id segments))
+
+restorable-decides : (r : RestoredUpload) → Decides (is_restorable r) (IsRestorable r)
+restorable-decides r =
+    Decides-like (is_restorable r) (λ h. record { segments = h.0.0; metadata = h.0.1; concat = h.1 }) (λ h. ((h.segments, h.metadata), h.concat))
+    (Decides-and _ _ (Decides-and _ _ (segments-decide r.kind r.id r.segments) (kept-decides r.metadata)) (text-decides r.kind r.concat))
+
+piece-decides : (tenants : ℕ) (restored : Restored) → Decides (can_be_put_back tenants restored) (CanBePutBack tenants restored)
+piece-decides tenants (piece.Upload tenant r) = Decides-and (ltb tenant tenants) (is_restorable r) (Decides-ltb tenant tenants) (restorable-decides r)
+piece-decides tenants (piece.Next tenant next) = Decides-ltb tenant tenants
+piece-decides tenants (piece.Totals charged released) = (λ e. tt, λ h. refl)
+
 pub made-decides : (tenants : ℕ) (change : Change) → Decides (can_be_made tenants change) (CanBeMade tenants change)
 made-decides tenants (change.Create tenant new first) =
     Decides-like (can_be_made tenants (change.Create tenant new first)) (λ h. (h.0, h.1.0, h.1.1)) (λ h. (h.0, (h.1, h.2)))
@@ -53,3 +109,4 @@ made-decides tenants (change.Concat tenant new) =
     (Decides-and (ltb tenant tenants) (is_final new) (Decides-ltb tenant tenants) (final-decides new))
 made-decides tenants (change.Terminate name) = (λ e. tt, λ h. refl)
 made-decides tenants change.Sweep = (λ e. tt, λ h. refl)
+made-decides tenants (change.Restore restored) = piece-decides tenants restored

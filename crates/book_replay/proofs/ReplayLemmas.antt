@@ -50,6 +50,7 @@ lacking-memory b (change.Append name chunk) now why is = cc
 lacking-memory b (change.Concat tenant new) now why is = cc
 lacking-memory b (change.Terminate name) now why is = cc
 lacking-memory b change.Sweep now why is = cc
+lacking-memory b (change.Restore restored) now why is = cc
 
 pub after_accepted-refused : (b : PlainBook) (change : Change) (now : ℕ) (why : Refused) → IsAnswer (change_answer b change now) (MayLackFor b change now) (change_lacking b change now) (Err why) → why.refusal ≢ refusal.Memory
     → after_accepted b (event change now) ≡ None

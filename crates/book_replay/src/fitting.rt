@@ -1,11 +1,14 @@
 //! What the numbers of a change are.
-ghost use Rattle.std.specs.Prelude.{◌≡◌, ◌<◌, ◌≤◌, ◌^◌, ℕ, length, IfSome};
+ghost use Rattle.std.specs.Prelude.{◌≡◌, ◌<◌, ◌≤◌, ◌^◌, ℕ, length, option_map, IfSome};
 ghost use Rattle.std.specs.List.{AllByRecursion};
-ghost use Rattle.journal_records.specs.Records.{FitsChange, FitsChunk, FitsCheck, FitsFinal, FitsUpload, IsNumber};
+ghost use Rattle.journal_records.specs.Records.{FitsBack, FitsChange, FitsChunk, FitsCheck, FitsFinal, FitsPiece, FitsSegment, FitsUpload, IsNumber};
 ghost use Rattle.upload_book.specs.Change.{CanBeMade};
+ghost use Rattle.upload_book.specs.snapshot.Restore.{CanBePutBack, IsRestorable};
 
 use tus_text::{Checksum, DIGEST_LEN};
-use upload_book::{Change, Chunk, NewFinal, NewUpload};
+use upload_book::{
+    Change, Chunk, Moment, NewFinal, NewUpload, Restored, RestoredSegment, RestoredUpload,
+};
 
 /// Says of a change which a book may be asked for that a record holds its numbers, and does nothing.
 pub fn tell_fits(tenants: usize, change: &Change)
@@ -24,6 +27,70 @@ pub fn tell_fits(tenants: usize, change: &Change)
         Change::Concat { new, .. } => tell_final(new),
         Change::Terminate(name) => tell_id(name.id),
         Change::Sweep => {}
+        Change::Restore(restored) => tell_piece(tenants, restored),
+    }
+}
+
+fn tell_piece(tenants: usize, restored: &Restored)
+    requires { CanBePutBack tenants restored.now }
+    ensures { FitsPiece restored.now }
+{
+    match restored {
+        Restored::Upload { upload, .. } => tell_back(upload),
+        Restored::Next { next, .. } => tell_id(*next),
+        Restored::Totals { charged, released } => {
+            tell_id(*charged);
+            tell_id(*released);
+        }
+    }
+}
+
+fn tell_back(upload: &RestoredUpload)
+    requires { IsRestorable upload.now }
+    ensures { FitsBack upload.now }
+{
+    tell_id(upload.id);
+    tell_number(upload.declared);
+    tell_end(upload.expires);
+    tell_segments(upload.segments);
+    tell_few(upload);
+    let _metadata = upload.metadata.len();
+}
+
+fn tell_end(expires: Option<Moment>)
+    ensures { IfSome expires (λ secs. secs ≤ 253402300799) }
+{
+    if let Some(end) = expires {
+        let _secs = end.secs();
+    }
+}
+
+fn tell_few(upload: &RestoredUpload)
+    requires { IsRestorable upload.now }
+    ensures { length upload.now.segments ≤ 32 }
+{}
+
+fn tell_segments(segments: &[RestoredSegment])
+    ensures { AllByRecursion FitsSegment segments.now }
+{
+    if let [segment, rest @ ..] = segments {
+        tell_segment(segment);
+        tell_segments(rest);
+    }
+}
+
+fn tell_segment(segment: &RestoredSegment)
+    ensures { FitsSegment segment.now }
+{
+    tell_id(segment.origin);
+    tell_brought(segment.bytes);
+}
+
+fn tell_brought(bytes: Option<&[u8]>)
+    ensures { IfSome (option_map (λ text. text.now) bytes.entry) (λ bytes. IsNumber (length bytes)) }
+{
+    if let Some(text) = bytes {
+        let _len = text.len();
     }
 }
 

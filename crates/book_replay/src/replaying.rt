@@ -8,7 +8,7 @@ ghost use Rattle.book_replay.specs.Replay.{after_accepted, after_record, replaye
 use crate::fault::ReplayFault;
 use crate::made::can_be_made;
 use journal_frames::Frames;
-use journal_records::{PartIds, Record, read_record};
+use journal_records::{PartIds, Record, Segments, read_record};
 use std::alloc::Global;
 use upload_book::{Book, Change, Moment, Refusal, Settings};
 
@@ -63,7 +63,8 @@ fn replay_record(book: &mut Book, bytes: &[u8]) -> Result<(), NotMade>
     ensures refused { IsErrOf result NotMade.Refused → after_record (plain_of book.old) bytes.now ≡ None }
 {
     let mut parts = PartIds::new();
-    let Some(record) = read_record(bytes, &mut parts) else {
+    let mut segments = Segments::new();
+    let Some(record) = read_record(bytes, &mut parts, &mut segments) else {
         return Err(NotMade::Refused);
     };
     let Record { now, change } = record;

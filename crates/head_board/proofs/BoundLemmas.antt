@@ -12,7 +12,7 @@ use Rattle.upload_book.specs.declared.settings.TenantQuota.{TenantQuota}
 use Rattle.upload_book.specs.Expiry.{has_expired}
 use Rattle.upload_book.specs.HeadNotes.{row_grown}
 use Rattle.upload_book.specs.Heads.{HeadPart, with_row, without_expired}
-use Rattle.upload_book.specs.TenantBook.{Entry, opening_part, with_kept, with_new}
+use Rattle.upload_book.specs.TenantBook.{Entry, opening_part, with_kept, with_new, with_next}
 use Rattle.upload_book.specs.Terminate.{without}
 use Rattle.upload_book.proofs.Lawful.Entries.{filter_all}
 use Rattle.head_board.proofs.TableLemmas.{swept}
@@ -92,6 +92,16 @@ pub bounded-put : (bound end : Option ℕ) (parts : List Rows) (place : ℕ) (af
 bounded-put bound end parts place after here all =
     All-set (λ (r : Rows). AreBounded (earlier bound end) r.part.uploads) parts place after here
     (All-weaker (λ (r : Rows). AreBounded bound r.part.uploads) (λ (r : Rows). AreBounded (earlier bound end) r.part.uploads) (λ (r : Rows) are. bounded-first bound end r.part.uploads are) parts all)
+
+-- a next id that is put back leaves the rows
+pub bounded-next : (bound : Option ℕ) (parts : List Rows) (place next : ℕ) (r after : Rows) (done : Bool) → place < length parts → r ≡ get_or parts place r → after ≡ (if done then record r { part = with_next r.part next } else r) → AllBounded bound parts → AllBounded bound (set parts place after)
+bounded-next bound parts place next r after done within read is all =
+    let P : Rows → Type 0 = λ (r : Rows). AreBounded bound r.part.uploads in
+    All-set P parts place after (subst (AreBounded bound) (sym (same done is)) (subst P (sym read) (All-get_or P parts place r within all))) all
+  where
+    same : (done : Bool) → after ≡ (if done then record r { part = with_next r.part next } else r) → after.part.uploads ≡ r.part.uploads
+    same true is = ap (λ (r : Rows). r.part.uploads) is
+    same false is = ap (λ (r : Rows). r.part.uploads) is
 
 -- of a part that is read the rows are
 pub bounded-read : (bound : Option ℕ) (parts : List Rows) (place : ℕ) (r : Rows) → place < length parts → r ≡ get_or parts place r → AllBounded bound parts → AreBounded bound r.part.uploads

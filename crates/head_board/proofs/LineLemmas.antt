@@ -9,7 +9,7 @@ use Rattle.std.proofs.lemmas.List.{get_or-set_other, get_or-set_same, set_past}
 use Rattle.std.proofs.lemmas.List.Elements.{All-contains, All-filter, All-get_or, All-map, All-weaker}
 use Rattle.upload_book.specs.declared.board_line.BoardLine.{BoardLine}
 use Rattle.upload_book.specs.declared.board_line.HeadChange.{HeadChange}
-use Rattle.upload_book.specs.declared.board_line.HeadChange.TheVariants.{Put, Gone, Swept}
+use Rattle.upload_book.specs.declared.board_line.HeadChange.TheVariants.{Put, Gone, Swept, Next, Totals}
 use Rattle.upload_book.specs.declared.head_row.HeadRow.{HeadRow}
 use Rattle.upload_book.specs.declared.head_row.Name.{Name}
 use Rattle.upload_book.specs.declared.settings.Numbers.{Numbers}
@@ -20,14 +20,14 @@ use Rattle.upload_book.specs.Heads.{Heads, HeadPart, apply_line, head_part, head
 use Rattle.upload_book.specs.HeadSteps.{Follows, IsWithin, MayBecome, MayChange, MayFollow}
 use Rattle.upload_book.specs.PlainBook.{PlainBook, opening_book}
 use Rattle.upload_book.specs.Settings.{Settings}
-use Rattle.upload_book.specs.TenantBook.{Entry, TenantBook, kept_in, opening_part, with_changed, with_new}
+use Rattle.upload_book.specs.TenantBook.{Entry, TenantBook, kept_in, opening_part, with_changed, with_new, with_next}
 use Rattle.upload_book.proofs.Lawful.Entries.{ascending-filter, ids_of-with_kept, kept_in-contains, kept_in-filter, kept_in-push, kept_in-with_other, kept_in-with_same}
 use Rattle.head_board.specs.Event.{Event}
 use Rattle.head_board.specs.Events.{AllHappen, Happens, change_event}
 use Rattle.head_board.specs.Laws.{IsLater, IsLaterBook, LaterEvents, LinesHaveRoom}
 use Rattle.head_board.specs.Room.{has_room}
 use Rattle.head_board.specs.inside.Rows.{AreBelow}
-use Rattle.head_board.proofs.RowLemmas.{AreBelow-none, AreBelow-push}
+use Rattle.head_board.proofs.RowLemmas.{AreBelow-next, AreBelow-none, AreBelow-push}
 
 -- the tests of room hold where the numbers do
 room_tests : (tenants t next id rows room last : ℕ) → (t < tenants → id ≡ next → (rows < room) × (next ≤ last)) → (leb tenants t || (not (eqb id next) || (ltb rows room && leb next last))) ≡ true
@@ -50,9 +50,13 @@ new-fits n part row within =
     let last : part.next + 1 ≤ n.last_id + 1 = within.last in
     (omega (arith, length-append part.uploads (e ∷ [])), omega arith)
 
--- where a part is within its numbers after a change, there was room for it
-room-within : (h : Heads) (change : HeadChange) → All (IsWithin h.settings.numbers) (parts_after h change) → has_room h change ≡ true
-room-within h (Put name row) within =
+-- the test of a next id holds where none is given again
+next_tests : (tenants t next id : ℕ) → next ≤ id → (leb tenants t || leb next id) ≡ true
+next_tests tenants t next id more = grind (arith, nat_tests)
+
+-- where a change may be made, and each part is within its numbers after it, there was room for it
+room-within : (h : Heads) (change : HeadChange) → MayChange h change → All (IsWithin h.settings.numbers) (parts_after h change) → has_room h change ≡ true
+room-within h (Put name row) may within =
     let n = h.settings.numbers in
     let part : HeadPart = head_part_at h name.tenant in
     let after : HeadPart = with_row part name.id row in
@@ -60,11 +64,13 @@ room-within h (Put name row) within =
     let long : name.tenant < length (set h.tenants name.tenant after) = omega (arith, length-set h.tenants name.tenant after) in
     let at : IsWithin n after = subst (IsWithin n) (get_or-set_same h.tenants name.tenant after after there) (All-get_or (IsWithin n) (set h.tenants name.tenant after) name.tenant after long within) in
     new-fits n part row (subst (IsWithin n) (with_row-new part name.id row same) at))
-room-within h (Gone name) within = refl
-room-within h (Swept now) within = refl
+room-within h (Gone name) may within = refl
+room-within h (Swept now) may within = refl
+room-within h (Next name) may within = next_tests (length h.tenants) name.tenant (head_part_at h name.tenant).next name.id may
+room-within h Totals may within = refl
 
 pub lines_have_room : LinesHaveRoom
-lines_have_room h line may = room-within h line.change may.within
+lines_have_room h line may = room-within h line.change may.change may.within
 
 -- what is known stays known
 known_self : (o : Option ℕ) → IfSome o (λ n. o ≡ Some n)
@@ -116,12 +122,17 @@ IsLater-on id a b c are p q = record {
     between old new before then given None is = absurd (let none = q.gone given is in cc)
     between old new before then given (Some mid) is = becomes_on old mid new (p.grows old mid before is) (q.grows mid new is then)
 
--- a tenant's part stays, has one more row, another row under an id, or fewer rows
+-- it has fewer rows, or its next id is further
+abbrev IsFewerOrNext : HeadPart → HeadPart → Type 0
+IsFewerOrNext part after =
+    ((p : Entry HeadRow → Bool) × (after ≡ record part { uploads = filter p part.uploads })) ⊎ ((next : ℕ) × (part.next ≤ next) × (after ≡ with_next part next))
+
+-- a tenant's part stays, has one more row, another row under an id, fewer rows, or a next id that is further
 abbrev IsPartStep : HeadPart → HeadPart → Type 0
 IsPartStep part after =
     (after ≡ part)
     ⊎ (((row : HeadRow) × (after ≡ with_new part row))
-    ⊎ (((id : ℕ) × (row : HeadRow) × Follows part id row × (after ≡ with_changed part id row)) ⊎ ((p : Entry HeadRow → Bool) × (after ≡ record part { uploads = filter p part.uploads }))))
+    ⊎ (((id : ℕ) × (row : HeadRow) × Follows part id row × (after ≡ with_changed part id row)) ⊎ IsFewerOrNext part after))
 
 row-step : (part : HeadPart) (id : ℕ) (row : HeadRow) → (id ≡ part.next) ⊎ Follows part id row → IsPartStep part (with_row part id row)
 row-step part id row may = elim (eqb_tells id part.next) [
@@ -147,8 +158,10 @@ set-step h tenant t after step = elim (eqb_tells t tenant) [
 -- what a change makes of each tenant's part
 part-step : (h : Heads) (change : HeadChange) (t : ℕ) → MayChange h change → IsPartStep (head_part_at h t) (get_or (parts_after h change) t (opening_part 0))
 part-step h (Put name row) t may = set-step h name.tenant t _ (row-step (head_part_at h name.tenant) name.id row may)
-part-step h (Gone name) t may = set-step h name.tenant t _ (inr (inr (inr ((λ e. not (eqb e.id name.id)), refl))))
-part-step h (Swept now) t may = inr (inr (inr ((λ e. not (has_expired now e.kept.expires)), get_or-map (without_expired now) h.tenants t (opening_part 0))))
+part-step h (Gone name) t may = set-step h name.tenant t _ (inr (inr (inr (inl ((λ e. not (eqb e.id name.id)), refl)))))
+part-step h (Swept now) t may = inr (inr (inr (inl ((λ e. not (has_expired now e.kept.expires)), get_or-map (without_expired now) h.tenants t (opening_part 0)))))
+part-step h (Next name) t may = set-step h name.tenant t _ (inr (inr (inr (inr (name.id, may, refl)))))
+part-step h Totals t may = inl refl
 
 module _ (part : HeadPart) (are : AreBelow part.next part.uploads) where
   abbrev IsRight : HeadPart → Type 0
@@ -174,10 +187,13 @@ module _ (part : HeadPart) (are : AreBelow part.next part.uploads) where
       | inl new ↦ subst IsRight (sym new.1) (AreBelow-push part.next part.uploads new.0 are)
       | inr rest ↦ elim rest [
         | inl changed ↦ subst IsRight (sym changed.3) (changed-below changed.0 changed.1)
-        | inr fewer ↦ subst IsRight (sym fewer.1) (record {
-          ascending = ascending-filter fewer.0 part.uploads are.ascending;
-          below = All-filter fewer.0 (λ (e : Entry HeadRow). e.id < part.next) part.uploads are.below;
-        })
+        | inr last ↦ elim last [
+          | inl fewer ↦ subst IsRight (sym fewer.1) (record {
+            ascending = ascending-filter fewer.0 part.uploads are.ascending;
+            below = All-filter fewer.0 (λ (e : Entry HeadRow). e.id < part.next) part.uploads are.below;
+          })
+          | inr further ↦ subst IsRight (sym further.2) (AreBelow-next part.next further.0 part.uploads further.1 are)
+        ]
       ]
     ]
   ]
@@ -214,7 +230,10 @@ module _ (part : HeadPart) (are : AreBelow part.next part.uploads) where
       | inl new ↦ subst (IsLater id part) (sym new.1) (later-new id new.0)
       | inr rest ↦ elim rest [
         | inl changed ↦ subst (IsLater id part) (sym changed.3) (later-changed id changed.0 changed.1 changed.2)
-        | inr fewer ↦ subst (IsLater id part) (sym fewer.1) (later-fewer id fewer.0)
+        | inr last ↦ elim last [
+          | inl fewer ↦ subst (IsLater id part) (sym fewer.1) (later-fewer id fewer.0)
+          | inr further ↦ subst (IsLater id part) (sym further.2) (IsLater-same id part (with_next part further.0) are further.1 (λ given. refl))
+        ]
       ]
     ]
   ]

@@ -28,6 +28,13 @@ no_row = record {
 pub AreBelow-none : (next : ℕ) → AreBelow next []
 AreBelow-none next = record { ascending = λ k within. absurd (omega arith); below = λ k d within. absurd (omega arith) }
 
+-- they stay below a next id that is further
+pub AreBelow-next : (next further : ℕ) (rows : List (Entry HeadRow)) → next ≤ further → AreBelow next rows → AreBelow further rows
+AreBelow-next next further rows more are = record {
+  ascending = are.ascending;
+  below = All-weaker (λ (e : Entry HeadRow). e.id < next) (λ (e : Entry HeadRow). e.id < further) (λ (e : Entry HeadRow) less. omega (arith, less, more)) rows are.below;
+}
+
 -- the next id comes after all
 pub AreBelow-push : (next : ℕ) (rows : List (Entry HeadRow)) (row : HeadRow) → AreBelow next rows → AreBelow (next + 1) (rows ++ record { id = next; kept = row } ∷ [])
 AreBelow-push next rows row are =

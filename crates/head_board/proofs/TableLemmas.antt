@@ -1,8 +1,9 @@
 -- A table of heads, part by part.
-use Rattle.std.proofs.Common.{◌≡◌, ℕ, zero, suc, ◌+◌, ◌<◌, ◌≤◌, Bool, true, false, if◌then◌else◌, List, [], ◌∷◌, ◌++◌, map, take, drop, length, get_or, set, option_map, Some, None, eqb, leb, ltb, ◌&&◌, ◌||◌, slice_get, refl, add-one, sym, ap, ap₂, subst, ◌∙◌}
+use Rattle.std.proofs.Common.{◌≡◌, ℕ, zero, suc, ◌+◌, ◌<◌, ◌≤◌, Bool, true, false, if◌then◌else◌, List, [], ◌∷◌, ◌++◌, map, take, drop, length, get_or, set, option_map, Some, None, eqb, leb, ltb, ◌&&◌, ◌||◌, slice_get, refl, add-one, sym, ap, ap₂, subst, ◌∙◌, arith}
 use Rattle.std.specs.List.{All, range_with_len}
 use Rattle.std.specs.Option.{option_map_or}
-use Rattle.std.proofs.Math.ListN.{get_or-map}
+use Rattle.std.proofs.Math.ListN.{get_or-map, length-map}
+use Rattle.std.proofs.lemmas.Bool.Decides.{nat_tests}
 use Rattle.std.proofs.lemmas.List.{append-nil, drop_all, get_or_default, map-append, map-set, set-get_or, take_all}
 use Rattle.std.proofs.lemmas.List.Elements.{All-get_or, All-map, All-set}
 use Rattle.upload_book.specs.declared.board_line.Accounts.{Accounts}
@@ -10,7 +11,7 @@ use Rattle.upload_book.specs.declared.board_line.HeadChange.{HeadChange}
 use Rattle.upload_book.specs.declared.board_line.HeadChange.TheVariants.{Put}
 use Rattle.upload_book.specs.declared.head_note.Growth.{Growth}
 use Rattle.upload_book.specs.declared.head_note.NotedChange.{NotedChange}
-use Rattle.upload_book.specs.declared.head_note.NotedChange.TheVariants.{Grown}
+use Rattle.upload_book.specs.declared.head_note.NotedChange.TheVariants.{Grown, Next}
 use Rattle.upload_book.specs.declared.head_row.HeadRow.{HeadRow}
 use Rattle.upload_book.specs.declared.head_row.Name.{Name}
 use Rattle.upload_book.specs.declared.settings.TenantQuota.{TenantQuota}
@@ -89,6 +90,18 @@ module _ (h : Heads) (noted : NotedChange) (head : HeadChange) (told : change_to
 
   parts-told : parts_noted h noted ≡ parts_after h head
   parts-told = ap (λ change. option_map_or (parts_after h) change h.tenants) told
+
+-- a tenant's next id is taken where none is given again
+pub taken-next : (s : Settings) (a : Accounts) (parts : List Rows) (name : Name) (place : ℕ) (r : Rows) (done : Bool) → place ≡ name.tenant → place < length parts → r ≡ get_or parts place r → done ≡ leb r.part.next name.id
+    → done ≡ is_taken (heads s a parts) (Next name)
+taken-next s a parts name place r done same within read is =
+    let h : Heads = heads s a parts in
+    let at : head_part_at h name.tenant ≡ r.part = ap (head_part_at h) (sym same) ∙ part-read s a parts place r within read in
+    let there : leb (length h.tenants) name.tenant ≡ false = inside name.tenant place (length parts) (length h.tenants) same within (length-map parts part_of) in
+    is ∙ sym (ap₂ (λ (past : Bool) (part : HeadPart). past || leb part.next name.id) there at)
+  where
+    inside : (t place there tenants : ℕ) → place ≡ t → place < there → tenants ≡ there → leb tenants t ≡ false
+    inside t place there tenants same within long = grind (arith, nat_tests)
 
 -- the row of a tenant that grew, or did not stand
 module _ (s : Settings) (a : Accounts) (parts : List Rows) (name : Name) (growth : Growth) (place : ℕ) (r after : Rows) (same : place ≡ name.tenant) (within : place < length parts) (read : r ≡ get_or parts place r) where

@@ -3,7 +3,7 @@ use Rattle.std.specs.Prelude.{ℕ, Bool, true, not, ◌==◌, ◌&&◌, ◌||◌
 use Rattle.std.specs.Option.{option_map_or}
 use Rattle.upload_book.specs.declared.board_line.BoardLine.{BoardLine}
 use Rattle.upload_book.specs.declared.board_line.HeadChange.{HeadChange}
-use Rattle.upload_book.specs.declared.board_line.HeadChange.TheVariants.{Put, Gone, Swept}
+use Rattle.upload_book.specs.declared.board_line.HeadChange.TheVariants.{Put, Gone, Swept, Next, Totals}
 use Rattle.upload_book.specs.declared.head_note.HeadNote.{HeadNote}
 use Rattle.upload_book.specs.HeadNotes.{line_told}
 use Rattle.upload_book.specs.Heads.{Heads, HeadPart, apply_line, head_part_at}
@@ -14,13 +14,16 @@ abbrev pub takes_row : ℕ → ℕ → HeadPart → ℕ → Bool
 takes_row room last_id part id =
     not (id == part.next) || (nat_lt (length part.uploads) room && nat_le part.next last_id)
 
--- There is room for a change: a row that is put is taken, unless there is no such tenant.
+-- There is room for a change: a row that is put is taken, and so is a next id where none is given again, unless there is no
+-- such tenant.
 abbrev pub has_room : Heads → HeadChange → Bool
 has_room h (Put name row) =
     nat_le (length h.tenants) name.tenant
     || takes_row h.settings.numbers.uploads h.settings.numbers.last_id (head_part_at h name.tenant) name.id
 has_room h (Gone name) = true
 has_room h (Swept now) = true
+has_room h (Next name) = nat_le (length h.tenants) name.tenant || nat_le (head_part_at h name.tenant).next name.id
+has_room h Totals = true
 
 -- the heads after a line, which changes nothing where there is no room for it
 abbrev pub heads_with : Heads → BoardLine → Heads

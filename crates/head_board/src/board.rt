@@ -267,6 +267,8 @@ fn note_change<R: Wait>(rt: &R, writer: &mut BoardWriter, change: &NotedChange) 
         NotedChange::Grown(name, growth) => SmallChange::Grown(*name, *growth),
         NotedChange::Gone(name) => SmallChange::Gone(*name),
         NotedChange::Swept(now) => SmallChange::Swept(*now),
+        NotedChange::Next(name) => SmallChange::Next(*name),
+        NotedChange::Totals => SmallChange::Totals,
     }
 }
 

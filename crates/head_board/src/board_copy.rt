@@ -27,6 +27,10 @@ pub enum SmallChange {
     Gone(Name),
     /// All uploads that have expired at this moment have ended.
     Swept(Moment),
+    /// The next upload of the name's tenant gets this name.
+    Next(Name),
+    /// The accounts alone change.
+    Totals,
 }
 
 /// What an event changes of the heads, the accounts after it, and the events of the log up to that one.
@@ -79,6 +83,8 @@ impl SmallChange {
             SmallChange::Grown(name, growth) => NotedChange::Grown(name, growth),
             SmallChange::Gone(name) => NotedChange::Gone(name),
             SmallChange::Swept(now) => NotedChange::Swept(now),
+            SmallChange::Next(name) => NotedChange::Next(name),
+            SmallChange::Totals => NotedChange::Totals,
         }
     }
 }

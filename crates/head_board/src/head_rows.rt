@@ -1,11 +1,11 @@
-ghost use Rattle.std.specs.Prelude.{◌≡◌, ◌<◌, ◌≤◌, ◌==◌, ◌⊎◌, length, position, slice_index_or, true, IfOk, MatchBool, if◌then◌else◌};
+ghost use Rattle.std.specs.Prelude.{◌≡◌, ◌<◌, ◌≤◌, ◌==◌, ◌⊎◌, length, nat_le, position, slice_index_or, true, IfOk, MatchBool, if◌then◌else◌};
 ghost use Rattle.std.specs.List.{remove};
 ghost use Rattle.std.specs.List.Sorted.{IsStrictlyIncreasing};
 ghost use Rattle.head_board.specs.Room.{takes_row};
 ghost use Rattle.head_board.specs.inside.Rows.{AreBounded, IsGrown, row_ids};
 ghost use Rattle.upload_book.specs.Heads.{with_row, without_expired};
 ghost use Rattle.upload_book.specs.Expiry.{has_expired};
-ghost use Rattle.upload_book.specs.TenantBook.{Entry, opening_part, visible_in, with_changed, with_new};
+ghost use Rattle.upload_book.specs.TenantBook.{Entry, opening_part, visible_in, with_changed, with_new, with_next};
 ghost use Rattle.upload_book.specs.Terminate.{without};
 
 use crate::first_end::earlier;
@@ -75,6 +75,19 @@ impl HeadRows {
         };
         self.rows.push_reserved(KeptRow::new(self.next, place, row));
         self.next += 1;
+        true
+    }
+
+    /// The next upload gets this id. Says whether it does: an id that was given is not given again, and then nothing
+    /// changes.
+    pub(crate) fn set_next(&mut self, next: u64) -> bool
+        ensures there { result ≡ nat_le self.old.part.next next }
+        ensures after { self.new ≡ (if result then record self.old { part = with_next self.old.part next } else self.old) }
+    {
+        if next < self.next {
+            return false;
+        }
+        self.next = next;
         true
     }
 

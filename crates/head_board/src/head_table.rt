@@ -6,7 +6,7 @@ ghost use Rattle.head_board.specs.Totals.{totals_of, upload_count};
 ghost use Rattle.head_board.specs.inside.HeadTable.{is_taken, opening_parts, parts_noted};
 ghost use Rattle.head_board.specs.inside.Rows.{AreBounded};
 ghost use Rattle.upload_book.specs.declared.board_line.HeadChange.TheVariants as head;
-ghost use Rattle.upload_book.specs.declared.head_note.NotedChange.TheVariants.{Created, Grown};
+ghost use Rattle.upload_book.specs.declared.head_note.NotedChange.TheVariants.{Created, Grown, Next};
 ghost use Rattle.upload_book.specs.Heads.{HeadPart, heads_of, parts_after, shown, without_expired};
 ghost use Rattle.upload_book.specs.PlainBook.{opening_book};
 ghost use Rattle.upload_book.specs.Terminate.{without};
@@ -153,6 +153,8 @@ impl HeadTable {
                 self.sweep(*now);
                 true
             }
+            NotedChange::Next(name) => self.set_next(name),
+            NotedChange::Totals => true,
         }
     }
 
@@ -181,6 +183,18 @@ impl HeadTable {
         }
         self.first_end = earlier(self.first_end, growth.expires);
         self.parts[tenant].grow(name.id, growth)
+    }
+
+    // The next upload of the name's tenant gets this name, unless an id would be given again.
+    fn set_next(&mut self, name: &Name) -> bool
+        ensures there { result ≡ is_taken self.old (Next name.now) }
+        ensures after { self.new ≡ (if result then record self.old { tenants = parts_noted self.old (Next name.now) } else self.old) }
+    {
+        let tenant = usize::from(name.tenant);
+        if tenant >= self.parts.len() {
+            return true;
+        }
+        self.parts[tenant].set_next(name.id)
     }
 
     // Takes out the row under a name, if one is there.

@@ -6,7 +6,7 @@ use crate::settings::{moment, settings};
 use head_board::HeadTable;
 use std::process::Abort;
 use std::test::Fail;
-use upload_book::NotedChange::{Created, Gone, Grown, Swept};
+use upload_book::NotedChange::{Created, Gone, Grown, Next, Swept, Totals};
 use upload_book::{
     Accounts, Growth, HeadNote, Kind, LentRow, Moment, Name, NotedChange, Numbers, Refusal,
     Settings,
@@ -77,11 +77,15 @@ enum Step {
     Grown(Place, u64, Option<u64>, u64),
     Gone(Place, u64),
     Swept(u64, u64),
+    // A tenant's next upload gets this id.
+    Next(Place, u64),
+    // The accounts alone change.
+    Totals(u64),
     // At a second an upload has so many bytes and this metadata, or is not shown.
     Shows(Place, u64, Result<(u64, &'static [u8]), Refusal>),
 }
 
-static FOLLOWED: [Step; 16] = [
+static FOLLOWED: [Step; 21] = [
     Step::Shows((0, 1), 1000, Err(Refusal::Unknown)),
     Step::Created(0, 0, b"key QQ", Some(5000), 0),
     Step::Shows((0, 1), 1000, Ok((0, b"key QQ"))),
@@ -98,6 +102,11 @@ static FOLLOWED: [Step; 16] = [
     Step::Swept(5000, 7),
     Step::Shows((1, 1), 1000, Err(Refusal::Gone)),
     Step::Shows((0, 2), 5000, Ok((7, b"key Qw"))),
+    Step::Next((0, 9), 7),
+    Step::Shows((0, 8), 5000, Err(Refusal::Gone)),
+    Step::Created(0, 3, b"key UQ", None, 8),
+    Step::Shows((0, 9), 5000, Ok((3, b"key UQ"))),
+    Step::Totals(12),
 ];
 
 // Asserts what a table shows of an upload at a second, or why nothing.
@@ -132,6 +141,8 @@ fn take(rt: &impl Abort, table: &mut HeadTable, step: &Step) {
         }
         Step::Gone((tenant, id), charged) => apply(rt, table, Gone(name(*tenant, *id)), *charged),
         Step::Swept(secs, charged) => apply(rt, table, Swept(moment(rt, *secs)), *charged),
+        Step::Next((tenant, id), charged) => apply(rt, table, Next(name(*tenant, *id)), *charged),
+        Step::Totals(charged) => apply(rt, table, Totals, *charged),
         Step::Shows((tenant, id), secs, expected) => {
             assert_shows(rt, table, name(*tenant, *id), *secs, *expected)
         }

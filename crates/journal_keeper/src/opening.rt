@@ -19,7 +19,7 @@ use crate::keeper::Keeper;
 use book_replay::can_be_made;
 use journal_file::{Journal, JournalError, NotOpened, Opened};
 use journal_frames::Frames;
-use journal_records::{PartIds, Record, read_record};
+use journal_records::{PartIds, Record, Segments, read_record};
 use sqlite_disk::Disk;
 use std::alloc::Global;
 use std::sync::Wait;
@@ -204,7 +204,8 @@ fn make_record_again<C: Charges, R: Ledger, M: Ledger, B: Wait + Drop>(
     ensures missed { desk.new.missed ≡ desk.old.missed }
 {
     let mut parts = PartIds::new();
-    let Some(record) = read_record(bytes, &mut parts) else {
+    let mut segments = Segments::new();
+    let Some(record) = read_record(bytes, &mut parts, &mut segments) else {
         return Err(NotMade::Refused);
     };
     let Record { now, change } = record;

@@ -14,11 +14,16 @@ use Rattle.upload_book.specs.FirstChunk.{FirstChunk}
 use Rattle.upload_book.specs.NewFinal.{NewFinal}
 use Rattle.upload_book.specs.NewUpload.{NewUpload}
 use Rattle.upload_book.specs.declared.change.Change.{Change}
-use Rattle.upload_book.specs.declared.change.Change.TheVariants.{Create, Append, Concat, Terminate, Sweep}
+use Rattle.upload_book.specs.declared.change.Change.TheVariants.{Create, Append, Concat, Terminate, Sweep, Restore}
+use Rattle.upload_book.specs.declared.head_row.Kind.{Kind}
+use Rattle.upload_book.specs.declared.head_row.Kind.TheVariants.{Plain, Partial, Final}
 use Rattle.upload_book.specs.declared.head_row.Name.{Name}
+use Rattle.upload_book.specs.declared.restored.Restored.{Restored}
+use Rattle.upload_book.specs.declared.restored.Restored.TheVariants as piece
+use Rattle.upload_book.specs.snapshot.Restored.{RestoredSegment, RestoredUpload}
 use Rattle.journal_records.specs.Laws.{RecordsAreReadAgain}
-use Rattle.journal_records.specs.Reading.{number_at, bytes_at, flag_at, optional_at, text_at, check_at, name_at, ids_at, parts_at, upload_at, first_at, chunk_at, final_at, create_at, append_at, concat_at, terminate_at, change_at, moment_at, record_at}
-use Rattle.journal_records.specs.Records.{number, flag, optional, text, check, name_bytes, parts, upload_bytes, first_bytes, chunk_bytes, final_bytes, change_bytes, IsNumber, FitsCheck, FitsUpload, FitsChunk, FitsFinal, FitsChange}
+use Rattle.journal_records.specs.Reading.{number_at, bytes_at, flag_at, optional_at, text_at, check_at, name_at, many_at, parts_at, expires_at, kind_at, optional_text_at, segment_at, segments_at, upload_at, first_at, chunk_at, final_at, fields_at, back_at, create_at, append_at, concat_at, terminate_at, restore_at, next_at, totals_at, change_at, moment_at, record_at}
+use Rattle.journal_records.specs.Records.{number, flag, optional, text, check, name_bytes, parts, kind_byte, optional_text, segment_bytes, segments_bytes, upload_bytes, first_bytes, chunk_bytes, final_bytes, back_bytes, piece_bytes, change_bytes, IsNumber, FitsCheck, FitsUpload, FitsChunk, FitsFinal, FitsSegment, FitsBack, FitsPiece, FitsChange}
 
 -- ---- fields
 
@@ -63,18 +68,54 @@ name_again : (name : Name) (rest : List ℕ) → IsNumber name.id → name_at (n
 unfolding name_at
 name_again name rest fits = rw (number_again name.id rest fits) refl
 
-ids_again : (ids : List (Option ℕ)) (rest : List ℕ) → AllByRecursion (λ id. IfSome id IsNumber) ids → ids_at (length ids) (flat_map optional ids ++ rest) ≡ Some (ids, rest)
-unfolding ids_at
-ids_again [] rest fits = refl
-ids_again (id ∷ ids) rest fits =
-    let regrouped : flat_map optional (id ∷ ids) ++ rest ≡ optional id ++ (flat_map optional ids ++ rest) = ap (λ (x : List ℕ). x ++ rest) (flat_map-cons optional id ids) ∙ append_assoc (optional id) (flat_map optional ids) rest in
-    ap (ids_at (suc (length ids))) regrouped ∙ rw (optional_again id (flat_map optional ids ++ rest) fits.0, ids_again ids rest fits.1) refl
+-- so are several of one form, one after another
+module _ {A : Type 0} (read : List ℕ → Option (A × List ℕ)) (write : A → List ℕ) (Fits : A → Type 0) (again : (x : A) (rest : List ℕ) → Fits x → read (write x ++ rest) ≡ Some (x, rest)) where
+  many_again : (xs : List A) (rest : List ℕ) → AllByRecursion Fits xs → many_at read (length xs) (flat_map write xs ++ rest) ≡ Some (xs, rest)
+  unfolding many_at
+  many_again [] rest fits = refl
+  many_again (x ∷ xs) rest fits =
+      let regrouped : flat_map write (x ∷ xs) ++ rest ≡ write x ++ (flat_map write xs ++ rest) = ap (λ (bytes : List ℕ). bytes ++ rest) (flat_map-cons write x xs) ∙ append_assoc (write x) (flat_map write xs) rest in
+      ap (many_at read (suc (length xs))) regrouped ∙ rw (again x (flat_map write xs ++ rest) fits.0, many_again xs rest fits.1) refl
 
 parts_again : (ids : List (Option ℕ)) (rest : List ℕ) → length ids ≤ 32 → AllByRecursion (λ id. IfSome id IsNumber) ids → parts_at (parts ids ++ rest) ≡ Some (ids, rest)
 unfolding parts_at
 parts_again ids rest few fits =
     let small : ltb 32 (length ids) ≡ false = le-ltb _ _ few in
-    ap parts_at (append_assoc (number (length ids)) (flat_map optional ids) rest) ∙ rw (number_again (length ids) (flat_map optional ids ++ rest) (omega (arith, few)), small) (ids_again ids rest fits)
+    ap parts_at (append_assoc (number (length ids)) (flat_map optional ids) rest) ∙ rw (number_again (length ids) (flat_map optional ids ++ rest) (omega (arith, few)), small) (many_again optional_at optional (λ id. IfSome id IsNumber) optional_again ids rest fits)
+
+moment_again : (now : ℕ) (rest : List ℕ) → now ≤ 253402300799 → moment_at (number now ++ rest) ≡ Some (now, rest)
+unfolding moment_at
+moment_again now rest within =
+    let short : ltb 253402300799 now ≡ false = le-ltb _ _ within in
+    rw (number_again now rest (omega (arith, within)), short) refl
+
+expires_again : (expires : Option ℕ) (rest : List ℕ) → IfSome expires (λ secs. secs ≤ 253402300799) → expires_at (optional expires ++ rest) ≡ Some (expires, rest)
+unfolding expires_at
+expires_again None rest fits = refl
+expires_again (Some secs) rest fits = rw (moment_again secs rest fits) refl
+
+kind_again : (kind : Kind) (rest : List ℕ) → kind_at (kind_byte kind ∷ rest) ≡ Some (kind, rest)
+unfolding kind_at
+kind_again Plain rest = refl
+kind_again Partial rest = refl
+kind_again Final rest = refl
+
+optional_text_again : (brought : Option (List ℕ)) (rest : List ℕ) → IfSome brought (λ bytes. IsNumber (length bytes)) → optional_text_at (optional_text brought ++ rest) ≡ Some (brought, rest)
+unfolding optional_text_at
+optional_text_again None rest fits = refl
+optional_text_again (Some bytes) rest fits = rw (text_again bytes rest fits) refl
+
+segment_again : (s : RestoredSegment) (rest : List ℕ) → FitsSegment s → segment_at (segment_bytes s ++ rest) ≡ Some (s, rest)
+unfolding segment_at
+segment_again s rest fits =
+    ap segment_at (append_assoc (number s.origin) (optional_text s.bytes) rest) ∙ rw (number_again s.origin (optional_text s.bytes ++ rest) fits.origin, optional_text_again s.bytes rest fits.bytes) refl
+
+segments_again : (segments : List RestoredSegment) (rest : List ℕ) → length segments ≤ 32 → AllByRecursion FitsSegment segments → segments_at (segments_bytes segments ++ rest) ≡ Some (segments, rest)
+unfolding segments_at
+segments_again segments rest few fits =
+    let small : ltb 32 (length segments) ≡ false = le-ltb _ _ few in
+    ap segments_at (append_assoc (number (length segments)) (flat_map segment_bytes segments) rest)
+    ∙ rw (number_again (length segments) (flat_map segment_bytes segments ++ rest) (omega (arith, few)), small) (many_again segment_at segment_bytes FitsSegment segment_again segments rest fits)
 
 -- ---- changes
 
@@ -110,6 +151,32 @@ unfolding final_at final_bytes
 final_again new fits =
     ap final_at (append_assoc (parts new.parts) (text new.metadata) new.concat) ∙ rw (parts_again new.parts (text new.metadata ++ new.concat) fits.few fits.parts, text_again new.metadata new.concat fits.metadata) refl
 
+back_again : (r : RestoredUpload) → FitsBack r → back_at (back_bytes r) ≡ Some r
+unfolding back_at back_bytes fields_at
+back_again r fits =
+    let a = segments_bytes r.segments in
+    let b = number r.id in
+    let d : List ℕ = kind_byte r.kind ∷ [] in
+    let e = optional r.declared in
+    let f = optional r.expires in
+    let g = text r.metadata in
+    let h = r.concat in
+    let regrouped : a ++ b ++ d ++ e ++ f ++ g ++ h ≡ a ++ (b ++ (d ++ (e ++ (f ++ (g ++ h))))) =
+    append_assoc (a ++ b ++ d ++ e ++ f) g h ∙ append_assoc (a ++ b ++ d ++ e) f (g ++ h) ∙ append_assoc (a ++ b ++ d) e (f ++ (g ++ h)) ∙ append_assoc (a ++ b) d (e ++ (f ++ (g ++ h))) ∙ append_assoc a b (d ++ (e ++ (f ++ (g ++ h)))) in
+    ap back_at regrouped
+    ∙ rw (segments_again r.segments (b ++ (d ++ (e ++ (f ++ (g ++ h))))) fits.few fits.segments, number_again r.id (d ++ (e ++ (f ++ (g ++ h)))) fits.id, kind_again r.kind (e ++ (f ++ (g ++ h))), optional_again r.declared (f ++ (g ++ h)) fits.declared, expires_again r.expires (g ++ h) fits.expires, text_again r.metadata h fits.metadata) refl
+
+piece_again : (restored : Restored) → FitsPiece restored → change_at (piece_bytes restored) ≡ Some (Restore restored)
+unfolding change_at restore_at next_at totals_at
+piece_again (piece.Upload tenant r) fits = rw (back_again r fits) refl
+piece_again (piece.Next tenant next) fits =
+    let name : Name = record { tenant = tenant; id = next } in
+    let read : name_at (name_bytes name) ≡ Some (name, []) = ap name_at (sym (append-nil (name_bytes name))) ∙ name_again name [] fits in
+    rw read refl
+piece_again (piece.Totals charged released) fits =
+    let read : number_at (number released) ≡ Some (released, []) = ap number_at (sym (append-nil (number released))) ∙ number_again released [] fits.1 in
+    rw (number_again charged (number released) fits.0, read) refl
+
 change_again : (change : Change) → FitsChange change → change_at (change_bytes change) ≡ Some change
 unfolding change_at create_at append_at concat_at terminate_at
 change_again (Create tenant new first) fits = rw (upload_again new (first_bytes first) fits.0, first_again first fits.1) refl
@@ -119,6 +186,7 @@ change_again (Terminate name) fits =
     let read : name_at (name_bytes name) ≡ Some (name, []) = ap name_at (sym (append-nil (name_bytes name))) ∙ name_again name [] fits in
     rw read refl
 change_again Sweep fits = refl
+change_again (Restore restored) fits = piece_again restored fits
 
 pub record_again : RecordsAreReadAgain
 unfolding record_at moment_at

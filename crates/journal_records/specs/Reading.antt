@@ -8,8 +8,12 @@ use Rattle.upload_book.specs.FirstChunk.{FirstChunk}
 use Rattle.upload_book.specs.NewFinal.{NewFinal}
 use Rattle.upload_book.specs.NewUpload.{NewUpload}
 use Rattle.upload_book.specs.declared.change.Change.{Change}
-use Rattle.upload_book.specs.declared.change.Change.TheVariants.{Create, Append, Concat, Terminate, Sweep}
+use Rattle.upload_book.specs.declared.change.Change.TheVariants.{Create, Append, Concat, Terminate, Sweep, Restore}
+use Rattle.upload_book.specs.declared.head_row.Kind.{Kind}
+use Rattle.upload_book.specs.declared.head_row.Kind.TheVariants.{Plain, Partial, Final}
 use Rattle.upload_book.specs.declared.head_row.Name.{Name}
+use Rattle.upload_book.specs.declared.restored.Restored.TheVariants as piece
+use Rattle.upload_book.specs.snapshot.Restored.{RestoredSegment, RestoredUpload}
 
 infixl 10 ◌>>=◌
 abbrev pub ◌>>=◌ : {A B : Type 0} → Option A → (A → Option B) → Option B
@@ -68,18 +72,65 @@ name_at bytes = do
   id ← number_at tenant.1
   Some (record { tenant = tenant.0; id = id.0 }, id.1)
 
-unfoldable pub ids_at : ℕ → List ℕ → Option (List (Option ℕ) × List ℕ)
-ids_at zero bytes = Some ([], bytes)
-ids_at (suc n) bytes = do
-  first ← optional_at bytes
-  others ← ids_at n first.1
+-- so many of one form, one after another
+unfoldable pub many_at : {A : Type 0} → (List ℕ → Option (A × List ℕ)) → ℕ → List ℕ → Option (List A × List ℕ)
+many_at read zero bytes = Some ([], bytes)
+many_at read (suc n) bytes = do
+  first ← read bytes
+  others ← many_at read n first.1
   Some (first.0 ∷ others.0, others.1)
 
 -- at most 32 parts
 unfoldable pub parts_at : List ℕ → Option (List (Option ℕ) × List ℕ)
 parts_at bytes = do
   n ← number_at bytes
-  if nat_lt 32 n.0 then None else ids_at n.0 n.1
+  if nat_lt 32 n.0 then None else many_at optional_at n.0 n.1
+
+-- a second up to the end of the year 9999
+unfoldable pub moment_at : List ℕ → Option (ℕ × List ℕ)
+moment_at bytes = do
+  secs ← number_at bytes
+  if nat_lt 253402300799 secs.0 then None else Some (secs.0, secs.1)
+
+unfoldable pub expires_at : List ℕ → Option (Option ℕ × List ℕ)
+expires_at [] = None
+expires_at (zero ∷ rest) = Some (None, rest)
+expires_at (suc zero ∷ rest) = do
+  secs ← moment_at rest
+  Some (Some secs.0, secs.1)
+expires_at (suc (suc b) ∷ rest) = None
+
+unfoldable pub kind_at : List ℕ → Option (Kind × List ℕ)
+kind_at [] = None
+kind_at (zero ∷ rest) = Some (Plain, rest)
+kind_at (suc zero ∷ rest) = Some (Partial, rest)
+kind_at (suc (suc zero) ∷ rest) = Some (Final, rest)
+kind_at (suc (suc (suc b)) ∷ rest) = None
+
+unfoldable pub optional_text_at : List ℕ → Option (Option (List ℕ) × List ℕ)
+optional_text_at [] = None
+optional_text_at (zero ∷ rest) = Some (None, rest)
+optional_text_at (suc zero ∷ rest) = do
+  bytes ← text_at rest
+  Some (Some bytes.0, bytes.1)
+optional_text_at (suc (suc b) ∷ rest) = None
+
+unfoldable pub segment_at : List ℕ → Option (RestoredSegment × List ℕ)
+segment_at bytes = do
+  origin ← number_at bytes
+  brought ← optional_text_at origin.1
+  Some (record { origin = origin.0; bytes = brought.0 }, brought.1)
+
+-- at most 32 segments
+unfoldable pub segments_at : List ℕ → Option (List RestoredSegment × List ℕ)
+segments_at bytes = do
+  n ← number_at bytes
+  if nat_lt 32 n.0 then None else many_at segment_at n.0 n.1
+
+-- nothing may stand behind the last field
+abbrev pub at_end : {A : Type 0} → A × List ℕ → Option A
+at_end (value, []) = Some value
+at_end (value, b ∷ rest) = None
 
 -- ---- changes
 
@@ -133,11 +184,6 @@ concat_at bytes = do
   new ← final_at tenant.1
   Some (Concat tenant.0 new)
 
--- nothing may stand behind a name
-abbrev pub at_end : {A : Type 0} → A × List ℕ → Option A
-at_end (value, []) = Some value
-at_end (value, b ∷ rest) = None
-
 unfoldable pub terminate_at : List ℕ → Option Change
 terminate_at bytes = do
   name ← name_at bytes
@@ -148,22 +194,51 @@ abbrev pub sweep_at : List ℕ → Option Change
 sweep_at [] = Some Sweep
 sweep_at (b ∷ rest) = None
 
--- a change that lends no parts, by its kind
+-- an upload that is put back with these segments, to the end
+unfoldable pub fields_at : List RestoredSegment → List ℕ → Option RestoredUpload
+fields_at segments bytes = do
+  id ← number_at bytes
+  kind ← kind_at id.1
+  declared ← optional_at kind.1
+  expires ← expires_at declared.1
+  metadata ← text_at expires.1
+  Some (record { id = id.0; kind = kind.0; declared = declared.0; segments = segments; metadata = metadata.0; concat = metadata.1; expires = expires.0 })
+
+-- an upload that is put back: its segments first
+unfoldable pub back_at : List ℕ → Option RestoredUpload
+back_at bytes = do
+  segments ← segments_at bytes
+  fields_at segments.0 segments.1
+
+unfoldable pub restore_at : List ℕ → Option Change
+restore_at bytes = do
+  tenant ← byte_at bytes
+  r ← back_at tenant.1
+  Some (Restore (piece.Upload tenant.0 r))
+
+unfoldable pub next_at : List ℕ → Option Change
+next_at bytes = do
+  name ← name_at bytes
+  ended ← at_end name
+  Some (Restore (piece.Next ended.tenant ended.id))
+
+unfoldable pub totals_at : List ℕ → Option Change
+totals_at bytes = do
+  charged ← number_at bytes
+  released ← number_at charged.1
+  ended ← at_end released
+  Some (Restore (piece.Totals charged.0 ended))
+
+-- a change that lends no list, by its kind
 abbrev pub other_at : ℕ → List ℕ → Option Change
 other_at kind fields =
-    if kind == 0 then create_at fields else if kind == 1 then append_at fields else if kind == 3 then terminate_at fields else if kind == 4 then sweep_at fields else None
+    if kind == 0 then create_at fields else if kind == 1 then append_at fields else if kind == 3 then terminate_at fields else if kind == 4 then sweep_at fields else if kind == 6 then next_at fields else if kind == 7 then totals_at fields else None
 
 -- the kind, and the fields of the change
 unfoldable pub change_at : List ℕ → Option Change
 change_at bytes = do
   kind ← byte_at bytes
-  if kind.0 == 2 then concat_at kind.1 else other_at kind.0 kind.1
-
--- a second up to the end of the year 9999
-unfoldable pub moment_at : List ℕ → Option (ℕ × List ℕ)
-moment_at bytes = do
-  secs ← number_at bytes
-  if nat_lt 253402300799 secs.0 then None else Some (secs.0, secs.1)
+  if kind.0 == 2 then concat_at kind.1 else if kind.0 == 5 then restore_at kind.1 else other_at kind.0 kind.1
 
 -- a moment, and the change
 unfoldable pub record_at : List ℕ → Option (ℕ × Change)

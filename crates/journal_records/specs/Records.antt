@@ -9,8 +9,13 @@ use Rattle.upload_book.specs.FirstChunk.{FirstChunk}
 use Rattle.upload_book.specs.NewFinal.{NewFinal}
 use Rattle.upload_book.specs.NewUpload.{NewUpload}
 use Rattle.upload_book.specs.declared.change.Change.{Change}
-use Rattle.upload_book.specs.declared.change.Change.TheVariants.{Create, Append, Concat, Terminate, Sweep}
+use Rattle.upload_book.specs.declared.change.Change.TheVariants.{Create, Append, Concat, Terminate, Sweep, Restore}
+use Rattle.upload_book.specs.declared.head_row.Kind.{Kind}
+use Rattle.upload_book.specs.declared.head_row.Kind.TheVariants.{Plain, Partial, Final}
 use Rattle.upload_book.specs.declared.head_row.Name.{Name}
+use Rattle.upload_book.specs.declared.restored.Restored.{Restored}
+use Rattle.upload_book.specs.declared.restored.Restored.TheVariants as piece
+use Rattle.upload_book.specs.snapshot.Restored.{RestoredSegment, RestoredUpload}
 
 -- ---- fields
 
@@ -44,6 +49,25 @@ name_bytes name = name.tenant ∷ number name.id
 abbrev pub parts : List (Option ℕ) → List ℕ
 parts ids = number (length ids) ++ flat_map optional ids
 
+-- which kind of upload it is
+abbrev pub kind_byte : Kind → ℕ
+kind_byte Plain = 0
+kind_byte Partial = 1
+kind_byte Final = 2
+
+-- a flag, and the text where there is one
+abbrev pub optional_text : Option (List ℕ) → List ℕ
+optional_text None = 0 ∷ []
+optional_text (Some bytes) = 1 ∷ text bytes
+
+-- a segment that is put back: its origin, and the bytes that it brings, if it does
+abbrev pub segment_bytes : RestoredSegment → List ℕ
+segment_bytes s = number s.origin ++ optional_text s.bytes
+
+-- how many segments, and each
+abbrev pub segments_bytes : List RestoredSegment → List ℕ
+segments_bytes segments = number (length segments) ++ flat_map segment_bytes segments
+
 -- ---- changes
 
 unfoldable pub upload_bytes : NewUpload → List ℕ
@@ -58,6 +82,16 @@ chunk_bytes chunk = number chunk.offset ++ optional chunk.length ++ flag chunk.t
 unfoldable pub final_bytes : NewFinal → List ℕ
 final_bytes new = parts new.parts ++ text new.metadata ++ new.concat
 
+-- an upload that is put back: its segments, and what else it has
+unfoldable pub back_bytes : RestoredUpload → List ℕ
+back_bytes r = segments_bytes r.segments ++ number r.id ++ (kind_byte r.kind ∷ []) ++ optional r.declared ++ optional r.expires ++ text r.metadata ++ r.concat
+
+-- a byte for which piece it is that is put back, and its fields
+abbrev pub piece_bytes : Restored → List ℕ
+piece_bytes (piece.Upload tenant r) = 5 ∷ tenant ∷ back_bytes r
+piece_bytes (piece.Next tenant next) = 6 ∷ name_bytes (record { tenant = tenant; id = next })
+piece_bytes (piece.Totals charged released) = 7 ∷ (number charged ++ number released)
+
 -- a byte for which change it is, and its fields
 abbrev pub change_bytes : Change → List ℕ
 change_bytes (Create tenant new first) = 0 ∷ tenant ∷ (upload_bytes new ++ first_bytes first)
@@ -65,6 +99,7 @@ change_bytes (Append name chunk) = 1 ∷ (name_bytes name ++ chunk_bytes chunk)
 change_bytes (Concat tenant new) = 2 ∷ tenant ∷ final_bytes new
 change_bytes (Terminate name) = 3 ∷ name_bytes name
 change_bytes Sweep = 4 ∷ []
+change_bytes (Restore restored) = piece_bytes restored
 
 -- a change and its moment: the moment first
 abbrev pub record_bytes : ℕ → Change → List ℕ
@@ -99,10 +134,29 @@ pub record FitsFinal (new : NewFinal) : Type 0 where
   pub parts : AllByRecursion (λ id. IfSome id IsNumber) new.parts
   pub metadata : IsNumber (length new.metadata)
 
--- its numbers fit their eight bytes, a SHA-1 has 20 bytes, and a concatenation has at most 32 parts
+pub record FitsSegment (s : RestoredSegment) : Type 0 where
+  pub origin : IsNumber s.origin
+  pub bytes : IfSome s.bytes (λ bytes. IsNumber (length bytes))
+
+pub record FitsBack (r : RestoredUpload) : Type 0 where
+  pub id : IsNumber r.id
+  pub declared : IfSome r.declared IsNumber
+  pub metadata : IsNumber (length r.metadata)
+  pub expires : IfSome r.expires (λ secs. secs ≤ 253402300799)
+  pub few : length r.segments ≤ 32
+  pub segments : AllByRecursion FitsSegment r.segments
+
+abbrev pub FitsPiece : Restored → Type 0
+FitsPiece (piece.Upload tenant r) = FitsBack r
+FitsPiece (piece.Next tenant next) = IsNumber next
+FitsPiece (piece.Totals charged released) = IsNumber charged × IsNumber released
+
+-- its numbers fit their eight bytes, a SHA-1 has 20 bytes, an end is a moment, and a concatenation and an upload that is
+-- put back have at most 32 parts
 abbrev pub FitsChange : Change → Type 0
 FitsChange (Create tenant new first) = FitsUpload new × FitsCheck first.check
 FitsChange (Append name chunk) = IsNumber name.id × FitsChunk chunk
 FitsChange (Concat tenant new) = FitsFinal new
 FitsChange (Terminate name) = IsNumber name.id
 FitsChange Sweep = ⊤
+FitsChange (Restore restored) = FitsPiece restored

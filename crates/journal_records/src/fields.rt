@@ -1,10 +1,10 @@
 //! The fields of a record, each read from the front of some bytes: its value and the bytes behind it, or none where it is
 //! not there.
-ghost use Rattle.std.specs.Prelude.{◌≡◌, Some, None, IfSome, length};
-ghost use Rattle.journal_records.specs.Reading.{Gives, byte_at, bytes_at, check_at, flag_at, name_at, number_at, optional_at, text_at};
+ghost use Rattle.std.specs.Prelude.{◌≡◌, Some, None, IfSome, length, option_map};
+ghost use Rattle.journal_records.specs.Reading.{Gives, byte_at, bytes_at, check_at, expires_at, flag_at, kind_at, name_at, number_at, optional_at, optional_text_at, text_at};
 
 use tus_text::{Checksum, DIGEST_LEN};
-use upload_book::Name;
+use upload_book::{Kind, Moment, Name};
 
 pub(crate) fn byte_of(bytes: &[u8]) -> Option<(u8, &[u8])>
     ensures { Gives (λ x. (x.0, x.1.now)) result (byte_at bytes.now) }
@@ -102,4 +102,48 @@ pub(crate) fn name_of(bytes: &[u8]) -> Option<(Name, &[u8])>
     let (tenant, rest) = byte_of(bytes)?;
     let (id, rest) = number_of(rest)?;
     Some((Name { tenant, id }, rest))
+}
+
+#[tactic(auto, unfolding(crate::specs::Reading::kind_at))]
+pub(crate) fn kind_of(bytes: &[u8]) -> Option<(Kind, &[u8])>
+    ensures { Gives (λ x. (x.0, x.1.now)) result (kind_at bytes.now) }
+{
+    match bytes {
+        [] => None,
+        [0, rest @ ..] => Some((Kind::Plain, rest)),
+        [1, rest @ ..] => Some((Kind::Partial, rest)),
+        [2, rest @ ..] => Some((Kind::Final, rest)),
+        [_, ..] => None,
+    }
+}
+
+#[tactic(auto, unfolding(crate::specs::Reading::expires_at, crate::specs::Reading::moment_at))]
+pub(crate) fn expires_of(bytes: &[u8]) -> Option<(Option<Moment>, &[u8])>
+    ensures { Gives (λ x. (x.0, x.1.now)) result (expires_at bytes.now) }
+{
+    match bytes {
+        [] => None,
+        [0, rest @ ..] => Some((None, rest)),
+        [1, rest @ ..] => {
+            let (secs, rest) = number_of(rest)?;
+            let expires = Moment::new(secs)?;
+            Some((Some(expires), rest))
+        }
+        [_, ..] => None,
+    }
+}
+
+#[tactic(auto, unfolding(crate::specs::Reading::optional_text_at))]
+pub(crate) fn optional_text_of(bytes: &[u8]) -> Option<(Option<&[u8]>, &[u8])>
+    ensures { Gives (λ x. (option_map (λ text. text.now) x.0, x.1.now)) result (optional_text_at bytes.now) }
+{
+    match bytes {
+        [] => None,
+        [0, rest @ ..] => Some((None, rest)),
+        [1, rest @ ..] => {
+            let (text, rest) = text_of(rest)?;
+            Some((Some(text), rest))
+        }
+        [_, ..] => None,
+    }
 }

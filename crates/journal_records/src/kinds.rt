@@ -9,3 +9,9 @@ pub(crate) const CONCAT: u8 = 2;
 pub(crate) const TERMINATE: u8 = 3;
 
 pub(crate) const SWEEP: u8 = 4;
+
+pub(crate) const UPLOAD: u8 = 5;
+
+pub(crate) const NEXT: u8 = 6;
+
+pub(crate) const TOTALS: u8 = 7;

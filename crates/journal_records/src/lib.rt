@@ -5,10 +5,13 @@ mod fields;
 mod framing;
 mod kinds;
 mod laws;
+mod piece_reader;
+mod piece_writer;
 mod reader;
 mod writer;
 
 pub use framing::frame_of;
 pub use laws::{records_are_read_again, records_are_spelled_so};
+pub use piece_reader::Segments;
 pub use reader::{PARTS_MAX, PartIds, Record, read_record};
 pub use writer::with_record;

@@ -1,8 +1,9 @@
 ghost use Rattle.std.specs.Prelude.{◌≡◌, ◌≤◌, ℕ, Some, None, MatchOption};
-ghost use Rattle.journal_records.specs.Reading.{Gives, append_at, change_at, chunk_at, concat_at, create_at, final_at, first_at, ids_at, other_at, parts_at, record_at, terminate_at, upload_at};
+ghost use Rattle.journal_records.specs.Reading.{Gives, append_at, change_at, chunk_at, concat_at, create_at, final_at, first_at, many_at, optional_at, other_at, parts_at, record_at, terminate_at, upload_at};
 
 use crate::fields::{byte_of, check_of, flag_of, name_of, number_of, optional_of, text_of};
-use crate::kinds::{APPEND, CONCAT, CREATE, SWEEP, TERMINATE};
+use crate::kinds::{APPEND, CONCAT, CREATE, NEXT, SWEEP, TERMINATE, TOTALS, UPLOAD};
+use crate::piece_reader::{Segments, next_of, restore_of, totals_of};
 use arrayvec::ArrayVec;
 use upload_book::{Change, Chunk, FirstChunk, Moment, NewFinal, NewUpload, Payload};
 
@@ -19,17 +20,22 @@ pub struct Record<'a> {
     pub change: Change<'a>,
 }
 
-/// Reads a record, all of the bytes. The parts of a concatenation are put to `parts`, from where the change lends them.
-/// `None` where the bytes are no record: they come from a file, and may be any. It takes no memory.
+/// Reads a record, all of the bytes. The parts of a concatenation are put to `parts`, and the segments of an upload that is
+/// put back to `segments`, from where the change lends them. `None` where the bytes are no record: they come from a file,
+/// and may be any. It takes no memory.
 #[tactic(auto, unfolding(crate::specs::Reading::moment_at, crate::specs::Reading::record_at))]
-pub fn read_record<'a, 'b>(bytes: &'a [u8], parts: &'b mut PartIds) -> Option<Record<'b>>
+pub fn read_record<'a, 'b>(
+    bytes: &'a [u8],
+    parts: &'b mut PartIds,
+    segments: &'b mut Segments<'a>,
+) -> Option<Record<'b>>
 where
     'a: 'b,
     ensures { Gives (λ read. (read.now, read.change)) result (record_at bytes.now) }
 {
     let (secs, rest) = number_of(bytes)?;
     let now = Moment::new(secs)?;
-    match change_of(rest, parts) {
+    match change_of(rest, parts, segments) {
         Some(change) => Some(Record { now, change }),
         None => None,
     }
@@ -37,7 +43,11 @@ where
 
 // The change of a record, which is all of these bytes.
 #[tactic(auto, unfolding(crate::specs::Reading::change_at))]
-fn change_of<'a, 'b>(bytes: &'a [u8], parts: &'b mut PartIds) -> Option<Change<'b>>
+fn change_of<'a, 'b>(
+    bytes: &'a [u8],
+    parts: &'b mut PartIds,
+    segments: &'b mut Segments<'a>,
+) -> Option<Change<'b>>
 where
     'a: 'b,
     ensures { Gives (λ change. change) result (change_at bytes.now) }
@@ -46,10 +56,13 @@ where
     if kind == CONCAT {
         return concat_of(fields, parts);
     }
+    if kind == UPLOAD {
+        return restore_of(fields, segments);
+    }
     other_of(kind, fields)
 }
 
-// A change that lends no parts, by its kind.
+// A change that lends no list, by its kind.
 fn other_of(kind: u8, fields: &[u8]) -> Option<Change<'_>>
     ensures { Gives (λ change. change) result (other_at kind fields.now) }
 {
@@ -58,6 +71,8 @@ fn other_of(kind: u8, fields: &[u8]) -> Option<Change<'_>>
         APPEND => append_of(fields),
         TERMINATE => terminate_of(fields),
         SWEEP if fields.is_empty() => Some(Change::Sweep),
+        NEXT => next_of(fields),
+        TOTALS => totals_of(fields),
         _ => None,
     }
 }
@@ -180,7 +195,7 @@ fn put_parts<'a>(bytes: &'a [u8], parts: &mut PartIds) -> Option<&'a [u8]>
 // Puts so many parts to their place, and gives the bytes behind them.
 fn put_ids<'a>(count: u64, bytes: &'a [u8], parts: &mut PartIds) -> Option<&'a [u8]>
     requires { count ≤ 32 }
-    ensures { Gives (λ rest. (parts.new.items, rest.now)) result (ids_at count bytes.now) }
+    ensures { Gives (λ rest. (parts.new.items, rest.now)) result (many_at optional_at count bytes.now) }
 {
     parts.clear();
     let mut rest = bytes;

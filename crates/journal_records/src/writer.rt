@@ -2,6 +2,7 @@ ghost use Rattle.std.specs.Prelude.{◌≡◌, ◌++◌, OnOk, IfOk};
 ghost use Rattle.journal_records.specs.Records.{change_bytes, check, chunk_bytes, final_bytes, first_bytes, flag, name_bytes, number, optional, parts, record_bytes, text, upload_bytes};
 
 use crate::kinds::{APPEND, CONCAT, CREATE, SWEEP, TERMINATE};
+use crate::piece_writer::put_piece;
 use std::alloc::AllocError;
 use tus_text::Checksum;
 use upload_book::{Change, Chunk, FirstChunk, Moment, Name, NewFinal, NewUpload};
@@ -41,6 +42,7 @@ fn put_change(out: &mut Vec<u8>, change: &Change) -> Result<(), AllocError>
             put_name(out, name)
         }
         Change::Sweep => out.extend_from_slice(&[SWEEP]),
+        Change::Restore(restored) => put_piece(out, restored),
     }
 }
 
@@ -100,7 +102,7 @@ fn put_name(out: &mut Vec<u8>, name: &Name) -> Result<(), AllocError>
     put_number(out, name.id)
 }
 
-fn put_text(out: &mut Vec<u8>, bytes: &[u8]) -> Result<(), AllocError>
+pub(crate) fn put_text(out: &mut Vec<u8>, bytes: &[u8]) -> Result<(), AllocError>
     ensures { OnOk result (out.new.items ≡ out.old.items ++ text bytes.now) }
 {
     put_number(out, bytes.len() as u64)?;
@@ -120,7 +122,7 @@ fn put_check(out: &mut Vec<u8>, told: &Option<Checksum>) -> Result<(), AllocErro
     }
 }
 
-fn put_optional(out: &mut Vec<u8>, n: Option<u64>) -> Result<(), AllocError>
+pub(crate) fn put_optional(out: &mut Vec<u8>, n: Option<u64>) -> Result<(), AllocError>
     ensures { OnOk result (out.new.items ≡ out.old.items ++ optional n) }
 {
     match n {
@@ -139,7 +141,7 @@ fn put_flag(out: &mut Vec<u8>, is_set: bool) -> Result<(), AllocError>
     out.extend_from_slice(&[byte])
 }
 
-fn put_number(out: &mut Vec<u8>, n: u64) -> Result<(), AllocError>
+pub(crate) fn put_number(out: &mut Vec<u8>, n: u64) -> Result<(), AllocError>
     ensures { OnOk result (out.new.items ≡ out.old.items ++ number n) }
 {
     out.extend_from_slice(&n.to_be_bytes())

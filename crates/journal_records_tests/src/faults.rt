@@ -1,5 +1,5 @@
 //! Bytes that are no record.
-use journal_records::{PARTS_MAX, PartIds, read_record};
+use journal_records::{PARTS_MAX, PartIds, Segments, read_record};
 use std::alloc::Global;
 use std::process::Abort;
 use std::test::Fail;
@@ -7,7 +7,8 @@ use std::test::Fail;
 // Whether the bytes are a record.
 fn is_record(bytes: &[u8]) -> bool {
     let mut parts = PartIds::new();
-    read_record(bytes, &mut parts).is_some()
+    let mut segments = Segments::new();
+    read_record(bytes, &mut parts, &mut segments).is_some()
 }
 
 fn assert_none(rt: &impl Abort, bytes: &[u8]) {
@@ -26,7 +27,7 @@ fn moments(rt: HostRuntime) {
 #[test]
 fn kinds(rt: HostRuntime) {
     assert_none(&rt, &[0, 0, 0, 0, 0, 0, 0, 0]);
-    assert_none(&rt, &[0, 0, 0, 0, 0, 0, 0, 0, 5]);
+    assert_none(&rt, &[0, 0, 0, 0, 0, 0, 0, 0, 8]);
     // a byte behind a sweep, and behind a DELETE
     assert_none(&rt, &[0, 0, 0, 0, 0, 0, 0, 0, 4, 0]);
     assert!(rt; is_record(&[0, 0, 0, 0, 0, 0, 0, 0, 3, 0, 0, 0, 0, 0, 0, 0, 0, 1]));
@@ -86,5 +87,50 @@ fn parts(rt: HostRuntime) -> Result<(), Fail> {
     assert!(rt; is_concatenation(rt.alloc(), 0)?);
     assert!(rt; is_concatenation(rt.alloc(), 32)?);
     assert!(rt; !is_concatenation(rt.alloc(), 33)?);
+    Ok(())
+}
+
+// An upload of the first tenant that is put back with so many segments, each of the origin 0 and without bytes, and with
+// these fields behind its id. No text of its own stands behind them but `Upload-Metadata`, which is empty.
+fn is_back(alloc: Global, segments: u8, fields: &[u8]) -> Result<bool, Fail> {
+    let mut bytes = Vec::from_slice(alloc, &[0; 8])?;
+    bytes.extend_from_slice(&[5, 0, 0, 0, 0, 0, 0, 0, 0, segments])?;
+    for _ in 0..segments {
+        bytes.extend_from_slice(&[0; 9])?;
+    }
+    bytes.extend_from_slice(&[0; 8])?;
+    bytes.extend_from_slice(fields)?;
+    bytes.extend_from_slice(&[0; 8])?;
+    Ok(is_record(&bytes))
+}
+
+#[test]
+fn pieces(rt: HostRuntime) -> Result<(), Fail> {
+    assert!(rt; is_back(rt.alloc(), 32, &[2, 0, 0])?);
+    assert!(rt; !is_back(rt.alloc(), 33, &[2, 0, 0])?);
+    // no such kind, length or end
+    assert!(rt; !is_back(rt.alloc(), 1, &[3, 0, 0])?);
+    assert!(rt; !is_back(rt.alloc(), 1, &[0, 2, 0])?);
+    assert!(rt; !is_back(rt.alloc(), 1, &[0, 0, 2])?);
+    // an end at the last second of the year 9999, and at the next
+    assert!(rt; is_back(rt.alloc(), 1, &[0, 0, 1, 0, 0, 0, 58, 255, 244, 65, 127])?);
+    assert!(rt; !is_back(rt.alloc(), 1, &[0, 0, 1, 0, 0, 0, 58, 255, 244, 65, 128])?);
+    // a byte behind a next id, and behind totals
+    assert!(rt; is_record(&[0, 0, 0, 0, 0, 0, 0, 0, 6, 0, 0, 0, 0, 0, 0, 0, 0, 1]));
+    assert_none(
+        &rt,
+        &[0, 0, 0, 0, 0, 0, 0, 0, 6, 0, 0, 0, 0, 0, 0, 0, 0, 1, 0],
+    );
+    assert!(rt;
+        is_record(&[
+            0, 0, 0, 0, 0, 0, 0, 0, 7, 0, 0, 0, 0, 0, 0, 0, 0, 0, 0, 0, 0, 0, 0, 0, 0
+        ])
+    );
+    assert_none(
+        &rt,
+        &[
+            0, 0, 0, 0, 0, 0, 0, 0, 7, 0, 0, 0, 0, 0, 0, 0, 0, 0, 0, 0, 0, 0, 0, 0, 0, 0,
+        ],
+    );
     Ok(())
 }

@@ -1,10 +1,13 @@
 //! One record of each change, as bytes that were written by hand.
-use journal_records::{PartIds, read_record, with_record};
+use journal_records::{PartIds, Segments, read_record, with_record};
 use std::alloc::Global;
 use std::process::Abort;
 use std::test::Fail;
 use tus_text::Checksum;
-use upload_book::{Change, Chunk, FirstChunk, Moment, Name, NewFinal, NewUpload, Payload};
+use upload_book::{
+    Change, Chunk, FirstChunk, Kind, Moment, Name, NewFinal, NewUpload, Payload, Restored,
+    RestoredSegment, RestoredUpload,
+};
 
 // The second 258 since 1970.
 const MOMENT: u64 = 258;
@@ -34,7 +37,8 @@ fn assert_written(
 // What is read of these bytes makes them again.
 fn assert_read(rt: &impl Abort, alloc: Global, bytes: &[u8]) -> Result<(), Fail> {
     let mut parts = PartIds::new();
-    let Some(record) = read_record(bytes, &mut parts) else {
+    let mut segments = Segments::new();
+    let Some(record) = read_record(bytes, &mut parts, &mut segments) else {
         panic!(rt; "no record");
     };
     assert!(rt; record.now.secs() == MOMENT);
@@ -146,5 +150,111 @@ fn an_end(rt: HostRuntime) -> Result<(), Fail> {
 fn a_sweep(rt: HostRuntime) -> Result<(), Fail> {
     let bytes = [0, 0, 0, 0, 0, 0, 1, 2, 4];
     assert_written(&rt, rt.alloc(), &Change::Sweep, &bytes)?;
+    assert_read(&rt, rt.alloc(), &bytes)
+}
+
+#[test]
+fn an_upload_that_is_put_back(rt: HostRuntime) -> Result<(), Fail> {
+    let bytes = [
+        0, 0, 0, 0, 0, 0, 1, 2, // the moment
+        5, // an upload that is put back
+        3, // the tenant
+        0, 0, 0, 0, 0, 0, 0, 2, // two segments
+        0, 0, 0, 0, 0, 0, 0, 7, // of upload 7
+        1, 0, 0, 0, 0, 0, 0, 0, 2, b'a', b'b', // with its bytes
+        0, 0, 0, 0, 0, 0, 0, 7, // the same
+        0, // without them
+        0, 0, 0, 0, 0, 0, 0, 9, // its id
+        2, // a final one
+        1, 0, 0, 0, 0, 0, 0, 0, 4, // of four bytes
+        0, // no end
+        0, 0, 0, 0, 0, 0, 0, 0, // no metadata
+        b'f', b';', // Upload-Concat
+    ];
+    let segments = [
+        RestoredSegment {
+            origin: 7,
+            bytes: Some(b"ab"),
+        },
+        RestoredSegment {
+            origin: 7,
+            bytes: None,
+        },
+    ];
+    let upload = RestoredUpload {
+        id: 9,
+        kind: Kind::Final,
+        declared: Some(4),
+        segments: &segments,
+        metadata: b"",
+        concat: b"f;",
+        expires: None,
+    };
+    let change = Change::Restore(Restored::Upload { tenant: 3, upload });
+    assert_written(&rt, rt.alloc(), &change, &bytes)?;
+    assert_read(&rt, rt.alloc(), &bytes)
+}
+
+#[test]
+fn an_open_upload_that_is_put_back(rt: HostRuntime) -> Result<(), Fail> {
+    let bytes = [
+        0, 0, 0, 0, 0, 0, 1, 2, // the moment
+        5, // an upload that is put back
+        0, // the tenant
+        0, 0, 0, 0, 0, 0, 0, 1, // one segment
+        0, 0, 0, 0, 0, 0, 0, 1, // its own
+        1, 0, 0, 0, 0, 0, 0, 0, 0, // without a byte
+        0, 0, 0, 0, 0, 0, 0, 1, // its id
+        0, // one of its own
+        0, // no length
+        1, 0, 0, 0, 0, 0, 0, 1, 3, // its end
+        0, 0, 0, 0, 0, 0, 0, 1, b'k', // metadata, and no Upload-Concat
+    ];
+    let segments = [RestoredSegment {
+        origin: 1,
+        bytes: Some(b""),
+    }];
+    let upload = RestoredUpload {
+        id: 1,
+        kind: Kind::Plain,
+        declared: None,
+        segments: &segments,
+        metadata: b"k",
+        concat: b"",
+        expires: Moment::new(259),
+    };
+    let change = Change::Restore(Restored::Upload { tenant: 0, upload });
+    assert_written(&rt, rt.alloc(), &change, &bytes)?;
+    assert_read(&rt, rt.alloc(), &bytes)
+}
+
+#[test]
+fn a_next_id(rt: HostRuntime) -> Result<(), Fail> {
+    let bytes = [
+        0, 0, 0, 0, 0, 0, 1, 2, // the moment
+        6, // a next id
+        3, 0, 0, 0, 0, 0, 0, 1, 0, // tenant and id
+    ];
+    let change = Change::Restore(Restored::Next {
+        tenant: 3,
+        next: 256,
+    });
+    assert_written(&rt, rt.alloc(), &change, &bytes)?;
+    assert_read(&rt, rt.alloc(), &bytes)
+}
+
+#[test]
+fn totals(rt: HostRuntime) -> Result<(), Fail> {
+    let bytes = [
+        0, 0, 0, 0, 0, 0, 1, 2, // the moment
+        7, // totals
+        0, 0, 0, 0, 0, 0, 0, 9, // what was charged
+        0, 0, 0, 0, 0, 0, 0, 4, // and released
+    ];
+    let change = Change::Restore(Restored::Totals {
+        charged: 9,
+        released: 4,
+    });
+    assert_written(&rt, rt.alloc(), &change, &bytes)?;
     assert_read(&rt, rt.alloc(), &bytes)
 }

@@ -1,7 +1,9 @@
 //! A change once more.
 ghost use Rattle.std.specs.Prelude.{◌≡◌};
 
-use upload_book::{Change, Chunk, FirstChunk, NewFinal, NewUpload, Payload};
+use upload_book::{
+    Change, Chunk, FirstChunk, NewFinal, NewUpload, Payload, Restored, RestoredUpload,
+};
 
 /// The same change once more, which lends the same texts and bytes. It takes no memory.
 pub(crate) fn copied<'a>(change: &Change<'a>) -> Change<'a>
@@ -23,6 +25,40 @@ pub(crate) fn copied<'a>(change: &Change<'a>) -> Change<'a>
         },
         Change::Terminate(name) => Change::Terminate(*name),
         Change::Sweep => Change::Sweep,
+        Change::Restore(restored) => Change::Restore(copied_piece(restored)),
+    }
+}
+
+fn copied_piece<'a>(restored: &Restored<'a>) -> Restored<'a>
+    ensures { result ≡ restored.now }
+{
+    match restored {
+        Restored::Upload { tenant, upload } => Restored::Upload {
+            tenant: *tenant,
+            upload: copied_back(upload),
+        },
+        Restored::Next { tenant, next } => Restored::Next {
+            tenant: *tenant,
+            next: *next,
+        },
+        Restored::Totals { charged, released } => Restored::Totals {
+            charged: *charged,
+            released: *released,
+        },
+    }
+}
+
+fn copied_back<'a>(upload: &RestoredUpload<'a>) -> RestoredUpload<'a>
+    ensures { result ≡ upload.now }
+{
+    RestoredUpload {
+        id: upload.id,
+        kind: upload.kind,
+        declared: upload.declared,
+        segments: upload.segments,
+        metadata: upload.metadata,
+        concat: upload.concat,
+        expires: upload.expires,
     }
 }
 

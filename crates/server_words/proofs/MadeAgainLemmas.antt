@@ -17,6 +17,8 @@ use Rattle.upload_book.specs.declared.change.Outcome.{Outcome}
 use Rattle.upload_book.specs.declared.change.Outcome.TheVariants as outcome
 use Rattle.upload_book.specs.declared.create.Created.{Created}
 use Rattle.upload_book.specs.declared.refusal.Refusal.{Refusal}
+use Rattle.upload_book.specs.declared.restored.Restored.{Restored}
+use Rattle.upload_book.specs.declared.restored.Restored.TheVariants as piece
 use Rattle.upload_book.specs.declared.settings.Numbers.{Numbers}
 use Rattle.upload_book.specs.declared.settings.TenantQuota.{TenantQuota}
 use Rattle.upload_book.specs.Events.{ChangeEvent, book_after_all, book_after_event}
@@ -27,12 +29,15 @@ use Rattle.upload_book.specs.NewUpload.{NewUpload}
 use Rattle.upload_book.specs.PlainBook.{PlainBook, opening_book, tenant_book, with_tenant_book}
 use Rattle.upload_book.specs.Refusal.{unless}
 use Rattle.upload_book.specs.Settings.{Settings}
+use Rattle.upload_book.specs.snapshot.Restore.{book_after_piece, book_with, part_with, piece_refusal, sent_back, sent_in, upload_back}
+use Rattle.upload_book.specs.snapshot.Restored.{RestoredUpload}
 use Rattle.upload_book.specs.Sweep.{book_after_sweep, part_after_sweep}
 use Rattle.upload_book.specs.TenantBook.{Entry, TenantBook, opening_part, visible_upload, with_changed, with_new}
 use Rattle.upload_book.specs.Terminate.{part_after_terminate, removed_where, terminate_answer, without}
 use Rattle.upload_book.specs.Upload.{Upload, head_row_of}
 use Rattle.upload_book.proofs.Lawful.AppendLemmas.{part_after_append-none}
 use Rattle.upload_book.proofs.Lawful.Outcomes.{part_after_concat-none, part_after_create-none, part_after_terminate-visible}
+use Rattle.upload_book.proofs.Restoring.NextSteps.{after-none}
 use Rattle.server_words.specs.MadeAgain.{IsSamePart, MakesTheSame}
 use Rattle.server_words.specs.MayFollow.{MayFollow, names_of}
 
@@ -165,6 +170,34 @@ swept few b c now alike = record {
       }));
 }
 
+-- an upload that is put back in both
+same_back : (p q : TenantBook) (r : RestoredUpload) (found : Option (List (ℕ × List ℕ))) → IsSamePart p q → IsSamePart (part_with p r found) (part_with q r found)
+same_back p q r None same = same
+same_back p q r (Some sent) same =
+    record { next = refl; uploads = ap (λ (x : List (Entry Upload)). x ++ record { id = r.id; kept = upload_back r sent } ∷ []) same.uploads }
+
+after_back : (p q : TenantBook) (r : RestoredUpload) → IsSamePart p q
+    → IsSamePart (part_with p r (sent_back (sent_in p.uploads) r.segments)) (part_with q r (sent_back (sent_in q.uploads) r.segments))
+after_back p q r same =
+    let found = ap (λ (uploads : List (Entry Upload)). sent_back (sent_in uploads) r.segments) same.uploads in
+    subst (λ (x : Option (List (ℕ × List ℕ))). IsSamePart (part_with p r (sent_back (sent_in p.uploads) r.segments)) (part_with q r x)) (sym found) (same_back p q r (sent_back (sent_in p.uploads) r.segments) same)
+
+-- a piece that is put back in both
+alike_with : (few : ℕ) (b c : PlainBook) (restored : Restored) → AreAlike few b c → AreAlike few (book_with b restored) (book_with c restored)
+alike_with few b c (piece.Upload t r) alike = alike_after few b c t _ _ alike (λ here. after_back (tenant_book b t) (tenant_book c t) r (alike.parts t here))
+alike_with few b c (piece.Next t next) alike = alike_after few b c t _ _ alike (λ here. record { next = refl; uploads = (alike.parts t here).uploads })
+alike_with few b c (piece.Totals charged released) alike = record { lifetime = alike.lifetime; old_long = alike.old_long; new_long = alike.new_long; parts = alike.parts }
+
+-- one that is accepted is not refused
+unrefused : (r : Option Refusal) → IsOk (outcome_in (λ (given : Outcome). given) (unless r outcome.Restored)) → r ≡ None
+unrefused None ok = refl
+unrefused (Some why) ok = absurd cc
+
+restored_alike : (few : ℕ) (b c : PlainBook) (restored : Restored) → AreAlike few b c → piece_refusal b restored ≡ None → piece_refusal c restored ≡ None → AreAlike few (book_after_piece b restored) (book_after_piece c restored)
+restored_alike few b c restored alike was is =
+    subst (λ (x : PlainBook). AreAlike few x (book_after_piece c restored)) (sym (after-none b restored was))
+    (subst (λ (x : PlainBook). AreAlike few (book_with b restored) x) (sym (after-none c restored is)) (alike_with few b c restored alike))
+
 happened : (few : ℕ) (b c : PlainBook) (e : ChangeEvent) → AreAlike few b c → Happens b e → Happens c e → AreAlike few (book_after_event b e) (book_after_event c e)
 happened few b c e alike was is = by e.change e.now was.accepted is.accepted
   where
@@ -178,6 +211,7 @@ happened few b c e alike was is = by e.change e.now was.accepted is.accepted
     by (change.Terminate name) now x y =
         alike_after few b c name.tenant _ _ alike (λ here. after_terminate b.settings.numbers c.settings.numbers (tenant_book b name.tenant) (tenant_book c name.tenant) alike.lifetime (alike.parts name.tenant here) now b.charged c.charged name.id x)
     by change.Sweep now x y = swept few b c now alike
+    by (change.Restore restored) now x y = restored_alike few b c restored alike (unrefused (piece_refusal b restored) x) (unrefused (piece_refusal c restored) y)
 
 all_happened : (few : ℕ) (b c : PlainBook) (events : List ChangeEvent) → AreAlike few b c → AllHappen b events → AllHappen c events → AreAlike few (book_after_all b events) (book_after_all c events)
 all_happened few b c [] alike was is = alike

@@ -4,7 +4,7 @@ use Rattle.std.proofs.lemmas.List.{length-map}
 use Rattle.std.proofs.Math.ListN.{length-set}
 use Rattle.upload_book.specs.declared.board_line.BoardLine.{BoardLine}
 use Rattle.upload_book.specs.declared.change.Change.{Change}
-use Rattle.upload_book.specs.declared.change.Change.TheVariants.{Create, Append, Concat, Terminate, Sweep}
+use Rattle.upload_book.specs.declared.change.Change.TheVariants.{Create, Append, Concat, Terminate, Sweep, Restore}
 use Rattle.upload_book.specs.declared.settings.TenantQuota.{TenantQuota}
 use Rattle.upload_book.specs.Change.{book_after_change}
 use Rattle.upload_book.specs.Events.{ChangeEvent, book_after_all, book_after_event}
@@ -12,6 +12,7 @@ use Rattle.upload_book.specs.PlainBook.{PlainBook, opening_book}
 use Rattle.upload_book.specs.Settings.{Settings}
 use Rattle.upload_book.specs.Sweep.{part_after_sweep}
 use Rattle.upload_book.specs.TenantBook.{TenantBook, opening_part}
+use Rattle.upload_book.proofs.Restoring.PieceSteps.{piece-settings, piece-tenants}
 use Rattle.head_board.specs.Event.{Event}
 use Rattle.head_board.specs.Events.{AllHappen, HaveHappened, IsLineOf, book_at, change_event}
 use Rattle.tus_shared.specs.Store.{IsBookAt}
@@ -23,6 +24,7 @@ change-settings b (Append name chunk) now = refl
 change-settings b (Concat tenant new) now = refl
 change-settings b (Terminate name) now = refl
 change-settings b Sweep now = refl
+change-settings b (Restore restored) now = piece-settings b restored
 
 change-tenants : (b : PlainBook) (change : Change) (now : ℕ) → length (book_after_change b change now).tenants ≡ length b.tenants
 change-tenants b (Create tenant new first) now = length-set b.tenants tenant _
@@ -30,6 +32,7 @@ change-tenants b (Append name chunk) now = length-set b.tenants name.tenant _
 change-tenants b (Concat tenant new) now = length-set b.tenants tenant _
 change-tenants b (Terminate name) now = length-set b.tenants name.tenant _
 change-tenants b Sweep now = length-map b.tenants (part_after_sweep now)
+change-tenants b (Restore restored) now = piece-tenants b restored
 
 all-settings : (b : PlainBook) (events : List Event) → (book_after_all b (map {A = Event} {B = ChangeEvent} change_event events)).settings ≡ b.settings
 all-settings b [] = refl

@@ -24,6 +24,7 @@ use Rattle.upload_book.specs.Upload.{Upload}
 use Rattle.upload_book.proofs.Heads.HeadsAppend.{appended-none}
 use Rattle.upload_book.proofs.Lawful.Outcomes.{concat_answer-none, terminate_answer-visible}
 use Rattle.upload_book.proofs.Steps.BookSteps.{part-plain}
+use Rattle.upload_book.proofs.Restoring.PieceSteps.{piece-accepted}
 
 -- what is not refused is answered
 unless-none : (given : Created → Outcome) (refusal : Option Refusal) (created : Created) → refusal ≡ None → is_ok (outcome_in given (unless refusal created)) ≡ true
@@ -45,6 +46,8 @@ ready-accepts b (step.Terminate r) ready =
     ap (λ (a : Result Removed Refusal). is_ok (outcome_in outcome.Removed a))
     (terminate_answer-visible b.settings.numbers (tenant_book (plain_of b) r.name.tenant) r.name.id r.now (upload_at b.store r.name.tenant r.place) (seen-plain b r.name.tenant r.name.id r.now r.place ready.seen))
 ready-accepts b (step.Sweep r) ready = refl
+ready-accepts b (step.Restore r) ready =
+    ap (λ (why : Option Refusal). is_ok (outcome_in (λ (given : Outcome). given) (unless why outcome.Restored))) (piece-accepted b r.piece ready)
 
 -- under other names
 pub accepted-as : (b : PlainBook) (stored : StoredBook) (r : Ready) (change : Change) (now : ℕ) → plain_of stored ≡ b → change_in r ≡ change → moment_in r ≡ now → IsReady stored r → IsOk (change_answer b change now)

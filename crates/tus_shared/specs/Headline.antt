@@ -6,7 +6,7 @@ use Rattle.upload_book.specs.Charge.{charge_in}
 use Rattle.upload_book.specs.declared.head_row.Kind.TheVariants.{Final}
 use Rattle.upload_book.specs.declared.head_row.Name.{Name}
 use Rattle.upload_book.specs.Events.{ChangeEvent, HasUpload}
-use Rattle.upload_book.specs.FinalLaws.{IsJoinedIn}
+use Rattle.upload_book.specs.FinalLaws.{IsMadeIn}
 use Rattle.upload_book.specs.Lawful.{IsLawful}
 use Rattle.upload_book.specs.PlainBook.{opening_book}
 use Rattle.upload_book.specs.Settings.{Settings}
@@ -23,11 +23,11 @@ pub record Headline (s : Settings) (events : List Event) (book : StoredBook) : T
   pub read : all_read (blocks_of book) ≡ all_segments (book_at s events)
   -- for which the book stands, with all else that it tells;
   pub stands : plain_of book ≡ book_at s events
-  -- each final of it is the concatenation that it was created from, which is among the events;
+  -- each final of it is the concatenation that it was created from, which is among the events, or was put back by one of them;
   pub finals :
       (name : Name) (u : Upload)
       → u.kind ≡ Final → HasUpload (book_at s events) name u
-      → IsJoinedIn (opening_book s) (map {A = Event} {B = ChangeEvent} change_event events) name u
+      → IsMadeIn (opening_book s) (map {A = Event} {B = ChangeEvent} change_event events) name u
   -- no tenant exceeds its quota;
   pub quotas : All (λ part. charge_in s.numbers part ≤ part.quota) (book_at s events).tenants
   -- each event happened to the book of its time, so each was accepted there.

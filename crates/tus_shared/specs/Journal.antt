@@ -36,6 +36,7 @@ spare_of (change.Append name chunk) = 65536
 spare_of (change.Concat tenant new) = 65536
 spare_of (change.Terminate name) = 0
 spare_of change.Sweep = 0
+spare_of (change.Restore restored) = 65536
 
 -- The events happened, one after another, to the book after those before them, and each can be made again of its record: a
 -- book may be asked for its change and accepts it, and a record holds its numbers (`book_replay/specs/Replay`, `Happens`).

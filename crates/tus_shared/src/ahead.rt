@@ -117,7 +117,7 @@ fn frame_len(change: &Change) -> usize {
             .saturating_add(new.concat.len()),
         Change::Append { chunk, .. } => chunk.bytes.len(),
         Change::Concat { new, .. } => new.metadata.len().saturating_add(new.concat.len()),
-        Change::Terminate(_) | Change::Sweep => 0,
+        Change::Terminate(_) | Change::Sweep | Change::Restore(_) => 0,
     };
     long.saturating_add(FIELDS_LEN)
 }

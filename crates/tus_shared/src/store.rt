@@ -307,7 +307,10 @@ fn spare_for(change: &Change) -> u64
 {
     match change {
         Change::Terminate(_) | Change::Sweep => 0,
-        Change::Create { .. } | Change::Append { .. } | Change::Concat { .. } => SPARE,
+        Change::Create { .. }
+        | Change::Append { .. }
+        | Change::Concat { .. }
+        | Change::Restore(_) => SPARE,
     }
 }
 

@@ -6,7 +6,7 @@ ghost use Rattle.std.specs.Prelude.{◌≡◌};
 use crate::requests::Asked::{Delete, Get, Head, Patch, Post};
 use crate::requests::{Answer, Asked, answer_by, moment, settings, turn};
 use journal_frames::Frames;
-use journal_records::{PartIds, Record, read_record};
+use journal_records::{PartIds, Record, Segments, read_record};
 use std::alloc::Global;
 use std::marker::Brand;
 use std::process::Abort;
@@ -74,7 +74,8 @@ enum Kept {
 fn kept_in(frame: &[u8]) -> Option<Kept> {
     let payload = Frames::new(KEY, frame).next().ok()?;
     let mut parts = PartIds::new();
-    let Record { now, change } = read_record(payload, &mut parts)?;
+    let mut segments = Segments::new();
+    let Record { now, change } = read_record(payload, &mut parts, &mut segments)?;
     if now.secs() != 1000 {
         return None;
     }
@@ -87,7 +88,7 @@ fn kept_of(change: &Change) -> Kept {
         Change::Append { chunk, .. } => Kept::Patched(chunk.bytes.len() as u64, chunk.offset),
         Change::Terminate(name) => Kept::Ended(name.id),
         Change::Sweep => Kept::Swept,
-        Change::Concat { .. } => Kept::Other,
+        Change::Concat { .. } | Change::Restore(_) => Kept::Other,
     }
 }
 

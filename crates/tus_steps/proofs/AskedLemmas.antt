@@ -18,6 +18,7 @@ use Rattle.upload_book.specs.Look.{look_answer}
 use Rattle.upload_book.specs.PlainBook.{PlainBook, answer_of}
 use Rattle.upload_book.specs.Refusal.{IsAnswer}
 use Rattle.upload_book.specs.Settings.{Settings}
+use Rattle.upload_book.proofs.Restoring.PieceSteps.{piece-settings}
 use Rattle.tus_steps.specs.Asked.{asked_by, asked_for, asked_in, change_in}
 use Rattle.tus_steps.specs.Changing.{IsFound, IsStepOf, change_reply}
 use Rattle.tus_steps.specs.declared.asked.Asked.{Asked}
@@ -150,6 +151,7 @@ refused-stays r offset (Ok (outcome.Created created)) told Stays is stays refuse
 refused-stays r offset (Ok (outcome.Appended appended)) told Stays is stays refuses = absurd (subst IsRefusing is refuses)
 refused-stays r offset (Ok (outcome.Removed removed)) told Stays is stays refuses = absurd (subst IsRefusing is refuses)
 refused-stays r offset (Ok (outcome.Swept swept)) told Stays is stays refuses = absurd (subst IsRefusing is refuses)
+refused-stays r offset (Ok outcome.Restored) told Stays is stays refuses = absurd (subst IsRefusing is refuses)
 refused-stays r offset (Err why) told Stays is stays refuses = stays
 
 -- a change leaves the settings
@@ -159,6 +161,7 @@ change-settings b (change.Append name chunk) now = refl
 change-settings b (change.Concat tenant new) now = refl
 change-settings b (change.Terminate name) now = refl
 change-settings b change.Sweep now = refl
+change-settings b (change.Restore restored) now = piece-settings b restored
 
 -- also where it is refused
 pub made-settings : (b : PlainBook) (made : Change) (now : ℕ) (result : Result Outcome Refused) (after : PlainBook) → OnOk result (after ≡ book_after_change b made now) → OnErr result (after ≡ b) → after.settings ≡ b.settings

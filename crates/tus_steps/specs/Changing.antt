@@ -4,7 +4,7 @@ use Rattle.std.specs.Prelude.{◌≡◌, ℕ, length, Option, Some, None, IfSome
 use Rattle.upload_book.specs.Change.{CanBeMade, MayLackFor, book_after_change, change_answer, change_lacking}
 use Rattle.upload_book.specs.declared.append.Refused.{Refused}
 use Rattle.upload_book.specs.declared.change.Outcome.{Outcome}
-use Rattle.upload_book.specs.declared.change.Outcome.TheVariants.{Appended, Created, Removed, Swept}
+use Rattle.upload_book.specs.declared.change.Outcome.TheVariants.{Appended, Created, Removed, Restored, Swept}
 use Rattle.upload_book.specs.Lawful.{IsLawful}
 use Rattle.upload_book.specs.PlainBook.{PlainBook}
 use Rattle.upload_book.specs.Settings.{Settings}
@@ -21,12 +21,13 @@ use Rattle.tus_steps.specs.Step.{IsStep}
 abbrev pub change_found : Settings → Request → Option ChangeOf
 change_found s r = change_in (asked_in s r)
 
--- the reply to what a change gave
+-- the reply to what a change gave; no request asks for a sweep, or that something is put back
 abbrev pub change_reply : Request → Option ℕ → Result Outcome Refused → Reply
 change_reply r offset (Ok (Created created)) = creation_reply r offset (Ok created)
 change_reply r offset (Ok (Appended appended)) = append_reply r (Ok appended)
 change_reply r offset (Ok (Removed removed)) = Deleted
 change_reply r offset (Ok (Swept swept)) = Deleted
+change_reply r offset (Ok Restored) = Deleted
 change_reply r offset (Err refused) = refusing r refused.refusal refused.expires
 
 -- The change is the step of the request: with this reply to its answer, and this book after it. Where it is refused the

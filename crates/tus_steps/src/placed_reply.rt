@@ -216,7 +216,9 @@ impl PlacedReply {
                     expires: appended.expires,
                 };
             }
-            Ok(Outcome::Removed(_)) | Ok(Outcome::Swept(_)) => self.kind = ReplyKind::Deleted,
+            Ok(Outcome::Removed(_)) | Ok(Outcome::Swept(_)) | Ok(Outcome::Restored) => {
+                self.kind = ReplyKind::Deleted
+            }
             Err(refused) => self.refuse(request, refused.refusal, refused.expires),
         }
     }

@@ -5,7 +5,9 @@ pub mod HeadsCreate
 pub mod HeadsConcat
 pub mod HeadsAppend
 pub mod HeadsFewer
+pub mod HeadsRestore
 pub mod HeadsLemmas
 pub mod Tables
 pub mod LineLemmas
 pub mod LineSteps
+pub mod LineBack

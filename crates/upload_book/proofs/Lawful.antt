@@ -15,4 +15,5 @@ pub mod LawfulCreate
 pub mod Outcomes
 pub mod OrderLemmas
 pub mod FinalLemmas
+pub mod FinalLaw
 pub mod SeenLemmas

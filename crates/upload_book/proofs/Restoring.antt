@@ -7,6 +7,7 @@ pub mod FinalRooms
 pub mod FinalBack
 pub mod BooksBack
 pub mod NextSteps
+pub mod PieceSteps
 pub mod OwnBack
 pub mod OwnSteps
 pub mod FinalSteps

@@ -1,23 +1,32 @@
 -- A final upload is the concatenation that it was created from, for as long as it stands (tus 1.0.0, Concatenation).
-use Rattle.std.specs.Prelude.{◌≡◌, ◌≢◌, List, ◌∷◌, ◌++◌, All, None}
-use Rattle.upload_book.specs.declared.change.Change.TheVariants.{Terminate}
+use Rattle.std.specs.Prelude.{◌≡◌, ◌≢◌, ◌⊎◌, List, ◌∷◌, ◌++◌, All, None}
+use Rattle.upload_book.specs.declared.change.Change.TheVariants.{Restore, Terminate}
 use Rattle.upload_book.specs.declared.head_row.Kind.TheVariants.{Final}
 use Rattle.upload_book.specs.declared.head_row.Name.{Name}
+use Rattle.upload_book.specs.declared.restored.Restored.{Restored}
 use Rattle.upload_book.specs.Events.{ChangeEvent, HasUpload, IsJoinedBy, StandsAs, book_after_all}
 use Rattle.upload_book.specs.PlainBook.{PlainBook, opening_book}
 use Rattle.upload_book.specs.Settings.{Settings}
+use Rattle.upload_book.specs.snapshot.RestoreLaws.{IsPutBack}
 use Rattle.upload_book.specs.Upload.{Upload}
 
--- Among the events is the concatenation that made this upload, of the parts that were there then.
-pub record IsJoinedIn (b : PlainBook) (events : List ChangeEvent) (name : Name) (u : Upload) : Type 0 where
+-- the event is the one that put this upload back: the book accepted it, with segments that it brings, or whose bytes stand
+pub record IsPutBackBy (b : PlainBook) (e : ChangeEvent) (name : Name) (u : Upload) : Type 0 where
+  pub restored : Restored
+  pub is : e.change ≡ Restore restored
+  pub back : IsPutBack b restored name u
+
+-- Among the events is the one that made this upload: the concatenation of the parts that were there then, or the one that
+-- put it back.
+pub record IsMadeIn (b : PlainBook) (events : List ChangeEvent) (name : Name) (u : Upload) : Type 0 where
   pub before : List ChangeEvent
   pub event : ChangeEvent
   pub after : List ChangeEvent
   pub all : events ≡ before ++ event ∷ after
-  pub joined : IsJoinedBy (book_after_all b before) event name u
+  pub made : IsJoinedBy (book_after_all b before) event name u ⊎ IsPutBackBy (book_after_all b before) event name u
 
 -- A final upload stays whole, whatever happens to its parts or to others, until it is ended itself. And each final upload
--- of a book was made by a concatenation that happened to it.
+-- of a book was made by a concatenation that happened to it, or was put back.
 pub record FinalsStay : Type 0 where
   pub stays :
       (b : PlainBook) (events : List ChangeEvent) (name : Name) (u : Upload)
@@ -26,4 +35,4 @@ pub record FinalsStay : Type 0 where
   pub comes :
       (s : Settings) (events : List ChangeEvent) (name : Name) (u : Upload)
       → u.kind ≡ Final → HasUpload (book_after_all (opening_book s) events) name u
-      → IsJoinedIn (opening_book s) events name u
+      → IsMadeIn (opening_book s) events name u

@@ -7,7 +7,7 @@ use Rattle.upload_book.specs.declared.change.Change.{Change}
 use Rattle.upload_book.specs.declared.head_note.Growth.{Growth}
 use Rattle.upload_book.specs.declared.head_note.HeadNote.{HeadNote}
 use Rattle.upload_book.specs.declared.head_note.NotedChange.{NotedChange}
-use Rattle.upload_book.specs.declared.head_note.NotedChange.TheVariants.{Created, Grown, Gone, Swept}
+use Rattle.upload_book.specs.declared.head_note.NotedChange.TheVariants.{Created, Grown, Gone, Swept, Next, Totals}
 use Rattle.upload_book.specs.declared.head_row.HeadRow.{HeadRow}
 use Rattle.upload_book.specs.Change.{book_after_change, line_of}
 use Rattle.upload_book.specs.Heads.{Heads, head_part_at, heads_of}
@@ -27,6 +27,8 @@ change_told h (Grown name growth) =
     option_map (λ (row : HeadRow). head.Put name (row_grown growth row)) (kept_in (head_part_at h name.tenant).uploads name.id)
 change_told h (Gone name) = Some (head.Gone name)
 change_told h (Swept now) = Some (head.Swept now)
+change_told h (Next name) = Some (head.Next name)
+change_told h Totals = Some head.Totals
 
 -- the line that a note stands for on these heads, if it stands for one
 abbrev pub line_told : Heads → HeadNote → Option BoardLine

@@ -2,7 +2,7 @@
 use Rattle.std.specs.Prelude.{◌≡◌, ℕ, ◌+◌, ◌≤◌, length, ◌⊎◌, Some, All, IfSome, ⊤}
 use Rattle.upload_book.specs.declared.board_line.BoardLine.{BoardLine}
 use Rattle.upload_book.specs.declared.board_line.HeadChange.{HeadChange}
-use Rattle.upload_book.specs.declared.board_line.HeadChange.TheVariants.{Put, Gone, Swept}
+use Rattle.upload_book.specs.declared.board_line.HeadChange.TheVariants.{Put, Gone, Swept, Next, Totals}
 use Rattle.upload_book.specs.declared.head_row.HeadRow.{HeadRow}
 use Rattle.upload_book.specs.declared.settings.Numbers.{Numbers}
 use Rattle.upload_book.specs.Heads.{Heads, HeadPart, apply_line, head_part_at}
@@ -22,13 +22,15 @@ pub record Follows (part : HeadPart) (id : ℕ) (new : HeadRow) : Type 0 where
   pub stands : kept_in part.uploads id ≡ Some old
   pub becomes : MayBecome old new
 
--- the change may be made: a row is put under the next id of a tenant or follows on one that stands, and what ends
--- stands
+-- The change may be made: a row is put under the next id of a tenant or follows on one that stands, what ends stands, and
+-- no id is given again.
 abbrev pub MayChange : Heads → HeadChange → Type 0
 MayChange h (Put name row) =
     (name.id ≡ (head_part_at h name.tenant).next) ⊎ Follows (head_part_at h name.tenant) name.id row
 MayChange h (Gone name) = (row : HeadRow) × (kept_in (head_part_at h name.tenant).uploads name.id ≡ Some row)
 MayChange h (Swept now) = ⊤
+MayChange h (Next name) = (head_part_at h name.tenant).next ≤ name.id
+MayChange h Totals = ⊤
 
 -- a tenant has no more uploads than the settings allow, and its ids go no further
 pub record IsWithin (n : Numbers) (part : HeadPart) : Type 0 where

@@ -5,7 +5,7 @@ use Rattle.std.specs.List.{filter, range_with_len}
 use Rattle.upload_book.specs.declared.board_line.Accounts.{Accounts}
 use Rattle.upload_book.specs.declared.board_line.BoardLine.{BoardLine}
 use Rattle.upload_book.specs.declared.board_line.HeadChange.{HeadChange}
-use Rattle.upload_book.specs.declared.board_line.HeadChange.TheVariants.{Put, Gone, Swept}
+use Rattle.upload_book.specs.declared.board_line.HeadChange.TheVariants.{Put, Gone, Swept, Next, Totals}
 use Rattle.upload_book.specs.declared.head_row.HeadRow.{HeadRow}
 use Rattle.upload_book.specs.declared.head_row.Name.{Name}
 use Rattle.upload_book.specs.declared.refusal.Refusal.{Refusal}
@@ -13,7 +13,7 @@ use Rattle.upload_book.specs.Charge.{charge_in}
 use Rattle.upload_book.specs.Expiry.{has_expired}
 use Rattle.upload_book.specs.PlainBook.{PlainBook, tenant_book}
 use Rattle.upload_book.specs.Settings.{Settings}
-use Rattle.upload_book.specs.TenantBook.{TenantBook, TenantPart, Entry, opening_part, visible_in, with_changed, with_new}
+use Rattle.upload_book.specs.TenantBook.{TenantBook, TenantPart, Entry, opening_part, visible_in, with_changed, with_new, with_next}
 use Rattle.upload_book.specs.Terminate.{without}
 use Rattle.upload_book.specs.Upload.{Upload, head_row_of}
 
@@ -72,6 +72,8 @@ abbrev pub parts_after : Heads → HeadChange → List HeadPart
 parts_after h (Put name row) = set h.tenants name.tenant (with_row (head_part_at h name.tenant) name.id row)
 parts_after h (Gone name) = set h.tenants name.tenant (without (head_part_at h name.tenant) name.id)
 parts_after h (Swept now) = map {A = HeadPart} {B = HeadPart} (without_expired now) h.tenants
+parts_after h (Next name) = set h.tenants name.tenant (with_next (head_part_at h name.tenant) name.id)
+parts_after h Totals = h.tenants
 
 -- the heads after a line
 abbrev pub apply_line : Heads → BoardLine → Heads

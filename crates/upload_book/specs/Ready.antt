@@ -16,13 +16,16 @@ use Rattle.upload_book.specs.declared.ready.ReadyEnd.{ReadyEnd}
 use Rattle.upload_book.specs.declared.ready.ReadyFinal.{ReadyFinal}
 use Rattle.upload_book.specs.declared.ready.ReadyNext.{ReadyNext}
 use Rattle.upload_book.specs.declared.ready.ReadyOwn.{ReadyOwn}
+use Rattle.upload_book.specs.declared.ready.ReadyPiece.{ReadyPiece}
+use Rattle.upload_book.specs.declared.ready.ReadyPiece.TheVariants as ready
 use Rattle.upload_book.specs.declared.ready.ReadyTotals.{ReadyTotals}
 use Rattle.upload_book.specs.declared.ready.ReadyUpload.{ReadyUpload}
 use Rattle.upload_book.specs.declared.ready.Step.{Step}
-use Rattle.upload_book.specs.declared.ready.Step.TheVariants.{Append, Concat, Create, Sweep, Terminate}
+use Rattle.upload_book.specs.declared.ready.Step.TheVariants.{Append, Concat, Create, Restore, Sweep, Terminate}
 use Rattle.upload_book.specs.Lawful.{IsConcatText, is_kept_metadata}
 use Rattle.upload_book.specs.PlainBook.{tenant_book}
 use Rattle.upload_book.specs.snapshot.Restore.{IsRestorable, piece_refusal}
+use Rattle.upload_book.specs.declared.restored.Restored.{Restored}
 use Rattle.upload_book.specs.declared.restored.Restored.TheVariants as piece
 use Rattle.upload_book.specs.inside.FinalBack.{AreRoomsFor}
 use Rattle.upload_book.specs.inside.Progress.{progress_in}
@@ -105,6 +108,20 @@ pub record IsReadyForBack (b : StoredBook) (r : ReadyBack) : Type 0 where
 abbrev pub IsReadyForTotals : StoredBook → ReadyTotals → Type 0
 IsReadyForTotals b r = piece_refusal (plain_of b) (piece.Totals r.charged r.released) ≡ None
 
+-- the book is ready to put back a piece
+abbrev pub IsReadyForPiece : StoredBook → ReadyPiece → Type 0
+IsReadyForPiece b (ready.Own r) = IsReadyForOwn b r
+IsReadyForPiece b (ready.Joined r) = IsReadyForBack b r
+IsReadyForPiece b (ready.Next r) = IsReadyForNext b r
+IsReadyForPiece b (ready.Totals r) = IsReadyForTotals b r
+
+-- the piece that was prepared
+abbrev pub piece_in : ReadyPiece → Restored
+piece_in (ready.Own r) = piece.Upload r.tenant r.upload
+piece_in (ready.Joined r) = piece.Upload r.tenant r.upload
+piece_in (ready.Next r) = piece.Next r.tenant r.next
+piece_in (ready.Totals r) = piece.Totals r.charged r.released
+
 -- the book is ready for a change: for a sweep it always is
 abbrev pub IsReadyForStep : StoredBook → Step → Type 0
 IsReadyForStep b (Create r) = IsReadyForUpload b r
@@ -112,6 +129,7 @@ IsReadyForStep b (Append r) = IsReadyForChunk b r
 IsReadyForStep b (Concat r) = IsReadyForFinal b r
 IsReadyForStep b (Terminate r) = IsReadyForEnd b r
 IsReadyForStep b (Sweep r) = ⊤
+IsReadyForStep b (Restore r) = IsReadyForPiece b r.piece
 
 -- the same of what `prepare` gives
 abbrev pub IsReady : StoredBook → Ready → Type 0
@@ -124,6 +142,7 @@ step_change (Append r) = change.Append r.name r.chunk
 step_change (Concat r) = change.Concat r.tenant r.new
 step_change (Terminate r) = change.Terminate r.name
 step_change (Sweep r) = change.Sweep
+step_change (Restore r) = change.Restore (piece_in r.piece)
 
 -- What a change leaves of the blocks, beside what the plain book says of the bytes: a PATCH of no bytes touches no block,
 -- and a concatenation takes none and changes no byte of any.
@@ -143,6 +162,7 @@ step_moment (Append r) = r.now
 step_moment (Concat r) = r.now
 step_moment (Terminate r) = r.now
 step_moment (Sweep r) = r.now
+step_moment (Restore r) = r.now
 
 abbrev pub moment_in : Ready → ℕ
 moment_in r = step_moment r.step

@@ -42,6 +42,10 @@ module _ {K : Type 0} where
     uploads = part.uploads ++ record { id = part.next; kept = kept } ∷ [];
   }
 
+  -- A part whose next id is this one. The ids between were given, and nothing stands under them.
+  abbrev pub with_next : TenantPart K → ℕ → TenantPart K
+  with_next part id = record part { next = id }
+
   -- the id was given to an upload of the tenant, which may have ended since
   abbrev pub is_given : TenantPart K → ℕ → Bool
   is_given part id = nat_lt 0 id && nat_lt id part.next

@@ -1,18 +1,23 @@
-ghost use Rattle.std.specs.Prelude.{◌≡◌, ◌+◌, ◌-◌, ◌<◌, ◌≤◌, ◌^◌, length, sum};
+ghost use Rattle.std.specs.Prelude.{◌≡◌, ◌+◌, ◌-◌, ◌<◌, ◌≤◌, ◌^◌, length, sum, None};
 ghost use Rattle.upload_book.specs.Book.{plain_of};
 ghost use Rattle.upload_book.specs.Change.{book_after_change};
 ghost use Rattle.upload_book.specs.Charge.{charge_in};
 ghost use Rattle.upload_book.specs.declared.change.Change.TheVariants as change;
 ghost use Rattle.upload_book.specs.Heads.{accounts_of};
 ghost use Rattle.upload_book.specs.PlainBook.{tenant_book, with_tenant_book};
-ghost use Rattle.upload_book.specs.Ready.{IsReadyForChunk, IsReadyForEnd, IsReadyForFinal, IsReadyForStep, IsReadyForUpload, step_change, step_moment};
+ghost use Rattle.upload_book.specs.declared.restored.Restored.TheVariants as piece;
+ghost use Rattle.upload_book.specs.Ready.{IsReadyForChunk, IsReadyForEnd, IsReadyForFinal, IsReadyForNext, IsReadyForPiece, IsReadyForStep, IsReadyForTotals, IsReadyForUpload, piece_in, step_change, step_moment};
+ghost use Rattle.upload_book.specs.snapshot.Restore.{IsRestorable, book_after_piece, piece_refusal};
 ghost use Rattle.upload_book.specs.Sweep.{book_after_sweep};
 ghost use Rattle.upload_book.specs.TenantBook.{TenantBook};
 
 use crate::board_line::Accounts;
 use crate::book::Book;
 use crate::moment::Moment;
-use crate::ready::{ReadyChunk, ReadyEnd, ReadyFinal, ReadyUpload, Step};
+use crate::ready::{
+    ReadyChunk, ReadyEnd, ReadyFinal, ReadyNext, ReadyPiece, ReadyTotals, ReadyUpload, Step,
+};
+use crate::restored::RestoredUpload;
 
 impl Book {
     /// The accounts after a change for which the book is ready. For a DELETE and a sweep they go over the tenant's pieces
@@ -28,6 +33,7 @@ impl Book {
             Step::Concat(joined) => self.accounts_after_final(joined),
             Step::Terminate(end) => self.accounts_after_end(end),
             Step::Sweep(sweep) => self.accounts_swept(sweep.now),
+            Step::Restore(restore) => self.accounts_after_piece(&restore.piece),
         }
     }
 
@@ -77,6 +83,58 @@ impl Book {
         let tenant = ready.name.tenant;
         let charge = self.store.charge_without(usize::from(tenant), ready.place);
         self.accounts_where(tenant, charge)
+    }
+
+    // The accounts after a piece that is put back. They go over the segments of an upload.
+    fn accounts_after_piece(&self, ready: &ReadyPiece) -> Accounts
+        requires { IsReadyForPiece self.now ready.now }
+        ensures { result ≡ accounts_of (book_after_piece (plain_of self.now) (piece_in ready.entry.now)) }
+    {
+        match ready {
+            ReadyPiece::Own(own) => self.accounts_after_back(own.tenant, &own.upload),
+            ReadyPiece::Joined(joined) => self.accounts_after_back(joined.tenant, &joined.upload),
+            ReadyPiece::Next(next) => self.accounts_after_next(next),
+            ReadyPiece::Totals(totals) => self.accounts_after_totals(totals),
+        }
+    }
+
+    // The accounts after an upload that is put back for the tenant at this place.
+    fn accounts_after_back(&self, tenant: u8, upload: &RestoredUpload) -> Accounts
+        requires tenant_there { tenant < length (plain_of self.now).settings.tenants }
+        requires form { IsRestorable upload.now }
+        requires accepted { piece_refusal (plain_of self.now) (piece.Upload tenant upload.now) ≡ None }
+        ensures { result ≡ accounts_of (book_after_piece (plain_of self.now) (piece.Upload tenant upload.now)) }
+    {
+        let size = self.settings.numbers().block_size;
+        let added = upload.blocks(size);
+        self.accounts_where(tenant, self.charge(tenant) + added)
+    }
+
+    // The accounts after a next id, which costs nothing.
+    fn accounts_after_next(&self, ready: &ReadyNext) -> Accounts
+        requires { IsReadyForNext self.now ready.now }
+        ensures { result ≡ accounts_of (book_after_piece (plain_of self.now)
+            (piece.Next ready.entry.now.tenant ready.entry.now.next)) }
+    {
+        // the numbers tell what is kept of the book
+        let _in_range = self.settings.numbers();
+        let tenant = ready.tenant;
+        self.accounts_where(tenant, self.charge(tenant))
+    }
+
+    // The accounts after totals.
+    fn accounts_after_totals(&self, ready: &ReadyTotals) -> Accounts
+        requires { IsReadyForTotals self.now ready.now }
+        ensures { result ≡ accounts_of (book_after_piece (plain_of self.now)
+            (piece.Totals ready.entry.now.charged ready.entry.now.released)) }
+    {
+        let accounts = self.accounts();
+        let charge = accounts.charge;
+        Accounts {
+            charged: ready.charged,
+            released: ready.released,
+            charge,
+        }
     }
 
     // The accounts once the tenant at this place pays so much, and the others what they pay.

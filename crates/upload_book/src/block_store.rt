@@ -7,7 +7,7 @@ ghost use Rattle.upload_book.specs.Concat.{are_complete, are_there, final_upload
 ghost use Rattle.upload_book.specs.Create.{new_kind, upload_from};
 ghost use Rattle.upload_book.specs.Ready.{IsListed};
 ghost use Rattle.upload_book.specs.inside.FinalBack.{AreRoomsFor, brought_in, left_with, sent_len};
-ghost use Rattle.upload_book.specs.snapshot.Restore.{may_be_part, sent_back, sent_in, upload_back, with_next};
+ghost use Rattle.upload_book.specs.snapshot.Restore.{may_be_part, sent_back, sent_in, upload_back};
 ghost use Rattle.upload_book.specs.Lawful.{IsConcatText, is_kept_metadata};
 ghost use Rattle.upload_book.specs.Sweep.{part_after_sweep};
 ghost use Rattle.upload_book.specs.declared.head_row.Kind.TheVariants.{Final};
@@ -21,7 +21,7 @@ ghost use Rattle.upload_book.specs.Stored.{part_kept, pieces_of, segment_of, Hol
 ghost use Rattle.upload_book.specs.inside.Pieces.{as_piece, no_chain, own_chain, HasOwnPiece};
 ghost use Rattle.block_bodies.specs.Bodies.{HasRoom};
 ghost use Rattle.block_bodies.specs.Changes.{SameSizes};
-ghost use Rattle.upload_book.specs.TenantBook.{visible_upload, with_new};
+ghost use Rattle.upload_book.specs.TenantBook.{visible_upload, with_new, with_next};
 ghost use Rattle.upload_book.specs.Upload.{content_of, head_row_of, offset_of};
 
 use crate::create::NewUpload;

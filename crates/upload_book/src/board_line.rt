@@ -10,6 +10,10 @@ pub enum HeadChange {
     Gone(Name),
     /// All uploads that have expired at this moment have ended.
     Swept(Moment),
+    /// The next upload of the name's tenant gets this name. No row changes: the ids between were given before.
+    Next(Name),
+    /// No row changes, and no next id: the accounts alone do.
+    Totals,
 }
 
 /// What a tenant pays and may pay, in blocks.

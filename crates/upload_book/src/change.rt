@@ -4,6 +4,7 @@ use crate::append::{Appended, Chunk};
 use crate::concat::NewFinal;
 use crate::create::{Created, FirstChunk, NewUpload};
 use crate::head_row::Name;
+use crate::restored::Restored;
 use crate::sweep::Swept;
 use crate::terminate::Removed;
 
@@ -30,6 +31,24 @@ pub enum Change<'a> {
     Terminate(Name),
     /// The end of all uploads that have expired.
     Sweep,
+    /// A piece of a book is put back. No request of a client asks for it: the pieces of a snapshot, one after another, put
+    /// a book back that has nothing yet.
+    ///
+    /// An upload gets the tenant's next id, which has to be its own. Its bytes are copied once, and its tenant pays the
+    /// blocks that they take. A segment of a final upload brings its bytes, or it holds the blocks of a segment of its
+    /// origin that stands, once more: of those no byte is copied, no block is taken, and nothing is paid. An upload is
+    /// refused by the first of these that applies: Field, where it has not the tenant's next id; Part, where a segment of
+    /// a final one brings no bytes and none of its origin stands, or brings them again; Field, where it does not end as
+    /// its kind asks; TooLong, where its length is above the greatest size, or its bytes go past its length; PartOpen,
+    /// where what stands under the id of a part is no partial upload that has all of its bytes; Uploads, where the tenant
+    /// has its greatest number of uploads; Spent, where the tenant has not so many ids, or the blocks that all tenants may
+    /// be charged are used up; Quota. Where none of them does, it may be refused as Memory: there was none for the lists
+    /// of its blocks.
+    ///
+    /// A tenant's next id is refused as Field where an id would be given again, and as Spent where the tenant has not so
+    /// many. Totals are refused as Field where their difference is not what the tenants pay, or less would be charged than
+    /// before, and as Spent where more would be charged than may be.
+    Restore(Restored<'a>),
 }
 
 impl<'a> Change<'a> {
@@ -42,7 +61,7 @@ impl<'a> Change<'a> {
         match self {
             Change::Create { first, .. } => first.bytes.digest_for(first.check),
             Change::Append { chunk, .. } => chunk.bytes.digest_for(chunk.check),
-            Change::Concat { .. } | Change::Terminate(_) | Change::Sweep => {}
+            Change::Concat { .. } | Change::Terminate(_) | Change::Sweep | Change::Restore(_) => {}
         }
     }
 }
@@ -58,4 +77,6 @@ pub enum Outcome {
     Removed(Removed),
     /// All uploads that have expired were ended.
     Swept(Swept),
+    /// A piece was put back.
+    Restored,
 }

@@ -1,5 +1,5 @@
 //! The segments of a final upload that is put back: each brings its bytes, or they are those of a piece that stands.
-ghost use Rattle.std.specs.Prelude.{◌≡◌, ◌+◌, ◌<◌, ◌≤◌, ◌++◌, [], length, option_map, vec_len, vec_capacity, All, IfOk};
+ghost use Rattle.std.specs.Prelude.{◌≡◌, ◌+◌, ◌<◌, ◌≤◌, ◌^◌, ◌++◌, [], length, option_map, vec_len, vec_capacity, All, IfOk};
 ghost use Rattle.std.specs.List.{list_all};
 ghost use Rattle.block_pool.specs.Blocks.{Blocks};
 ghost use Rattle.upload_book.specs.inside.FinalBack.{AreRoomsFor, Brings, BringsTo, HasBytes, IsRoomFor, MayBring, MayBringEach, brought_blocks, brought_from, brought_in, chain_from, left_of, left_with, segment_len, sent_len};
@@ -57,6 +57,20 @@ fn brought_len(segments: &[RestoredSegment], origin: u64) -> Option<u64>
         }
     }
     None
+}
+
+/// How many blocks of a size the bytes take that some segments bring.
+pub(crate) fn brought_in(segments: &[RestoredSegment], size: u64) -> u64
+    requires size { 0 < size }
+    requires fits { brought_in size segments.now < 2 ^ 64 }
+    ensures { result ≡ brought_in size segments.now }
+{
+    let mut total = 0;
+    for place in 0..segments.len() {
+        let segment = &segments[place];
+        total += segment.blocks(size);
+    }
+    total
 }
 
 impl StoredTenant {

@@ -25,6 +25,10 @@ pub enum NotedChange<'a> {
     Gone(Name),
     /// All uploads that have expired at this moment have ended.
     Swept(Moment),
+    /// The next upload of the name's tenant gets this name.
+    Next(Name),
+    /// The accounts alone change.
+    Totals,
 }
 
 /// What a change does to the heads of a book, and the accounts after it. Texts are lent and no row is built, so it is

@@ -1,4 +1,4 @@
-ghost use Rattle.std.specs.Prelude.{◌≡◌, ◌<◌, None, Some, IsTrue, length};
+ghost use Rattle.std.specs.Prelude.{◌≡◌, ◌<◌, ℕ, None, Some, IsTrue, length};
 ghost use Rattle.upload_book.specs.Book.{plain_of};
 ghost use Rattle.upload_book.specs.Change.{book_after_change, head_change, line_of};
 ghost use Rattle.upload_book.specs.Create.{new_kind};
@@ -10,7 +10,8 @@ ghost use Rattle.upload_book.specs.HeadSteps.{MayFollow};
 ghost use Rattle.upload_book.specs.inside.Notes.{IsNoted};
 ghost use Rattle.upload_book.specs.Lawful.{IsConcatText, is_kept_metadata};
 ghost use Rattle.upload_book.specs.PlainBook.{tenant_book};
-ghost use Rattle.upload_book.specs.Ready.{IsReady, IsReadyForChunk, IsReadyForEnd, IsReadyForFinal, IsReadyForStep, IsReadyForUpload, change_in, moment_in, step_change, step_moment};
+ghost use Rattle.upload_book.specs.declared.restored.Restored.TheVariants as piece;
+ghost use Rattle.upload_book.specs.Ready.{IsReady, IsReadyForBack, IsReadyForChunk, IsReadyForEnd, IsReadyForFinal, IsReadyForNext, IsReadyForOwn, IsReadyForPiece, IsReadyForStep, IsReadyForTotals, IsReadyForUpload, change_in, moment_in, piece_in, step_change, step_moment};
 
 use crate::board_line::{BoardLine, HeadChange};
 use crate::book::Book;
@@ -20,7 +21,10 @@ use crate::head_note::{Growth, HeadNote, NotedChange};
 use crate::head_row::{HeadRow, Kind, Name};
 use crate::lent_row::LentRow;
 use crate::moment::Moment;
-use crate::ready::{Ready, ReadyChunk, ReadyEnd, ReadyFinal, ReadyUpload, Step};
+use crate::ready::{
+    Ready, ReadyBack, ReadyChunk, ReadyEnd, ReadyFinal, ReadyNext, ReadyOwn, ReadyPiece,
+    ReadyTotals, ReadyUpload, Step,
+};
 
 impl<'a> Ready<'a> {
     /// The line by which the change will change the heads of the book, which is ready for it: what HEADs will tell,
@@ -81,6 +85,7 @@ impl Book {
             Step::Concat(joined) => self.head_of_final(joined),
             Step::Terminate(end) => self.head_of_end(end),
             Step::Sweep(sweep) => HeadChange::Swept(sweep.now),
+            Step::Restore(restore) => self.head_of_piece(&restore.piece),
         }
     }
 
@@ -139,6 +144,64 @@ impl Book {
         HeadChange::Gone(ready.name)
     }
 
+    // What a piece that is put back changes of them.
+    fn head_of_piece(&self, ready: &ReadyPiece) -> HeadChange
+        requires { IsReadyForPiece self.now ready.now }
+        ensures { (now : ℕ) → head_change (plain_of self.now) (change.Restore (piece_in ready.entry.now)) now ≡ Some result }
+    {
+        match ready {
+            ReadyPiece::Own(own) => self.head_of_own(own),
+            ReadyPiece::Joined(joined) => self.head_of_joined(joined),
+            ReadyPiece::Next(next) => self.head_of_next(next),
+            ReadyPiece::Totals(totals) => self.head_of_totals(totals),
+        }
+    }
+
+    // What an upload of its own changes of them.
+    fn head_of_own(&self, ready: &ReadyOwn) -> HeadChange
+        requires { IsReadyForOwn self.now ready.now }
+        ensures { (now : ℕ) → head_change (plain_of self.now)
+            (change.Restore (piece.Upload ready.entry.now.tenant ready.entry.now.upload)) now ≡ Some result }
+    {
+        // the numbers tell what is kept of the book
+        let _in_range = self.settings.numbers();
+        let row = ready.upload.own_row();
+        HeadChange::Put(ready.upload.name(ready.tenant), row.copied())
+    }
+
+    // What a final upload changes of them.
+    fn head_of_joined(&self, ready: &ReadyBack) -> HeadChange
+        requires { IsReadyForBack self.now ready.now }
+        ensures { (now : ℕ) → head_change (plain_of self.now)
+            (change.Restore (piece.Upload ready.entry.now.tenant ready.entry.now.upload)) now ≡ Some result }
+    {
+        // the numbers tell what is kept of the book
+        let _in_range = self.settings.numbers();
+        let row = ready.upload.final_row();
+        HeadChange::Put(ready.upload.name(ready.tenant), row.copied())
+    }
+
+    // What a next id changes of them.
+    fn head_of_next(&self, ready: &ReadyNext) -> HeadChange
+        requires { IsReadyForNext self.now ready.now }
+        ensures { (now : ℕ) → head_change (plain_of self.now)
+            (change.Restore (piece.Next ready.entry.now.tenant ready.entry.now.next)) now ≡ Some result }
+    {
+        HeadChange::Next(Name {
+            tenant: ready.tenant,
+            id: ready.next,
+        })
+    }
+
+    // What totals change of them.
+    fn head_of_totals(&self, ready: &ReadyTotals) -> HeadChange
+        requires { IsReadyForTotals self.now ready.now }
+        ensures { (now : ℕ) → head_change (plain_of self.now)
+            (change.Restore (piece.Totals ready.entry.now.charged ready.entry.now.released)) now ≡ Some result }
+    {
+        HeadChange::Totals
+    }
+
     // What a change changes of the heads, as it is noted.
     fn noted<'a>(&self, step: &Step<'a>) -> NotedChange<'a>
         requires { IsReadyForStep self.now step.now }
@@ -150,6 +213,7 @@ impl Book {
             Step::Concat(joined) => self.note_of_final(joined),
             Step::Terminate(end) => self.note_of_end(end),
             Step::Sweep(sweep) => self.note_of_sweep(sweep.now),
+            Step::Restore(restore) => self.note_of_piece(&restore.piece),
         }
     }
 
@@ -210,6 +274,62 @@ impl Book {
         ensures { IsNoted (plain_of self.now) change.Sweep now result }
     {
         NotedChange::Swept(now)
+    }
+
+    // How a piece that is put back is noted.
+    fn note_of_piece<'a>(&self, ready: &ReadyPiece<'a>) -> NotedChange<'a>
+        requires { IsReadyForPiece self.now ready.now }
+        ensures { (now : ℕ) → IsNoted (plain_of self.now) (change.Restore (piece_in ready.entry.now)) now result }
+    {
+        match ready {
+            ReadyPiece::Own(own) => self.note_of_own(own),
+            ReadyPiece::Joined(joined) => self.note_of_joined(joined),
+            ReadyPiece::Next(next) => self.note_of_next(next),
+            ReadyPiece::Totals(totals) => self.note_of_totals(totals),
+        }
+    }
+
+    // How an upload of its own is noted.
+    fn note_of_own<'a>(&self, ready: &ReadyOwn<'a>) -> NotedChange<'a>
+        requires { IsReadyForOwn self.now ready.now }
+        ensures { (now : ℕ) → IsNoted (plain_of self.now)
+            (change.Restore (piece.Upload ready.entry.now.tenant ready.entry.now.upload)) now result }
+    {
+        // the numbers tell what is kept of the book
+        let _in_range = self.settings.numbers();
+        NotedChange::Created(ready.tenant, ready.upload.own_row())
+    }
+
+    // How a final upload is noted.
+    fn note_of_joined<'a>(&self, ready: &ReadyBack<'a>) -> NotedChange<'a>
+        requires { IsReadyForBack self.now ready.now }
+        ensures { (now : ℕ) → IsNoted (plain_of self.now)
+            (change.Restore (piece.Upload ready.entry.now.tenant ready.entry.now.upload)) now result }
+    {
+        // the numbers tell what is kept of the book
+        let _in_range = self.settings.numbers();
+        NotedChange::Created(ready.tenant, ready.upload.final_row())
+    }
+
+    // How a next id is noted.
+    fn note_of_next<'a>(&self, ready: &ReadyNext) -> NotedChange<'a>
+        requires { IsReadyForNext self.now ready.now }
+        ensures { (now : ℕ) → IsNoted (plain_of self.now)
+            (change.Restore (piece.Next ready.entry.now.tenant ready.entry.now.next)) now result }
+    {
+        NotedChange::Next(Name {
+            tenant: ready.tenant,
+            id: ready.next,
+        })
+    }
+
+    // How totals are noted.
+    fn note_of_totals<'a>(&self, ready: &ReadyTotals) -> NotedChange<'a>
+        requires { IsReadyForTotals self.now ready.now }
+        ensures { (now : ℕ) → IsNoted (plain_of self.now)
+            (change.Restore (piece.Totals ready.entry.now.charged ready.entry.now.released)) now result }
+    {
+        NotedChange::Totals
     }
 
     // The name that the next upload of the tenant at this place gets.

@@ -8,7 +8,7 @@ use crate::append::Refused;
 use crate::book::Book;
 use crate::change::{Change, Outcome};
 use crate::moment::Moment;
-use crate::ready::{Ready, ReadySweep, Step};
+use crate::ready::{Ready, ReadyRestore, ReadySweep, Step};
 use crate::refusal::Refusal;
 
 impl Book {
@@ -61,6 +61,12 @@ impl Book {
             Change::Sweep => Ok(Ready {
                 step: Step::Sweep(ReadySweep { now }),
             }),
+            Change::Restore(restored) => match self.ready_for_piece(restored) {
+                Ok(piece) => Ok(Ready {
+                    step: Step::Restore(ReadyRestore { now, piece }),
+                }),
+                Err(refusal) => Err(untold(refusal)),
+            },
         }
     }
 
@@ -80,6 +86,10 @@ impl Book {
             Step::Concat(joined) => Outcome::Created(self.put_final(joined)),
             Step::Terminate(end) => Outcome::Removed(self.end(end)),
             Step::Sweep(sweep) => Outcome::Swept(self.sweep(sweep.now)),
+            Step::Restore(restore) => {
+                self.put_piece(restore.piece);
+                Outcome::Restored
+            }
         }
     }
 }

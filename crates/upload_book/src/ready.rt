@@ -22,6 +22,7 @@ pub(crate) enum Step<'a> {
     Concat(ReadyFinal<'a>),
     Terminate(ReadyEnd),
     Sweep(ReadySweep),
+    Restore(ReadyRestore<'a>),
 }
 
 /// A PATCH that was accepted, of the upload at this place, for whose bytes there is room.
@@ -74,6 +75,24 @@ pub(crate) struct ReadyFinal<'a> {
 #[derive(Clone, Copy, Debug)]
 pub(crate) struct ReadySweep {
     pub(crate) now: Moment,
+}
+
+/// A piece that is put back.
+#[derive(Drop)]
+pub(crate) struct ReadyRestore<'a> {
+    pub(crate) now: Moment,
+    pub(crate) piece: ReadyPiece<'a>,
+}
+
+/// Which piece it is.
+#[derive(Drop)]
+pub(crate) enum ReadyPiece<'a> {
+    /// An upload that is not final.
+    Own(ReadyOwn<'a>),
+    /// A final upload.
+    Joined(ReadyBack<'a>),
+    Next(ReadyNext),
+    Totals(ReadyTotals),
 }
 
 /// A tenant's next id that is put back, for the tenant at this place.

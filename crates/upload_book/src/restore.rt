@@ -1,6 +1,5 @@
 //! A book is put back from a snapshot of it, piece by piece.
-ghost use Rattle.std.specs.Prelude.{◌≡◌, ◌<◌, ◌≤◌, false, length, None, Some, IfOk, IfErr, OnOk, OnErr};
-ghost use Rattle.std.specs.Result.{result_err};
+ghost use Rattle.std.specs.Prelude.{◌≡◌, ◌<◌, ◌≤◌, false, length, None, Some, IfOk, IfErr};
 ghost use Rattle.upload_book.specs.BlockStore.{part_at};
 ghost use Rattle.upload_book.specs.Book.{plain_of};
 ghost use Rattle.upload_book.specs.inside.Back.{own_tests};
@@ -8,7 +7,7 @@ ghost use Rattle.upload_book.specs.inside.FinalBack.{final_tests, limits_of};
 ghost use Rattle.upload_book.specs.Append.{is_final};
 ghost use Rattle.upload_book.specs.declared.head_row.Kind.TheVariants.{Final};
 ghost use Rattle.upload_book.specs.declared.refusal.Refusal.TheVariants.{Memory};
-ghost use Rattle.upload_book.specs.Ready.{IsReadyForBack, IsReadyForNext, IsReadyForOwn, IsReadyForTotals};
+ghost use Rattle.upload_book.specs.Ready.{IsReadyForBack, IsReadyForNext, IsReadyForOwn, IsReadyForPiece, IsReadyForTotals, piece_in};
 ghost use Rattle.upload_book.specs.Refusal.{IsAnswer, first_that_holds};
 ghost use Rattle.upload_book.specs.snapshot.Restore.{CanBePutBack, IsRestorable, MayLackPiece, book_after_piece, next_tests, piece_refusal};
 ghost use Rattle.upload_book.specs.declared.restored.Restored.TheVariants as piece;
@@ -20,95 +19,75 @@ use crate::book::Book;
 use crate::create::Created;
 use crate::final_back::Left;
 use crate::head_row::{Kind, Name};
-use crate::ready::{ReadyBack, ReadyNext, ReadyOwn, ReadyTotals};
+use crate::ready::{ReadyBack, ReadyNext, ReadyOwn, ReadyPiece, ReadyTotals};
 use crate::refusal::Refusal;
 use crate::restored::{Restored, RestoredUpload};
 use crate::settings::Numbers;
 
 impl Book {
-    /// Puts back a piece of a book. The pieces of a snapshot, one after another, put a book back that has nothing yet.
-    ///
-    /// An upload gets the tenant's next id, which has to be its own. Its bytes are copied once, and its tenant pays the blocks
-    /// that they take. A segment of a final upload brings its bytes, or it holds the blocks of a segment of its origin that
-    /// stands, once more: of those no byte is copied, no block is taken, and nothing is paid. An upload is refused by the
-    /// first of these that applies: Field, where it has not the tenant's next id; Part, where a segment of a final one brings no
-    /// bytes and none of its origin stands, or brings them again; Field, where it does not end as its kind asks;
-    /// TooLong, where its length is above the greatest size, or its bytes go past its length; PartOpen, where what stands under
-    /// the id of a part is no partial upload that has all of its bytes; Uploads, where the tenant has its greatest number
-    /// of uploads; Spent, where the tenant has not so many ids, or the blocks that all tenants may be charged are used up;
-    /// Quota. Where none of them does, it may be refused as Memory: there was none for the lists of its blocks.
-    ///
-    /// A tenant's next id is refused as Field where an id would be given again, and as Spent where the tenant has not so many.
-    /// Totals are refused as Field where their difference is not what the tenants pay, or less would be charged than before,
-    /// and as Spent where more would be charged than may be.
-    ///
-    /// A refusal leaves the book as it was.
-    pub fn restore(&mut self, piece: Restored) -> Result<(), Refusal>
-        requires { CanBePutBack (length (plain_of self.old).settings.tenants) piece }
-        ensures answer { IsAnswer (piece_refusal (plain_of self.old) piece.entry)
-            (MayLackPiece (plain_of self.old) piece.entry) (Some Memory) (result_err result) }
-        ensures after { OnOk result (plain_of self.new ≡ book_after_piece (plain_of self.old) piece.entry) }
-        ensures refused { OnErr result (self.new ≡ self.old) }
+    /// Finds whether a piece is put back, and takes all memory that it takes. It changes nothing.
+    pub(crate) fn ready_for_piece<'a>(&self, piece: Restored<'a>) -> Result<ReadyPiece<'a>, Refusal>
+        requires { CanBePutBack (length (plain_of self.now).settings.tenants) piece }
+        ensures piece { IfOk result (λ r. piece_in r ≡ piece.entry) }
+        ensures ready { IfOk result (IsReadyForPiece self.now) }
+        ensures refused { IfErr result (λ why. IsAnswer
+            (piece_refusal (plain_of self.now) piece.entry)
+            (MayLackPiece (plain_of self.now) piece.entry) (Some Memory) (Some why)) }
     {
         match piece {
-            Restored::Upload { tenant, upload } => self.restore_upload(tenant, upload),
-            Restored::Next { tenant, next } => self.restore_next(tenant, next),
-            Restored::Totals { charged, released } => self.restore_totals(charged, released),
+            Restored::Upload { tenant, upload } => self.ready_for_back(tenant, upload),
+            Restored::Next { tenant, next } => match self.ready_for_next(tenant, next) {
+                Ok(next) => Ok(ReadyPiece::Next(next)),
+                Err(refusal) => Err(refusal),
+            },
+            Restored::Totals { charged, released } => {
+                match self.ready_for_totals(charged, released) {
+                    Ok(totals) => Ok(ReadyPiece::Totals(totals)),
+                    Err(refusal) => Err(refusal),
+                }
+            }
         }
     }
 
-    // Puts back an upload.
-    fn restore_upload(&mut self, tenant: u8, upload: RestoredUpload) -> Result<(), Refusal>
-        requires tenant_there { tenant < length (plain_of self.old).settings.tenants }
+    // The same of an upload.
+    fn ready_for_back<'a>(
+        &self,
+        tenant: u8,
+        upload: RestoredUpload<'a>,
+    ) -> Result<ReadyPiece<'a>, Refusal>
+        requires tenant_there { tenant < length (plain_of self.now).settings.tenants }
         requires form { IsRestorable upload }
-        ensures answer { IsAnswer
-            (piece_refusal (plain_of self.old) (piece.Upload tenant upload.entry))
-            (piece_refusal (plain_of self.old) (piece.Upload tenant upload.entry) ≡ None)
-            (Some Memory) (result_err result) }
-        ensures after { OnOk result
-            (plain_of self.new ≡ book_after_piece (plain_of self.old) (piece.Upload tenant upload.entry)) }
-        ensures refused { OnErr result (self.new ≡ self.old) }
+        ensures piece { IfOk result (λ r. piece_in r ≡ piece.Upload tenant upload.entry) }
+        ensures ready { IfOk result (IsReadyForPiece self.now) }
+        ensures refused { IfErr result (λ why. IsAnswer
+            (piece_refusal (plain_of self.now) (piece.Upload tenant upload.entry))
+            (piece_refusal (plain_of self.now) (piece.Upload tenant upload.entry) ≡ None)
+            (Some Memory) (Some why)) }
     {
         match upload.kind {
-            Kind::Final => self.restore_final(tenant, upload),
-            Kind::Plain | Kind::Partial => self.restore_own(tenant, upload),
+            Kind::Final => match self.ready_for_final_back(tenant, upload) {
+                Ok(joined) => Ok(ReadyPiece::Joined(joined)),
+                Err(refusal) => Err(refusal),
+            },
+            Kind::Plain | Kind::Partial => match self.ready_for_own(tenant, upload) {
+                Ok(own) => Ok(ReadyPiece::Own(own)),
+                Err(refusal) => Err(refusal),
+            },
         }
     }
 
-    // Puts back an upload of its own.
-    fn restore_own(&mut self, tenant: u8, upload: RestoredUpload) -> Result<(), Refusal>
-        requires tenant_there { tenant < length (plain_of self.old).settings.tenants }
-        requires own { is_final upload.kind ≡ false }
-        requires form { IsRestorable upload }
-        ensures answer { IsAnswer
-            (piece_refusal (plain_of self.old) (piece.Upload tenant upload.entry))
-            (piece_refusal (plain_of self.old) (piece.Upload tenant upload.entry) ≡ None)
-            (Some Memory) (result_err result) }
-        ensures after { OnOk result
-            (plain_of self.new ≡ book_after_piece (plain_of self.old) (piece.Upload tenant upload.entry)) }
-        ensures refused { OnErr result (self.new ≡ self.old) }
+    /// Puts back a piece. It cannot fail, and takes no memory.
+    pub(crate) fn put_piece(&mut self, ready: ReadyPiece)
+        requires { IsReadyForPiece self.old ready }
+        ensures accepted { piece_refusal (plain_of self.old) (piece_in ready.entry) ≡ None }
+        ensures after { plain_of self.new ≡ book_after_piece (plain_of self.old) (piece_in ready.entry) }
     {
-        let ready = self.ready_for_own(tenant, upload)?;
-        self.put_own(ready);
-        Ok(())
-    }
-
-    // Puts back a final upload.
-    fn restore_final(&mut self, tenant: u8, upload: RestoredUpload) -> Result<(), Refusal>
-        requires tenant_there { tenant < length (plain_of self.old).settings.tenants }
-        requires kind { upload.kind ≡ Final }
-        requires form { IsRestorable upload }
-        ensures answer { IsAnswer
-            (piece_refusal (plain_of self.old) (piece.Upload tenant upload.entry))
-            (piece_refusal (plain_of self.old) (piece.Upload tenant upload.entry) ≡ None)
-            (Some Memory) (result_err result) }
-        ensures after { OnOk result
-            (plain_of self.new ≡ book_after_piece (plain_of self.old) (piece.Upload tenant upload.entry)) }
-        ensures refused { OnErr result (self.new ≡ self.old) }
-    {
-        let ready = self.ready_for_final_back(tenant, upload)?;
-        self.put_final_back(ready);
-        Ok(())
+        match ready {
+            ReadyPiece::Own(own) => self.put_own(own),
+            ReadyPiece::Joined(joined) => self.put_final_back(joined),
+            ReadyPiece::Next(next) => self.put_next(next),
+            ReadyPiece::Totals(totals) => self.put_totals(totals),
+        }
     }
 
     // Makes room for a final upload that is put back, or finds why it is refused. It changes nothing.
@@ -176,18 +155,6 @@ impl Book {
         // the numbers tell that what may be charged in all is a number
         let _in_range = self.settings.numbers();
         self.charged += self.store.put_back(place, ready);
-    }
-
-    // Puts back a tenant's next id.
-    fn restore_next(&mut self, tenant: u8, next: u64) -> Result<(), Refusal>
-        requires { tenant < length (plain_of self.old).settings.tenants }
-        ensures answer { result_err result ≡ piece_refusal (plain_of self.old) (piece.Next tenant next) }
-        ensures after { plain_of self.new ≡ book_after_piece (plain_of self.old) (piece.Next tenant next) }
-        ensures refused { OnErr result (self.new ≡ self.old) }
-    {
-        let ready = self.ready_for_next(tenant, next)?;
-        self.put_next(ready);
-        Ok(())
     }
 
     // Finds whether a tenant's next id is put back. It changes nothing.
@@ -272,17 +239,6 @@ impl Book {
         let _in_range = self.settings.numbers();
         self.charged += self.store.create(place, &new, body, bytes, created.expires);
         self.expiries.set_end(created.name, None, created.expires);
-    }
-
-    // Puts back the totals.
-    fn restore_totals(&mut self, charged: u64, released: u64) -> Result<(), Refusal>
-        ensures answer { result_err result ≡ piece_refusal (plain_of self.old) (piece.Totals charged released) }
-        ensures after { plain_of self.new ≡ book_after_piece (plain_of self.old) (piece.Totals charged released) }
-        ensures refused { OnErr result (self.new ≡ self.old) }
-    {
-        let ready = self.ready_for_totals(charged, released)?;
-        self.put_totals(ready);
-        Ok(())
     }
 
     // Finds whether totals are put back. It changes nothing.

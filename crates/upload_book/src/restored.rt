@@ -1,6 +1,9 @@
 use crate::concat::NewFinal;
 use crate::create::NewUpload;
-use crate::head_row::Kind;
+use crate::final_back::brought_in;
+use crate::head_note::Growth;
+use crate::head_row::{Kind, Name};
+use crate::lent_row::LentRow;
 use crate::moment::Moment;
 use std::marker::Model;
 
@@ -26,7 +29,7 @@ pub enum Restored<'a> {
 }
 
 /// A segment of an upload that is put back. A contract sees its bytes as a list.
-#[derive(Drop)]
+#[derive(Default, Drop)]
 pub struct RestoredSegment<'a> {
     /// The upload to which its bytes were sent.
     pub origin: u64,
@@ -81,10 +84,11 @@ impl<'a> Model for RestoredUpload<'a> {
 }
 
 impl<'a> RestoredUpload<'a> {
-    ghost use Rattle.std.specs.Prelude.{◌≡◌, ◌<◌, ℕ, List, [], ◌∷◌, Some, length};
-    ghost use Rattle.upload_book.specs.inside.Back.{new_of};
-    ghost use Rattle.upload_book.specs.inside.FinalBack.{final_named};
-    ghost use Rattle.upload_book.specs.snapshot.Restore.{ends_rightly};
+    ghost use Rattle.std.specs.Prelude.{◌≡◌, ◌<◌, ◌^◌, ℕ, false, List, [], ◌∷◌, Some, length, unwrap_or};
+    ghost use Rattle.upload_book.specs.Append.{is_final};
+    ghost use Rattle.upload_book.specs.inside.Back.{new_of, row_back};
+    ghost use Rattle.upload_book.specs.inside.FinalBack.{brought_in, final_named};
+    ghost use Rattle.upload_book.specs.snapshot.Restore.{IsRestorable, ends_rightly};
 
     /// The bytes of one that is not final, which it brings.
     pub(crate) fn own_bytes(&self) -> &'a [u8]
@@ -127,6 +131,56 @@ impl<'a> RestoredUpload<'a> {
             Kind::Partial => self.expires.is_some(),
             Kind::Final => complete && self.expires.is_none(),
         }
+    }
+
+    /// Its name, as one of the tenant at this place.
+    pub(crate) fn name(&self, tenant: u8) -> Name
+        ensures { result ≡ record { tenant = tenant; id = self.now.id } }
+    {
+        Name {
+            tenant,
+            id: self.id,
+        }
+    }
+
+    /// What a HEAD tells of one that is not final.
+    pub(crate) fn own_row(&self) -> LentRow<'a>
+        requires own { is_final self.now.kind ≡ false }
+        requires form { IsRestorable self.now }
+        ensures { (bytes : List ℕ) → self.now.segments ≡ record { origin = self.now.id; bytes = Some bytes } ∷ []
+            → result ≡ row_back self.now (length bytes) }
+    {
+        self.row(self.own_bytes().len() as u64)
+    }
+
+    /// What a HEAD tells of a final one, which has all of its bytes.
+    pub(crate) fn final_row(&self) -> LentRow<'a>
+        requires { IsRestorable self.now }
+        ensures { result ≡ row_back self.now (unwrap_or self.now.declared 0) }
+    {
+        self.row(self.declared.unwrap_or(0))
+    }
+
+    // What a HEAD tells of it where it has so many bytes.
+    fn row(&self, len: u64) -> LentRow<'a>
+        requires { IsRestorable self.now }
+        ensures { result ≡ row_back self.now len }
+    {
+        let growth = Growth {
+            offset: len,
+            declared: self.declared,
+            expires: self.expires,
+        };
+        LentRow::new(self.kind, growth, self.metadata, self.concat)
+    }
+
+    /// How many blocks of a size the bytes take that it brings.
+    pub(crate) fn blocks(&self, size: u64) -> u64
+        requires size { 0 < size }
+        requires fits { brought_in size self.now.segments < 2 ^ 64 }
+        ensures { result ≡ brought_in size self.now.segments }
+    {
+        brought_in(self.segments, size)
     }
 }
 

@@ -81,7 +81,8 @@ fn paid(line: Result<BoardLine, Refused>) -> Option<(u64, u64, u64, u64)> {
 fn put(line: Result<BoardLine, Refused>) -> Option<(Name, u64)> {
     match line.ok()?.change {
         HeadChange::Put(name, row) => Some((name, row.offset)),
-        HeadChange::Gone(_) | HeadChange::Swept(_) => None,
+        HeadChange::Gone(_) | HeadChange::Swept(_) | HeadChange::Next(_) | HeadChange::Totals =>
+            None,
     }
 }
 

@@ -1,15 +1,17 @@
 //! A book that is put back, piece by piece, beside the one that it was.
 
-ghost use Rattle.std.specs.Prelude.{◌≡◌, ℕ, List, [], ◌∷◌, Some};
+ghost use Rattle.std.specs.Prelude.{◌≡◌, ℕ, List, [], ◌∷◌, Some, length};
+ghost use Rattle.upload_book.specs.Book.{plain_of};
 ghost use Rattle.upload_book.specs.declared.head_row.Kind.TheVariants.{Final};
-ghost use Rattle.upload_book.specs.snapshot.Restore.{HasSegments, IsRestorable};
+ghost use Rattle.upload_book.specs.snapshot.Restore.{CanBePutBack, HasSegments, IsRestorable};
 
 use crate::books::{ACME, NUMBERS, acme, moment, new_book, new_final, new_upload, part, patch};
 use crate::plain::PlainRow;
 use std::process::Abort;
 use tus_text::{Concat, read_concat};
 use upload_book::{
-    Book, Kind, Moment, Numbers, Refusal, Restored, RestoredSegment, RestoredUpload,
+    BoardLine, Book, Change, HeadChange, Kind, Moment, Numbers, Outcome, Refusal, Restored,
+    RestoredSegment, RestoredUpload,
 };
 
 /// An upload of its own that is put back: its id, whether it is a part, its length, its bytes and the second at which it
@@ -50,6 +52,38 @@ fn own_upload<'a>(
     }
 }
 
+// Puts back a piece, where it is not refused. Its line tells before what HEADs tell then, and what is charged.
+fn put_back(rt: &impl Abort, book: &mut Book, piece: Restored) -> Result<(), Refusal>
+    requires { CanBePutBack (length (plain_of book.old).settings.tenants) piece }
+{
+    match book.prepare(Change::Restore(piece), moment(rt, 1000)) {
+        Ok(ready) => {
+            let line = ready.line(book);
+            assert!(rt; book.commit(ready) == Outcome::Restored);
+            assert_told(rt, book, line);
+            Ok(())
+        }
+        Err(refused) => {
+            assert!(rt; refused.expires.is_none());
+            Err(refused.refusal)
+        }
+    }
+}
+
+// The book has the accounts of a line, and a HEAD tells the row that it puts.
+fn assert_told(rt: &impl Abort, book: &Book, line: BoardLine) {
+    assert!(rt; book.accounts() == line.accounts);
+    if let HeadChange::Put(name, row) = line.change {
+        let told = book.look(&name, moment(rt, 1000)).expect(rt, "a row");
+        assert!(rt;
+            (told.kind, told.offset, told.declared, told.expires)
+                == (row.kind, row.offset, row.declared, row.expires)
+        );
+        assert!(rt; told.metadata.as_slice() == row.metadata.as_slice());
+        assert!(rt; told.concat.as_slice() == row.concat.as_slice());
+    }
+}
+
 // Puts back an upload of acme.
 fn restore(rt: &impl Abort, book: &mut Book, row: &Row) -> Result<(), Refusal> {
     let acme = book.settings().tenant(ACME).expect(rt, "acme");
@@ -60,21 +94,27 @@ fn restore(rt: &impl Abort, book: &mut Book, row: &Row) -> Result<(), Refusal> {
     }];
     let expires = expires.and_then(Moment::new);
     let upload = own_upload(partial, id, declared, &segments, expires);
-    book.restore(Restored::Upload {
+    let piece = Restored::Upload {
         tenant: acme,
         upload,
-    })
+    };
+    put_back(rt, book, piece)
 }
 
 // Puts back acme's next id.
 fn restore_next(rt: &impl Abort, book: &mut Book, next: u64) -> Result<(), Refusal> {
     let acme = book.settings().tenant(ACME).expect(rt, "acme");
-    book.restore(Restored::Next { tenant: acme, next })
+    put_back(rt, book, Restored::Next { tenant: acme, next })
 }
 
 // Puts back the totals.
-fn restore_totals(book: &mut Book, charged: u64, released: u64) -> Result<(), Refusal> {
-    book.restore(Restored::Totals { charged, released })
+fn restore_totals(
+    rt: &impl Abort,
+    book: &mut Book,
+    charged: u64,
+    released: u64,
+) -> Result<(), Refusal> {
+    put_back(rt, book, Restored::Totals { charged, released })
 }
 
 // Creates an upload of acme.
@@ -131,7 +171,7 @@ fn a_book_is_put_back(rt: HostRuntime) {
         assert!(&rt; restore(&rt, &mut book, row) == Ok(()));
     }
     assert!(&rt; restore_next(&rt, &mut book, 6) == Ok(()));
-    assert!(&rt; restore_totals(&mut book, 6, 1) == Ok(()));
+    assert!(&rt; restore_totals(&rt, &mut book, 6, 1) == Ok(()));
     assert!(&rt; told(&rt, &book) == told(&rt, &was));
     assert!(&rt; book.accounts() == was.accounts());
     assert!(&rt; book.expiries() == was.expiries());
@@ -184,10 +224,10 @@ fn what_is_not_put_back(rt: HostRuntime) {
     }
     assert!(&rt; restore_next(&rt, &mut book, 1) == Err(Refusal::Field));
     assert!(&rt; restore_next(&rt, &mut book, 11) == Err(Refusal::Spent));
-    assert!(&rt; restore_totals(&mut book, 2, 1) == Err(Refusal::Field));
-    assert!(&rt; restore_totals(&mut book, 10, 10) == Err(Refusal::Spent));
-    assert!(&rt; restore_totals(&mut book, 9, 9) == Ok(()));
-    assert!(&rt; restore_totals(&mut book, 8, 8) == Err(Refusal::Field));
+    assert!(&rt; restore_totals(&rt, &mut book, 2, 1) == Err(Refusal::Field));
+    assert!(&rt; restore_totals(&rt, &mut book, 10, 10) == Err(Refusal::Spent));
+    assert!(&rt; restore_totals(&rt, &mut book, 9, 9) == Ok(()));
+    assert!(&rt; restore_totals(&rt, &mut book, 8, 8) == Err(Refusal::Field));
     assert_refused(
         &rt,
         &mut book,
@@ -267,10 +307,11 @@ fn restore_final(rt: &impl Abort, book: &mut Book, row: &FinalRow) -> Result<(),
     ];
     let expires = expires.and_then(Moment::new);
     let upload = final_upload(rt, id, declared, &segments, expires);
-    book.restore(Restored::Upload {
+    let piece = Restored::Upload {
         tenant: acme,
         upload,
-    })
+    };
+    put_back(rt, book, piece)
 }
 
 // Joins two parts of acme.
@@ -312,7 +353,7 @@ fn restored(rt: &impl Abort, book: &mut Book) {
     let last: FinalRow = (6, 4, (5, None), (5, None), None);
     assert!(rt; restore_final(rt, book, &last) == Ok(()));
     assert!(rt; restore_next(rt, book, 7) == Ok(()));
-    assert!(rt; restore_totals(book, 4, 0) == Ok(()));
+    assert!(rt; restore_totals(rt, book, 4, 0) == Ok(()));
 }
 
 // How many uploads acme has.

@@ -5,7 +5,7 @@ use mathlib.Core.Option.{some}
 use lib.ListN.{get_elem?}
 use Rattle.logbook.specs.Pages.{Book}
 use Rattle.upload_book.specs.declared.head_note.NotedChange.{NotedChange}
-use Rattle.upload_book.specs.declared.head_note.NotedChange.TheVariants.{Created, Grown, Gone, Swept}
+use Rattle.upload_book.specs.declared.head_note.NotedChange.TheVariants.{Created, Grown, Gone, Swept, Next, Totals}
 use Rattle.upload_book.specs.Heads.{heads_of}
 use Rattle.head_board.specs.Events.{HaveHappened, book_at}
 use Rattle.head_board.specs.NoBoard.{no_settings}
@@ -35,6 +35,8 @@ change_with texts (small.Created tenant kind growth) = Created tenant (record {
 change_with texts (small.Grown name growth) = Grown name growth
 change_with texts (small.Gone name) = Gone name
 change_with texts (small.Swept now) = Swept now
+change_with texts (small.Next name) = Next name
+change_with texts small.Totals = Totals
 
 -- the copy after the change of an event
 abbrev pub with_added : BoardCopy → Added → BoardCopy

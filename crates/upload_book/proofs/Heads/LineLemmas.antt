@@ -14,7 +14,9 @@ use Rattle.upload_book.specs.declared.board_line.HeadChange.{HeadChange}
 use Rattle.upload_book.specs.declared.change.Change.{Change}
 use Rattle.upload_book.specs.declared.head_note.NotedChange.{NotedChange}
 use Rattle.upload_book.specs.declared.ready.Step.{Step}
-use Rattle.upload_book.specs.declared.ready.Step.TheVariants.{Append, Concat, Create, Sweep, Terminate}
+use Rattle.upload_book.specs.declared.ready.ReadyPiece.{ReadyPiece}
+use Rattle.upload_book.specs.declared.ready.ReadyPiece.TheVariants as piece
+use Rattle.upload_book.specs.declared.ready.Step.TheVariants.{Append, Concat, Create, Restore, Sweep, Terminate}
 use Rattle.upload_book.specs.declared.settings.Numbers.{Numbers}
 use Rattle.upload_book.specs.declared.settings.TenantQuota.{TenantQuota}
 use Rattle.upload_book.specs.HeadNotes.{change_told, line_told}
@@ -22,7 +24,8 @@ use Rattle.upload_book.specs.Heads.{Heads, accounts_of}
 use Rattle.upload_book.specs.Laws.{LeadsTo}
 use Rattle.upload_book.specs.Lawful.{IsLawful}
 use Rattle.upload_book.specs.PlainBook.{PlainBook, tenant_book, with_tenant_book}
-use Rattle.upload_book.specs.Ready.{IsReadyForStep, step_change}
+use Rattle.upload_book.specs.Ready.{IsReadyForPiece, IsReadyForStep, piece_in, step_change}
+use Rattle.upload_book.specs.snapshot.Restore.{CanBePutBack}
 use Rattle.upload_book.specs.BlockStore.{part_at}
 use Rattle.upload_book.specs.Sweep.{book_after_sweep, part_after_sweep, swept_blocks}
 use Rattle.upload_book.specs.TenantBook.{TenantBook, opening_part}
@@ -120,13 +123,21 @@ note-told h noted head accounts is =
     let with_head : HeadChange → BoardLine = λ head. record { change = head; accounts = accounts } in
     ap (option_map with_head) is
 
--- what the book is ready for, it may be asked for
+-- what the book is ready to put back, it may be asked to,
+can-piece : (b : StoredBook) (r : ReadyPiece) → IsLawful (plain_of b) → IsReadyForPiece b r → CanBePutBack (length (plain_of b).tenants) (piece_in r)
+can-piece b (piece.Own r) lawful ready = (omega (arith, ready.there, tenants-settings (plain_of b) lawful), ready.form)
+can-piece b (piece.Joined r) lawful ready = (omega (arith, ready.there, tenants-settings (plain_of b) lawful), ready.form)
+can-piece b (piece.Next r) lawful ready = omega (arith, ready.there, tenants-settings (plain_of b) lawful)
+can-piece b (piece.Totals r) lawful ready = tt
+
+-- and what it is ready for, it may be asked for
 can-step : (b : StoredBook) (step : Step) → IsLawful (plain_of b) → IsReadyForStep b step → CanBeMade (length (plain_of b).tenants) (step_change step)
 can-step b (Create r) lawful ready = (omega (arith, ready.there, tenants-settings (plain_of b) lawful), ready.metadata, ready.concat)
 can-step b (Append r) lawful ready = tt
 can-step b (Concat r) lawful ready = (omega (arith, ready.there, tenants-settings (plain_of b) lawful), ready.some, ready.few, ready.metadata, ready.concat)
 can-step b (Terminate r) lawful ready = tt
 can-step b (Sweep r) lawful ready = tt
+can-step b (Restore r) lawful ready = can-piece b r.piece lawful ready
 
 -- so its line leads to the book after it
 pub line-leads : (b : StoredBook) (step : Step) (now : ℕ) (line : BoardLine) → IsLawful (plain_of b) → IsReadyForStep b step → line_of (plain_of b) (step_change step) now ≡ Some line

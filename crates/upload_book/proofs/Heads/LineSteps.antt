@@ -59,11 +59,11 @@ pub stored_tenant-there : (b : StoredBook) (t : ℕ) → IsBook b → t < length
 stored_tenant-there b t kept there = omega (arith, there, stored_tenants-settings b kept)
 
 -- its part is as it should be
-sound-part : (b : StoredBook) (t : ℕ) → IsBook b → t < length b.settings.tenants → IsTenantOf b.settings.numbers (tenant_book (plain_of b) t)
+pub sound-part : (b : StoredBook) (t : ℕ) → IsBook b → t < length b.settings.tenants → IsTenantOf b.settings.numbers (tenant_book (plain_of b) t)
 sound-part b t kept there = IsTenantOf-book (plain_of b) t kept.lawful (part-within b t (stored_tenant-there b t kept there))
 
 -- what it pays, and blocks that are within its quota, is a small number
-paid-small : (b : StoredBook) (t added : ℕ) → IsBook b → t < length b.settings.tenants → charge_in b.settings.numbers (tenant_book (plain_of b) t) + added ≤ (tenant_book (plain_of b) t).quota → charge_in b.settings.numbers (tenant_book (plain_of b) t) + added ≤ 1048576
+pub paid-small : (b : StoredBook) (t added : ℕ) → IsBook b → t < length b.settings.tenants → charge_in b.settings.numbers (tenant_book (plain_of b) t) + added ≤ (tenant_book (plain_of b) t).quota → charge_in b.settings.numbers (tenant_book (plain_of b) t) + added ≤ 1048576
 paid-small b t added kept there within =
     let inside = part-within b t (stored_tenant-there b t kept there) in
     omega (arith, room-within (plain_of b) t added kept.lawful inside within, get_or-le-sum_by (charge_in b.settings.numbers) (plain_of b).tenants t (opening_part 0) inside, blocks-within b.settings kept.lawful.settings)

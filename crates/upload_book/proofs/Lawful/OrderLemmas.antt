@@ -5,14 +5,18 @@ use Rattle.upload_book.specs.Change.{MayLackFor, appended_in, change_answer, out
 use Rattle.upload_book.specs.declared.append.Appended.{Appended}
 use Rattle.upload_book.specs.declared.append.Refused.{Refused}
 use Rattle.upload_book.specs.declared.change.Change.{Change}
-use Rattle.upload_book.specs.declared.change.Change.TheVariants.{Create, Append, Concat, Terminate, Sweep}
+use Rattle.upload_book.specs.declared.change.Change.TheVariants.{Create, Append, Concat, Terminate, Sweep, Restore}
 use Rattle.upload_book.specs.declared.change.Outcome.{Outcome}
 use Rattle.upload_book.specs.declared.change.Outcome.TheVariants as outcome
 use Rattle.upload_book.specs.declared.refusal.Refusal.{Refusal}
 use Rattle.upload_book.specs.declared.refusal.Refusal.TheVariants.{Gone, Unknown}
+use Rattle.upload_book.specs.declared.restored.Restored.{Restored}
+use Rattle.upload_book.specs.declared.restored.Restored.TheVariants as piece
 use Rattle.upload_book.specs.Expiry.{has_expired}
 use Rattle.upload_book.specs.Laws.{FollowOrder}
 use Rattle.upload_book.specs.PlainBook.{PlainBook}
+use Rattle.upload_book.specs.Refusal.{unless}
+use Rattle.upload_book.specs.snapshot.Restore.{MayLackPiece, piece_refusal}
 use Rattle.upload_book.specs.TenantBook.{is_given, kept_in, visible}
 use Rattle.upload_book.specs.Upload.{Upload}
 
@@ -37,6 +41,11 @@ appended-ok : (r : Result Appended Refused) → IsOk r → IsOk (appended_in r)
 appended-ok (Ok x) ok = refl
 appended-ok (Err why) ok = absurd (let no : false ≡ true = ok in cc)
 
+piece-lacks : (b : PlainBook) (r : Restored) → MayLackPiece b r → piece_refusal b r ≡ None
+piece-lacks b (piece.Upload tenant r) may = may
+piece-lacks b (piece.Next tenant next) may = absurd may
+piece-lacks b (piece.Totals charged released) may = absurd may
+
 -- what may lack memory is refused for nothing else
 lacks-last : (b : PlainBook) (change : Change) (now : ℕ) → MayLackFor b change now → IsOk (change_answer b change now)
 lacks-last b (Create tenant new first) now may = outcome-ok outcome.Created _ may.0
@@ -44,6 +53,8 @@ lacks-last b (Append name chunk) now may = appended-ok _ may.0
 lacks-last b (Concat tenant new) now may = outcome-ok outcome.Created _ may
 lacks-last b (Terminate name) now may = absurd may
 lacks-last b Sweep now may = absurd may
+lacks-last b (Restore restored) now may =
+    outcome-ok (λ (given : Outcome). given) (unless (piece_refusal b restored) outcome.Restored) (rw (piece-lacks b restored may) refl)
 
 pub follow_order : FollowOrder
 follow_order = record {

@@ -5,7 +5,8 @@ use Rattle.std.proofs.lemmas.Bool.Decides.{nat_tests}
 use Rattle.tus_text.specs.Concat.{concat_of}
 use Rattle.tus_text.specs.Metadata.{is_metadata}
 use Rattle.upload_book.specs.Create.{new_kind}
-use Rattle.upload_book.specs.declared.head_row.Kind.TheVariants.{Final}
+use Rattle.upload_book.specs.declared.head_row.Kind.{Kind}
+use Rattle.upload_book.specs.declared.head_row.Kind.TheVariants.{Final, Partial, Plain}
 use Rattle.upload_book.specs.Lawful.{IsConcatText, is_kept_metadata}
 
 -- metadata has at most 1,024 bytes
@@ -28,3 +29,9 @@ final_concat-fits text is =
       | inl long ↦ absurd (grind (arith, nat_tests))
       | inr short ↦ short
     ]
+
+-- so the text of an upload of each kind fits
+pub concat-fits : (kind : Kind) (text : List ℕ) → IsConcatText kind text → length text ≤ 2048
+concat-fits Plain text is = new_concat-fits false text is
+concat-fits Partial text is = new_concat-fits true text is
+concat-fits Final text is = final_concat-fits text is

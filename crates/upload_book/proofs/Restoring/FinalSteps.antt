@@ -1,5 +1,5 @@
 -- What a book over a store keeps where a final upload is put back.
-use Rattle.std.proofs.Common.{◌≡◌, ℕ, ◌+◌, ◌-◌, ◌<◌, ◌≤◌, true, not, List, length, get_or, set, Option, None, Some, is_some, refl, sym, ap, subst, ◌∙◌, arith}
+use Rattle.std.proofs.Common.{◌≡◌, ℕ, ◌+◌, ◌-◌, ◌<◌, ◌≤◌, true, not, List, length, get_or, set, Option, None, Some, is_some, unwrap_or, refl, sym, ap, subst, ◌∙◌, arith}
 use Rattle.std.specs.List.{sum_by}
 use Rattle.std.proofs.Math.ListN.{length-map}
 use Rattle.std.proofs.lemmas.Bool.{and_parts}
@@ -18,7 +18,7 @@ use Rattle.upload_book.specs.BlockStore.{BlockStore, plain_in, part_at, stored_t
 use Rattle.upload_book.specs.Ready.{IsReadyForBack}
 use Rattle.upload_book.specs.snapshot.Restore.{HasSegments, IsRestorable, book_after_piece, book_with, ends_rightly, part_with, piece_refusal, sent_back, sent_in, upload_back, with_back}
 use Rattle.upload_book.specs.declared.restored.Restored.TheVariants as piece
-use Rattle.upload_book.specs.snapshot.Restored.{RestoredSegment, RestoredUpload}
+use Rattle.upload_book.specs.snapshot.Restored.{RestoredUpload}
 use Rattle.upload_book.specs.Stored.{entry_of}
 use Rattle.upload_book.specs.TenantBook.{TenantBook, with_new}
 use Rattle.upload_book.specs.Upload.{Upload, is_complete, offset_of}
@@ -71,11 +71,15 @@ module _ (b : StoredBook) (t : ℕ) (r : RestoredUpload) (is : IsFinalBack b t r
   whole : r.declared ≡ Some (sent_len back.sent)
   whole = complete-is r.declared (offset_of made) ends.0 ∙ ap Some (offset-back b.settings.numbers b.charged part r back.sent sound is.kind final-form back.fresh back.is)
 
-  pays : charge_in b.settings.numbers (with_back part r.id made) ≡ charge_in b.settings.numbers part + final_blocks
-  pays = charge-final b.settings.numbers b.charged part r back.sent sound is.kind final-form back.fresh back.is
+  -- so it is as long as it says
+  pub final-len : unwrap_or r.declared 0 ≡ offset_of made
+  final-len = ap (λ (declared : Option ℕ). unwrap_or declared 0) (complete-is r.declared (offset_of made) ends.0)
+
+  pub final-pays : charge_in b.settings.numbers (with_back part r.id made) ≡ charge_in b.settings.numbers part + final_blocks
+  final-pays = charge-final b.settings.numbers b.charged part r back.sent sound is.kind final-form back.fresh back.is
 
   final-paid : charge_in b.settings.numbers part + final_blocks ≤ part.quota
-  final-paid = omega (arith, pays, back.can.paid)
+  final-paid = omega (arith, final-pays, back.can.paid)
 
   -- there is room for them
   final-room_blocks : sum_by (charge_with b.store.pool.block_size) (plain_in b.store) + brought_in b.store.pool.block_size r.segments ≤ size_of b.store.pool
@@ -87,7 +91,7 @@ module _ (b : StoredBook) (t : ℕ) (r : RestoredUpload) (is : IsFinalBack b t r
 
   -- what is charged stays within its bound
   pub final-charged : b.charged + final_blocks ≤ b.settings.numbers.last_total
-  final-charged = less _ _ _ _ _ pays back.can.unspent where
+  final-charged = less _ _ _ _ _ final-pays back.can.unspent where
     less : (charged before after added last : ℕ) → after ≡ before + added → charged + (after - before) ≤ last → charged + added ≤ last
     less charged before after added last is fits = omega arith
 
@@ -148,7 +152,7 @@ module _ (b : StoredBook) (t : ℕ) (r : RestoredUpload) (is : IsFinalBack b t r
 
   final-totals : (charged : ℕ) → charged ≡ b.charged + final_blocks → with_tenant_book (plain_of b) t (with_new part made) ≡ book_at (plain_of b) (set (plain_in b.store) t (with_new part made)) charged b.released
   final-totals charged at =
-      with_tenant_book-more (plain_of b) t final_blocks (with_new part made) (ap (charge_in b.settings.numbers) (sym new-final) ∙ pays)
+      with_tenant_book-more (plain_of b) t final_blocks (with_new part made) (ap (charge_in b.settings.numbers) (sym new-final) ∙ final-pays)
       ∙ ap (λ charged. book_at (plain_of b) (set (plain_in b.store) t (with_new part made)) charged b.released) (sym at)
 
   -- it makes a book

@@ -17,12 +17,12 @@ use Rattle.upload_book.specs.declared.settings.Numbers.{Numbers}
 use Rattle.upload_book.specs.Lawful.{HasParts, IsGivenIn, IsLawful, IsOfKind, IsSegmentOf, IsTenantOf, IsUploadOf, IsWhole, joined_in}
 use Rattle.upload_book.specs.PlainBook.{PlainBook, tenant_book, with_tenant_book}
 use Rattle.upload_book.specs.Refusal.{first_that_holds}
-use Rattle.upload_book.specs.snapshot.Restore.{CanBePutBack, HasSegments, IsRestorable, book_after_piece, book_with, bytes_back, bytes_from, ends_rightly, may_be_part, next_tests, part_with, piece_refusal, refusal_with, restore_refusal, restore_tests, sent_back, sent_in, sent_of, totals_tests, upload_back, with_back, with_next}
+use Rattle.upload_book.specs.snapshot.Restore.{CanBePutBack, HasSegments, IsRestorable, book_after_piece, book_with, bytes_back, bytes_from, ends_rightly, may_be_part, next_tests, part_with, piece_refusal, refusal_with, restore_refusal, restore_tests, sent_back, sent_in, sent_of, totals_tests, upload_back, with_back}
 use Rattle.upload_book.specs.declared.restored.Restored.TheVariants as piece
 use Rattle.upload_book.specs.declared.restored.Restored.{Restored}
 use Rattle.upload_book.specs.snapshot.Restored.{RestoredSegment, RestoredUpload}
 use Rattle.upload_book.specs.Stored.{parts_of}
-use Rattle.upload_book.specs.TenantBook.{Entry, TenantBook, kept_in, opening_part}
+use Rattle.upload_book.specs.TenantBook.{Entry, TenantBook, kept_in, opening_part, with_next}
 use Rattle.upload_book.specs.Upload.{IsComplete, Upload, content_of, is_complete, offset_of}
 use Rattle.upload_book.proofs.Charge.ChargeLemmas.{sources-given}
 use Rattle.upload_book.proofs.Charge.InUse.{Contains-cases, Contains-first, Contains-later, Contains-none}
@@ -186,7 +186,7 @@ pub record IsAcceptable (n : Numbers) (charged : ℕ) (part : TenantBook) (id : 
   pub unspent : charged + (charge_in n (with_back part id u) - charge_in n part) ≤ n.last_total
   pub paid : charge_in n (with_back part id u) ≤ part.quota
 
-neither : (a b : Bool) → (a || b) ≡ false → (a ≡ false) × (b ≡ false)
+pub neither : (a b : Bool) → (a || b) ≡ false → (a ≡ false) × (b ≡ false)
 neither true b is = absurd (cc)
 neither false b is = (refl, is)
 

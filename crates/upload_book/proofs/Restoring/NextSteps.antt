@@ -9,11 +9,11 @@ use Rattle.upload_book.specs.Expiries.{end_in, ends_of}
 use Rattle.upload_book.specs.Lawful.{IsLawful}
 use Rattle.upload_book.specs.PlainBook.{PlainBook, tenant_book, with_tenant_book}
 use Rattle.upload_book.specs.BlockStore.{BlockStore, part_at, plain_in}
-use Rattle.upload_book.specs.snapshot.Restore.{book_after_piece, book_with, piece_refusal, with_next}
+use Rattle.upload_book.specs.snapshot.Restore.{book_after_piece, book_with, piece_refusal}
 use Rattle.upload_book.specs.declared.restored.Restored.TheVariants as piece
 use Rattle.upload_book.specs.declared.restored.Restored.{Restored}
 use Rattle.upload_book.specs.declared.refusal.Refusal.{Refusal}
-use Rattle.upload_book.specs.TenantBook.{TenantBook}
+use Rattle.upload_book.specs.TenantBook.{TenantBook, with_next}
 use Rattle.upload_book.proofs.Expiries.EndsLemmas.{AreExpiring-same}
 use Rattle.upload_book.proofs.Lawful.FinalLemmas.{part-after}
 use Rattle.upload_book.proofs.Lawful.FirstRefusal.{test-passed}

@@ -15,9 +15,9 @@ use Rattle.upload_book.specs.inside.Back.{new_of}
 use Rattle.upload_book.specs.Lawful.{IsConcatText, IsLawful, IsTenantOf}
 use Rattle.upload_book.specs.PlainBook.{tenant_book, with_tenant_book}
 use Rattle.upload_book.specs.BlockStore.{BlockStore, plain_in, part_at, stored_tenant_at}
-use Rattle.upload_book.specs.snapshot.Restore.{IsRestorable, book_after_piece, book_with, part_with, piece_refusal, upload_back, with_back}
+use Rattle.upload_book.specs.snapshot.Restore.{IsRestorable, book_after_piece, book_with, part_with, piece_refusal, sent_back, sent_in, upload_back, with_back}
 use Rattle.upload_book.specs.declared.restored.Restored.TheVariants as piece
-use Rattle.upload_book.specs.snapshot.Restored.{RestoredSegment, RestoredUpload}
+use Rattle.upload_book.specs.snapshot.Restored.{RestoredUpload}
 use Rattle.upload_book.specs.Stored.{entry_of}
 use Rattle.upload_book.specs.TenantBook.{TenantBook, with_new}
 use Rattle.upload_book.specs.Upload.{Upload}
@@ -55,28 +55,30 @@ module _ (b : StoredBook) (t : ℕ) (r : RestoredUpload) (bytes : List ℕ) (is 
   sound : IsTenantOf b.settings.numbers part
   sound = IsTenantOf-book (plain_of b) t is.kept.lawful (part-within b t is.within)
 
-  back : IsBack b.settings.numbers b.charged part r
+  pub back : IsBack b.settings.numbers b.charged part r
   back = IsBack-from_none b.settings.numbers b.charged part r is.none
 
   pub own-next : part.next ≡ r.id
   own-next = back.next
 
-  sent-is : back.sent ≡ (r.id, bytes) ∷ []
-  sent-is =
-      let both : Some back.sent ≡ Some ((r.id, bytes) ∷ []) = sym back.is ∙ sent-own b.settings.numbers b.charged part r bytes sound is.own is.its back.fresh in
-      cc
+  -- it brings its segment
+  pub own-sent : sent_back (sent_in part.uploads) r.segments ≡ Some ((r.id, bytes) ∷ [])
+  own-sent = sent-own b.settings.numbers b.charged part r bytes sound is.own is.its back.fresh
 
-  upload-is : upload_back r back.sent ≡ made
+  sent-is : back.sent ≡ (r.id, bytes) ∷ []
+  sent-is = let both : Some back.sent ≡ Some ((r.id, bytes) ∷ []) = sym back.is ∙ own-sent in cc
+
+  pub upload-is : upload_back r back.sent ≡ made
   upload-is = ap (upload_back r) sent-is ∙ upload-own r bytes is.own
 
   can : IsAcceptable b.settings.numbers b.charged part r.id made
   can = subst (IsAcceptable b.settings.numbers b.charged part r.id) upload-is back.can
 
-  pays : charge_in b.settings.numbers (with_back part r.id made) ≡ charge_in b.settings.numbers part + own_blocks
-  pays = charge-own b.settings.numbers b.charged part r bytes sound is.own is.its back.fresh
+  pub own-pays : charge_in b.settings.numbers (with_back part r.id made) ≡ charge_in b.settings.numbers part + own_blocks
+  own-pays = charge-own b.settings.numbers b.charged part r bytes sound is.own is.its back.fresh
 
   own-paid : charge_in b.settings.numbers part + own_blocks ≤ part.quota
-  own-paid = omega (arith, pays, can.paid)
+  own-paid = omega (arith, own-pays, can.paid)
 
   -- the same by the size of the pool's blocks
   pub own-taken : (taken : ℕ) → taken ≡ blocks_between b.store.pool.block_size 0 (length bytes) → taken ≡ own_blocks
@@ -92,7 +94,7 @@ module _ (b : StoredBook) (t : ℕ) (r : RestoredUpload) (bytes : List ℕ) (is 
 
   -- what is charged stays within its bound,
   pub own-charged : b.charged + own_blocks ≤ b.settings.numbers.last_total
-  own-charged = less _ _ _ _ _ pays can.unspent where
+  own-charged = less _ _ _ _ _ own-pays can.unspent where
     less : (charged before after added last : ℕ) → after ≡ before + added → charged + (after - before) ≤ last → charged + added ≤ last
     less charged before after added last is fits = omega arith
 
@@ -136,7 +138,7 @@ module _ (b : StoredBook) (t : ℕ) (r : RestoredUpload) (bytes : List ℕ) (is 
 
   own-totals : (charged : ℕ) → charged ≡ b.charged + own_blocks → with_tenant_book (plain_of b) t (with_new part made) ≡ book_at (plain_of b) (set (plain_in b.store) t (with_new part made)) charged b.released
   own-totals charged at =
-      with_tenant_book-more (plain_of b) t own_blocks (with_new part made) (ap (charge_in b.settings.numbers) (sym new-own) ∙ pays)
+      with_tenant_book-more (plain_of b) t own_blocks (with_new part made) (ap (charge_in b.settings.numbers) (sym new-own) ∙ own-pays)
       ∙ ap (λ charged. book_at (plain_of b) (set (plain_in b.store) t (with_new part made)) charged b.released) (sym at)
 
   -- the upload gets its end

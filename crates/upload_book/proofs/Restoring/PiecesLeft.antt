@@ -6,12 +6,12 @@ use Rattle.upload_book.specs.declared.head_row.Name.{Name}
 use Rattle.upload_book.specs.declared.refusal.Refusal.{Refusal}
 use Rattle.upload_book.specs.Events.{HasUpload, StandsAs}
 use Rattle.upload_book.specs.PlainBook.{PlainBook, tenant_book, with_tenant_book}
-use Rattle.upload_book.specs.snapshot.Restore.{book_after_piece, book_with, part_with, piece_refusal, sent_back, sent_in, upload_back, with_next}
+use Rattle.upload_book.specs.snapshot.Restore.{book_after_piece, book_with, part_with, piece_refusal, sent_back, sent_in, upload_back}
 use Rattle.upload_book.specs.snapshot.RestoreLaws.{IsPutBack, PiecesLeave}
 use Rattle.upload_book.specs.declared.restored.Restored.TheVariants as piece
 use Rattle.upload_book.specs.declared.restored.Restored.{Restored}
 use Rattle.upload_book.specs.snapshot.Restored.{RestoredUpload}
-use Rattle.upload_book.specs.TenantBook.{Entry, TenantBook, kept_in}
+use Rattle.upload_book.specs.TenantBook.{Entry, TenantBook, kept_in, with_next}
 use Rattle.upload_book.specs.Upload.{Upload}
 use Rattle.upload_book.proofs.Lawful.FinalLemmas.{kept-push, moved, part-after, stays-book}
 use Rattle.upload_book.proofs.Restoring.NextSteps.{after-none, after-refused}

@@ -5,7 +5,7 @@ use Rattle.upload_book.specs.declared.block_store.BlockStore.TheInside.{Inside}
 use Rattle.upload_book.specs.inside.Kept.{stored_tenant_of, store_of, IsKept}
 use Rattle.block_pool.specs.Blocks.{Blocks}
 use Rattle.upload_book.specs.BlockStore.{plain_in, part_at}
-use Rattle.upload_book.specs.snapshot.Restore.{with_next}
+use Rattle.upload_book.specs.TenantBook.{with_next}
 use Rattle.upload_book.specs.Stored.{StoredTenant, part_of}
 use Rattle.upload_book.proofs.Store.Pieces.{ArePieces-copies}
 use Rattle.upload_book.proofs.Store.StoredTenants.{Changes, HoldsPieces-changed, IsStoredOn, IsStoredOn-stored_tenant, charge-changed}

@@ -17,7 +17,7 @@ use Rattle.upload_book.specs.declared.restored.Restored.TheVariants as piece
 use Rattle.upload_book.specs.declared.restored.Restored.{Restored}
 use Rattle.upload_book.specs.snapshot.Restored.{RestoredSegment, RestoredUpload}
 use Rattle.upload_book.specs.Stored.{parts_of}
-use Rattle.upload_book.specs.TenantBook.{Entry, TenantBook, kept_in, with_new}
+use Rattle.upload_book.specs.TenantBook.{Entry, TenantBook, kept_in, with_new, with_next}
 use Rattle.upload_book.specs.Upload.{Upload, is_complete, offset_of}
 
 -- the segments of an upload that is put back: one of its own brings its bytes, and a final one is of 1 to 32 parts, which are
@@ -80,10 +80,6 @@ upload_back r sent = record {
   concat = r.concat;
   expires = r.expires;
 }
-
--- A part whose next id is this one. The ids between were given, and nothing stands under them.
-abbrev pub with_next : TenantBook → ℕ → TenantBook
-with_next part id = record part { next = id }
 
 -- a part with an upload put back under an id, which was not given before
 abbrev pub with_back : TenantBook → ℕ → Upload → TenantBook

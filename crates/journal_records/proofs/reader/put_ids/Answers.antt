@@ -1,20 +1,20 @@
 use Rattle.std.proofs.Common.{◌+◌, ◌≤◌, length, arith}
 use Rattle.std.proofs.lemmas.List.{length_push}
-use Rattle.journal_records.specs.Reading.{ids_at}
+use Rattle.journal_records.specs.Reading.{many_at, optional_at}
 use Rattle.journal_records.proofs.Parts.{ends, goes_on, is_done}
 use Rattle.journal_records.proofs.reader.put_ids.Goals as goal
 
 pub returns-in_default : goal.returns-in_default
-returns-in_default c = ends c.loop.parts.items c.args.count c.loop.counter c.loop.rest.now (ids_at c.args.count c.args.bytes.now) c.loop-test.true c.in_default.ensures c.loop.invariant.read
+returns-in_default c = ends optional_at c.loop.parts.items c.args.count c.loop.counter c.loop.rest.now (many_at optional_at c.args.count c.args.bytes.now) c.loop-test.true c.in_default.ensures c.loop.invariant.read
 
 pub loop-preserved : goal.loop-preserved
 loop-preserved c =
     let pushed = c.push.ensures.items in
     let longer : length c.push.new.self.items ≤ c.loop.counter + 1 = rw pushed (omega (arith, length_push c.loop.parts.items c.in-Some.id, c.loop.invariant.room)) in
     record {
-      read = rw pushed (goes_on c.loop.parts.items c.args.count c.loop.counter c.loop.rest.now c.in-Some.id c.in-Some.behind.now (ids_at c.args.count c.args.bytes.now) c.loop-test.true c.in-Some.ensures c.loop.invariant.read);
+      read = rw pushed (goes_on optional_at c.loop.parts.items c.args.count c.loop.counter c.loop.rest.now c.in-Some.id c.in-Some.behind.now (many_at optional_at c.args.count c.args.bytes.now) c.loop-test.true c.in-Some.ensures c.loop.invariant.read);
       room = longer;
     }
 
 pub returns : goal.returns
-returns c = is_done c.loop.parts.items c.args.count c.loop.counter c.loop.rest.now (ids_at c.args.count c.args.bytes.now) c.loop-test.false c.loop.invariant.read
+returns c = is_done optional_at c.loop.parts.items c.args.count c.loop.counter c.loop.rest.now (many_at optional_at c.args.count c.args.bytes.now) c.loop-test.false c.loop.invariant.read

@@ -1,4 +1,4 @@
-use Rattle.upload_book.proofs.Lawful.FinalLemmas.{finals_stay}
+use Rattle.upload_book.proofs.Lawful.FinalLaw.{finals_stay}
 use Rattle.upload_book.proofs.laws.finals_stay.Goals as goal
 
 pub returns : goal.returns

@@ -4,7 +4,7 @@ use Rattle.upload_book.specs.Charge.{charge_in}
 use Rattle.upload_book.specs.Events.{ChangeEvent}
 use Rattle.upload_book.specs.Lawful.{IsLawful}
 use Rattle.upload_book.specs.Settings.{Settings}
-use Rattle.upload_book.proofs.Lawful.FinalLemmas.{finals_stay}
+use Rattle.upload_book.proofs.Lawful.FinalLaw.{finals_stay}
 use Rattle.head_board.specs.Event.{Event}
 use Rattle.head_board.specs.Events.{book_at, change_event}
 use Rattle.tus_shared.proofs.EventLemmas.{at-settings}

@@ -5,8 +5,7 @@ use Rattle.upload_book.specs.contracts.book.Book.{the_view}
 use Rattle.upload_book.specs.declared.ready.ReadyNext.{ReadyNext}
 use Rattle.upload_book.specs.PlainBook.{tenant_book}
 use Rattle.upload_book.specs.Ready.{IsReadyForNext}
-use Rattle.upload_book.specs.snapshot.Restore.{with_next}
-use Rattle.upload_book.specs.TenantBook.{TenantBook}
+use Rattle.upload_book.specs.TenantBook.{TenantBook, with_next}
 use Rattle.upload_book.proofs.Restoring.NextSteps.{IsBook-next, IsNumbered, next-more, plain-numbered}
 use Rattle.upload_book.proofs.Steps.BookSteps.{part-plain, stored_tenants-settings}
 use Rattle.upload_book.proofs.book.Book.put_next.Goals as goal

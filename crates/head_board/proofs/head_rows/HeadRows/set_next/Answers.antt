@@ -1,0 +1,12 @@
+use Rattle.std.proofs.Common.{◌≤◌, rules}
+use Rattle.head_board.proofs.RowLemmas.{AreBelow-next}
+use Rattle.head_board.proofs.head_rows.HeadRows.set_next.Goals as goal
+
+pub invariant_of-self : goal.invariant_of-self
+invariant_of-self c =
+    let more : c.self.inside.next ≤ c.args.next = search rules in
+    record {
+      rows = c.self.invariant.rows;
+      spare = c.self.invariant.spare;
+      ids = AreBelow-next c.self.inside.next c.args.next c.self.inside.rows.items more c.self.invariant.ids;
+    }

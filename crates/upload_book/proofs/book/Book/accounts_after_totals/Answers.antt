@@ -1,0 +1,13 @@
+use Rattle.std.proofs.Common.{ap, sym, ◌∙◌}
+use Rattle.upload_book.specs.Book.{plain_of}
+use Rattle.upload_book.specs.declared.board_line.Accounts.{Accounts}
+use Rattle.upload_book.specs.declared.restored.Restored.TheVariants as piece
+use Rattle.upload_book.specs.Heads.{accounts_of}
+use Rattle.upload_book.proofs.Restoring.NextSteps.{after-none}
+use Rattle.upload_book.proofs.book.Book.accounts_after_totals.Goals as goal
+
+pub returns : goal.returns
+returns c =
+    let r = c.args.ready.now in
+    let told : Accounts → Accounts = λ accounts. record { charged = r.charged; released = r.released; charge = accounts.charge } in
+    ap told c.accounts-accounts.ensures ∙ ap accounts_of (sym (after-none (plain_of c.args.self.now) (piece.Totals r.charged r.released) c.requires))

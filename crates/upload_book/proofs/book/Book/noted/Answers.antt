@@ -1,0 +1,4 @@
+use Rattle.upload_book.proofs.book.Book.noted.Goals as goal
+
+pub returns-in-Restore : goal.returns-in-Restore
+returns-in-Restore c = rw c.in-Restore.is (c.note_of_piece.ensures c.in-Restore.restore.now)
