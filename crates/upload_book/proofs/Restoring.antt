@@ -3,6 +3,7 @@ pub mod SegmentsBack
 pub mod UploadsBack
 pub mod LawfulBack
 pub mod FinalFound
+pub mod KeptUploads
 pub mod FinalRooms
 pub mod FinalBack
 pub mod BooksBack

@@ -4,6 +4,7 @@ pub mod ChargeAfter
 pub mod FinalBack
 pub mod HeldBytes
 pub mod Kept
+pub mod KeptUpload
 pub mod Notes
 pub mod Pieces
 pub mod Places

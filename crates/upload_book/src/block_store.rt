@@ -1,4 +1,4 @@
-ghost use Rattle.std.specs.Prelude.{◌≡◌, ◌≢◌, ℕ, ◌+◌, ◌-◌, ◌<◌, ◌≤◌, ◌^◌, ◌==◌, List, [], length, map, min, option_map, position, set, vec_capacity, All, None, Some, IfOk, IfErr, IfSome, IfNone, IsOk, IsTrue, OnOk, OnErr};
+ghost use Rattle.std.specs.Prelude.{◌≡◌, ◌≢◌, ℕ, ◌+◌, ◌-◌, ◌<◌, ◌≤◌, ◌^◌, ◌==◌, List, [], length, map, min, option_map, position, set, slice_get, take, vec_capacity, All, None, Some, IfOk, IfErr, IfSome, IfNone, IsOk, IsTrue, OnOk, OnErr};
 ghost use Rattle.std.specs.List.{list_all, range_with_len, sum_by};
 ghost use Rattle.block_pool.specs.Blocks.{IsWithinLimits, all_free, free_in, size_of};
 ghost use Rattle.upload_book.specs.Account.{blocks_between};
@@ -13,6 +13,7 @@ ghost use Rattle.upload_book.specs.Sweep.{part_after_sweep};
 ghost use Rattle.upload_book.specs.declared.head_row.Kind.TheVariants.{Final};
 ghost use Rattle.upload_book.specs.inside.Kept.{stored_tenant_of, HasUploadRoom};
 ghost use Rattle.upload_book.specs.Settings.{settings_fault};
+ghost use Rattle.upload_book.specs.snapshot.Snapshot.{upload_kept};
 ghost use Rattle.upload_book.specs.inside.Progress.{progress_in};
 ghost use Rattle.upload_book.specs.BlockStore.{opening_stored_tenants, plain_in, stored_tenant_at, part_at, pieces_named, entry_at, holders_at, rows_at, upload_at, Joins};
 ghost use Rattle.upload_book.specs.inside.Places.{with_bytes, with_upload, without_upload, AreFew, IsAlone, IsPartIn, IsVisibleIn, MayKeep};
@@ -27,6 +28,7 @@ ghost use Rattle.upload_book.specs.Upload.{content_of, head_row_of, offset_of};
 use crate::create::NewUpload;
 use crate::final_back::Left;
 use crate::head_row::Name;
+use crate::kept_upload::KeptUpload;
 use crate::lent_row::LentRow;
 use crate::moment::Moment;
 use crate::parts_seen::PartsSeen;
@@ -407,6 +409,21 @@ impl BlockStore {
         let upload = StoredUpload::joined(stored_tenant.next, &new, pieces, len, texts);
         stored_tenant.uploads.push_reserved(upload);
         stored_tenant.next += 1;
+    }
+
+    /// The upload at a place of a tenant's part as a piece of a snapshot; `None` past the last one.
+    pub(crate) fn kept_upload(&self, tenant: usize, place: usize) -> Option<KeptUpload<'_>>
+        requires { tenant < length self.now.stored_tenants }
+        ensures { result ≡ option_map
+            (λ e. upload_kept (take place (part_at self.now tenant).uploads) e)
+            (slice_get (part_at self.now tenant).uploads place) }
+    {
+        let stored_tenant = &self.stored_tenants[tenant];
+        if place < stored_tenant.uploads.len() {
+            Some(KeptUpload::new(&self.pool, stored_tenant, place))
+        } else {
+            None
+        }
     }
 
     /// What is left of limits where these segments of a final upload are put back, one after another; `None` where one lacks

@@ -1,7 +1,8 @@
-ghost use Rattle.std.specs.Prelude.{◌≡◌, ◌==◌, ◌++◌, None, IfOk, IfErr, IfSome, IfNone, option_map, position};
+ghost use Rattle.std.specs.Prelude.{◌≡◌, ◌==◌, ◌++◌, ◌<◌, ◌≤◌, None, IfOk, IfErr, IfSome, IfNone, flat_map, get_or, is_some, length, option_map, position, take};
 ghost use Rattle.upload_book.specs.inside.FinalBack.{chain_from};
+ghost use Rattle.upload_book.specs.Stored as stored;
 ghost use Rattle.upload_book.specs.Stored.{part_kept, pieces_of};
-ghost use Rattle.upload_book.specs.TenantBook.{opening_part, visible_in};
+ghost use Rattle.upload_book.specs.TenantBook.{Entry, opening_part, visible_in};
 
 use crate::head_row::Kind;
 use crate::moment::Moment;
@@ -82,11 +83,32 @@ impl StoredTenant {
     pub(crate) fn chain_from(&self, origin: u64) -> Option<&Body>
         ensures { option_map (λ chain. chain.now) result ≡ chain_from (pieces_of (stored_tenant_of self.now)) origin }
     {
-        for place in 0..self.uploads.len() {
-            if let Some(chain) = self.uploads[place].chain_from(origin) {
-                return Some(chain);
-            }
-        }
-        None
+        first_chain(&self.uploads, origin)
     }
+
+    /// Whether a piece of an upload before a place, or a piece before one of the upload there, has this origin.
+    pub(crate) fn stands_before(&self, place: usize, piece: usize, origin: u64) -> bool
+        requires there { place < length self.now.uploads.items }
+        requires pieces { (d : Entry stored.StoredUpload) → piece ≤ length (get_or self.now.uploads.items place d).kept.pieces }
+        ensures { (d : Entry stored.StoredUpload) → result ≡ is_some (chain_from
+            (flat_map (λ e. e.kept.pieces) (take place self.now.uploads.items)
+            ++ take piece (get_or self.now.uploads.items place d).kept.pieces) origin) }
+    {
+        match first_chain(&self.uploads[..place], origin) {
+            Some(_) => true,
+            None => self.uploads[place].stands_before(piece, origin),
+        }
+    }
+}
+
+// The body of the first piece of this origin of some uploads, where there is one.
+fn first_chain(uploads: &[StoredUpload], origin: u64) -> Option<&Body>
+    ensures { option_map (λ chain. chain.now) result ≡ chain_from (flat_map (λ e. e.kept.pieces) uploads.now) origin }
+{
+    for place in 0..uploads.len() {
+        if let Some(chain) = uploads[place].chain_from(origin) {
+            return Some(chain);
+        }
+    }
+    None
 }

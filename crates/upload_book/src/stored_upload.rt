@@ -1,4 +1,4 @@
-ghost use Rattle.std.specs.Prelude.{◌≡◌, ◌≢◌, ◌+◌, ◌<◌, ◌≤◌, ◌&&◌, [], ◌∷◌, ◌++◌, drop, get_or, length, map, option_map, vec_len, vec_capacity, IfOk, IsOk, OnOk, OnErr, IsTrue};
+ghost use Rattle.std.specs.Prelude.{◌≡◌, ◌≢◌, ◌+◌, ◌<◌, ◌≤◌, ◌&&◌, [], ◌∷◌, ◌++◌, drop, get_or, is_some, length, map, option_map, take, vec_len, vec_capacity, IfOk, IsOk, OnOk, OnErr, IsTrue};
 ghost use Rattle.block_pool.specs.Blocks.{Blocks, free_in};
 ghost use Rattle.block_bodies.specs.Bodies.{HasRoom, IsBodyOf, IsHeld, IsLastOwn, StandsOnce, blocks_for, blocks_with};
 ghost use Rattle.block_bodies.specs.Changes.{Puts, GivesBack};
@@ -267,6 +267,28 @@ impl StoredUpload {
         match &self.held {
             HeldBytes::Own { .. } => self.id,
             HeldBytes::Joined { pieces, .. } => pieces[piece].origin,
+        }
+    }
+
+    /// The body of a piece.
+    pub(crate) fn chain(&self, piece: usize) -> &Body
+        requires { piece < length self.now.kept.pieces }
+        ensures { (d : Piece) → result.now ≡ (get_or self.now.kept.pieces piece d).chain }
+    {
+        match &self.held {
+            HeldBytes::Own { body, .. } => body,
+            HeldBytes::Joined { pieces, .. } => &pieces[piece].chain,
+        }
+    }
+
+    /// Whether one of the pieces before a place has this origin.
+    pub(crate) fn stands_before(&self, piece: usize, origin: u64) -> bool
+        requires { piece ≤ length self.now.kept.pieces }
+        ensures { result ≡ is_some (chain_from (take piece self.now.kept.pieces) origin) }
+    {
+        match &self.held {
+            HeldBytes::Own { .. } => piece > 0 && self.id == origin,
+            HeldBytes::Joined { pieces, .. } => chain_from(&pieces[..piece], origin).is_some(),
         }
     }
 

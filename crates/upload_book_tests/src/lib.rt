@@ -32,3 +32,5 @@ mod sweeps;
 mod texts;
 #[cfg(test)]
 mod uploads;
+#[cfg(test)]
+mod walks;

@@ -140,7 +140,7 @@ fn told(rt: &impl Abort, book: &Book) -> [Result<PlainRow, Refusal>; 7] {
 }
 
 // A book of acme with uploads of each kind of its own, of which the second has ended.
-fn requested(rt: &impl Abort, book: &mut Book) {
+pub(crate) fn requested(rt: &impl Abort, book: &mut Book) {
     let now = moment(rt, 1000);
     create(rt, book, Some(10));
     create(rt, book, Some(4));
@@ -324,7 +324,7 @@ fn join(rt: &impl Abort, book: &mut Book, first: u64, second: u64) {
 
 // A book of acme with a final upload of one part twice and one of it and another, whose parts have ended, and with one of a
 // part that stands.
-fn joined(rt: &impl Abort, book: &mut Book) {
+pub(crate) fn joined(rt: &impl Abort, book: &mut Book) {
     let now = moment(rt, 1000);
     part(rt, book, b"abcde");
     part(rt, book, b"fg");

@@ -173,12 +173,16 @@ upload_at-read v s t i old e is part entry =
 pub own-kind : (v : Inside) (s : BlockStore) (t i : ℕ) (old : KeptTenant) (e : Entry StoredUpload) → store_of v ≡ s → IsPart v t old → IsEntry (stored_tenant_of old) i e → (entry_at s t i).kept.kind ≢ Final → e.kept.kind ≢ Final
 own-kind v s t i old e is part entry own = subst (λ (e : Entry StoredUpload). e.kept.kind ≢ Final) (entry_at-read v s t i old e is part entry) own
 
--- its pieces are bodies of the pool,
-pub bodies-entry : (v : Inside) (t i : ℕ) (old : KeptTenant) (e : Entry StoredUpload) → IsKept v → IsPart v t old → IsEntry (stored_tenant_of old) i e → AreBodies v.pool e.kept.pieces
-bodies-entry v t i old e kept part entry x c =
-    piece-body v.pool (stored_tenant_of old) x (IsStoredOn-stored_tenant v.pool (store_of v).stored_tenants t (stored_tenant_of old) kept.stored (IsStoredTenant-part v t old part)) (Contains-entry (stored_tenant_of old) i e x entry c)
+-- the pieces of a part are bodies of the pool,
+pub bodies-part : (v : Inside) (t : ℕ) (old : KeptTenant) → IsKept v → IsPart v t old → AreBodies v.pool (pieces_of (stored_tenant_of old))
+bodies-part v t old kept part x c =
+    piece-body v.pool (stored_tenant_of old) x (IsStoredOn-stored_tenant v.pool (store_of v).stored_tenants t (stored_tenant_of old) kept.stored (IsStoredTenant-part v t old part)) c
 
--- and read whole
+-- and so are those of an upload,
+pub bodies-entry : (v : Inside) (t i : ℕ) (old : KeptTenant) (e : Entry StoredUpload) → IsKept v → IsPart v t old → IsEntry (stored_tenant_of old) i e → AreBodies v.pool e.kept.pieces
+bodies-entry v t i old e kept part entry x c = bodies-part v t old kept part x (Contains-entry (stored_tenant_of old) i e x entry c)
+
+-- which read whole
 pub reads-entry : (v : Inside) (t i : ℕ) (old : KeptTenant) (e : Entry StoredUpload) → IsKept v → IsPart v t old → IsEntry (stored_tenant_of old) i e → ReadsWhole v.pool e.kept.pieces
 reads-entry v t i old e kept part entry x c = reads-part v t old kept part x (Contains-entry (stored_tenant_of old) i e x entry c)
 
