@@ -12,6 +12,7 @@ use crate::fault::ReopenFault;
 use crate::journalled::Journalled;
 use crate::keeper::Keeper;
 use crate::opening::{Reopened, reopen};
+use crate::progress::Progress;
 use journal_file::Opened;
 use sqlite_disk::Disk;
 use std::alloc::Global;
@@ -56,6 +57,7 @@ pub fn what_was_told_is_recovered<
     S: Ledger,
     N: Ledger,
     B: Wait + Drop,
+    P: Progress,
 >(
     alloc: Global,
     keeper: &Keeper<D, C>,
@@ -64,6 +66,7 @@ pub fn what_was_told_is_recovered<
     first: &mut Desk<E, S, N>,
     opened: Opened<D>,
     key: u64,
+    progress: &mut P,
 ) -> Result<Reopened<D, E>, ReopenFault>
 where
     D: Drop,
@@ -87,5 +90,5 @@ where
         → IfErr result IsOutsideRecords }
 {
     keeper.tell_crash();
-    reopen(alloc, store, first, opened, key)
+    reopen(alloc, store, first, opened, key, progress)
 }

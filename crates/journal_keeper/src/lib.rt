@@ -10,6 +10,7 @@ mod keeping;
 pub mod laws;
 mod numbers;
 mod opening;
+mod progress;
 mod shared_keeper;
 mod taking;
 
@@ -18,4 +19,5 @@ pub use journalled::Journalled;
 pub use keeper::Keeper;
 pub use numbers::{KeeperNumbers, SyncCounts};
 pub use opening::{Reopened, open_journal, reopen};
+pub use progress::{Progress, Untold};
 pub use shared_keeper::SharedKeeper;

@@ -16,6 +16,7 @@ ghost use Rattle.upload_book.specs.PlainBook.{opening_book};
 use crate::fault::ReopenFault;
 use crate::journalled::Journalled;
 use crate::keeper::Keeper;
+use crate::progress::Progress;
 use book_replay::can_be_made;
 use journal_file::{Journal, JournalError, NotOpened, Opened};
 use journal_frames::Frames;
@@ -81,16 +82,17 @@ pub struct Reopened<D: Disk, C: Journalled> {
 
 /// Makes all changes again, in their order and at this desk, whose records a journal has that was opened under this key; and
 /// gives the keeper of these, and how many they are. The store and the desk are new. After it the desk has seen all of these
-/// events, and knows that they are kept.
+/// events, and knows that they are kept. Of each record `progress` is told once its change was made again.
 ///
 /// `Err` is Record, with the number of the first record, from 1, that can't be read, or whose change no book of these settings
 /// takes there; Memory; or Waiting, which comes in no run where the store is new.
-pub fn reopen<C: Journalled, R: Ledger, M: Ledger, B: Wait + Drop, D: Disk>(
+pub fn reopen<C: Journalled, R: Ledger, M: Ledger, B: Wait + Drop, D: Disk, P: Progress>(
     alloc: Global,
     store: &mut Store<C, R, M, B>,
     desk: &mut Desk<C, R, M>,
     opened: Opened<D>,
     key: u64,
+    progress: &mut P,
 ) -> Result<Reopened<D, C>, ReopenFault>
 where
     D: Drop,
@@ -132,7 +134,7 @@ where
       disk = disk_of opened.journal;
     }) }
 {
-    let records = make_all_again(store, desk, Frames::new(key, &opened.frames))?;
+    let records = make_all_again(store, desk, Frames::new(key, &opened.frames), progress)?;
     let front = desk.seen_events();
     desk.learn_kept(&front);
     let keeper = Keeper::new(alloc, opened.journal, front);
@@ -141,10 +143,11 @@ where
 
 // Makes the changes of all records again, at a new desk of a new store, and gives how many they are.
 #[tactic(auto, using(crate::proofs::OpeningLemmas::replayed_ended))]
-fn make_all_again<C: Charges, R: Ledger, M: Ledger, B: Wait + Drop>(
+fn make_all_again<C: Charges, R: Ledger, M: Ledger, B: Wait + Drop, P: Progress>(
     store: &mut Store<C, R, M, B>,
     desk: &mut Desk<C, R, M>,
     mut records: Frames,
+    progress: &mut P,
 ) -> Result<u64, ReopenFault>
     requires store { store.old ≡ [] }
     requires seen { desk.old.seen ≡ [] }
@@ -167,7 +170,10 @@ fn make_all_again<C: Charges, R: Ledger, M: Ledger, B: Wait + Drop>(
             return Ok(number - 1);
         };
         match make_record_again(store, desk, bytes) {
-            Ok(()) => number += 1,
+            Ok(()) => {
+                number += 1;
+                progress.note(bytes.len());
+            }
             Err(NotMade::Refused) => return Err(ReopenFault::Record(number)),
             Err(NotMade::Memory) => return Err(ReopenFault::Memory),
             Err(NotMade::Waiting) => return Err(ReopenFault::Waiting),

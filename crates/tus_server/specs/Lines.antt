@@ -1,5 +1,5 @@
--- The two lines that `serve` prints, and the one that it tells of its journal.
-use Rattle.std.specs.Prelude.{◌≡◌, ℕ, List, ◌++◌, codes, decimal}
+-- The two lines that `serve` prints, and those that it tells of its journal.
+use Rattle.std.specs.Prelude.{◌≡◌, ℕ, ◌/◌, List, ◌∷◌, ◌++◌, codes, decimal}
 use Rattle.std.specs.List.{sum_by}
 use Rattle.std.specs.Net.Text.{socket_text}
 use Rattle.std.specs.declared.net.socket_addr.SocketAddr.{SocketAddr}
@@ -36,3 +36,10 @@ abbrev pub started_text : ℕ → Held → ℕ → List ℕ
 started_text records held millis =
     codes "tus-server: journal: " ++ decimal records ++ codes " records, " ++ decimal held.uploads ++ codes " uploads, "
     ++ decimal held.bytes ++ codes " bytes, read in " ++ decimal millis ++ codes " ms\n"
+
+-- How far a start has come with its journal, in place of the line that stands on a terminal: how many records were made again,
+-- how many MiB of how many, and for how many seconds. Escape, `[` and `K` clear a line behind the cursor.
+abbrev pub progress_text : ℕ → ℕ → ℕ → ℕ → List ℕ
+progress_text records read all millis =
+    (13 ∷ 27 ∷ codes "[K") ++ codes "tus-server: journal: " ++ decimal records ++ codes " records, " ++ decimal (read / 1048576) ++ codes " of "
+    ++ decimal (all / 1048576) ++ codes " MiB, " ++ decimal (millis / 1000) ++ codes " s"

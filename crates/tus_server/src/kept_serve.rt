@@ -13,6 +13,7 @@ ghost use Rattle.tus_server.specs.Sockets.{sockets};
 use crate::journal_folder::renew_settings;
 use crate::journals::{JOURNAL_KEY, SettingsFile};
 use crate::keeping::InJournal;
+use crate::progress::ProgressLine;
 use crate::serve::serve_desks;
 use crate::started::tell_started;
 use http_wire::Sink;
@@ -182,7 +183,17 @@ where
     let Some(mut desk) = desks.pop() else {
         return Err(RunFault::Memory);
     };
-    let reopened = reopen(alloc, &mut store, &mut desk, journal, JOURNAL_KEY)?;
+    let mut progress = ProgressLine::new(rt, start, journal.frames.len());
+    let reopened = reopen(
+        alloc,
+        &mut store,
+        &mut desk,
+        journal,
+        JOURNAL_KEY,
+        &mut progress,
+    );
+    progress.clear();
+    let reopened = reopened?;
     renew_settings(alloc, file, desk.settings())?;
     tell_started(rt, start, reopened.records, store.headline());
     desks.push_reserved(desk);

@@ -17,6 +17,7 @@ mod kept_talk;
 mod lines;
 mod printing;
 mod program;
+mod progress;
 mod reading;
 mod serve;
 mod started;

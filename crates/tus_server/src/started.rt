@@ -24,14 +24,17 @@ pub fn tell_started<H: Eprint + time::Clock>(
     let Some(start) = start else {
         return;
     };
-    let Ok(taken) = start.elapsed(rt) else {
+    let Some(millis) = millis_since(rt, start) else {
         return;
     };
-    let millis = taken
-        .as_secs()
-        .saturating_mul(1000)
-        .saturating_add(u64::from(taken.subsec_millis()));
     let _ = rt.eprint(started_line(records, held_in(book), millis).as_str());
+}
+
+/// How many milliseconds have passed since then; `None` where the machine's clock can't be read.
+pub fn millis_since<H: time::Clock>(rt: &H, start: &Instant) -> Option<u64> {
+    let taken = start.elapsed(rt).ok()?;
+    let whole = taken.as_secs().saturating_mul(1000);
+    Some(whole.saturating_add(u64::from(taken.subsec_millis())))
 }
 
 /// The line that tells how many records were read, what their book holds, and how many milliseconds it took.

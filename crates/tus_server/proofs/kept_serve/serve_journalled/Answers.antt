@@ -12,12 +12,12 @@ use Rattle.tus_server.proofs.DeskLemmas.{new_desks-last, new_desks-length}
 use Rattle.tus_server.proofs.ServeLemmas.{reopening-by_cause, reopening-kept}
 use Rattle.tus_server.proofs.kept_serve.serve_journalled.Goals as goal
 
-pub reopen-requires-clause-seen : goal.reopen-requires-clause-seen
-reopen-requires-clause-seen g c =
+pub reopen-reopened-requires-clause-seen : goal.reopen-reopened-requires-clause-seen
+reopen-reopened-requires-clause-seen g c =
     (new_desks-last g.C.Charges.journal c.args.options.now.workers c.pop.new.self.items c.in-Some.desk (sym c.in-Some.ensures.items ∙ c.in_ok-store.ensures.desks)).0
 
-pub reopen-requires-clause-kept : goal.reopen-requires-clause-kept
-reopen-requires-clause-kept g c =
+pub reopen-reopened-requires-clause-kept : goal.reopen-reopened-requires-clause-kept
+reopen-reopened-requires-clause-kept g c =
     (new_desks-last g.C.Charges.journal c.args.options.now.workers c.pop.new.self.items c.in-Some.desk (sym c.in-Some.ensures.items ∙ c.in_ok-store.ensures.desks)).1
 
 pub returns-in_err-reopened-clause-fault : goal.returns-in_err-reopened-clause-fault
