@@ -3,6 +3,7 @@
 
 mod fields;
 mod framing;
+mod kept_writer;
 mod kinds;
 mod laws;
 mod piece_reader;
@@ -11,6 +12,7 @@ mod reader;
 mod writer;
 
 pub use framing::frame_of;
+pub use kept_writer::with_kept;
 pub use laws::{records_are_read_again, records_are_spelled_so};
 pub use piece_reader::Segments;
 pub use reader::{PARTS_MAX, PartIds, Record, read_record};

@@ -42,7 +42,7 @@ fn put_back(out: &mut Vec<u8>, upload: &RestoredUpload) -> Result<(), AllocError
     out.extend_from_slice(upload.concat)
 }
 
-fn put_end(out: &mut Vec<u8>, expires: Option<Moment>) -> Result<(), AllocError>
+pub(crate) fn put_end(out: &mut Vec<u8>, expires: Option<Moment>) -> Result<(), AllocError>
     ensures { OnOk result (out.new.items ≡ out.old.items ++ optional expires) }
 {
     match expires {
@@ -54,7 +54,7 @@ fn put_end(out: &mut Vec<u8>, expires: Option<Moment>) -> Result<(), AllocError>
     }
 }
 
-fn put_kind(out: &mut Vec<u8>, kind: Kind) -> Result<(), AllocError>
+pub(crate) fn put_kind(out: &mut Vec<u8>, kind: Kind) -> Result<(), AllocError>
     ensures { OnOk result (out.new.items ≡ out.old.items ++ kind_byte kind ∷ []) }
 {
     let byte = match kind {

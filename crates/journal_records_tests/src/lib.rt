@@ -7,4 +7,6 @@ mod faults;
 #[cfg(test)]
 mod framed;
 #[cfg(test)]
+mod kept;
+#[cfg(test)]
 mod records;
