@@ -24,7 +24,8 @@ enum Found {
     Concat(usize),
     Append(Name),
     Terminate(Name),
-    Sweep,
+    /// A change that no request asks for.
+    Other,
 }
 
 fn found_by(asked: &Asked) -> Found {
@@ -43,7 +44,7 @@ fn change_by(asked: &ChangeOf) -> Found {
         Change::Concat { new, .. } => Found::Concat(new.parts.len()),
         Change::Append { name, .. } => Found::Append(*name),
         Change::Terminate(name) => Found::Terminate(*name),
-        Change::Sweep => Found::Sweep,
+        Change::Sweep | Change::Restore(_) => Found::Other,
     }
 }
 
