@@ -19,5 +19,5 @@ pub use journalled::Journalled;
 pub use keeper::Keeper;
 pub use numbers::{KeeperNumbers, SyncCounts};
 pub use opening::{Reopened, open_journal, reopen};
-pub use progress::{Progress, Untold};
+pub use progress::Progress;
 pub use shared_keeper::SharedKeeper;

@@ -19,7 +19,7 @@ use crate::keeper::Keeper;
 use crate::progress::Progress;
 use book_replay::can_be_made;
 use journal_file::{Journal, JournalError, NotOpened, Opened};
-use journal_frames::Frames;
+use journal_frames::{Frames, HEADER_LEN};
 use journal_records::{PartIds, Record, Segments, read_record};
 use sqlite_disk::Disk;
 use std::alloc::Global;
@@ -172,7 +172,7 @@ fn make_all_again<C: Charges, R: Ledger, M: Ledger, B: Wait + Drop, P: Progress>
         match make_record_again(store, desk, bytes) {
             Ok(()) => {
                 number += 1;
-                progress.note(bytes.len());
+                progress.note(bytes.len().saturating_add(HEADER_LEN));
             }
             Err(NotMade::Refused) => return Err(ReopenFault::Record(number)),
             Err(NotMade::Memory) => return Err(ReopenFault::Memory),

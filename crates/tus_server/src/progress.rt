@@ -6,8 +6,7 @@ use crate::started::millis_since;
 use arrayvec::ArrayString;
 use itoa::Buffer;
 use journal_keeper::Progress;
-use std::fs::{File, Files};
-use std::io::{Eprint, IsTerminal};
+use std::io::Eprint;
 use std::time;
 use std::time::Instant;
 
@@ -37,13 +36,13 @@ pub struct ProgressLine<'a, H> {
     has_told: bool,
 }
 
-impl<'a, H: Eprint + time::Clock + Files<File = File>> ProgressLine<'a, H> {
+impl<'a, H: Eprint + time::Clock> ProgressLine<'a, H> {
     /// Tells of a start that began then, of a journal whose frames have so many bytes.
     pub fn new(rt: &'a H, start: &'a Option<Instant>, all: usize) -> ProgressLine<'a, H> {
-        let watched = is_watched(rt);
+        let is_watched = libc::isatty(libc::STDERR_FILENO) == 1;
         ProgressLine {
             rt,
-            start: if watched { start.as_ref() } else { None },
+            start: if is_watched { start.as_ref() } else { None },
             all,
             read: 0,
             records: 0,
@@ -76,7 +75,7 @@ impl<'a, H: Eprint + time::Clock + Files<File = File>> ProgressLine<'a, H> {
     }
 }
 
-impl<'a, H: Eprint + time::Clock + Files<File = File>> Progress for ProgressLine<'a, H> {
+impl<'a, H: Eprint + time::Clock> Progress for ProgressLine<'a, H> {
     fn note(&mut self, bytes: usize) {
         let Some(start) = self.start else {
             return;
@@ -90,14 +89,6 @@ impl<'a, H: Eprint + time::Clock + Files<File = File>> Progress for ProgressLine
         }
         self.ahead = STRETCH;
         self.tell(start);
-    }
-}
-
-/// Whether standard error is a terminal.
-fn is_watched<H: Files<File = File>>(rt: &H) -> bool {
-    match File::open(rt, "/proc/self/fd/2") {
-        Ok(errors) => errors.is_terminal(),
-        Err(_) => false,
     }
 }
 
