@@ -155,7 +155,7 @@ fn a_table_follows_its_notes(rt: HostRuntime) -> Result<(), Fail> {
     for step in &FOLLOWED {
         take(&rt, &mut table, step);
     }
-    assert_shows(&rt, &table, name(0, 3), 1000, Err(Refusal::Unknown));
+    assert_shows(&rt, &table, name(0, 10), 1000, Err(Refusal::Unknown));
     assert_shows(&rt, &table, name(2, 1), 1000, Err(Refusal::Unknown));
     Ok(())
 }
