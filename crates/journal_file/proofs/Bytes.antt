@@ -64,6 +64,25 @@ overwritten front middle bytes others seen same_len torn holds = ext_get_or 0 se
           rw is (kept ∙ old ∙ sym (at-third front bytes others j))
     ]
 
+-- what was written at the end of a file stands behind what it had, and nothing behind that
+pub put_behind : (front bytes seen : List ℕ) → Torn (length front) (length bytes) front seen → (0 < length bytes → Holds seen (length front) bytes) → seen ≡ front ++ bytes
+put_behind front bytes seen torn holds = ext_get_or 0 seen (front ++ bytes) len each
+  where
+    long : length front + length bytes ≤ length seen
+    long = elim (cases_lt 0 (length bytes)) [ inl some ↦ (holds some).within | inr none ↦ omega (arith, torn.no_shorter) ]
+
+    len : length seen ≡ length (front ++ bytes)
+    len = omega (arith, torn.no_longer, long, length-append front bytes)
+
+    each : (i : ℕ) → i < length seen → get_or seen i 0 ≡ get_or (front ++ bytes) i 0
+    each i within = elim (place (length front) (length bytes) i) [
+      | in_front lt ↦ torn.below i lt lt ∙ sym (at-front front bytes i lt)
+      | at_place j lt is ↦
+          let here : get_or seen (length front + j) 0 ≡ get_or bytes j 0 = (holds (omega arith)).each j lt in
+          rw is (here ∙ sym (get_or-append-add front bytes j 0))
+      | behind j is ↦ absurd (omega (arith, len, length-append front bytes))
+    ]
+
 -- so many zeros, where others stand
 pub zeros-split : (n k : ℕ) → k ≤ n → zeros n ≡ zeros k ++ zeros (n - k)
 zeros-split n k le = ap zeros (omega arith) ∙ sym (replicate-append-replicate k (n - k) 0)

@@ -1,4 +1,5 @@
 pub mod Bytes
+pub mod DraftLemmas
 pub mod JournalLemmas
 pub mod Losses
 pub mod RecoverLemmas

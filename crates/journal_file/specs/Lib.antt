@@ -1,3 +1,4 @@
+pub mod Draft
 pub mod Journal
 pub mod JournalError
 pub mod Recovered

@@ -13,20 +13,20 @@ use sqlite_disk::Disk;
 use std::alloc::Global;
 
 // How many zeros stay behind the last frame.
-const MARGIN: usize = 16;
+pub(crate) const MARGIN: usize = 16;
 
 // How long a file may be.
-const LEN_MAX: usize = 1 << 62;
+pub(crate) const LEN_MAX: usize = 1 << 62;
 
 /// A journal over a disk. Its payloads are those that were synced, and behind them those that were not.
 #[derive(Drop)]
 pub struct Journal<D: Disk> {
-    disk: D,
-    key: u64,
+    pub(crate) disk: D,
+    pub(crate) key: u64,
     // where the next frame goes
-    end: usize,
+    pub(crate) end: usize,
     // how many zeros stand from there on, to the end of the file
-    blank: usize,
+    pub(crate) blank: usize,
     ghost in_range: { end + blank ≤ 2 ^ 62 },
     ghost margin: { 16 ≤ blank },
 }
@@ -157,6 +157,13 @@ impl<D: Disk> Journal<D> {
     {
         let Journal { disk, .. } = self;
         disk
+    }
+
+    /// The key of its frames.
+    pub fn key(&self) -> u64
+        ensures { result ≡ key_of self.now }
+    {
+        self.key
     }
 
     /// How many bytes may be appended before there has to be more room.

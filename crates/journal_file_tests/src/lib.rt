@@ -5,6 +5,8 @@
 #[cfg(test)]
 mod crashes;
 #[cfg(test)]
+mod drafts;
+#[cfg(test)]
 mod payloads;
 #[cfg(test)]
 mod refusals;

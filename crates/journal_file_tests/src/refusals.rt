@@ -1,7 +1,9 @@
 //! Why calls of a journal fail, each reason once.
 use crate::payloads::{KEY, frames_of};
 use crate::torn_disk::TornDisk;
-use journal_file::{Damage, Journal, JournalError, Recovered, WholeFrames, recover, whole_frames};
+use journal_file::{
+    Damage, Draft, Journal, JournalError, Recovered, WholeFrames, recover, whole_frames,
+};
 use sqlite_disk::{Disk, Fuse, Memory};
 use std::test::Fail;
 
@@ -45,6 +47,26 @@ fn unusable(rt: HostRuntime) -> Result<(), Fail> {
     assert!(rt; matches!(journal.extend(alloc, 1), Err(JournalError::Unusable)));
     let mut disk = journal.into_disk();
     assert!(rt; matches!(recover(alloc, &mut disk, KEY), Err(JournalError::Unusable)));
+    Ok(())
+}
+
+// A draft fails for the same reasons, where they apply.
+#[test]
+fn draft_refused(rt: HostRuntime) -> Result<(), Fail> {
+    let alloc = rt.alloc();
+    let draft = Draft::new(TornDisk::new(alloc), KEY)?;
+    assert!(rt; matches!(draft.finish(alloc, usize::MAX), Err(JournalError::NoRoom)));
+    assert!(rt;
+        matches!(
+            Draft::new(Memory::new(alloc), KEY),
+            Err(JournalError::NotMixing)
+        )
+    );
+    let mut draft = Draft::new(Fuse::new(TornDisk::new(alloc), 1), KEY)?;
+    assert!(rt; matches!(draft.sync(), Err(JournalError::Disk(_))));
+    assert!(rt; matches!(draft.sync(), Err(JournalError::Unusable)));
+    assert!(rt; matches!(draft.append(b""), Err(JournalError::Unusable)));
+    assert!(rt; matches!(draft.finish(alloc, 1), Err(JournalError::Unusable)));
     Ok(())
 }
 

@@ -1,0 +1,79 @@
+//! Journals that are written beside another one, and finished.
+use crate::payloads::{KEY, assert_opens, frames_of};
+use crate::torn_disk::TornDisk;
+use journal_file::{Draft, Journal, JournalError};
+use sqlite_disk::{Disk, Fuse};
+use std::alloc::Global;
+use std::test::Fail;
+
+const X: &[u8] = b"x";
+
+const A: &[u8] = b"a";
+
+const BC: &[u8] = b"bc";
+
+// What the file held is gone, and the journal has what was appended, also when it goes on.
+#[test]
+fn finished(rt: HostRuntime) -> Result<(), Fail> {
+    let alloc = rt.alloc();
+    let mut disk = TornDisk::new(alloc);
+    assert!(rt; disk.may_be_used());
+    disk.write_at(0, &[1; 200])?;
+    let mut draft = Draft::new(disk, KEY)?;
+    assert!(rt; draft.frames_len() == 0);
+    draft.append(&frames_of(alloc, &[X])?)?;
+    draft.append(b"")?;
+    draft.append(&frames_of(alloc, &[A, BC])?)?;
+    assert!(rt; draft.frames_len() == 76);
+    let mut journal = draft.finish(alloc, 25)?;
+    assert!(rt; journal.disk().bytes().len() == 117);
+    journal.append(&frames_of(alloc, &[A])?)?;
+    assert!(rt; journal.room() == 0);
+    assert_opens(&rt, alloc, journal.into_disk(), &[X, A, BC, A]);
+    Ok(())
+}
+
+// Writes a draft in two appends with a sync between them, and finishes it.
+fn write(
+    alloc: Global,
+    disk: Fuse<TornDisk>,
+    first: &[u8],
+    others: &[u8],
+) -> Result<Journal<Fuse<TornDisk>>, JournalError> {
+    let mut draft = Draft::new(disk, KEY)?;
+    draft.append(first)?;
+    draft.sync()?;
+    draft.append(others)?;
+    draft.finish(alloc, 30)
+}
+
+// The disk fails at a call, and at each one after: there is no journal, or one that a crash leaves with all that was
+// appended.
+#[test]
+fn each_call_fails_in_turn(rt: HostRuntime) -> Result<(), Fail> {
+    let alloc = rt.alloc();
+    let first = frames_of(alloc, &[X])?;
+    let others = frames_of(alloc, &[A, BC])?;
+    // a length, a write, a sync, a write; then zeros and a sync
+    for calls in 0..8 {
+        match write(
+            alloc,
+            Fuse::new(TornDisk::new(alloc), calls),
+            &first,
+            &others,
+        ) {
+            Ok(journal) => {
+                assert!(rt; calls >= 6, "finished in {calls} calls");
+                let left = journal.disk().inner().after_crash(0, usize::MAX)?;
+                assert_opens(&rt, alloc, left, &[X, A, BC]);
+            }
+            Err(why) => {
+                assert!(rt;
+                    calls < 6 && matches!(why, JournalError::Disk(_)),
+                    "{calls} calls"
+                );
+            }
+        }
+    }
+    Ok(())
+}
