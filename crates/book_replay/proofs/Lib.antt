@@ -1,2 +1,3 @@
 pub mod MadeLemmas
 pub mod ReplayLemmas
+pub mod SnapshotLemmas

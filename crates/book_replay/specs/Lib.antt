@@ -2,3 +2,4 @@ pub mod Fault
 pub mod Laws
 pub mod Made
 pub mod Replay
+pub mod Snapshot

@@ -7,7 +7,8 @@ ghost use Rattle.upload_book.specs.snapshot.Restore.{CanBePutBack, IsRestorable}
 
 use tus_text::{Checksum, DIGEST_LEN};
 use upload_book::{
-    Change, Chunk, Moment, NewFinal, NewUpload, Restored, RestoredSegment, RestoredUpload,
+    Change, Chunk, KeptSegment, KeptUpload, Moment, NewFinal, NewUpload, Restored, RestoredSegment,
+    RestoredUpload,
 };
 
 /// Says of a change which a book may be asked for that a record holds its numbers, and does nothing.
@@ -29,6 +30,34 @@ pub fn tell_fits(tenants: usize, change: &Change)
         Change::Sweep => {}
         Change::Restore(restored) => tell_piece(tenants, restored),
     }
+}
+
+/// Says the same of an upload that a book lends, where it has the segments of its kind, and does nothing.
+pub(crate) fn tell_kept(upload: &KeptUpload)
+    ensures { IsRestorable upload.now → FitsBack upload.now }
+{
+    let row = upload.row();
+    let growth = row.growth();
+    tell_id(upload.id());
+    tell_number(growth.declared);
+    tell_end(growth.expires);
+    tell_kept_segments(upload);
+    let _metadata = row.metadata().len();
+}
+
+fn tell_kept_segments(upload: &KeptUpload)
+    ensures { AllByRecursion FitsSegment upload.now.segments }
+{
+    for place in 0..upload.segment_count() {
+        tell_kept_segment(&upload.segment(place));
+    }
+}
+
+fn tell_kept_segment(segment: &KeptSegment)
+    ensures { FitsSegment segment.now }
+{
+    tell_id(segment.origin());
+    tell_number(segment.len());
 }
 
 fn tell_piece(tenants: usize, restored: &Restored)

@@ -10,3 +10,5 @@ mod made;
 mod refused;
 #[cfg(test)]
 mod replays;
+#[cfg(test)]
+mod snapshots;
