@@ -10,8 +10,8 @@ use crate::writer::{put_number, put_optional, put_text};
 use std::alloc::AllocError;
 use upload_book::{KeptSegment, KeptUpload, Moment};
 
-/// The bytes with the record behind them by which an upload of the tenant at this place is put back at this moment. Its bytes
-/// are copied from where the book has them. `Err` where memory is lacking; then all are let go.
+/// These bytes, and behind them the record that puts an upload back, of the tenant at this place and at this moment. The bytes
+/// of the upload are copied from where the book has them. `Err` where memory is lacking; then all are let go.
 pub fn with_kept(
     mut out: Vec<u8>,
     now: Moment,

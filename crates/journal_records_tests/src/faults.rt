@@ -91,7 +91,7 @@ fn parts(rt: HostRuntime) -> Result<(), Fail> {
 }
 
 // An upload of the first tenant that is put back with so many segments, each of the origin 0 and without bytes, and with
-// these fields behind its id. No text of its own stands behind them but `Upload-Metadata`, which is empty.
+// these fields behind its id. Of its texts only `Upload-Metadata` stands behind them, which is empty.
 fn is_back(alloc: Global, segments: u8, fields: &[u8]) -> Result<bool, Fail> {
     let mut bytes = Vec::from_slice(alloc, &[0; 8])?;
     bytes.extend_from_slice(&[5, 0, 0, 0, 0, 0, 0, 0, 0, segments])?;

@@ -105,7 +105,7 @@ abbrev pub gone_removed : Name → Result Removed Refusal → Option HeadChange
 gone_removed name (Ok removed) = Some (Gone name)
 gone_removed name (Err refusal) = None
 
--- so is an upload that is put back with these segments, where it has them
+-- an upload that is put back with these segments gets its row, where it has them
 abbrev pub put_back : ℕ → RestoredUpload → Option (List (ℕ × List ℕ)) → Option HeadChange
 put_back tenant r sent =
     option_map (λ (sent : List (ℕ × List ℕ)). Put (record { tenant = tenant; id = r.id }) (head_row_of (upload_back r sent))) sent

@@ -1,4 +1,5 @@
--- A final upload is the concatenation that it was created from, for as long as it stands (tus 1.0.0, Concatenation).
+-- A final upload is the concatenation that it was created from, or what was put back, for as long as it stands (tus 1.0.0,
+-- Concatenation).
 use Rattle.std.specs.Prelude.{◌≡◌, ◌≢◌, ◌⊎◌, List, ◌∷◌, ◌++◌, All, None}
 use Rattle.upload_book.specs.declared.change.Change.TheVariants.{Restore, Terminate}
 use Rattle.upload_book.specs.declared.head_row.Kind.TheVariants.{Final}

@@ -8,7 +8,7 @@ use crate::restored::Restored;
 use crate::sweep::Swept;
 use crate::terminate::Removed;
 
-/// A change of the book: one of its calls that change it, with what that is given but the moment.
+/// A change of the book, with all that it is given but the moment: what one of its calls does, or a piece that is put back.
 #[derive(Drop)]
 pub enum Change<'a> {
     /// A creation with the first bytes, which may be none, for the tenant at this place in the settings.
@@ -32,14 +32,18 @@ pub enum Change<'a> {
     /// The end of all uploads that have expired.
     Sweep,
     /// A piece of a book is put back. No request of a client asks for it: the pieces of a snapshot, one after another, put
-    /// a book back that has nothing yet.
+    /// a book back that has nothing yet. The moment makes no difference.
+    ///
+    /// It wants a tenant of the settings. An upload has to have the segments of its kind, one of its own that brings bytes, or 1
+    /// to 32 of earlier parts, and texts of their forms.
     ///
     /// An upload gets the tenant's next id, which has to be its own. Its bytes are copied once, and its tenant pays the
     /// blocks that they take. A segment of a final upload brings its bytes, or it holds the blocks of a segment of its
     /// origin that stands, once more: of those no byte is copied, no block is taken, and nothing is paid. An upload is
     /// refused by the first of these that applies: Field, where it has not the tenant's next id; Part, where a segment of
     /// a final one brings no bytes and none of its origin stands, or brings them again; Field, where it does not end as
-    /// its kind asks; TooLong, where its length is above the greatest size, or its bytes go past its length; PartOpen,
+    /// its kind asks, or a final one lacks bytes; TooLong, where its length is above the greatest size, or its bytes go past
+    /// its length, or past the greatest size where it has none yet; PartOpen,
     /// where what stands under the id of a part is no partial upload that has all of its bytes; Uploads, where the tenant
     /// has its greatest number of uploads; Spent, where the tenant has not so many ids, or the blocks that all tenants may
     /// be charged are used up; Quota. Where none of them does, it may be refused as Memory: there was none for the lists
@@ -66,7 +70,7 @@ impl<'a> Change<'a> {
     }
 }
 
-/// What a change that was done gives: what the call gives that makes it.
+/// What a change that was done gives: what its call gives, or that a piece was put back.
 #[derive(Clone, Copy, Debug, PartialEq, Eq)]
 pub enum Outcome {
     /// An upload was created, or joined of others.

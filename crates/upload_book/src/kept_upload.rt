@@ -11,8 +11,7 @@ use block_bodies::Body;
 use block_pool::Pool;
 use std::marker::Model;
 
-/// An upload of a book as it is put back behind those of its tenant that are before it, lent from the book. A contract sees it as that
-/// piece.
+/// An upload of a book, lent, as it is put back behind its tenant's uploads before it. A contract sees it as that piece.
 #[derive(Drop)]
 pub struct KeptUpload<'a> {
     pool: &'a Pool,
@@ -62,7 +61,7 @@ impl<'a> KeptUpload<'a> {
         self.stored_tenant.uploads[self.place].id()
     }
 
-    /// All of it but its id and its segments; its texts are lent.
+    /// All of it but its id and its segments; its texts are lent. How many bytes it has no clause tells: the segments have them.
     pub fn row(&self) -> LentRow<'a>
         ensures kind { result.kind ≡ self.now.kind }
         ensures declared { result.declared ≡ self.now.declared }
@@ -121,7 +120,7 @@ impl<'a> Model for KeptSegment<'a> {
 }
 
 impl<'a> KeptSegment<'a> {
-    ghost use Rattle.std.specs.Prelude.{◌≡◌, ◌<◌, ℕ, List, Some, drop, length, option_map, take};
+    ghost use Rattle.std.specs.Prelude.{◌≡◌, ◌<◌, ℕ, List, [], None, Some, drop, length, option_map, take};
 
     /// The upload to which its bytes were sent.
     pub fn origin(&self) -> u64
@@ -140,9 +139,10 @@ impl<'a> KeptSegment<'a> {
         }
     }
 
-    /// The bytes that it brings from an offset on, as many as lie together in one block; none from their end on. No byte is
-    /// copied.
+    /// The bytes that it brings from an offset on, as many as lie together in one block; none from their end on, or where it
+    /// brings none. No byte is copied.
     pub fn bytes_from(&self, offset: u64) -> &'a [u8]
+        ensures none { self.now.bytes ≡ None → result.now ≡ [] }
         ensures bytes { (bytes : List ℕ) → self.now.bytes ≡ Some bytes → result.now ≡ take (length result.now) (drop offset bytes) }
         ensures some { (bytes : List ℕ) → self.now.bytes ≡ Some bytes → offset < length bytes → 0 < length result.now }
     {
@@ -154,9 +154,9 @@ impl<'a> KeptSegment<'a> {
 }
 
 impl Book {
-    /// The upload at a place of the uploads of a tenant, both from 0, as a piece of a snapshot of the book; `None` past the last
-    /// one. With the id before each, the tenant's next id after the last, and the totals after all tenants, these are the
-    /// pieces of the snapshot in their order. It takes no memory.
+    /// A tenant's upload, at a place of its uploads, as a piece of a snapshot of the book; `None` past the last one. Both places
+    /// count from 0. The snapshot has each upload behind a piece with its id; behind a tenant's uploads its next id; and behind
+    /// all tenants the totals. It takes no memory.
     pub fn kept_upload(&self, tenant: u8, place: usize) -> Option<KeptUpload<'_>>
         requires { tenant < length (plain_of self.now).settings.tenants }
         ensures { result ≡ option_map

@@ -16,8 +16,7 @@ impl Book {
     /// it. The book stays as it is but for room in lists: it stands for the same plain book, no block changes, and a
     /// change that is let go costs nothing.
     ///
-    /// It is refused as the call that makes the change: by the first refusal that applies, and as Memory where there
-    /// was none. A refusal leaves the book as it was; that of a PATCH tells when its upload expires.
+    /// It is refused as the change is ([`Change`]): by the first refusal that applies, and as Memory where there was none. A refusal leaves the book as it was; that of a PATCH tells when its upload expires.
     pub fn prepare<'a>(&mut self, change: Change<'a>, now: Moment) -> Result<Ready<'a>, Refused>
         requires { CanBeMade (length (plain_of self.old).settings.tenants) change }
         ensures change { IfOk result (λ ready. change_in ready ≡ change.entry) }

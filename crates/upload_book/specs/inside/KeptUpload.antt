@@ -26,6 +26,6 @@ pub record IsKeptAt (p : Blocks) (t : KeptTenant) (place : ℕ) : Type 0 where
 abbrev pub segment_at : Blocks → ℕ → Option (Bor Chain) → RestoredSegment
 segment_at p origin chain = record { origin = origin; bytes = option_map (λ (c : Bor Chain). content_of p c.now) chain }
 
--- which is one of the pool, and reads as as many bytes as it has
+-- the body is one of the pool, and as many bytes are read of it as it has
 abbrev pub IsSegmentAt : Blocks → Option (Bor Chain) → Type 0
 IsSegmentAt p chain = IfSome chain (λ (c : Bor Chain). IsBodyOf p c.now × (length (content_of p c.now) ≡ c.now.len))
