@@ -1,12 +1,14 @@
 -- The journal of a store: the frames of the records of what happened, one for each event, which wait to be written.
-use Rattle.std.specs.Prelude.{◌≡◌, ℕ, List, [], ◌∷◌, ◌++◌, length, map, Option, Some, None}
+use Rattle.std.specs.Prelude.{◌≡◌, ℕ, ◌-◌, ◌*◌, ◌^◌, min, List, [], ◌∷◌, ◌++◌, length, map, Option, Some, None}
 use Rattle.std.specs.List.{sum_by}
 use Rattle.book_replay.specs.Replay.{AllHappen}
 use Rattle.journal_frames.specs.Frames.{frames}
 use Rattle.journal_records.specs.Records.{record_bytes}
+use Rattle.upload_book.specs.Charge.{charge_in}
 use Rattle.upload_book.specs.declared.change.Change.{Change}
 use Rattle.upload_book.specs.declared.change.Change.TheVariants as change
 use Rattle.upload_book.specs.Events.{ChangeEvent}
+use Rattle.upload_book.specs.PlainBook.{PlainBook}
 use Rattle.upload_book.specs.Settings.{Settings}
 use Rattle.head_board.specs.Event.{Event}
 use Rattle.head_board.specs.Events.{HaveHappened, book_at, change_event}
@@ -51,3 +53,7 @@ pub record AreTaken (s : Settings) (journal : Option ℕ) (from reached : List E
   pub reaches : reached ≡ from ++ more
   pub are : waiting ≡ event_frames journal more
   pub again : CanBeReplayed s from more
+
+-- how many bytes the blocks have that a book's tenants pay, as far as a word tells
+abbrev pub held_bytes : PlainBook → ℕ
+held_bytes b = min (sum_by (charge_in b.settings.numbers) b.tenants * b.settings.numbers.block_size) (2 ^ 64 - 1)

@@ -107,7 +107,7 @@ fn len_of_whole(row: &HeadRow) -> u64 {
     }
 }
 
-// About how many bytes the frame of the record of a change has, at least in most cases: so its memory is asked for once.
+// About how many bytes the frame of the record of a change has that a request asks for: so its memory is asked for once.
 fn frame_len(change: &Change) -> usize {
     let long = match change {
         Change::Create { new, first, .. } => first

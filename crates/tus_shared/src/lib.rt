@@ -30,7 +30,7 @@ pub use gate::{Gate, NoGate, Stop};
 pub use head_board::{Opened, SeenEvents};
 pub use open_fault::OpenFault;
 pub use opening::DESKS_MAX;
-pub use queue::Records;
+pub use queue::{Records, RecordsAndSnapshot};
 pub use shared::Shared;
 pub use store::Store;
 pub use turn::Turn;

@@ -2,6 +2,7 @@
 ghost use Rattle.std.specs.Prelude.{◌≡◌, ◌++◌, ◌∷◌, ◌-◌, ◌+◌, [], Some, None, IfNone, IfSome, IsTrue, ◌↔◌, MatchBool, map, nat_le, option_map, true, if◌then◌else◌};
 ghost use Rattle.tus_shared.specs.inside.QueueRule.{IsFramed, Queues, Takes, new_queue, passed};
 
+use book_replay::SnapshotFault;
 use core::mem;
 use head_board::SeenEvents;
 use std::alloc::Global;
@@ -14,6 +15,16 @@ pub struct Records {
     pub frames: Vec<Vec<u8>>,
     /// How far the events reach whose records these are. Here the queue begins again.
     pub reached: SeenEvents,
+}
+
+/// Records that were taken out of the queue of a store, and a snapshot of its book behind them.
+#[derive(Drop)]
+pub struct RecordsAndSnapshot {
+    /// The records.
+    pub records: Records,
+    /// The records of the pieces of the book's snapshot, after the last of the events whose records were taken, each behind
+    /// room for the header of its frame; or why there are none.
+    pub snapshot: Result<Vec<Vec<u8>>, SnapshotFault>,
 }
 
 // The frames of the records of the last events, which wait to be written, and the events before these.

@@ -1,10 +1,12 @@
 ghost use Rattle.std.specs.Prelude.{◌≡◌, ◌↔◌, List, Err, IfOk, IfSome, IsTrue, map};
 ghost use Rattle.std.specs.Fn.{FnOnceReturnsAt};
+ghost use Rattle.book_replay.specs.Snapshot.{IsSnapshot};
 ghost use Rattle.head_board.specs.Event.{Event};
+ghost use Rattle.head_board.specs.Events.{HaveHappened, book_at};
 ghost use Rattle.tus_shared.specs.Answers.{MakesAgain};
 ghost use Rattle.tus_shared.specs.Desk.{new_desks, next_count};
 ghost use Rattle.tus_shared.specs.Headline.{Headline};
-ghost use Rattle.tus_shared.specs.Journal.{AreTaken};
+ghost use Rattle.tus_shared.specs.Journal.{AreTaken, held_bytes};
 ghost use Rattle.upload_book.specs.Book.{StoredBook};
 ghost use Rattle.upload_book.specs.Settings.{is_outside};
 
@@ -12,7 +14,7 @@ use crate::again_fault::AgainFault;
 use crate::charges::Charges;
 use crate::desk::Desk;
 use crate::open_fault::OpenFault;
-use crate::queue::Records;
+use crate::queue::{Records, RecordsAndSnapshot};
 use crate::store::Store;
 use head_board::{Opened, SeenEvents};
 use std::alloc::Global;
@@ -92,6 +94,32 @@ impl<C: Charges, R: Ledger, M: Ledger, B: Wait + Drop> Shared<C, R, M, B> {
             AreTaken C.settings C.journal from.now.events taken.reached.events (map (λ frame. frame.items) taken.frames.items)) }
     {
         self.store.lock(rt).take_records(from)
+    }
+
+    /// Takes the lock, and takes the records that wait, as [`Shared::take_records`] does, with a snapshot of the book after
+    /// them ([`Store::take_with_snapshot`]). Meanwhile no desk can take the lock: all bytes of all uploads are copied. `None` as
+    /// there. It may wait for the desks.
+    pub fn take_with_snapshot<W: Wait>(
+        &self,
+        rt: &W,
+        alloc: Global,
+        from: &SeenEvents,
+    ) -> Option<RecordsAndSnapshot>
+        requires log { from.now.book ≡ C.log }
+        ensures log { IfSome result (λ taken. taken.records.reached.book ≡ C.log) }
+        ensures taken { IfSome result (λ taken. AreTaken C.settings C.journal from.now.events taken.records.reached.events
+            (map (λ frame. frame.items) taken.records.frames.items)) }
+        ensures snapshot { IfSome result (λ taken. IfOk taken.snapshot (λ rooms.
+            IsSnapshot 0 (book_at C.settings taken.records.reached.events) (map (λ room. room.items) rooms.items))) }
+    {
+        self.store.lock(rt).take_with_snapshot(alloc, from)
+    }
+
+    /// Takes the lock, and tells how many bytes the blocks have that are held ([`Store::held_bytes`]). It may wait for the desks.
+    pub fn held_bytes<W: Wait>(&self, rt: &W) -> u64
+        ensures { (events : List Event) × HaveHappened C.settings events × (result ≡ held_bytes (book_at C.settings events)) }
+    {
+        self.store.lock(rt).held_bytes()
     }
 
     /// Takes the lock, and makes a change at a desk again whose record stands in the journal already

@@ -1,5 +1,6 @@
-ghost use Rattle.std.specs.Prelude.{◌≡◌, ◌≤◌, IfSome, IsSome, OnOk, length, map, vec_capacity};
+ghost use Rattle.std.specs.Prelude.{◌≡◌, ◌≤◌, IfOk, IfSome, IsSome, OnOk, length, map, vec_capacity};
 ghost use mathlib.Core.List.{IsPrefix};
+ghost use Rattle.book_replay.specs.Snapshot.{IsSnapshot};
 ghost use Rattle.head_board.specs.Events.{HaveHappened, book_at};
 ghost use Rattle.tus_steps.specs.Asked.{change_in as change_asked};
 ghost use Rattle.tus_steps.specs.Changing.{IsFound};
@@ -8,7 +9,7 @@ ghost use Rattle.tus_steps.specs.PlacedReply.{reply_in};
 ghost use Rattle.tus_steps.specs.Step.{IsContentReply};
 ghost use Rattle.tus_shared.specs.Desk.{Moves, Spends, next_count};
 ghost use Rattle.tus_shared.specs.Headline.{Headline};
-ghost use Rattle.tus_shared.specs.Journal.{AreTaken, change_frame, spare_of};
+ghost use Rattle.tus_shared.specs.Journal.{AreTaken, change_frame, held_bytes, spare_of};
 ghost use Rattle.tus_shared.specs.Steps.{AddsChange, IsDone, IsDoneAgain, IsStepAt, IsSweepAt};
 ghost use Rattle.upload_book.specs.Change.{CanBeMade};
 ghost use Rattle.upload_book.specs.declared.change.Change.TheVariants as changes;
@@ -19,10 +20,13 @@ use crate::again_fault::AgainFault;
 use crate::charges::Charges;
 use crate::desk::Desk;
 use crate::making::make_ready;
-use crate::queue::{RecordQueue, Records, is_idle, pass_queue, queue_frame, take_queue};
+use crate::queue::{
+    RecordQueue, Records, RecordsAndSnapshot, is_idle, pass_queue, queue_frame, take_queue,
+};
 use crate::store_ledger::StoreLedger;
-use book_replay::{can_be_made, tell_fits};
+use book_replay::{SnapshotFault, can_be_made, snapshot_records, tell_fits};
 use head_board::{Board, SeenEvents};
+use std::alloc::Global;
 use std::marker::Model;
 use std::sync::Wait;
 use std::sync::ledger::Ledger;
@@ -194,6 +198,47 @@ impl<C: Charges, R: Ledger, M: Ledger, B: Wait + Drop> Store<C, R, M, B> {
     {
         let reached = self.board.seen().again();
         take_queue(&mut self.queue, from, reached)
+    }
+
+    /// Takes the records that wait, as [`Store::take_records`] does, and with them a snapshot of the book: the records by which
+    /// it is put back, whose bytes are copied ([`book_replay::snapshot_records`]). `None` as there.
+    pub fn take_with_snapshot(
+        &mut self,
+        alloc: Global,
+        from: &SeenEvents,
+    ) -> Option<RecordsAndSnapshot>
+        requires log { from.now.book ≡ C.log }
+        ensures same { self.new ≡ self.old }
+        ensures reached { IfSome result (λ taken. taken.records.reached ≡ record { book = C.log; events = self.old }) }
+        ensures taken { IfSome result (λ taken.
+            AreTaken C.settings C.journal from.now.events self.old (map (λ frame. frame.items) taken.records.frames.items)) }
+        ensures snapshot { IfSome result (λ taken.
+            IfOk taken.snapshot (λ rooms. IsSnapshot 0 (book_at C.settings self.old) (map (λ room. room.items) rooms.items))) }
+    {
+        let records = self.take_records(from)?;
+        let snapshot = self.snapshot(alloc);
+        Some(RecordsAndSnapshot { records, snapshot })
+    }
+
+    /// How many bytes the blocks have that are held, as far as a word tells.
+    pub fn held_bytes(&self) -> u64
+        ensures value { result ≡ held_bytes (book_at C.settings self.now) }
+        ensures happened { HaveHappened C.settings self.now }
+    {
+        let numbers = self.book.settings().numbers();
+        let held = numbers.blocks - self.book.free_blocks();
+        held.saturating_mul(numbers.block_size)
+    }
+
+    // The records of the pieces of the book's snapshot, each behind room for the header of its frame. A piece has no moment of
+    // its own, so each has the first that there is.
+    fn snapshot(&self, alloc: Global) -> Result<Vec<Vec<u8>>, SnapshotFault>
+        ensures { IfOk result (λ rooms. IsSnapshot 0 (book_at C.settings self.now) (map (λ room. room.items) rooms.items)) }
+    {
+        let Some(first) = Moment::new(0) else {
+            unreachable!("there is a first moment")
+        };
+        snapshot_records(alloc, &self.book, first)
     }
 
     // Begins a step of a desk, which is counted there: the desk has seen all events then.
