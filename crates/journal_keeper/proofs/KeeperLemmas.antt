@@ -1,6 +1,6 @@
 -- What is kept as events are, and what a crash leaves of it.
 use Rattle.logbook.specs.Pages.{Book}
-use Rattle.std.proofs.Common.{◌≡◌, ℕ, ◌+◌, ◌-◌, ◌≤◌, Bool, false, List, [], ◌∷◌, ◌++◌, length, map, take, drop, Option, Some, None, Result, Ok, Err, OnOk, refl, sym, ap, subst, ◌∙◌, append_assoc, arith}
+use Rattle.std.proofs.Common.{◌≡◌, ℕ, ◌+◌, ◌-◌, ◌≤◌, Bool, true, false, List, [], ◌∷◌, ◌++◌, length, map, take, drop, Option, Some, None, IfSome, Result, Ok, Err, OnOk, refl, sym, ap, subst, ◌∙◌, append_assoc, arith}
 use Rattle.std.proofs.lemmas.List.{append-nil, length-append, length-map, map-append, take-append-drop, take-map}
 use mathlib.Core.List.{IsPrefix}
 use Rattle.sqlite_disk.specs.declared.Disk.{Ghosts}
@@ -19,7 +19,7 @@ use Rattle.tus_shared.specs.Journal.{CanBeReplayed, event_frame, event_frames}
 use Rattle.tus_shared.proofs.EventLemmas.{happened-first}
 use Rattle.tus_shared.proofs.LogLaws.{prefix-on}
 use Rattle.tus_shared.proofs.QueueLemmas.{after-more}
-use Rattle.journal_keeper.specs.Keeper.{event_records, AreReplayed, IsKeeper, IsLeft}
+use Rattle.journal_keeper.specs.Keeper.{event_records, IsKeeper, IsLeft, KeepsBook, MakeBook}
 use Rattle.journal_keeper.specs.Waiting.{frames_each}
 
 -- ---- records of events
@@ -87,30 +87,28 @@ replayed-more number b next (bytes ∷ first) more is =
 made-same : (x y : PlainBook) → x ≡ y → (let left : Result PlainBook ℕ = Ok x in let right : Result PlainBook ℕ = Ok y in left ≡ right)
 made-same x y is = cc
 
--- so of the records of more events the book after these is made
-pub replayed-after : (s : Settings) (kept more : List Event) → AreReplayed s kept → CanBeReplayed s kept more → AreReplayed s (kept ++ more)
-replayed-after s kept more again others =
-    ap (replayed 1 (opening_book s)) (records-append kept more)
-    ∙ replayed-more 1 (opening_book s) (book_at s kept) (event_records kept) (event_records more) again
-    ∙ all-replayed (1 + length (event_records kept)) (book_at s kept) (map {A = Event} {B = ChangeEvent} change_event more) others
+-- so the book after more events is made of their records behind those of which the book before them is
+pub make-more : (s : Settings) (kept more : List Event) (records : List (List ℕ)) → MakeBook s kept records → CanBeReplayed s kept more → MakeBook s (kept ++ more) (records ++ event_records more)
+make-more s kept more records make others =
+    replayed-more 1 (opening_book s) (book_at s kept) records (event_records more) make
+    ∙ all-replayed (1 + length records) (book_at s kept) (map {A = Event} {B = ChangeEvent} change_event more) others
     ∙ made-same _ _ (sym (after-more (opening_book s) kept more))
 
 -- ---- a crash
 
 -- that leaves all that was synced, and the first so many of the records of events that come next
-pub left-more : (key : ℕ) (s : Settings) (kept more : List Event) (c : List ℕ) → HaveHappened s (kept ++ more) → AreReplayed s kept → CanBeReplayed s kept more → Leaves key (event_records kept) (event_records more) c → IsLeft key s kept c
-left-more key s kept more c happened again others left =
+pub left-more : (key : ℕ) (s : Settings) (kept more : List Event) (records : List (List ℕ)) (c : List ℕ) → HaveHappened s (kept ++ more) → MakeBook s kept records → CanBeReplayed s kept more → Leaves key records (event_records more) c → IsLeft key s kept c
+left-more key s kept more records c happened make others left =
     let n = left.kept in
     let front = replay-front s kept (take n more) (drop n more) (subst (CanBeReplayed s kept) (sym (take-append-drop n more)) others) in
-    let are = left.payloads ∙ ap (λ (rs : List (List ℕ)). event_records kept ++ rs) (records-take n more) ∙ sym (records-append kept (take n more)) in
+    let are = left.payloads ∙ ap (λ (rs : List (List ℕ)). records ++ rs) (records-take n more) in
     let all : (kept ++ take n more) ++ drop n more ≡ kept ++ more = append_assoc kept (take n more) (drop n more) ∙ ap (λ (events : List Event). kept ++ events) (take-append-drop n more) in
     record {
       events = kept ++ take n more;
       begins = (take n more, refl);
       happened = happened-first s (kept ++ take n more) (drop n more) (subst (HaveHappened s) (sym all) happened);
-      records = are;
       torn = left.behind;
-      again = ap (replayed 1 (opening_book s)) are ∙ replayed-after s kept (take n more) again front;
+      make = ap (replayed 1 (opening_book s)) are ∙ make-more s kept (take n more) records make front;
     }
 
 -- what is left of more is left of less
@@ -119,43 +117,84 @@ left-less key s less kept c begins left = record {
   events = left.events;
   begins = prefix-on less kept left.events begins left.begins;
   happened = left.happened;
-  records = left.records;
   torn = left.torn;
-  again = left.again;
+  make = left.make;
 }
 
 module _ {D : Type 0} {g : Ghosts D} where
-  -- a journal with the records of these events, all synced
-  pub left-all : (journal : Journal D g) (s : Settings) (kept : List Event) → HaveHappened s kept → AreReplayed s kept → IsJournal journal (event_records kept) [] → (c : List ℕ) → g.may_leave (disk_of journal) c → IsLeft (key_of journal) s kept c
-  left-all journal s kept happened again is c may =
-      left-more _ s kept [] c (subst (HaveHappened s) (sym (append-nil kept)) happened) again tt (journal_leaves journal (event_records kept) [] is c may)
+  -- a journal with records of which the book after these events is made, all synced
+  pub left-all : (journal : Journal D g) (s : Settings) (kept : List Event) → HaveHappened s kept → KeepsBook s journal kept → (c : List ℕ) → g.may_leave (disk_of journal) c → IsLeft (key_of journal) s kept c
+  left-all journal s kept happened keeps c may =
+      left-more _ s kept [] keeps.records c (subst (HaveHappened s) (sym (append-nil kept)) happened) keeps.make tt (journal_leaves journal keeps.records [] keeps.holds c may)
+
+  abbrev pub OtherLeaves : ℕ → Settings → List Event → Option (Journal D g) → Type 0
+  OtherLeaves key s kept other = IfSome other (λ (it : Journal D g). (c : List ℕ) → g.may_leave (disk_of it) c → IsLeft key s kept c)
+
+  -- where there is no other one
+  pub no-other : (key : ℕ) (s : Settings) (kept : List Event) (other : Option (Journal D g)) → other ≡ None → OtherLeaves key s kept other
+  no-other key s kept other none = subst (OtherLeaves key s kept) (sym none) tt
 
   -- a journal that was made longer, and has room for all that is promised now
-  pub kept-longer : (old new : Journal D g) (s : Settings) (log : Book) (own : Option ℕ) (honest : Bool) (front : Book) (kept : List Event) (before now : ℕ) (failed : Bool)
-      → failed ≡ false → IsKeeper s log own honest old front kept before failed → key_of new ≡ key_of old
+  pub kept-longer : (old new : Journal D g) (other : Option (Journal D g)) (s : Settings) (log : Book) (own : Option ℕ) (honest : Bool) (front : Book) (kept : List Event) (before now : ℕ) (failed : Bool)
+      → failed ≡ false → IsKeeper s log own honest old other front kept before failed → key_of new ≡ key_of old
       → ((payloads : List (List ℕ)) → IsJournal old payloads [] → IsJournal new payloads []) → now ≤ room_of new
-      → IsKeeper s log own honest new front kept now failed
-  kept-longer old new s log own honest front kept before now failed well is key stays covers = record {
+      → IsKeeper s log own honest new other front kept now failed
+  kept-longer old new other s log own honest front kept before now failed well is key stays covers = record {
     key = is.key ∙ ap (λ (k : ℕ). Some k) (sym key);
     front_log = is.front_log;
     happened = is.happened;
-    again = is.again;
-    holds = λ well honest. stays (event_records kept) (is.holds well honest);
-    left = λ honest c may. left-all new s kept is.happened is.again (stays (event_records kept) (is.holds well honest)) c may;
+    holds = λ well honest. longer (is.holds well honest);
+    left = λ honest c may. left-all new s kept is.happened (longer (is.holds well honest)) c may;
+    alone = is.alone;
+    other_left = λ honest. no-other _ s kept other (is.alone well);
     covered = λ well. covers;
   }
+    where
+      longer : KeepsBook s old kept → KeepsBook s new kept
+      longer keeps = record { records = keeps.records; holds = stays keeps.records keeps.holds; make = keeps.make }
 
   -- a journal that keeps more events
-  pub kept-more : (old new : Journal D g) (s : Settings) (log : Book) (own : Option ℕ) (honest : Bool) (front reached_log : Book) (kept reached : List Event) (before now : ℕ) (failed : Bool)
-      → failed ≡ false → IsKeeper s log own honest old front kept before failed → key_of new ≡ key_of old → reached_log ≡ log → HaveHappened s reached → AreReplayed s reached
-      → (IsJournal old (event_records kept) [] → IsJournal new (event_records reached) []) → (before ≤ room_of old → now ≤ room_of new)
-      → IsKeeper s log own honest new reached_log reached now false
-  kept-more old new s log own honest front reached_log kept reached before now failed well is key log_is happened again holds covers = record {
+  pub kept-more : (old new : Journal D g) (other : Option (Journal D g)) (s : Settings) (log : Book) (own : Option ℕ) (honest : Bool) (front reached_log : Book) (kept reached : List Event) (before now : ℕ) (failed : Bool)
+      → failed ≡ false → IsKeeper s log own honest old other front kept before failed → key_of new ≡ key_of old → reached_log ≡ log → HaveHappened s reached
+      → (KeepsBook s old kept → KeepsBook s new reached) → (before ≤ room_of old → now ≤ room_of new)
+      → IsKeeper s log own honest new other reached_log reached now false
+  kept-more old new other s log own honest front reached_log kept reached before now failed well is key log_is happened keeps covers = record {
     key = is.key ∙ ap (λ (k : ℕ). Some k) (sym key);
     front_log = log_is;
     happened = happened;
-    again = again;
-    holds = λ _ honest. holds (is.holds well honest);
-    left = λ honest c may. left-all new s reached happened again (holds (is.holds well honest)) c may;
+    holds = λ _ honest. keeps (is.holds well honest);
+    left = λ honest c may. left-all new s reached happened (keeps (is.holds well honest)) c may;
+    alone = λ _. is.alone well;
+    other_left = λ honest. no-other _ s reached other (is.alone well);
     covered = λ _. covers (is.covered well);
+  }
+
+  -- another journal that keeps the same events, and has as much room
+  pub kept-instead : (old new : Journal D g) (other : Option (Journal D g)) (s : Settings) (log : Book) (own : Option ℕ) (honest : Bool) (front : Book) (kept : List Event) (promised : ℕ) (failed : Bool)
+      → failed ≡ false → IsKeeper s log own honest old other front kept promised failed → key_of new ≡ key_of old → room_of new ≡ room_of old → KeepsBook s new kept
+      → IsKeeper s log own honest new other front kept promised failed
+  kept-instead old new other s log own honest front kept promised failed well is key room keeps = record {
+    key = is.key ∙ ap (λ (k : ℕ). Some k) (sym key);
+    front_log = is.front_log;
+    happened = is.happened;
+    holds = λ _ _. keeps;
+    left = λ _ c may. left-all new s kept is.happened keeps c may;
+    alone = is.alone;
+    other_left = λ _. no-other _ s kept other (is.alone well);
+    covered = λ _. omega (arith, is.covered well, room);
+  }
+
+  -- another one that may have taken its place
+  pub kept-beside : (old new : Journal D g) (other : Option (Journal D g)) (s : Settings) (log : Book) (own : Option ℕ) (honest : Bool) (front : Book) (kept : List Event) (promised : ℕ) (failed : Bool)
+      → IsKeeper s log own honest old other front kept promised failed → key_of new ≡ key_of old → KeepsBook s new kept
+      → IsKeeper s log own honest old (Some new) front kept promised true
+  kept-beside old new other s log own honest front kept promised failed is key keeps = record {
+    key = is.key;
+    front_log = is.front_log;
+    happened = is.happened;
+    holds = λ well _. absurd (cc (well));
+    left = is.left;
+    alone = λ well. absurd (cc (well));
+    other_left = λ _ c may. subst (λ (k : ℕ). IsLeft k s kept c) key (left-all new s kept is.happened keeps c may);
+    covered = λ well. absurd (cc (well));
   }

@@ -1,3 +1,4 @@
+pub mod CompactionLemmas
 pub mod DeskLemmas
 pub mod KeeperLemmas
 pub mod OpeningLemmas

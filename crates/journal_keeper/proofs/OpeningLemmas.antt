@@ -29,7 +29,7 @@ use Rattle.journal_file.specs.declared.error.JournalError.TheVariants.{NoRoom, U
 use Rattle.std.proofs.Common.{◌≡◌, ℕ, Bool, true, false, IsTrue, List, [], ◌∷◌, ◌++◌, length, All, Option, Some, None, Result, Ok, Err, OnOk, refl, sym, ap, subst, ◌∙◌, append_assoc, arith}
 use Rattle.journal_records.specs.Records.{record_bytes}
 use Rattle.tus_shared.specs.Desk.{Desk, Moves}
-use Rattle.journal_keeper.specs.Keeper.{event_records, AreReplayed, IsLeft}
+use Rattle.journal_keeper.specs.Keeper.{event_records, IsLeft}
 use Rattle.journal_keeper.proofs.KeeperLemmas.{records-append}
 use Rattle.std.specs.List.{AllByRecursion}
 use Rattle.std.proofs.lemmas.List.{append-nil}
@@ -125,16 +125,12 @@ moves-on s first before after old desk new so_far step = record {
 pub replayed_ended : (number : ℕ) (b : PlainBook) (rest : List (List ℕ)) → rest ≡ [] → replayed number b rest ≡ Ok b
 replayed_ended number b rest is = ap (replayed number b) is
 
--- of the records of what was made its book is made
-pub made-replayed : (s : Settings) (made : List Event) (records : List (List ℕ)) → event_records made ≡ records → replayed 1 (opening_book s) records ≡ Ok (book_at s made) → AreReplayed s made
-made-replayed s made records are is = ap (replayed 1 (opening_book s)) are ∙ is
-
 -- ---- what a crash left, made again
 
 -- the book of its records is the plain book after their events
 pub book-left : (key : ℕ) (s : Settings) (kept : List Event) (file : List ℕ) (records : List (List ℕ)) (book : PlainBook) (left : IsLeft key s kept file) → records ≡ recovered key file
     → replayed 1 (opening_book s) records ≡ Ok book → book ≡ book_at s left.events
-book-left key s kept file records book left are made = ok_is book (book_at s left.events) (sym made ∙ ap (replayed 1 (opening_book s)) are ∙ left.again)
+book-left key s kept file records book left are made = ok_is book (book_at s left.events) (sym made ∙ ap (replayed 1 (opening_book s)) are ∙ left.make)
   where
     ok_is : (x y : PlainBook) → (let left : Result PlainBook ℕ = Ok x in let right : Result PlainBook ℕ = Ok y in left ≡ right) → x ≡ y
     ok_is x y is = cc
@@ -147,14 +143,14 @@ all-recovered (Ok it) key s kept desks file book left told is = record {
   begins = All-weaker _ _ (λ (d : Desk) (begins : IsPrefix d.kept kept). prefix-on d.kept kept left.events begins left.begins) desks told;
   happened = left.happened;
   is = is;
-  made = left.again ∙ ap Ok (sym is);
+  made = left.make ∙ ap Ok (sym is);
 }
 all-recovered (Err why) key s kept desks file book left told is = tt
 
 -- and none of them is refused
 pub records-accepted : (key : ℕ) (s : Settings) (told : List Event) (file : List ℕ) (records : List (List ℕ)) (why : ReopenFault) → IsLeft key s told file → records ≡ recovered key file
     → IsReopenFault (replayed 1 (opening_book s) records) why → IsOutsideRecords why
-records-accepted key s told file records (Record number) left are told_so = clash (replayed 1 (opening_book s) records) number (book_at s left.events) told_so (ap (replayed 1 (opening_book s)) are ∙ left.again)
+records-accepted key s told file records (Record number) left are told_so = clash (replayed 1 (opening_book s) records) number (book_at s left.events) told_so (ap (replayed 1 (opening_book s)) are ∙ left.make)
   where
     clash : (made : Result PlainBook ℕ) (n : ℕ) (b : PlainBook) → made ≡ Err n → made ≡ Ok b → ⊥
     clash (Ok x) n b is other = absurd (cc (is))

@@ -1,5 +1,5 @@
 -- The keeper of a store's journal: what it keeps, and what a crash leaves of that.
-use Rattle.std.specs.Prelude.{◌≡◌, ℕ, ◌-◌, ◌≤◌, Bool, false, IsTrue, List, [], length, map, Option, Some, Ok}
+use Rattle.std.specs.Prelude.{◌≡◌, ◌⊎◌, ℕ, ◌-◌, ◌≤◌, Bool, false, IsTrue, List, [], length, map, Option, Some, None, IfSome, Ok}
 use mathlib.Core.List.{IsPrefix}
 use Rattle.logbook.specs.Pages.{Book}
 use Rattle.sqlite_disk.specs.declared.Disk.{Ghosts}
@@ -18,7 +18,7 @@ use Rattle.journal_keeper.specs.declared.numbers.SyncCounts.{SyncCounts}
 
 -- What is seen of a keeper: the key of its journal; the events that are kept there; whether a write or a sync has failed; how
 -- many bytes of room it granted to desks, and has not seen used; how many bytes may still be appended, and how many the frames
--- of the records have; what it has synced; and the disk.
+-- of the records have; what it has synced; the disk; and another one, which may have taken its place, where that failed.
 pub record KeeperView (D : Type 0) : Type 0 where
   pub key : ℕ
   pub kept : List Event
@@ -28,24 +28,35 @@ pub record KeeperView (D : Type 0) : Type 0 where
   pub bytes : ℕ
   pub synced : SyncCounts
   pub disk : D
+  pub other : Option D
+
+-- a crash may leave this file: on the disk, or on the other one that may have taken its place
+abbrev pub MayBeLeft : {D : Type 0} → (D → List ℕ → Type 0) → KeeperView D → List ℕ → Type 0
+MayBeLeft {D} may_leave keeper file = may_leave keeper.disk file ⊎ ((other : D) × (keeper.other ≡ Some other) × may_leave other file)
 
 -- the records of events, one each, in their order
 abbrev pub event_records : List Event → List (List ℕ)
 event_records events = records_of (map {A = Event} {B = ChangeEvent} change_event events)
 
--- the book that is made of the records of these events is the plain book after them (`book_replay/specs/Replay`)
-abbrev pub AreReplayed : Settings → List Event → Type 0
-AreReplayed s events = replayed 1 (opening_book s) (event_records events) ≡ Ok (book_at s events)
+-- of the records the plain book after these events is made (`book_replay/specs/Replay`)
+abbrev pub MakeBook : Settings → List Event → List (List ℕ) → Type 0
+MakeBook s events records = replayed 1 (opening_book s) records ≡ Ok (book_at s events)
 
--- What a crash leaves where these events are kept: the records of events that begin with them and happened to a book of these
--- settings, one after another, and no damage. The book that is made of these records is the plain book after these events.
+-- The journal has records of which the book after these events is made, all synced, and no others. They are those of the
+-- events, or a snapshot's, and behind it those of the events since.
+pub record KeepsBook {D : Type 0} {g : Ghosts D} (s : Settings) (journal : Journal D g) (events : List Event) : Type 0 where
+  pub records : List (List ℕ)
+  pub holds : IsJournal journal records []
+  pub make : MakeBook s events records
+
+-- What a crash leaves where these events are kept: records, of which the plain book is made that is the one after events which
+-- begin with them, and happened to a book of these settings, one after another; and no damage.
 pub record IsLeft (key : ℕ) (s : Settings) (kept : List Event) (file : List ℕ) : Type 0 where
   pub events : List Event
   pub begins : IsPrefix kept events
   pub happened : HaveHappened s events
-  pub records : recovered key file ≡ event_records events
   pub torn : tail_of key file ≡ Torn
-  pub again : replayed 1 (opening_book s) (recovered key file) ≡ Ok (book_at s events)
+  pub make : MakeBook s events (recovered key file)
 
 -- One sync more was made, which kept the events that are kept since; and no time is lost.
 pub record CountsSync {D : Type 0} (before after : KeeperView D) : Type 0 where
@@ -53,15 +64,16 @@ pub record CountsSync {D : Type 0} (before after : KeeperView D) : Type 0 where
   pub each : after.synced.records ≡ more (length after.kept - length before.kept) before.synced.records
   pub longer : before.synced.micros ≤ after.synced.micros
 
--- What every keeper keeps. Its key is that of the opening, and its events are of the log of the opening, and happened; the book
--- that is made of their records is the plain book after them. Where the disk had told no lie when the journal was opened: while
--- no write or sync has failed, the journal has exactly the records of these events, all synced; and failed or not, a crash
--- leaves all of them. The journal has room for all that was granted.
-pub record IsKeeper {D : Type 0} {g : Ghosts D} (s : Settings) (log : Book) (own : Option ℕ) (honest : Bool) (journal : Journal D g) (front : Book) (kept : List Event) (promised : ℕ) (failed : Bool) : Type 0 where
+-- What every keeper keeps. Its key is that of the opening, and its events are of the log of the opening, and happened. Where
+-- the disk had told no lie when the journal was opened: while no write or sync has failed, the journal has records of which the
+-- book after these events is made, and no other one may have taken its place; and failed or not, a crash leaves such records, on
+-- whichever disk. The journal has room for all that was granted.
+pub record IsKeeper {D : Type 0} {g : Ghosts D} (s : Settings) (log : Book) (own : Option ℕ) (honest : Bool) (journal : Journal D g) (other : Option (Journal D g)) (front : Book) (kept : List Event) (promised : ℕ) (failed : Bool) : Type 0 where
   pub key : own ≡ Some (key_of journal)
   pub front_log : front ≡ log
   pub happened : HaveHappened s kept
-  pub again : AreReplayed s kept
-  pub holds : failed ≡ false → IsTrue honest → IsJournal journal (event_records kept) []
+  pub holds : failed ≡ false → IsTrue honest → KeepsBook s journal kept
   pub left : IsTrue honest → (c : List ℕ) → g.may_leave (disk_of journal) c → IsLeft (key_of journal) s kept c
+  pub alone : failed ≡ false → other ≡ None
+  pub other_left : IsTrue honest → IfSome other (λ it. (c : List ℕ) → g.may_leave (disk_of it) c → IsLeft (key_of journal) s kept c)
   pub covered : failed ≡ false → promised ≤ room_of journal

@@ -1,3 +1,4 @@
+pub mod Compaction
 pub mod Granting
 pub mod Keeper
 pub mod Numbers

@@ -23,6 +23,10 @@ pub enum KeepFault {
     /// The desk was told of more than is kept. It comes in no run where one keeper alone tells the desks.
     #[error("the desk was told of more than is kept")]
     Desk,
+    /// A new journal was to take the place of the one before, and it is not known which of the two a crash leaves there. Both
+    /// have all that is kept.
+    #[error("it is not known which journal stands in its place")]
+    Place,
 }
 
 impl From<JournalError> for KeepFault {

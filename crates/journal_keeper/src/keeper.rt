@@ -1,19 +1,20 @@
-ghost use Rattle.std.specs.Prelude.{◌≡◌, ◌+◌, ◌-◌, ◌≤◌, ℕ, List, [], length, Some, true, false, IsTrue, IsErrOf, OnErr, OnOk};
+ghost use Rattle.std.specs.Prelude.{◌≡◌, ◌+◌, ◌-◌, ◌≤◌, ℕ, List, length, None, Some, true, false, IsTrue, IsErrOf, OnErr, OnOk};
 ghost use mathlib.Core.List.{IsPrefix};
 ghost use Rattle.head_board.specs.Events.{HaveHappened};
 ghost use Rattle.tus_shared.specs.Journal.{journal_len};
-ghost use Rattle.journal_file.specs.Journal.{disk_of, end_of, key_of, room_of, IsJournal};
+ghost use Rattle.journal_file.specs.Journal.{disk_of, end_of, key_of, room_of};
 ghost use Rattle.journal_frames.specs.Frames.{frames};
-ghost use Rattle.journal_keeper.specs.Keeper.{event_records, AreReplayed, CountsSync, IsLeft};
+ghost use Rattle.journal_keeper.specs.Keeper.{CountsSync, IsLeft, KeepsBook, MakeBook, MayBeLeft};
 ghost use Rattle.journal_keeper.specs.Numbers.{no_syncs};
 ghost use Rattle.journal_keeper.specs.Granting.{Grants, HasRoom, IsNeeded, MayGrant};
 
+use crate::compaction::{Compaction, with_kept};
 use crate::fault::KeepFault;
 use crate::granting::{AHEAD, SPARE, needed_for};
 use crate::journalled::Journalled;
 use crate::keeping::make_room;
 use crate::numbers::{KeeperNumbers, SyncCounts};
-use crate::taking::{keep_waiting, tell};
+use crate::taking::{keep_taken, take_behind, tell};
 use journal_file::Journal;
 use sqlite_disk::Disk;
 use std::alloc::Global;
@@ -21,7 +22,7 @@ use std::marker::{Model, PhantomData};
 use std::sync::Wait;
 use std::sync::ledger::Ledger;
 use std::time;
-use tus_shared::{Desk, SeenEvents, Shared};
+use tus_shared::{Desk, Records, SeenEvents, Shared};
 
 /// Keeps the changes of a store in a journal: the events that are kept, and how much of the journal's room desks were granted
 /// and have not been seen to use. A contract sees these, whether keeping has failed, what was synced, how large the journal is,
@@ -29,17 +30,25 @@ use tus_shared::{Desk, SeenEvents, Shared};
 /// was opened.
 #[derive(Drop)]
 pub struct Keeper<D: Disk, C: Journalled> {
-    alloc: Global,
-    journal: Journal<D>,
-    front: SeenEvents,
-    granted: u64,
-    has_failed: bool,
-    synced: SyncCounts,
+    pub(crate) alloc: Global,
+    pub(crate) journal: Journal<D>,
+    pub(crate) front: SeenEvents,
+    pub(crate) granted: u64,
+    pub(crate) has_failed: bool,
+    pub(crate) synced: SyncCounts,
+    // A new journal that is written beside this one.
+    pub(crate) compaction: Option<Compaction<D>>,
+    // How large this one is to be before another new one is begun, where the last could not be had.
+    pub(crate) patience: u64,
+    // A new one that may have taken its place, where that failed.
+    pub(crate) other: Option<Journal<D>>,
     opening: PhantomData<C>,
 }
 
 impl<D: Disk, C: Journalled> Model for Keeper<D, C> {
+    ghost use Rattle.std.specs.Prelude.{option_map, IfSome};
     ghost use Rattle.journal_file.specs.Journal.{disk_of, end_of, key_of, room_of};
+    ghost use Rattle.journal_keeper.specs.Compaction.{WillKeep};
     ghost use Rattle.journal_keeper.specs.Keeper.{IsKeeper, KeeperView};
 
     ghost Value = { KeeperView D };
@@ -53,20 +62,21 @@ impl<D: Disk, C: Journalled> Model for Keeper<D, C> {
       bytes = end_of k.journal;
       synced = k.synced;
       disk = disk_of k.journal;
+      other = option_map (λ it. disk_of it) k.other;
     } };
 
-    ghost invariant = { λ k. IsKeeper C.settings C.log C.journal C.honest k.journal k.front.book k.front.events k.granted k.has_failed };
+    ghost invariant = { λ k. IsKeeper C.settings C.log C.journal C.honest k.journal k.other k.front.book k.front.events k.granted k.has_failed
+        × IfSome k.compaction (λ c. WillKeep C.settings c (key_of k.journal) k.front.events) };
 }
 
-impl<D: Disk, C: Journalled> Keeper<D, C> {
-    /// A keeper of the events whose records a journal has, all synced, and no others. None of its room was granted, and it has
-    /// synced nothing.
+impl<D: Disk + Drop, C: Journalled> Keeper<D, C> {
+    /// A keeper of events, where a journal has records of which the book after these is made, all synced, and no others. None of
+    /// its room was granted, and it has synced nothing.
     pub fn new(alloc: Global, journal: Journal<D>, front: SeenEvents) -> Keeper<D, C>
         requires key { C.journal ≡ Some (key_of journal) }
         requires log { front.book ≡ C.log }
         requires happened { HaveHappened C.settings front.events }
-        requires again { AreReplayed C.settings front.events }
-        requires journal { IsTrue C.honest → IsJournal journal (event_records front.events) [] }
+        requires journal { IsTrue C.honest → KeepsBook C.settings journal front.events }
         ensures { result ≡ record {
           key = key_of journal;
           kept = front.events;
@@ -76,6 +86,7 @@ impl<D: Disk, C: Journalled> Keeper<D, C> {
           bytes = end_of journal;
           synced = no_syncs;
           disk = disk_of journal;
+          other = None;
         } }
     {
         Keeper {
@@ -85,6 +96,9 @@ impl<D: Disk, C: Journalled> Keeper<D, C> {
             granted: 0,
             has_failed: false,
             synced: SyncCounts::none(),
+            compaction: None,
+            patience: 0,
+            other: None,
             opening: PhantomData,
         }
     }
@@ -107,9 +121,9 @@ impl<D: Disk, C: Journalled> Keeper<D, C> {
     pub fn numbers(&self) -> KeeperNumbers
         ensures synced { result.synced ≡ self.now.synced }
         ensures bytes { result.bytes ≡ self.now.bytes }
-        // Until keeping fails these are the frames of the records that are kept, and no others.
-        ensures frames { IsTrue C.honest → self.now.failed ≡ false
-            → result.bytes ≡ length (frames self.now.key (event_records self.now.kept)) }
+        // Until keeping fails these are the frames of records of which the book after the events that are kept is made.
+        ensures frames { IsTrue C.honest → self.now.failed ≡ false → (records : List (List ℕ))
+            × MakeBook C.settings self.now.kept records × (result.bytes ≡ length (frames self.now.key records)) }
         ensures file { result.file_bytes ≡ self.now.bytes + self.now.room + 16 }
     {
         KeeperNumbers {
@@ -134,12 +148,13 @@ impl<D: Disk, C: Journalled> Keeper<D, C> {
         journal.into_disk()
     }
 
-    /// Tells what a crash leaves: the records of events that begin with all that are kept, of which their book is made again, and
-    /// no damage. It does also after keeping has failed.
+    /// Tells what a crash leaves: records of which the book is made again that is the one after events which begin with all that
+    /// are kept, and no damage. It does also after keeping has failed, and where another disk may have taken the place of this
+    /// one, of that too.
     pub fn tell_crash(&self)
         ensures happened { HaveHappened C.settings self.now.kept }
         ensures left { IsTrue C.honest
-            → (c : List ℕ) → D.may_leave self.now.disk c → IsLeft self.now.key C.settings self.now.kept c }
+            → (c : List ℕ) → MayBeLeft D.may_leave self.now c → IsLeft self.now.key C.settings self.now.kept c }
     {
         let _kept = &self.front;
     }
@@ -190,19 +205,21 @@ impl<D: Disk, C: Journalled> Keeper<D, C> {
             return told;
         }
         self.has_failed = true;
+        let taken = take_behind(rt, shared, &self.front, &seen)?;
         let mut synced = self.synced;
-        let reached = keep_waiting(
+        keep_taken::<D, C, W>(
             rt,
             self.alloc,
-            shared,
             &mut self.journal,
             &self.front,
-            &seen,
+            &taken,
             &mut self.granted,
             &mut synced,
         )?;
-        tell(&reached, desk)?;
+        tell(&taken.reached, desk)?;
+        let Records { frames, reached } = taken;
         self.front = reached;
+        self.compaction = with_kept(self.compaction.take(), frames);
         self.synced = synced;
         self.has_failed = false;
         Ok(())

@@ -1,8 +1,9 @@
 //! Records that waited, appended to a journal and synced.
 ghost use Rattle.std.specs.Prelude.{◌≡◌, ◌+◌, ◌-◌, ◌^◌, ◌≤◌, ℕ, List, [], ◌∷◌, ◌++◌, length, map, min, IsOk, OnOk};
+ghost use Rattle.std.specs.List.{AllByRecursion};
 ghost use Rattle.journal_file.specs.Journal.{disk_of, key_of, room_of, IsJournal};
 ghost use Rattle.journal_frames.specs.Crash.{Leaves};
-ghost use Rattle.journal_frames.specs.Frames.{frames};
+ghost use Rattle.journal_frames.specs.Frames.{frames, Fits};
 ghost use Rattle.journal_keeper.specs.Waiting.{frames_each, total_len};
 
 use crate::fault::KeepFault;
@@ -30,6 +31,9 @@ pub(crate) fn keep_frames<D: Disk>(
     ensures key { key_of journal.new ≡ key_of journal.old }
     ensures room { OnOk result
         (room_of journal.old ≤ room_of journal.new + total_len (map (λ frame. frame.items) waiting.now)) }
+    ensures fit { (more : List (List ℕ))
+        → map (λ frame. frame.items) waiting.now ≡ frames_each (key_of journal.old) more
+        → OnOk result (AllByRecursion Fits more) }
 {
     make_room(alloc, journal, len_of_all(waiting))?;
     append_all(journal, waiting)?;
@@ -80,6 +84,9 @@ fn append_all<D: Disk>(journal: &mut Journal<D>, waiting: &[Vec<u8>]) -> Result<
     ensures key { key_of journal.new ≡ key_of journal.old }
     ensures room { OnOk result
         (room_of journal.new + total_len (map (λ frame. frame.items) waiting.now) ≡ room_of journal.old) }
+    ensures fit { (more : List (List ℕ))
+        → map (λ frame. frame.items) waiting.now ≡ frames_each (key_of journal.old) more
+        → OnOk result (AllByRecursion Fits more) }
 {
     for frame in waiting {
         append_frame(journal, frame)?;
@@ -100,6 +107,7 @@ fn append_frame<D: Disk>(journal: &mut Journal<D>, frame: &[u8]) -> Result<(), K
         → Leaves (key_of journal.old) payloads (unsynced ++ payload ∷ []) c }
     ensures key { key_of journal.new ≡ key_of journal.old }
     ensures room { OnOk result (room_of journal.new + length frame.now ≡ room_of journal.old) }
+    ensures fit { (payload : List ℕ) → frame.now ≡ frames (key_of journal.old) (payload ∷ []) → OnOk result (Fits payload) }
 {
     if frame.len() > HEADER_LEN + PAYLOAD_MAX {
         return Err(KeepFault::Frame);

@@ -4,7 +4,7 @@ ghost use mathlib.Core.List.{IsPrefix};
 ghost use Rattle.head_board.specs.Events.{book_at};
 ghost use Rattle.journal_file.specs.Journal.{key_of, IsJournal};
 ghost use Rattle.journal_frames.specs.Frames.{recovered};
-ghost use Rattle.journal_keeper.specs.Keeper.{IsLeft};
+ghost use Rattle.journal_keeper.specs.Keeper.{IsLeft, MayBeLeft};
 ghost use Rattle.journal_keeper.specs.Opening.{IsOutsideRecords, IsRecovered};
 ghost use Rattle.tus_shared.specs.Desk as spec;
 
@@ -21,15 +21,15 @@ use std::sync::ledger::Ledger;
 use tus_shared::{Desk, Store};
 
 /// A law: where a keeper keeps all that a desk has seen, as it does once [`Keeper::keep`] has told the desk so and from then
-/// on, a crash leaves the records of events that begin with all that the desk has seen, and no damage. All replies of the desk
-/// rest on these.
-pub fn what_was_told_is_left<D: Disk, C: Journalled, R: Ledger, M: Ledger>(
+/// on, a crash leaves records of which the plain book is made that is the one after events which begin with all that the desk has
+/// seen, and no damage. All replies of the desk rest on these.
+pub fn what_was_told_is_left<D: Disk + Drop, C: Journalled, R: Ledger, M: Ledger>(
     keeper: &Keeper<D, C>,
     desk: &Desk<C, R, M>,
 )
     requires { IsPrefix desk.now.seen keeper.now.kept }
     ensures { IsTrue C.honest
-        → (c : List ℕ) → D.may_leave keeper.now.disk c → IsLeft keeper.now.key C.settings desk.now.seen c }
+        → (c : List ℕ) → MayBeLeft D.may_leave keeper.now c → IsLeft keeper.now.key C.settings desk.now.seen c }
 {
     keeper.tell_crash();
 }
@@ -40,7 +40,7 @@ pub fn what_was_told_is_left<D: Disk, C: Journalled, R: Ledger, M: Ledger>(
 /// Before the crash there were a keeper, whatever became of it, and desks of its store. The keeper keeps all that any of them
 /// was told to be kept, as [`Keeper::keep`] leaves it. A reply rests on what its desk has seen, and is sent only once the desk
 /// was told that all of this is kept ([`Desk::is_kept`]). Then the machine crashed, and the journal was opened
-/// ([`crate::open_journal`]) on a file that the disk may leave. Of it a store is made again here, by [`reopen`]. Its book
+/// ([`crate::open_journal`]) on a file that the disk may leave, or the one that may have taken its place. Of it a store is made again here, by [`reopen`]. Its book
 /// ([`Store::headline`]) is the plain book after one list of events, which begins with all that any of the desks was told to be
 /// kept; it is the one that the records of the file make, and none of these is refused.
 ///
@@ -49,7 +49,7 @@ pub fn what_was_told_is_left<D: Disk, C: Journalled, R: Ledger, M: Ledger>(
 /// after it, that the records which were read are those of the file, as `open_journal` says where the disk told none. The
 /// settings and the key are the same.
 pub fn what_was_told_is_recovered<
-    D: Disk,
+    D: Disk + Drop,
     C: Journalled,
     R: Ledger,
     M: Ledger,
@@ -68,8 +68,6 @@ pub fn what_was_told_is_recovered<
     key: u64,
     progress: &mut P,
 ) -> Result<Reopened<D, E>, ReopenFault>
-where
-    D: Drop,
     requires told { All (λ (d : spec.Desk). IsPrefix d.kept keeper.now.kept) desks.now }
     requires same_key { keeper.now.key ≡ key }
     requires same_settings { E.settings ≡ C.settings }
@@ -81,11 +79,11 @@ where
     requires journal { E.journal ≡ Some key }
     requires honest { IsTrue E.honest → IsJournal opened.journal (recovered key opened.frames.items) [] }
     ensures recovered { IsTrue C.honest → (file : List ℕ)
-        → D.may_leave keeper.now.disk file
+        → MayBeLeft D.may_leave keeper.now file
         → recovered key opened.frames.items ≡ recovered key file
         → OnOk result (IsRecovered key file C.settings desks.now (book_at C.settings store.new)) }
     ensures accepts { IsTrue C.honest → (file : List ℕ)
-        → D.may_leave keeper.now.disk file
+        → MayBeLeft D.may_leave keeper.now file
         → recovered key opened.frames.items ≡ recovered key file
         → IfErr result IsOutsideRecords }
 {

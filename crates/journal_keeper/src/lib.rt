@@ -2,6 +2,8 @@
 //! grants them room for more, and makes a store again of the records of its journal.
 #![tactic(auto)]
 
+mod compacting;
+mod compaction;
 mod fault;
 mod granting;
 mod journalled;
@@ -10,14 +12,17 @@ mod keeping;
 pub mod laws;
 mod numbers;
 mod opening;
+mod place;
 mod progress;
 mod shared_keeper;
 mod taking;
 
+pub use compacting::Compacted;
 pub use fault::{KeepFault, ReopenFault};
 pub use journalled::Journalled;
 pub use keeper::Keeper;
 pub use numbers::{KeeperNumbers, SyncCounts};
 pub use opening::{Reopened, open_journal, reopen};
+pub use place::{JournalPlace, PlaceFault};
 pub use progress::Progress;
 pub use shared_keeper::SharedKeeper;

@@ -1,9 +1,12 @@
 //! The numbers of a keeper: what it has synced, and how large its journal is.
-ghost use Rattle.std.specs.Prelude.{◌≡◌, ◌≤◌};
+ghost use Rattle.std.specs.Prelude.{◌≡◌, ◌≤◌, ◌<◌, ◌↔◌, IsTrue};
 ghost use Rattle.journal_keeper.specs.Numbers.{no_syncs, synced_with};
 
 use std::time;
 use std::time::Instant;
+
+/// How many bytes the frames of a journal may have, however few bytes are held.
+pub(crate) const TOLERATED: u64 = 32 << 20;
 
 /// What a keeper has synced since it was made. Each number stays at 2^64 - 1 once it is there.
 #[derive(Clone, Copy)]
@@ -50,6 +53,15 @@ pub struct KeeperNumbers {
     pub bytes: u64,
     /// The bytes of the journal's file, with the zeros ahead.
     pub file_bytes: u64,
+}
+
+impl KeeperNumbers {
+    /// Whether the journal has more bytes of frames than any may have.
+    pub(crate) fn may_be_large(&self) -> bool
+        ensures { IsTrue result ↔ (33554432 < self.now.bytes) }
+    {
+        self.bytes > TOLERATED
+    }
 }
 
 /// The microseconds since then; 0 where the machine's clock can't be read.

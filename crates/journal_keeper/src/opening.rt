@@ -82,11 +82,11 @@ pub struct Reopened<D: Disk, C: Journalled> {
 
 /// Makes all changes again, in their order and at this desk, whose records a journal has that was opened under this key; and
 /// gives the keeper of these, and how many they are. The store and the desk are new. After it the desk has seen all of these
-/// events, and knows that they are kept. Of each record `progress` is told once its change was made again.
+/// events, and knows that they are kept. After each record `progress` is told of it.
 ///
 /// `Err` is Record, with the number of the first record, from 1, that can't be read, or whose change no book of these settings
 /// takes there; Memory; or Waiting, which comes in no run where the store is new.
-pub fn reopen<C: Journalled, R: Ledger, M: Ledger, B: Wait + Drop, D: Disk, P: Progress>(
+pub fn reopen<C: Journalled, R: Ledger, M: Ledger, B: Wait + Drop, D: Disk + Drop, P: Progress>(
     alloc: Global,
     store: &mut Store<C, R, M, B>,
     desk: &mut Desk<C, R, M>,
@@ -132,6 +132,7 @@ where
       bytes = end_of opened.journal;
       synced = no_syncs;
       disk = disk_of opened.journal;
+      other = None;
     }) }
 {
     let records = make_all_again(store, desk, Frames::new(key, &opened.frames), progress)?;

@@ -2,11 +2,13 @@ ghost use Rattle.std.specs.Prelude.{◌≡◌, OnErr, OnOk};
 ghost use mathlib.Core.List.{IsPrefix};
 ghost use Rattle.journal_keeper.specs.Granting.{MayHaveMore};
 
+use crate::compacting::Compacted;
 use crate::fault::KeepFault;
 use crate::granting::needed_for;
 use crate::journalled::Journalled;
 use crate::keeper::Keeper;
 use crate::numbers::KeeperNumbers;
+use crate::place::JournalPlace;
 use sqlite_disk::Disk;
 use std::sync::ledger::Ledger;
 use std::sync::{Mutex, Wait};
@@ -22,7 +24,7 @@ pub struct SharedKeeper<D: Disk, C: Journalled> {
     numbers: Mutex<KeeperNumbers>,
 }
 
-impl<D: Disk, C: Journalled> SharedKeeper<D, C> {
+impl<D: Disk + Drop, C: Journalled> SharedKeeper<D, C> {
     /// Puts a keeper behind a lock.
     pub fn new(keeper: Keeper<D, C>) -> SharedKeeper<D, C> {
         let numbers = Mutex::new(keeper.numbers());
@@ -70,6 +72,32 @@ impl<D: Disk, C: Journalled> SharedKeeper<D, C> {
             keeper.make_room(desk, bytes);
             *self.numbers.lock(rt) = keeper.numbers();
         }
+    }
+
+    /// Makes the journal small, a slice at a time, where it has become large ([`Keeper::compact`]). Where it is small, by what the
+    /// keeper told when it was used last, only a lock is taken that nobody holds for long. It may wait for desks, and for a disk.
+    ///
+    /// `Err` as of `Keeper::compact`.
+    pub fn compact<
+        R: Ledger,
+        M: Ledger,
+        B: Wait + Drop,
+        W: Wait + time::Clock,
+        P: JournalPlace<D>,
+    >(
+        &self,
+        rt: &W,
+        shared: &Shared<C, R, M, B>,
+        place: &P,
+    ) -> Result<Compacted, KeepFault>
+    {
+        if !self.numbers(rt).may_be_large() {
+            return Ok(Compacted::Rests);
+        }
+        let mut keeper = self.keeper.lock(rt);
+        let compacted = keeper.compact(rt, shared, place);
+        *self.numbers.lock(rt) = keeper.numbers();
+        compacted
     }
 
     /// What the keeper told when it was used last ([`Keeper::numbers`]). It waits for no disk: the lock that it takes is held

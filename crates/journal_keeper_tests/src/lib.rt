@@ -7,4 +7,6 @@ mod requests;
 #[cfg(test)]
 mod scenes;
 #[cfg(test)]
+mod small;
+#[cfg(test)]
 mod torn_disk;

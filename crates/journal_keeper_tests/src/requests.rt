@@ -21,11 +21,26 @@ pub(crate) fn settings() -> Result<Settings, Fail> {
     Ok(Settings::new(NUMBERS, &[(b"acme", 64)])?)
 }
 
+/// The settings of acme with 64 MiB, and uploads of at most 4 MiB.
+pub(crate) fn large_settings() -> Result<Settings, Fail> {
+    let numbers = Numbers {
+        blocks: 1024,
+        block_size: 65_536,
+        max_size: 4 << 20,
+        ..NUMBERS
+    };
+    Ok(Settings::new(numbers, &[(b"acme", 1024)])?)
+}
+
 /// What is asked of acme.
 #[derive(Clone, Copy)]
-pub(crate) enum Asked {
+pub(crate) enum Asked<'a> {
     /// A creation of six bytes.
     Create,
+    /// A creation whose length is told later.
+    Begin,
+    /// The first bytes of the upload at a path.
+    Patch(&'static [u8], &'a [u8]),
     /// The end of the upload at a path.
     Delete(&'static [u8]),
 }
@@ -41,7 +56,7 @@ const FIELDS: TusFields<Field<'static>> = TusFields {
     media: Field::Absent,
 };
 
-fn request(asked: Asked) -> Request<'static> {
+fn request(asked: Asked<'_>) -> Request<'_> {
     match asked {
         Asked::Create => Request {
             method: Method::Post,
@@ -51,6 +66,25 @@ fn request(asked: Asked) -> Request<'static> {
                 ..FIELDS
             },
             body: b"",
+        },
+        Asked::Begin => Request {
+            method: Method::Post,
+            path: read_path(b"/files/acme"),
+            fields: TusFields {
+                defer: Field::One(b"1"),
+                ..FIELDS
+            },
+            body: b"",
+        },
+        Asked::Patch(path, body) => Request {
+            method: Method::Patch,
+            path: read_path(path),
+            fields: TusFields {
+                offset: Field::One(b"0"),
+                media: Field::One(b"application/offset+octet-stream"),
+                ..FIELDS
+            },
+            body,
         },
         Asked::Delete(path) => Request {
             method: Method::Delete,
@@ -62,7 +96,7 @@ fn request(asked: Asked) -> Request<'static> {
 }
 
 /// A turn that asks this at second 1000.
-pub(crate) fn turn(rt: &impl Abort, asked: Asked) -> Turn<'static> {
+pub(crate) fn turn<'a>(rt: &impl Abort, asked: Asked<'a>) -> Turn<'a> {
     Turn {
         request: request(asked),
         now: Moment::new(1000).expect(rt, "a moment"),

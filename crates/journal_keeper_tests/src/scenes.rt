@@ -2,7 +2,8 @@
 ghost use Rattle.std.specs.Prelude.{◌≡◌, [], Some};
 ghost use Rattle.journal_file.specs.Journal.{key_of, IsJournal};
 
-use crate::requests::{Asked, settings, turn};
+use crate::requests::{Asked, large_settings, settings, turn};
+use crate::small::{Ends, is_made_small};
 use crate::torn_disk::TornDisk;
 use journal_file::{Journal, JournalError};
 use journal_frames::{Frames, HEADER_LEN};
@@ -20,7 +21,7 @@ use tus_steps::Reply;
 use upload_book::{Refusal, Settings};
 
 // The key of all journals here.
-const KEY: u64 = 7;
+pub(crate) const KEY: u64 = 7;
 
 // The room of a new journal, which is enough for what is kept here.
 const ROOM: usize = 1000;
@@ -34,18 +35,28 @@ enum Scene {
     DiskIsFull,
     SyncFails,
     IsLeftAfterACrash,
+    IsMadeSmall { ends: Ends },
+}
+
+impl Scene {
+    fn settings(self) -> Result<Settings, Fail> {
+        match self {
+            Scene::IsMadeSmall { .. } => large_settings(),
+            _ => settings(),
+        }
+    }
 }
 
 // Whether a desk makes the change that it is asked for; else it was refused as Memory.
-fn makes<C: Journalled, R: Ledger, M: Ledger, W: Wait + Abort>(
+pub(crate) fn makes<C: Journalled, R: Ledger, M: Ledger, W: Wait + Abort>(
     rt: &W,
     shared: &Shared<C, R, M, &W>,
     desk: &mut Desk<C, R, M>,
-    asked: Asked,
+    asked: Asked<'_>,
 ) -> bool {
     let turn = turn(rt, asked);
     match desk.answer(rt, shared, &turn.request, turn.now, 0, &NoGate) {
-        Reply::Created { .. } | Reply::Deleted => true,
+        Reply::Created { .. } | Reply::Patched { .. } | Reply::Deleted => true,
         Reply::Refused { refusal, .. } => {
             assert!(rt; refusal == Refusal::Memory);
             false
@@ -148,7 +159,7 @@ fn sync_fails<C: Journalled, R: Ledger, M: Ledger, W: Wait + Abort + time::Clock
 }
 
 // How many records stand in frames under the key, up to ten.
-fn count(frames: &[u8]) -> u64 {
+pub(crate) fn count(frames: &[u8]) -> u64 {
     let mut frames = Frames::new(KEY, frames);
     let mut found: u64 = 0;
     for _ in 0..10 {
@@ -245,6 +256,9 @@ fn play<C: Journalled, R: Ledger, M: Ledger, W: Wait + Abort + time::Clock>(
         Scene::IsLeftAfterACrash => {
             is_left_after_a_crash(rt, alloc, &shared, keeper, &mut first)?;
         }
+        Scene::IsMadeSmall { ends } => {
+            is_made_small(rt, alloc, &shared, keeper, &mut first, ends)?;
+        }
     }
     Ok(())
 }
@@ -262,7 +276,7 @@ fn play_at<W: Wait + Abort + time::Clock>(
     play::<Brand, Brand, Brand, W>(
         rt,
         alloc,
-        settings()?,
+        scene.settings()?,
         Blank::new(16),
         Blank::new(16),
         Blank::new(16),
@@ -328,4 +342,24 @@ fn what_was_kept_is_left(rt: HostRuntime) -> Result<(), Fail> {
         u64::MAX,
         Scene::IsLeftAfterACrash,
     )
+}
+
+#[test]
+fn a_journal_is_made_small(rt: HostRuntime) -> Result<(), Fail> {
+    for ends in [
+        Ends::InPlace,
+        Ends::Beside,
+        Ends::Unsure,
+        Ends::Nowhere,
+        Ends::Full,
+    ] {
+        play_at(
+            &rt,
+            rt.alloc(),
+            usize::MAX,
+            u64::MAX,
+            Scene::IsMadeSmall { ends },
+        )?;
+    }
+    Ok(())
 }

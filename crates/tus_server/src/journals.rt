@@ -4,9 +4,11 @@ ghost use Rattle.std.specs.Borrow.{Bor};
 ghost use Rattle.server_words.specs.JournalFault.{IsOfJournal, IsOfSystem, IsUnread};
 ghost use Rattle.server_words.specs.declared.fault.RunFault.{RunFault};
 
+use journal_keeper::{JournalPlace, PlaceFault};
 use server_words::{JournalFault, Mismatch, RunFault};
 use sqlite_disk::{Disk, Unknown};
 use sqlite_std_file::File as DiskFile;
+use std::alloc::AllocError;
 use std::fs::{File, OpenFile};
 use std::io::{ErrorKind, Read, Write};
 use std::{fs, io};
@@ -23,6 +25,8 @@ pub trait Journals {
 
     type File: SettingsFile + Drop;
 
+    type Place: JournalPlace<Self::Disk> + Drop;
+
     /// What comes of reading the folder at a path: the bytes of its journal's file, and the text of the settings beside it; or
     /// this fault.
     ghost finds: { Self → List ℕ → Result (List ℕ × List ℕ) RunFault → Type 0 };
@@ -34,7 +38,7 @@ pub trait Journals {
     /// The error is NoFolder where something else stands at the path; File where the folder can't be made, or the journal's
     /// file can't be opened or made, or is no regular file with one name; Busy where another process has it; Settings with
     /// Unreadable where the settings are far too long; Disk where they can't be read; or Memory.
-    fn open(&self, path: &str) -> Result<Folder<Self::Disk, Self::File>, RunFault>
+    fn open(&self, path: &str) -> Result<Folder<Self::Disk, Self::File, Self::Place>, RunFault>
         ensures { IfErr result IsOfJournal };
 
     /// Reads the journal in the folder at a path, and the settings beside it. Nothing is made or written, and no lock is taken:
@@ -60,11 +64,15 @@ pub struct JournalFiles {
 
 /// The folder of a journal.
 #[derive(Drop)]
-pub struct Folder<D: Disk, F: SettingsFile> {
+pub struct Folder<D: Disk, F: SettingsFile, P> {
     /// The journal's file.
     pub disk: D,
     /// The settings that it is of.
     pub file: F,
+    /// Where its file stands.
+    pub place: P,
+    /// The file without a byte beside it. Who has it has the folder, whichever file is the journal's.
+    pub lock: D,
 }
 
 /// The file with the settings of a journal.
@@ -95,16 +103,23 @@ impl<'a> Journals for MachineJournals<'a> {
 
     type File = MachineSettings<'a>;
 
+    type Place = MachinePlace<'a>;
+
     ghost finds = { λ _ _ _. ⊤ };
 
-    fn open(&self, path: &str) -> Result<Folder<DiskFile, MachineSettings<'a>>, RunFault> {
+    fn open(
+        &self,
+        path: &str,
+    ) -> Result<Folder<DiskFile, MachineSettings<'a>, MachinePlace<'a>>, RunFault> {
         make_folder(self.rt, path)?;
-        let journal = format!(in self.rt.alloc(); "{path}/journal")?;
-        let files = sqlite_std_file::open(self.rt, journal.as_str(), Unknown)?;
+        let place = MachinePlace::new(self.rt, path)?;
+        let files = sqlite_std_file::open(self.rt, place.journal.as_str(), Unknown)?;
         let file = MachineSettings::open(self.rt, path)?;
         Ok(Folder {
             disk: files.db,
             file,
+            place,
+            lock: files.log,
         })
     }
 
@@ -166,6 +181,53 @@ impl<'a> SettingsFile for MachineSettings<'a> {
     }
 }
 
+/// Where the file of a journal stands in a folder of this machine.
+#[derive(Drop)]
+pub struct MachinePlace<'a> {
+    rt: &'a HostRuntime,
+    folder: String,
+    journal: String,
+    // The file beside it, which may take its place.
+    new: String,
+}
+
+impl<'a> MachinePlace<'a> {
+    /// That of the journal in a folder. The error is that memory is lacking.
+    fn new(rt: &'a HostRuntime, path: &str) -> Result<MachinePlace<'a>, AllocError> {
+        let alloc = rt.alloc();
+        Ok(MachinePlace {
+            rt,
+            folder: String::from_str(alloc, path)?,
+            journal: format!(in alloc; "{path}/journal")?,
+            new: format!(in alloc; "{path}/journal.new")?,
+        })
+    }
+
+    /// Gives the file beside that of the journal the rights of that.
+    fn copy_mode(&self) -> io::Result<()> {
+        let rights = fs::metadata(self.rt, self.journal.as_str())?.permissions();
+        fs::set_permissions(self.rt, self.new.as_str(), rights)
+    }
+}
+
+impl<'a> JournalPlace<DiskFile> for MachinePlace<'a> {
+    fn open_beside(&self) -> Option<DiskFile> {
+        let files = sqlite_std_file::open(self.rt, self.new.as_str(), Unknown).ok()?;
+        self.copy_mode().ok()?;
+        Some(files.db)
+    }
+
+    fn put_in_place(&self) -> Result<(), PlaceFault> {
+        if fs::rename(self.rt, self.new.as_str(), self.journal.as_str()).is_err() {
+            return Err(PlaceFault::Stays);
+        }
+        match sync_folder(self.rt, self.folder.as_str()) {
+            Ok(()) => Ok(()),
+            Err(_) => Err(PlaceFault::Unsure),
+        }
+    }
+}
+
 /// Makes a folder at this path, where there is nothing.
 fn make_folder(rt: &HostRuntime, path: &str) -> Result<(), RunFault>
     ensures { IfErr result IsOfJournal }
@@ -187,7 +249,7 @@ fn make_folder(rt: &HostRuntime, path: &str) -> Result<(), RunFault>
 fn sync_parent(rt: &HostRuntime, path: &str) -> io::Result<()> {
     let mut parent = fs::canonicalize(rt, path)?;
     parent.pop();
-    File::open(rt, parent.as_str())?.sync_all()
+    sync_folder(rt, parent.as_str())
 }
 
 /// The bytes of a journal's file.
@@ -241,7 +303,12 @@ fn write_text(rt: &HostRuntime, folder: &str, text: &[u8]) -> io::Result<()> {
     file.write_all(text)?;
     file.sync_all()?;
     fs::rename(rt, new.as_str(), settings.as_str())?;
-    File::open(rt, folder)?.sync_all()
+    sync_folder(rt, folder)
+}
+
+/// Syncs the entries of a folder.
+fn sync_folder(rt: &HostRuntime, path: &str) -> io::Result<()> {
+    File::open(rt, path)?.sync_all()
 }
 
 /// What it is to the program that a folder or a file can't be had.

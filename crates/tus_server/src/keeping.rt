@@ -1,7 +1,7 @@
 //! How the program keeps what happens at its desks.
 ghost use Rattle.std.specs.Prelude.{◌≡◌};
 
-use journal_keeper::{Journalled, KeeperNumbers, SharedKeeper};
+use journal_keeper::{JournalPlace, Journalled, KeeperNumbers, SharedKeeper};
 use service_watch::JournalNumbers;
 use sqlite_disk::Disk;
 use std::sync::Wait;
@@ -10,21 +10,28 @@ use std::time;
 use tus_shared::{Desk, Shared};
 use tus_workers::Keeping;
 
-/// All that happens at the desks of a store is kept in a journal.
+/// All that happens at the desks of a store is kept in a journal, whose file stands there.
 #[derive(Drop)]
-pub struct InJournal<D: Disk, C: Journalled> {
+pub struct InJournal<D: Disk, C: Journalled, P> {
     pub keeper: SharedKeeper<D, C>,
+    pub place: P,
 }
 
-impl<D: Disk + Drop, C: Journalled> InJournal<D, C> {
+impl<D: Disk + Drop, C: Journalled, P: Drop> InJournal<D, C, P> {
     /// Whether a write or a sync of the journal has failed.
     pub fn has_failed(self) -> bool {
         self.keeper.into_keeper().has_failed()
     }
 }
 
-impl<D: Disk, C: Journalled, R: Ledger, M: Ledger, B: Wait + Drop> Keeping<C, R, M, B>
-    for InJournal<D, C> {
+impl<
+    D: Disk + Drop,
+    C: Journalled,
+    R: Ledger,
+    M: Ledger,
+    B: Wait + Drop,
+    P: JournalPlace<D>,
+> Keeping<C, R, M, B> for InJournal<D, C, P> {
     fn make_room<W: Wait>(&self, rt: &W, desk: &mut Desk<C, R, M>, bytes: u64) {
         self.keeper.make_room(rt, desk, bytes);
     }
@@ -36,6 +43,10 @@ impl<D: Disk, C: Journalled, R: Ledger, M: Ledger, B: Wait + Drop> Keeping<C, R,
         desk: &mut Desk<C, R, M>,
     ) -> bool {
         self.keeper.keep(rt, shared, desk).is_ok()
+    }
+
+    fn compact<W: Wait + time::Clock>(&self, rt: &W, shared: &Shared<C, R, M, B>) -> bool {
+        self.keeper.compact(rt, shared, &self.place).is_ok()
     }
 
     fn numbers<W: Wait>(&self, rt: &W) -> Option<JournalNumbers> {

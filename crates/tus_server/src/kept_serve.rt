@@ -18,7 +18,7 @@ use crate::serve::serve_desks;
 use crate::started::tell_started;
 use http_wire::Sink;
 use journal_file::Opened as OpenedJournal;
-use journal_keeper::{Journalled, SharedKeeper, open_journal, reopen};
+use journal_keeper::{JournalPlace, Journalled, SharedKeeper, open_journal, reopen};
 use server_words::{JournalFault, RunFault, ServeOptions};
 use sqlite_disk::Disk;
 use std::alloc::Global;
@@ -36,7 +36,8 @@ use tus_workers::Listener;
 use upload_book::Settings;
 
 /// Serves connections as [`crate::serve::serve`] says, over the book that the journal of this disk keeps: all changes are made
-/// again whose records it has, and no reply is sent before it has all that this tells. Where the settings beside it are others,
+/// again whose records it has, and no reply is sent before it has all that this tells. Where it becomes large, a smaller one is
+/// written beside it, and takes its place on the shelf. Where the settings beside it are others,
 /// these are put in their place once all changes were made again, and before a connection is accepted.
 ///
 /// The error is that of `serve`, or the journal's: Damaged or Record where the file is none of a journal, or of one of other
@@ -45,6 +46,7 @@ pub fn serve_kept<
     L: Listener,
     D: Disk,
     F: SettingsFile,
+    P: JournalPlace<D> + Sync + Drop,
     H: Threads
         + Wait
         + Net<Stream = TcpStream, Listener = TcpListener>
@@ -63,6 +65,7 @@ pub fn serve_kept<
     options: &ServeOptions,
     place: SocketAddr,
     disk: D,
+    shelf: P,
     file: &mut F,
     output: &mut W,
 ) -> Result<(), RunFault>
@@ -88,7 +91,7 @@ where
 {
     let start = Instant::now(rt).ok();
     let opened = open_journal(alloc, disk, JOURNAL_KEY)?;
-    serve_journalled::<L, D, F, Brand, Brand, Brand, H, W>(
+    serve_journalled::<L, D, F, P, Brand, Brand, Brand, H, W>(
         rt,
         alloc,
         settings,
@@ -96,6 +99,7 @@ where
         place,
         &start,
         opened,
+        shelf,
         Blank::new(16),
         Blank::new(16),
         Blank::new(16),
@@ -111,6 +115,7 @@ fn serve_journalled<
     L: Listener,
     D: Disk,
     F: SettingsFile,
+    P: JournalPlace<D> + Sync + Drop,
     C: Journalled + Send + Sync,
     R: Ledger + Send + Sync,
     M: Ledger + Send + Sync,
@@ -133,6 +138,7 @@ fn serve_journalled<
     place: SocketAddr,
     start: &Option<Instant>,
     journal: OpenedJournal<D>,
+    shelf: P,
     charged: Blank,
     released: Blank,
     made: Blank,
@@ -199,8 +205,9 @@ where
     desks.push_reserved(desk);
     let keeping = InJournal {
         keeper: SharedKeeper::new(reopened.keeper),
+        place: shelf,
     };
-    let served = serve_desks::<L, C, R, M, H, &H, InJournal<D, C>, W>(
+    let served = serve_desks::<L, C, R, M, H, &H, InJournal<D, C, P>, W>(
         rt,
         alloc,
         options,

@@ -41,7 +41,12 @@ where
 {
     let settings = settings_with(alloc, options.numbers, options.tenants)?;
     let folder = journals.open(path)?;
-    let Folder { disk, mut file } = folder;
+    let Folder {
+        disk,
+        mut file,
+        place: _,
+        lock: _lock,
+    } = folder;
     let kept = open_kept(alloc, &mut file, disk, settings)?;
     let mut at = AtJournal {
         kept,

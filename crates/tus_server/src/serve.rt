@@ -80,10 +80,15 @@ where
     let place = place_of(options.address, options.port)?;
     check_ports(options)?;
     if let Some(path) = options.journal {
-        let Folder { mut disk, mut file } = journals.open(path)?;
+        let Folder {
+            mut disk,
+            mut file,
+            place: shelf,
+            lock: _lock,
+        } = journals.open(path)?;
         check_settings(alloc, &mut file, &mut disk, &settings)?;
-        return serve_kept::<L, D, J::File, H, W>(
-            rt, alloc, settings, options, place, disk, &mut file, output,
+        return serve_kept::<L, D, J::File, J::Place, H, W>(
+            rt, alloc, settings, options, place, disk, shelf, &mut file, output,
         );
     }
     serve_with::<L, Brand, Brand, Brand, H, W>(

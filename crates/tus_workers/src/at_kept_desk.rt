@@ -119,6 +119,11 @@ impl<
         self.keeping
             .keep(self.at.rt, self.at.shared, &mut self.at.desk)
     }
+
+    /// Makes what is kept smaller, where it has become large. Says whether more can be kept.
+    pub fn compact(&self) -> bool {
+        self.keeping.compact(self.at.rt, self.at.shared)
+    }
 }
 
 impl<

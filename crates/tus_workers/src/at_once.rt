@@ -325,7 +325,7 @@ impl<
     }
 
     // Sends what was held back, after one sync for all; where nothing more can be kept, nothing is sent, and all workers are to
-    // end.
+    // end. Where something was kept, it is then made smaller, if it has become large.
     fn send_kept(
         &self,
         answerer: &mut AtKeptDesk<'a, C, R, M, H, B, NoGate, K>,
@@ -335,6 +335,7 @@ impl<
         if !answerer.holds_back() {
             return;
         }
+        let had_news = !answerer.desk().is_kept();
         if !answerer.keep() {
             self.commons.end_all();
             return;
@@ -342,6 +343,9 @@ impl<
         rounds.crowd.send_held(answerer.desk(), second);
         if second != rounds.second {
             rounds.crowd.send_late(answerer.desk(), second);
+        }
+        if had_news && !answerer.compact() {
+            self.commons.end_all();
         }
     }
 

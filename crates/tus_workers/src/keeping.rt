@@ -1,5 +1,5 @@
 //! What keeps the changes of a store beyond its process.
-ghost use Rattle.std.specs.Prelude.{◌≡◌, IsTrue, None};
+ghost use Rattle.std.specs.Prelude.{◌≡◌, true, IsTrue, None};
 ghost use mathlib.Core.List.{IsPrefix};
 
 use service_watch::JournalNumbers;
@@ -26,6 +26,10 @@ pub trait Keeping<C: Charges, R: Ledger, M: Ledger, B: Wait + Drop> {
         ensures kept { IsTrue result → IsPrefix desk.new.seen desk.new.kept }
         ensures alone { desk.new ≡ record desk.old { kept = desk.new.kept } };
 
+    /// Makes what is kept smaller, a step at a time, where it has become large. Says whether more can be kept. It may wait for other
+    /// desks, and for a disk.
+    fn compact<W: Wait + time::Clock>(&self, rt: &W, shared: &Shared<C, R, M, B>) -> bool;
+
     /// The numbers of the journal in which it is kept, if there is one. It waits for no disk.
     fn numbers<W: Wait>(&self, rt: &W) -> Option<JournalNumbers>;
 }
@@ -44,6 +48,12 @@ impl<C: Charges, R: Ledger, M: Ledger, B: Wait + Drop> Keeping<C, R, M, B> for N
         desk: &mut Desk<C, R, M>,
     ) -> bool {
         desk.is_kept()
+    }
+
+    fn compact<W: Wait + time::Clock>(&self, _rt: &W, _shared: &Shared<C, R, M, B>) -> bool
+        ensures { result ≡ true }
+    {
+        true
     }
 
     fn numbers<W: Wait>(&self, _rt: &W) -> Option<JournalNumbers>

@@ -4,7 +4,9 @@ use Rattle.std.proofs.lemmas.List.Sums.{sum_by_more}
 use Rattle.journal_file.specs.Journal.{key_of, IsJournal}
 use Rattle.journal_file.proofs.JournalLemmas.{journal_leaves}
 use Rattle.journal_frames.specs.Crash.{Leaves}
-use Rattle.journal_frames.specs.Frames.{frames}
+use Rattle.journal_file.proofs.Losses.{AllByRecursion-append}
+use Rattle.journal_frames.specs.Frames.{frames, Fits}
+use Rattle.std.specs.List.{AllByRecursion}
 use Rattle.journal_keeper.proofs.WaitingLemmas.{each-at, each-length, leaves-front, more-split}
 use Rattle.journal_keeper.proofs.keeping.append_all.Goals as goal
 
@@ -40,6 +42,11 @@ loop-frame-preserved g c =
           let at = each-at (λ frame. frame.items) waiting key more are i c.frame-item.result c.loop-frame-test.true c.frame-item.is in
           let frame_is : c.deref.result.now ≡ frames (key_of c.loop-frame.journal) (get_or more i [] ∷ []) = c.deref.ensures.value ∙ at ∙ ap (λ (k : ℕ). frames k (get_or more i [] ∷ [])) (sym so_far.key) in
           subst (IsJournal c.append_frame.new.journal payloads) (sym (take_more more i [] within)) (c.in_ok-append_frame.ensures.appended payloads (take i more) (get_or more i []) (so_far.appended payloads more is are) frame_is);
+      fit = λ more are.
+          let within : i < length more = omega (arith, each-length (λ frame. frame.items) waiting key more are, c.loop-frame-test.true) in
+          let at = each-at (λ frame. frame.items) waiting key more are i c.frame-item.result c.loop-frame-test.true c.frame-item.is in
+          let frame_is : c.deref.result.now ≡ frames (key_of c.loop-frame.journal) (get_or more i [] ∷ []) = c.deref.ensures.value ∙ at ∙ ap (λ (k : ℕ). frames k (get_or more i [] ∷ [])) (sym so_far.key) in
+          subst (AllByRecursion Fits) (sym (take_more more i [] within)) (AllByRecursion-append (take i more) (get_or more i [] ∷ []) (so_far.fit more are) (c.in_ok-append_frame.ensures.fit (get_or more i []) frame_is, tt));
     }
 
 pub returns-clause-appended : goal.returns-clause-appended
@@ -54,3 +61,9 @@ returns-clause-crash g c = λ payloads more is are left may.
     let all = each-length (λ frame. frame.items) c.args.waiting.now (key_of c.args.journal.now) more are in
     let whole = subst (IsJournal c.loop-frame.journal payloads) (take_all c.loop-frame.frame-index more (omega (arith, all, c.loop-frame-test.false))) (so_far.appended payloads more is are) in
     subst (λ (k : ℕ). Leaves k payloads more left) so_far.key (journal_leaves c.loop-frame.journal payloads more whole left may)
+
+pub returns-clause-fit : goal.returns-clause-fit
+returns-clause-fit g c = λ more are.
+    let so_far = c.loop-frame.invariant in
+    let all = each-length (λ frame. frame.items) c.args.waiting.now (key_of c.args.journal.now) more are in
+    subst (AllByRecursion Fits) (take_all c.loop-frame.frame-index more (omega (arith, all, c.loop-frame-test.false))) (so_far.fit more are)

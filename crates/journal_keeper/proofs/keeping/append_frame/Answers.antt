@@ -26,3 +26,8 @@ returns-clause-crash g c = λ payloads unsynced payload is are left may.
     let within : length c.args.frame.now ≤ 24 + 2 ^ 32 = grind (arith, nat_tests) in
     let fits = frame-fits (key_of c.args.journal.now) payload c.args.frame.now are within (λ i. omega (arith, c.type_inv.frame (i))) in
     c.append.ensures.any_crash payloads unsynced (payload ∷ []) is (fits, tt) are left may
+
+pub returns-clause-fit : goal.returns-clause-fit
+returns-clause-fit g c = λ payload are.
+    let within : length c.args.frame.now ≤ 24 + 2 ^ 32 = grind (arith, nat_tests) in
+    frame-fits (key_of c.args.journal.now) payload c.args.frame.now are within (λ i. omega (arith, c.type_inv.frame (i)))

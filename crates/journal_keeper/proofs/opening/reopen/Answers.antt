@@ -1,19 +1,25 @@
-use Rattle.std.proofs.Common.{◌≡◌, Ok, ap, subst, sym, ◌∙◌, rules}
+use Rattle.std.proofs.Common.{◌≡◌, List, Ok, ap, subst, sym, ◌∙◌, rules}
 use Rattle.std.proofs.lemmas.Result.{err_from_is_err_and}
 use Rattle.upload_book.specs.PlainBook.{opening_book}
 use Rattle.book_replay.specs.Replay.{replayed}
+use Rattle.head_board.specs.Event.{Event}
 use Rattle.head_board.specs.Events.{book_at}
 use Rattle.journal_frames.specs.Frames.{recovered}
-use Rattle.journal_keeper.specs.Keeper.{AreReplayed}
-use Rattle.journal_keeper.proofs.OpeningLemmas.{book-left, made-replayed, records-accepted}
+use Rattle.journal_keeper.proofs.OpeningLemmas.{book-left, records-accepted}
 use Rattle.journal_keeper.proofs.opening.reopen.Goals as goal
 
-pub new-keeper-requires-clause-again : goal.new-keeper-requires-clause-again
-new-keeper-requires-clause-again g c =
+pub new-keeper-requires-clause-journal : goal.new-keeper-requires-clause-journal
+new-keeper-requires-clause-journal g c = λ honest.
     let s = g.C.Charges.settings in
     let store = c.make_all_again.new.store in
+    let found = recovered c.args.key c.args.opened.frames.items in
     let events : c.seen_events-front.result.events ≡ store = ap (λ p. p.events) c.seen_events-front.ensures ∙ c.make_all_again.ensures.seen in
-    subst (AreReplayed s) (sym events) (made-replayed s store _ c.in_ok-records.ensures.records c.in_ok-records.ensures.made)
+    let read : recovered c.new.result.key c.new.result.rest.now ≡ found = search rules in
+    record {
+      records = found;
+      holds = c.requires.honest honest;
+      make = subst (λ (made : List Event). replayed 1 (opening_book s) found ≡ Ok (book_at s made)) (sym events) (ap (replayed 1 (opening_book s)) (sym read) ∙ c.in_ok-records.ensures.made);
+    }
 
 pub returns-clause-recovered : goal.returns-clause-recovered
 returns-clause-recovered g c = λ kept file left are.

@@ -1,0 +1,231 @@
+//! A keeper that makes its journal small.
+ghost use Rattle.std.specs.Prelude.{◌≡◌, ◌≢◌, ◌-◌, [], Ok, true, false, IsErrOf, OnErr, OnOk};
+ghost use mathlib.Core.List.{IsPrefix};
+ghost use Rattle.tus_shared.specs.Journal.{journal_len};
+ghost use Rattle.journal_file.specs.Draft.{draft_key, IsDraft};
+ghost use Rattle.journal_file.specs.Journal.{key_of, room_of};
+ghost use Rattle.journal_keeper.specs.Compaction.{WillKeep};
+ghost use Rattle.journal_keeper.specs.Keeper.{KeepsBook};
+
+use crate::compaction::Compaction;
+use crate::fault::KeepFault;
+use crate::journalled::Journalled;
+use crate::keeper::Keeper;
+use crate::numbers::TOLERATED;
+use crate::place::{JournalPlace, PlaceFault};
+use crate::taking::keep_taken;
+use journal_file::{Draft, Journal};
+use sqlite_disk::Disk;
+use std::sync::Wait;
+use std::sync::ledger::Ledger;
+use std::time;
+use tus_shared::{Records, RecordsAndSnapshot, Shared};
+
+/// What came of a look at how large a journal is.
+#[derive(Clone, Copy, Debug, PartialEq, Eq)]
+pub enum Compacted {
+    /// It is small enough.
+    Rests,
+    /// A new one is being written.
+    GoesOn,
+    /// A new one has taken its place.
+    Ended,
+    /// A new one could not be had: there was no memory or no disk for it. The old one goes on.
+    GivenUp,
+}
+
+impl<D: Disk + Drop, C: Journalled> Keeper<D, C> {
+    /// Makes the journal small, a slice at a time, where its frames have more than twice the bytes of the blocks that are held,
+    /// and 32 MiB. At first the records that wait are kept, and a snapshot of the book is taken, for which all its bytes are
+    /// copied with the lock of the store; a new journal is begun with it beside this one. Each later call writes and syncs some
+    /// of it: 1 MiB, and four times as much as was kept since. Once it has all that this one has it takes its place. Where it
+    /// can't be had, the old one goes on, and another is begun once that has 32 MiB more.
+    ///
+    /// `Err` is as of [`Keeper::keep`], or Place where it is not known which journal a crash leaves in its place; and from then
+    /// on Ended.
+    pub fn compact<
+        R: Ledger,
+        M: Ledger,
+        B: Wait + Drop,
+        W: Wait + time::Clock,
+        P: JournalPlace<D>,
+    >(
+        &mut self,
+        rt: &W,
+        shared: &Shared<C, R, M, B>,
+        place: &P,
+    ) -> Result<Compacted, KeepFault>
+        // What was kept stays so, and of the room that was granted so much is used as the records have that were appended.
+        ensures keeps { IsPrefix self.old.kept self.new.kept }
+        ensures same_kept { OnErr result (self.new.kept ≡ self.old.kept) }
+        ensures used { OnOk result (self.new.promised
+            ≡ self.old.promised - (journal_len C.journal self.new.kept - journal_len C.journal self.old.kept)) }
+        ensures key { self.new.key ≡ self.old.key }
+        ensures failed { OnErr result (self.new.failed ≡ true) }
+        ensures well { OnOk result (self.new.failed ≡ false) }
+        ensures ended { self.old.failed ≡ true → IsErrOf result KeepFault.Ended × (self.new ≡ self.old) }
+        ensures rests { result ≡ Ok Compacted.Rests → self.new ≡ self.old }
+    {
+        if self.has_failed {
+            return Err(KeepFault::Ended);
+        }
+        if let Some(compaction) = self.compaction.take() {
+            return self.go_on(compaction, place);
+        }
+        if !self.is_large(rt, shared) {
+            return Ok(Compacted::Rests);
+        }
+        self.begin(rt, shared, place)
+    }
+
+    // Whether the journal is so large that a new one is to be begun.
+    fn is_large<R: Ledger, M: Ledger, B: Wait + Drop, W: Wait>(
+        &self,
+        rt: &W,
+        shared: &Shared<C, R, M, B>,
+    ) -> bool {
+        let bytes = self.journal.frames_len() as u64;
+        if bytes <= TOLERATED || bytes < self.patience {
+            return false;
+        }
+        let held = shared.held_bytes(rt);
+        bytes > held.saturating_mul(2).saturating_add(TOLERATED)
+    }
+
+    // Begins a new journal beside this one.
+    fn begin<
+        R: Ledger,
+        M: Ledger,
+        B: Wait + Drop,
+        W: Wait + time::Clock,
+        P: JournalPlace<D>,
+    >(
+        &mut self,
+        rt: &W,
+        shared: &Shared<C, R, M, B>,
+        place: &P,
+    ) -> Result<Compacted, KeepFault>
+        requires { self.old.failed ≡ false }
+        ensures keeps { IsPrefix self.old.kept self.new.kept }
+        ensures same_kept { OnErr result (self.new.kept ≡ self.old.kept) }
+        ensures used { OnOk result (self.new.promised
+            ≡ self.old.promised - (journal_len C.journal self.new.kept - journal_len C.journal self.old.kept)) }
+        ensures key { self.new.key ≡ self.old.key }
+        ensures failed { OnErr result (self.new.failed ≡ true) }
+        ensures well { OnOk result (self.new.failed ≡ false) }
+        ensures begun { result ≢ Ok Compacted.Rests }
+    {
+        self.patience = (self.journal.frames_len() as u64).saturating_add(TOLERATED);
+        let Some(disk) = place.open_beside() else {
+            return Ok(Compacted::GivenUp);
+        };
+        match Draft::new(disk, self.journal.key()) {
+            Ok(draft) => self.take_snapshot(rt, shared, draft),
+            Err(_) => Ok(Compacted::GivenUp),
+        }
+    }
+
+    // Keeps the records that wait, and takes a snapshot for a new journal of which nothing is written.
+    fn take_snapshot<R: Ledger, M: Ledger, B: Wait + Drop, W: Wait + time::Clock>(
+        &mut self,
+        rt: &W,
+        shared: &Shared<C, R, M, B>,
+        draft: Draft<D>,
+    ) -> Result<Compacted, KeepFault>
+        requires well { self.old.failed ≡ false }
+        requires key { draft_key draft ≡ self.old.key }
+        requires draft { IsDraft draft [] }
+        ensures keeps { IsPrefix self.old.kept self.new.kept }
+        ensures same_kept { OnErr result (self.new.kept ≡ self.old.kept) }
+        ensures used { OnOk result (self.new.promised
+            ≡ self.old.promised - (journal_len C.journal self.new.kept - journal_len C.journal self.old.kept)) }
+        ensures key { self.new.key ≡ self.old.key }
+        ensures failed { OnErr result (self.new.failed ≡ true) }
+        ensures well { OnOk result (self.new.failed ≡ false) }
+        ensures begun { result ≢ Ok Compacted.Rests }
+    {
+        self.has_failed = true;
+        self.compaction = None;
+        let Some(taken) = shared.take_with_snapshot(rt, self.alloc, &self.front) else {
+            return Err(KeepFault::Queue);
+        };
+        let RecordsAndSnapshot { records, snapshot } = taken;
+        keep_taken::<D, C, W>(
+            rt,
+            self.alloc,
+            &mut self.journal,
+            &self.front,
+            &records,
+            &mut self.granted,
+            &mut self.synced,
+        )?;
+        let Records { frames: _, reached } = records;
+        self.front = reached;
+        self.has_failed = false;
+        let Ok(rooms) = snapshot else {
+            return Ok(Compacted::GivenUp);
+        };
+        self.compaction = Some(Compaction::new(self.alloc, draft, rooms));
+        Ok(Compacted::GoesOn)
+    }
+
+    // Writes a slice of a new journal; where that has all then, it takes the place of this one.
+    fn go_on<P: JournalPlace<D>>(
+        &mut self,
+        mut compaction: Compaction<D>,
+        place: &P,
+    ) -> Result<Compacted, KeepFault>
+        requires well { self.old.failed ≡ false }
+        requires keeps { WillKeep C.settings compaction self.old.key self.old.kept }
+        ensures kept { self.new.kept ≡ self.old.kept }
+        ensures promised { self.new.promised ≡ self.old.promised }
+        ensures key { self.new.key ≡ self.old.key }
+        ensures failed { OnErr result (self.new.failed ≡ true) }
+        ensures well { OnOk result (self.new.failed ≡ false) }
+        ensures begun { result ≢ Ok Compacted.Rests }
+    {
+        let Ok(()) = compaction.write_slice() else {
+            return Ok(Compacted::GivenUp);
+        };
+        if !compaction.is_written() {
+            self.compaction = Some(compaction);
+            return Ok(Compacted::GoesOn);
+        }
+        match compaction.finish(self.alloc, self.journal.room()) {
+            Ok(journal) => self.replace(journal, place),
+            Err(_) => Ok(Compacted::GivenUp),
+        }
+    }
+
+    // Puts a new journal, which has all that this one has, in its place.
+    fn replace<P: JournalPlace<D>>(
+        &mut self,
+        journal: Journal<D>,
+        place: &P,
+    ) -> Result<Compacted, KeepFault>
+        requires well { self.old.failed ≡ false }
+        requires key { key_of journal ≡ self.old.key }
+        requires room { room_of journal ≡ self.old.room }
+        requires keeps { KeepsBook C.settings journal self.old.kept }
+        ensures kept { self.new.kept ≡ self.old.kept }
+        ensures promised { self.new.promised ≡ self.old.promised }
+        ensures key { self.new.key ≡ self.old.key }
+        ensures failed { OnErr result (self.new.failed ≡ true) }
+        ensures well { OnOk result (self.new.failed ≡ false) }
+        ensures begun { result ≢ Ok Compacted.Rests }
+    {
+        match place.put_in_place() {
+            Ok(()) => {
+                self.journal = journal;
+                self.patience = 0;
+                Ok(Compacted::Ended)
+            }
+            Err(PlaceFault::Stays) => Ok(Compacted::GivenUp),
+            Err(PlaceFault::Unsure) => {
+                self.has_failed = true;
+                self.other = Some(journal);
+                Err(KeepFault::Place)
+            }
+        }
+    }
+}

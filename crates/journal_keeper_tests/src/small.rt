@@ -1,0 +1,134 @@
+//! A journal that has become large, and is made small.
+
+use crate::requests::{Asked, large_settings};
+use crate::scenes::{KEY, makes};
+use crate::torn_disk::TornDisk;
+use book_replay::replay;
+use journal_frames::Frames;
+use journal_keeper::{
+    Compacted, JournalPlace, Journalled, KeepFault, Keeper, PlaceFault, open_journal,
+};
+use sqlite_disk::Fuse;
+use std::alloc::Global;
+use std::process::Abort;
+use std::sync::Wait;
+use std::sync::ledger::Ledger;
+use std::test::Fail;
+use std::time;
+use tus_shared::{Desk, Shared};
+
+/// What becomes of a new journal.
+#[derive(Clone, Copy)]
+pub(crate) enum Ends {
+    /// It takes the place of the old one.
+    InPlace,
+    /// It stays beside it.
+    Beside,
+    /// Nobody knows.
+    Unsure,
+    /// There is no file for it.
+    Nowhere,
+    /// Its disk is full at once.
+    Full,
+}
+
+// Where the journal stands.
+struct Shelf {
+    alloc: Global,
+    ends: Ends,
+}
+
+impl JournalPlace<Fuse<TornDisk>> for Shelf {
+    fn open_beside(&self) -> Option<Fuse<TornDisk>> {
+        let room = match self.ends {
+            Ends::Nowhere => return None,
+            Ends::Full => 10,
+            Ends::InPlace | Ends::Beside | Ends::Unsure => usize::MAX,
+        };
+        Some(Fuse::new(TornDisk::new(self.alloc, room), u64::MAX))
+    }
+
+    fn put_in_place(&self) -> Result<(), PlaceFault> {
+        match self.ends {
+            Ends::Beside => Err(PlaceFault::Stays),
+            Ends::Unsure => Err(PlaceFault::Unsure),
+            Ends::InPlace | Ends::Nowhere | Ends::Full => Ok(()),
+        }
+    }
+}
+
+// Nine uploads of 4 MiB, each of which comes and goes.
+static GONE: [&[u8]; 9] = [
+    b"/files/acme/1",
+    b"/files/acme/2",
+    b"/files/acme/3",
+    b"/files/acme/4",
+    b"/files/acme/5",
+    b"/files/acme/6",
+    b"/files/acme/7",
+    b"/files/acme/8",
+    b"/files/acme/9",
+];
+
+// The upload that stays.
+static STAYS: &[u8] = b"/files/acme/10";
+
+/// A journal of 36 MiB whose uploads are gone is made small, while one that comes meanwhile is kept; or the old one goes on.
+pub(crate) fn is_made_small<C: Journalled, R: Ledger, M: Ledger, W: Wait + Abort + time::Clock>(
+    rt: &W,
+    alloc: Global,
+    shared: &Shared<C, R, M, &W>,
+    mut keeper: Keeper<Fuse<TornDisk>, C>,
+    desk: &mut Desk<C, R, M>,
+    ends: Ends,
+) -> Result<(), Fail> {
+    let shelf = Shelf { alloc, ends };
+    let body = vec![in alloc; 7u8; 4 << 20]?;
+    desk.grant(1 << 30);
+    assert!(rt; matches!(keeper.compact(rt, shared, &shelf), Ok(Compacted::Rests)));
+    for path in GONE {
+        assert!(rt; makes(rt, shared, desk, Asked::Begin));
+        assert!(rt; makes(rt, shared, desk, Asked::Patch(path, &body)));
+        assert!(rt; makes(rt, shared, desk, Asked::Delete(path)));
+        assert!(rt; keeper.keep(rt, shared, desk).is_ok());
+    }
+    let large = keeper.numbers().bytes;
+    let begun = keeper.compact(rt, shared, &shelf);
+    assert!(rt; makes(rt, shared, desk, Asked::Begin));
+    assert!(rt; makes(rt, shared, desk, Asked::Patch(STAYS, &body[..100])));
+    assert!(rt; keeper.keep(rt, shared, desk).is_ok());
+    let ended = keeper.compact(rt, shared, &shelf);
+    match ends {
+        Ends::InPlace => {
+            assert!(rt; matches!((begun, ended), (Ok(Compacted::GoesOn), Ok(Compacted::Ended))));
+            assert!(rt; keeper.numbers().bytes < 1_000);
+        }
+        Ends::Beside | Ends::Full => {
+            assert!(rt; matches!((begun, ended), (Ok(Compacted::GoesOn), Ok(Compacted::GivenUp))));
+            assert!(rt; keeper.numbers().bytes > large);
+        }
+        Ends::Nowhere => {
+            assert!(rt; matches!((begun, ended), (Ok(Compacted::GivenUp), Ok(Compacted::Rests))));
+        }
+        Ends::Unsure => {
+            assert!(rt; matches!(ended, Err(KeepFault::Place)));
+            assert!(rt; keeper.has_failed());
+        }
+    }
+    is_left(rt, alloc, &keeper)
+}
+
+// After a crash one upload is left, and the next gets the id after it.
+fn is_left<C: Journalled, W: Abort>(
+    rt: &W,
+    alloc: Global,
+    keeper: &Keeper<Fuse<TornDisk>, C>,
+) -> Result<(), Fail> {
+    for seed in 0..3 {
+        let left = keeper.disk().inner().after_crash(seed)?;
+        let opened = open_journal(alloc, left, KEY)?;
+        let book = replay(alloc, large_settings()?, Frames::new(KEY, &opened.frames))?;
+        assert!(rt; book.upload_count(0) == 1 && book.next_id(0) == 11);
+    }
+    Ok(())
+}
