@@ -169,9 +169,9 @@ module _ {D : Type 0} {g : Ghosts D} where
     covered = λ _. covers (is.covered well);
   }
 
-  -- another journal that keeps the same events, and has as much room
+  -- another journal that keeps the same events, and has room for all that is promised
   pub kept-instead : (old new : Journal D g) (other : Option (Journal D g)) (s : Settings) (log : Book) (own : Option ℕ) (honest : Bool) (front : Book) (kept : List Event) (promised : ℕ) (failed : Bool)
-      → failed ≡ false → IsKeeper s log own honest old other front kept promised failed → key_of new ≡ key_of old → room_of new ≡ room_of old → KeepsBook s new kept
+      → failed ≡ false → IsKeeper s log own honest old other front kept promised failed → key_of new ≡ key_of old → promised ≤ room_of new → KeepsBook s new kept
       → IsKeeper s log own honest new other front kept promised failed
   kept-instead old new other s log own honest front kept promised failed well is key room keeps = record {
     key = is.key ∙ ap (λ (k : ℕ). Some k) (sym key);
@@ -181,7 +181,7 @@ module _ {D : Type 0} {g : Ghosts D} where
     left = λ _ c may. left-all new s kept is.happened keeps c may;
     alone = is.alone;
     other_left = λ _. no-other _ s kept other (is.alone well);
-    covered = λ _. omega (arith, is.covered well, room);
+    covered = λ _. room;
   }
 
   -- another one that may have taken its place

@@ -28,11 +28,11 @@ pub record KeeperView (D : Type 0) : Type 0 where
   pub bytes : ℕ
   pub synced : SyncCounts
   pub disk : D
-  pub other : Option D
+  pub maybe_in_place : Option D
 
 -- a crash may leave this file: on the disk, or on the other one that may have taken its place
 abbrev pub MayBeLeft : {D : Type 0} → (D → List ℕ → Type 0) → KeeperView D → List ℕ → Type 0
-MayBeLeft {D} may_leave keeper file = may_leave keeper.disk file ⊎ ((other : D) × (keeper.other ≡ Some other) × may_leave other file)
+MayBeLeft {D} may_leave keeper file = may_leave keeper.disk file ⊎ ((new : D) × (keeper.maybe_in_place ≡ Some new) × may_leave new file)
 
 -- the records of events, one each, in their order
 abbrev pub event_records : List Event → List (List ℕ)

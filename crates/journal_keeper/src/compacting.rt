@@ -1,7 +1,9 @@
 //! A keeper that makes its journal small.
-ghost use Rattle.std.specs.Prelude.{◌≡◌, ◌≢◌, ◌-◌, [], Ok, true, false, IsErrOf, OnErr, OnOk};
+ghost use Rattle.std.specs.Prelude.{◌≡◌, ◌≢◌, ◌≤◌, ◌<◌, ◌+◌, ◌-◌, ◌*◌, List, [], Ok, None, true, false, IsErrOf, IsSome, IsTrue, OnErr, OnOk};
 ghost use mathlib.Core.List.{IsPrefix};
-ghost use Rattle.tus_shared.specs.Journal.{journal_len};
+ghost use Rattle.head_board.specs.Event.{Event};
+ghost use Rattle.head_board.specs.Events.{HaveHappened, book_at};
+ghost use Rattle.tus_shared.specs.Journal.{held_bytes, journal_len};
 ghost use Rattle.journal_file.specs.Draft.{draft_key, IsDraft};
 ghost use Rattle.journal_file.specs.Journal.{key_of, room_of};
 ghost use Rattle.journal_keeper.specs.Compaction.{WillKeep};
@@ -11,8 +13,8 @@ use crate::compaction::Compaction;
 use crate::fault::KeepFault;
 use crate::journalled::Journalled;
 use crate::keeper::Keeper;
-use crate::numbers::TOLERATED;
-use crate::place::{JournalPlace, PlaceFault};
+use crate::numbers::ALWAYS_SMALL;
+use crate::place::{JournalPlace, Unsure};
 use crate::taking::keep_taken;
 use journal_file::{Draft, Journal};
 use sqlite_disk::Disk;
@@ -35,21 +37,16 @@ pub enum Compacted {
 }
 
 impl<D: Disk + Drop, C: Journalled> Keeper<D, C> {
-    /// Makes the journal small, a slice at a time, where its frames have more than twice the bytes of the blocks that are held,
-    /// and 32 MiB. At first the records that wait are kept, and a snapshot of the book is taken, for which all its bytes are
-    /// copied with the lock of the store; a new journal is begun with it beside this one. Each later call writes and syncs some
-    /// of it: 1 MiB, and four times as much as was kept since. Once it has all that this one has it takes its place. Where it
-    /// can't be had, the old one goes on, and another is begun once that has 32 MiB more.
+    /// Makes the journal small, a slice at a time, where its frames have more bytes than twice those of the blocks that are
+    /// held, plus 32 MiB. At first the records that wait are kept, and a snapshot of the book is taken, for which all its bytes
+    /// are copied with the lock of the store; a new journal is begun with it beside this one. Each later call writes and syncs
+    /// some of it: at least 1 MiB, and at least four times as much as was kept since the last. Once it has all that this one has
+    /// it takes its place. Where it can't be had, what there is of it is taken away; the old one goes on, and another is begun
+    /// once that has 32 MiB more.
     ///
     /// `Err` is as of [`Keeper::keep`], or Place where it is not known which journal a crash leaves in its place; and from then
     /// on Ended.
-    pub fn compact<
-        R: Ledger,
-        M: Ledger,
-        B: Wait + Drop,
-        W: Wait + time::Clock,
-        P: JournalPlace<D>,
-    >(
+    pub fn compact<R: Ledger, M: Ledger, B: Wait + Drop, W: Wait + time::Clock, P: JournalPlace<D>>(
         &mut self,
         rt: &W,
         shared: &Shared<C, R, M, B>,
@@ -65,9 +62,14 @@ impl<D: Disk + Drop, C: Journalled> Keeper<D, C> {
         ensures well { OnOk result (self.new.failed ≡ false) }
         ensures ended { self.old.failed ≡ true → IsErrOf result KeepFault.Ended × (self.new ≡ self.old) }
         ensures rests { result ≡ Ok Compacted.Rests → self.new ≡ self.old }
+        ensures unsure { IsErrOf result KeepFault.Place → IsSome self.new.maybe_in_place }
+        ensures uncounted { OnErr result (self.new.synced ≡ self.old.synced) }
     {
         if self.has_failed {
             return Err(KeepFault::Ended);
+        }
+        if self.has_lost {
+            return Ok(self.give_up(place));
         }
         if let Some(compaction) = self.compaction.take() {
             return self.go_on(compaction, place);
@@ -78,28 +80,40 @@ impl<D: Disk + Drop, C: Journalled> Keeper<D, C> {
         self.begin(rt, shared, place)
     }
 
-    // Whether the journal is so large that a new one is to be begun.
+    // Whether the journal is so large that a new one is to be begun. It notes beyond how many bytes it is.
     fn is_large<R: Ledger, M: Ledger, B: Wait + Drop, W: Wait>(
-        &self,
+        &mut self,
         rt: &W,
         shared: &Shared<C, R, M, B>,
-    ) -> bool {
+    ) -> bool
+        ensures same { self.new ≡ self.old }
+        ensures large { IsTrue result → (events : List Event)
+            × HaveHappened C.settings events
+            × (2 * held_bytes (book_at C.settings events) + 33554432 < self.new.bytes) }
+    {
         let bytes = self.journal.frames_len() as u64;
-        if bytes <= TOLERATED || bytes < self.patience {
+        if bytes <= ALWAYS_SMALL || bytes < self.try_again_at {
             return false;
         }
         let held = shared.held_bytes(rt);
-        bytes > held.saturating_mul(2).saturating_add(TOLERATED)
+        self.look_at = held.saturating_mul(2).saturating_add(ALWAYS_SMALL);
+        bytes > self.look_at
+    }
+
+    // Gives up what there is of a new journal; another is begun once this one has 32 MiB more.
+    fn give_up<P: JournalPlace<D>>(&mut self, place: &P) -> Compacted
+        ensures same { self.new ≡ self.old }
+        ensures given_up { result ≡ Compacted.GivenUp }
+    {
+        self.compaction = None;
+        self.has_lost = false;
+        self.try_again_at = (self.journal.frames_len() as u64).saturating_add(ALWAYS_SMALL);
+        place.give_up();
+        Compacted::GivenUp
     }
 
     // Begins a new journal beside this one.
-    fn begin<
-        R: Ledger,
-        M: Ledger,
-        B: Wait + Drop,
-        W: Wait + time::Clock,
-        P: JournalPlace<D>,
-    >(
+    fn begin<R: Ledger, M: Ledger, B: Wait + Drop, W: Wait + time::Clock, P: JournalPlace<D>>(
         &mut self,
         rt: &W,
         shared: &Shared<C, R, M, B>,
@@ -114,22 +128,30 @@ impl<D: Disk + Drop, C: Journalled> Keeper<D, C> {
         ensures failed { OnErr result (self.new.failed ≡ true) }
         ensures well { OnOk result (self.new.failed ≡ false) }
         ensures begun { result ≢ Ok Compacted.Rests }
+        ensures unsure { IsErrOf result KeepFault.Place → IsSome self.new.maybe_in_place }
+        ensures uncounted { OnErr result (self.new.synced ≡ self.old.synced) }
     {
-        self.patience = (self.journal.frames_len() as u64).saturating_add(TOLERATED);
         let Some(disk) = place.open_beside() else {
-            return Ok(Compacted::GivenUp);
+            return Ok(self.give_up(place));
         };
         match Draft::new(disk, self.journal.key()) {
-            Ok(draft) => self.take_snapshot(rt, shared, draft),
-            Err(_) => Ok(Compacted::GivenUp),
+            Ok(draft) => self.take_snapshot(rt, shared, place, draft),
+            Err(_) => Ok(self.give_up(place)),
         }
     }
 
     // Keeps the records that wait, and takes a snapshot for a new journal of which nothing is written.
-    fn take_snapshot<R: Ledger, M: Ledger, B: Wait + Drop, W: Wait + time::Clock>(
+    fn take_snapshot<
+        R: Ledger,
+        M: Ledger,
+        B: Wait + Drop,
+        W: Wait + time::Clock,
+        P: JournalPlace<D>,
+    >(
         &mut self,
         rt: &W,
         shared: &Shared<C, R, M, B>,
+        place: &P,
         draft: Draft<D>,
     ) -> Result<Compacted, KeepFault>
         requires well { self.old.failed ≡ false }
@@ -143,6 +165,8 @@ impl<D: Disk + Drop, C: Journalled> Keeper<D, C> {
         ensures failed { OnErr result (self.new.failed ≡ true) }
         ensures well { OnOk result (self.new.failed ≡ false) }
         ensures begun { result ≢ Ok Compacted.Rests }
+        ensures unsure { IsErrOf result KeepFault.Place → IsSome self.new.maybe_in_place }
+        ensures uncounted { OnErr result (self.new.synced ≡ self.old.synced) }
     {
         self.has_failed = true;
         self.compaction = None;
@@ -150,6 +174,7 @@ impl<D: Disk + Drop, C: Journalled> Keeper<D, C> {
             return Err(KeepFault::Queue);
         };
         let RecordsAndSnapshot { records, snapshot } = taken;
+        let mut synced = self.synced;
         keep_taken::<D, C, W>(
             rt,
             self.alloc,
@@ -157,13 +182,14 @@ impl<D: Disk + Drop, C: Journalled> Keeper<D, C> {
             &self.front,
             &records,
             &mut self.granted,
-            &mut self.synced,
+            &mut synced,
         )?;
         let Records { frames: _, reached } = records;
         self.front = reached;
+        self.synced = synced;
         self.has_failed = false;
         let Ok(rooms) = snapshot else {
-            return Ok(Compacted::GivenUp);
+            return Ok(self.give_up(place));
         };
         self.compaction = Some(Compaction::new(self.alloc, draft, rooms));
         Ok(Compacted::GoesOn)
@@ -183,17 +209,19 @@ impl<D: Disk + Drop, C: Journalled> Keeper<D, C> {
         ensures failed { OnErr result (self.new.failed ≡ true) }
         ensures well { OnOk result (self.new.failed ≡ false) }
         ensures begun { result ≢ Ok Compacted.Rests }
+        ensures unsure { IsErrOf result KeepFault.Place → IsSome self.new.maybe_in_place }
+        ensures uncounted { OnErr result (self.new.synced ≡ self.old.synced) }
     {
         let Ok(()) = compaction.write_slice() else {
-            return Ok(Compacted::GivenUp);
+            return Ok(self.give_up(place));
         };
         if !compaction.is_written() {
             self.compaction = Some(compaction);
             return Ok(Compacted::GoesOn);
         }
-        match compaction.finish(self.alloc, self.journal.room()) {
+        match compaction.finish(self.alloc, self.granted as usize) {
             Ok(journal) => self.replace(journal, place),
-            Err(_) => Ok(Compacted::GivenUp),
+            Err(_) => Ok(self.give_up(place)),
         }
     }
 
@@ -205,7 +233,7 @@ impl<D: Disk + Drop, C: Journalled> Keeper<D, C> {
     ) -> Result<Compacted, KeepFault>
         requires well { self.old.failed ≡ false }
         requires key { key_of journal ≡ self.old.key }
-        requires room { room_of journal ≡ self.old.room }
+        requires room { self.old.promised ≤ room_of journal }
         requires keeps { KeepsBook C.settings journal self.old.kept }
         ensures kept { self.new.kept ≡ self.old.kept }
         ensures promised { self.new.promised ≡ self.old.promised }
@@ -213,17 +241,19 @@ impl<D: Disk + Drop, C: Journalled> Keeper<D, C> {
         ensures failed { OnErr result (self.new.failed ≡ true) }
         ensures well { OnOk result (self.new.failed ≡ false) }
         ensures begun { result ≢ Ok Compacted.Rests }
+        ensures unsure { IsErrOf result KeepFault.Place → IsSome self.new.maybe_in_place }
+        ensures uncounted { OnErr result (self.new.synced ≡ self.old.synced) }
     {
-        match place.put_in_place() {
+        match place.put_in_place(&journal) {
             Ok(()) => {
                 self.journal = journal;
-                self.patience = 0;
+                self.look_at = ALWAYS_SMALL;
+                self.try_again_at = 0;
                 Ok(Compacted::Ended)
             }
-            Err(PlaceFault::Stays) => Ok(Compacted::GivenUp),
-            Err(PlaceFault::Unsure) => {
+            Err(Unsure) => {
                 self.has_failed = true;
-                self.other = Some(journal);
+                self.maybe_in_place = Some(journal);
                 Err(KeepFault::Place)
             }
         }

@@ -18,7 +18,7 @@ use std::collections::VecDeque;
 // How many bytes are written and synced at a time, at least.
 const SLICE: u64 = 1 << 20;
 
-// How many bytes more are written for each that was kept meanwhile, so that an end is reached however fast records come.
+// How many bytes are written at least for each that was kept since, so that an end is reached however fast records come.
 const AHEAD: u64 = 4;
 
 /// A new journal, as far as it is written, and what it is still to have.
@@ -29,7 +29,7 @@ pub(crate) struct Compaction<D: Disk> {
     pieces: VecDeque<Vec<u8>>,
     // The frames of the records that were kept since.
     since: VecDeque<Vec<u8>>,
-    // How many bytes are to be written in the next slice.
+    // How many bytes are to be written for those that were kept since the last slice.
     owed: u64,
 }
 
@@ -46,7 +46,7 @@ impl<D: Disk + Drop> Compaction<D> {
             draft,
             pieces: VecDeque::from(snapshot),
             since: VecDeque::new(alloc),
-            owed: SLICE,
+            owed: 0,
         }
     }
 
@@ -64,14 +64,19 @@ impl<D: Disk + Drop> Compaction<D> {
         Ok(())
     }
 
-    /// Writes some of what is left, and syncs: 1 MiB, and four times as much as was kept since the last time. `Err` where a
-    /// write or a sync failed.
+    /// Whether records were kept since the last slice.
+    pub(crate) fn owes(&self) -> bool {
+        self.owed > 0
+    }
+
+    /// Writes some of what is left, frame by frame, and syncs: at least 1 MiB, and at least four times as much as was kept since
+    /// the last time. `Err` where a write or a sync failed.
     pub(crate) fn write_slice(&mut self) -> Result<(), JournalError>
         requires { (key : ℕ) × (records : List (List ℕ)) × WillHave self.old key records }
         ensures { (key : ℕ) (records : List (List ℕ)) → WillHave self.old key records → OnOk result (WillHave self.new key records) }
     {
-        let mut left = self.owed;
-        self.owed = SLICE;
+        let mut left = self.owed.max(SLICE);
+        self.owed = 0;
         'slice: while left > 0 && !self.is_written() {
             let len = self.write_next()?;
             left = left.saturating_sub(len as u64);

@@ -13,7 +13,7 @@ use crate::fault::KeepFault;
 use crate::granting::{AHEAD, SPARE, needed_for};
 use crate::journalled::Journalled;
 use crate::keeping::make_room;
-use crate::numbers::{KeeperNumbers, SyncCounts};
+use crate::numbers::{ALWAYS_SMALL, KeeperNumbers, SyncCounts};
 use crate::taking::{keep_taken, take_behind, tell};
 use journal_file::Journal;
 use sqlite_disk::Disk;
@@ -38,10 +38,14 @@ pub struct Keeper<D: Disk, C: Journalled> {
     pub(crate) synced: SyncCounts,
     // A new journal that is written beside this one.
     pub(crate) compaction: Option<Compaction<D>>,
-    // How large this one is to be before another new one is begun, where the last could not be had.
-    pub(crate) patience: u64,
+    // There was no memory for what such a one was to have, and its file is still there.
+    pub(crate) has_lost: bool,
+    // Beyond how many bytes of frames this one is large, as far as is known.
+    pub(crate) look_at: u64,
+    // How many bytes of frames it is to have before another new one is begun, where the last could not be had.
+    pub(crate) try_again_at: u64,
     // A new one that may have taken its place, where that failed.
-    pub(crate) other: Option<Journal<D>>,
+    pub(crate) maybe_in_place: Option<Journal<D>>,
     opening: PhantomData<C>,
 }
 
@@ -62,10 +66,10 @@ impl<D: Disk, C: Journalled> Model for Keeper<D, C> {
       bytes = end_of k.journal;
       synced = k.synced;
       disk = disk_of k.journal;
-      other = option_map (λ it. disk_of it) k.other;
+      maybe_in_place = option_map (λ it. disk_of it) k.maybe_in_place;
     } };
 
-    ghost invariant = { λ k. IsKeeper C.settings C.log C.journal C.honest k.journal k.other k.front.book k.front.events k.granted k.has_failed
+    ghost invariant = { λ k. IsKeeper C.settings C.log C.journal C.honest k.journal k.maybe_in_place k.front.book k.front.events k.granted k.has_failed
         × IfSome k.compaction (λ c. WillKeep C.settings c (key_of k.journal) k.front.events) };
 }
 
@@ -86,7 +90,7 @@ impl<D: Disk + Drop, C: Journalled> Keeper<D, C> {
           bytes = end_of journal;
           synced = no_syncs;
           disk = disk_of journal;
-          other = None;
+          maybe_in_place = None;
         } }
     {
         Keeper {
@@ -97,8 +101,10 @@ impl<D: Disk + Drop, C: Journalled> Keeper<D, C> {
             has_failed: false,
             synced: SyncCounts::none(),
             compaction: None,
-            patience: 0,
-            other: None,
+            has_lost: false,
+            look_at: ALWAYS_SMALL,
+            try_again_at: 0,
+            maybe_in_place: None,
             opening: PhantomData,
         }
     }
@@ -130,6 +136,18 @@ impl<D: Disk + Drop, C: Journalled> Keeper<D, C> {
             synced: self.synced,
             bytes: self.journal.frames_len() as u64,
             file_bytes: self.journal.file_len() as u64,
+            due_beyond: self.due_beyond(),
+        }
+    }
+
+    // Beyond how many bytes of frames it is to be looked after a sync whether the journal is large: none while a new one is
+    // written that is to have records more, and however many while nothing was kept since its last slice.
+    fn due_beyond(&self) -> u64 {
+        match &self.compaction {
+            Some(compaction) if !compaction.owes() => u64::MAX,
+            Some(_) => 0,
+            None if self.has_lost => 0,
+            None => self.look_at.max(self.try_again_at),
         }
     }
 
@@ -219,7 +237,9 @@ impl<D: Disk + Drop, C: Journalled> Keeper<D, C> {
         tell(&taken.reached, desk)?;
         let Records { frames, reached } = taken;
         self.front = reached;
+        let goes_on = self.compaction.is_some();
         self.compaction = with_kept(self.compaction.take(), frames);
+        self.has_lost = goes_on && self.compaction.is_none();
         self.synced = synced;
         self.has_failed = false;
         Ok(())

@@ -5,8 +5,8 @@ ghost use Rattle.journal_keeper.specs.Numbers.{no_syncs, synced_with};
 use std::time;
 use std::time::Instant;
 
-/// How many bytes the frames of a journal may have, however few bytes are held.
-pub(crate) const TOLERATED: u64 = 32 << 20;
+/// With how many bytes of frames a journal is small, however few bytes are held.
+pub(crate) const ALWAYS_SMALL: u64 = 32 << 20;
 
 /// What a keeper has synced since it was made. Each number stays at 2^64 - 1 once it is there.
 #[derive(Clone, Copy)]
@@ -53,14 +53,29 @@ pub struct KeeperNumbers {
     pub bytes: u64,
     /// The bytes of the journal's file, with the zeros ahead.
     pub file_bytes: u64,
+    // Beyond how many bytes of records it is to be looked after a sync whether the journal is large.
+    pub(crate) due_beyond: u64,
 }
 
 impl KeeperNumbers {
-    /// Whether the journal has more bytes of frames than any may have.
+    /// Whether the journal has more bytes of frames than one that is small however few bytes are held.
     pub(crate) fn may_be_large(&self) -> bool
         ensures { IsTrue result ↔ (33554432 < self.now.bytes) }
     {
-        self.bytes > TOLERATED
+        self.bytes > ALWAYS_SMALL
+    }
+
+    /// Whether it is to be looked after a sync whether the journal is large. Whoever asks next is told no, until the keeper tells
+    /// its numbers again.
+    pub(crate) fn take_due(&mut self) -> bool
+        ensures due { IsTrue result ↔ (self.old.due_beyond < self.old.bytes) }
+        ensures taken { self.new ≡ record self.old { due_beyond = self.new.due_beyond } }
+    {
+        if self.bytes <= self.due_beyond {
+            return false;
+        }
+        self.due_beyond = u64::MAX;
+        true
     }
 }
 

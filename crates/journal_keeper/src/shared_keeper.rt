@@ -74,26 +74,48 @@ impl<D: Disk + Drop, C: Journalled> SharedKeeper<D, C> {
         }
     }
 
-    /// Makes the journal small, a slice at a time, where it has become large ([`Keeper::compact`]). Where it is small, by what the
-    /// keeper told when it was used last, only a lock is taken that nobody holds for long. It may wait for desks, and for a disk.
+    /// Makes the journal small, a slice at a time, where it has become large ([`Keeper::compact`]). Where it is small however few
+    /// bytes are held, by what the keeper told when it was used last, only a lock is taken that nobody holds for long. Else it may
+    /// wait for desks, and for a disk.
     ///
     /// `Err` as of `Keeper::compact`.
-    pub fn compact<
+    pub fn compact<R: Ledger, M: Ledger, B: Wait + Drop, W: Wait + time::Clock, P: JournalPlace<D>>(
+        &self,
+        rt: &W,
+        shared: &Shared<C, R, M, B>,
+        place: &P,
+    ) -> Result<Compacted, KeepFault> {
+        if !self.numbers(rt).may_be_large() {
+            return Ok(Compacted::Rests);
+        }
+        self.compact_locked(rt, shared, place)
+    }
+
+    /// The same after a sync, for whoever asks first after it; the others rest. So they do where the journal was not large when it
+    /// was looked last, and is no longer than one that was large then.
+    ///
+    /// `Err` as of `Keeper::compact`.
+    pub fn compact_synced<
         R: Ledger,
         M: Ledger,
         B: Wait + Drop,
         W: Wait + time::Clock,
         P: JournalPlace<D>,
-    >(
-        &self,
-        rt: &W,
-        shared: &Shared<C, R, M, B>,
-        place: &P,
-    ) -> Result<Compacted, KeepFault>
-    {
-        if !self.numbers(rt).may_be_large() {
+    >(&self, rt: &W, shared: &Shared<C, R, M, B>, place: &P) -> Result<Compacted, KeepFault> {
+        if !self.numbers.lock(rt).take_due() {
             return Ok(Compacted::Rests);
         }
+        self.compact_locked(rt, shared, place)
+    }
+
+    // Takes the lock, and lets the keeper compact.
+    fn compact_locked<
+        R: Ledger,
+        M: Ledger,
+        B: Wait + Drop,
+        W: Wait + time::Clock,
+        P: JournalPlace<D>,
+    >(&self, rt: &W, shared: &Shared<C, R, M, B>, place: &P) -> Result<Compacted, KeepFault> {
         let mut keeper = self.keeper.lock(rt);
         let compacted = keeper.compact(rt, shared, place);
         *self.numbers.lock(rt) = keeper.numbers();

@@ -322,6 +322,17 @@ fn a_nearly_full_disk(rt: HostRuntime) -> Result<(), Fail> {
     Ok(())
 }
 
+// A journal that is made small, on a disk that never fails.
+fn play_small(rt: &HostRuntime, ends: Ends) -> Result<(), Fail> {
+    play_at(
+        rt,
+        rt.alloc(),
+        usize::MAX,
+        u64::MAX,
+        Scene::IsMadeSmall { ends },
+    )
+}
+
 #[test]
 fn a_full_disk(rt: HostRuntime) -> Result<(), Fail> {
     play_at(&rt, rt.alloc(), ROOM + 16, u64::MAX, Scene::DiskIsFull)
@@ -346,20 +357,17 @@ fn what_was_kept_is_left(rt: HostRuntime) -> Result<(), Fail> {
 
 #[test]
 fn a_journal_is_made_small(rt: HostRuntime) -> Result<(), Fail> {
-    for ends in [
-        Ends::InPlace,
-        Ends::Beside,
-        Ends::Unsure,
-        Ends::Nowhere,
-        Ends::Full,
-    ] {
-        play_at(
-            &rt,
-            rt.alloc(),
-            usize::MAX,
-            u64::MAX,
-            Scene::IsMadeSmall { ends },
-        )?;
+    for ends in [Ends::InPlace, Ends::Unsure, Ends::Nowhere, Ends::Full] {
+        play_small(&rt, ends)?;
+    }
+    Ok(())
+}
+
+// A new journal is begun with two calls, a slice takes two or three, and the end takes three more.
+#[test]
+fn a_new_journal_whose_disk_fails(rt: HostRuntime) -> Result<(), Fail> {
+    for calls in 0..12 {
+        play_small(&rt, Ends::FailsAfter(calls))?;
     }
     Ok(())
 }

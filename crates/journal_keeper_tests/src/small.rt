@@ -4,14 +4,16 @@ use crate::requests::{Asked, large_settings};
 use crate::scenes::{KEY, makes};
 use crate::torn_disk::TornDisk;
 use book_replay::replay;
+use journal_file::Journal;
 use journal_frames::Frames;
 use journal_keeper::{
-    Compacted, JournalPlace, Journalled, KeepFault, Keeper, PlaceFault, open_journal,
+    Compacted, JournalPlace, Journalled, KeepFault, Keeper, Unsure, open_journal,
 };
 use sqlite_disk::Fuse;
 use std::alloc::Global;
 use std::process::Abort;
 use std::sync::Wait;
+use std::sync::atomic::{AtomicBool, Ordering};
 use std::sync::ledger::Ledger;
 use std::test::Fail;
 use std::time;
@@ -22,37 +24,42 @@ use tus_shared::{Desk, Shared};
 pub(crate) enum Ends {
     /// It takes the place of the old one.
     InPlace,
-    /// It stays beside it.
-    Beside,
-    /// Nobody knows.
+    /// Nobody knows which of the two stands there.
     Unsure,
     /// There is no file for it.
     Nowhere,
     /// Its disk is full at once.
     Full,
+    /// Its disk fails after so many calls.
+    FailsAfter(u64),
 }
 
-// Where the journal stands.
+// Where the journal stands, and whether a new one was taken away.
 struct Shelf {
     alloc: Global,
     ends: Ends,
+    was_taken_away: AtomicBool,
 }
 
 impl JournalPlace<Fuse<TornDisk>> for Shelf {
     fn open_beside(&self) -> Option<Fuse<TornDisk>> {
-        let room = match self.ends {
+        let (room, calls) = match self.ends {
             Ends::Nowhere => return None,
-            Ends::Full => 10,
-            Ends::InPlace | Ends::Beside | Ends::Unsure => usize::MAX,
+            Ends::Full => (10, u64::MAX),
+            Ends::FailsAfter(calls) => (usize::MAX, calls),
+            Ends::InPlace | Ends::Unsure => (usize::MAX, u64::MAX),
         };
-        Some(Fuse::new(TornDisk::new(self.alloc, room), u64::MAX))
+        Some(Fuse::new(TornDisk::new(self.alloc, room), calls))
     }
 
-    fn put_in_place(&self) -> Result<(), PlaceFault> {
+    fn give_up(&self) {
+        self.was_taken_away.store(true, Ordering::Relaxed);
+    }
+
+    fn put_in_place(&self, _journal: &Journal<Fuse<TornDisk>>) -> Result<(), Unsure> {
         match self.ends {
-            Ends::Beside => Err(PlaceFault::Stays),
-            Ends::Unsure => Err(PlaceFault::Unsure),
-            Ends::InPlace | Ends::Nowhere | Ends::Full => Ok(()),
+            Ends::Unsure => Err(Unsure),
+            _ => Ok(()),
         }
     }
 }
@@ -82,7 +89,11 @@ pub(crate) fn is_made_small<C: Journalled, R: Ledger, M: Ledger, W: Wait + Abort
     desk: &mut Desk<C, R, M>,
     ends: Ends,
 ) -> Result<(), Fail> {
-    let shelf = Shelf { alloc, ends };
+    let shelf = Shelf {
+        alloc,
+        ends,
+        was_taken_away: AtomicBool::new(false),
+    };
     let body = vec![in alloc; 7u8; 4 << 20]?;
     desk.grant(1 << 30);
     assert!(rt; matches!(keeper.compact(rt, shared, &shelf), Ok(Compacted::Rests)));
@@ -100,15 +111,36 @@ pub(crate) fn is_made_small<C: Journalled, R: Ledger, M: Ledger, W: Wait + Abort
     let ended = keeper.compact(rt, shared, &shelf);
     match ends {
         Ends::InPlace => {
-            assert!(rt; matches!((begun, ended), (Ok(Compacted::GoesOn), Ok(Compacted::Ended))));
+            assert!(rt;
+                matches!(
+                    (begun, ended),
+                    (Ok(Compacted::GoesOn), Ok(Compacted::Ended))
+                )
+            );
             assert!(rt; keeper.numbers().bytes < 1_000);
         }
-        Ends::Beside | Ends::Full => {
-            assert!(rt; matches!((begun, ended), (Ok(Compacted::GoesOn), Ok(Compacted::GivenUp))));
+        Ends::Full => {
+            assert!(rt;
+                matches!(
+                    (begun, ended),
+                    (Ok(Compacted::GoesOn), Ok(Compacted::GivenUp))
+                )
+            );
             assert!(rt; keeper.numbers().bytes > large);
         }
         Ends::Nowhere => {
-            assert!(rt; matches!((begun, ended), (Ok(Compacted::GivenUp), Ok(Compacted::Rests))));
+            assert!(rt;
+                matches!(
+                    (begun, ended),
+                    (Ok(Compacted::GivenUp), Ok(Compacted::Rests))
+                )
+            );
+        }
+        Ends::FailsAfter(_) => {
+            let is_given_up = matches!(begun, Ok(Compacted::GivenUp))
+                || matches!(ended, Ok(Compacted::GivenUp));
+            assert!(rt; is_given_up == shelf.was_taken_away.load(Ordering::Relaxed));
+            assert!(rt; is_given_up != (keeper.numbers().bytes < 1_000));
         }
         Ends::Unsure => {
             assert!(rt; matches!(ended, Err(KeepFault::Place)));

@@ -30,9 +30,10 @@ invariant_of-self-2 g c =
     let was : c.take.result ≡ c.self.inside.compaction = search rules in
     let keeps = subst (λ (it : Option (Compaction g.row.D.Denot g.D.Disk)). IfSome it (λ one. WillKeep s one key c.self.inside.front.events)) (sym was) c.self.invariant.1 in
     let more = will-keep-more s key c.self.inside.front.events taken.more c.take.result c.with_kept.result taken.again keeps (λ records have. c.with_kept.ensures.more key records (event_records taken.more) have are fit) c.with_kept.ensures.none in
-    let reached = subst (λ (events : List Event). IfSome c.with_kept.result (λ it. WillKeep s it key events)) (sym taken.reaches) more in
-    (kept-more c.self.inside.journal c.keep_taken.new.journal _ _ _ _ _ _ _ _ _ c.self.inside.granted _ _ c.if-self.false is told.key found.log taken.happened told.kept told.covered,
-     will-keep-under _ _ _ _ c.with_kept.result told.key reached)
+    let reached = subst (λ (events : List Event). IfSome c.with_kept.result (λ it. WillKeep s it key events)) (sym taken.reaches) more in (
+      kept-more c.self.inside.journal c.keep_taken.new.journal _ _ _ _ _ _ _ _ _ c.self.inside.granted _ _ c.if-self.false is told.key found.log taken.happened told.kept told.covered,
+      will-keep-under _ _ _ _ c.with_kept.result told.key reached,
+    )
 
 pub returns-clause-keeps : goal.returns-clause-keeps
 returns-clause-keeps g c =

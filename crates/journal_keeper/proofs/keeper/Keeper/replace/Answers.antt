@@ -1,4 +1,4 @@
-use Rattle.std.proofs.Common.{◌≡◌, List, false, ap, subst, sym, ◌∙◌}
+use Rattle.std.proofs.Common.{◌≡◌, ◌≤◌, ℕ, List, false, ap, subst, sym, ◌∙◌}
 use Rattle.head_board.specs.Event.{Event}
 use Rattle.journal_file.specs.Journal.{key_of, room_of}
 use Rattle.journal_keeper.specs.Keeper.{KeepsBook}
@@ -12,7 +12,7 @@ invariant_of-self g c =
     let view = c.self.view_is in
     let well : c.self.inside.has_failed ≡ false = ap (λ k. k.failed) view ∙ c.requires.well in
     let key : key_of c.args.journal ≡ key_of c.self.inside.journal = c.requires.key ∙ sym (ap (λ k. k.key) view) in
-    let room : room_of c.args.journal ≡ room_of c.self.inside.journal = c.requires.room ∙ sym (ap (λ k. k.room) view) in
+    let room : c.self.inside.granted ≤ room_of c.args.journal = subst (λ (n : ℕ). n ≤ room_of c.args.journal) (sym (ap (λ k. k.promised) view)) c.requires.room in
     let keeps : KeepsBook s c.args.journal c.self.inside.front.events = subst (λ (events : List Event). KeepsBook s c.args.journal events) (sym (ap (λ k. k.kept) view)) c.requires.keeps in
     (kept-instead c.self.inside.journal c.args.journal _ _ _ _ _ _ _ _ _ well c.self.invariant.0 key room keeps, will-keep-under _ _ _ _ c.self.inside.compaction key c.self.invariant.1)
 
@@ -23,3 +23,6 @@ invariant_of-self-in-Err-Unsure g c =
     let key : key_of c.args.journal ≡ key_of c.self.inside.journal = c.requires.key ∙ sym (ap (λ k. k.key) view) in
     let keeps : KeepsBook s c.args.journal c.self.inside.front.events = subst (λ (events : List Event). KeepsBook s c.args.journal events) (sym (ap (λ k. k.kept) view)) c.requires.keeps in
     (kept-beside c.self.inside.journal c.args.journal _ _ _ _ _ _ _ _ _ c.self.invariant.0 key keeps, c.self.invariant.1)
+
+pub put_in_place-requires : goal.put_in_place-requires
+put_in_place-requires g c = (c.requires.keeps.records, c.requires.keeps.holds)

@@ -30,10 +30,11 @@ invariant_of-self-2 g c =
     let records = snapshot_records 0 b in
     let made : IsSnapshot 0 b (map {A = Vec ℕ Global} {B = List ℕ} (λ room. room.items) c.in-Ok.rooms.items) =
     subst (λ (r : Result (Vec (Vec ℕ Global) Global) SnapshotFault). IfOk r (λ rooms. IsSnapshot 0 b (map {A = Vec ℕ Global} {B = List ℕ} (λ room. room.items) rooms.items))) c.in-Ok.is found.snapshot in
-    let key : draft_key c.args.draft ≡ key_of c.keep_taken.new.journal = c.requires.key ∙ sym (ap (λ k. k.key) view) ∙ sym told.key in
-    (kept-more c.self.inside.journal c.keep_taken.new.journal _ _ _ _ _ _ _ _ _ c.self.inside.granted _ _ well c.self.invariant.0 told.key found.log found.taken.happened told.kept told.covered,
-     record {
-       records = records;
-       have = subst (λ (k : ℕ). WillHave c.new.result k records) key (c.new.ensures records c.requires.draft made.records made.fits);
-       make = ap (λ (x : Settings). replayed 1 (opening_book x) records) (sym (at-settings s c.in-Some.taken.records.reached.events)) ∙ made.made 1;
-     })
+    let key : draft_key c.args.draft ≡ key_of c.keep_taken.new.journal = c.requires.key ∙ sym (ap (λ k. k.key) view) ∙ sym told.key in (
+      kept-more c.self.inside.journal c.keep_taken.new.journal _ _ _ _ _ _ _ _ _ c.self.inside.granted _ _ well c.self.invariant.0 told.key found.log found.taken.happened told.kept told.covered,
+      record {
+        records = records;
+        have = subst (λ (k : ℕ). WillHave c.new.result k records) key (c.new.ensures records c.requires.draft made.records made.fits);
+        make = ap (λ (x : Settings). replayed 1 (opening_book x) records) (sym (at-settings s c.in-Some.taken.records.reached.events)) ∙ made.made 1;
+      },
+    )
