@@ -16,6 +16,7 @@ mod place;
 mod progress;
 mod shared_keeper;
 mod taking;
+mod told;
 
 pub use compacting::Compacted;
 pub use fault::{KeepFault, ReopenFault};

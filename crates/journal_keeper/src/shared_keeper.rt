@@ -1,4 +1,4 @@
-ghost use Rattle.std.specs.Prelude.{◌≡◌, OnErr, OnOk};
+ghost use Rattle.std.specs.Prelude.{◌≡◌, false, IsTrue, OnErr, OnOk};
 ghost use mathlib.Core.List.{IsPrefix};
 ghost use Rattle.journal_keeper.specs.Granting.{MayHaveMore};
 
@@ -9,6 +9,8 @@ use crate::journalled::Journalled;
 use crate::keeper::Keeper;
 use crate::numbers::KeeperNumbers;
 use crate::place::JournalPlace;
+use crate::taking::tell;
+use crate::told::Told;
 use sqlite_disk::Disk;
 use std::sync::ledger::Ledger;
 use std::sync::{Mutex, Wait};
@@ -21,21 +23,22 @@ use tus_shared::{Desk, Shared};
 pub struct SharedKeeper<D: Disk, C: Journalled> {
     keeper: Mutex<Keeper<D, C>>,
     // What the keeper told when it was used last. Nobody waits for a disk while this lock is held.
-    numbers: Mutex<KeeperNumbers>,
+    told: Mutex<Told<C>>,
 }
 
 impl<D: Disk + Drop, C: Journalled> SharedKeeper<D, C> {
     /// Puts a keeper behind a lock.
     pub fn new(keeper: Keeper<D, C>) -> SharedKeeper<D, C> {
-        let numbers = Mutex::new(keeper.numbers());
+        let told = Mutex::new(Told::by(&keeper));
         SharedKeeper {
             keeper: Mutex::new(keeper),
-            numbers,
+            told,
         }
     }
 
-    /// Keeps all that this desk has seen, and tells it so ([`Keeper::keep`]). Where it knows that already, no lock is taken;
-    /// else that of the keeper, and that of the store for a moment. It may wait for other desks.
+    /// Keeps all that this desk has seen, and tells it so ([`Keeper::keep`]). Where it knows that already, no lock is taken; and
+    /// where the keeper told so when it was used last, only one that nobody holds for long. Else the lock of the keeper is taken,
+    /// and that of the store for a moment; then it may wait for other desks, and for a disk.
     ///
     /// `Err` as of `Keeper::keep`; then the desk is told nothing.
     pub fn keep<R: Ledger, M: Ledger, B: Wait + Drop, W: Wait + time::Clock>(
@@ -48,13 +51,24 @@ impl<D: Disk + Drop, C: Journalled> SharedKeeper<D, C> {
         ensures desk { OnOk result (desk.new ≡ record desk.old { kept = desk.new.kept }) }
         ensures same { OnErr result (desk.new ≡ desk.old) }
     {
-        if desk.is_kept() {
+        if desk.is_kept() || self.has_told(rt, desk) {
             return Ok(());
         }
         let mut keeper = self.keeper.lock(rt);
         let kept = keeper.keep(rt, shared, desk);
-        *self.numbers.lock(rt) = keeper.numbers();
+        *self.told.lock(rt) = Told::by(&keeper);
         kept
+    }
+
+    // Tells a desk how far the events are kept, if the keeper told when it was used last that all which the desk has seen is. Says
+    // whether it did; else the desk stays.
+    fn has_told<R: Ledger, M: Ledger, W: Wait>(&self, rt: &W, desk: &mut Desk<C, R, M>) -> bool
+        ensures told { IsTrue result → IsPrefix desk.new.seen desk.new.kept }
+        ensures desk { desk.new ≡ record desk.old { kept = desk.new.kept } }
+        ensures same { result ≡ false → desk.new ≡ desk.old }
+    {
+        let front = self.told.lock(rt).front();
+        desk.seen_events().begins(&front) && tell(&front, desk).is_ok()
     }
 
     /// Sees to it that a desk may queue so many bytes of records, and 65,536 more, where the journal has or gets room for
@@ -70,7 +84,7 @@ impl<D: Disk + Drop, C: Journalled> SharedKeeper<D, C> {
         if needed_for(desk.room(), bytes).is_some() {
             let mut keeper = self.keeper.lock(rt);
             keeper.make_room(desk, bytes);
-            *self.numbers.lock(rt) = keeper.numbers();
+            *self.told.lock(rt) = Told::by(&keeper);
         }
     }
 
@@ -102,7 +116,7 @@ impl<D: Disk + Drop, C: Journalled> SharedKeeper<D, C> {
         W: Wait + time::Clock,
         P: JournalPlace<D>,
     >(&self, rt: &W, shared: &Shared<C, R, M, B>, place: &P) -> Result<Compacted, KeepFault> {
-        if !self.numbers.lock(rt).take_due() {
+        if !self.told.lock(rt).numbers.take_due() {
             return Ok(Compacted::Rests);
         }
         self.compact_locked(rt, shared, place)
@@ -118,19 +132,19 @@ impl<D: Disk + Drop, C: Journalled> SharedKeeper<D, C> {
     >(&self, rt: &W, shared: &Shared<C, R, M, B>, place: &P) -> Result<Compacted, KeepFault> {
         let mut keeper = self.keeper.lock(rt);
         let compacted = keeper.compact(rt, shared, place);
-        *self.numbers.lock(rt) = keeper.numbers();
+        *self.told.lock(rt) = Told::by(&keeper);
         compacted
     }
 
     /// What the keeper told when it was used last ([`Keeper::numbers`]). It waits for no disk: the lock that it takes is held
     /// only while numbers are copied.
     pub fn numbers<W: Wait>(&self, rt: &W) -> KeeperNumbers {
-        *self.numbers.lock(rt)
+        self.told.lock(rt).numbers
     }
 
     /// The keeper, out of the lock.
     pub fn into_keeper(self) -> Keeper<D, C> {
-        let SharedKeeper { keeper, numbers: _ } = self;
+        let SharedKeeper { keeper, told: _ } = self;
         keeper.into_inner()
     }
 }
