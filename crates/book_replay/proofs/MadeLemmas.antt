@@ -97,7 +97,7 @@ restorable-decides r =
 piece-decides : (tenants : ℕ) (restored : Restored) → Decides (can_be_put_back tenants restored) (CanBePutBack tenants restored)
 piece-decides tenants (piece.Upload tenant r) = Decides-and (ltb tenant tenants) (is_restorable r) (Decides-ltb tenant tenants) (restorable-decides r)
 piece-decides tenants (piece.Next tenant next) = Decides-ltb tenant tenants
-piece-decides tenants (piece.Totals charged released) = (λ e. tt, λ h. refl)
+piece-decides tenants (piece.Totals released) = (λ e. tt, λ h. refl)
 
 pub made-decides : (tenants : ℕ) (change : Change) → Decides (can_be_made tenants change) (CanBeMade tenants change)
 made-decides tenants (change.Create tenant new first) =

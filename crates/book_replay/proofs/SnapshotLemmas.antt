@@ -220,12 +220,11 @@ snapshot-made now number b moment lawful numbers =
     ∙ ap Ok (after-pieces now opening (snapshot_of b) ∙ snapshots_restore.restored b lawful)
 
 -- all are put
-pub snapshot-put : (now : ℕ) (b : PlainBook) (charged released : ℕ) (before between after : List (List ℕ)) → before ≡ [] → charged ≡ b.charged → released ≡ b.released → now ≤ 253402300799 → IsLawful b
-    → ArePut now (parts_kept 0 b.tenants) before between → ArePut now (Totals charged released ∷ []) between after → IsSnapshot now b after
-snapshot-put now b charged released before between after none paid back moment lawful parts totals =
-    let last : ArePut now (Totals b.charged b.released ∷ []) between after =
-    subst (λ (n : ℕ). ArePut now (Totals n b.released ∷ []) between after) paid (subst (λ (n : ℕ). ArePut now (Totals charged n ∷ []) between after) back totals) in
-    let all : ArePut now (snapshot_of b) before after = put-then now (parts_kept 0 b.tenants) (Totals b.charged b.released ∷ []) before between after parts last in
+pub snapshot-put : (now : ℕ) (b : PlainBook) (released : ℕ) (before between after : List (List ℕ)) → before ≡ [] → released ≡ b.released → now ≤ 253402300799 → IsLawful b
+    → ArePut now (parts_kept 0 b.tenants) before between → ArePut now (Totals released ∷ []) between after → IsSnapshot now b after
+snapshot-put now b released before between after none back moment lawful parts totals =
+    let last : ArePut now (Totals b.released ∷ []) between after = subst (λ (n : ℕ). ArePut now (Totals n ∷ []) between after) back totals in
+    let all : ArePut now (snapshot_of b) before after = put-then now (parts_kept 0 b.tenants) (Totals b.released ∷ []) before between after parts last in
     record {
       records = all.records ∙ ap (λ (l : List (List ℕ)). l ++ map behind_room (snapshot_records now b)) none;
       fits = all.fits;

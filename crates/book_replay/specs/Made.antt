@@ -60,7 +60,7 @@ is_restorable r = has_segments r.kind r.id r.segments && is_kept_metadata r.meta
 abbrev pub can_be_put_back : ℕ → Restored → Bool
 can_be_put_back tenants (piece.Upload tenant r) = nat_lt tenant tenants && is_restorable r
 can_be_put_back tenants (piece.Next tenant next) = nat_lt tenant tenants
-can_be_put_back tenants (piece.Totals charged released) = true
+can_be_put_back tenants (piece.Totals released) = true
 
 -- a creation and a concatenation are of one of so many tenants, and such ones
 abbrev pub can_be_made : ℕ → Change → Bool

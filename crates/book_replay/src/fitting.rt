@@ -67,10 +67,7 @@ fn tell_piece(tenants: usize, restored: &Restored)
     match restored {
         Restored::Upload { upload, .. } => tell_back(upload),
         Restored::Next { next, .. } => tell_id(*next),
-        Restored::Totals { charged, released } => {
-            tell_id(*charged);
-            tell_id(*released);
-        }
+        Restored::Totals { released } => tell_id(*released),
     }
 }
 

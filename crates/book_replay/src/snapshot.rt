@@ -15,7 +15,7 @@ use std::alloc::Global;
 use upload_book::{Book, Change, KeptSegment, KeptUpload, Moment, Restored};
 
 // How many bytes the record of a next id or of the totals has at most.
-const SMALL_LEN: usize = 25;
+const SMALL_LEN: usize = 18;
 
 // How many bytes the record of an upload has at least: its moment, which change it is, its tenant, how many segments it has,
 // its id, what it is for, that it has no length and no end, and how long its metadata is.
@@ -36,10 +36,11 @@ pub fn snapshot_records(
 {
     // its contract tells that dates can name the moment
     let _secs = now.secs();
+    // and these that the book is lawful
+    let _settings = book.settings();
     let mut rooms = Vec::new(alloc);
     put_parts(alloc, &mut rooms, book, now)?;
     let totals = Restored::Totals {
-        charged: book.charged_total(),
         released: book.released_total(),
     };
     put_piece(alloc, &mut rooms, now, totals)?;

@@ -12,19 +12,23 @@ use upload_book::{
 /// The key of all frames here.
 pub(crate) const KEY: u64 = 7;
 
-const NUMBERS: Numbers = Numbers {
-    blocks: 12,
-    block_size: 4,
-    lifetime: 3600,
-    max_size: 64,
-    uploads: 4,
-    last_id: u64::MAX - 1,
-    last_total: u64::MAX,
-};
-
-/// The settings of acme with 8 blocks and beta with 4.
+/// The settings of acme with 8 blocks and beta with 4, of 4 bytes each.
 pub(crate) fn settings(rt: &impl Abort) -> Settings {
-    let Ok(settings) = Settings::new(NUMBERS, &[(b"acme", 8), (b"beta", 4)]) else {
+    settings_of(rt, 4)
+}
+
+/// The same with blocks of so many bytes.
+pub(crate) fn settings_of(rt: &impl Abort, block_size: u64) -> Settings {
+    let numbers = Numbers {
+        blocks: 12,
+        block_size,
+        lifetime: 3600,
+        max_size: 64,
+        uploads: 4,
+        last_id: u64::MAX - 1,
+        last_total: u64::MAX,
+    };
+    let Ok(settings) = Settings::new(numbers, &[(b"acme", 8), (b"beta", 4)]) else {
         panic!(rt; "no settings");
     };
     settings

@@ -1,5 +1,5 @@
 //! The records of a book's snapshot, and the book that is made again of them.
-use crate::changes::{KEY, acme, creation, joined, patch, put, records, settings};
+use crate::changes::{KEY, acme, creation, joined, patch, put, records, settings, settings_of};
 use book_replay::{replay, snapshot_records};
 use journal_frames::close_frame;
 use std::alloc::Global;
@@ -132,6 +132,37 @@ fn a_book_is_made_again(rt: HostRuntime) -> Result<(), Fail> {
     assert_content(&rt, &book, &acme(4), b"helloworld");
     assert!(&rt; book.accounts() == was.accounts());
     assert!(&rt; book.expiries() == was.expiries());
+    Ok(())
+}
+
+// The bytes that acme's first upload has so far.
+fn assert_so_far(rt: &impl Abort, book: &Book, bytes: &[u8]) {
+    let Ok(content) = book.so_far(&acme(1), moment(rt), book.no_room()) else {
+        panic!(rt; "no bytes");
+    };
+    assert!(rt; content.as_slice() == bytes);
+}
+
+// With blocks of 2 bytes acme pays 1, 3 and 3 blocks, and beta 1.
+fn assert_paid_in_twos(rt: &impl Abort, book: &Book) {
+    let accounts = book.accounts();
+    assert!(rt; accounts.charge[0] == 7);
+    assert!(rt; accounts.charge[1] == 1);
+    assert!(rt; accounts.released == 1);
+    assert!(rt; accounts.charged == 9);
+    assert!(rt; book.free_blocks() == 4);
+}
+
+// What was released stays, and what is paid is charged.
+#[test]
+fn a_book_is_made_again_in_blocks_of_another_size(rt: HostRuntime) -> Result<(), Fail> {
+    let was = some_book(&rt, rt.alloc())?;
+    let frames = snapshot(&rt, rt.alloc(), &was, 11)?;
+    let book = replay(rt.alloc(), settings_of(&rt, 2), records(&frames))?;
+    assert_rows(&rt, &book);
+    assert_so_far(&rt, &book, b"he");
+    assert_content(&rt, &book, &acme(4), b"helloworld");
+    assert_paid_in_twos(&rt, &book);
     Ok(())
 }
 

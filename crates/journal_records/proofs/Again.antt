@@ -173,9 +173,9 @@ piece_again (piece.Next tenant next) fits =
     let name : Name = record { tenant = tenant; id = next } in
     let read : name_at (name_bytes name) ≡ Some (name, []) = ap name_at (sym (append-nil (name_bytes name))) ∙ name_again name [] fits in
     rw read refl
-piece_again (piece.Totals charged released) fits =
-    let read : number_at (number released) ≡ Some (released, []) = ap number_at (sym (append-nil (number released))) ∙ number_again released [] fits.1 in
-    rw (number_again charged (number released) fits.0, read) refl
+piece_again (piece.Totals released) fits =
+    let read : number_at (number released) ≡ Some (released, []) = ap number_at (sym (append-nil (number released))) ∙ number_again released [] fits in
+    rw read refl
 
 change_again : (change : Change) → FitsChange change → change_at (change_bytes change) ≡ Some change
 unfolding change_at create_at append_at concat_at terminate_at

@@ -403,15 +403,12 @@ next_spelled bytes x are is =
 totals_spelled : (bytes : List ℕ) (x : Change) → AreBytes bytes → totals_at bytes ≡ Some x → Spelled 7 bytes x
 unfolding totals_at
 totals_spelled bytes x are is =
-    let a = bind_some (number_at bytes) (λ charged. number_at charged.1 >>= λ released. at_end released >>= λ ended. Some (Restore (piece.Totals charged.0 ended))) x is in
-    let b = bind_some (number_at a.0.1) (λ released. at_end released >>= λ ended. Some (Restore (piece.Totals a.0.0 ended))) x a.2 in
-    let d = bind_some (at_end b.0) (λ ended. Some (Restore (piece.Totals a.0.0 ended))) x b.2 in
+    let a = bind_some (number_at bytes) (λ released. at_end released >>= λ ended. Some (Restore (piece.Totals ended))) x is in
+    let b = bind_some (at_end a.0) (λ ended. Some (Restore (piece.Totals ended))) x a.2 in
     let t0 = number_takes bytes a.0 are a.1 in
-    let t1 = number_takes a.0.1 b.0 t0.0.rest_are b.1 in
-    let e = end_spelled b.0.0 b.0.1 d.0 d.1 in
-    let all : List ℕ = number a.0.0 ++ number b.0.0 in
-    let whole : bytes ≡ all = (then_takes bytes (number a.0.0) a.0.1 (number b.0.0) b.0.1 t0.0 t1.0).parts ∙ ap (λ (t : List ℕ). all ++ t) e.0 ∙ append-nil all in
-    subst (Spelled 7 bytes) (ap (λ (n : ℕ). Restore (piece.Totals a.0.0 n)) e.1 ∙ some_is (Restore (piece.Totals a.0.0 d.0)) x d.2) (ap (λ (t : List ℕ). 7 ∷ t) whole, (t0.1, t1.1))
+    let e = end_spelled a.0.0 a.0.1 b.0 b.1 in
+    let whole : bytes ≡ number a.0.0 = t0.0.parts ∙ ap (λ (t : List ℕ). number a.0.0 ++ t) e.0 ∙ append-nil (number a.0.0) in
+    subst (Spelled 7 bytes) (ap (λ (n : ℕ). Restore (piece.Totals n)) e.1 ∙ some_is (Restore (piece.Totals b.0)) x b.2) (ap (λ (t : List ℕ). 7 ∷ t) whole, t0.1)
 
 -- which way a test went
 chosen : {A : Type 0} (b : Bool) (o p : Option A) (y : A) → cond b o p ≡ Some y → ((b ≡ true) × (o ≡ Some y)) ⊎ ((b ≡ false) × (p ≡ Some y))

@@ -224,10 +224,9 @@ next_at bytes = do
 
 unfoldable pub totals_at : List ℕ → Option Change
 totals_at bytes = do
-  charged ← number_at bytes
-  released ← number_at charged.1
+  released ← number_at bytes
   ended ← at_end released
-  Some (Restore (piece.Totals charged.0 ended))
+  Some (Restore (piece.Totals ended))
 
 -- a change that lends no list, by its kind
 abbrev pub other_at : ℕ → List ℕ → Option Change

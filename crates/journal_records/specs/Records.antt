@@ -90,7 +90,7 @@ back_bytes r = segments_bytes r.segments ++ number r.id ++ (kind_byte r.kind ∷
 abbrev pub piece_bytes : Restored → List ℕ
 piece_bytes (piece.Upload tenant r) = 5 ∷ tenant ∷ back_bytes r
 piece_bytes (piece.Next tenant next) = 6 ∷ name_bytes (record { tenant = tenant; id = next })
-piece_bytes (piece.Totals charged released) = 7 ∷ (number charged ++ number released)
+piece_bytes (piece.Totals released) = 7 ∷ number released
 
 -- a byte for which change it is, and its fields
 abbrev pub change_bytes : Change → List ℕ
@@ -149,7 +149,7 @@ pub record FitsBack (r : RestoredUpload) : Type 0 where
 abbrev pub FitsPiece : Restored → Type 0
 FitsPiece (piece.Upload tenant r) = FitsBack r
 FitsPiece (piece.Next tenant next) = IsNumber next
-FitsPiece (piece.Totals charged released) = IsNumber charged × IsNumber released
+FitsPiece (piece.Totals released) = IsNumber released
 
 -- its numbers fit their eight bytes, a SHA-1 has 20 bytes, an end is a moment, and a concatenation and an upload that is
 -- put back have at most 32 parts

@@ -45,10 +45,9 @@ pub(crate) fn next_of(bytes: &[u8]) -> Option<Change<'_>>
 pub(crate) fn totals_of(bytes: &[u8]) -> Option<Change<'_>>
     ensures { Gives (λ change. change) result (totals_at bytes.now) }
 {
-    let (charged, rest) = number_of(bytes)?;
-    let (released, rest) = number_of(rest)?;
+    let (released, rest) = number_of(bytes)?;
     if rest.is_empty() {
-        Some(Change::Restore(Restored::Totals { charged, released }))
+        Some(Change::Restore(Restored::Totals { released }))
     } else {
         None
     }

@@ -21,9 +21,8 @@ pub(crate) fn put_piece(out: &mut Vec<u8>, restored: &Restored) -> Result<(), Al
             out.extend_from_slice(&[NEXT, *tenant])?;
             put_number(out, *next)
         }
-        Restored::Totals { charged, released } => {
+        Restored::Totals { released } => {
             out.extend_from_slice(&[TOTALS])?;
-            put_number(out, *charged)?;
             put_number(out, *released)
         }
     }

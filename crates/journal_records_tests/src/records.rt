@@ -248,13 +248,9 @@ fn totals(rt: HostRuntime) -> Result<(), Fail> {
     let bytes = [
         0, 0, 0, 0, 0, 0, 1, 2, // the moment
         7, // totals
-        0, 0, 0, 0, 0, 0, 0, 9, // what was charged
-        0, 0, 0, 0, 0, 0, 0, 4, // and released
+        0, 0, 0, 0, 0, 0, 1, 4, // what was released
     ];
-    let change = Change::Restore(Restored::Totals {
-        charged: 9,
-        released: 4,
-    });
+    let change = Change::Restore(Restored::Totals { released: 260 });
     assert_written(&rt, rt.alloc(), &change, &bytes)?;
     assert_read(&rt, rt.alloc(), &bytes)
 }

@@ -41,8 +41,7 @@ fn copied_piece<'a>(restored: &Restored<'a>) -> Restored<'a>
             tenant: *tenant,
             next: *next,
         },
-        Restored::Totals { charged, released } => Restored::Totals {
-            charged: *charged,
+        Restored::Totals { released } => Restored::Totals {
             released: *released,
         },
     }

@@ -186,7 +186,7 @@ after_back p q r same =
 alike_with : (few : ℕ) (b c : PlainBook) (restored : Restored) → AreAlike few b c → AreAlike few (book_with b restored) (book_with c restored)
 alike_with few b c (piece.Upload t r) alike = alike_after few b c t _ _ alike (λ here. after_back (tenant_book b t) (tenant_book c t) r (alike.parts t here))
 alike_with few b c (piece.Next t next) alike = alike_after few b c t _ _ alike (λ here. record { next = refl; uploads = (alike.parts t here).uploads })
-alike_with few b c (piece.Totals charged released) alike = record { lifetime = alike.lifetime; old_long = alike.old_long; new_long = alike.new_long; parts = alike.parts }
+alike_with few b c (piece.Totals released) alike = record { lifetime = alike.lifetime; old_long = alike.old_long; new_long = alike.new_long; parts = alike.parts }
 
 -- one that is accepted is not refused
 unrefused : (r : Option Refusal) → IsOk (outcome_in (λ (given : Outcome). given) (unless r outcome.Restored)) → r ≡ None

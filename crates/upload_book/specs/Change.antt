@@ -115,7 +115,7 @@ put_back tenant r sent =
 abbrev pub head_of_piece : PlainBook → Restored → Option HeadChange
 head_of_piece b (piece.Upload tenant r) = put_back tenant r (sent_back (sent_in (tenant_book b tenant).uploads) r.segments)
 head_of_piece b (piece.Next tenant next) = Some (Next (record { tenant = tenant; id = next }))
-head_of_piece b (piece.Totals charged released) = Some Totals
+head_of_piece b (piece.Totals released) = Some Totals
 
 -- what a change at a moment changes of the heads, where it is not refused
 abbrev pub head_change : PlainBook → Change → ℕ → Option HeadChange

@@ -106,7 +106,7 @@ pub record IsReadyForBack (b : StoredBook) (r : ReadyBack) : Type 0 where
 
 -- the same of totals
 abbrev pub IsReadyForTotals : StoredBook → ReadyTotals → Type 0
-IsReadyForTotals b r = piece_refusal (plain_of b) (piece.Totals r.charged r.released) ≡ None
+IsReadyForTotals b r = piece_refusal (plain_of b) (piece.Totals r.released) ≡ None
 
 -- the book is ready to put back a piece
 abbrev pub IsReadyForPiece : StoredBook → ReadyPiece → Type 0
@@ -120,7 +120,7 @@ abbrev pub piece_in : ReadyPiece → Restored
 piece_in (ready.Own r) = piece.Upload r.tenant r.upload
 piece_in (ready.Joined r) = piece.Upload r.tenant r.upload
 piece_in (ready.Next r) = piece.Next r.tenant r.next
-piece_in (ready.Totals r) = piece.Totals r.charged r.released
+piece_in (ready.Totals r) = piece.Totals r.released
 
 -- the book is ready for a change: for a sweep it always is
 abbrev pub IsReadyForStep : StoredBook → Step → Type 0

@@ -126,12 +126,12 @@ impl Book {
     fn accounts_after_totals(&self, ready: &ReadyTotals) -> Accounts
         requires { IsReadyForTotals self.now ready.now }
         ensures { result ≡ accounts_of (book_after_piece (plain_of self.now)
-            (piece.Totals ready.entry.now.charged ready.entry.now.released)) }
+            (piece.Totals ready.entry.now.released)) }
     {
         let accounts = self.accounts();
         let charge = accounts.charge;
         Accounts {
-            charged: ready.charged,
+            charged: self.charged_with(ready.released),
             released: ready.released,
             charge,
         }

@@ -197,7 +197,7 @@ impl Book {
     fn head_of_totals(&self, ready: &ReadyTotals) -> HeadChange
         requires { IsReadyForTotals self.now ready.now }
         ensures { (now : ℕ) → head_change (plain_of self.now)
-            (change.Restore (piece.Totals ready.entry.now.charged ready.entry.now.released)) now ≡ Some result }
+            (change.Restore (piece.Totals ready.entry.now.released)) now ≡ Some result }
     {
         HeadChange::Totals
     }
@@ -327,7 +327,7 @@ impl Book {
     fn note_of_totals<'a>(&self, ready: &ReadyTotals) -> NotedChange<'a>
         requires { IsReadyForTotals self.now ready.now }
         ensures { (now : ℕ) → IsNoted (plain_of self.now)
-            (change.Restore (piece.Totals ready.entry.now.charged ready.entry.now.released)) now result }
+            (change.Restore (piece.Totals ready.entry.now.released)) now result }
     {
         NotedChange::Totals
     }

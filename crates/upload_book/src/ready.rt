@@ -102,10 +102,9 @@ pub(crate) struct ReadyNext {
     pub(crate) next: u64,
 }
 
-/// Totals that are put back: how many blocks were charged so far, and how many of them were released.
+/// Totals that are put back: how many blocks that were charged were released so far.
 #[derive(Clone, Copy, Debug)]
 pub(crate) struct ReadyTotals {
-    pub(crate) charged: u64,
     pub(crate) released: u64,
 }
 

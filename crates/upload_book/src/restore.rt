@@ -9,7 +9,7 @@ ghost use Rattle.upload_book.specs.declared.head_row.Kind.TheVariants.{Final};
 ghost use Rattle.upload_book.specs.declared.refusal.Refusal.TheVariants.{Memory};
 ghost use Rattle.upload_book.specs.Ready.{IsReadyForBack, IsReadyForNext, IsReadyForOwn, IsReadyForPiece, IsReadyForTotals, piece_in};
 ghost use Rattle.upload_book.specs.Refusal.{IsAnswer, first_that_holds};
-ghost use Rattle.upload_book.specs.snapshot.Restore.{CanBePutBack, IsRestorable, MayLackPiece, book_after_piece, next_tests, piece_refusal};
+ghost use Rattle.upload_book.specs.snapshot.Restore.{CanBePutBack, IsRestorable, MayLackPiece, book_after_piece, charged_with, next_tests, piece_refusal};
 ghost use Rattle.upload_book.specs.declared.restored.Restored.TheVariants as piece;
 ghost use Rattle.upload_book.specs.TenantBook.{TenantBook};
 
@@ -40,12 +40,10 @@ impl Book {
                 Ok(next) => Ok(ReadyPiece::Next(next)),
                 Err(refusal) => Err(refusal),
             },
-            Restored::Totals { charged, released } => {
-                match self.ready_for_totals(charged, released) {
-                    Ok(totals) => Ok(ReadyPiece::Totals(totals)),
-                    Err(refusal) => Err(refusal),
-                }
-            }
+            Restored::Totals { released } => match self.ready_for_totals(released) {
+                Ok(totals) => Ok(ReadyPiece::Totals(totals)),
+                Err(refusal) => Err(refusal),
+            },
         }
     }
 
@@ -242,29 +240,39 @@ impl Book {
     }
 
     // Finds whether totals are put back. It changes nothing.
-    fn ready_for_totals(&self, charged: u64, released: u64) -> Result<ReadyTotals, Refusal>
-        ensures value { IfOk result (λ r. r ≡ record { charged = charged; released = released }) }
+    fn ready_for_totals(&self, released: u64) -> Result<ReadyTotals, Refusal>
+        ensures value { IfOk result (λ r. r ≡ record { released = released }) }
         ensures ready { IfOk result (IsReadyForTotals self.now) }
-        ensures refused { IfErr result (λ why. piece_refusal (plain_of self.now) (piece.Totals charged released) ≡ Some why) }
+        ensures refused { IfErr result (λ why. piece_refusal (plain_of self.now) (piece.Totals released) ≡ Some why) }
     {
         // the numbers tell what is kept of the book
         let last_total = self.settings.numbers().last_total;
         let paid = self.charged - self.released;
-        if charged.checked_sub(released) != Some(paid) || charged < self.charged {
+        if released < self.released {
             Err(Refusal::Field)
-        } else if charged > last_total {
+        } else if released > last_total - paid {
             Err(Refusal::Spent)
         } else {
-            Ok(ReadyTotals { charged, released })
+            Ok(ReadyTotals { released })
         }
+    }
+
+    /// How many blocks were charged in all, where so many of them were released: the others are those that the tenants pay.
+    pub(crate) fn charged_with(&self, released: u64) -> u64
+        requires { piece_refusal (plain_of self.now) (piece.Totals released) ≡ None }
+        ensures { result ≡ charged_with (plain_of self.now) released }
+    {
+        // the numbers tell that what may be charged in all is a number
+        let _in_range = self.settings.numbers();
+        released + (self.charged - self.released)
     }
 
     // Sets the totals.
     fn put_totals(&mut self, ready: ReadyTotals)
         requires { IsReadyForTotals self.old ready }
-        ensures { plain_of self.new ≡ book_after_piece (plain_of self.old) (piece.Totals ready.charged ready.released) }
+        ensures { plain_of self.new ≡ book_after_piece (plain_of self.old) (piece.Totals ready.released) }
     {
-        self.charged = ready.charged;
+        self.charged = self.charged_with(ready.released);
         self.released = ready.released;
     }
 }

@@ -21,9 +21,9 @@ pub enum Restored<'a> {
         tenant: u8,
         next: u64,
     },
-    /// How many blocks all tenants together were charged so far, and how many of them were released.
+    /// How many blocks that were charged were released so far. How many were charged in all follows from it, and from what the
+    /// tenants pay.
     Totals {
-        charged: u64,
         released: u64,
     },
 }

@@ -108,13 +108,8 @@ fn restore_next(rt: &impl Abort, book: &mut Book, next: u64) -> Result<(), Refus
 }
 
 // Puts back the totals.
-fn restore_totals(
-    rt: &impl Abort,
-    book: &mut Book,
-    charged: u64,
-    released: u64,
-) -> Result<(), Refusal> {
-    put_back(rt, book, Restored::Totals { charged, released })
+fn restore_totals(rt: &impl Abort, book: &mut Book, released: u64) -> Result<(), Refusal> {
+    put_back(rt, book, Restored::Totals { released })
 }
 
 // Creates an upload of acme.
@@ -171,7 +166,7 @@ fn a_book_is_put_back(rt: HostRuntime) {
         assert!(&rt; restore(&rt, &mut book, row) == Ok(()));
     }
     assert!(&rt; restore_next(&rt, &mut book, 6) == Ok(()));
-    assert!(&rt; restore_totals(&rt, &mut book, 6, 1) == Ok(()));
+    assert!(&rt; restore_totals(&rt, &mut book, 1) == Ok(()));
     assert!(&rt; told(&rt, &book) == told(&rt, &was));
     assert!(&rt; book.accounts() == was.accounts());
     assert!(&rt; book.expiries() == was.expiries());
@@ -224,10 +219,9 @@ fn what_is_not_put_back(rt: HostRuntime) {
     }
     assert!(&rt; restore_next(&rt, &mut book, 1) == Err(Refusal::Field));
     assert!(&rt; restore_next(&rt, &mut book, 11) == Err(Refusal::Spent));
-    assert!(&rt; restore_totals(&rt, &mut book, 2, 1) == Err(Refusal::Field));
-    assert!(&rt; restore_totals(&rt, &mut book, 10, 10) == Err(Refusal::Spent));
-    assert!(&rt; restore_totals(&rt, &mut book, 9, 9) == Ok(()));
-    assert!(&rt; restore_totals(&rt, &mut book, 8, 8) == Err(Refusal::Field));
+    assert!(&rt; restore_totals(&rt, &mut book, 10) == Err(Refusal::Spent));
+    assert!(&rt; restore_totals(&rt, &mut book, 9) == Ok(()));
+    assert!(&rt; restore_totals(&rt, &mut book, 8) == Err(Refusal::Field));
     assert_refused(
         &rt,
         &mut book,
@@ -353,7 +347,7 @@ fn restored(rt: &impl Abort, book: &mut Book) {
     let last: FinalRow = (6, 4, (5, None), (5, None), None);
     assert!(rt; restore_final(rt, book, &last) == Ok(()));
     assert!(rt; restore_next(rt, book, 7) == Ok(()));
-    assert!(rt; restore_totals(rt, book, 4, 0) == Ok(()));
+    assert!(rt; restore_totals(rt, book, 0) == Ok(()));
 }
 
 // How many uploads acme has.

@@ -1,6 +1,6 @@
 -- The heads of a book follow a piece that is put back.
-use Rattle.std.proofs.Common.{◌≡◌, ℕ, ◌+◌, ◌<◌, ◌≤◌, ◌||◌, eqb, ltb, not, List, length, set, Option, Some, None, refl, ap, sym, subst, arith}
-use Rattle.std.proofs.lemmas.Bool.{eqb-true, ltb-false, not-false}
+use Rattle.std.proofs.Common.{◌≡◌, ℕ, ◌<◌, ◌≤◌, ltb, List, length, set, Option, Some, None, refl, ap, sym, subst, arith}
+use Rattle.std.proofs.lemmas.Bool.{ltb-false}
 use Rattle.upload_book.specs.Change.{book_after_change, head_change, head_of_piece, put_back}
 use Rattle.upload_book.specs.declared.board_line.HeadChange.TheVariants.{Next, Put, Totals}
 use Rattle.upload_book.specs.declared.change.Change.TheVariants.{Restore}
@@ -12,14 +12,14 @@ use Rattle.upload_book.specs.Laws.{LeadsTo}
 use Rattle.upload_book.specs.Lawful.{IsLawful}
 use Rattle.upload_book.specs.PlainBook.{PlainBook, tenant_book, with_tenant_book}
 use Rattle.upload_book.specs.Refusal.{first_that_holds}
-use Rattle.upload_book.specs.snapshot.Restore.{CanBePutBack, IsRestorable, book_after_piece, book_with, next_tests, part_with, piece_refusal, restore_refusal, totals_tests, upload_back, with_back}
+use Rattle.upload_book.specs.snapshot.Restore.{CanBePutBack, IsRestorable, book_after_piece, book_with, charged_with, next_tests, part_with, piece_refusal, restore_refusal, totals_tests, upload_back, with_back}
 use Rattle.upload_book.specs.snapshot.Restored.{RestoredUpload}
 use Rattle.upload_book.specs.TenantBook.{TenantBook, with_next}
 use Rattle.upload_book.specs.Upload.{Upload, head_row_of}
 use Rattle.upload_book.proofs.Heads.HeadParts.{IsFollowed, head_part-tenant, leads, leads-part, line_to}
 use Rattle.upload_book.proofs.Heads.HeadsNew.{leads-new}
 use Rattle.upload_book.proofs.Lawful.FirstRefusal.{test-passed}
-use Rattle.upload_book.proofs.Restoring.LawfulBack.{IsBack, IsBack-from_none, IsLawful-next, IsLawful-totals, IsLawful-upload, neither}
+use Rattle.upload_book.proofs.Restoring.LawfulBack.{IsBack, IsBack-from_none, IsLawful-next, IsLawful-totals, IsLawful-upload}
 use Rattle.upload_book.proofs.Restoring.NextSteps.{after-none, after-refused}
 
 -- a piece that is not refused changes what it says,
@@ -71,19 +71,16 @@ followed-next b t next lawful within none =
     )
 
 -- totals that are put back change the accounts alone, and none falls
-followed-totals : (b : PlainBook) (charged released : ℕ) → IsLawful b → first_that_holds (totals_tests b charged released) ≡ None
-    → IsFollowed b (book_with b (piece.Totals charged released)) (head_of_piece b (piece.Totals charged released))
-followed-totals b charged released lawful none =
-    let field = test-passed (not (eqb (charged + b.released) (released + b.charged)) || ltb charged b.charged) _ _ none in
-    let both = neither _ _ field.0 in
-    let same : charged + b.released ≡ released + b.charged = eqb-true _ _ (not-false _ both.0) in
-    let more : b.charged ≤ charged = ltb-false charged b.charged both.1 in
-    (leads b b.tenants charged released Totals (IsLawful-totals b charged released lawful none) more (omega (arith, same, more)) refl tt, tt)
+followed-totals : (b : PlainBook) (released : ℕ) → IsLawful b → first_that_holds (totals_tests b released) ≡ None
+    → IsFollowed b (book_with b (piece.Totals released)) (head_of_piece b (piece.Totals released))
+followed-totals b released lawful none =
+    let more : b.released ≤ released = ltb-false released b.released (test-passed (ltb released b.released) _ _ none).0 in
+    (leads b b.tenants (charged_with b released) released Totals (IsLawful-totals b released lawful none) (omega (arith, more)) more refl tt, tt)
 
 followed-with : (b : PlainBook) (r : Restored) → IsLawful b → CanBePutBack (length b.tenants) r → piece_refusal b r ≡ None → IsFollowed b (book_with b r) (head_of_piece b r)
 followed-with b (piece.Upload t r) lawful asked none = followed-upload b t r lawful asked none
 followed-with b (piece.Next t next) lawful asked none = followed-next b t next lawful asked none
-followed-with b (piece.Totals charged released) lawful asked none = followed-totals b charged released lawful none
+followed-with b (piece.Totals released) lawful asked none = followed-totals b released lawful none
 
 pub heads-restore : (b : PlainBook) (r : Restored) (now : ℕ) → IsLawful b → CanBePutBack (length b.tenants) r → IsFollowed b (book_after_change b (Restore r) now) (head_change b (Restore r) now)
 heads-restore b r now lawful asked = by (piece_refusal b r) refl where

@@ -44,7 +44,7 @@ appended-ok (Err why) ok = absurd (let no : false ≡ true = ok in cc)
 piece-lacks : (b : PlainBook) (r : Restored) → MayLackPiece b r → piece_refusal b r ≡ None
 piece-lacks b (piece.Upload tenant r) may = may
 piece-lacks b (piece.Next tenant next) may = absurd may
-piece-lacks b (piece.Totals charged released) may = absurd may
+piece-lacks b (piece.Totals released) may = absurd may
 
 -- what may lack memory is refused for nothing else
 lacks-last : (b : PlainBook) (change : Change) (now : ℕ) → MayLackFor b change now → IsOk (change_answer b change now)

@@ -1,5 +1,5 @@
 -- A lawful book is put back by its snapshot.
-use Rattle.std.proofs.Common.{◌≡◌, ℕ, ◌+◌, ◌-◌, ◌<◌, ◌≤◌, Bool, true, false, eqb, ltb, not, ◌||◌, List, [], ◌∷◌, ◌++◌, map, length, set, None, refl, sym, ap, ap₂, subst, ◌∙◌, arith, append_assoc, length-append}
+use Rattle.std.proofs.Common.{◌≡◌, ℕ, ◌+◌, ◌-◌, ◌<◌, ◌≤◌, Bool, false, ltb, List, [], ◌∷◌, ◌++◌, map, length, set, None, refl, sym, ap, ap₂, subst, ◌∙◌, arith, append_assoc, length-append}
 use Rattle.std.specs.List.{All, sum_by}
 use Rattle.std.proofs.lemmas.Bool.Decides.{nat_tests}
 use Rattle.std.proofs.lemmas.List.{append-nil, get_or_at, set_at}
@@ -194,27 +194,27 @@ parts-back s done (part ∷ parts) (q ∷ todo) base t place quotas sound paid u
 
 -- the totals are put back
 totals-back : (s : Settings) (tenants : List TenantBook) (charged released paid : ℕ) → charged ≡ released + paid → charged ≤ s.numbers.last_total
-    → PutsBack (book_of s tenants paid) (piece.Totals charged released ∷ []) (record { settings = s; tenants = tenants; charged = charged; released = released })
+    → PutsBack (book_of s tenants paid) (piece.Totals released ∷ []) (book_at s tenants charged released)
 totals-back s tenants charged released paid is last =
-    PutsBack-cons (book_of s tenants paid) (record { settings = s; tenants = tenants; charged = charged; released = released }) _ (piece.Totals charged released) []
-    tt (neither _ _ _ (same charged released paid is) (more charged released paid is) (few charged s.numbers.last_total last)) refl (tt, refl)
+    PutsBack-cons (book_of s tenants paid) (book_at s tenants charged released) _ (piece.Totals released) []
+    tt (neither _ _ (more released) (few charged released paid s.numbers.last_total is last)) (ap (λ (n : ℕ). book_at s tenants n released) (all charged released paid is)) (tt, refl)
   where
-    neither : (a b c : Bool) → a ≡ true → b ≡ false → c ≡ false → first_that_holds ((not a || b, Field) ∷ (c, Spent) ∷ []) ≡ None
-    neither a b c first second third = rw (first, second, third) refl
+    neither : (a b : Bool) → a ≡ false → b ≡ false → first_that_holds ((a, Field) ∷ (b, Spent) ∷ []) ≡ None
+    neither a b first second = rw (first, second) refl
 
-    same : (charged released paid : ℕ) → charged ≡ released + paid → eqb (charged + 0) (released + paid) ≡ true
-    same charged released paid is = grind (arith, nat_tests)
+    more : (released : ℕ) → ltb released 0 ≡ false
+    more released = grind (arith, nat_tests)
 
-    more : (charged released paid : ℕ) → charged ≡ released + paid → ltb charged paid ≡ false
-    more charged released paid is = grind (arith, nat_tests)
+    all : (charged released paid : ℕ) → charged ≡ released + paid → released + (paid - 0) ≡ charged
+    all charged released paid is = omega (arith, is)
 
-    few : (charged last : ℕ) → charged ≤ last → ltb last charged ≡ false
-    few charged last fits = grind (arith, nat_tests)
+    few : (charged released paid last : ℕ) → charged ≡ released + paid → charged ≤ last → ltb last (released + (paid - 0)) ≡ false
+    few charged released paid last is fits = grind (arith, nat_tests)
 
 book-back : (b : PlainBook) → IsLawful b → PutsBack (opening_book b.settings) (snapshot_of b) b
 book-back b lawful =
     let paid : ℕ = sum_by (charge_in b.settings.numbers) b.tenants in
-    PutsBack-append (opening_book b.settings) (book_of b.settings b.tenants (0 + paid)) b (parts_kept 0 b.tenants) (piece.Totals b.charged b.released ∷ [])
+    PutsBack-append (opening_book b.settings) (book_of b.settings b.tenants (0 + paid)) b (parts_kept 0 b.tenants) (piece.Totals b.released ∷ [])
     (parts-back b.settings [] b.tenants b.settings.tenants 0 0 refl lawful.quotas lawful.tenants lawful.charges (omega (arith, lawful.totals, lawful.last)))
     (totals-back b.settings b.tenants b.charged b.released (0 + paid) (omega (arith, lawful.totals)) lawful.last)
 

@@ -17,7 +17,7 @@ use Rattle.upload_book.specs.declared.settings.Numbers.{Numbers}
 use Rattle.upload_book.specs.Lawful.{HasParts, IsGivenIn, IsLawful, IsOfKind, IsSegmentOf, IsTenantOf, IsUploadOf, IsWhole, joined_in}
 use Rattle.upload_book.specs.PlainBook.{PlainBook, tenant_book, with_tenant_book}
 use Rattle.upload_book.specs.Refusal.{first_that_holds}
-use Rattle.upload_book.specs.snapshot.Restore.{CanBePutBack, HasSegments, IsRestorable, book_after_piece, book_with, bytes_back, bytes_from, ends_rightly, may_be_part, next_tests, part_with, piece_refusal, refusal_with, restore_refusal, restore_tests, sent_back, sent_in, sent_of, totals_tests, upload_back, with_back}
+use Rattle.upload_book.specs.snapshot.Restore.{CanBePutBack, HasSegments, IsRestorable, book_after_piece, book_with, bytes_back, bytes_from, charged_with, ends_rightly, may_be_part, next_tests, part_with, piece_refusal, refusal_with, restore_refusal, restore_tests, sent_back, sent_in, sent_of, totals_tests, upload_back, with_back}
 use Rattle.upload_book.specs.declared.restored.Restored.TheVariants as piece
 use Rattle.upload_book.specs.declared.restored.Restored.{Restored}
 use Rattle.upload_book.specs.snapshot.Restored.{RestoredSegment, RestoredUpload}
@@ -407,25 +407,23 @@ IsLawful-next b t next lawful within none =
     let more : part.next ≤ next = ltb-false next part.next given.0 in
     IsLawful-with_tenant_book-same b t (with_next part next) lawful within refl (IsTenantOf-next b.settings.numbers part next more (ltb-false _ next unspent.0) sound) (charge-next b.settings.numbers part next more sound)
 
-pub IsLawful-totals : (b : PlainBook) (charged released : ℕ) → IsLawful b → first_that_holds (totals_tests b charged released) ≡ None → IsLawful (book_with b (piece.Totals charged released))
-IsLawful-totals b charged released lawful none =
-    let field = test-passed (not (eqb (charged + b.released) (released + b.charged)) || ltb charged b.charged) _ _ none in
-    let spent = test-passed (ltb b.settings.numbers.last_total charged) _ _ field.1 in
-    let both = neither _ _ field.0 in
-    let same : charged + b.released ≡ released + b.charged = eqb-true _ _ (not-false _ both.0) in
+pub IsLawful-totals : (b : PlainBook) (released : ℕ) → IsLawful b → first_that_holds (totals_tests b released) ≡ None → IsLawful (book_with b (piece.Totals released))
+IsLawful-totals b released lawful none =
+    let field = test-passed (ltb released b.released) _ _ none in
+    let spent = test-passed (ltb b.settings.numbers.last_total (charged_with b released)) _ _ field.1 in
     record {
       settings = lawful.settings;
       quotas = lawful.quotas;
       tenants = lawful.tenants;
       charges = lawful.charges;
-      totals = omega (arith, same, lawful.totals);
-      last = ltb-false _ charged spent.0;
+      totals = omega (arith, lawful.totals);
+      last = ltb-false _ (charged_with b released) spent.0;
     }
 
 IsLawful-with : (b : PlainBook) (r : Restored) → IsLawful b → CanBePutBack (length b.tenants) r → piece_refusal b r ≡ None → IsLawful (book_with b r)
 IsLawful-with b (piece.Upload t r) lawful asked none = IsLawful-upload b t r lawful asked.0 asked.1 none
 IsLawful-with b (piece.Next t next) lawful asked none = IsLawful-next b t next lawful asked none
-IsLawful-with b (piece.Totals charged released) lawful asked none = IsLawful-totals b charged released lawful none
+IsLawful-with b (piece.Totals released) lawful asked none = IsLawful-totals b released lawful none
 
 -- whatever is put back, the book stays lawful
 pub IsLawful-piece : (b : PlainBook) (r : Restored) → IsLawful b → CanBePutBack (length b.tenants) r → IsLawful (book_after_piece b r)

@@ -24,7 +24,7 @@ piece-accepted b (Totals r) ready = ready
 with-settings : (b : PlainBook) (p : Restored) → (book_with b p).settings ≡ b.settings
 with-settings b (piece.Upload tenant r) = refl
 with-settings b (piece.Next tenant next) = refl
-with-settings b (piece.Totals charged released) = refl
+with-settings b (piece.Totals released) = refl
 
 pub piece-settings : (b : PlainBook) (p : Restored) → (book_after_piece b p).settings ≡ b.settings
 piece-settings b p = by (piece_refusal b p) refl where
@@ -36,7 +36,7 @@ piece-settings b p = by (piece_refusal b p) refl where
 with-tenants : (b : PlainBook) (p : Restored) → length (book_with b p).tenants ≡ length b.tenants
 with-tenants b (piece.Upload tenant r) = length-set b.tenants tenant (part_with (tenant_book b tenant) r (sent_back (sent_in (tenant_book b tenant).uploads) r.segments))
 with-tenants b (piece.Next tenant next) = length-set b.tenants tenant (with_next (tenant_book b tenant) next)
-with-tenants b (piece.Totals charged released) = refl
+with-tenants b (piece.Totals released) = refl
 
 pub piece-tenants : (b : PlainBook) (p : Restored) → length (book_after_piece b p).tenants ≡ length b.tenants
 piece-tenants b p = by (piece_refusal b p) refl where

@@ -25,7 +25,7 @@ stays-with : (b : PlainBook) (restored : Restored) (name : Name) (u : Upload) �
 stays-with b (piece.Upload t r) name u there =
     stays-book b t (part_with (tenant_book b t) r (sent_back (sent_in (tenant_book b t).uploads) r.segments)) name u there (λ same. kept-with (tenant_book b t) r (sent_back (sent_in (tenant_book b t).uploads) r.segments) name.id u (moved b t name u there same))
 stays-with b (piece.Next t next) name u there = stays-book b t (with_next (tenant_book b t) next) name u there (λ same. moved b t name u there same)
-stays-with b (piece.Totals charged released) name u there = there
+stays-with b (piece.Totals released) name u there = there
 
 stays-piece : (b : PlainBook) (restored : Restored) (name : Name) (u : Upload) → StandsAs b name u → StandsAs (book_after_piece b restored) name u
 stays-piece b restored name u there = by (piece_refusal b restored) refl where
@@ -56,7 +56,7 @@ same-part b t part name u own c = elim (part-after b t name.tenant part) [
 ]
 
 comes-book : (b : PlainBook) (restored : Restored) (name : Name) (u : Upload) → piece_refusal b restored ≡ None → HasUpload (book_with b restored) name u → HasUpload b name u ⊎ IsPutBack b restored name u
-comes-book b (piece.Totals charged released) name u none c = inl c
+comes-book b (piece.Totals released) name u none c = inl c
 comes-book b (piece.Next t next) name u none c = inl (same-part b t (with_next (tenant_book b t) next) name u (λ same there. there) c)
 comes-book b (piece.Upload t r) name u none c =
     let found = sent_back (sent_in (tenant_book b t).uploads) r.segments in

@@ -1,5 +1,5 @@
 -- An upload of a tenant as a piece of a snapshot, by how it is kept.
-use Rattle.std.specs.Prelude.{◌≡◌, ℕ, ◌<◌, List, Option, Some, None, All, IfSome, get_or, length, option_map, take}
+use Rattle.std.specs.Prelude.{◌≡◌, ℕ, ◌<◌, Option, All, IfSome, get_or, length, option_map, take}
 use Rattle.std.specs.Borrow.{Bor}
 use Rattle.block_pool.specs.Blocks.{Blocks}
 use Rattle.block_bodies.specs.Bodies.{Chain, IsBodyOf, content_of}

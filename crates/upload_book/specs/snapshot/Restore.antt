@@ -38,7 +38,7 @@ pub record IsRestorable (r : RestoredUpload) : Type 0 where
 abbrev pub CanBePutBack : ℕ → Restored → Type 0
 CanBePutBack tenants (piece.Upload tenant r) = (tenant < tenants) × IsRestorable r
 CanBePutBack tenants (piece.Next tenant next) = tenant < tenants
-CanBePutBack tenants (piece.Totals charged released) = ⊤
+CanBePutBack tenants (piece.Totals released) = ⊤
 
 -- the segments of an upload, each with its origin
 abbrev pub sent_of : Entry Upload → List (ℕ × List ℕ)
@@ -130,24 +130,26 @@ part_with part r (Some sent) = with_back part r.id (upload_back r sent)
 abbrev pub next_tests : Numbers → TenantBook → ℕ → List (Bool × Refusal)
 next_tests n part next = (nat_lt next part.next, Field) ∷ (nat_lt (n.last_id + 1) next, Spent) ∷ []
 
--- the tests of the totals: what the tenants pay stays their difference, and neither falls
-abbrev pub totals_tests : PlainBook → ℕ → ℕ → List (Bool × Refusal)
-totals_tests b charged released =
-    (not (charged + b.released == released + b.charged) || nat_lt charged b.charged, Field)
-    ∷ (nat_lt b.settings.numbers.last_total charged, Spent)
-    ∷ []
+-- how many blocks were charged in all, where so many of them were released: the others are those that the tenants pay
+abbrev pub charged_with : PlainBook → ℕ → ℕ
+charged_with b released = released + (b.charged - b.released)
+
+-- the tests of the totals: what was released does not fall, and so many may be charged
+abbrev pub totals_tests : PlainBook → ℕ → List (Bool × Refusal)
+totals_tests b released =
+    (nat_lt released b.released, Field) ∷ (nat_lt b.settings.numbers.last_total (charged_with b released), Spent) ∷ []
 
 -- it may lack memory where it is an upload that is not refused
 abbrev pub MayLackPiece : PlainBook → Restored → Type 0
 MayLackPiece b (piece.Upload tenant r) = restore_refusal b.settings.numbers b.charged (tenant_book b tenant) r ≡ None
 MayLackPiece b (piece.Next tenant next) = ⊥
-MayLackPiece b (piece.Totals charged released) = ⊥
+MayLackPiece b (piece.Totals released) = ⊥
 
 -- why a piece is not put back, if it is not
 abbrev pub piece_refusal : PlainBook → Restored → Option Refusal
 piece_refusal b (piece.Upload tenant r) = restore_refusal b.settings.numbers b.charged (tenant_book b tenant) r
 piece_refusal b (piece.Next tenant next) = first_that_holds (next_tests b.settings.numbers (tenant_book b tenant) next)
-piece_refusal b (piece.Totals charged released) = first_that_holds (totals_tests b charged released)
+piece_refusal b (piece.Totals released) = first_that_holds (totals_tests b released)
 
 -- the book with a piece put back that is not refused
 abbrev pub book_with : PlainBook → Restored → PlainBook
@@ -155,7 +157,7 @@ book_with b (piece.Upload tenant r) =
     let part = tenant_book b tenant in
     with_tenant_book b tenant (part_with part r (sent_back (sent_in part.uploads) r.segments))
 book_with b (piece.Next tenant next) = with_tenant_book b tenant (with_next (tenant_book b tenant) next)
-book_with b (piece.Totals charged released) = record b { charged = charged; released = released }
+book_with b (piece.Totals released) = record b { charged = charged_with b released; released = released }
 
 -- the book after a piece; one that is refused leaves it as it was
 abbrev pub book_after_piece : PlainBook → Restored → PlainBook

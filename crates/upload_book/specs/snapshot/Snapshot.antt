@@ -42,7 +42,7 @@ parts_kept tenant (part ∷ parts) =
 
 -- the snapshot of a book: the parts of all tenants, and then the totals
 abbrev pub snapshot_of : PlainBook → List Restored
-snapshot_of b = parts_kept 0 b.tenants ++ piece.Totals b.charged b.released ∷ []
+snapshot_of b = parts_kept 0 b.tenants ++ piece.Totals b.released ∷ []
 
 -- the book after pieces, one after another
 abbrev pub book_after_pieces : PlainBook → List Restored → PlainBook

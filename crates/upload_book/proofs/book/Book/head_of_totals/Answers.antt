@@ -4,4 +4,4 @@ use Rattle.upload_book.proofs.Heads.HeadsRestore.{head-none}
 use Rattle.upload_book.proofs.book.Book.head_of_totals.Goals as goal
 
 pub returns : goal.returns
-returns c now = head-none (plain_of c.args.self.now) (piece.Totals c.args.ready.now.charged c.args.ready.now.released) now c.requires
+returns c now = head-none (plain_of c.args.self.now) (piece.Totals c.args.ready.now.released) now c.requires

@@ -10,6 +10,6 @@ returns c now =
     let r = c.args.ready.now in
     record {
       head = Totals;
-      is = head-none (plain_of c.args.self.now) (piece.Totals r.charged r.released) now c.requires;
+      is = head-none (plain_of c.args.self.now) (piece.Totals r.released) now c.requires;
       told = refl;
     }

@@ -1,4 +1,4 @@
-use Rattle.std.proofs.Common.{ap, ◌∙◌}
+use Rattle.std.proofs.Common.{ap}
 use Rattle.upload_book.specs.declared.head_row.HeadRow.{HeadRow}
 use Rattle.upload_book.specs.inside.Kept.{stored_tenant_of}
 use Rattle.upload_book.proofs.Restoring.KeptUploads.{entry-read, row-is}
