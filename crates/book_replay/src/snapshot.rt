@@ -36,7 +36,7 @@ pub fn snapshot_records(
 {
     // its contract tells that dates can name the moment
     let _secs = now.secs();
-    // and these that the book is lawful
+    // the settings tell that the book is lawful
     let _settings = book.settings();
     let mut rooms = Vec::new(alloc);
     put_parts(alloc, &mut rooms, book, now)?;

@@ -50,8 +50,8 @@ pub enum Change<'a> {
     /// of its blocks.
     ///
     /// A tenant's next id is refused as Field where an id would be given again, and as Spent where the tenant has not so
-    /// many. Totals are refused as Field where less would be released than before, and as Spent where more would be
-    /// charged in all than may be: what was released, and what the tenants pay, which stays.
+    /// many. Totals are refused as Field where less would have been released than before, and as Spent where more would have
+    /// been charged in all than may be: what was released, and what the tenants pay, which stays.
     Restore(Restored<'a>),
 }
 
