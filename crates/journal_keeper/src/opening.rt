@@ -132,7 +132,7 @@ where
       bytes = end_of opened.journal;
       synced = no_syncs;
       disk = disk_of opened.journal;
-      other = None;
+      maybe_in_place = None;
     }) }
 {
     let records = make_all_again(store, desk, Frames::new(key, &opened.frames), progress)?;
