@@ -1,5 +1,5 @@
 //! Records that waited, appended to a journal and synced.
-ghost use Rattle.std.specs.Prelude.{◌≡◌, ◌+◌, ◌-◌, ◌^◌, ◌≤◌, ℕ, List, [], ◌∷◌, ◌++◌, length, map, min, IsOk, OnOk};
+ghost use Rattle.std.specs.Prelude.{◌≡◌, ◌+◌, ◌-◌, ◌^◌, ◌≤◌, ℕ, List, [], ◌∷◌, ◌++◌, length, map, min, IsErrOf, IsOk, OnOk};
 ghost use Rattle.std.specs.List.{AllByRecursion};
 ghost use Rattle.journal_file.specs.Journal.{disk_of, key_of, room_of, IsJournal};
 ghost use Rattle.journal_frames.specs.Crash.{Leaves};
@@ -34,6 +34,7 @@ pub(crate) fn keep_frames<D: Disk>(
     ensures fit { (more : List (List ℕ))
         → map (λ frame. frame.items) waiting.now ≡ frames_each (key_of journal.old) more
         → OnOk result (AllByRecursion Fits more) }
+    ensures sure { ¬ (IsErrOf result KeepFault.Place) }
 {
     make_room(alloc, journal, len_of_all(waiting))?;
     append_all(journal, waiting)?;
@@ -87,6 +88,7 @@ fn append_all<D: Disk>(journal: &mut Journal<D>, waiting: &[Vec<u8>]) -> Result<
     ensures fit { (more : List (List ℕ))
         → map (λ frame. frame.items) waiting.now ≡ frames_each (key_of journal.old) more
         → OnOk result (AllByRecursion Fits more) }
+    ensures sure { ¬ (IsErrOf result KeepFault.Place) }
 {
     for frame in waiting {
         append_frame(journal, frame)?;
@@ -108,6 +110,7 @@ fn append_frame<D: Disk>(journal: &mut Journal<D>, frame: &[u8]) -> Result<(), K
     ensures key { key_of journal.new ≡ key_of journal.old }
     ensures room { OnOk result (room_of journal.new + length frame.now ≡ room_of journal.old) }
     ensures fit { (payload : List ℕ) → frame.now ≡ frames (key_of journal.old) (payload ∷ []) → OnOk result (Fits payload) }
+    ensures sure { ¬ (IsErrOf result KeepFault.Place) }
 {
     if frame.len() > HEADER_LEN + PAYLOAD_MAX {
         return Err(KeepFault::Frame);

@@ -1,5 +1,5 @@
 //! The records of a store that wait, taken and kept.
-ghost use Rattle.std.specs.Prelude.{◌≡◌, ◌-◌, ◌≤◌, ℕ, List, length, Some, IfOk, OnErr, OnOk, map};
+ghost use Rattle.std.specs.Prelude.{◌≡◌, ◌-◌, ◌≤◌, ℕ, List, length, Some, IfOk, IsErrOf, OnErr, OnOk, map};
 ghost use Rattle.std.specs.List.{AllByRecursion};
 ghost use mathlib.Core.List.{IsPrefix};
 ghost use Rattle.head_board.specs.Events.{HaveHappened};
@@ -55,6 +55,7 @@ pub(crate) fn keep_taken<D: Disk, C: Charges, W: time::Clock>(
     ensures each { OnOk result (synced.new.records
         ≡ more (length taken.now.reached.events - length front.now.events) synced.old.records) }
     ensures longer { synced.old.micros ≤ synced.new.micros }
+    ensures sure { ¬ (IsErrOf result KeepFault.Place) }
 {
     let start = Instant::now(rt).ok();
     keep_frames(alloc, journal, &taken.frames)?;
