@@ -4,13 +4,15 @@ ghost use Rattle.std.specs.Borrow.{Bor};
 ghost use Rattle.server_words.specs.JournalFault.{IsOfJournal, IsOfSystem, IsUnread};
 ghost use Rattle.server_words.specs.declared.fault.RunFault.{RunFault};
 
-use journal_keeper::{JournalPlace, PlaceFault};
+use journal_file::Journal;
+use journal_keeper::{JournalPlace, Unsure};
 use server_words::{JournalFault, Mismatch, RunFault};
 use sqlite_disk::{Disk, Unknown};
 use sqlite_std_file::File as DiskFile;
-use std::alloc::AllocError;
-use std::fs::{File, OpenFile};
+use std::fs::{File, Metadata, OpenFile, OpenOptions, TryLockError};
 use std::io::{ErrorKind, Read, Write};
+use std::os::fd::AsRawFd;
+use std::os::unix::fs::{MetadataExt, OpenOptionsExt, PermissionsExt, fchown};
 use std::{fs, io};
 
 /// The key under which the journals of the program are. It keeps what is no journal from being taken for one.
@@ -25,19 +27,21 @@ pub trait Journals {
 
     type File: SettingsFile + Drop;
 
-    type Place: JournalPlace<Self::Disk> + Drop;
+    type Place: JournalPlace<Self::Disk> + Sync + Drop;
 
     /// What comes of reading the folder at a path: the bytes of its journal's file, and the text of the settings beside it; or
     /// this fault.
     ghost finds: { Self → List ℕ → Result (List ℕ × List ℕ) RunFault → Type 0 };
 
     /// The journal in the folder at a path, and the settings beside it. The folder is made where there is none, and so is the
-    /// journal's file, without a byte. No other process can have the journal until its disk is let go. Beside it stands a
-    /// file without a byte, whose name ends in `-wal`.
+    /// journal's file, without a byte. No other process can have the folder until its place is let go. Beside the journal stand
+    /// two files without a byte: `lock`, and one whose name ends in `-wal`. What a crash has left of a smaller journal is
+    /// removed.
     ///
-    /// The error is NoFolder where something else stands at the path; File where the folder can't be made, or the journal's
-    /// file can't be opened or made, or is no regular file with one name; Busy where another process has it; Settings with
-    /// Unreadable where the settings are far too long; Disk where they can't be read; or Memory.
+    /// The error is NoFolder where something else stands at the path; File where the folder can't be made, or the lock's or the
+    /// journal's file can't be opened or made, or the journal's is no regular file with one name, as a symbolic link, which a
+    /// smaller journal would replace; Busy where another process has the folder; Settings with Unreadable where the settings
+    /// are far too long; Disk where they can't be read; or Memory.
     fn open(&self, path: &str) -> Result<Folder<Self::Disk, Self::File, Self::Place>, RunFault>
         ensures { IfErr result IsOfJournal };
 
@@ -45,8 +49,8 @@ pub trait Journals {
     /// another process may have the journal, and write to it meanwhile.
     ///
     /// The error is NoJournal where there is no folder, or no file for the journal in it, or one that can't be opened, or is no
-    /// regular file; Settings with Missing where no settings stand beside it, or with Unreadable where they are far too long; Disk where a read
-    /// fails; or Memory.
+    /// regular file; Settings with Missing where no settings stand beside it, or with Unreadable where they are far too long;
+    /// Disk where a read fails; or Memory.
     fn read(&self, path: &str) -> Result<JournalFiles, RunFault>
         ensures read { IfOk result (λ files. finds self.now path.now (Ok (files.journal.items, files.settings.items))) }
         ensures fault { IfErr result (λ fault. finds self.now path.now (Err fault)) }
@@ -69,10 +73,8 @@ pub struct Folder<D: Disk, F: SettingsFile, P> {
     pub disk: D,
     /// The settings that it is of.
     pub file: F,
-    /// Where its file stands.
+    /// Where its file stands. Who has it has the folder, whichever file is the journal's.
     pub place: P,
-    /// The file without a byte beside it. Who has it has the folder, whichever file is the journal's.
-    pub lock: D,
 }
 
 /// The file with the settings of a journal.
@@ -112,14 +114,13 @@ impl<'a> Journals for MachineJournals<'a> {
         path: &str,
     ) -> Result<Folder<DiskFile, MachineSettings<'a>, MachinePlace<'a>>, RunFault> {
         make_folder(self.rt, path)?;
-        let place = MachinePlace::new(self.rt, path)?;
+        let place = MachinePlace::open(self.rt, path)?;
         let files = sqlite_std_file::open(self.rt, place.journal.as_str(), Unknown)?;
         let file = MachineSettings::open(self.rt, path)?;
         Ok(Folder {
             disk: files.db,
             file,
             place,
-            lock: files.log,
         })
     }
 
@@ -181,50 +182,124 @@ impl<'a> SettingsFile for MachineSettings<'a> {
     }
 }
 
-/// Where the file of a journal stands in a folder of this machine.
+/// Where the file of a journal stands in a folder of this machine. No other process has the folder meanwhile.
 #[derive(Drop)]
 pub struct MachinePlace<'a> {
     rt: &'a HostRuntime,
-    folder: String,
+    // Held for its lock alone.
+    _lock: File,
+    // Open, so that the change of a name can be synced where no descriptor is left.
+    folder: File,
     journal: String,
-    // The file beside it, which may take its place.
+    // The file beside it, which may take its place, and the one without a byte that stands beside that.
     new: String,
+    new_log: String,
 }
 
 impl<'a> MachinePlace<'a> {
-    /// That of the journal in a folder. The error is that memory is lacking.
-    fn new(rt: &'a HostRuntime, path: &str) -> Result<MachinePlace<'a>, AllocError> {
+    /// That of the journal in a folder, once no other process has this. What a crash has left of a smaller journal is removed.
+    fn open(rt: &'a HostRuntime, path: &str) -> Result<MachinePlace<'a>, RunFault>
+        ensures { IfErr result IsOfJournal }
+    {
         let alloc = rt.alloc();
-        Ok(MachinePlace {
+        let place = MachinePlace {
             rt,
-            folder: String::from_str(alloc, path)?,
+            _lock: lock_folder(rt, path)?,
+            folder: File::open(rt, path).map_err(file_fault)?,
             journal: format!(in alloc; "{path}/journal")?,
             new: format!(in alloc; "{path}/journal.new")?,
-        })
+            new_log: format!(in alloc; "{path}/journal.new-wal")?,
+        };
+        if is_link(rt, place.journal.as_str()) {
+            return Err(RunFault::Journal(JournalFault::File));
+        }
+        place.give_up();
+        Ok(place)
     }
 
-    /// Gives the file beside that of the journal the rights of that.
-    fn copy_mode(&self) -> io::Result<()> {
-        let rights = fs::metadata(self.rt, self.journal.as_str())?.permissions();
-        fs::set_permissions(self.rt, self.new.as_str(), rights)
+    /// Makes the file beside that of the journal anew, with the rights, the group and the owner of that.
+    fn make_new(&self) -> io::Result<()> {
+        let found = fs::metadata(self.rt, self.journal.as_str())?;
+        let new = OpenOptions::new()
+            .read(true)
+            .write(true)
+            .create_new(true)
+            .mode(0o600)
+            .open(self.rt, self.new.as_str())?;
+        copy_access(&found, &new)
     }
 }
 
 impl<'a> JournalPlace<DiskFile> for MachinePlace<'a> {
     fn open_beside(&self) -> Option<DiskFile> {
+        self.give_up();
+        self.make_new().ok()?;
         let files = sqlite_std_file::open(self.rt, self.new.as_str(), Unknown).ok()?;
-        self.copy_mode().ok()?;
         Some(files.db)
     }
 
-    fn put_in_place(&self) -> Result<(), PlaceFault> {
-        if fs::rename(self.rt, self.new.as_str(), self.journal.as_str()).is_err() {
-            return Err(PlaceFault::Stays);
-        }
-        match sync_folder(self.rt, self.folder.as_str()) {
-            Ok(()) => Ok(()),
-            Err(_) => Err(PlaceFault::Unsure),
-        }
+    fn give_up(&self) {
+        let _ = fs::remove_file(self.rt, self.new.as_str());
+        let _ = fs::remove_file(self.rt, self.new_log.as_str());
+    }
+
+    fn put_in_place(&self, _journal: &Journal<DiskFile>) -> Result<(), Unsure> {
+        fs::rename(self.rt, self.new.as_str(), self.journal.as_str()).map_err(unsure)?;
+        self.folder.sync_all().map_err(unsure)?;
+        let _ = fs::remove_file(self.rt, self.new_log.as_str());
+        Ok(())
+    }
+}
+
+/// What it is to a journal that a name could not be changed, or that not be synced.
+fn unsure(_error: io::Error) -> Unsure {
+    Unsure
+}
+
+/// Takes the lock of a folder, which has a file of its own, since that of the journal is replaced.
+fn lock_folder(rt: &HostRuntime, path: &str) -> Result<File, RunFault>
+    ensures { IfErr result IsOfJournal }
+{
+    let name = format!(in rt.alloc(); "{path}/lock")?;
+    let mut lock = OpenOptions::new()
+        .read(true)
+        .write(true)
+        .create(true)
+        .mode(0o600)
+        .open(rt, name.as_str())
+        .map_err(file_fault)?;
+    // What is meant for a standard stream that was closed is not to be written there.
+    if lock.as_raw_fd() <= 2 {
+        lock = lock.try_clone().map_err(file_fault)?;
+    }
+    match lock.try_lock() {
+        Ok(()) => Ok(lock),
+        Err(TryLockError::WouldBlock) => Err(RunFault::Journal(JournalFault::Busy)),
+        Err(TryLockError::Error(error)) => Err(file_fault(error)),
+    }
+}
+
+/// Whether a symbolic link stands at a path.
+fn is_link(rt: &HostRuntime, path: &str) -> bool {
+    match fs::symlink_metadata(rt, path) {
+        Ok(found) => found.is_symlink(),
+        Err(_) => false,
+    }
+}
+
+/// Gives a file the rights of one that was found, and its group and owner where this process may.
+fn copy_access(found: &Metadata, file: &File) -> io::Result<()> {
+    // Only root sets the owner, and a member of the group may still set that.
+    unless_denied(fchown(file, None, Some(found.gid())))?;
+    unless_denied(fchown(file, Some(found.uid()), None))?;
+    file.set_permissions(fs::Permissions::from_mode(found.mode() & 0o777))
+}
+
+/// A change of a file that this process need not be allowed.
+fn unless_denied(outcome: io::Result<()>) -> io::Result<()> {
+    match outcome {
+        Err(error) if error.kind() == ErrorKind::PermissionDenied => Ok(()),
+        other => other,
     }
 }
 

@@ -1,14 +1,14 @@
 //! How the program keeps what happens at its desks.
-ghost use Rattle.std.specs.Prelude.{◌≡◌};
+ghost use Rattle.std.specs.Prelude.{◌≡◌, ◌↔◌, Ok, IsErr};
 
-use journal_keeper::{JournalPlace, Journalled, KeeperNumbers, SharedKeeper};
+use journal_keeper::{Compacted, JournalPlace, Journalled, KeepFault, KeeperNumbers, SharedKeeper};
 use service_watch::JournalNumbers;
 use sqlite_disk::Disk;
 use std::sync::Wait;
 use std::sync::ledger::Ledger;
 use std::time;
 use tus_shared::{Desk, Shared};
-use tus_workers::Keeping;
+use tus_workers::{Compacting, Keeping};
 
 /// All that happens at the desks of a store is kept in a journal, whose file stands there.
 #[derive(Drop)]
@@ -18,7 +18,7 @@ pub struct InJournal<D: Disk, C: Journalled, P> {
 }
 
 impl<D: Disk + Drop, C: Journalled, P: Drop> InJournal<D, C, P> {
-    /// Whether a write or a sync of the journal has failed.
+    /// Whether a write or a sync of the journal has failed, or it is not known which file is the journal's.
     pub fn has_failed(self) -> bool {
         self.keeper.into_keeper().has_failed()
     }
@@ -45,12 +45,32 @@ impl<
         self.keeper.keep(rt, shared, desk).is_ok()
     }
 
-    fn compact<W: Wait + time::Clock>(&self, rt: &W, shared: &Shared<C, R, M, B>) -> bool {
-        self.keeper.compact(rt, shared, &self.place).is_ok()
+    fn compact<W: Wait + time::Clock>(&self, rt: &W, shared: &Shared<C, R, M, B>) -> Compacting {
+        told_compacted(self.keeper.compact(rt, shared, &self.place))
+    }
+
+    fn compact_synced<W: Wait + time::Clock>(
+        &self,
+        rt: &W,
+        shared: &Shared<C, R, M, B>,
+    ) -> Compacting {
+        told_compacted(self.keeper.compact_synced(rt, shared, &self.place))
     }
 
     fn numbers<W: Wait>(&self, rt: &W) -> Option<JournalNumbers> {
         Some(told_numbers(self.keeper.numbers(rt)))
+    }
+}
+
+/// What came of a look at how large a journal is, as it is told.
+fn told_compacted(compacted: Result<Compacted, KeepFault>) -> Compacting
+    ensures failed { result ≡ Compacting.Failed ↔ IsErr compacted }
+    ensures given_up { result ≡ Compacting.GivenUp ↔ (compacted ≡ Ok Compacted.GivenUp) }
+{
+    match compacted {
+        Ok(Compacted::Rests | Compacted::GoesOn | Compacted::Ended) => Compacting::Fine,
+        Ok(Compacted::GivenUp) => Compacting::GivenUp,
+        Err(_) => Compacting::Failed,
     }
 }
 

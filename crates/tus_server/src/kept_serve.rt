@@ -37,8 +37,8 @@ use upload_book::Settings;
 
 /// Serves connections as [`crate::serve::serve`] says, over the book that the journal of this disk keeps: all changes are made
 /// again whose records it has, and no reply is sent before it has all that this tells. Where it becomes large, a smaller one is
-/// written beside it, and takes its place on the shelf. Where the settings beside it are others,
-/// these are put in their place once all changes were made again, and before a connection is accepted.
+/// written beside it, and takes its place on the shelf. Where the settings beside it are others, these are put in their place
+/// once all changes were made again, and before a connection is accepted.
 ///
 /// The error is that of `serve`, or the journal's: Damaged or Record where the file is none of a journal, or of one of other
 /// settings, which stay, and Disk where a read, a write or a sync failed. Then all workers end.

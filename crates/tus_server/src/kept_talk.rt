@@ -44,8 +44,7 @@ where
     let Folder {
         disk,
         mut file,
-        place: _,
-        lock: _lock,
+        place: _place,
     } = folder;
     let kept = open_kept(alloc, &mut file, disk, settings)?;
     let mut at = AtJournal {

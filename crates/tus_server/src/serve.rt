@@ -84,7 +84,6 @@ where
             mut disk,
             mut file,
             place: shelf,
-            lock: _lock,
         } = journals.open(path)?;
         check_settings(alloc, &mut file, &mut disk, &settings)?;
         return serve_kept::<L, D, J::File, J::Place, H, W>(

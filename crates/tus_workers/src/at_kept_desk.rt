@@ -4,7 +4,7 @@ ghost use Rattle.tus_workers.specs.Serving.{ServesKept, SweepsKept};
 
 use crate::at_desk::AtDesk;
 use crate::holding::HoldsBack;
-use crate::keeping::Keeping;
+use crate::keeping::{Compacting, Keeping};
 use http_wire::Answer;
 use std::sync::Wait;
 use std::sync::ledger::Ledger;
@@ -120,9 +120,14 @@ impl<
             .keep(self.at.rt, self.at.shared, &mut self.at.desk)
     }
 
-    /// Makes what is kept smaller, where it has become large. Says whether more can be kept.
-    pub fn compact(&self) -> bool {
+    /// Makes what is kept smaller, where it has become large; once a second.
+    pub fn compact(&self) -> Compacting {
         self.keeping.compact(self.at.rt, self.at.shared)
+    }
+
+    /// The same, after something more was kept.
+    pub fn compact_synced(&self) -> Compacting {
+        self.keeping.compact_synced(self.at.rt, self.at.shared)
     }
 }
 

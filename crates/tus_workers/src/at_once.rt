@@ -10,7 +10,7 @@ use crate::commons::Commons;
 use crate::crowd::Crowd;
 use crate::door::{Door, Entry, LISTENER};
 use crate::holding::HoldsBack;
-use crate::keeping::Keeping;
+use crate::keeping::{Compacting, Keeping};
 use crate::machine_clock::MachineClock;
 use crate::metrics_door::{ASKERS_MAX, MetricsDoor};
 use crate::stream::MESSAGES_MAX;
@@ -291,8 +291,8 @@ impl<
     }
 
     // Takes a turn of each client that is ready, had more to do, or waited for another one, and then sends what was held back.
-    // In each new second those are cut off that are too late, and uploads that have expired are ended; after the grace of a stop
-    // all are cut off.
+    // In each new second those are cut off that are too late, uploads that have expired are ended, and what is kept is made
+    // smaller, if it has become large; after the grace of a stop all are cut off.
     fn serve_ready(
         &self,
         desk: Desk<C, R, M>,
@@ -317,6 +317,7 @@ impl<
             rounds.has_rung = true;
             // What came of a PATCH that was cut off is kept, also where nobody is left.
             self.send_kept(&mut answerer, rounds, second);
+            self.note_compacting(answerer.compact());
         }
         let at = answerer.into_desk();
         rounds.asked = at.asked;
@@ -325,7 +326,7 @@ impl<
     }
 
     // Sends what was held back, after one sync for all; where nothing more can be kept, nothing is sent, and all workers are to
-    // end. Where something was kept, it is then made smaller, if it has become large.
+    // end. Where something was kept, what is kept is then made smaller, if it has become large.
     fn send_kept(
         &self,
         answerer: &mut AtKeptDesk<'a, C, R, M, H, B, NoGate, K>,
@@ -344,8 +345,19 @@ impl<
         if second != rounds.second {
             rounds.crowd.send_late(answerer.desk(), second);
         }
-        if had_news && !answerer.compact() {
-            self.commons.end_all();
+        if had_news {
+            self.note_compacting(answerer.compact_synced());
+        }
+    }
+
+    // Says that what is kept could not be made smaller; where nothing more can be kept, all workers are to end.
+    fn note_compacting(&self, compacting: Compacting) {
+        match compacting {
+            Compacting::Fine => {}
+            Compacting::GivenUp => self.say(
+                "tus-server: the journal can't be made smaller for want of memory or disk, and goes on as it is",
+            ),
+            Compacting::Failed => self.commons.end_all(),
         }
     }
 

@@ -1,5 +1,5 @@
 //! What keeps the changes of a store beyond its process.
-ghost use Rattle.std.specs.Prelude.{◌≡◌, true, IsTrue, None};
+ghost use Rattle.std.specs.Prelude.{◌≡◌, IsTrue, None};
 ghost use mathlib.Core.List.{IsPrefix};
 
 use service_watch::JournalNumbers;
@@ -7,6 +7,17 @@ use std::sync::Wait;
 use std::sync::ledger::Ledger;
 use std::time;
 use tus_shared::{Charges, Desk, Shared};
+
+/// What came of making smaller what is kept.
+#[derive(Clone, Copy, Debug, PartialEq, Eq)]
+pub enum Compacting {
+    /// More can be kept.
+    Fine,
+    /// More can be kept, but it could not be made smaller.
+    GivenUp,
+    /// Nothing more can be kept.
+    Failed,
+}
 
 /// What keeps what happens at the desks of a store, so that it outlives the process.
 pub trait Keeping<C: Charges, R: Ledger, M: Ledger, B: Wait + Drop> {
@@ -26,9 +37,16 @@ pub trait Keeping<C: Charges, R: Ledger, M: Ledger, B: Wait + Drop> {
         ensures kept { IsTrue result → IsPrefix desk.new.seen desk.new.kept }
         ensures alone { desk.new ≡ record desk.old { kept = desk.new.kept } };
 
-    /// Makes what is kept smaller, a step at a time, where it has become large. Says whether more can be kept. It may wait for other
-    /// desks, and for a disk.
-    fn compact<W: Wait + time::Clock>(&self, rt: &W, shared: &Shared<C, R, M, B>) -> bool;
+    /// Makes what is kept smaller, a step at a time, where it has become large; to be called once a second. It may wait for
+    /// other desks, and for a disk.
+    fn compact<W: Wait + time::Clock>(&self, rt: &W, shared: &Shared<C, R, M, B>) -> Compacting;
+
+    /// The same, to be called after something more was kept.
+    fn compact_synced<W: Wait + time::Clock>(
+        &self,
+        rt: &W,
+        shared: &Shared<C, R, M, B>,
+    ) -> Compacting;
 
     /// The numbers of the journal in which it is kept, if there is one. It waits for no disk.
     fn numbers<W: Wait>(&self, rt: &W) -> Option<JournalNumbers>;
@@ -50,10 +68,20 @@ impl<C: Charges, R: Ledger, M: Ledger, B: Wait + Drop> Keeping<C, R, M, B> for N
         desk.is_kept()
     }
 
-    fn compact<W: Wait + time::Clock>(&self, _rt: &W, _shared: &Shared<C, R, M, B>) -> bool
-        ensures { result ≡ true }
+    fn compact<W: Wait + time::Clock>(&self, _rt: &W, _shared: &Shared<C, R, M, B>) -> Compacting
+        ensures { result ≡ Compacting.Fine }
     {
-        true
+        Compacting::Fine
+    }
+
+    fn compact_synced<W: Wait + time::Clock>(
+        &self,
+        _rt: &W,
+        _shared: &Shared<C, R, M, B>,
+    ) -> Compacting
+        ensures { result ≡ Compacting.Fine }
+    {
+        Compacting::Fine
     }
 
     fn numbers<W: Wait>(&self, _rt: &W) -> Option<JournalNumbers>

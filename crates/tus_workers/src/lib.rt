@@ -41,7 +41,7 @@ pub use attended::Attended;
 pub use commons::Commons;
 pub use descriptors::within_descriptors;
 pub use holding::HoldsBack;
-pub use keeping::{Keeping, NoJournal};
+pub use keeping::{Compacting, Keeping, NoJournal};
 pub use log_writer::LogTarget;
 pub use machine_clock::MachineClock;
 pub use observer::{Observer, Unwatched};
