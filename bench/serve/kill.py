@@ -1,7 +1,10 @@
 #!/usr/bin/env python3
 """Kills `serve --journal` at random moments under eight clients, and asks the next one for all that the replies had told.
 
-    bench/serve/kill.py PROGRAM [KILLS [SEED]]
+    bench/serve/kill.py PROGRAM [KILLS [SEED [amid]]]
+
+With the word `amid` uploads are large, and each kill comes when a smaller journal is being written, or has just taken the old
+one's place.
 
 Each client has a tenant of its own, and one request under way at a time. When the server is killed (SIGKILL) it may have made the
 change of that request or not; of all else the next server has to have exactly what was told: ids, offsets, bytes, refusals and
@@ -28,8 +31,8 @@ Upload = namedtuple('Upload', 'length is_part bytes')
 class Client:
     """What one client was told: its uploads by id, None where one was deleted, and the book after the request under way."""
 
-    def __init__(self, number, seed):
-        self.tenant, self.random = f'tenant-{number}', random.Random(seed * CLIENTS + number)
+    def __init__(self, number, seed, is_large):
+        self.tenant, self.random, self.is_large = f'tenant-{number}', random.Random(seed * CLIENTS + number), is_large
         self.book, self.after = {}, None
         self.requests = self.compared = self.ahead = 0
         self.fault = None
@@ -62,7 +65,8 @@ class Client:
             made = Upload(len(whole), False, whole)
             fields = {'Upload-Concat': 'final;' + ' '.join(self.path(part) for part in parts)}
         else:
-            made = Upload(self.random.choice([1, 4096, self.random.randrange(1, 60000)]), self.random.random() < 0.5, b'')
+            lengths = [self.random.randrange(1, 340000)] if self.is_large else [1, 4096, self.random.randrange(1, 60000)]
+            made = Upload(self.random.choice(lengths), self.random.random() < 0.5, b'')
             fields = {'Upload-Length': str(made.length), **({'Upload-Concat': 'partial'} if made.is_part else {})}
         self.change({**self.book, number: made}, (201, self.path(number)), 'POST', f'/files/{self.tenant}', fields)
 
@@ -137,8 +141,18 @@ class Client:
             self.fault = fault
 
 
-def killed(command, clients, seconds):
-    """Serves these clients for so long, and kills the server; gives how long its start took."""
+def wait_for(path):
+    """Waits until there is such a file, for a minute at most."""
+    for _ in range(60000):
+        if os.path.exists(path):
+            return
+        time.sleep(0.001)
+    sys.exit(f'there is no {path} after a minute')
+
+
+def killed(command, clients, seconds, awaited):
+    """Serves these clients for so long, once there is this file, where one is named, and kills the server; gives how long its
+    start took."""
     start = time.monotonic()
     server = subprocess.Popen(command, stdout=subprocess.PIPE, stderr=subprocess.PIPE, text=True)
     line = server.stdout.readline()
@@ -148,6 +162,8 @@ def killed(command, clients, seconds):
     threads = [threading.Thread(target=client.run, args=(int(line.rsplit(':', 1)[1]),)) for client in clients]
     for thread in threads:
         thread.start()
+    if awaited:
+        wait_for(awaited)
     time.sleep(seconds)
     server.send_signal(signal.SIGKILL)
     server.wait()
@@ -156,21 +172,25 @@ def killed(command, clients, seconds):
     return started
 
 
-def main(program, kills=300, seed=1):
-    rng, clients = random.Random(int(seed)), [Client(number, int(seed)) for number in range(CLIENTS)]
+def main(program, kills=300, seed=1, amid=None):
+    rng, clients = random.Random(int(seed)), [Client(number, int(seed), bool(amid)) for number in range(CLIENTS)]
     with tempfile.TemporaryDirectory() as folder:
         journal = f'{folder}/uploads'
         command = [program, 'serve', '--journal', journal, '--forever', '--workers', '3', '--at-once', '64', '--blocks', '65536',
                    *[f'{client.tenant}:4096' for client in clients]]
-        slowest = 0
+        new = f'{journal}/journal.new'
+        slowest = halves = 0
         for kill in range(1, int(kills) + 1):
-            slowest = max(slowest, killed(command, clients, 0.05 + rng.random() * 0.25))
+            seconds = rng.random() * 0.1 if amid else 0.05 + rng.random() * 0.25
+            slowest = max(slowest, killed(command, clients, seconds, amid and new))
+            halves += os.path.exists(new)
             for client in clients:
                 if client.fault:
                     sys.exit(f'kill {kill}: {client.fault}')
         requests, compared, ahead = (sum(getattr(client, name) for client in clients) for name in ('requests', 'compared', 'ahead'))
         print(f'{kills} kills, {requests} replies, {ahead} times more was kept than was told; {compared} bytes compared, '
-              f'the slowest start {slowest:.2f} s, a file of {os.path.getsize(os.path.join(journal, "journal"))} bytes: all was as told')
+              f'the slowest start {slowest:.2f} s, a file of {os.path.getsize(os.path.join(journal, "journal"))} bytes, {halves} times a smaller one half written: '
+              'all was as told')
 
 
 if __name__ == '__main__':
