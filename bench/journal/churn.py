@@ -1,15 +1,18 @@
 #!/usr/bin/env python3
-"""How large the file of a journal becomes while uploads come and go: clients create uploads, send their bytes and delete them, as
-fast as they can, so that a minute has as much as hours of most servers. Each tenth of a second the size of the file is held
-against three times the bytes of the blocks that are held, and 64 MiB. In the end the server is killed and started again, and
-each upload that is left has the bytes that were sent."""
+"""How large the file of a journal becomes while uploads come and go.
 
+    bench/journal/churn.py PROGRAM FOLDER [SECONDS]
+
+Eight clients create uploads, send their bytes and delete them, as fast as they can, so that a minute has as much as hours of most
+servers. Twenty times a second the size of the file is held against three times the bytes of the blocks that are held, and 64 MiB
+and the room ahead. In the end the server is killed and started again, and each upload that is left has the bytes that were sent.
+It fails where the file was larger, or something was not as it was told.
+"""
 import http.client
 import os
 import random
 import re
 import shutil
-import signal
 import socket
 import subprocess
 import sys
@@ -18,125 +21,164 @@ import time
 
 MIB = 1 << 20
 BLOCK = 4096
+BLOCKS = 16384
+WORKERS = 2
 CLIENTS = 8
-CHUNK = 256 << 10
+PART = 256 << 10
 MOST = 3 * MIB
+# By so much the file may be longer than its records: what each worker was granted, and up to a mebibyte of zeros.
+AHEAD = WORKERS * 5 * MIB + MIB
+TYPE = 'application/offset+octet-stream'
 
 
 def free_port():
-    with socket.socket() as probe:
-        probe.bind(("127.0.0.1", 0))
-        return probe.getsockname()[1]
+    with socket.create_server(('127.0.0.1', 0)) as free:
+        return free.getsockname()[1]
 
 
 class Server:
     """A server with a journal, and numbers that can be asked for."""
 
     def __init__(self, program, folder):
-        self.port, self.numbers = free_port(), free_port()
+        self.numbers = free_port()
         self.process = subprocess.Popen(
-            [program, "serve", "--journal", folder, "--port", str(self.port), "--metrics", f"127.0.0.1:{self.numbers}",
-             "--blocks", "16384", "--block-size", str(BLOCK), "--max-size", str(MOST), "--tenant", "acme:67108864"],
-            stdout=subprocess.PIPE, stderr=subprocess.DEVNULL)
-        self.process.stdout.readline()
+            [program, 'serve', '--journal', folder, '--forever', '--workers', str(WORKERS), '--at-once', '64',
+             '--metrics', str(self.numbers), '--blocks', str(BLOCKS), '--block-size', str(BLOCK), '--max-size', str(MOST),
+             f'acme:{BLOCKS}'], stdout=subprocess.PIPE, stderr=subprocess.PIPE, text=True)
+        line = self.process.stdout.readline()
+        if not line.startswith('listening'):
+            sys.exit(f'the server does not start: {self.process.wait()} {self.process.stderr.read()}')
+        self.port = int(line.rsplit(':', 1)[1])
+
+    def connect(self):
+        return http.client.HTTPConnection('127.0.0.1', self.port, timeout=60)
 
     def asked(self):
-        """The numbers by their names."""
-        link = http.client.HTTPConnection("127.0.0.1", self.numbers, timeout=30)
-        link.request("GET", "/metrics")
+        """The numbers without labels, by their names."""
+        link = http.client.HTTPConnection('127.0.0.1', self.numbers, timeout=60)
+        link.request('GET', '/metrics')
         text = link.getresponse().read().decode()
         link.close()
-        return {name: int(float(value)) for name, value in re.findall(r"^(cadrusmo_\w+) (\S+)$", text, re.M)}
+        return {name: float(value) for name, value in re.findall(r'^cadrusmo_(\w+) (\S+)$', text, re.M)}
 
     def kill(self):
-        self.process.send_signal(signal.SIGKILL)
+        """Kills it, and gives what it has told of its journal."""
+        self.process.kill()
         self.process.wait()
-
-
-def ask(link, method, path, fields=None, body=b""):
-    link.request(method, path, body, {"Tus-Resumable": "1.0.0", "Content-Length": str(len(body)), **(fields or {})})
-    reply = link.getresponse()
-    return reply, reply.read()
+        return self.process.stderr.read().splitlines()
 
 
 class Client(threading.Thread):
     """Creates uploads and deletes them; `held` are those that were not deleted, by path, with their bytes so far."""
 
-    def __init__(self, port, seed, end):
+    def __init__(self, server, seed, end):
         super().__init__()
-        self.port, self.chance, self.end, self.held, self.sent = port, random.Random(seed), end, {}, 0
+        self.link, self.random, self.end = server.connect(), random.Random(seed), end
+        self.held, self.made, self.sent, self.fault = {}, 0, 0, None
 
     def run(self):
-        link = http.client.HTTPConnection("127.0.0.1", self.port, timeout=60)
-        while time.time() < self.end:
-            self.upload(link)
-            while len(self.held) > self.chance.randrange(1, 5):
-                path = self.chance.choice(list(self.held))
-                reply, _ = ask(link, "DELETE", path)
-                assert reply.status == 204, reply.status
-                del self.held[path]
+        try:
+            while time.time() < self.end:
+                self.upload()
+                while len(self.held) > self.random.randrange(1, 5):
+                    self.delete(self.random.choice(list(self.held)))
+        except (OSError, http.client.HTTPException, AssertionError) as fault:
+            self.fault = repr(fault)
 
-    def upload(self, link):
-        data = self.chance.randbytes(self.chance.choice([1, 1000, 64 << 10, MIB, MOST]))
-        reply, _ = ask(link, "POST", "/files/acme", {"Upload-Length": str(len(data))})
-        if reply.status == 413 or reply.status == 507:
-            return
-        assert reply.status == 201, reply.status
-        path = reply.getheader("Location")
-        self.held[path] = b""
-        for start in range(0, len(data), CHUNK):
-            part = data[start:start + CHUNK]
-            reply, _ = ask(link, "PATCH", path, {"Upload-Offset": str(start), "Content-Type": "application/offset+octet-stream"}, part)
-            if reply.status != 204:
-                assert reply.status in (413, 503, 507), reply.status
+    def ask(self, wanted, method, path, fields=None, body=b''):
+        reply = ask(self.link, method, path, fields, body)
+        if reply[0] not in wanted:
+            raise AssertionError(f'{method} {path}: {reply[0]} in place of one of {wanted}')
+        return reply
+
+    def upload(self):
+        data = self.random.randbytes(self.random.choice([1, 1000, 64 << 10, MIB, MOST]))
+        _, fields, _ = self.ask([201], 'POST', '/files/acme', {'Upload-Length': str(len(data))})
+        path = fields['Location']
+        self.held[path] = b''
+        self.made += 1
+        for start in range(0, len(data), PART):
+            part = data[start:start + PART]
+            # There may be no block for it: then the upload stays as it is.
+            status, _, _ = self.ask([204, 413, 507], 'PATCH', path, {'Upload-Offset': str(start), 'Content-Type': TYPE}, part)
+            if status != 204:
                 return
             self.held[path] += part
             self.sent += len(part)
 
+    def delete(self, path):
+        self.ask([204], 'DELETE', path)
+        del self.held[path]
+
+
+def ask(link, method, path, fields=None, body=b''):
+    link.request(method, path, body, {'Tus-Resumable': '1.0.0', **(fields or {})})
+    reply = link.getresponse()
+    return reply.status, reply.headers, reply.read()
+
+
+class Sizes:
+    """What the file of a journal was like, by the numbers that were asked for."""
+
+    def __init__(self):
+        self.live = self.records = self.file = self.last = self.shrunk = 0
+        self.beyond = -1 << 60
+
+    def note(self, numbers):
+        live = (BLOCKS - numbers['blocks_free']) * BLOCK
+        records, file = numbers['journal_bytes'], numbers['journal_file_bytes']
+        self.shrunk += records < self.last
+        self.last = records
+        self.live, self.records, self.file = max(self.live, live), max(self.records, records), max(self.file, file)
+        self.beyond = max(self.beyond, file - 3 * live - 64 * MIB - AHEAD)
+
+
+def compare(server, held):
+    """Ends where the server lacks one of these uploads, or has other bytes of it."""
+    link = server.connect()
+    for path, data in held.items():
+        _, fields, _ = ask(link, 'HEAD', path)
+        if fields['Upload-Offset'] != str(len(data)):
+            sys.exit(f'{path} has {fields["Upload-Offset"]} bytes in place of {len(data)}')
+        if fields['Upload-Length'] == str(len(data)) and ask(link, 'GET', path)[2] != data:
+            sys.exit(f'{path} has other bytes than were sent')
+
 
 def measure(program, folder, seconds):
-    server = Server(program, folder)
+    server, sizes = Server(program, folder), Sizes()
     end = time.time() + seconds
-    clients = [Client(server.port, seed, end) for seed in range(CLIENTS)]
+    clients = [Client(server, seed, end) for seed in range(CLIENTS)]
     for client in clients:
         client.start()
-    worst, largest, shrunk, before = -(1 << 60), 0, 0, 0
-    while time.time() < end:
-        numbers = server.asked()
-        live = (numbers["cadrusmo_blocks_charged_total"] - numbers["cadrusmo_blocks_released_total"]) * BLOCK
-        size = numbers["cadrusmo_journal_file_bytes"]
-        worst = max(worst, size - 3 * live - 64 * MIB)
-        largest = max(largest, size)
-        shrunk += size < before
-        before = size
-        time.sleep(0.1)
+    while any(client.is_alive() for client in clients):
+        sizes.note(server.asked())
+        time.sleep(0.05)
+    told = server.kill()
     for client in clients:
-        client.join()
+        if client.fault:
+            sys.exit(f'a client failed: {client.fault}; the server told {told}')
     held = {path: data for client in clients for path, data in client.held.items()}
-    sent = sum(client.sent for client in clients)
-    server.kill()
     server = Server(program, folder)
-    link = http.client.HTTPConnection("127.0.0.1", server.port, timeout=60)
-    for path, data in held.items():
-        reply, _ = ask(link, "HEAD", path)
-        assert int(reply.getheader("Upload-Offset")) == len(data), path
-        if int(reply.getheader("Upload-Length")) == len(data):
-            assert ask(link, "GET", path)[1] == data, path
+    compare(server, held)
     server.kill()
-    print(f"{sent // MIB} MiB were sent in {seconds} s; the file had at most {largest // MIB} MiB, and was made smaller {shrunk} times")
-    print(f"beyond three times the bytes that are held, and 64 MiB: {max(worst, 0)} bytes (at the worst moment it had {-worst // MIB} MiB less)" if worst <= 0 else f"beyond three times the bytes that are held, and 64 MiB: {worst} bytes")
-    print(f"after a kill all {len(held)} uploads had the bytes that were sent")
+    made, sent = sum(client.made for client in clients), sum(client.sent for client in clients)
+    print(f'{made} uploads with {sent // MIB} MiB in {seconds} s, of which at most {sizes.live / MIB:.0f} MiB were held at once')
+    print(f'the records had at most {sizes.records / MIB:.0f} MiB, the file {sizes.file / MIB:.0f} MiB; '
+          f'it was made smaller {sizes.shrunk} times, and given up {sum("smaller" in line for line in told)} times')
+    print(f'to three times the bytes that were held, 64 MiB and the room ahead it lacked {-sizes.beyond / MIB:.0f} MiB or more')
+    print(f'after a kill all {len(held)} uploads had the bytes that were sent')
+    if sizes.beyond > 0:
+        sys.exit('the file was larger than it may be')
 
 
-def main():
-    program, folder = os.path.abspath(sys.argv[1]), sys.argv[2]
-    seconds = int(sys.argv[3]) if len(sys.argv) > 3 else 60
-    place = os.path.join(folder, "churn")
+def main(program, folder, seconds=60):
+    place = os.path.join(folder, 'churn')
     shutil.rmtree(place, ignore_errors=True)
     try:
-        measure(program, place, seconds)
+        measure(os.path.abspath(program), place, int(seconds))
     finally:
         shutil.rmtree(place, ignore_errors=True)
 
 
-main()
+if __name__ == '__main__':
+    main(*sys.argv[1:])
