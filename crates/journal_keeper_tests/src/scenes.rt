@@ -323,14 +323,12 @@ fn a_nearly_full_disk(rt: HostRuntime) -> Result<(), Fail> {
 }
 
 // A journal that is made small, on a disk that never fails.
-fn play_small(rt: &HostRuntime, ends: Ends) -> Result<(), Fail> {
-    play_at(
-        rt,
-        rt.alloc(),
-        usize::MAX,
-        u64::MAX,
-        Scene::IsMadeSmall { ends },
-    )
+fn play_small<W: Wait + Abort + time::Clock>(
+    rt: &W,
+    alloc: Global,
+    ends: Ends,
+) -> Result<(), Fail> {
+    play_at(rt, alloc, usize::MAX, u64::MAX, Scene::IsMadeSmall { ends })
 }
 
 #[test]
@@ -358,7 +356,7 @@ fn what_was_kept_is_left(rt: HostRuntime) -> Result<(), Fail> {
 #[test]
 fn a_journal_is_made_small(rt: HostRuntime) -> Result<(), Fail> {
     for ends in [Ends::InPlace, Ends::Unsure, Ends::Nowhere, Ends::Full] {
-        play_small(&rt, ends)?;
+        play_small(&rt, rt.alloc(), ends)?;
     }
     Ok(())
 }
@@ -367,7 +365,7 @@ fn a_journal_is_made_small(rt: HostRuntime) -> Result<(), Fail> {
 #[test]
 fn a_new_journal_whose_disk_fails(rt: HostRuntime) -> Result<(), Fail> {
     for calls in 0..12 {
-        play_small(&rt, Ends::FailsAfter(calls))?;
+        play_small(&rt, rt.alloc(), Ends::FailsAfter(calls))?;
     }
     Ok(())
 }
