@@ -141,13 +141,13 @@ class Client:
             self.fault = fault
 
 
-def wait_for(path):
-    """Waits until there is such a file, for a minute at most."""
+def is_there(path):
+    """Whether there is such a file, now or within a minute."""
     for _ in range(60000):
         if os.path.exists(path):
-            return
+            return True
         time.sleep(0.001)
-    sys.exit(f'there is no {path} after a minute')
+    return False
 
 
 def killed(command, clients, seconds, awaited):
@@ -162,13 +162,14 @@ def killed(command, clients, seconds, awaited):
     threads = [threading.Thread(target=client.run, args=(int(line.rsplit(':', 1)[1]),)) for client in clients]
     for thread in threads:
         thread.start()
-    if awaited:
-        wait_for(awaited)
+    has_come = not awaited or is_there(awaited)
     time.sleep(seconds)
     server.send_signal(signal.SIGKILL)
     server.wait()
     for thread in threads:
         thread.join()
+    if not has_come:
+        sys.exit(f'there is no {awaited} after a minute')
     return started
 
 
@@ -181,7 +182,7 @@ def main(program, kills=300, seed=1, amid=None):
         new = f'{journal}/journal.new'
         slowest = halves = 0
         for kill in range(1, int(kills) + 1):
-            seconds = rng.random() * 0.1 if amid else 0.05 + rng.random() * 0.25
+            seconds = rng.random() * 0.3 if amid else 0.05 + rng.random() * 0.25
             slowest = max(slowest, killed(command, clients, seconds, amid and new))
             halves += os.path.exists(new)
             for client in clients:

@@ -7,7 +7,7 @@ use std::io::Eprint;
 use thiserror::Error;
 
 /// How many descriptors a server has besides those of its clients: some of its own, and four for each worker.
-const OWN: u64 = 8;
+const OWN: u64 = 10;
 
 const OF_WORKER: u64 = 4;
 
