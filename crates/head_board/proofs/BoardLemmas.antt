@@ -25,9 +25,11 @@ use Rattle.head_board.specs.inside.BoardRule.{IsAtRest}
 use Rattle.head_board.specs.inside.EventLog.{LogPrefix}
 use Rattle.head_board.specs.Events.{AllHappen, Happens, HaveHappened, IsNoteOfEvent, book_at, change_event}
 use Rattle.head_board.specs.Room.{heads_noted, heads_with}
-use Rattle.head_board.specs.inside.Showing.{Fits, IsConsistent, IsCurrent, IsNext, WithTexts, change_with, noted, view_of}
+use Rattle.head_board.specs.inside.LastChanges.{last_of}
+use Rattle.head_board.specs.inside.Showing.{Fits, IsConsistent, IsCurrent, IsNext, WithTexts, change_with, no_view, noted, view_of, with_note}
+use Rattle.head_board.proofs.LastLemmas.{note-known, note-slots, rests-next}
 use Rattle.head_board.proofs.LineLemmas.{lines_have_room}
-use Rattle.head_board.proofs.RuleLemmas.{begins, fits-next, shows}
+use Rattle.head_board.proofs.RuleLemmas.{begins, fit-none, fit-snoc, fits-next, shows}
 
 -- what holds where something succeeded, and it did
 pub at_ok : {X E : Type 0} (r : Result X E) (P : Type 0) (Q : E → Type 0) → IsOk r → MatchResult r (λ (x : X). P) Q → P
@@ -70,6 +72,10 @@ shown-rest s shown next v w left after knows fits is none same = record {
   nothing = none;
 }
 
+-- the rule holds of a current copy at first, when nothing is known
+pub rule-first : (s : BoardCopy) → IsCurrent s → IsConsistent s (no_view ∷ [])
+rule-first s current = record { current = current; each = fit-snoc s [] no_view (λ k u at. absurd (cc (at))) (fit-none s) }
+
 -- a current copy is next to itself
 pub next-self : (s : BoardCopy) → IsCurrent s → IsNext s s
 next-self s current = record { current = current; settings = refl; log = refl }
@@ -85,28 +91,31 @@ pub after-one : (b : PlainBook) (events : List Event) (e : Event) → book_after
 after-one b [] e = refl
 after-one b (x ∷ events) e = after-one (book_after_event b (change_event x)) events e
 
--- a note that stands for a line on heads, on the same heads stands for it too
-noted-line : (h before : Heads) (note : HeadNote) (line : BoardLine) → h ≡ before → line_told before note ≡ Some line → heads_noted h note ≡ heads_with h line
-noted-line h before note line same told = ap (λ line. option_map_or (heads_with h) line h) (ap (λ h. line_told h note) same ∙ told)
+-- a note that stands for a line on heads changes them by that
+noted-line : (h : Heads) (note : HeadNote) (line : BoardLine) → line_told h note ≡ Some line → heads_noted h note ≡ heads_with h line
+noted-line h note line told = ap (λ line. option_map_or (heads_with h) line h) told
 
 -- a current copy is current after the note of an event that happened
 pub current-noted : (s : BoardCopy) (e : Event) (note : HeadNote) (after : LogPrefix) (texts : ComingTexts) → IsCurrent s → after ≡ record s.seen { events = s.seen.events ++ e ∷ [] } → IsNoteOfEvent (book_at s.table.settings s.seen.events) e note
-    → IsNext s (record { table = heads_noted s.table note; seen = after; coming = texts })
+    → IsNext s (record (with_note s note after) { coming = texts })
 current-noted s e note after texts current is told =
+    let next : BoardCopy = record (with_note s note after) { coming = texts } in
     let line : BoardLine = told.line in
     let events : after.events ≡ s.seen.events ++ e ∷ [] = ap (λ (t : LogPrefix). t.events) is in
     let may : MayFollow s.table line = subst (λ (h : Heads). MayFollow h line) (sym current.heads) told.leads.may in
-    let table : heads_noted s.table note ≡ apply_line s.table line =
-    noted-line s.table (heads_of (book_at s.table.settings s.seen.events)) note line current.heads told.told ∙ rw (lines_have_room s.table line may) refl in
-    let settings : (heads_noted s.table note).settings ≡ s.table.settings = ap (λ (h : Heads). h.settings) table in
+    let told_here : line_told s.table note ≡ Some line = subst (λ (h : Heads). line_told h note ≡ Some line) (sym current.heads) told.told in
+    let table : next.table ≡ apply_line s.table line = noted-line s.table note line told_here ∙ rw (lines_have_room s.table line may) refl in
+    let settings : next.table.settings ≡ s.table.settings = ap (λ (h : Heads). h.settings) table in
     let happened : HaveHappened s.table.settings after.events =
     subst (HaveHappened s.table.settings) (sym events) (happen-one (opening_book s.table.settings) s.seen.events e current.happened (line, record { is = told.is; leads = told.leads })) in
-    let heads : heads_noted s.table note ≡ heads_of (book_at s.table.settings after.events) =
+    let heads : next.table ≡ heads_of (book_at s.table.settings after.events) =
     table ∙ ap (λ (h : Heads). apply_line h line) current.heads ∙ sym told.leads.heads ∙ sym (ap heads_of (ap (book_at s.table.settings) events ∙ after-one (opening_book s.table.settings) s.seen.events e)) in
     record {
       current = record {
         happened = subst (λ (settings : Settings). HaveHappened settings after.events) (sym settings) happened;
         heads = heads ∙ ap (λ (settings : Settings). heads_of (book_at settings after.events)) (sym settings);
+        slots = note-slots s.table s.last_changes note.change after current.slots;
+        rests = λ name. rests-next s next e line name (last_of next.last_changes name.id) settings is heads table (current.rests name) (note-known s.table s.last_changes note.change note.accounts after line name current.slots told_here);
       };
       settings = settings;
       log = ap (λ (t : LogPrefix). t.book) is;
@@ -114,15 +123,15 @@ current-noted s e note after texts current is told =
 
 -- the copy after the last note of an event
 pub added-last : (s told : BoardCopy) (note : HeadNote) (a : Added) → WithTexts s told → change_with told.coming a.change ≡ note.change → a.accounts ≡ note.accounts
-    → noted told (Adds a) ≡ record { table = heads_noted s.table note; seen = a.after; coming = told.coming }
+    → noted told (Adds a) ≡ record (with_note s note a.after) { coming = told.coming }
 added-last s told note a same change accounts =
     let made : NotedChange → Accounts → HeadNote = λ change accounts. record { change = change; accounts = accounts } in
-    let copy : Heads → HeadNote → BoardCopy = λ table note. record { table = heads_noted table note; seen = a.after; coming = told.coming } in
-    ap₂ copy (ap (λ (s : BoardCopy). s.table) same) (ap₂ made change accounts)
+    let copy : BoardCopy → HeadNote → BoardCopy = λ s note. record (with_note s note a.after) { coming = told.coming } in
+    ap₂ copy same (ap₂ made change accounts)
 
 -- so that one is next to the copy before the notes
 pub shown-next : (s told next : BoardCopy) (pending : List Note) (note : HeadNote) (a : Added) → pending ≡ [] → WithTexts (fold noted s pending) told → change_with told.coming a.change ≡ note.change → a.accounts ≡ note.accounts → next ≡ noted told (Adds a)
-    → ((texts : ComingTexts) → IsNext s (record { table = heads_noted s.table note; seen = a.after; coming = texts })) → IsNext s next
+    → ((texts : ComingTexts) → IsNext s (record (with_note s note a.after) { coming = texts })) → IsNext s next
 shown-next s told next pending note a none texts change accounts is after =
     let same : WithTexts s told = subst (λ (t : BoardCopy). WithTexts t told) (ap (fold noted s) none) texts in
     subst (IsNext s) (sym (is ∙ added-last s told note a same change accounts)) (after told.coming)

@@ -3,6 +3,8 @@ pub mod TableLemmas
 pub mod BoundLemmas
 pub mod LineLemmas
 pub mod LogLemmas
+pub mod PrefixLemmas
+pub mod LastLemmas
 pub mod RuleLemmas
 pub mod ReaderLemmas
 pub mod TextLemmas

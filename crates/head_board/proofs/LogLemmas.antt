@@ -23,7 +23,7 @@ pub prefix_fits : {A : Type 0} (xs ys : List A) → IsPrefix xs ys → length xs
 prefix_fits {A = A} xs ys p = omega (arith, length-append xs p.0, ap (length {A = A}) p.1)
 
 -- a prefix as long as the whole is the whole
-prefix_whole : {A : Type 0} (xs ys : List A) → IsPrefix xs ys → length ys ≤ length xs → xs ≡ ys
+pub prefix_whole : {A : Type 0} (xs ys : List A) → IsPrefix xs ys → length ys ≤ length xs → xs ≡ ys
 prefix_whole [] [] p le = refl
 prefix_whole [] (y ∷ ys) p le = absurd (omega arith)
 prefix_whole (x ∷ xs) [] p le = absurd (cc (p.1))

@@ -6,7 +6,7 @@ use Rattle.upload_book.specs.declared.head_row.Name.{Name}
 use Rattle.upload_book.specs.declared.refusal.Refusal.TheVariants.{Gone, Unknown}
 use Rattle.upload_book.specs.Heads.{Heads, HeadPart, head_part, heads_of, shown}
 use Rattle.upload_book.specs.Look.{look_answer, row_of}
-use Rattle.upload_book.specs.PlainBook.{PlainBook, answer_of, tenant_book}
+use Rattle.upload_book.specs.PlainBook.{PlainBook, answer_of, opening_book, tenant_book}
 use Rattle.upload_book.specs.Settings.{Settings}
 use Rattle.upload_book.specs.TenantBook.{TenantBook, is_given, kept_in, visible, visible_in, visible_upload}
 use Rattle.upload_book.specs.Expiry.{has_expired}
@@ -20,8 +20,10 @@ use Rattle.head_board.specs.Board.{row_read}
 use Rattle.head_board.specs.Events.{HaveHappened, book_at}
 use Rattle.head_board.specs.Expired.{NoneHasExpired}
 use Rattle.head_board.specs.Totals.{totals_of}
-use Rattle.head_board.specs.inside.EventLog.{LogPrefix}
+use Rattle.head_board.specs.inside.EventLog.{IsMore, LogPrefix}
+use Rattle.head_board.specs.inside.LastChanges.{last_of}
 use Rattle.head_board.specs.inside.Showing.{IsFound, log_of}
+use Rattle.head_board.proofs.PrefixLemmas.{happen-before, more-seen}
 
 -- what is found of an upload is what is found of its row
 visible-row : (now : ℕ) (o : Option Upload) → visible (λ (row : HeadRow). row.expires) now (option_map head_row_of o) ≡ row_of (visible (λ (u : Upload). u.expires) now o)
@@ -54,17 +56,25 @@ found-happened v s seen events knows there is =
     subst (λ (settings : Settings). HaveHappened settings events.events) (sym (there.fits knows).0)
     (subst (λ (t : LogPrefix). HaveHappened s.table.settings t.events) (sym is) there.current.happened)
 
--- it tells what the book does after what happened
+-- what a copy that was found rests on is of the log that the reader reads
+pub found-log : (v : View) (s : BoardCopy) (seen : LogPrefix) (name : Name) → v.knows ≡ true → log_of v.log ≡ seen.book → IsFound v seen s → (last_of s.last_changes name.id).book ≡ seen.book
+found-log v s seen name knows log there = (there.current.rests name).log ∙ sym (there.fits knows).1 ∙ log
+
+-- it tells what the book does after what changed the upload last, and after what was seen
 pub found-right : (v : View) (s : BoardCopy) (seen : LogPrefix) (name : Name) (now : ℕ) (f : Found) (row : HeadRow) → v.knows ≡ true → log_of v.log ≡ seen.book → IsFound v seen s
-    → f.seen ≡ s.seen → row_read f.read row ≡ shown s.table name now
+    → IsMore (last_of s.last_changes name.id) seen f.seen → row_read f.read row ≡ shown s.table name now
     → (f.seen.book ≡ seen.book) × IsPrefix seen.events f.seen.events × HaveHappened v.settings f.seen.events
     × (row_read f.read row ≡ answer_of (book_at v.settings f.seen.events) name.tenant (look_answer name.id now))
-found-right v s seen name now f row knows log there is told = (
-  ap (λ (t : LogPrefix). t.book) is ∙ sym (there.fits knows).1 ∙ log,
-  subst (λ (t : LogPrefix). IsPrefix seen.events t.events) (sym is) there.begins,
-  found-happened v s seen f.seen knows there is,
-  told ∙ ap (λ (h : Heads). shown h name now) (found-heads v s seen f.seen knows there is) ∙ shown-look (book_at v.settings f.seen.events) name now,
-)
+found-right v s seen name now f row knows log there more told =
+    let rests = there.current.rests name in
+    let both = more-seen (last_of s.last_changes name.id) seen f.seen s.seen rests.begins there.begins (found-log v s seen name knows log there) more in
+    let settings : s.table.settings ≡ v.settings = sym (there.fits knows).0 in (
+      both.0,
+      both.1,
+      subst (λ (settings : Settings). HaveHappened settings f.seen.events) settings (happen-before (opening_book s.table.settings) f.seen.events s.seen.events there.current.happened both.3),
+      told ∙ sym (rests.same f.seen.events both.2 both.3 now) ∙ ap (λ (settings : Settings). shown (heads_of (book_at settings f.seen.events)) name now) settings
+          ∙ shown-look (book_at v.settings f.seen.events) name now,
+    )
 
 -- and what has expired after what happened
 pub none-right : (v : View) (s : BoardCopy) (seen : LogPrefix) (now : ℕ) (found : Option LogPrefix) → v.knows ≡ true → log_of v.log ≡ seen.book → IsFound v seen s

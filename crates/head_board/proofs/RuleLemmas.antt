@@ -16,12 +16,12 @@ fit-set : (s : BoardCopy) (views : List View) (seat : ℕ) (v : View) → AllFit
 fit-set s views seat v all fits k u at =
     ⊎_elim (λ (h : (k ≡ seat) × (v ≡ u)). subst (λ (u : View). Fits u s) h.1 fits) (λ (h : (k ≢ seat) × (get_elem? views k ≡ some u)). all k u h.1) (at_set views seat k v u at)
 
-fit-snoc : (s : BoardCopy) (views : List View) (v : View) → AllFit s views → Fits v s → AllFit s (views ++ v ∷ [])
+pub fit-snoc : (s : BoardCopy) (views : List View) (v : View) → AllFit s views → Fits v s → AllFit s (views ++ v ∷ [])
 fit-snoc s views v all fits k u at =
     ⊎_elim (all k u) (λ (same : v ≡ u). subst (λ (u : View). Fits u s) same fits) (at_snoc views v u k at)
 
 -- nothing is known at first
-fit-none : (s : BoardCopy) → Fits no_view s
+pub fit-none : (s : BoardCopy) → Fits no_view s
 fit-none s knows = absurd (cc)
 
 -- a new place may come at any time

@@ -2,6 +2,7 @@
 pub mod EventLog
 pub mod Rows
 pub mod HeadTable
+pub mod LastChanges
 pub mod ComingTexts
 pub mod Showing
 pub mod BoardRule

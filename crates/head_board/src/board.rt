@@ -4,10 +4,9 @@ ghost use Rattle.head_board.specs.Board.{BoardView, new_reader};
 ghost use Rattle.head_board.specs.declared.board_copy.Note.TheVariants.{More};
 ghost use Rattle.head_board.specs.declared.coming_texts.ComingTexts.{ComingTexts};
 ghost use Rattle.head_board.specs.Events.{IsNoteOfEvent, book_at, event_of};
-ghost use Rattle.head_board.specs.Room.{heads_noted};
 ghost use Rattle.head_board.specs.inside.BoardRule.{IsAtRest};
 ghost use Rattle.head_board.specs.inside.ComingTexts.{text_in, text_room};
-ghost use Rattle.head_board.specs.inside.Showing.{change_with, noted, view_of, Fits, IsCurrent, IsNext, WithTexts};
+ghost use Rattle.head_board.specs.inside.Showing.{change_with, noted, view_of, with_note, Fits, IsCurrent, IsNext, WithTexts};
 ghost use Rattle.left_right.specs.Sides.{view as known_at};
 
 use crate::board_copy::{Added, BoardCopy, Note, SmallChange};
@@ -16,6 +15,7 @@ use crate::event::Coming;
 use crate::event_log::{LogWord, Opened, SeenEvents};
 use crate::head_reader::HeadReader;
 use crate::head_table::HeadTable;
+use crate::last_changes::LastChanges;
 use crate::showing::{Begins, BoardWriter, Learns, Publishes, Tells};
 use core::mem::replace_with;
 use std::alloc::{AllocError, Global};
@@ -68,11 +68,13 @@ impl<W: Wait + Drop> Board<W> {
         let first = BoardCopy {
             table: HeadTable::new(alloc, settings)?,
             seen: seen.again(),
+            last_changes: LastChanges::new(alloc, &seen)?,
             coming: ComingTexts::new(),
         };
         let second = BoardCopy {
             table: HeadTable::new(alloc, settings)?,
             seen: seen.again(),
+            last_changes: LastChanges::new(alloc, &seen)?,
             coming: ComingTexts::new(),
         };
         let writer = BoardWriter::new(alloc, first, second, readers)?;
@@ -231,11 +233,8 @@ struct Work<'a, 'b, R> {
 // Notes for both copies what an event changes, and shows the one with it.
 fn shown<R: Wait>(mut writer: BoardWriter, work: Work<'_, '_, R>) -> (BoardWriter, ())
     requires rest { IsAtRest writer.desk.shown.value (known_at writer.desk.place) (drop writer.behind writer.log.items) }
-    requires next { (texts : ComingTexts) → IsNext writer.desk.shown.value (record {
-      table = heads_noted writer.desk.shown.value.table work.note.now;
-      seen = work.after;
-      coming = texts;
-    }) }
+    requires next { (texts : ComingTexts) → IsNext writer.desk.shown.value
+        (record (with_note writer.desk.shown.value work.note.now work.after) { coming = texts }) }
     ensures rest { IsAtRest result.0.desk.shown.value (known_at result.0.desk.place) (drop result.0.behind result.0.log.items) }
     ensures next { IsNext writer.desk.shown.value result.0.desk.shown.value }
     ensures seen { result.0.desk.shown.value.seen ≡ work.entry.after }

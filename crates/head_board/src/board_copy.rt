@@ -4,15 +4,18 @@ ghost use Rattle.head_board.specs.inside.Showing.{change_with, with_added};
 use crate::coming_texts::{ComingTexts, Piece, TextField};
 use crate::event_log::SeenEvents;
 use crate::head_table::HeadTable;
+use crate::last_changes::LastChanges;
 use upload_book::{Accounts, Growth, HeadNote, Kind, LentRow, Moment, Name, NotedChange, Settings};
 
 /// What readers read: the heads of the book, and the events of the log whose changes were made to them. There are two
-/// copies: readers read one while the writer changes the other. Beside the heads each has room for the texts of the
-/// upload that is created next: they come in pieces, so that a note is small, and go from there to their row.
+/// copies: readers read one while the writer changes the other. Each knows up to which event what it tells of an upload last
+/// changed, so that a look rests on no event that came later. And each has room for the texts of the upload that is created
+/// next: they come in pieces, so that a note is small, and go from there to their row.
 #[derive(Drop)]
 pub struct BoardCopy {
     pub(crate) table: HeadTable,
     pub(crate) seen: SeenEvents,
+    pub(crate) last_changes: LastChanges,
     pub(crate) coming: ComingTexts,
 }
 
@@ -98,6 +101,8 @@ impl BoardCopy {
             change: added.change.with(&self.coming),
             accounts: added.accounts,
         };
+        self.last_changes
+            .note(&self.table, &note.change, &added.after);
         self.table.apply(&note);
         self.seen = added.after.again();
     }

@@ -1,7 +1,7 @@
 ghost use Rattle.std.specs.Prelude.{◌≡◌, ◌++◌, ◌∷◌, [], IfSome, IsTrue, false};
 ghost use mathlib.Core.List.{IsPrefix};
 ghost use Rattle.head_board.specs.Events.{event_of};
-ghost use Rattle.head_board.specs.inside.EventLog.{word_of};
+ghost use Rattle.head_board.specs.inside.EventLog.{word_of, IsMore};
 
 use crate::event::{Coming, Event};
 use logbook::{Gain, Offer, Plain, Play, Rule, Seen, Start, Word};
@@ -98,6 +98,18 @@ impl SeenEvents {
         let mut both = self.seen.again();
         both.learn(&other.seen);
         self.count <= other.count
+    }
+
+    /// A copy of these or of the others, where more was seen.
+    pub(crate) fn more(&self, other: &SeenEvents) -> SeenEvents
+        requires { self.now.book ≡ other.now.book }
+        ensures { IsMore self.now other.now result }
+    {
+        if self.begins(other) {
+            other.again()
+        } else {
+            self.again()
+        }
     }
 
     /// Adds an event to the log. It waits until the log has no more events than these. No run has to wait for that, where

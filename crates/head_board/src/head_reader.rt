@@ -4,6 +4,8 @@ ghost use Rattle.head_board.specs.Board.{ReadsHead, ReadsTotals, SeesNoneExpired
 ghost use Rattle.head_board.specs.Events.{HaveHappened, book_at};
 ghost use Rattle.head_board.specs.Expired.{NoneHasExpired};
 ghost use Rattle.head_board.specs.Totals.{totals_of};
+ghost use Rattle.head_board.specs.inside.EventLog.{IsMore};
+ghost use Rattle.head_board.specs.inside.LastChanges.{last_of};
 ghost use Rattle.head_board.specs.inside.Showing.{log_of};
 ghost use Rattle.left_right.specs.Sides.{view as known_at};
 ghost use Rattle.upload_book.specs.Heads.{heads_of, shown};
@@ -229,9 +231,11 @@ fn read_head(seat: Seat, query: HeadQuery) -> (Seat, Result<Found, Missed>)
     }
 }
 
-// What a copy tells, with the row put to its place.
+// What a copy tells, with the row put to its place. That rests on the events up to the last one that changed it, and on
+// what the reader had seen, and not on all that the copy has.
 fn found_on(copy: &BoardCopy, query: &HeadQuery, row: &mut HeadRow) -> Found
-    ensures seen { result.seen ≡ copy.now.seen }
+    requires { (last_of copy.now.last_changes query.now.name.id).book ≡ query.now.seen.book }
+    ensures seen { IsMore (last_of copy.now.last_changes query.now.name.id) query.now.seen result.seen }
     ensures row { row_read result.read row.new ≡ shown copy.now.table query.now.name query.now.moment }
 {
     let read = match copy.table.look(&query.name, query.moment) {
@@ -241,9 +245,10 @@ fn found_on(copy: &BoardCopy, query: &HeadQuery, row: &mut HeadRow) -> Found
         }
         Err(refusal) => Err(refusal),
     };
+    let last_change = copy.last_changes.of(query.name.id);
     Found {
         read,
-        seen: copy.seen.again(),
+        seen: last_change.more(&query.seen),
     }
 }
 

@@ -154,6 +154,13 @@ impl HeadRows {
         first
     }
 
+    /// The id that the next upload gets.
+    pub(crate) fn next_id(&self) -> u64
+        ensures { result ≡ self.now.part.next }
+    {
+        self.next
+    }
+
     /// How many rows there are.
     pub(crate) fn count(&self) -> usize
         ensures { result ≡ length self.now.part.uploads }

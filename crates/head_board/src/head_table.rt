@@ -7,7 +7,7 @@ ghost use Rattle.head_board.specs.inside.HeadTable.{is_taken, opening_parts, par
 ghost use Rattle.head_board.specs.inside.Rows.{AreBounded};
 ghost use Rattle.upload_book.specs.declared.board_line.HeadChange.TheVariants as head;
 ghost use Rattle.upload_book.specs.declared.head_note.NotedChange.TheVariants.{Created, Grown, Next};
-ghost use Rattle.upload_book.specs.Heads.{HeadPart, heads_of, parts_after, shown, without_expired};
+ghost use Rattle.upload_book.specs.Heads.{HeadPart, head_part_at, heads_of, parts_after, shown, without_expired};
 ghost use Rattle.upload_book.specs.PlainBook.{opening_book};
 ghost use Rattle.upload_book.specs.Terminate.{without};
 
@@ -102,6 +102,16 @@ impl HeadTable {
         match self.parts.get(tenant) {
             Some(part) => part.count() as u64,
             None => 0,
+        }
+    }
+
+    /// The id that the next upload of the tenant at this place gets.
+    pub(crate) fn next_id(&self, tenant: u8) -> u64
+        ensures { result ≡ (head_part_at self.now tenant).next }
+    {
+        match self.parts.get(usize::from(tenant)) {
+            Some(part) => part.next_id(),
+            None => 1,
         }
     }
 

@@ -13,6 +13,7 @@ mod head_reader;
 mod head_rows;
 mod head_table;
 mod kept_row;
+mod last_changes;
 pub mod laws;
 mod showing;
 mod totals;

@@ -1,5 +1,6 @@
 -- The log of what happened. Each copy, the writer and each reader has seen a prefix of it.
-use Rattle.std.specs.Prelude.{◌≡◌, ℕ, ◌==◌, true, List, [], ◌∷◌, ◌++◌, length, MatchBool}
+use Rattle.std.specs.Prelude.{◌≡◌, ℕ, ◌==◌, true, List, [], ◌∷◌, ◌++◌, length, MatchBool, ◌⊎◌}
+use mathlib.Core.List.{IsPrefix}
 use Rattle.logbook.specs.Pages.{Book, Cell, Named, Step, View}
 use Rattle.head_board.specs.Event.{Event}
 
@@ -7,6 +8,11 @@ use Rattle.head_board.specs.Event.{Event}
 pub record LogPrefix : Type 0 where
   pub book : Book
   pub events : List Event
+
+-- what was seen of a log at the one of two places that has seen more
+abbrev pub IsMore : LogPrefix → LogPrefix → LogPrefix → Type 0
+IsMore one other more =
+    (IsPrefix one.events other.events × (more ≡ other)) ⊎ (¬ (IsPrefix one.events other.events) × (more ≡ one))
 
 -- the first word is the number of events; a log has two words, of which this one leaves the second at 0
 abbrev pub IsLog : List Cell → List Event → Type 0

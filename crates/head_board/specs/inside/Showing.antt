@@ -1,12 +1,15 @@
 -- What readers read, and the rule that it keeps.
-use Rattle.std.specs.Prelude.{◌≡◌, ℕ, true, false, List}
+use Rattle.std.specs.Prelude.{◌≡◌, ℕ, true, false, List, length}
 use mathlib.Core.List.{IsPrefix}
 use mathlib.Core.Option.{some}
 use lib.ListN.{get_elem?}
 use Rattle.logbook.specs.Pages.{Book}
 use Rattle.upload_book.specs.declared.head_note.NotedChange.{NotedChange}
 use Rattle.upload_book.specs.declared.head_note.NotedChange.TheVariants.{Created, Grown, Gone, Swept, Next, Totals}
-use Rattle.upload_book.specs.Heads.{heads_of}
+use Rattle.upload_book.specs.declared.head_note.HeadNote.{HeadNote}
+use Rattle.upload_book.specs.declared.head_row.Name.{Name}
+use Rattle.upload_book.specs.Heads.{heads_of, shown}
+use Rattle.head_board.specs.Event.{Event}
 use Rattle.head_board.specs.Events.{HaveHappened, book_at}
 use Rattle.head_board.specs.NoBoard.{no_settings}
 use Rattle.head_board.specs.inside.EventLog.{LogPrefix}
@@ -20,6 +23,7 @@ use Rattle.head_board.specs.declared.board_copy.SmallChange.TheVariants as small
 use Rattle.head_board.specs.declared.board_copy.View.{View}
 use Rattle.head_board.specs.declared.coming_texts.ComingTexts.{ComingTexts}
 use Rattle.head_board.specs.inside.ComingTexts.{no_texts, with_piece}
+use Rattle.head_board.specs.inside.LastChanges.{last_after, last_of}
 use Rattle.head_board.specs.Room.{heads_noted}
 
 -- a change with the texts that came before it
@@ -38,12 +42,17 @@ change_with texts (small.Swept now) = Swept now
 change_with texts (small.Next name) = Next name
 change_with texts small.Totals = Totals
 
+-- the copy after the note of an event, with the events up to that one
+abbrev pub with_note : BoardCopy → HeadNote → LogPrefix → BoardCopy
+with_note s note after = record s {
+  table = heads_noted s.table note;
+  seen = after;
+  last_changes = last_after s.last_changes s.table note.change after;
+}
+
 -- the copy after the change of an event
 abbrev pub with_added : BoardCopy → Added → BoardCopy
-with_added s a = record s {
-  table = heads_noted s.table (record { change = change_with s.coming a.change; accounts = a.accounts });
-  seen = a.after;
-}
+with_added s a = with_note s (record { change = change_with s.coming a.change; accounts = a.accounts }) a.after
 
 -- the copy after a note
 abbrev pub noted : BoardCopy → Note → BoardCopy
@@ -56,10 +65,20 @@ noted s (Adds a) = with_added s a
 abbrev pub WithTexts : BoardCopy → BoardCopy → Type 0
 WithTexts s other = other ≡ record s { coming = other.coming }
 
--- the copy has the heads of the book after what happened
+-- What a copy tells of a name rests on some of the events that it has seen: after these, and after each one that was seen
+-- since, the book told the same.
+pub record RestsOn (s : BoardCopy) (name : Name) (some_seen : LogPrefix) : Type 0 where
+  pub log : some_seen.book ≡ s.seen.book
+  pub begins : IsPrefix some_seen.events s.seen.events
+  pub same : (events : List Event) → IsPrefix some_seen.events events → IsPrefix events s.seen.events
+      → (now : ℕ) → shown (heads_of (book_at s.table.settings events)) name now ≡ shown s.table name now
+
+-- The copy has the heads of the book after what happened, and for each name the events on which what it tells of it rests.
 pub record IsCurrent (s : BoardCopy) : Type 0 where
   pub happened : HaveHappened s.table.settings s.seen.events
   pub heads : s.table ≡ heads_of (book_at s.table.settings s.seen.events)
+  pub slots : length s.last_changes ≡ 256
+  pub rests : (name : Name) → RestsOn s name (last_of s.last_changes name.id)
 
 -- the next copy is current too, and of the same book and log
 pub record IsNext (s next : BoardCopy) : Type 0 where
