@@ -1,13 +1,13 @@
 //! A board and its readers.
 
-ghost use Rattle.std.specs.Prelude.{◌≡◌, ◌<◌, ℕ, []};
+ghost use Rattle.std.specs.Prelude.{◌≡◌, ◌<◌, ℕ};
+ghost use Rattle.head_board.specs.Events.{book_at};
 ghost use Rattle.upload_book.specs.Book.{plain_of};
 ghost use Rattle.upload_book.specs.Change.{CanBeMade};
-ghost use Rattle.upload_book.specs.PlainBook.{opening_book};
 
 use crate::settings::{moment, settings};
 use crate::tables::{assert_shown, name};
-use head_board::{Board, Coming, HeadReader, Opened};
+use head_board::{Board, Coming, HeadReader, Opened, SeenEvents};
 use std::alloc::{AllocError, Global};
 use std::process::Abort;
 use std::sync::Wait;
@@ -50,13 +50,21 @@ fn creation() -> Change<'static>
     }
 }
 
-// A new board shows what acme's first upload changes of its book.
-fn show_first<W: Wait + Drop>(rt: &impl Abort, board: &mut Board<W>, book: &mut Book)
-    requires opened { plain_of book.old ≡ opening_book board.old.settings }
-    requires new { board.old.events ≡ [] }
+// Makes a change of a book whose board has shown all that happened to it, and shows it.
+fn make<W: Wait + Drop>(
+    rt: &impl Abort,
+    board: &mut Board<W>,
+    book: &mut Book,
+    change: Change,
+    secs: u64,
+)
+    requires can { (tenants : ℕ) → 0 < tenants → CanBeMade tenants change }
+    requires book { plain_of book.old ≡ book_at board.old.settings board.old.events }
+    ensures book { plain_of book.new ≡ book_at board.new.settings board.new.events }
+    ensures log { board.new.log ≡ board.old.log }
 {
     assert!(rt; book.settings().tenant_count() > 0);
-    let ready = book.prepare(creation(), moment(rt, 1000));
+    let ready = book.prepare(change, moment(rt, secs));
     let ready = ready.expect(rt, "a book with room");
     let note = ready.note(book);
     board.show(
@@ -66,6 +74,18 @@ fn show_first<W: Wait + Drop>(rt: &impl Abort, board: &mut Board<W>, book: &mut 
         },
         &note,
     );
+    let _ = book.commit(ready);
+}
+
+// After a look at an upload of acme a reader has seen these events, no fewer and no more.
+fn assert_rests(rt: &impl Abort, reader: &mut HeadReader, id: u64, expected: &SeenEvents)
+    requires { expected.now.book ≡ reader.old.log }
+    ensures { reader.new.log ≡ reader.old.log }
+{
+    let read = reader.look(&name(0, id), moment(rt, 1000), &mut HeadRow::empty());
+    assert!(rt; read.is_some());
+    assert!(rt; reader.seen().begins(expected));
+    assert!(rt; expected.begins(reader.seen()));
 }
 
 #[test]
@@ -76,7 +96,7 @@ fn readers_see_what_is_shown(rt: HostRuntime) -> Result<(), Fail> {
     let mut one = board.reader(place(rt.alloc())?)?;
     let mut other = board.reader(place(rt.alloc())?)?;
     assert_seen(&rt, &mut one, Err(Refusal::Unknown));
-    show_first(&rt, &mut board, &mut book);
+    make(&rt, &mut board, &mut book, creation(), 1000);
     assert_seen(&rt, &mut one, Ok(5));
     assert_seen(&rt, &mut other, Ok(5));
     assert!(rt; !one.may_expire(moment(&rt, 4599)));
@@ -91,6 +111,42 @@ fn readers_see_what_is_shown(rt: HostRuntime) -> Result<(), Fail> {
         one.look(&name(0, 1), moment(&rt, 1000), &mut HeadRow::empty())
             .is_none()
     );
+    Ok(())
+}
+
+#[test]
+fn a_look_rests_on_what_changed_its_upload(rt: HostRuntime) -> Result<(), Fail> {
+    let settings = settings()?;
+    let mut board = Board::new(rt.alloc(), &rt, &settings, 1, Opened::new())?;
+    let mut book = Book::new(rt.alloc(), settings)?;
+    let mut reader = board.reader(place(rt.alloc())?)?;
+    make(&rt, &mut board, &mut book, creation(), 1000);
+    let first = board.seen().again();
+    make(&rt, &mut board, &mut book, creation(), 1000);
+    assert!(rt; !board.seen().begins(&first));
+    assert_rests(&rt, &mut reader, 1, &first);
+    assert_rests(&rt, &mut reader, 2, board.seen());
+    Ok(())
+}
+
+#[test]
+fn a_look_sees_that_its_upload_has_ended(rt: HostRuntime) -> Result<(), Fail> {
+    let settings = settings()?;
+    let mut board = Board::new(rt.alloc(), &rt, &settings, 1, Opened::new())?;
+    let mut book = Book::new(rt.alloc(), settings)?;
+    let mut reader = board.reader(place(rt.alloc())?)?;
+    make(&rt, &mut board, &mut book, creation(), 1000);
+    make(&rt, &mut board, &mut book, creation(), 1000);
+    make(
+        &rt,
+        &mut board,
+        &mut book,
+        Change::Terminate(name(0, 2)),
+        1000,
+    );
+    assert_rests(&rt, &mut reader, 2, board.seen());
+    make(&rt, &mut board, &mut book, Change::Sweep, 4600);
+    assert_rests(&rt, &mut reader, 1, board.seen());
     Ok(())
 }
 
