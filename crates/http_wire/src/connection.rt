@@ -129,8 +129,8 @@ impl Connection {
         is_at_start(&self.phase) && is_empty(&self.buffers)
     }
 
-    /// How many bytes it holds of a body that has not come whole, as far as `wants` has looked: 0 for a head, and once a message
-    /// came in.
+    /// How many bytes it holds of a body that has not come whole, as far as `wants` has looked: 0 for a head, and once a
+    /// message came in.
     pub fn body_held(&self) -> usize
         ensures { result ≡ body_held self.now.inbox self.now.phase }
     {

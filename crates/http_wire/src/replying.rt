@@ -94,7 +94,8 @@ fn answer_message<A: Answer>(buffers: &mut Buffers, answerer: &mut A, layout: &L
         .put_reply(&mut buffers.reply, now, layout.framing);
 }
 
-// Makes the step of a PATCH whose body was cut, with the bytes that came. It gets no reply: what was put in its place is let go.
+// Makes the step of a PATCH whose body was cut, with the bytes that came. It gets no reply: what was put in its place is let
+// go.
 fn apply_cut<A: Answer>(buffers: &mut Buffers, answerer: &mut A, layout: &Layout, now: Moment)
     requires { IsMessage layout.now buffers.old.inbox.lent }
     ensures inbox { buffers.new.inbox ≡ buffers.old.inbox }

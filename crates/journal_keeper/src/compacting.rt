@@ -38,11 +38,11 @@ pub enum Compacted {
 
 impl<D: Disk + Drop, C: Journalled> Keeper<D, C> {
     /// Makes the journal small, a slice at a time, where its frames have more bytes than twice those of the blocks that are
-    /// held, plus 32 MiB. At first the records that wait are kept, and a snapshot of the book is taken, for which all its bytes
-    /// are copied with the lock of the store; a new journal is begun with it beside this one. Each later call writes and syncs
-    /// some of it: at least 1 MiB, and at least four times as much as was kept since the last. Once it has all that this one has
-    /// it takes its place. Where it can't be had, what there is of it is taken away; the old one goes on, and another is begun
-    /// once that has 32 MiB more.
+    /// held, plus 32 MiB. At first the records that wait are kept, and a snapshot of the book is taken, for which all its
+    /// bytes are copied with the lock of the store; a new journal is begun with it beside this one. Each later call writes
+    /// and syncs some of it: at least 1 MiB, and at least four times as much as was kept since the last. Once it has all that
+    /// this one has it takes its place. Where it can't be had, what there is of it is taken away; the old one goes on, and
+    /// another is begun once that has 32 MiB more.
     ///
     /// `Err` is as of [`Keeper::keep`], or Place where it is not known which journal a crash leaves in its place; and from then
     /// on Ended.

@@ -69,8 +69,8 @@ impl<D: Disk + Drop> Compaction<D> {
         self.owed > 0
     }
 
-    /// Writes some of what is left, frame by frame, and syncs: at least 1 MiB, and at least four times as much as was kept since
-    /// the last time. `Err` where a write or a sync failed.
+    /// Writes some of what is left, frame by frame, and syncs: at least 1 MiB, and at least four times as much as was kept
+    /// since the last time. `Err` where a write or a sync failed.
     pub(crate) fn write_slice(&mut self) -> Result<(), JournalError>
         requires { (key : ℕ) × (records : List (List ℕ)) × WillHave self.old key records }
         ensures { (key : ℕ) (records : List (List ℕ)) → WillHave self.old key records → OnOk result (WillHave self.new key records) }

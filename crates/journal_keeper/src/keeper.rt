@@ -74,8 +74,8 @@ impl<D: Disk, C: Journalled> Model for Keeper<D, C> {
 }
 
 impl<D: Disk + Drop, C: Journalled> Keeper<D, C> {
-    /// A keeper of events, where a journal has records of which the book after these is made, all synced, and no others. None of
-    /// its room was granted, and it has synced nothing.
+    /// A keeper of events, where a journal has records of which the book after these is made, all synced, and no others. None
+    /// of its room was granted, and it has synced nothing.
     pub fn new(alloc: Global, journal: Journal<D>, front: SeenEvents) -> Keeper<D, C>
         requires key { C.journal ≡ Some (key_of journal) }
         requires log { front.book ≡ C.log }
@@ -166,9 +166,9 @@ impl<D: Disk + Drop, C: Journalled> Keeper<D, C> {
         journal.into_disk()
     }
 
-    /// Tells what a crash leaves: records of which the book is made again that is the one after events which begin with all that
-    /// are kept, and no damage. It does also after keeping has failed, and where another disk may have taken the place of this
-    /// one, of that too.
+    /// Tells what a crash leaves: records of which the book is made again that is the one after events which begin with all
+    /// that are kept, and no damage. It does also after keeping has failed, and where another disk may have taken the place
+    /// of this one, of that too.
     pub fn tell_crash(&self)
         ensures happened { HaveHappened C.settings self.now.kept }
         ensures left { IsTrue C.honest
@@ -177,10 +177,10 @@ impl<D: Disk + Drop, C: Journalled> Keeper<D, C> {
         let _kept = &self.front;
     }
 
-    /// Keeps all that this desk has seen, and tells it so. Where that is kept already, as by a call for another desk, nothing is
-    /// asked of the disk. Else the records that wait are taken out of the queue of the store, appended to the journal and
-    /// synced, once for all, which is counted where it succeeds. It takes the lock of the store for a moment, and may wait for
-    /// desks.
+    /// Keeps all that this desk has seen, and tells it so. Where that is kept already, as by a call for another desk, nothing
+    /// is asked of the disk. Else the records that wait are taken out of the queue of the store, appended to the journal and
+    /// synced, once for all, which is counted where it succeeds. It takes the lock of the store for a moment, and may wait
+    /// for desks.
     ///
     /// `Err` is Journal where a write or a sync failed, or where the journal has no room for what waits and none can be made;
     /// Queue, Frame or Desk, which come in no run where this keeper alone takes the records of the store and tells its desks;
@@ -245,12 +245,12 @@ impl<D: Disk + Drop, C: Journalled> Keeper<D, C> {
         Ok(())
     }
 
-    /// Sees to it that a desk may queue so many bytes of records, and 65,536 more. Where it has less room than that, it is granted
-    /// so much that it has room for these and 4 MiB more; and the journal is made longer before, where it has no room for all
-    /// that was granted and not used. Where it can't be, as on a full disk, the 4 MiB are left out; and where it can't be
-    /// either, the desk is granted room for 65,536 bytes, by which uploads can be ended. Where that can't be, or keeping has
-    /// failed, nothing is granted, and what the desk has and what is kept stay: a change is then refused as Memory where it
-    /// takes more.
+    /// Sees to it that a desk may queue so many bytes of records, and 65,536 more. Where it has less room than that, it is
+    /// granted so much that it has room for these and 4 MiB more; and the journal is made longer before, where it has no room
+    /// for all that was granted and not used. Where it can't be, as on a full disk, the 4 MiB are left out; and where it
+    /// can't be either, the desk is granted room for 65,536 bytes, by which uploads can be ended. Where that can't be, or
+    /// keeping has failed, nothing is granted, and what the desk has and what is kept stay: a change is then refused as
+    /// Memory where it takes more.
     pub fn make_room<R: Ledger, M: Ledger>(&mut self, desk: &mut Desk<C, R, M>, bytes: u64)
         ensures grants { MayGrant bytes self.old self.new desk.old desk.new }
         // Where there is room for it, it is granted, and the disk is asked for nothing.

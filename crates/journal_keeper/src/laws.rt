@@ -21,8 +21,8 @@ use std::sync::ledger::Ledger;
 use tus_shared::{Desk, Store};
 
 /// A law: where a keeper keeps all that a desk has seen, as it does once [`Keeper::keep`] has told the desk so and from then
-/// on, a crash leaves records of which the plain book is made that is the one after events which begin with all that the desk has
-/// seen, and no damage. All replies of the desk rest on these.
+/// on, a crash leaves records of which the plain book is made that is the one after events which begin with all that the desk
+/// has seen, and no damage. All replies of the desk rest on these.
 pub fn what_was_told_is_left<D: Disk + Drop, C: Journalled, R: Ledger, M: Ledger>(
     keeper: &Keeper<D, C>,
     desk: &Desk<C, R, M>,
@@ -38,11 +38,12 @@ pub fn what_was_told_is_left<D: Disk + Drop, C: Journalled, R: Ledger, M: Ledger
 /// that begins with everything that any reply told.
 ///
 /// Before the crash there were a keeper, whatever became of it, and desks of its store. The keeper keeps all that any of them
-/// was told to be kept, as [`Keeper::keep`] leaves it. A reply rests on what its desk has seen, and is sent only once the desk
-/// was told that all of this is kept ([`Desk::is_kept`]). Then the machine crashed, and the journal was opened
-/// ([`crate::open_journal`]) on a file that the disk may leave, or the one that may have taken its place. Of it a store is made again here, by [`reopen`]. Its book
-/// ([`Store::headline`]) is the plain book after one list of events, which begins with all that any of the desks was told to be
-/// kept; it is the one that the records of the file make, and none of these is refused.
+/// was told to be kept, as [`Keeper::keep`] leaves it. A reply rests on what its desk has seen, and is sent only once the
+/// desk was told that all of this is kept ([`Desk::is_kept`]). Then the machine crashed, and the journal was opened
+/// ([`crate::open_journal`]) on a file that the disk may leave, or the one that may have taken its place. Of it a store is
+/// made again here, by [`reopen`]. Its book ([`Store::headline`]) is the plain book after one list of events, which begins
+/// with all that any of the desks was told to be kept; it is the one that the records of the file make, and none of these is
+/// refused.
 ///
 /// The premises. The disk keeps what it synced, and leaves each other byte as it was or as it was written: that is supposed of
 /// what it `may_leave`. It told no lie while the journal was opened: of the time before the crash that is `honest`; of that

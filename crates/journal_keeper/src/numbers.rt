@@ -65,8 +65,8 @@ impl KeeperNumbers {
         self.bytes > ALWAYS_SMALL
     }
 
-    /// Whether it is to be looked after a sync whether the journal is large. Whoever asks next is told no, until the keeper tells
-    /// its numbers again.
+    /// Whether it is to be looked after a sync whether the journal is large. Whoever asks next is told no, until the keeper
+    /// tells its numbers again.
     pub(crate) fn take_due(&mut self) -> bool
         ensures due { IsTrue result ↔ (self.old.due_beyond < self.old.bytes) }
         ensures taken { self.new ≡ record self.old { due_beyond = self.new.due_beyond } }

@@ -7,15 +7,15 @@ use sqlite_disk::Disk;
 
 /// Where the file of a journal stands, with room beside it for a new one. No contract says what becomes of the files.
 pub trait JournalPlace<D: Disk> {
-    /// A file beside that of the journal, whatever it holds. What another call gave before may be lost. `None` where there can't be
-    /// one.
+    /// A file beside that of the journal, whatever it holds. What another call gave before may be lost. `None` where there
+    /// can't be one.
     fn open_beside(&self) -> Option<D>;
 
     /// Takes away the file beside that of the journal, if there is one, so that it fills no disk.
     fn give_up(&self);
 
-    /// Puts the file that was opened last beside that of the journal in its place, so that no crash undoes it. It is that of this
-    /// journal, all of whose records are synced. `Err` where that failed.
+    /// Puts the file that was opened last beside that of the journal in its place, so that no crash undoes it. It is that of
+    /// this journal, all of whose records are synced. `Err` where that failed.
     fn put_in_place(&self, journal: &Journal<D>) -> Result<(), Unsure>
         requires { (payloads : List (List ℕ)) × IsJournal journal.now payloads [] };
 }

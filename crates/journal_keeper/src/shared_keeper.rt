@@ -36,9 +36,9 @@ impl<D: Disk + Drop, C: Journalled> SharedKeeper<D, C> {
         }
     }
 
-    /// Keeps all that this desk has seen, and tells it so ([`Keeper::keep`]). Where it knows that already, no lock is taken; and
-    /// where the keeper told so when it was used last, only one that nobody holds for long. Else the lock of the keeper is taken,
-    /// and that of the store for a moment; then it may wait for other desks, and for a disk.
+    /// Keeps all that this desk has seen, and tells it so ([`Keeper::keep`]). Where it knows that already, no lock is taken;
+    /// and where the keeper told so when it was used last, only one that nobody holds for long. Else the lock of the keeper
+    /// is taken, and that of the store for a moment; then it may wait for other desks, and for a disk.
     ///
     /// `Err` as of `Keeper::keep`; then the desk is told nothing.
     pub fn keep<R: Ledger, M: Ledger, B: Wait + Drop, W: Wait + time::Clock>(
@@ -60,8 +60,8 @@ impl<D: Disk + Drop, C: Journalled> SharedKeeper<D, C> {
         kept
     }
 
-    // Tells a desk how far the events are kept, if the keeper told when it was used last that all which the desk has seen is. Says
-    // whether it did; else the desk stays.
+    // Tells a desk how far the events are kept, if the keeper told when it was used last that all which the desk has seen is.
+    // Says whether it did; else the desk stays.
     fn has_told<R: Ledger, M: Ledger, W: Wait>(&self, rt: &W, desk: &mut Desk<C, R, M>) -> bool
         ensures told { IsTrue result → IsPrefix desk.new.seen desk.new.kept }
         ensures desk { desk.new ≡ record desk.old { kept = desk.new.kept } }
@@ -88,9 +88,9 @@ impl<D: Disk + Drop, C: Journalled> SharedKeeper<D, C> {
         }
     }
 
-    /// Makes the journal small, a slice at a time, where it has become large ([`Keeper::compact`]). Where it is small however few
-    /// bytes are held, by what the keeper told when it was used last, only a lock is taken that nobody holds for long. Else it may
-    /// wait for desks, and for a disk.
+    /// Makes the journal small, a slice at a time, where it has become large ([`Keeper::compact`]). Where it is small however
+    /// few bytes are held, by what the keeper told when it was used last, only a lock is taken that nobody holds for long.
+    /// Else it may wait for desks, and for a disk.
     ///
     /// `Err` as of `Keeper::compact`.
     pub fn compact<R: Ledger, M: Ledger, B: Wait + Drop, W: Wait + time::Clock, P: JournalPlace<D>>(
@@ -105,8 +105,8 @@ impl<D: Disk + Drop, C: Journalled> SharedKeeper<D, C> {
         self.compact_locked(rt, shared, place)
     }
 
-    /// The same after a sync, for whoever asks first after it; the others rest. So they do where the journal was not large when it
-    /// was looked last, and is no longer than one that was large then.
+    /// The same after a sync, for whoever asks first after it; the others rest. So they do where the journal was not large
+    /// when it was looked last, and is no longer than one that was large then.
     ///
     /// `Err` as of `Keeper::compact`.
     pub fn compact_synced<

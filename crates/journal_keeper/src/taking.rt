@@ -64,8 +64,8 @@ pub(crate) fn keep_taken<D: Disk, C: Charges, W: time::Clock>(
     Ok(())
 }
 
-/// Takes the records out of the queue of the store that wait behind what is kept. `Err` where the queue begins elsewhere, or ends
-/// before what was seen.
+/// Takes the records out of the queue of the store that wait behind what is kept. `Err` where the queue begins elsewhere, or
+/// ends before what was seen.
 pub(crate) fn take_behind<C: Charges, R: Ledger, M: Ledger, B: Wait + Drop, W: Wait>(
     rt: &W,
     shared: &Shared<C, R, M, B>,

@@ -39,13 +39,14 @@ use tus_workers::{
 use upload_book::Settings;
 
 /// Serves connections on sockets of this machine, over a new book with the settings of the options, or, with a journal, over
-/// the book that it keeps ([`serve_kept`]), once its settings were looked at ([`check_settings`]). It prints where it listens before it accepts anything, and at its end what
-/// was charged, released and is held.
+/// the book that it keeps ([`serve_kept`]), once its settings were looked at ([`check_settings`]). It prints where it listens
+/// before it accepts anything, and at its end what was charged, released and is held.
 ///
-/// It is `Ok` where each worker accepted all of its connections, or was stopped. The error is the fault of the settings, the address or the ports, `RunFault::Wire`
-/// where a port, a worker's socket or the log could not be had, where a line could not be printed or where an accept failed, each by
-/// its cause, `RunFault::Memory` where there was no memory for the book or its board, or the journal's. After the first and
-/// after want of memory nothing was printed, nor where the journal could not be had.
+/// It is `Ok` where each worker accepted all of its connections, or was stopped. The error is the fault of the settings, the
+/// address or the ports, `RunFault::Wire` where a port, a worker's socket or the log could not be had, where a line could not
+/// be printed or where an accept failed, each by its cause, `RunFault::Memory` where there was no memory for the book or its
+/// board, or the journal's. After the first and after want of memory nothing was printed, nor where the journal could not be
+/// had.
 pub fn serve<
     L: Listener,
     D: Disk,

@@ -18,8 +18,8 @@ use upload_book::{Book, Numbers};
 /// Holds one conversation over `reader` and `writer`, on a new book with the settings of the options. Each message
 /// has the moment of the options, and at most 4,096 are read.
 ///
-/// It is `Ok` where the conversation ended, in whatever way. The error is the fault of the settings, and then both
-/// streams are untouched, `RunFault::Wire` with the stream where a read or a write failed, or `RunFault::Memory` where memory was
+/// It is `Ok` where the conversation ended, in whatever way. The error is the fault of the settings, and then both streams
+/// are untouched, `RunFault::Wire` with the stream where a read or a write failed, or `RunFault::Memory` where memory was
 /// lacking to begin with, and then nothing was read or written.
 pub fn talk<R: Source, W: Sink>(
     alloc: Global,

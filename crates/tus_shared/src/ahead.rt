@@ -15,7 +15,8 @@ impl<C: Charges, R: Ledger, M: Ledger> Desk<C, R, M> {
     /// Does of what a request asks for what can be done without the lock, so that the lock is held for less. The SHA-1 of a
     /// body is computed where it came with one: that of a PATCH where the heads tell that it will be compared, that of a
     /// creation where its own fields do. For a GET as much memory is reserved as the heads tell that it needs; there may be
-    /// too little. What is asked for stays what it is; a row that is read goes to `row`. It takes no lock, and waits for nobody.
+    /// too little. What is asked for stays what it is; a row that is read goes to `row`. It takes no lock, and waits for
+    /// nobody.
     pub(crate) fn work_ahead(
         &mut self,
         asked: &mut Asked,

@@ -97,8 +97,8 @@ impl<C: Charges, R: Ledger, M: Ledger, B: Wait + Drop> Shared<C, R, M, B> {
     }
 
     /// Takes the lock, and takes the records that wait, as [`Shared::take_records`] does, with a snapshot of the book after
-    /// them ([`Store::take_with_snapshot`]). Meanwhile no desk can take the lock: all bytes of all uploads are copied. `None` as
-    /// there. It may wait for the desks.
+    /// them ([`Store::take_with_snapshot`]). Meanwhile no desk can take the lock: all bytes of all uploads are copied. `None`
+    /// as there. It may wait for the desks.
     pub fn take_with_snapshot<W: Wait>(
         &self,
         rt: &W,
@@ -115,7 +115,8 @@ impl<C: Charges, R: Ledger, M: Ledger, B: Wait + Drop> Shared<C, R, M, B> {
         self.store.lock(rt).take_with_snapshot(alloc, from)
     }
 
-    /// Takes the lock, and tells how many bytes the blocks have that are held ([`Store::held_bytes`]). It may wait for the desks.
+    /// Takes the lock, and tells how many bytes the blocks have that are held ([`Store::held_bytes`]). It may wait for the
+    /// desks.
     pub fn held_bytes<W: Wait>(&self, rt: &W) -> u64
         ensures { (events : List Event) × HaveHappened C.settings events × (result ≡ held_bytes (book_at C.settings events)) }
     {

@@ -72,10 +72,10 @@ impl<
     K: Keeping<C, R, M, B>,
 > Workers<'a, C, R, M, H, B, K> {
     /// Serves the clients that come in, side by side, at most as many as the options say, until all connections were accepted
-    /// and have ended. A fault of a connection ends that connection alone, and an accept that fails is tried again. Where there
-    /// is no memory for the clients, or the system tells of no more events, the worker ends, and says so on standard error. Where
-    /// nothing more can be kept that is to be kept, all workers end. Once a stop was asked for it accepts nothing more, and ends
-    /// when its clients have, at the latest after the grace.
+    /// and have ended. A fault of a connection ends that connection alone, and an accept that fails is tried again. Where
+    /// there is no memory for the clients, or the system tells of no more events, the worker ends, and says so on standard
+    /// error. Where nothing more can be kept that is to be kept, all workers end. Once a stop was asked for it accepts
+    /// nothing more, and ends when its clients have, at the latest after the grace.
     pub(crate) fn work_at_once<A: Accept>(&self, number: usize, worker: &mut Worker<C, R, M, A>)
         requires alive { A.has_failed worker.old.acceptor ≡ false }
         requires unstopped { A.is_stopped worker.old.acceptor ≡ false }
@@ -183,9 +183,9 @@ impl<
         false
     }
 
-    // Lets go who has no message under way, and goes round until the others have had their replies; after the grace it cuts off
-    // who is left. Where numbers are asked for at this worker, it also waits for the other workers. It is false where the system
-    // failed before that, or nothing more could be kept.
+    // Lets go who has no message under way, and goes round until the others have had their replies; after the grace it cuts
+    // off who is left. Where numbers are asked for at this worker, it also waits for the other workers. It is false where the
+    // system failed before that, or nothing more could be kept.
     fn wind_up<A: Accept>(
         &self,
         worker: &mut Worker<C, R, M, A>,
@@ -232,8 +232,8 @@ impl<
         true
     }
 
-    // Whether nobody needs this worker any more: it has no clients, and where numbers are asked for here, the other workers have
-    // ended, and each reply was sent.
+    // Whether nobody needs this worker any more: it has no clients, and where numbers are asked for here, the other workers
+    // have ended, and each reply was sent.
     fn may_leave(&self, rounds: &Rounds<'a, H>) -> bool {
         rounds.crowd.len() == 0
             && match &rounds.metrics {
@@ -408,8 +408,8 @@ impl<
         }
     }
 
-    // Ends the uploads that have expired at this moment, unless it was asked for that before. Room for the record of that is made
-    // first. It tells whether it looked for them with the lock.
+    // Ends the uploads that have expired at this moment, unless it was asked for that before. Room for the record of that is
+    // made first. It tells whether it looked for them with the lock.
     fn sweep_once(&self, desk: &mut Desk<C, R, M>, asked: &mut Option<Moment>, now: Moment) -> bool
         ensures sweeps { SweepsKept C.settings now desk.old desk.new }
         ensures asked { asked.new ≡ Some now }

@@ -48,9 +48,9 @@ impl Attended {
         }
     }
 
-    /// Takes a turn of its connection, as [`take_turn`] says, with all messages that are left, and puts the connection away where the client is silent then.
-    /// Its buffers are of `free` where there are some, and go back there. The outcome is `Outcome::NoMemory` where there
-    /// was no memory for new ones, and then nothing passed.
+    /// Takes a turn of its connection, as [`take_turn`] says, with all messages that are left, and puts the connection away
+    /// where the client is silent then. Its buffers are of `free` where there are some, and go back there. The outcome is
+    /// `Outcome::NoMemory` where there was no memory for new ones, and then nothing passed.
     pub fn attend<
         R: Read + Drop,
         W: Write + Drop,

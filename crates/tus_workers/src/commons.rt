@@ -69,8 +69,8 @@ impl Commons {
         self.bodies.watch(net)
     }
 
-    /// Waits until the log has all of its lines, where there is one, for some seconds at most. It is to be called after the workers
-    /// have ended.
+    /// Waits until the log has all of its lines, where there is one, for some seconds at most. It is to be called after the
+    /// workers have ended.
     pub(crate) fn finish_log<H: Wait + Eprint + time::Clock>(&self, rt: &H) {
         if let Some(watching) = &self.watching {
             watching.finish(rt);

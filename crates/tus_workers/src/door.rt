@@ -11,8 +11,8 @@ use std::time::Duration;
 /// The token of the listener. No client has it, since there are fewer keys.
 pub(crate) const LISTENER: Token = Token(usize::MAX);
 
-/// Where a worker is told of connections, together with its clients. Several workers each have one at the same socket: then each
-/// takes one connection when it is told of some, and asks to be told again, so that the others get theirs.
+/// Where a worker is told of connections, together with its clients. Several workers each have one at the same socket: then
+/// each takes one connection when it is told of some, and asks to be told again, so that the others get theirs.
 #[derive(Drop)]
 pub(crate) struct Door {
     poll: Poll,

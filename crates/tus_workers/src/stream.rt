@@ -25,9 +25,9 @@ pub struct ServedStream<C: Charges, R: Ledger, M: Ledger, I, O> {
     pub buffers: Buffers,
 }
 
-/// Reads messages, lets the desk of a store without a journal answer them and writes the replies, until the input ends, the connection
-/// closes or 4,096 messages were read. For each the clock is asked once, when it has come. What ended it
-/// may be `WireFault::Read` or `WireFault::Write`; the steps that were made before it stay.
+/// Reads messages, lets the desk of a store without a journal answer them and writes the replies, until the input ends, the
+/// connection closes or 4,096 messages were read. For each the clock is asked once, when it has come. What ended it may be
+/// `WireFault::Read` or `WireFault::Write`; the steps that were made before it stay.
 ///
 /// Each reply is that of a turn at the desk ([`Desk::answer`]): a HEAD is answered beside the lock, and all else is the plain
 /// book's step on some lawful book, of which the desk counts what it charged and released. Before a request that is no HEAD

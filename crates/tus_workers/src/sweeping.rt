@@ -6,8 +6,9 @@ use std::sync::ledger::Ledger;
 use tus_shared::{Charges, Desk, Shared};
 use upload_book::Moment;
 
-/// Ends the uploads that have expired at this moment, where the heads tell, beside the lock, that there may be some. Else
-/// it takes no lock, and nothing is shown for nothing. It may wait for other desks. It tells whether it looked for them with the lock.
+/// Ends the uploads that have expired at this moment, where the heads tell, beside the lock, that there may be some. Else it
+/// takes no lock, and nothing is shown for nothing. It may wait for other desks. It tells whether it looked for them with the
+/// lock.
 pub(crate) fn sweep_expired<C: Charges, R: Ledger, M: Ledger, W: Wait, B: Wait + Drop>(
     rt: &W,
     desk: &mut Desk<C, R, M>,

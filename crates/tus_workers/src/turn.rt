@@ -111,12 +111,13 @@ struct Allowed {
     send: bool,
 }
 
-/// Does what a connection wants, until a read or a write would block, a message may not be answered yet, a reply is held back, 262,144 bytes were
-/// moved, 16 messages were answered, its share was taken or all is over. The observer is told of each. A call that a signal interrupted is made again. A read that fails is told
-/// to the connection, which may still owe an answer. It answers the messages of its share, each at the moment that the clock
-/// tells then; refusals and the end of the input count as messages. Where all are had, it reads no more, and is over once all
-/// was sent. The connection and the streams are as the next turn needs them. Where the answerer holds back its replies, nothing is
-/// written: see [`crate::send_pending`].
+/// Does what a connection wants, until a read or a write would block, a message may not be answered yet, a reply is held
+/// back, 262,144 bytes were moved, 16 messages were answered, its share was taken or all is over. The observer is told of
+/// each. A call that a signal interrupted is made again. A read that fails is told to the connection, which may still owe an
+/// answer. It answers the messages of its share, each at the moment that the clock tells then; refusals and the end of the
+/// input count as messages. Where all are had, it reads no more, and is over once all was sent. The connection and the
+/// streams are as the next turn needs them. Where the answerer holds back its replies, nothing is written: see
+/// [`crate::send_pending`].
 pub fn take_turn<
     R: Read + Drop,
     W: Write + Drop,
