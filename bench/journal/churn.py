@@ -3,10 +3,10 @@
 
     bench/journal/churn.py PROGRAM FOLDER [SECONDS]
 
-Eight clients create uploads, send their bytes and delete them, as fast as they can, so that a minute has as much as hours of most
-servers. Twenty times a second the size of the file is held against three times the bytes of the blocks that are held, and 64 MiB
-and the room ahead. In the end the server is killed and started again, and each upload that is left has the bytes that were sent.
-It fails where the file was larger, or something was not as it was told.
+Eight clients create uploads, send their bytes and delete them, as fast as they can, so that a minute has as much as hours of
+most servers. Twenty times a second the size of the file is held against three times the bytes of the blocks that are held, and
+64 MiB and the room ahead. In the end the server is killed and started again, and each upload that is left has the bytes that
+were sent. It fails where the file was larger, or something was not as it was told.
 """
 import http.client
 import os
@@ -100,7 +100,8 @@ class Client(threading.Thread):
         for start in range(0, len(data), PART):
             part = data[start:start + PART]
             # There may be no block for it: then the upload stays as it is.
-            status, _, _ = self.ask([204, 413, 507], 'PATCH', path, {'Upload-Offset': str(start), 'Content-Type': TYPE}, part)
+            fields = {'Upload-Offset': str(start), 'Content-Type': TYPE}
+            status, _, _ = self.ask([204, 413, 507], 'PATCH', path, fields, part)
             if status != 204:
                 return
             self.held[path] += part
@@ -129,7 +130,8 @@ class Sizes:
         records, file = numbers['journal_bytes'], numbers['journal_file_bytes']
         self.shrunk += records < self.last
         self.last = records
-        self.live, self.records, self.file = max(self.live, live), max(self.records, records), max(self.file, file)
+        self.live, self.records = max(self.live, live), max(self.records, records)
+        self.file = max(self.file, file)
         self.beyond = max(self.beyond, file - 3 * live - 64 * MIB - AHEAD)
 
 
@@ -162,7 +164,7 @@ def measure(program, folder, seconds):
     compare(server, held)
     server.kill()
     made, sent = sum(client.made for client in clients), sum(client.sent for client in clients)
-    print(f'{made} uploads with {sent // MIB} MiB in {seconds} s, of which at most {sizes.live / MIB:.0f} MiB were held at once')
+    print(f'{made} uploads with {sent // MIB} MiB in {seconds} s, at most {sizes.live / MIB:.0f} MiB held at once')
     print(f'the records had at most {sizes.records / MIB:.0f} MiB, the file {sizes.file / MIB:.0f} MiB; '
           f'it was made smaller {sizes.shrunk} times, and given up {sum("smaller" in line for line in told)} times')
     print(f'to three times the bytes that were held, 64 MiB and the room ahead it lacked {-sizes.beyond / MIB:.0f} MiB or more')
