@@ -28,6 +28,7 @@ with tempfile.TemporaryDirectory() as parent:
     words = [*sys.argv[1:], '--journal', folder]
     server = Server([*words, '--forever'], stderr=subprocess.PIPE)
     print(server.journal(), end='')
+    os.chmod(journal, 0o640)
     with server.connect() as client:
         client.sendall(creation('acme', MIB) + patch('/files/acme/1', 0, KEPT))
         print(status(client), status(client))
@@ -40,17 +41,20 @@ with tempfile.TemporaryDirectory() as parent:
             client.sendall(request('DELETE', path))
             print(status(client))
         print('large:', os.path.getsize(journal) > LARGE)
-        print('small:', is_small(journal))
+        print('small:', is_small(journal), oct(os.stat(journal).st_mode & 0o777))
         print(*sorted(os.listdir(folder)))
+        client.sendall(patch('/files/acme/2', 1000, KEPT[1000:1500]))
+        print(status(client))
     server.process.kill()
     server.process.wait()
-    server = Server([*words, '--connections', '4'], stderr=subprocess.PIPE)
+    words[words.index('--blocks') + 1] = '4096'
+    server = Server([*words, '--block-size', '8192', '--connections', '4'], stderr=subprocess.PIPE)
     print(server.journal(), end='')
     print(server.asked('HEAD', '/files/acme/2'), end='')
     print(server.asked('HEAD', '/files/acme/5'), end='')
     print(server.asked('GET', '/files/acme/1').endswith('\r\n\r\n' + KEPT.decode()))
     with server.connect() as client:
-        client.sendall(patch('/files/acme/2', 1000, KEPT[1000:2000]) + creation('acme', 1))
+        client.sendall(patch('/files/acme/2', 1500, KEPT[1500:2000]) + creation('acme', 1))
         print(reply(client)[0], reply(client)[0], sep='', end='')
     server.process.wait()
     print(server.process.stdout.read(), end='')

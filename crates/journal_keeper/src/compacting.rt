@@ -14,7 +14,7 @@ use crate::fault::KeepFault;
 use crate::journalled::Journalled;
 use crate::keeper::Keeper;
 use crate::numbers::ALWAYS_SMALL;
-use crate::place::{JournalPlace, Unsure};
+use crate::place::{JournalPlace, PlaceFault};
 use crate::taking::keep_taken;
 use journal_file::{Draft, Journal};
 use sqlite_disk::Disk;
@@ -251,7 +251,8 @@ impl<D: Disk + Drop, C: Journalled> Keeper<D, C> {
                 self.try_again_at = 0;
                 Ok(Compacted::Ended)
             }
-            Err(Unsure) => {
+            Err(PlaceFault::Stays) => Ok(self.give_up(place)),
+            Err(PlaceFault::Unsure) => {
                 self.has_failed = true;
                 self.maybe_in_place = Some(journal);
                 Err(KeepFault::Place)

@@ -140,8 +140,8 @@ impl<D: Disk + Drop, C: Journalled> Keeper<D, C> {
         }
     }
 
-    // Beyond how many bytes of frames it is to be looked after a sync whether the journal is large: none while a new one is
-    // written that is to have records more, and however many while nothing was kept since its last slice.
+    // Beyond how many bytes of frames a look after a sync is due: always, where a new journal is to have records that were kept
+    // since its last slice, or was lost; never, where none were kept since.
     fn due_beyond(&self) -> u64 {
         match &self.compaction {
             Some(compaction) if !compaction.owes() => u64::MAX,
@@ -239,7 +239,7 @@ impl<D: Disk + Drop, C: Journalled> Keeper<D, C> {
         self.front = reached;
         let goes_on = self.compaction.is_some();
         self.compaction = with_kept(self.compaction.take(), frames);
-        self.has_lost = goes_on && self.compaction.is_none();
+        self.has_lost = self.has_lost || (goes_on && self.compaction.is_none());
         self.synced = synced;
         self.has_failed = false;
         Ok(())

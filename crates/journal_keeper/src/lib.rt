@@ -24,6 +24,6 @@ pub use journalled::Journalled;
 pub use keeper::Keeper;
 pub use numbers::{KeeperNumbers, SyncCounts};
 pub use opening::{Reopened, open_journal, reopen};
-pub use place::{JournalPlace, Unsure};
+pub use place::{JournalPlace, PlaceFault};
 pub use progress::Progress;
 pub use shared_keeper::SharedKeeper;

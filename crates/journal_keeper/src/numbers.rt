@@ -53,7 +53,7 @@ pub struct KeeperNumbers {
     pub bytes: u64,
     /// The bytes of the journal's file, with the zeros ahead.
     pub file_bytes: u64,
-    // Beyond how many bytes of records it is to be looked after a sync whether the journal is large.
+    // Beyond how many bytes of records a look after a sync is due.
     pub(crate) due_beyond: u64,
 }
 
@@ -65,8 +65,7 @@ impl KeeperNumbers {
         self.bytes > ALWAYS_SMALL
     }
 
-    /// Whether it is to be looked after a sync whether the journal is large. Whoever asks next is told no, until the keeper
-    /// tells its numbers again.
+    /// Whether a look at its size is due after a sync. Whoever asks next is told no, until the keeper tells its numbers again.
     pub(crate) fn take_due(&mut self) -> bool
         ensures due { IsTrue result ↔ (self.old.due_beyond < self.old.bytes) }
         ensures taken { self.new ≡ record self.old { due_beyond = self.new.due_beyond } }

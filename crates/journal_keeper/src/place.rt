@@ -16,10 +16,15 @@ pub trait JournalPlace<D: Disk> {
 
     /// Puts the file that was opened last beside that of the journal in its place, so that no crash undoes it. It is that of
     /// this journal, all of whose records are synced. `Err` where that failed.
-    fn put_in_place(&self, journal: &Journal<D>) -> Result<(), Unsure>
+    fn put_in_place(&self, journal: &Journal<D>) -> Result<(), PlaceFault>
         requires { (payloads : List (List ℕ)) × IsJournal journal.now payloads [] };
 }
 
-/// A new file was to take the place of a journal's, and after a crash either may stand there.
+/// Why a new file has not taken the place of a journal's.
 #[derive(Clone, Copy, Debug, PartialEq, Eq)]
-pub struct Unsure;
+pub enum PlaceFault {
+    /// The old one stands there as it did.
+    Stays,
+    /// After a crash either may stand there.
+    Unsure,
+}

@@ -56,7 +56,7 @@ impl<D: Disk + Drop, C: Journalled> SharedKeeper<D, C> {
         }
         let mut keeper = self.keeper.lock(rt);
         let kept = keeper.keep(rt, shared, desk);
-        *self.told.lock(rt) = Told::by(&keeper);
+        self.told.lock(rt).renew(&keeper);
         kept
     }
 
@@ -84,13 +84,13 @@ impl<D: Disk + Drop, C: Journalled> SharedKeeper<D, C> {
         if needed_for(desk.room(), bytes).is_some() {
             let mut keeper = self.keeper.lock(rt);
             keeper.make_room(desk, bytes);
-            *self.told.lock(rt) = Told::by(&keeper);
+            self.told.lock(rt).renew(&keeper);
         }
     }
 
-    /// Makes the journal small, a slice at a time, where it has become large ([`Keeper::compact`]). Where it is small however
-    /// few bytes are held, by what the keeper told when it was used last, only a lock is taken that nobody holds for long.
-    /// Else it may wait for desks, and for a disk.
+    /// Makes the journal small, a slice at a time, where it has become large ([`Keeper::compact`]), for whoever asks first in
+    /// a second. Where it is small however few bytes are held, by what the keeper told when it was used last, and for all who
+    /// ask later, only a lock is taken that nobody holds for long. Else it may wait for desks, and for a disk.
     ///
     /// `Err` as of `Keeper::compact`.
     pub fn compact<R: Ledger, M: Ledger, B: Wait + Drop, W: Wait + time::Clock, P: JournalPlace<D>>(
@@ -99,14 +99,14 @@ impl<D: Disk + Drop, C: Journalled> SharedKeeper<D, C> {
         shared: &Shared<C, R, M, B>,
         place: &P,
     ) -> Result<Compacted, KeepFault> {
-        if !self.numbers(rt).may_be_large() {
+        if !self.told.lock(rt).take_second(rt) {
             return Ok(Compacted::Rests);
         }
         self.compact_locked(rt, shared, place)
     }
 
-    /// The same after a sync, for whoever asks first after it; the others rest. So they do where the journal was not large
-    /// when it was looked last, and is no longer than one that was large then.
+    /// The same after a sync, for whoever asks first after it; the others rest. It rests too where the journal is no longer
+    /// than was found small at the last look.
     ///
     /// `Err` as of `Keeper::compact`.
     pub fn compact_synced<
@@ -132,7 +132,7 @@ impl<D: Disk + Drop, C: Journalled> SharedKeeper<D, C> {
     >(&self, rt: &W, shared: &Shared<C, R, M, B>, place: &P) -> Result<Compacted, KeepFault> {
         let mut keeper = self.keeper.lock(rt);
         let compacted = keeper.compact(rt, shared, place);
-        *self.told.lock(rt) = Told::by(&keeper);
+        self.told.lock(rt).renew(&keeper);
         compacted
     }
 

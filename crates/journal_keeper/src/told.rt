@@ -3,16 +3,20 @@ ghost use Rattle.std.specs.Prelude.{◌≡◌};
 
 use crate::journalled::Journalled;
 use crate::keeper::Keeper;
-use crate::numbers::KeeperNumbers;
+use crate::numbers::{KeeperNumbers, micros_since};
 use head_board::SeenEvents;
 use sqlite_disk::Disk;
 use std::marker::PhantomData;
+use std::time;
+use std::time::Instant;
 
 /// The numbers of a keeper, and how far the events are kept.
 #[derive(Drop)]
 pub(crate) struct Told<C: Journalled> {
     pub(crate) numbers: KeeperNumbers,
     front: SeenEvents,
+    // When somebody was last told that it is time for a look at the journal's size.
+    looked: Option<Instant>,
     opening: PhantomData<C>,
     ghost log: { front.book ≡ C.log },
 }
@@ -23,8 +27,27 @@ impl<C: Journalled> Told<C> {
         Told {
             numbers: keeper.numbers(),
             front: keeper.kept(),
+            looked: None,
             opening: PhantomData,
         }
+    }
+
+    /// What this keeper tells, after what was told before.
+    pub(crate) fn renew<D: Disk + Drop>(&mut self, keeper: &Keeper<D, C>) {
+        self.numbers = keeper.numbers();
+        self.front = keeper.kept();
+    }
+
+    /// Whether it is time for a look at the size of a journal that may be large: nobody was told so in this second.
+    pub(crate) fn take_second<W: time::Clock>(&mut self, rt: &W) -> bool {
+        if !self.numbers.may_be_large() {
+            return false;
+        }
+        if self.looked.is_some() && micros_since(rt, &self.looked) < 1_000_000 {
+            return false;
+        }
+        self.looked = Instant::now(rt).ok();
+        true
     }
 
     /// How far the events are kept.

@@ -355,7 +355,13 @@ fn what_was_kept_is_left(rt: HostRuntime) -> Result<(), Fail> {
 
 #[test]
 fn a_journal_is_made_small(rt: HostRuntime) -> Result<(), Fail> {
-    for ends in [Ends::InPlace, Ends::Unsure, Ends::Nowhere, Ends::Full] {
+    for ends in [
+        Ends::InPlace,
+        Ends::Beside,
+        Ends::Unsure,
+        Ends::Nowhere,
+        Ends::Full,
+    ] {
         play_small(&rt, rt.alloc(), ends)?;
     }
     Ok(())

@@ -5,7 +5,7 @@ ghost use Rattle.server_words.specs.JournalFault.{IsOfJournal, IsOfSystem, IsUnr
 ghost use Rattle.server_words.specs.declared.fault.RunFault.{RunFault};
 
 use journal_file::Journal;
-use journal_keeper::{JournalPlace, Unsure};
+use journal_keeper::{JournalPlace, PlaceFault};
 use server_words::{JournalFault, Mismatch, RunFault};
 use sqlite_disk::{Disk, Unknown};
 use sqlite_std_file::File as DiskFile;
@@ -116,6 +116,7 @@ impl<'a> Journals for MachineJournals<'a> {
         make_folder(self.rt, path)?;
         let place = MachinePlace::open(self.rt, path)?;
         let files = sqlite_std_file::open(self.rt, place.journal.as_str(), Unknown)?;
+        place.give_up();
         let file = MachineSettings::open(self.rt, path)?;
         Ok(Folder {
             disk: files.db,
@@ -182,14 +183,17 @@ impl<'a> SettingsFile for MachineSettings<'a> {
     }
 }
 
-/// Where the file of a journal stands in a folder of this machine. No other process has the folder meanwhile.
+/// Where the file of a journal stands in a folder of this machine. No other process has the folder meanwhile. Once another
+/// folder stands at its path, as where this one was moved away, nothing is done there.
 #[derive(Drop)]
 pub struct MachinePlace<'a> {
     rt: &'a HostRuntime,
     // Held for its lock alone.
     _lock: File,
-    // Open, so that the change of a name can be synced where no descriptor is left.
+    // Open, so that it can be told from another one at its path, and the change of a name can be synced where no descriptor is
+    // left.
     folder: File,
+    path: String,
     journal: String,
     // The file beside it, which may take its place, and the one without a byte that stands beside that.
     new: String,
@@ -197,7 +201,7 @@ pub struct MachinePlace<'a> {
 }
 
 impl<'a> MachinePlace<'a> {
-    /// That of the journal in a folder, once no other process has this. What a crash has left of a smaller journal is removed.
+    /// That of the journal in a folder, once no other process has this.
     fn open(rt: &'a HostRuntime, path: &str) -> Result<MachinePlace<'a>, RunFault>
         ensures { IfErr result IsOfJournal }
     {
@@ -206,6 +210,7 @@ impl<'a> MachinePlace<'a> {
             rt,
             _lock: lock_folder(rt, path)?,
             folder: File::open(rt, path).map_err(file_fault)?,
+            path: String::from_str(alloc, path)?,
             journal: format!(in alloc; "{path}/journal")?,
             new: format!(in alloc; "{path}/journal.new")?,
             new_log: format!(in alloc; "{path}/journal.new-wal")?,
@@ -213,12 +218,25 @@ impl<'a> MachinePlace<'a> {
         if is_link(rt, place.journal.as_str()) {
             return Err(RunFault::Journal(JournalFault::File));
         }
-        place.give_up();
         Ok(place)
+    }
+
+    /// Whether its folder stands at its path still.
+    fn is_there(&self) -> bool {
+        match (
+            self.folder.metadata(),
+            fs::metadata(self.rt, self.path.as_str()),
+        ) {
+            (Ok(own), Ok(found)) => own.dev() == found.dev() && own.ino() == found.ino(),
+            _ => false,
+        }
     }
 
     /// Makes the file beside that of the journal anew, with the rights, the group and the owner of that.
     fn make_new(&self) -> io::Result<()> {
+        if !self.is_there() {
+            return Err(ErrorKind::NotFound.into());
+        }
         let found = fs::metadata(self.rt, self.journal.as_str())?;
         let new = OpenOptions::new()
             .read(true)
@@ -239,21 +257,33 @@ impl<'a> JournalPlace<DiskFile> for MachinePlace<'a> {
     }
 
     fn give_up(&self) {
-        let _ = fs::remove_file(self.rt, self.new.as_str());
-        let _ = fs::remove_file(self.rt, self.new_log.as_str());
+        if self.is_there() {
+            let _ = fs::remove_file(self.rt, self.new.as_str());
+            let _ = fs::remove_file(self.rt, self.new_log.as_str());
+        }
     }
 
-    fn put_in_place(&self, _journal: &Journal<DiskFile>) -> Result<(), Unsure> {
-        fs::rename(self.rt, self.new.as_str(), self.journal.as_str()).map_err(unsure)?;
-        self.folder.sync_all().map_err(unsure)?;
+    fn put_in_place(&self, _journal: &Journal<DiskFile>) -> Result<(), PlaceFault> {
+        if !self.is_there() {
+            return Err(PlaceFault::Stays);
+        }
+        if fs::rename(self.rt, self.new.as_str(), self.journal.as_str()).is_err() {
+            return Err(unmoved(self.rt, self.new.as_str()));
+        }
+        if self.folder.sync_all().is_err() {
+            return Err(PlaceFault::Unsure);
+        }
         let _ = fs::remove_file(self.rt, self.new_log.as_str());
         Ok(())
     }
 }
 
-/// What it is to a journal that a name could not be changed, or that not be synced.
-fn unsure(_error: io::Error) -> Unsure {
-    Unsure
+/// What it is to a journal that a new file did not get its name: where that has its own still, it got no other.
+fn unmoved(rt: &HostRuntime, new: &str) -> PlaceFault {
+    match fs::symlink_metadata(rt, new) {
+        Ok(_) => PlaceFault::Stays,
+        Err(_) => PlaceFault::Unsure,
+    }
 }
 
 /// Takes the lock of a folder, which has a file of its own, since that of the journal is replaced.
@@ -290,16 +320,19 @@ fn is_link(rt: &HostRuntime, path: &str) -> bool {
 /// Gives a file the rights of one that was found, and its group and owner where this process may.
 fn copy_access(found: &Metadata, file: &File) -> io::Result<()> {
     // Only root sets the owner, and a member of the group may still set that.
-    unless_denied(fchown(file, None, Some(found.gid())))?;
-    unless_denied(fchown(file, Some(found.uid()), None))?;
-    file.set_permissions(fs::Permissions::from_mode(found.mode() & 0o777))
+    let has_group = is_allowed(fchown(file, None, Some(found.gid())))?;
+    is_allowed(fchown(file, Some(found.uid()), None))?;
+    // Another group does not get the rights of this one.
+    let rights = if has_group { 0o777 } else { 0o707 };
+    file.set_permissions(fs::Permissions::from_mode(found.mode() & rights))
 }
 
-/// A change of a file that this process need not be allowed.
-fn unless_denied(outcome: io::Result<()>) -> io::Result<()> {
+/// Whether a change of a file was allowed to this process. The error is any other.
+fn is_allowed(outcome: io::Result<()>) -> io::Result<bool> {
     match outcome {
-        Err(error) if error.kind() == ErrorKind::PermissionDenied => Ok(()),
-        other => other,
+        Ok(()) => Ok(true),
+        Err(error) if error.kind() == ErrorKind::PermissionDenied => Ok(false),
+        Err(error) => Err(error),
     }
 }
 

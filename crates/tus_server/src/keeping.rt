@@ -10,7 +10,7 @@ use std::time;
 use tus_shared::{Desk, Shared};
 use tus_workers::{Compacting, Keeping};
 
-/// All that happens at the desks of a store is kept in a journal, whose file stands there.
+/// All that happens at the desks of a store is kept in a journal, whose file stands at this place.
 #[derive(Drop)]
 pub struct InJournal<D: Disk, C: Journalled, P> {
     pub keeper: SharedKeeper<D, C>,

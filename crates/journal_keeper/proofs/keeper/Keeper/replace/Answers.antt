@@ -16,8 +16,8 @@ invariant_of-self g c =
     let keeps : KeepsBook s c.args.journal c.self.inside.front.events = subst (λ (events : List Event). KeepsBook s c.args.journal events) (sym (ap (λ k. k.kept) view)) c.requires.keeps in
     (kept-instead c.self.inside.journal c.args.journal _ _ _ _ _ _ _ _ _ well c.self.invariant.0 key room keeps, will-keep-under _ _ _ _ c.self.inside.compaction key c.self.invariant.1)
 
-pub invariant_of-self-in-Err : goal.invariant_of-self-in-Err
-invariant_of-self-in-Err g c =
+pub invariant_of-self-in-Err-Unsure : goal.invariant_of-self-in-Err-Unsure
+invariant_of-self-in-Err-Unsure g c =
     let s = g.C.Charges.settings in
     let view = c.self.view_is in
     let key : key_of c.args.journal ≡ key_of c.self.inside.journal = c.requires.key ∙ sym (ap (λ k. k.key) view) in
