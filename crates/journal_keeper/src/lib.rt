@@ -1,5 +1,5 @@
 //! The keeper of a store's journal: it writes and syncs the records that desks queue, tells desks how far these are kept,
-//! grants them room for more, and makes a store again of the records of its journal.
+//! grants them room for more, keeps the file small, and makes a store again of the records of its journal.
 #![tactic(auto)]
 
 mod compacting;

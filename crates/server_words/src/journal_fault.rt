@@ -8,13 +8,14 @@ use journal_file::Damage;
 /// What is wrong with a journal.
 #[derive(Clone, Copy, Debug, PartialEq, Eq)]
 pub enum JournalFault {
-    /// Its folder can't be made, or its file can't be opened or made, or is no regular file with one name.
+    /// Its folder can't be made, or its file or its lock can't be opened or made, or its file is a link, or no regular file with
+    /// one name.
     File,
     /// What stands at the path of its folder is none.
     NoFolder,
     /// There is no folder at the path, or no file in it that can be read as a journal's.
     NoJournal,
-    /// Another process has its file.
+    /// Another process has its folder.
     Busy,
     /// The settings that stand beside it are not those of the options.
     Settings(Mismatch),
@@ -22,7 +23,7 @@ pub enum JournalFault {
     Damaged(Damage),
     /// The record of this number, counted from 1, is of no change that a book of the settings takes.
     Record(u64),
-    /// A read, a write or a sync of its file, or of its settings, failed.
+    /// A read, a write or a sync of its file, or of its settings, failed; or it is not known whether a smaller one got its name.
     Disk,
     /// It has no such upload.
     Upload(NoUpload),

@@ -19,10 +19,10 @@ invariant_of-self g c =
 pub invariant_of-self-in-Err-Unsure : goal.invariant_of-self-in-Err-Unsure
 invariant_of-self-in-Err-Unsure g c =
     let s = g.C.Charges.settings in
-    let view = c.self.view_is in
-    let key : key_of c.args.journal ≡ key_of c.self.inside.journal = c.requires.key ∙ sym (ap (λ k. k.key) view) in
-    let keeps : KeepsBook s c.args.journal c.self.inside.front.events = subst (λ (events : List Event). KeepsBook s c.args.journal events) (sym (ap (λ k. k.kept) view)) c.requires.keeps in
-    (kept-beside c.self.inside.journal c.args.journal _ _ _ _ _ _ _ _ _ c.self.invariant.0 key keeps, c.self.invariant.1)
+    let view = c.self-in-Err-Unsure.view_is in
+    let key : key_of c.args.journal ≡ key_of c.self-in-Err-Unsure.inside.journal = c.requires.key ∙ sym (ap (λ k. k.key) view) in
+    let keeps : KeepsBook s c.args.journal c.self-in-Err-Unsure.inside.front.events = subst (λ (events : List Event). KeepsBook s c.args.journal events) (sym (ap (λ k. k.kept) view)) c.requires.keeps in
+    (kept-beside c.self-in-Err-Unsure.inside.journal c.args.journal _ _ _ _ _ _ _ _ _ c.self-in-Err-Unsure.invariant.0 key keeps, c.self-in-Err-Unsure.invariant.1)
 
 pub put_in_place-requires : goal.put_in_place-requires
 put_in_place-requires g c = (c.requires.keeps.records, c.requires.keeps.holds)
