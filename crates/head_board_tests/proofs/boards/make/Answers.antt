@@ -1,4 +1,4 @@
-use Rattle.std.proofs.Common.{◌≡◌, ◌++◌, ◌∷◌, [], length, ap, ap₂, subst, sym, ◌∙◌, arith}
+use Rattle.std.proofs.Common.{◌≡◌, length, ap, subst, sym, ◌∙◌, arith}
 use Rattle.upload_book.specs.Book.{plain_of}
 use Rattle.upload_book.specs.Change.{book_after_change}
 use Rattle.upload_book.specs.PlainBook.{PlainBook, opening_book}
