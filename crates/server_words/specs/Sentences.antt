@@ -192,7 +192,7 @@ journal_text (Upload why) path word = no_upload_text why word
 journal_text NoFolder path word = shown path ++ codes " is a file and no folder: give --journal a folder, which is made where there is none\n"
 journal_text NoJournal path word = shown path ++ codes " has no journal that can be read: give the folder of one, and see its rights\n"
 journal_text (Settings why) path word = mismatch_text why path
-journal_text File path word = shown path ++ codes " can't be made, or its lock or journal can't be opened: see its rights and its parent's, and that the journal is a file with one name and no link\n"
+journal_text File path word = shown path ++ codes " can't be made, or its lock or journal can't be opened: see rights, and that the journal is a file with one name and no link\n"
 journal_text Busy path word = shown path ++ codes " is another process's journal: end that, or give another --journal\n"
 journal_text (Damaged damage) path word =
     shown path ++ codes " is damaged from byte " ++ decimal damage.at ++ codes " of " ++ decimal damage.len

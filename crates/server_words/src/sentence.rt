@@ -406,7 +406,7 @@ fn journal_line(why: &JournalFault, path: &str, word: &str) -> ArrayString<SENTE
         JournalFault::Upload(why) => no_upload_line(why, word),
         JournalFault::File => path_is(
             path,
-            " can't be made, or its lock or journal can't be opened: see its rights and its parent's, and that the journal is a file with one name and no link\n",
+            " can't be made, or its lock or journal can't be opened: see rights, and that the journal is a file with one name and no link\n",
         ),
         JournalFault::NoFolder => path_is(
             path,
