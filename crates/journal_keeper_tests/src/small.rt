@@ -10,7 +10,7 @@ use journal_keeper::{
     Compacted, JournalPlace, Journalled, KeepFault, Keeper, PlaceFault, open_journal,
 };
 use sqlite_disk::Fuse;
-use std::alloc::Global;
+use std::alloc::{AllocError, Global};
 use std::process::Abort;
 use std::sync::Wait;
 use std::sync::atomic::{AtomicBool, Ordering};
@@ -71,8 +71,15 @@ impl JournalPlace<Fuse<TornDisk>> for Shelf {
 // Three uploads of 12 MiB, each of which comes and goes.
 static GONE: [&[u8]; 3] = [b"/files/acme/1", b"/files/acme/2", b"/files/acme/3"];
 
-// The upload that stays.
+// The upload that stays, and its bytes.
 static STAYS: &[u8] = b"/files/acme/4";
+
+static KEPT: &[u8] = b"kept";
+
+// The bytes of an upload that goes.
+fn passing(alloc: Global) -> Result<Vec<u8>, AllocError> {
+    vec![in alloc; 7u8; 12 << 20]
+}
 
 // Makes the journal 36 MiB long, by uploads that come and go. As long as they are there, it is not large.
 fn make_large<C: Journalled, R: Ledger, M: Ledger, W: Wait + Abort + time::Clock>(
@@ -130,12 +137,12 @@ pub(crate) fn is_made_small<C: Journalled, R: Ledger, M: Ledger, W: Wait + Abort
         ends,
         was_taken_away: AtomicBool::new(false),
     };
-    let body = vec![in alloc; 7u8; 12 << 20]?;
+    let body = passing(alloc)?;
     desk.grant(1 << 30);
     make_large(rt, shared, &shelf, &mut keeper, desk, &body);
     let begun = keeper.compact(rt, shared, &shelf);
     assert!(rt; makes(rt, shared, desk, Asked::Begin));
-    assert!(rt; makes(rt, shared, desk, Asked::Patch(STAYS, &body[..100])));
+    assert!(rt; makes(rt, shared, desk, Asked::Patch(STAYS, KEPT)));
     assert!(rt; keeper.keep(rt, shared, desk).is_ok());
     let ended = keeper.compact(rt, shared, &shelf);
     assert!(rt; are_told(ends, &begun, &ended));
