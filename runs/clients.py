@@ -1,4 +1,5 @@
 """A server that a run starts, and its clients: what the scripts of the runs with many clients share."""
+import os
 import re
 import socket
 import subprocess
@@ -42,6 +43,20 @@ class Server:
         """Prints what the server prints at its end, and ends with its status."""
         print(self.process.stdout.read(), end='')
         sys.exit(self.process.wait())
+
+
+def names_in(folder):
+    """The names in the folder of a journal, but for its mark, which is put each second and is away for a moment."""
+    return sorted(name for name in os.listdir(folder) if not name.startswith('journal.mark'))
+
+
+def frames_in(journal):
+    """Where the frames in the bytes of a journal's file begin, and where the last one ends."""
+    begins, at = [], 0
+    while length := int.from_bytes(journal[at:at + 8], 'big'):
+        begins.append(at)
+        at += 16 + length
+    return begins, at
 
 
 def free_port():

@@ -19,25 +19,33 @@ file() {
     if [ -e "$1" ]; then printf '%s' "$1"; else printf /dev/null; fi
 }
 
-passed=0 failed=0
-for run in "$runs"/*/; do
+# Runs the server on a folder, and says how what it does differs from what the folder says.
+try() {
+    local run=$1 name status=0 wanted words command differs=()
     name=$(basename "$run")
     mapfile -t words < "$(file "$run/args")"
     command=("$program" "${words[@]}")
     if [ -e "$run/through" ]; then command=(bash "$run/through" "${command[@]}"); fi
-    status=0
-    timeout 60 "${command[@]}" < "$(file "$run/stdin")" > "$got/stdout" 2> "$got/stderr" || status=$?
+    timeout 60 "${command[@]}" < "$(file "$run/stdin")" > "$got/$name.out" 2> "$got/$name.err" || status=$?
     wanted=$(cat "$(file "$run/status")")
-    differs=()
-    cmp -s "$got/stdout" "$(file "$run/stdout")" || differs+=("standard output")
-    cmp -s "$got/stderr" "$(file "$run/stderr")" || differs+=("standard error")
+    cmp -s "$got/$name.out" "$(file "$run/stdout")" || differs+=("standard output")
+    cmp -s "$got/$name.err" "$(file "$run/stderr")" || differs+=("standard error")
     [ "$status" = "${wanted:-0}" ] || differs+=("status $status in place of ${wanted:-0}")
     if [ ${#differs[@]} -eq 0 ]; then
-        passed=$((passed + 1))
+        touch "$got/$name.passed"
     else
-        failed=$((failed + 1))
         printf 'runs/%s differs: %s\n' "$name" "$(IFS=,; printf '%s' "${differs[*]}")"
     fi
+}
+
+# Four at once, since most of them wait.
+count=0
+for run in "$runs"/*/; do
+    count=$((count + 1))
+    while [ "$(jobs -rp | wc -l)" -ge 4 ]; do wait -n || true; done
+    try "$run" &
 done
-printf '%d runs passed, %d failed\n' "$passed" "$failed"
-[ "$failed" -eq 0 ] && [ "$passed" -gt 0 ]
+wait
+passed=$(find "$got" -name '*.passed' | wc -l)
+printf '%d runs passed, %d failed\n' "$passed" $((count - passed))
+[ "$passed" -eq "$count" ] && [ "$count" -gt 0 ]

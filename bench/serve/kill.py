@@ -1,10 +1,11 @@
 #!/usr/bin/env python3
 """Kills `serve --journal` at random moments under eight clients, and asks the next one for all that the replies had told.
 
-    bench/serve/kill.py PROGRAM [KILLS [SEED [amid]]]
+    bench/serve/kill.py PROGRAM [KILLS [SEED [amid | renewed]]]
 
 With the word `amid` uploads are large, and each kill comes when a smaller journal is being written, or has just taken the old
-one's place.
+one's place. With `renewed` each start has another lifetime, so that it puts the journal back first, and three starts before it
+are killed while they do.
 
 Each client has a tenant of its own, and one request under way at a time. When the server is killed (SIGKILL) it may have made the
 change of that request or not; of all else the next server has to have exactly what was told: ids, offsets, bytes, refusals and
@@ -150,9 +151,9 @@ def is_there(path):
     return False
 
 
-def killed(command, clients, seconds, awaited):
+def killed(command, clients, seconds, awaited=None, while_stopped=None):
     """Serves these clients for so long, once there is this file, where one is named, and kills the server; gives how long its
-    start took."""
+    start took. What is to be done while the server is stopped, and nobody is told anything, is done before."""
     start = time.monotonic()
     server = subprocess.Popen(command, stdout=subprocess.PIPE, stderr=subprocess.PIPE, text=True)
     line = server.stdout.readline()
@@ -164,6 +165,10 @@ def killed(command, clients, seconds, awaited):
         thread.start()
     has_come = not awaited or is_there(awaited)
     time.sleep(seconds)
+    if while_stopped:
+        server.send_signal(signal.SIGSTOP)
+        time.sleep(0.1)
+        while_stopped()
     server.send_signal(signal.SIGKILL)
     server.wait()
     for thread in threads:
@@ -173,25 +178,42 @@ def killed(command, clients, seconds, awaited):
     return started
 
 
-def main(program, kills=300, seed=1, amid=None):
-    rng, clients = random.Random(int(seed)), [Client(number, int(seed), bool(amid)) for number in range(CLIENTS)]
+def killed_at_the_start(command, seconds):
+    """Starts a server and kills it after so long; tells whether it listened by then."""
+    server = subprocess.Popen(command, stdout=subprocess.PIPE, stderr=subprocess.DEVNULL, text=True)
+    time.sleep(seconds)
+    server.send_signal(signal.SIGKILL)
+    return server.communicate()[0].startswith('listening')
+
+
+def command_of(program, journal, clients, *options):
+    return [program, 'serve', '--journal', journal, '--forever', '--workers', '3', '--at-once', '64', '--blocks', '65536', *options,
+            *[f'{client.tenant}:4096' for client in clients]]
+
+
+def main(program, kills=300, seed=1, mode=None):
+    amid, renewed = mode == 'amid', mode == 'renewed'
+    rng, clients = random.Random(int(seed)), [Client(number, int(seed), amid) for number in range(CLIENTS)]
     with tempfile.TemporaryDirectory() as folder:
         journal = f'{folder}/uploads'
-        command = [program, 'serve', '--journal', journal, '--forever', '--workers', '3', '--at-once', '64', '--blocks', '65536',
-                   *[f'{client.tenant}:4096' for client in clients]]
+        command = command_of(program, journal, clients)
         new = f'{journal}/journal.new'
-        slowest = halves = 0
+        slowest = halves = early = 0
         for kill in range(1, int(kills) + 1):
+            for lifetime in range(86400 + 4 * kill, 86404 + 4 * kill) if renewed else ():
+                command = command_of(program, journal, clients, '--lifetime', str(lifetime))
+                if lifetime % 4 < 3:
+                    early += not killed_at_the_start(command, rng.random() * slowest)
             seconds = rng.random() * 0.3 if amid else 0.05 + rng.random() * 0.25
-            slowest = max(slowest, killed(command, clients, seconds, amid and new))
+            slowest = max(slowest, killed(command, clients, seconds, awaited=amid and new))
             halves += os.path.exists(new)
             for client in clients:
                 if client.fault:
                     sys.exit(f'kill {kill}: {client.fault}')
         requests, compared, ahead = (sum(getattr(client, name) for client in clients) for name in ('requests', 'compared', 'ahead'))
         print(f'{kills} kills, {requests} replies, {ahead} times more was kept than was told; {compared} bytes compared, '
-              f'the slowest start {slowest:.2f} s, a file of {os.path.getsize(os.path.join(journal, "journal"))} bytes, {halves} times a smaller one half written: '
-              'all was as told')
+              f'the slowest start {slowest:.2f} s, a file of {os.path.getsize(os.path.join(journal, "journal"))} bytes, {halves} times a smaller one half written, '
+              f'{early} starts killed before they listened: all was as told')
 
 
 if __name__ == '__main__':

@@ -4,13 +4,13 @@ import sys
 sys.path.insert(0, os.path.dirname(os.path.dirname(os.path.abspath(__file__))))
 import tempfile
 import time
-from clients import Server, creation, patch, reply, request, status
+from clients import Server, creation, names_in, patch, reply, request, status
 
 MIB = 1 << 20
 # So many bytes of text, each line of which has its number.
 KEPT = b''.join(b'%015d\n' % number for number in range(MIB // 16))
 PASSING = bytes(16 * MIB)
-LARGE = 40 * MIB
+LARGE = 56 * MIB
 
 
 def is_small(journal):
@@ -34,7 +34,7 @@ with tempfile.TemporaryDirectory() as parent:
         print(status(client), status(client))
         client.sendall(creation('acme', 2 * MIB) + patch('/files/acme/2', 0, KEPT[:1000]))
         print(status(client), status(client))
-        for number in (3, 4, 5):
+        for number in (3, 4, 5, 6):
             path = f'/files/acme/{number}'
             client.sendall(creation('acme', len(PASSING)) + patch(path, 0, PASSING))
             print(status(client), status(client))
@@ -42,7 +42,7 @@ with tempfile.TemporaryDirectory() as parent:
             print(status(client))
         print('large:', os.path.getsize(journal) > LARGE)
         print('small:', is_small(journal), oct(os.stat(journal).st_mode & 0o777))
-        print(*sorted(os.listdir(folder)))
+        print(*names_in(folder))
         client.sendall(patch('/files/acme/2', 1000, KEPT[1000:1500]))
         print(status(client))
     server.process.kill()
@@ -51,7 +51,7 @@ with tempfile.TemporaryDirectory() as parent:
     server = Server([*words, '--block-size', '8192', '--connections', '4'], stderr=subprocess.PIPE)
     print(server.journal(), end='')
     print(server.asked('HEAD', '/files/acme/2'), end='')
-    print(server.asked('HEAD', '/files/acme/5'), end='')
+    print(server.asked('HEAD', '/files/acme/6'), end='')
     print(server.asked('GET', '/files/acme/1').endswith('\r\n\r\n' + KEPT.decode()))
     with server.connect() as client:
         client.sendall(patch('/files/acme/2', 1500, KEPT[1500:2000]) + creation('acme', 1))

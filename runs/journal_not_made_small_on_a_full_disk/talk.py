@@ -6,7 +6,7 @@ import subprocess
 import sys
 sys.path.insert(0, os.path.dirname(os.path.dirname(os.path.abspath(__file__))))
 import tempfile
-from clients import creation, patch, request, status
+from clients import creation, names_in, patch, request, status
 
 MIB = 1 << 20
 KEPT = b'kept' * (MIB // 2)
@@ -32,7 +32,7 @@ with tempfile.TemporaryDirectory() as parent:
     journal = os.path.join(folder, 'journal')
     program, command, *options = sys.argv[1:]
     changes = creation('acme', len(KEPT)) + patch('/files/acme/1', 0, KEPT)
-    for number in (2, 3, 4):
+    for number in (2, 3, 4, 5):
         path = f'/files/acme/{number}'
         changes += creation('acme', len(PASSING)) + patch(path, 0, PASSING) + request('DELETE', path)
     subprocess.run([program, 'talk', '--journal', folder, *options], input=changes, stdout=subprocess.DEVNULL, check=True)
@@ -48,7 +48,7 @@ with tempfile.TemporaryDirectory() as parent:
     output.readline()
     port = int(output.readline().rsplit(':', 1)[1])
     print(server.stderr.readline(), end='')
-    print(*sorted(os.listdir(folder)))
+    print(*names_in(folder))
     allow(server.pid, None)
     for _ in range(2):
         with socket.create_connection(('127.0.0.1', port), timeout=30) as client:

@@ -3,7 +3,7 @@ import subprocess
 import sys
 sys.path.insert(0, os.path.dirname(os.path.dirname(os.path.abspath(__file__))))
 import tempfile
-from clients import Server, asked_at, creation, everything, field, free_port, patch, reply
+from clients import Server, asked_at, creation, everything, field, frames_in, free_port, patch, reply
 
 with tempfile.TemporaryDirectory() as folder:
     words = [*sys.argv[1:], '--journal', os.path.join(folder, 'uploads'), '--metrics']
@@ -18,6 +18,9 @@ with tempfile.TemporaryDirectory() as folder:
     print('POST /stop', asked_at(port, 'POST /stop').splitlines()[0])
     print('cut off:', everything(client))
     print(f'{server.process.stdout.read()}status {server.process.wait()}')
+    journal = os.path.join(folder, 'uploads', 'journal')
+    with open(journal, 'rb') as file, open(f'{journal}.mark') as mark:
+        print('marked:', mark.read() == f'{os.stat(journal).st_ino} {frames_in(file.read())[1]}\n')
     port = free_port()
     server = Server([*words, str(port)], stderr=subprocess.PIPE)
     print(server.journal(), end='')

@@ -63,6 +63,24 @@ pub(crate) fn creation<'a>(
     }
 }
 
+/// A creation for acme with this first byte, whose length is told later.
+pub(crate) fn deferred(byte: &[u8]) -> Change<'_> {
+    Change::Create {
+        tenant: 0,
+        new: NewUpload {
+            partial: false,
+            length: None,
+            metadata: b"",
+            concat: b"",
+        },
+        first: FirstChunk {
+            typed: true,
+            check: None,
+            bytes: Payload::new(byte),
+        },
+    }
+}
+
 /// A PATCH of an upload of acme.
 pub(crate) fn patch<'a>(
     id: u64,

@@ -1,5 +1,7 @@
 //! The records of a book's snapshot, and the book that is made again of them.
-use crate::changes::{KEY, acme, creation, joined, patch, put, records, settings, settings_of};
+use crate::changes::{
+    KEY, acme, creation, deferred, joined, patch, put, records, settings, settings_of,
+};
 use book_replay::{replay, snapshot_records};
 use journal_frames::close_frame;
 use std::alloc::Global;
@@ -35,17 +37,31 @@ fn some_book(rt: &impl Abort, alloc: Global) -> Result<Book, Fail> {
     Ok(replay(alloc, settings(rt), records(&frames))?)
 }
 
-fn moment(rt: &impl Abort) -> Moment {
-    let Some(moment) = Moment::new(1008) else {
+fn at(rt: &impl Abort, secs: u64) -> Moment {
+    let Some(moment) = Moment::new(secs) else {
         panic!(rt; "no moment");
     };
     moment
 }
 
-// The records of a book's snapshot, of which there are so many, as frames. None has taken more memory than it needs, but for
-// a few bytes.
+fn moment(rt: &impl Abort) -> Moment {
+    at(rt, 1008)
+}
+
 fn snapshot(rt: &impl Abort, alloc: Global, book: &Book, count: usize) -> Result<Vec<u8>, Fail> {
-    let rooms = snapshot_records(alloc, book, moment(rt))?;
+    snapshot_at(rt, alloc, book, moment(rt), count)
+}
+
+// The records of a book's snapshot at a moment, of which there are so many, as frames. None has taken more memory than it
+// needs, but for a few bytes.
+fn snapshot_at(
+    rt: &impl Abort,
+    alloc: Global,
+    book: &Book,
+    now: Moment,
+    count: usize,
+) -> Result<Vec<u8>, Fail> {
+    let rooms = snapshot_records(alloc, book, now)?;
     assert!(rt; rooms.len() == count);
     let mut frames = Vec::new(alloc);
     for room in rooms {
@@ -176,6 +192,21 @@ fn an_upload_goes_on(rt: HostRuntime) -> Result<(), Fail> {
     let book = replay(rt.alloc(), settings(&rt), records(&frames))?;
     assert_content(&rt, &book, &acme(1), b"hello");
     assert!(&rt; book.charged_total() == 8);
+    Ok(())
+}
+
+// An upload whose length is told later, and which has expired before the snapshot, without a sweep: it is there still.
+#[test]
+fn an_upload_that_has_expired(rt: HostRuntime) -> Result<(), Fail> {
+    let mut changes = Vec::new(rt.alloc());
+    put(&rt, rt.alloc(), &mut changes, 1000, &deferred(b"z"))?;
+    let was = replay(rt.alloc(), settings(&rt), records(&changes))?;
+    let frames = snapshot_at(&rt, rt.alloc(), &was, at(&rt, 5000), 5)?;
+    let book = replay(rt.alloc(), settings(&rt), records(&frames))?;
+    let row = row_of(&rt, &book, &acme(1));
+    assert!(&rt; row == Ok((Kind::Plain, 1, None, Some(4600))));
+    assert!(&rt; matches!(book.look(&acme(1), at(&rt, 5000)), Err(Refusal::Gone)));
+    assert!(&rt; book.expiries() == was.expiries());
     Ok(())
 }
 

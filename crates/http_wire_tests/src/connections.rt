@@ -89,11 +89,10 @@ fn repeated(rt: &impl Abort, alloc: Global, bytes: &[u8], times: usize) -> Vec<u
     all
 }
 
-/// In how many writes the replies to so many HEADs leave that came in one read, where a write takes all.
-fn writes_of(rt: &impl Abort, alloc: Global, heads: usize) -> u64 {
-    let sent = repeated(rt, alloc, MISSED, heads);
+/// Lets so many HEADs come in one read, asserts that the conversation ends after them, and gives its writer.
+fn speak_whole(rt: &impl Abort, alloc: Global, heads: usize, text: &[u8]) -> Leaving {
     let mut connection = Connection::new(alloc, 64).expect(rt, "memory");
-    let mut reader = Arriving::new(&sent, WHOLE);
+    let mut reader = Arriving::new(text, WHOLE);
     let mut writer = Leaving::new(alloc, WHOLE);
     let mut book = new_book(rt, alloc);
     let moments = [at(1000); 160];
@@ -106,6 +105,13 @@ fn writes_of(rt: &impl Abort, alloc: Global, heads: usize) -> u64 {
         &moments,
     );
     assert!(rt; ended == Ok(Ended::Input), "{heads} HEADs: end");
+    writer
+}
+
+/// In how many writes the replies to so many HEADs leave that came in one read, where a write takes all.
+fn writes_of(rt: &impl Abort, alloc: Global, heads: usize) -> u64 {
+    let sent = repeated(rt, alloc, MISSED, heads);
+    let writer = speak_whole(rt, alloc, heads, &sent);
     let written = repeated(rt, alloc, MISSING, heads);
     assert!(rt;
         writer.written.as_slice() == written.as_slice(),

@@ -336,25 +336,40 @@ fn refusal_of(connection: &Connection) -> Option<WireRefusal> {
     }
 }
 
+/// Asserts that a connection that was told nothing since its last reply holds nothing, and wants to read.
+fn assert_silent(rt: &impl Abort, connection: &mut Connection) {
+    assert!(rt; connection.is_idle(), "all was answered and sent");
+    assert_wants(rt, "silent", connection, Wants::Read);
+    assert!(rt; connection.is_idle(), "a look changes nothing");
+    assert_eq!(rt; connection.room(), 65_536, "room");
+    assert!(rt; connection.under_way().is_none(), "silent");
+}
+
+/// Asserts that a connection holds a part of a message, of whose body two bytes came.
+fn assert_part_held(rt: &impl Abort, connection: &Connection) {
+    assert!(rt; !connection.is_idle(), "a part is held");
+    assert_eq!(rt; connection.body_held(), 2, "a part");
+    assert!(rt; is_under_way(connection, b"he"), "a part");
+}
+
+/// Ends the input within a message of which a part came, and asserts how the conversation ends.
+fn assert_cut(rt: &impl Abort, connection: &mut Connection, book: &mut Book) {
+    end_input(rt, "a part", connection);
+    answer_next(rt, "a part", connection, book);
+    assert_eq!(rt; connection.ended(), Ok(Some(Ended::Cut)), "end");
+    assert_eq!(rt; offset_of(book), Some(2), "offset");
+}
+
 /// A client that sends nothing costs no buffers, and one that sends a body slowly is cut by its end where its caller ends it.
 #[test]
 fn what_a_connection_holds(rt: HostRuntime) {
     let mut book = new_book(&rt, rt.alloc());
     let mut connection = after_a_post(&rt, rt.alloc(), &mut book);
-    assert!(rt; connection.is_idle(), "all was answered and sent");
-    assert_wants(&rt, "silent", &mut connection, Wants::Read);
-    assert!(rt; connection.is_idle(), "a look changes nothing");
-    assert_eq!(rt; connection.room(), 65_536, "room");
-    assert!(rt; connection.under_way().is_none(), "silent");
+    assert_silent(&rt, &mut connection);
     let mut connection = Connection::with_buffers(connection.into_buffers(), 64);
     let (part, _) = PATCH.split_at(PATCH.len() - 3);
     take_in(&rt, "a part", &mut connection, part);
     assert_wants(&rt, "a part", &mut connection, Wants::Read);
-    assert!(rt; !connection.is_idle(), "a part is held");
-    assert_eq!(rt; connection.body_held(), 2, "a part");
-    assert!(rt; is_under_way(&connection, b"he"), "a part");
-    end_input(&rt, "a part", &mut connection);
-    answer_next(&rt, "a part", &mut connection, &mut book);
-    assert_eq!(rt; connection.ended(), Ok(Some(Ended::Cut)), "end");
-    assert_eq!(rt; offset_of(&book), Some(2), "offset");
+    assert_part_held(&rt, &connection);
+    assert_cut(&rt, &mut connection, &mut book);
 }

@@ -1,11 +1,11 @@
 //! A keeper that makes its journal small.
-ghost use Rattle.std.specs.Prelude.{◌≡◌, ◌≢◌, ◌≤◌, ◌<◌, ◌+◌, ◌-◌, ◌*◌, List, [], Ok, None, true, false, IsErrOf, IsSome, IsTrue, OnErr, OnOk};
+ghost use Rattle.std.specs.Prelude.{◌≡◌, ◌≢◌, ◌≤◌, ◌<◌, ◌+◌, ◌-◌, ◌*◌, List, [], Ok, None, true, false, IfSome, IsErrOf, IsSome, IsTrue, OnErr, OnOk};
 ghost use mathlib.Core.List.{IsPrefix};
 ghost use Rattle.head_board.specs.Event.{Event};
 ghost use Rattle.head_board.specs.Events.{HaveHappened, book_at};
 ghost use Rattle.tus_shared.specs.Journal.{held_bytes, journal_len};
 ghost use Rattle.journal_file.specs.Draft.{draft_key, IsDraft};
-ghost use Rattle.journal_file.specs.Journal.{key_of, room_of};
+ghost use Rattle.journal_file.specs.Journal.{disk_of, key_of, room_of};
 ghost use Rattle.journal_keeper.specs.Compaction.{WillKeep};
 ghost use Rattle.journal_keeper.specs.Keeper.{KeepsBook};
 
@@ -20,7 +20,7 @@ use journal_file::{Draft, Journal};
 use sqlite_disk::Disk;
 use std::sync::Wait;
 use std::sync::ledger::Ledger;
-use std::time;
+use std::{mem, time};
 use tus_shared::{Records, RecordsAndSnapshot, Shared};
 
 /// What came of a look at how large a journal is.
@@ -37,12 +37,31 @@ pub enum Compacted {
 }
 
 impl<D: Disk + Drop, C: Journalled> Keeper<D, C> {
+    /// Marks how many bytes the records fill, all synced. Where keeping has failed it marks nothing.
+    pub fn mark<P: JournalPlace<D>>(&self, place: &P) {
+        if let Some(bytes) = self.synced_len() {
+            place.mark(bytes);
+        }
+    }
+
+    // How many bytes the records fill, all synced; None where keeping has failed.
+    fn synced_len(&self) -> Option<u64>
+        ensures some { IfSome result (λ bytes. (self.now.failed ≡ false) × (bytes ≡ self.now.bytes)) }
+        ensures none { result ≡ None → self.now.failed ≡ true }
+    {
+        if self.has_failed {
+            None
+        } else {
+            Some(self.journal.frames_len() as u64)
+        }
+    }
+
     /// Makes the journal small, a slice at a time, where its frames have more bytes than twice those of the blocks that are
-    /// held, plus 32 MiB. At first the records that wait are kept, and a snapshot of the book is taken, for which all its
+    /// held, plus 48 MiB. At first the records that wait are kept, and a snapshot of the book is taken, for which all its
     /// bytes are copied with the lock of the store; a new journal is begun with it beside this one. Each later call writes
     /// and syncs some of it: at least 1 MiB, and at least four times as much as was kept since the last. Once it has all that
     /// this one has it takes its place. Where it can't be had, what there is of it is taken away; the old one goes on, and
-    /// another is begun once that has 32 MiB more.
+    /// another is begun once that has 48 MiB more.
     ///
     /// `Err` is as of [`Keeper::keep`], or Place where it is not known which journal a crash leaves in its place; and from then
     /// on Ended.
@@ -89,7 +108,7 @@ impl<D: Disk + Drop, C: Journalled> Keeper<D, C> {
         ensures same { self.new ≡ self.old }
         ensures large { IsTrue result → (events : List Event)
             × HaveHappened C.settings events
-            × (2 * held_bytes (book_at C.settings events) + 33554432 < self.new.bytes) }
+            × (2 * held_bytes (book_at C.settings events) + 50331648 < self.new.bytes) }
     {
         let bytes = self.journal.frames_len() as u64;
         if bytes <= ALWAYS_SMALL || bytes < self.try_again_at {
@@ -100,7 +119,7 @@ impl<D: Disk + Drop, C: Journalled> Keeper<D, C> {
         bytes > self.look_at
     }
 
-    // Gives up what there is of a new journal; another is begun once this one has 32 MiB more.
+    // Gives up what there is of a new journal; another is begun once this one has 48 MiB more.
     fn give_up<P: JournalPlace<D>>(&mut self, place: &P) -> Compacted
         ensures same { self.new ≡ self.old }
         ensures given_up { result ≡ Compacted.GivenUp }
@@ -243,12 +262,16 @@ impl<D: Disk + Drop, C: Journalled> Keeper<D, C> {
         ensures begun { result ≢ Ok Compacted.Rests }
         ensures unsure { IsErrOf result KeepFault.Place → IsSome self.new.maybe_in_place }
         ensures uncounted { OnErr result (self.new.synced ≡ self.old.synced) }
+        // It goes on with the one that stands there.
+        ensures placed { result ≡ Ok Compacted.Ended → self.new.disk ≡ disk_of journal }
+        ensures stays { result ≢ Ok Compacted.Ended → self.new.disk ≡ self.old.disk }
     {
         match place.put_in_place(&journal) {
             Ok(()) => {
-                self.journal = journal;
+                let old = mem::replace(&mut self.journal, journal);
                 self.look_at = ALWAYS_SMALL;
                 self.try_again_at = 0;
+                place.let_go(old.into_disk());
                 Ok(Compacted::Ended)
             }
             Err(PlaceFault::Stays) => Ok(self.give_up(place)),

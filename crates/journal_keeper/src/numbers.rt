@@ -6,7 +6,7 @@ use std::time;
 use std::time::Instant;
 
 /// With how many bytes of frames a journal is small, however few bytes are held.
-pub(crate) const ALWAYS_SMALL: u64 = 32 << 20;
+pub(crate) const ALWAYS_SMALL: u64 = 48 << 20;
 
 /// What a keeper has synced since it was made. Each number stays at 2^64 - 1 once it is there.
 #[derive(Clone, Copy)]
@@ -58,13 +58,6 @@ pub struct KeeperNumbers {
 }
 
 impl KeeperNumbers {
-    /// Whether the journal has more bytes of frames than one that is small however few bytes are held.
-    pub(crate) fn may_be_large(&self) -> bool
-        ensures { IsTrue result ↔ (33554432 < self.now.bytes) }
-    {
-        self.bytes > ALWAYS_SMALL
-    }
-
     /// Whether a look at its size is due after a sync. Whoever asks next is told no, until the keeper tells its numbers again.
     pub(crate) fn take_due(&mut self) -> bool
         ensures due { IsTrue result ↔ (self.old.due_beyond < self.old.bytes) }

@@ -18,6 +18,13 @@ pub trait JournalPlace<D: Disk> {
     /// this journal, all of whose records are synced. `Err` where that failed.
     fn put_in_place(&self, journal: &Journal<D>) -> Result<(), PlaceFault>
         requires { (payloads : List (List ℕ)) × IsJournal journal.now payloads [] };
+
+    /// Lets go of the disk of a journal whose place another one has taken. That may take as long as to write it did, so it may
+    /// still be under way when this returns.
+    fn let_go(&self, old: D);
+
+    /// Notes beside the file of the journal that its first bytes, so many, are synced. No crash tears a frame among these.
+    fn mark(&self, bytes: u64);
 }
 
 /// Why a new file has not taken the place of a journal's.

@@ -88,9 +88,9 @@ impl<D: Disk + Drop, C: Journalled> SharedKeeper<D, C> {
         }
     }
 
-    /// Makes the journal small, a slice at a time, where it has become large ([`Keeper::compact`]), for whoever asks first in
-    /// a second. Where it is small however few bytes are held, by what the keeper told when it was used last, and for all who
-    /// ask later, only a lock is taken that nobody holds for long. Else it may wait for desks, and for a disk.
+    /// Marks how much of the journal is synced ([`Keeper::mark`]), and makes it small, a slice at a time, where it has become
+    /// large ([`Keeper::compact`]), for whoever asks first in a second. For all who ask later only a lock is taken that nobody
+    /// holds for long. Else it may wait for desks, and for a disk.
     ///
     /// `Err` as of `Keeper::compact`.
     pub fn compact<R: Ledger, M: Ledger, B: Wait + Drop, W: Wait + time::Clock, P: JournalPlace<D>>(
@@ -102,11 +102,17 @@ impl<D: Disk + Drop, C: Journalled> SharedKeeper<D, C> {
         if !self.told.lock(rt).take_second(rt) {
             return Ok(Compacted::Rests);
         }
+        self.mark(rt, place);
         self.compact_locked(rt, shared, place)
     }
 
-    /// The same after a sync, for whoever asks first after it; the others rest. It rests too where the journal is no longer
-    /// than was found small at the last look.
+    /// Marks how much of the journal is synced ([`Keeper::mark`]). It may wait for a disk.
+    pub fn mark<W: Wait, P: JournalPlace<D>>(&self, rt: &W, place: &P) {
+        self.keeper.lock(rt).mark(place);
+    }
+
+    /// Makes the journal small after a sync, for whoever asks first after it; the others rest. It rests too where the journal is
+    /// no longer than was found small at the last look.
     ///
     /// `Err` as of `Keeper::compact`.
     pub fn compact_synced<

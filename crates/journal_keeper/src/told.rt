@@ -15,7 +15,7 @@ use std::time::Instant;
 pub(crate) struct Told<C: Journalled> {
     pub(crate) numbers: KeeperNumbers,
     front: SeenEvents,
-    // When somebody was last told that it is time for a look at the journal's size.
+    // When somebody was last told that it is time for a look at the journal's size, and for a mark.
     looked: Option<Instant>,
     opening: PhantomData<C>,
     ghost log: { front.book ≡ C.log },
@@ -38,11 +38,8 @@ impl<C: Journalled> Told<C> {
         self.front = keeper.kept();
     }
 
-    /// Whether it is time for a look at the size of a journal that may be large: nobody was told so in this second.
+    /// Whether it is time for a look at the journal's size, and for a mark: nobody was told so in this second.
     pub(crate) fn take_second<W: time::Clock>(&mut self, rt: &W) -> bool {
-        if !self.numbers.may_be_large() {
-            return false;
-        }
         if self.looked.is_some() && micros_since(rt, &self.looked) < 1_000_000 {
             return false;
         }

@@ -21,15 +21,15 @@ pub(crate) fn settings() -> Result<Settings, Fail> {
     Ok(Settings::new(NUMBERS, &[(b"acme", 64)])?)
 }
 
-/// The settings of acme with 40 MiB, and uploads of at most 12 MiB.
+/// The settings of acme with 50 MiB, and uploads of at most 12 MiB.
 pub(crate) fn large_settings() -> Result<Settings, Fail> {
     let numbers = Numbers {
-        blocks: 640,
+        blocks: 800,
         block_size: 65_536,
         max_size: 12 << 20,
         ..NUMBERS
     };
-    Ok(Settings::new(numbers, &[(b"acme", 640)])?)
+    Ok(Settings::new(numbers, &[(b"acme", 800)])?)
 }
 
 /// What is asked of acme.

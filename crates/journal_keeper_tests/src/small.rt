@@ -13,7 +13,7 @@ use sqlite_disk::Fuse;
 use std::alloc::{AllocError, Global};
 use std::process::Abort;
 use std::sync::Wait;
-use std::sync::atomic::{AtomicBool, Ordering};
+use std::sync::atomic::{AtomicBool, AtomicU64, Ordering};
 use std::sync::ledger::Ledger;
 use std::test::Fail;
 use std::time;
@@ -36,12 +36,15 @@ pub(crate) enum Ends {
     FailsAfter(u64),
 }
 
-// Where the journal stands, and whether a new one was taken away.
+// Where the journal stands, whether a new one was taken away, whether one that was large was let go, and how many bytes were
+// marked.
 #[derive(Drop)]
 struct Shelf {
     alloc: Global,
     ends: Ends,
     was_taken_away: AtomicBool,
+    was_let_go: AtomicBool,
+    marked: AtomicU64,
 }
 
 impl JournalPlace<Fuse<TornDisk>> for Shelf {
@@ -66,13 +69,27 @@ impl JournalPlace<Fuse<TornDisk>> for Shelf {
             _ => Ok(()),
         }
     }
+
+    fn let_go(&self, old: Fuse<TornDisk>) {
+        self.was_let_go
+            .store(old.inner().bytes().len() > 48 << 20, Ordering::Relaxed);
+    }
+
+    fn mark(&self, bytes: u64) {
+        self.marked.store(bytes, Ordering::Relaxed);
+    }
 }
 
-// Three uploads of 12 MiB, each of which comes and goes.
-static GONE: [&[u8]; 3] = [b"/files/acme/1", b"/files/acme/2", b"/files/acme/3"];
+// Four uploads of 12 MiB, each of which comes and goes.
+static GONE: [&[u8]; 4] = [
+    b"/files/acme/1",
+    b"/files/acme/2",
+    b"/files/acme/3",
+    b"/files/acme/4",
+];
 
 // The upload that stays, and its bytes.
-static STAYS: &[u8] = b"/files/acme/4";
+static STAYS: &[u8] = b"/files/acme/5";
 
 static KEPT: &[u8] = b"kept";
 
@@ -81,7 +98,7 @@ fn passing(alloc: Global) -> Result<Vec<u8>, AllocError> {
     vec![in alloc; 7u8; 12 << 20]
 }
 
-// Makes the journal 36 MiB long, by uploads that come and go. As long as they are there, it is not large.
+// Makes the journal 48 MiB long and somewhat longer, by uploads that come and go. As long as they are there, it is not large.
 fn make_large<C: Journalled, R: Ledger, M: Ledger, W: Wait + Abort + time::Clock>(
     rt: &W,
     shared: &Shared<C, R, M, &W>,
@@ -123,7 +140,7 @@ fn are_told(ends: Ends, begun: &Looked, ended: &Looked) -> bool {
     }
 }
 
-/// A journal of 36 MiB whose uploads are gone is made small, while one that comes meanwhile is kept; or the old one goes on.
+/// A journal of more than 48 MiB whose uploads are gone is made small, while one that comes meanwhile is kept; or the old one goes on.
 pub(crate) fn is_made_small<C: Journalled, R: Ledger, M: Ledger, W: Wait + Abort + time::Clock>(
     rt: &W,
     alloc: Global,
@@ -136,6 +153,8 @@ pub(crate) fn is_made_small<C: Journalled, R: Ledger, M: Ledger, W: Wait + Abort
         alloc,
         ends,
         was_taken_away: AtomicBool::new(false),
+        was_let_go: AtomicBool::new(false),
+        marked: AtomicU64::new(0),
     };
     let body = passing(alloc)?;
     desk.grant(1 << 30);
@@ -149,7 +168,16 @@ pub(crate) fn is_made_small<C: Journalled, R: Ledger, M: Ledger, W: Wait + Abort
     let is_given_up = is_given_up(&begun) || is_given_up(&ended);
     assert!(rt; is_given_up == shelf.was_taken_away.load(Ordering::Relaxed));
     assert!(rt; keeper.has_failed() == matches!(ends, Ends::Unsure));
-    assert!(rt; matches!(ended, Ok(Compacted::Ended)) == (keeper.numbers().bytes < 1_000));
+    let has_ended = matches!(ended, Ok(Compacted::Ended));
+    assert!(rt; has_ended == (keeper.numbers().bytes < 1_000));
+    assert!(rt; has_ended == shelf.was_let_go.load(Ordering::Relaxed));
+    keeper.mark(&shelf);
+    let marked = if keeper.has_failed() {
+        0
+    } else {
+        keeper.numbers().bytes
+    };
+    assert!(rt; shelf.marked.load(Ordering::Relaxed) == marked);
     is_left(rt, alloc, &keeper)
 }
 
@@ -162,6 +190,6 @@ fn is_left<C: Journalled, W: Abort>(
     let left = keeper.disk().inner().after_crash(1)?;
     let opened = open_journal(alloc, left, KEY)?;
     let book = replay(alloc, large_settings()?, Frames::new(KEY, &opened.frames))?;
-    assert!(rt; book.upload_count(0) == 1 && book.next_id(0) == 5);
+    assert!(rt; book.upload_count(0) == 1 && book.next_id(0) == 6);
     Ok(())
 }

@@ -10,7 +10,7 @@ use std::test::Fail;
 use tus_steps::PlacedReply;
 
 // The room of the journal, which is enough for the script.
-const ROOM: usize = 660;
+const ROOM: usize = 4000;
 
 // How many changes were told. After a call that failed nothing more is answered.
 fn told(rt: &impl Abort, alloc: Global, kept: &mut KeptBook<Fuse<TornDisk>>) -> Result<u64, Fail> {
@@ -69,9 +69,9 @@ fn assert_after_calls(
 #[test]
 fn each_call_fails_in_turn(rt: HostRuntime) -> Result<(), Fail> {
     let all = all_seen(&rt, rt.alloc())?;
-    for calls in 0..28 {
+    for calls in 0..84 {
         let is_all = assert_after_calls(&rt, rt.alloc(), &all, calls)?;
-        assert!(rt; is_all == (calls >= 27), "{calls}");
+        assert!(rt; is_all == (calls >= 83), "{calls}");
     }
     Ok(())
 }

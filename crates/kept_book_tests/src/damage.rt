@@ -68,7 +68,7 @@ fn each_byte_raised_in_turn(rt: HostRuntime) -> Result<(), Fail> {
     Ok(())
 }
 
-// Another key, and other settings, under which a record is refused.
+// The frames of another key are told as damage.
 #[test]
 fn another_key(rt: HostRuntime) -> Result<(), Fail> {
     let disk = small(&rt, rt.alloc())?.into_disk();

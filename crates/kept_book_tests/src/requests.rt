@@ -1,4 +1,5 @@
-//! A script of twelve changes: three uploads of acme, each created with two bytes, patched twice, and ended.
+//! A script of forty changes, five times eight: an upload of acme, created with two bytes and patched twice; a partial one, a
+//! final one of it, and the end of the partial one; one whose length is told later; and the end of the first.
 use kept_book::{KeepFault, KeptBook};
 use sqlite_disk::Disk;
 use std::alloc::{AllocError, Global};
@@ -11,7 +12,7 @@ use upload_book::{Book, Moment, Numbers, Settings};
 pub(crate) const KEY: u64 = 7;
 
 /// How many changes the script has.
-pub(crate) const CHANGES: u64 = 12;
+pub(crate) const CHANGES: u64 = 40;
 
 const NUMBERS: Numbers = Numbers {
     blocks: 64,
@@ -50,40 +51,72 @@ pub(crate) fn moment(rt: &impl Abort) -> Moment {
     moment
 }
 
+// The final upload of each eight changes, of the partial one before it.
+static FINALS: [&[u8]; 5] = [
+    b"final;/files/acme/2",
+    b"final;/files/acme/6",
+    b"final;/files/acme/10",
+    b"final;/files/acme/14",
+    b"final;/files/acme/18",
+];
+
 /// The change of this number, from 0, of an upload whose path this is.
 pub(crate) fn request(number: u64, path: &[u8]) -> Request<'static> {
-    let (method, fields, body): (_, _, &[u8]) = match number % 4 {
-        0 => (
-            Method::Post,
-            TusFields {
-                length: Field::One(b"6"),
-                ..FIELDS
-            },
-            b"ab",
-        ),
-        1 => (
-            Method::Patch,
-            TusFields {
-                offset: Field::One(b"2"),
-                ..FIELDS
-            },
-            b"cd",
-        ),
-        2 => (
-            Method::Patch,
-            TusFields {
-                offset: Field::One(b"4"),
-                ..FIELDS
-            },
-            b"ef",
-        ),
-        _ => (Method::Delete, FIELDS, b""),
-    };
+    let (method, fields, body) = asked(number % 8, number / 8);
     Request {
         method,
         path: read_path(path),
         fields,
         body,
+    }
+}
+
+// What the change at a place of the eight asks for, when these come for the time of this number.
+fn asked(place: u64, time: u64) -> (Method, TusFields<Field<'static>>, &'static [u8]) {
+    match place {
+        0 => (Method::Post, with_length(b"6"), b"ab"),
+        1 => (Method::Patch, at_offset(b"2"), b"cd"),
+        2 => (Method::Patch, at_offset(b"4"), b"ef"),
+        3 => (Method::Post, with_concat(b"partial", b"2"), b"xy"),
+        4 => (Method::Post, final_of(time), b""),
+        6 => (Method::Post, DEFERRED, b"z"),
+        _ => (Method::Delete, FIELDS, b""),
+    }
+}
+
+const DEFERRED: TusFields<Field<'static>> = TusFields {
+    defer: Field::One(b"1"),
+    ..FIELDS
+};
+
+fn with_length(length: &'static [u8]) -> TusFields<Field<'static>> {
+    TusFields {
+        length: Field::One(length),
+        ..FIELDS
+    }
+}
+
+fn at_offset(offset: &'static [u8]) -> TusFields<Field<'static>> {
+    TusFields {
+        offset: Field::One(offset),
+        ..FIELDS
+    }
+}
+
+fn with_concat(concat: &'static [u8], length: &'static [u8]) -> TusFields<Field<'static>> {
+    TusFields {
+        concat: Field::One(concat),
+        ..with_length(length)
+    }
+}
+
+fn final_of(time: u64) -> TusFields<Field<'static>> {
+    TusFields {
+        concat: match FINALS.get(time as usize) {
+            Some(text) => Field::One(text),
+            None => Field::Absent,
+        },
+        ..FIELDS
     }
 }
 
@@ -114,8 +147,10 @@ pub(crate) fn answer<D: Disk>(
 
 // The path of the change of this number.
 fn path_of(alloc: Global, number: u64) -> Result<String, AllocError> {
-    if number % 4 == 0 {
-        return String::from_str(alloc, "/files/acme");
+    let first = number / 8 * 4 + 1;
+    match number % 8 {
+        0 | 3 | 4 | 6 => String::from_str(alloc, "/files/acme"),
+        5 => format!(in alloc; "/files/acme/{}", first + 1),
+        _ => format!(in alloc; "/files/acme/{first}"),
     }
-    format!(in alloc; "/files/acme/{}", number / 4 + 1)
 }

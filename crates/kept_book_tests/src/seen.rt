@@ -5,17 +5,17 @@ use std::process::Abort;
 use std::test::Fail;
 use upload_book::{Book, Name};
 
-/// What was charged and released, and how far each of the three uploads is, if it is there.
+/// What was charged and released, and how far each of the twenty uploads is, if it is there.
 #[derive(Clone, Copy, Debug, PartialEq, Eq)]
 pub(crate) struct Seen {
     charged: u64,
     released: u64,
-    offsets: [Option<u64>; 3],
+    offsets: [Option<u64>; 20],
 }
 
 /// What is seen of a book.
 pub(crate) fn seen_of(rt: &impl Abort, book: &Book) -> Seen {
-    let mut offsets = [None; 3];
+    let mut offsets = [None; 20];
     for (place, offset) in offsets.iter_mut().enumerate() {
         let name = Name {
             tenant: 0,

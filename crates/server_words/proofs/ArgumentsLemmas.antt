@@ -11,7 +11,7 @@ use Rattle.clap.specs.Walk.{Row, rows_of}
 use Rattle.clap.specs.Words.{ReadsOne, Text, all_of, first_of, one_text}
 use Rattle.clap.specs.declared.parser.matches.Found.{Found}
 use Rattle.upload_book.specs.declared.settings.Numbers.{Numbers}
-use Rattle.tus_workers.specs.declared.work_options.WorkOptions.{WorkOptions}
+use Rattle.connection_turns.specs.declared.work_options.WorkOptions.{WorkOptions}
 use Rattle.server_words.specs.Arguments.{grace_given, is_number, is_set, number_in, metrics_set, number_given, number_under, numbers_given, port_given, serve_arguments, talk_arguments, talk_arguments_with, work_given, work_with, workers_given}
 
 digits_pass : (digits : List ℕ) → AllDigits 10 digits → list_all (λ d. nat_lt (digit_value d) 10) digits ≡ true

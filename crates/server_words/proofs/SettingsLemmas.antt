@@ -110,6 +110,14 @@ prefix_some place (t ∷ old) (u ∷ new) d h p =
     let rest : names old ++ p.0 ≡ names new = cc in
     prefix_some (place + 1) old new d (sym (same_first place t u old new same) ∙ h) (p.0, rest)
 
+-- where no tenants differ, those of the old settings have the first places of the new ones
+pub prefix-same : (old new : Settings) → None ≡ tenant_difference 1 old.tenants new.tenants → IsPrefix (names_of old) (names_of new)
+prefix-same old new h = prefix_none 1 old.tenants new.tenants (sym h)
+
+-- and where some differ, they don't
+pub prefix-differs : (old new : Settings) (d : SettingsDifference) → Some d ≡ tenant_difference 1 old.tenants new.tenants → ¬ (IsPrefix (names_of old) (names_of new))
+prefix-differs old new d h = prefix_some 1 old.tenants new.tenants d (sym h)
+
 -- settings that differ in nothing here may follow
 pub follows-none : (old new : Settings) → first_difference old new ≡ None → MayFollow old new
 follows-none old new h = go (eqb_tells old.numbers.lifetime new.numbers.lifetime)

@@ -9,8 +9,8 @@ use Rattle.clap.specs.Walk.{texts}
 use Rattle.clap.specs.Words.{Row, Text, all_of, first_of, one_of}
 use Rattle.upload_book.specs.declared.settings.Numbers.{Numbers}
 use Rattle.upload_book.specs.Settings.{is_outside}
-use Rattle.tus_workers.specs.declared.pace.Bounds.{Bounds}
-use Rattle.tus_workers.specs.declared.work_options.WorkOptions.{WorkOptions}
+use Rattle.connection_turns.specs.declared.pace.Bounds.{Bounds}
+use Rattle.connection_turns.specs.declared.work_options.WorkOptions.{WorkOptions}
 use Rattle.server_words.specs.declared.options.CommandOptions.{CommandOptions}
 use Rattle.server_words.specs.declared.options.CommandOptions.TheVariants.{Talk, Serve, Check, Export}
 use Rattle.server_words.specs.declared.options.ExportOptions.{ExportOptions}

@@ -21,7 +21,9 @@ use Rattle.server_words.specs.declared.journal_fault.JournalFault.TheVariants.{F
 use Rattle.server_words.specs.declared.journal_fault.Mismatch.{Mismatch}
 use Rattle.server_words.specs.declared.journal_fault.NoUpload.{NoUpload}
 use Rattle.server_words.specs.declared.journal_fault.NoUpload.TheVariants.{Name, Tenant, Unknown, Gone}
-use Rattle.server_words.specs.declared.journal_fault.Mismatch.TheVariants.{Missing, Unreadable, Differs}
+use Rattle.server_words.specs.declared.journal_fault.Mismatch.TheVariants.{Missing, Unreadable, Differs, TooSmall}
+use Rattle.server_words.specs.declared.shortage.Shortage.{Shortage}
+use Rattle.server_words.specs.declared.shortage.Shortage.TheVariants.{Quota, MaxSize, Uploads}
 use Rattle.server_words.specs.declared.fault.RunFault.TheVariants as run
 
 -- a byte as it is shown: a printable one of ASCII as it is, and any other as `?`
@@ -173,11 +175,22 @@ difference_text (NoTenant place journal) =
 difference_text (OtherTenant place journal options) =
     codes "the journal has the tenant " ++ journal.bytes ++ codes " at place " ++ decimal place ++ codes ", the options " ++ options.bytes ++ codes "\n"
 
--- the settings beside a journal are not those of the options
+-- what of a journal's uploads the settings of the options are too small for
+abbrev pub shortage_text : Shortage → List ℕ
+shortage_text (Quota tenant pays quota) =
+    tenant.bytes ++ codes " would pay " ++ decimal pays ++ codes " blocks for what is in the journal, the options give it " ++ decimal quota ++ codes "\n"
+shortage_text (MaxSize tenant id bytes max) =
+    codes "upload " ++ tenant.bytes ++ codes "/" ++ decimal id ++ codes " in the journal has a length of " ++ decimal bytes
+    ++ codes " bytes, the options allow " ++ decimal max ++ codes "\n"
+shortage_text (Uploads tenant uploads most) =
+    tenant.bytes ++ codes " has " ++ decimal uploads ++ codes " uploads in the journal, the options allow " ++ decimal most ++ codes "\n"
+
+-- the settings beside a journal, or its uploads, don't go with the settings of the options
 abbrev pub mismatch_text : Mismatch → List ℕ → List ℕ
 mismatch_text Missing path = shown path ++ codes " has a journal and no settings: put its file settings back, or give another folder\n"
 mismatch_text Unreadable path = shown path ++ codes "/settings gives no settings: put back what it was, or give another folder\n"
 mismatch_text (Differs difference) path = difference_text difference
+mismatch_text (TooSmall shortage) path = shortage_text shortage
 
 -- a journal has no upload of this word
 abbrev pub no_upload_text : NoUpload → List ℕ → List ℕ
@@ -199,7 +212,7 @@ journal_text (Damaged damage) path word =
     ++ codes " on, or no journal; nothing was written to it: give a copy of it, or another folder\n"
 journal_text (Record number) path word =
     codes "record " ++ decimal number ++ codes " of " ++ shown path
-    ++ codes " is of no change that these settings allow: give those that it was made with\n"
+    ++ codes " is of no change that the settings beside it allow: put back those that it was made with\n"
 journal_text Disk path word = shown path ++ codes " could not be read or written: see its disk, and its rights. What any reply told is in it\n"
 
 -- a word of the command line is no text

@@ -8,7 +8,7 @@ ghost use Rattle.upload_book.specs.Settings.{is_outside};
 
 use crate::options::{CommandOptions, ExportOptions, ServeOptions, TalkOptions};
 use clap::ArgMatches;
-use tus_workers::{Bounds, WorkOptions};
+use connection_turns::{Bounds, WorkOptions};
 use upload_book::{Moment, Numbers};
 
 /// The command that was entered, with its options. None where there is none, its moment is past the year 9999, it has no

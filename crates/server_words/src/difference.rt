@@ -1,7 +1,8 @@
 //! Whether the settings of a start may follow those that a journal is of.
 ghost use Rattle.std.specs.Prelude.{◌≡◌, ◌<◌, Some, IfNone, OnSome, length, map, option_map, slice_get};
+ghost use mathlib.Core.List.{IsPrefix};
 ghost use Rattle.server_words.specs.MadeAgain.{MakesTheSame};
-ghost use Rattle.server_words.specs.MayFollow.{MayFollow, difference_in, first_difference, tenant_difference};
+ghost use Rattle.server_words.specs.MayFollow.{MayFollow, difference_in, first_difference, names_of, tenant_difference};
 
 use crate::sentence::{Excerpt, shown_bytes};
 use upload_book::Settings;
@@ -48,9 +49,12 @@ pub fn first_difference(journal: &Settings, options: &Settings) -> Option<Differ
     }
 }
 
-/// The first tenant of a journal that has not its place in the options.
-fn tenant_difference(journal: &Settings, options: &Settings) -> Option<Difference>
-    ensures { option_map difference_in result ≡ tenant_difference 1 journal.now.tenants options.now.tenants }
+/// The first tenant of a journal that has not its place in the options, if there is one: the place, counted from 1, its name,
+/// and the name of the tenant that the options have there. Lifetimes, quotas and other numbers are not looked at.
+pub fn tenant_difference(journal: &Settings, options: &Settings) -> Option<Difference>
+    ensures first { option_map difference_in result ≡ tenant_difference 1 journal.now.tenants options.now.tenants }
+    ensures same { IfNone result (IsPrefix (names_of journal.now) (names_of options.now)) }
+    ensures differs { OnSome result (¬ (IsPrefix (names_of journal.now) (names_of options.now))) }
 {
     let names = options.tenant_count();
     for place in 0..journal.tenant_count() {

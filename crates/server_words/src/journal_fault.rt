@@ -3,6 +3,7 @@ ghost use Rattle.std.specs.Prelude.{◌≡◌, ◌≤◌, length};
 ghost use Rattle.server_words.specs.JournalFault.{journal_word};
 
 use crate::difference::Difference;
+use crate::shortage::Shortage;
 use journal_file::Damage;
 
 /// What is wrong with a journal.
@@ -17,7 +18,7 @@ pub enum JournalFault {
     NoJournal,
     /// Another process has its folder.
     Busy,
-    /// The settings that stand beside it are not those of the options.
+    /// The settings that stand beside it, or its uploads, don't go with the settings of the options.
     Settings(Mismatch),
     /// Its file is damaged, or is no journal, from this place on.
     Damaged(Damage),
@@ -51,6 +52,8 @@ pub enum Mismatch {
     Unreadable,
     /// The settings of the options may not follow those beside it.
     Differs(Difference),
+    /// What stands in the journal is more than the settings of the options allow.
+    TooSmall(Shortage),
 }
 
 impl JournalFault {

@@ -2,7 +2,7 @@
 ghost use Rattle.std.specs.Prelude.{◌≡◌, None, false};
 ghost use Rattle.upload_book.specs.Settings.{is_outside};
 
-use tus_workers::WorkOptions;
+use connection_turns::WorkOptions;
 use upload_book::{Moment, Numbers};
 
 /// A command with what it was asked for.

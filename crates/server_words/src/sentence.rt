@@ -4,7 +4,7 @@ ghost use Rattle.std.specs.List.{before_first, list_any};
 ghost use Rattle.arrayvec.specs.ArrayString.{array_string_len};
 ghost use Rattle.clap.specs.Walk.{texts};
 ghost use Rattle.server_words.specs.Arguments.{arguments_of};
-ghost use Rattle.server_words.specs.Sentences.{address_in, address_text, cause_text, difference_text, journal_in, journal_text, log_in, memory_text, memory_told, metrics_in, mismatch_text, name_twice, no_upload_text, numbers_in, outside_text, pool_text, port_in, port_text, ports_text, quota_in, quota_sum, quota_text, reading_text, sentence_of, settings_text, shown, shown_byte, sum_text, tenant_words, tenants_text, twice_text, untold_text, upload_in, word_rule, word_text, wrong_word};
+ghost use Rattle.server_words.specs.Sentences.{address_in, address_text, cause_text, difference_text, journal_in, journal_text, log_in, memory_text, memory_told, metrics_in, mismatch_text, name_twice, no_upload_text, numbers_in, outside_text, pool_text, port_in, port_text, ports_text, quota_in, quota_sum, quota_text, reading_text, sentence_of, settings_text, shortage_text, shown, shown_byte, sum_text, tenant_words, tenants_text, twice_text, untold_text, upload_in, word_rule, word_text, wrong_word};
 ghost use Rattle.server_words.specs.Settings.{is_colon};
 
 use crate::cause::{Cause, PortFault};
@@ -13,6 +13,7 @@ use crate::fault::RunFault;
 use crate::journal_fault::{JournalFault, Mismatch, NoUpload};
 use crate::options::CommandOptions;
 use crate::settings::tenant_of;
+use crate::shortage::Shortage;
 use arrayvec::ArrayString;
 use itoa::Buffer;
 use journal_file::Damage;
@@ -462,7 +463,7 @@ fn damage_line(damage: &Damage, path: &str) -> ArrayString<SENTENCE_MAX>
     line
 }
 
-/// The settings beside a journal are not those of the options.
+/// The settings beside a journal, or its uploads, don't go with the settings of the options.
 fn mismatch_line(why: &Mismatch, path: &str) -> ArrayString<SENTENCE_MAX>
     ensures { result.bytes ≡ mismatch_text why.now path.now }
 {
@@ -476,6 +477,7 @@ fn mismatch_line(why: &Mismatch, path: &str) -> ArrayString<SENTENCE_MAX>
             "/settings gives no settings: put back what it was, or give another folder\n",
         ),
         Mismatch::Differs(difference) => difference_line(difference),
+        Mismatch::TooSmall(shortage) => shortage_line(shortage),
     }
 }
 
@@ -532,6 +534,78 @@ fn tenant_line(name: &Excerpt, place: u64) -> ArrayString<SENTENCE_MAX>
     line
 }
 
+/// What of a journal's uploads the settings of the options are too small for.
+fn shortage_line(shortage: &Shortage) -> ArrayString<SENTENCE_MAX>
+    ensures { result.bytes ≡ shortage_text shortage.now }
+{
+    match shortage {
+        Shortage::Quota {
+            tenant,
+            pays,
+            quota,
+        } => paid_line(tenant, *pays, *quota),
+        Shortage::MaxSize {
+            tenant,
+            id,
+            length,
+            max,
+        } => length_line(tenant, *id, *length, *max),
+        Shortage::Uploads {
+            tenant,
+            uploads,
+            most,
+        } => uploads_line(tenant, *uploads, *most),
+    }
+}
+
+/// A tenant would pay more blocks, of the size of the options, than these give it.
+fn paid_line(tenant: &Excerpt, pays: u64, quota: u64) -> ArrayString<SENTENCE_MAX>
+    ensures { result.bytes ≡ shortage_text (Shortage.Quota tenant.now pays quota) }
+{
+    let mut digits = Buffer::new();
+    let mut line = ArrayString::new();
+    line.push_str(tenant.as_str());
+    line.push_str(" would pay ");
+    line.push_str(digits.format(pays));
+    line.push_str(" blocks for what is in the journal, the options give it ");
+    line.push_str(digits.format(quota));
+    line.push_str("\n");
+    line
+}
+
+/// An upload is longer than the options allow.
+fn length_line(tenant: &Excerpt, id: u64, length: u64, max: u64) -> ArrayString<SENTENCE_MAX>
+    ensures { result.bytes ≡ shortage_text (Shortage.MaxSize tenant.now id length max) }
+{
+    let mut digits = Buffer::new();
+    let mut line = ArrayString::new();
+    line.push_str("upload ");
+    line.push_str(tenant.as_str());
+    line.push_str("/");
+    line.push_str(digits.format(id));
+    line.push_str(" in the journal has a length of ");
+    line.push_str(digits.format(length));
+    line.push_str(" bytes, the options allow ");
+    line.push_str(digits.format(max));
+    line.push_str("\n");
+    line
+}
+
+/// A tenant has more uploads than the options allow.
+fn uploads_line(tenant: &Excerpt, uploads: u64, most: u64) -> ArrayString<SENTENCE_MAX>
+    ensures { result.bytes ≡ shortage_text (Shortage.Uploads tenant.now uploads most) }
+{
+    let mut digits = Buffer::new();
+    let mut line = ArrayString::new();
+    line.push_str(tenant.as_str());
+    line.push_str(" has ");
+    line.push_str(digits.format(uploads));
+    line.push_str(" uploads in the journal, the options allow ");
+    line.push_str(digits.format(most));
+    line.push_str("\n");
+    line
+}
+
 /// A path, or another word, is as these words say.
 fn path_is(path: &str, words: &str) -> ArrayString<SENTENCE_MAX>
     requires { length words.now ≤ 128 }
@@ -543,7 +617,7 @@ fn path_is(path: &str, words: &str) -> ArrayString<SENTENCE_MAX>
     line
 }
 
-/// A record is of no change that the settings allow.
+/// A record is of no change that the settings beside the journal allow.
 fn record_line(number: u64, path: &str) -> ArrayString<SENTENCE_MAX>
     ensures { result.bytes ≡ journal_text (JournalFault.Record number) path.now [] }
 {
@@ -553,7 +627,9 @@ fn record_line(number: u64, path: &str) -> ArrayString<SENTENCE_MAX>
     line.push_str(digits.format(number));
     line.push_str(" of ");
     line.push_str(shown(path).as_str());
-    line.push_str(" is of no change that these settings allow: give those that it was made with\n");
+    line.push_str(
+        " is of no change that the settings beside it allow: put back those that it was made with\n",
+    );
     line
 }
 

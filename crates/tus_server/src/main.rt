@@ -5,31 +5,13 @@
 ghost use Rattle.std.specs.Prelude.{◌≡◌, ◌≢◌};
 ghost use Rattle.std.specs.IoError.{error_kind};
 
-mod at_journal;
-mod check;
-mod export;
-mod held;
-mod journal_folder;
-mod journals;
-mod keeping;
-mod kept_serve;
-mod kept_talk;
-mod lines;
-mod printing;
-mod program;
-mod progress;
-mod reading;
-mod serve;
-mod started;
-mod talk;
-
-use crate::journals::MachineJournals;
-use crate::program::run;
 use http_wire::Tapped;
+use journal_folders::MachineJournals;
 use server_words::{NO_TEXT, RunFault, WORDS_MEMORY, report_fault};
 use std::env;
 use std::io::{Error, ErrorKind};
 use std::process::ExitCode;
+use tus_program::run;
 use tus_workers::SocketListener;
 
 fn main(rt: HostRuntime) -> ExitCode {
@@ -39,7 +21,10 @@ fn main(rt: HostRuntime) -> ExitCode {
     let status = match words(&rt) {
         Ok(words) => run::<SocketListener, _, _, _, _, _, _, _>(
             &rt,
-            &MachineJournals { rt: &rt },
+            &MachineJournals {
+                rt: &rt,
+                threads: rt,
+            },
             rt.alloc(),
             words.as_slice(),
             &mut reader,

@@ -3,8 +3,8 @@ ghost use mathlib.Core.List.{IsPrefix};
 ghost use Rattle.tus_workers.specs.Serving.{ServesKept, SweepsKept};
 
 use crate::at_desk::AtDesk;
-use crate::holding::HoldsBack;
 use crate::keeping::{Compacting, Keeping};
+use connection_turns::HoldsBack;
 use http_wire::Answer;
 use std::sync::Wait;
 use std::sync::ledger::Ledger;

@@ -1,11 +1,10 @@
 //! A client with its stream, as its worker holds it.
 
-use crate::attended::Attended;
-use crate::holding::HoldsBack;
-use crate::observer::Observer;
-use crate::pace::{Bounds, Busy, Late, Pace};
 use crate::seen::Seen;
-use crate::turn::{AsTheyCome, Outcome, Precedence, Streams, Turned};
+use connection_turns::{
+    AsTheyCome, Attended, Bounds, Busy, HoldsBack, Late, Observer, Outcome, Pace, Precedence,
+    Streams, Turned,
+};
 use http_wire::{Buffers, Clock};
 use mio::net::TcpStream;
 use mio::{Interest, Registry, Token};

@@ -2,7 +2,7 @@
 
 use crate::bodies::Bodies;
 use crate::watching::Watching;
-use crate::work_options::WorkOptions;
+use connection_turns::WorkOptions;
 use std::alloc::{AllocError, Global};
 use std::io::Eprint;
 use std::net::Net;
@@ -45,7 +45,7 @@ impl Commons {
             workers: workers as u64,
             open: AtomicU64::new(0),
             bodies: Bodies::new(alloc, workers, places, options.body_memory)?,
-            waits_for_each: options.waits_for_each(),
+            waits_for_each: waits_for_each(options),
             begun: AtomicU64::new(0),
             ended: AtomicU64::new(0),
             has_told: AtomicBool::new(false),
@@ -119,4 +119,14 @@ impl Commons {
         self.begun.load(Ordering::Relaxed) < self.workers
             && !self.has_told.swap(true, Ordering::Relaxed)
     }
+}
+
+/// Whether a worker waits for each of its clients in turn: it may, it holds one at a time, and no bound needs a look at the
+/// clock while it waits. Sixteen such workers can't hold more than 268,435,456 bytes of bodies.
+pub(crate) fn waits_for_each(options: &WorkOptions) -> bool {
+    !options.by_readiness
+        && options.at_once <= 1
+        && options.bounds.message_seconds == 0
+        && options.bounds.least_rate == 0
+        && options.body_memory >= 268_435_456
 }

@@ -1,14 +1,12 @@
 //! The clients that one worker holds at once, each by the readiness of its stream.
 ghost use mathlib.Core.List.{IsPrefix};
 
-use crate::attended::Attended;
 use crate::bodies::Bodies;
 use crate::client::{Client, Next};
-use crate::holding::HoldsBack;
-use crate::pace::{Bounds, Busy, Late};
 use crate::precedence::{NewestFirst, upload_of};
 use crate::seen::Seen;
 use crate::watch::Watch;
+use connection_turns::{Attended, Bounds, Busy, HoldsBack, Late};
 use http_wire::{Buffers, Clock};
 use mio::Registry;
 use mio::net::TcpStream;

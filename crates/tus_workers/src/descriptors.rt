@@ -1,7 +1,7 @@
 //! How many connections the limit of descriptors allows.
 ghost use Rattle.std.specs.Prelude.{◌≡◌, ◌≤◌};
 
-use crate::work_options::WorkOptions;
+use connection_turns::WorkOptions;
 use libc::types::rlimit;
 use std::io::Eprint;
 use thiserror::Error;

@@ -1,7 +1,7 @@
 //! A newer request for an upload ends an older PATCH to it that lies half read.
 
 use crate::bodies::Bodies;
-use crate::turn::Precedence;
+use connection_turns::Precedence;
 use std::sync::Wait;
 use tus_steps::{Method, Request};
 use tus_text::Path;

@@ -2,7 +2,7 @@
 ghost use Rattle.std.specs.Prelude.{◌≤◌, IfSome, vec_len};
 
 use crate::head_word::head_refusal;
-use crate::observer::Observer;
+use connection_turns::Observer;
 use http_wire::{Connection, Incoming, Message};
 use service_watch::{WORD_MAX, Word};
 use std::alloc::Global;

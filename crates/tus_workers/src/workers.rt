@@ -2,16 +2,16 @@
 ghost use Rattle.std.specs.Prelude.{◌≡◌, ◌≤◌, false, All, IfSome, None};
 
 use crate::accept::Accept;
-use crate::commons::Commons;
+use crate::commons::{Commons, waits_for_each};
 use crate::keeping::Keeping;
 use crate::machine_clock::MachineClock;
 use crate::stream::{ServedStream, serve_stream};
 use crate::sweeping::sweep_expired;
-use crate::work_options::WorkOptions;
 use crate::worker::Worker;
 use crate::yielding::YieldingStream;
+use connection_turns::{ROOM_KEPT, WorkOptions, may_be_unread};
 use core::mem::replace_with;
-use http_wire::{Buffers, Clock, Ended, Tapped, WireFault};
+use http_wire::{Buffers, Clock, Tapped};
 use std::alloc::Global;
 use std::io::{Eprint, Read};
 use std::net::{Shutdown, TcpStream};
@@ -22,9 +22,6 @@ use std::thread::{Threads, for_each_mut};
 use std::time;
 use std::time::{Duration, Instant};
 use tus_shared::{Charges, Desk, NoGate, Shared};
-
-/// The most bytes of buffers that are kept for the next connection.
-pub(crate) const ROOM_KEPT: usize = 2_097_152;
 
 /// For how many seconds the rest of a refused input is read, and for how long its next byte is waited for.
 const LINGER_SECONDS: u64 = 5;
@@ -139,7 +136,7 @@ impl<
         ensures most { A.accepted worker.new.acceptor ≤ self.now.options.connections }
         ensures unasked { self.now.options.grace ≡ None → A.is_stopped worker.new.acceptor ≡ false }
     {
-        if self.options.waits_for_each() && worker.desk.journal().is_none() {
+        if waits_for_each(&self.options) && worker.desk.journal().is_none() {
             self.work_in_turn(worker);
         } else {
             self.work_at_once(number, worker);
@@ -267,15 +264,5 @@ impl<
                 _ => return,
             }
         }
-    }
-}
-
-// Whether the client of a connection that ended may have sent what nobody read. It has not where it asked for the close
-// itself and all that came was answered.
-pub(crate) fn may_be_unread(ended: &Result<Ended, WireFault>, buffers: &Buffers) -> bool {
-    match ended {
-        Ok(Ended::Closed) => buffers.has_rest(),
-        Ok(Ended::Moments) => true,
-        Ok(Ended::Input | Ended::Cut) | Err(_) => false,
     }
 }

@@ -4,6 +4,7 @@ ghost use Rattle.std.specs.Prelude.{◌≡◌};
 
 use crate::opening::{assert_balance, moment, settings};
 use crate::texts::{HEAD, MISSED};
+use connection_turns::{Bounds, WorkOptions};
 use std::alloc::{AllocError, Global};
 use std::io::{Eprint, Read, Write};
 use std::marker::Brand;
@@ -17,8 +18,7 @@ use std::time::Duration;
 use std::{io, time};
 use tus_shared::{Charges, Opened, Shared, settle};
 use tus_workers::{
-    Bounds, Commons, Listener, NoJournal, SocketListener, WorkOptions, any_failed, dismiss, hire,
-    work_all,
+    Commons, Listener, NoJournal, SocketListener, any_failed, dismiss, hire, work_all,
 };
 use upload_book::Settings;
 
@@ -60,6 +60,57 @@ fn client<N: Net<Stream = TcpStream>>(
     Ok(stream)
 }
 
+// The clients of a crowd, which have sent their HEADs to this port.
+fn connected<N: Net<Stream = TcpStream>>(
+    net: &N,
+    alloc: Global,
+    port: u16,
+    crowd: Crowd,
+) -> Result<Vec<TcpStream>, Fail> {
+    let sent = repeated(alloc, HEAD, crowd.heads)?;
+    let [even, odd] = crowd.pieces;
+    let mut clients = Vec::new(alloc);
+    for number in 0..crowd.clients {
+        let piece = if number % 2 == 0 { even } else { odd };
+        clients.push(client(net, port, &sent, piece)?)?;
+    }
+    Ok(clients)
+}
+
+// The work of one worker for a crowd.
+fn work_for(rt: &impl Abort, crowd: Crowd) -> WorkOptions {
+    WorkOptions {
+        moment: Some(moment(rt)),
+        connections: crowd.clients,
+        at_once: crowd.at_once,
+        bounds: Bounds {
+            idle: 0,
+            message_seconds: 0,
+            least_rate: 1,
+        },
+        body_memory: 268_435_456,
+        by_readiness: false,
+        grace: None,
+    }
+}
+
+// Each client was answered so many HEADs, and no more.
+fn assert_answered(
+    rt: &impl Abort,
+    alloc: Global,
+    clients: &[TcpStream],
+    heads: usize,
+) -> Result<(), Fail> {
+    let expected = repeated(alloc, MISSED, heads)?;
+    for client in clients {
+        let mut text = Vec::new(alloc);
+        let mut reader = client;
+        let _ = reader.read_to_end(&mut text)?;
+        assert!(rt; text.as_slice() == expected.as_slice());
+    }
+    Ok(())
+}
+
 // One worker serves all clients, at most so many at once.
 fn serve_all<
     C: Charges + Send + Sync,
@@ -90,53 +141,30 @@ fn serve_all<
     requires log { events.seen.book ≡ C.log }
     requires journal { C.journal ≡ None }
 {
+    let listener = SocketListener::listen(rt, SocketAddr::from((Ipv4Addr::LOCALHOST, 0)))?;
+    let clients = connected(rt, alloc, listener.place().port(), crowd)?;
+    let work = work_for(rt, crowd);
+    let mut commons = Commons::new(alloc, 1, &work)?;
+    commons.watch(rt)?;
+    let room = Vec::with_capacity(alloc, 1)?;
+    let room_after = Vec::with_capacity(alloc, 1)?;
     let (shared, desks) = Shared::<C, R, M, &W>::open(
         rt, alloc, settings, 1, charged, released, made, events, None,
     )?;
-    let listener = SocketListener::listen(rt, SocketAddr::from((Ipv4Addr::LOCALHOST, 0)))?;
-    let mut clients = Vec::new(alloc);
-    let sent = repeated(alloc, HEAD, crowd.heads)?;
-    let [even, odd] = crowd.pieces;
-    for number in 0..crowd.clients {
-        let piece = if number % 2 == 0 { even } else { odd };
-        clients.push(client(rt, listener.place().port(), &sent, piece)?)?;
-    }
-    let options = WorkOptions {
-        moment: Some(moment(rt)),
-        connections: crowd.clients,
-        at_once: crowd.at_once,
-        bounds: Bounds {
-            idle: 0,
-            message_seconds: 0,
-            least_rate: 1,
-        },
-        body_memory: 268_435_456,
-        by_readiness: false,
-        grace: None,
-    };
-    let mut commons = Commons::new(alloc, 1, &options)?;
-    commons.watch(rt)?;
-    let mut workers = hire(&listener, desks, Vec::with_capacity(alloc, 1)?)?;
+    let mut workers = hire(&listener, desks, room)?;
     work_all(
         rt,
         alloc,
         &shared,
         &NoJournal,
         workers.as_mut_slice(),
-        options,
+        work,
         &commons,
     );
     assert!(rt; !any_failed(workers.as_slice()));
-    let expected = repeated(alloc, MISSED, crowd.heads)?;
-    for client in &clients {
-        let mut text = Vec::new(alloc);
-        let mut reader = client;
-        let _ = reader.read_to_end(&mut text)?;
-        assert!(rt; text.as_slice() == expected.as_slice());
-    }
-    let (_, balance) = settle(shared, dismiss(workers, Vec::with_capacity(alloc, 1)?));
+    let (_, balance) = settle(shared, dismiss(workers, room_after));
     assert_balance(rt, balance, [0, 0, 0]);
-    Ok(())
+    assert_answered(rt, alloc, clients.as_slice(), crowd.heads)
 }
 
 fn serve<

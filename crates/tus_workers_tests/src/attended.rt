@@ -2,6 +2,9 @@
 
 use crate::opening::{moment, settings};
 use crate::texts::{CREATED, CUT_PATCH, HEAD, LOOKED, PATCH, PATCHED, POST};
+use connection_turns::{
+    AsTheyCome, Attended, Busy, Outcome, Precedence, Streams, Turned, Unwatched,
+};
 use http_wire::Buffers;
 use std::alloc::Global;
 use std::cell::Cell;
@@ -10,7 +13,6 @@ use std::io::{ErrorKind, Read, Write};
 use std::process::Abort;
 use std::test::Fail;
 use tus_steps::Request;
-use tus_workers::{AsTheyCome, Attended, Busy, Outcome, Precedence, Streams, Turned, Unwatched};
 use upload_book::Book;
 
 /// A reader of some bytes, which would block before each piece of them, and at their end.

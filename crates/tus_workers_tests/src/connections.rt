@@ -7,6 +7,7 @@ use crate::script::Script;
 use crate::texts::{
     BETA_CREATED, BETA_PATCH, BETA_PATCHED, BETA_POST, CREATED, PATCH, PATCHED, POST,
 };
+use connection_turns::{Bounds, WorkOptions};
 use std::alloc::Global;
 use std::io::{Eprint, Read, Write};
 use std::marker::Brand;
@@ -20,8 +21,7 @@ use std::time::Duration;
 use std::{io, time};
 use tus_shared::{Charges, Opened, Shared, settle};
 use tus_workers::{
-    Bounds, Commons, Listener, NoJournal, SocketListener, WorkOptions, any_failed, dismiss, hire,
-    work_all,
+    Commons, Listener, NoJournal, SocketListener, any_failed, dismiss, hire, work_all,
 };
 use upload_book::{Book, Name, Settings};
 

@@ -6,10 +6,10 @@ ghost use Rattle.upload_book.specs.Book.{plain_of};
 use crate::attended::{Arriving, Leaving, text_of};
 use crate::opening::{moment, settings};
 use crate::texts::{CREATED, HEAD, LOOKED, PATCH, PATCHED, POST};
+use connection_turns::{AsTheyCome, Attended, HoldsBack, Outcome, Streams, Turned, Unwatched};
 use http_wire::Answer;
 use std::test::Fail;
 use tus_steps::{PlacedReply, Request, answer_in_place};
-use tus_workers::{AsTheyCome, Attended, HoldsBack, Outcome, Streams, Turned, Unwatched};
 use upload_book::{Book, Moment};
 
 /// A book that holds back its replies.

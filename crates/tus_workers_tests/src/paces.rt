@@ -1,7 +1,7 @@
 //! When a client is cut off.
 
+use connection_turns::{Bounds, Busy, Late, Pace};
 use std::process::Abort;
-use tus_workers::{Bounds, Busy, Late, Pace};
 
 const BOUNDS: Bounds = Bounds {
     idle: 20,

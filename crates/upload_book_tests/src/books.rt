@@ -70,6 +70,13 @@ pub fn new_upload<'a>(partial: bool, length: Option<u64>) -> NewUpload<'a>
     }
 }
 
+/// Creates an upload of a tenant at second 1000, of this length.
+pub fn create(rt: &impl Abort, book: &mut Book, tenant: &[u8], length: Option<u64>) {
+    let tenant = book.settings().tenant(tenant).expect(rt, "a tenant");
+    let made = book.create(tenant, new_upload(false, length), moment(rt, 1000));
+    assert!(rt; made.is_ok());
+}
+
 /// A PATCH of an upload of acme at second 1000, which tells no length.
 pub fn patch(
     rt: &impl Abort,
@@ -88,14 +95,23 @@ pub fn patch(
     book.append(&acme(id), chunk, moment(rt, 1000))
 }
 
+/// Sends the first bytes of an upload of acme.
+pub fn send(rt: &impl Abort, book: &mut Book, id: u64, bytes: &[u8]) {
+    assert!(rt; patch(rt, book, id, 0, bytes).is_ok());
+}
+
+/// Ends an upload of acme.
+pub fn end(rt: &impl Abort, book: &mut Book, id: u64) {
+    assert!(rt; book.terminate(&acme(id), moment(rt, 1000)).is_ok());
+}
+
 /// Makes a complete partial upload of acme.
 pub fn part(rt: &impl Abort, book: &mut Book, bytes: &[u8]) {
     let acme = book.settings().tenant(ACME).expect(rt, "acme");
     let new = new_upload(true, Some(bytes.len() as u64));
     let made = book.create(acme, new, moment(rt, 1000));
     let made = made.expect(rt, "a part");
-    let sent = patch(rt, book, made.name.id, 0, bytes);
-    assert!(rt; sent.is_ok());
+    send(rt, book, made.name.id, bytes);
 }
 
 /// A concatenation of parts, with a text of some. The book keeps that, and does not read it.
@@ -115,4 +131,11 @@ pub fn new_final<'a>(rt: &impl Abort, parts: &'a [Option<u64>]) -> NewFinal<'a>
         metadata: b"",
         concat,
     }
+}
+
+/// Makes a final upload of acme.
+pub fn join(rt: &impl Abort, book: &mut Book, parts: &[Option<u64>]) {
+    let acme = book.settings().tenant(ACME).expect(rt, "acme");
+    let made = book.concat(acme, new_final(rt, parts), moment(rt, 1000));
+    assert!(rt; made.is_ok());
 }

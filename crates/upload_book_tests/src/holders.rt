@@ -1,15 +1,8 @@
 //! How many hold each block.
 
-use crate::books::{ACME, NUMBERS, acme, moment, new_book, new_final, part};
+use crate::books::{NUMBERS, acme, join, moment, new_book, part};
 use std::process::Abort;
 use upload_book::Book;
-
-// A final upload of acme.
-fn join(rt: &impl Abort, book: &mut Book, parts: &[Option<u64>]) {
-    let acme = book.settings().tenant(ACME).expect(rt, "acme");
-    let made = book.concat(acme, new_final(rt, parts), moment(rt, 1000));
-    assert!(rt; made.is_ok());
-}
 
 // How many hold the first, the second and a third block of an upload's first segment, and the second of its second.
 fn held(book: &Book, id: u64) -> [Option<u64>; 4] {

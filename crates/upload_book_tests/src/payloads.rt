@@ -1,6 +1,6 @@
 //! The bytes that a request sends, and their digest: computed by the book, or before it is asked.
 
-use crate::books::{HELLO, NOTHING, NUMBERS, acme, moment, new_book, new_upload};
+use crate::books::{ACME, HELLO, NOTHING, NUMBERS, acme, create, moment, new_book, new_upload};
 use std::alloc::Global;
 use std::process::Abort;
 use tus_text::{Checksum, Text};
@@ -28,8 +28,7 @@ fn sent<'a>(offset: u64, length: Option<u64>, typed: bool, check: Option<Checksu
 // Why a PATCH of `hello` to a new upload is refused, if it is; the digest may be computed before the book is asked.
 fn refused_patch(rt: &impl Abort, alloc: Global, check: Checksum, before: bool) -> Option<Refusal> {
     let mut book = new_book(rt, alloc, NUMBERS);
-    let made = book.create(0, new_upload(false, Some(10)), moment(rt, 1000));
-    assert!(rt; made.is_ok());
+    create(rt, &mut book, ACME, Some(10));
     let mut change = Change::Append {
         name: acme(1),
         chunk: sent(0, None, true, Some(check)),

@@ -5,13 +5,13 @@ ghost use Rattle.upload_book.specs.Book.{plain_of};
 ghost use Rattle.upload_book.specs.declared.head_row.Kind.TheVariants.{Final};
 ghost use Rattle.upload_book.specs.snapshot.Restore.{CanBePutBack, HasSegments, IsRestorable};
 
-use crate::books::{ACME, NUMBERS, acme, moment, new_book, new_final, new_upload, part, patch};
+use crate::books::{ACME, NUMBERS, acme, create, end, join, moment, new_book, part, send};
 use crate::plain::PlainRow;
 use std::process::Abort;
 use tus_text::{Concat, read_concat};
 use upload_book::{
-    BoardLine, Book, Change, HeadChange, Kind, Moment, Numbers, Outcome, Refusal, Restored,
-    RestoredSegment, RestoredUpload,
+    BoardLine, Book, Change, HeadChange, HeadRow, Kind, Moment, Numbers, Outcome, Refusal,
+    Restored, RestoredSegment, RestoredUpload,
 };
 
 /// An upload of its own that is put back: its id, whether it is a part, its length, its bytes and the second at which it
@@ -75,13 +75,18 @@ fn assert_told(rt: &impl Abort, book: &Book, line: BoardLine) {
     assert!(rt; book.accounts() == line.accounts);
     if let HeadChange::Put(name, row) = line.change {
         let told = book.look(&name, moment(rt, 1000)).expect(rt, "a row");
-        assert!(rt;
-            (told.kind, told.offset, told.declared, told.expires)
-                == (row.kind, row.offset, row.declared, row.expires)
-        );
-        assert!(rt; told.metadata.as_slice() == row.metadata.as_slice());
-        assert!(rt; told.concat.as_slice() == row.concat.as_slice());
+        assert_row(rt, &told, &row);
     }
+}
+
+// Asserts that a HEAD told this row.
+fn assert_row(rt: &impl Abort, told: &HeadRow, row: &HeadRow) {
+    assert!(rt;
+        (told.kind, told.offset, told.declared, told.expires)
+            == (row.kind, row.offset, row.declared, row.expires)
+    );
+    assert!(rt; told.metadata.as_slice() == row.metadata.as_slice());
+    assert!(rt; told.concat.as_slice() == row.concat.as_slice());
 }
 
 // Puts back an upload of acme.
@@ -101,22 +106,21 @@ fn restore(rt: &impl Abort, book: &mut Book, row: &Row) -> Result<(), Refusal> {
     put_back(rt, book, piece)
 }
 
-// Puts back acme's next id.
-fn restore_next(rt: &impl Abort, book: &mut Book, next: u64) -> Result<(), Refusal> {
-    let acme = book.settings().tenant(ACME).expect(rt, "acme");
-    put_back(rt, book, Restored::Next { tenant: acme, next })
+// Asserts that an upload of acme is put back.
+fn assert_restored(rt: &impl Abort, book: &mut Book, row: &Row) {
+    assert!(rt; restore(rt, book, row) == Ok(()));
 }
 
-// Puts back the totals.
-fn restore_totals(rt: &impl Abort, book: &mut Book, released: u64) -> Result<(), Refusal> {
-    put_back(rt, book, Restored::Totals { released })
+// Asserts what the putting back of acme's next id answers.
+fn assert_next(rt: &impl Abort, book: &mut Book, next: u64, answer: Result<(), Refusal>) {
+    let acme = book.settings().tenant(ACME).expect(rt, "acme");
+    let piece = Restored::Next { tenant: acme, next };
+    assert!(rt; put_back(rt, book, piece) == answer);
 }
 
-// Creates an upload of acme.
-fn create(rt: &impl Abort, book: &mut Book, length: Option<u64>) {
-    let acme = book.settings().tenant(ACME).expect(rt, "acme");
-    let made = book.create(acme, new_upload(false, length), moment(rt, 1000));
-    assert!(rt; made.is_ok());
+// Asserts what the putting back of the totals answers.
+fn assert_totals(rt: &impl Abort, book: &mut Book, released: u64, answer: Result<(), Refusal>) {
+    assert!(rt; put_back(rt, book, Restored::Totals { released }) == answer);
 }
 
 // What HEADs tell at second 1000 of acme's first uploads, without their texts.
@@ -136,15 +140,13 @@ fn told(rt: &impl Abort, book: &Book) -> [Result<PlainRow, Refusal>; 7] {
 
 // A book of acme with uploads of each kind of its own, of which the second has ended.
 pub(crate) fn requested(rt: &impl Abort, book: &mut Book) {
-    let now = moment(rt, 1000);
-    create(rt, book, Some(10));
-    create(rt, book, Some(4));
-    create(rt, book, None);
-    create(rt, book, Some(2));
-    assert!(rt; patch(rt, book, 1, 0, b"hello").is_ok());
-    assert!(rt; patch(rt, book, 2, 0, b"gone").is_ok());
-    assert!(rt; patch(rt, book, 4, 0, b"hi").is_ok());
-    assert!(rt; book.terminate(&acme(2), now).is_ok());
+    for length in [Some(10), Some(4), None, Some(2)] {
+        create(rt, book, ACME, length);
+    }
+    send(rt, book, 1, b"hello");
+    send(rt, book, 2, b"gone");
+    send(rt, book, 4, b"hi");
+    end(rt, book, 2);
     part(rt, book, b"abcde");
 }
 
@@ -156,21 +158,26 @@ const ROWS: [Row<'static>; 4] = [
     (5, true, Some(5), b"abcde", Some(4600)),
 ];
 
+// Asserts that HEADs tell the same of both books, and that these have the same accounts, ends and free blocks.
+fn assert_alike(rt: &impl Abort, book: &Book, was: &Book) {
+    assert!(rt; told(rt, book) == told(rt, was));
+    assert!(rt; book.accounts() == was.accounts());
+    assert!(rt; book.expiries() == was.expiries());
+    assert!(rt; book.free_blocks() == was.free_blocks());
+}
+
 #[test]
 fn a_book_is_put_back(rt: HostRuntime) {
     let mut was = new_book(&rt, rt.alloc(), NUMBERS);
     requested(&rt, &mut was);
     let mut book = new_book(&rt, rt.alloc(), NUMBERS);
     for row in &ROWS {
-        assert!(&rt; restore_next(&rt, &mut book, row.0) == Ok(()));
-        assert!(&rt; restore(&rt, &mut book, row) == Ok(()));
+        assert_next(&rt, &mut book, row.0, Ok(()));
+        assert_restored(&rt, &mut book, row);
     }
-    assert!(&rt; restore_next(&rt, &mut book, 6) == Ok(()));
-    assert!(&rt; restore_totals(&rt, &mut book, 1) == Ok(()));
-    assert!(&rt; told(&rt, &book) == told(&rt, &was));
-    assert!(&rt; book.accounts() == was.accounts());
-    assert!(&rt; book.expiries() == was.expiries());
-    assert!(&rt; book.free_blocks() == was.free_blocks());
+    assert_next(&rt, &mut book, 6, Ok(()));
+    assert_totals(&rt, &mut book, 1, Ok(()));
+    assert_alike(&rt, &book, &was);
 }
 
 // What is not put back behind acme's upload 1, of which there may be two, with ids up to 9.
@@ -204,6 +211,15 @@ fn assert_refused(rt: &impl Abort, book: &mut Book, row: &Row, refusal: Refusal)
     assert!(rt; (told(rt, book), book.accounts()) == before);
 }
 
+// Next ids and totals that are not put back behind it, and the last total, which is.
+fn assert_bounds(rt: &impl Abort, book: &mut Book) {
+    assert_next(rt, book, 1, Err(Refusal::Field));
+    assert_next(rt, book, 11, Err(Refusal::Spent));
+    assert_totals(rt, book, 10, Err(Refusal::Spent));
+    assert_totals(rt, book, 9, Ok(()));
+    assert_totals(rt, book, 8, Err(Refusal::Field));
+}
+
 #[test]
 fn what_is_not_put_back(rt: HostRuntime) {
     let numbers = Numbers {
@@ -213,22 +229,18 @@ fn what_is_not_put_back(rt: HostRuntime) {
         ..NUMBERS
     };
     let mut book = new_book(&rt, rt.alloc(), numbers);
-    assert!(&rt; restore(&rt, &mut book, &(1, false, None, b"", Some(4600))) == Ok(()));
+    assert_restored(&rt, &mut book, &(1, false, None, b"", Some(4600)));
     for (row, refusal) in &REFUSED {
         assert_refused(&rt, &mut book, row, *refusal);
     }
-    assert!(&rt; restore_next(&rt, &mut book, 1) == Err(Refusal::Field));
-    assert!(&rt; restore_next(&rt, &mut book, 11) == Err(Refusal::Spent));
-    assert!(&rt; restore_totals(&rt, &mut book, 10) == Err(Refusal::Spent));
-    assert!(&rt; restore_totals(&rt, &mut book, 9) == Ok(()));
-    assert!(&rt; restore_totals(&rt, &mut book, 8) == Err(Refusal::Field));
+    assert_bounds(&rt, &mut book);
     assert_refused(
         &rt,
         &mut book,
         &(2, false, None, b"x", Some(4600)),
         Refusal::Spent,
     );
-    assert!(&rt; restore(&rt, &mut book, &(2, false, None, b"", Some(4600))) == Ok(()));
+    assert_restored(&rt, &mut book, &(2, false, None, b"", Some(4600)));
     assert_refused(
         &rt,
         &mut book,
@@ -246,9 +258,9 @@ fn ids_that_are_not_put_back(rt: HostRuntime) {
     let mut book = new_book(&rt, rt.alloc(), numbers);
     let last: Row = (10, false, None, b"", Some(4600));
     assert_refused(&rt, &mut book, &last, Refusal::Field);
-    assert!(&rt; restore_next(&rt, &mut book, 10) == Ok(()));
+    assert_next(&rt, &mut book, 10, Ok(()));
     assert_refused(&rt, &mut book, &last, Refusal::Spent);
-    assert!(&rt; restore_next(&rt, &mut book, 9) == Err(Refusal::Field));
+    assert_next(&rt, &mut book, 9, Err(Refusal::Field));
 }
 
 /// A final upload of two parts that is put back: its id, its length, its parts, and the second at which it expires.
@@ -308,26 +320,23 @@ fn restore_final(rt: &impl Abort, book: &mut Book, row: &FinalRow) -> Result<(),
     put_back(rt, book, piece)
 }
 
-// Joins two parts of acme.
-fn join(rt: &impl Abort, book: &mut Book, first: u64, second: u64) {
-    let acme = book.settings().tenant(ACME).expect(rt, "acme");
-    let parts = [Some(first), Some(second)];
-    let made = book.concat(acme, new_final(rt, &parts), moment(rt, 1000));
-    assert!(rt; made.is_ok());
+// Asserts that a final upload of acme is put back.
+fn assert_final_restored(rt: &impl Abort, book: &mut Book, row: &FinalRow) {
+    assert!(rt; restore_final(rt, book, row) == Ok(()));
 }
 
 // A book of acme with a final upload of one part twice and one of it and another, whose parts have ended, and with one of a
 // part that stands.
 pub(crate) fn joined(rt: &impl Abort, book: &mut Book) {
-    let now = moment(rt, 1000);
     part(rt, book, b"abcde");
     part(rt, book, b"fg");
-    join(rt, book, 1, 1);
-    join(rt, book, 1, 2);
-    assert!(rt; book.terminate(&acme(1), now).is_ok());
-    assert!(rt; book.terminate(&acme(2), now).is_ok());
+    for parts in [[Some(1), Some(1)], [Some(1), Some(2)]] {
+        join(rt, book, &parts);
+    }
+    end(rt, book, 1);
+    end(rt, book, 2);
     part(rt, book, b"hi");
-    join(rt, book, 5, 5);
+    join(rt, book, &[Some(5), Some(5)]);
 }
 
 // What puts back those whose parts have ended: of each part the bytes come once.
@@ -339,15 +348,15 @@ const FINAL_ROWS: [FinalRow<'static>; 2] = [
 // Puts it back.
 fn restored(rt: &impl Abort, book: &mut Book) {
     for row in &FINAL_ROWS {
-        assert!(rt; restore_next(rt, book, row.0) == Ok(()));
-        assert!(rt; restore_final(rt, book, row) == Ok(()));
+        assert_next(rt, book, row.0, Ok(()));
+        assert_final_restored(rt, book, row);
     }
     let own: Row = (5, true, Some(2), b"hi", Some(4600));
-    assert!(rt; restore(rt, book, &own) == Ok(()));
+    assert_restored(rt, book, &own);
     let last: FinalRow = (6, 4, (5, None), (5, None), None);
-    assert!(rt; restore_final(rt, book, &last) == Ok(()));
-    assert!(rt; restore_next(rt, book, 7) == Ok(()));
-    assert!(rt; restore_totals(rt, book, 0) == Ok(()));
+    assert_final_restored(rt, book, &last);
+    assert_next(rt, book, 7, Ok(()));
+    assert_totals(rt, book, 0, Ok(()));
 }
 
 // How many uploads acme has.
@@ -374,10 +383,7 @@ fn finals_are_put_back(rt: HostRuntime) {
     let mut book = new_book(&rt, rt.alloc(), NUMBERS);
     restored(&rt, &mut book);
     assert!(&rt; count(&rt, &book) == 4);
-    assert!(&rt; told(&rt, &book) == told(&rt, &was));
-    assert!(&rt; book.accounts() == was.accounts());
-    assert!(&rt; book.expiries() == was.expiries());
-    assert!(&rt; book.free_blocks() == was.free_blocks());
+    assert_alike(&rt, &book, &was);
     for id in 3..7 {
         assert_same(&rt, &book, &was, id);
     }
@@ -426,10 +432,10 @@ fn assert_final_refused(rt: &impl Abort, book: &mut Book, row: &FinalRow, refusa
 // Puts back acme's part 1 of 5 bytes and its part 2, which lacks some; 4 is then the next id.
 fn with_parts(rt: &impl Abort, book: &mut Book) {
     let whole: Row = (1, true, Some(5), b"abcde", Some(4600));
-    assert!(rt; restore(rt, book, &whole) == Ok(()));
+    assert_restored(rt, book, &whole);
     let open: Row = (2, true, Some(9), b"fg", Some(4600));
-    assert!(rt; restore(rt, book, &open) == Ok(()));
-    assert!(rt; restore_next(rt, book, 4) == Ok(()));
+    assert_restored(rt, book, &open);
+    assert_next(rt, book, 4, Ok(()));
 }
 
 #[test]
@@ -440,7 +446,7 @@ fn finals_that_are_not_put_back(rt: HostRuntime) {
         assert_final_refused(&rt, &mut book, row, *refusal);
     }
     let held: FinalRow = (4, 10, (1, None), (1, None), None);
-    assert!(&rt; restore_final(&rt, &mut book, &held) == Ok(()));
+    assert_final_restored(&rt, &mut book, &held);
 }
 
 #[test]
@@ -462,5 +468,5 @@ fn finals_past_the_last(rt: HostRuntime) {
     let two: FinalRow = (4, 10, (1, None), (3, Some(b"01234")), None);
     assert_final_refused(&rt, &mut book, &two, Refusal::Spent);
     let one: FinalRow = (4, 9, (1, None), (3, Some(b"0123")), None);
-    assert!(&rt; restore_final(&rt, &mut book, &one) == Ok(()));
+    assert_final_restored(&rt, &mut book, &one);
 }

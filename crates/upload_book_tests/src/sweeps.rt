@@ -1,6 +1,6 @@
 //! Sweeps of single uploads, and before, between and after the ends of partial uploads and of final ones over them.
 
-use crate::books::{ACME, BETA, NUMBERS, moment, new_upload};
+use crate::books::{ACME, BETA, NUMBERS, create, moment};
 use crate::steps::Call::{Delete, Expiries, Get, Head, Join, Partial, Patch, Post, Sweep};
 use crate::steps::Told::{Appended, Bytes, Created, Expire, Refused, Removed, Row, Swept};
 use crate::steps::{Step, run, steps};
@@ -177,18 +177,11 @@ static SIXTEEN: [(&[u8], u64); 16] = [
     (b"p", 0),
 ];
 
-// Creates an upload of a tenant, which expires at second 4600.
-fn create(rt: &impl Abort, book: &mut Book, tenant: &[u8]) {
-    let tenant = book.settings().tenant(tenant).expect(rt, "a tenant");
-    let created = book.create(tenant, new_upload(false, Some(1)), moment(rt, 1000));
-    assert!(rt; created.is_ok());
-}
-
-// Creates as many uploads of each tenant as it may have.
+// Creates as many uploads of each tenant as it may have, which expire at second 4600.
 fn create_all(rt: &impl Abort, book: &mut Book, tenants: &[(&[u8], u64)]) {
     for tenant in tenants {
         for _ in 0..64 {
-            create(rt, book, tenant.0);
+            create(rt, book, tenant.0, Some(1));
         }
     }
 }

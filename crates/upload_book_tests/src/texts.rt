@@ -1,6 +1,8 @@
 //! Texts that a book keeps, and names that are no upload's.
 
-use crate::books::{ACME, BETA, NUMBERS, acme, moment, new_book, new_final, part};
+use crate::books::{
+    ACME, BETA, NUMBERS, acme, create, end, moment, new_book, new_final, part, send,
+};
 use std::process::Abort;
 use tus_text::check_metadata;
 use upload_book::{
@@ -113,22 +115,8 @@ fn a_content_is_handed_over(rt: HostRuntime) {
 
 // Acme's first upload, which has five of its nine bytes.
 fn unfinished(rt: &impl Abort, book: &mut Book) {
-    let tenant = book.settings().tenant(ACME).expect(rt, "acme");
-    let new = NewUpload {
-        partial: false,
-        length: Some(9),
-        metadata: b"",
-        concat: b"",
-    };
-    assert!(rt; book.create(tenant, new, moment(rt, 1000)).is_ok());
-    let chunk = Chunk {
-        offset: 0,
-        length: None,
-        typed: true,
-        check: None,
-        bytes: Payload::new(b"abcde"),
-    };
-    assert!(rt; book.append(&acme(1), chunk, moment(rt, 1000)).is_ok());
+    create(rt, book, ACME, Some(9));
+    send(rt, book, 1, b"abcde");
 }
 
 // Why there are no bytes of an upload so far.
@@ -143,6 +131,6 @@ fn the_bytes_so_far(rt: HostRuntime) {
     let bytes = book.so_far(&acme(1), moment(&rt, 1000), book.no_room());
     assert!(rt; bytes.expect(&rt, "the bytes").as_slice() == b"abcde".as_slice());
     assert!(rt; refused_so_far(&rt, &book, &acme(2)) == Some(Refusal::Unknown));
-    assert!(rt; book.terminate(&acme(1), moment(&rt, 1000)).is_ok());
+    end(&rt, &mut book, 1);
     assert!(rt; refused_so_far(&rt, &book, &acme(1)) == Some(Refusal::Gone));
 }

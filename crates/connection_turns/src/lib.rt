@@ -1,0 +1,20 @@
+//! A client's connection over streams that would block: its turns, what it has sent, and how fast it goes.
+#![tactic(auto)]
+
+mod attended;
+mod holding;
+mod observer;
+mod pace;
+mod sending;
+mod turn;
+mod unread;
+mod work_options;
+
+pub use attended::Attended;
+pub use holding::HoldsBack;
+pub use observer::{Observer, Unwatched};
+pub use pace::{Bounds, Busy, Late, Pace, Window};
+pub use sending::{Sent, send_pending};
+pub use turn::{AsTheyCome, Outcome, Precedence, Share, Streams, Turned, take_turn};
+pub use unread::{ROOM_KEPT, may_be_unread};
+pub use work_options::WorkOptions;

@@ -1,0 +1,5 @@
+pub mod ExportLemmas
+pub mod HeldLemmas
+pub mod ReadLemmas
+pub mod RenewingLemmas
+pub mod TornLemmas

@@ -1,0 +1,6 @@
+pub mod Export
+pub mod Held
+pub mod JournalSettings
+pub mod ReadJournal
+pub mod Renewed
+pub mod Shortage

@@ -1,0 +1,217 @@
+-- How `talk --journal` ends, by how its conversation does.
+use Rattle.std.proofs.Common.{◌≡◌, ◌⊎◌, ℕ, Bool, true, false, List, [], ◌++◌, Option, Some, Result, Ok, Err, inl, inr, replicate, refl, ◌∙◌, sym, ap, subst, append_assoc, true≢false}
+use Rattle.std.specs.Io.KnownBytes.{Appends, Consumes}
+use Rattle.std.proofs.lemmas.List.{append-nil}
+use Rattle.sqlite_disk.specs.declared.Disk.{Ghosts}
+use Rattle.http_wire.specs.Conversation.{Conversation}
+use Rattle.http_wire.specs.Exchange.{Exchange}
+use Rattle.http_wire.specs.Fault.{NamesOrMemory}
+use Rattle.http_wire.specs.Turns.{Breaks}
+use Rattle.http_wire.specs.declared.conversation.Ended.{Ended}
+use Rattle.http_wire.specs.declared.fault.WireFault.{WireFault}
+use Rattle.http_wire.specs.declared.fault.WireFault.TheVariants as wire
+use Rattle.kept_book.proofs.KeptLemmas.{kept-leaves}
+use Rattle.kept_book.specs.Answer.{IsKeptStep}
+use Rattle.kept_book.specs.declared.kept.KeptBook.{KeptBook}
+use Rattle.kept_book.specs.Kept.{book_in, disk_in, key_in, IsKept, IsLeft, IsOpened}
+use Rattle.tus_steps.specs.Request.{Request}
+use Rattle.tus_steps.specs.declared.reply.Reply.{Reply}
+use Rattle.upload_book.specs.Events.{ChangeEvent, book_after_all}
+use Rattle.upload_book.specs.PlainBook.{PlainBook, opening_book}
+use Rattle.upload_book.specs.Settings.{Settings}
+use Rattle.server_words.specs.Arguments.{TalkArguments}
+use Rattle.server_words.specs.Fault.{fault_of_wire}
+use Rattle.server_words.specs.Settings.{talk_settings}
+use Rattle.server_words.specs.StreamUse.{StreamUse, IsAlive}
+use Rattle.server_words.specs.declared.fault.RunFault.{RunFault}
+use Rattle.server_words.specs.declared.fault.RunFault.TheVariants as run
+use Rattle.journal_folders.specs.ReadJournal.{journal_key}
+use Rattle.tus_program.specs.KeptStep.{KeptState, AnswersKept, FailsKept, StaysFailed, IsStepKept, IsJournalStep, working}
+use Rattle.tus_program.specs.KeptTalk.{KeptTalkEnds, HoldsKept, LosesKept, OutlivesCrash, TalksKept, BreaksKept}
+use Rattle.tus_program.specs.Talk.{moments_at}
+use Rattle.tus_program.proofs.SimulationLemmas.{Conversation-like, Breaks-like}
+use Rattle.tus_program.proofs.TalkLemmas.{Keeps-appended, Keeps-consumed, is_ok_by, laid, not_err}
+
+-- the journal has failed
+abbrev failed_with : PlainBook → KeptState
+failed_with book = record { book = book; has_failed = true }
+
+module _ {D : Type 0} {g : Ghosts D} where
+  -- What was told after these events were opened: more events, after which the book is that of the state, and of which a crash
+  -- leaves all. While the journal works, they are kept.
+  record Told (s : Settings) (events : List ChangeEvent) (kept : KeptBook D g) (failed : Bool) (state : KeptState) : Type 0 where
+    more : List ChangeEvent
+    book : state.book ≡ book_after_all (opening_book s) (events ++ more)
+    left : (c : List ℕ) → g.may_leave (disk_in kept) c → IsLeft (key_in kept) s (events ++ more) c
+    all : failed ≡ false → IsKept kept s (events ++ more)
+
+  -- The state stands for what became of a kept book since it was opened.
+  record StandsFor (opened kept : KeptBook D g) (failed : Bool) (state : KeptState) : Type 0 where
+    key : key_in kept ≡ key_in opened
+    failed_is : state.has_failed ≡ failed
+    book_is : failed ≡ false → state.book ≡ book_in kept
+    told : (s : Settings) (events : List ChangeEvent) → IsKept opened s events → Told s events kept failed state
+
+  at_first : (opened : KeptBook D g) → StandsFor opened opened false (working (book_in opened))
+  at_first opened = record {
+    key = refl;
+    failed_is = refl;
+    book_is = λ works. refl;
+    told = λ s events is.
+        let all = subst (IsKept opened s) (sym (append-nil events)) is in
+        record { more = []; book = all.book; left = λ c may. kept-leaves opened s (events ++ []) all c may; all = λ works. all };
+  }
+
+  after_answer : (opened a b : KeptBook D g) (failed fails : Bool) (p : KeptState) (r : Request) (now : ℕ) (reply : Reply) → StandsFor opened a failed p → key_in b ≡ key_in a → AnswersKept a failed r now reply b fails
+      → StandsFor opened b fails (working (book_in b))
+  after_answer opened a b failed fails p r now reply like key h = record {
+    key = key ∙ like.key;
+    failed_is = sym h.works;
+    book_is = λ works. refl;
+    told = λ s events is.
+        let before = like.told s events is in
+        let goes = h.kept s (events ++ before.more) (before.all h.worked) in
+        let all = subst (IsKept b s) (append_assoc events before.more goes.more) goes.all in
+        record {
+          more = before.more ++ goes.more;
+          book = all.book;
+          left = λ c may. kept-leaves b s (events ++ (before.more ++ goes.more)) all c may;
+          all = λ works. all;
+        };
+  }
+
+  after_failure : (opened a b : KeptBook D g) (failed fails : Bool) (p : KeptState) (r : Request) (now : ℕ) (reply : Reply) → StandsFor opened a failed p → key_in b ≡ key_in a → FailsKept a failed r now reply b fails
+      → StandsFor opened b fails (failed_with p.book)
+  after_failure opened a b failed fails p r now reply like key h = record {
+    key = key ∙ like.key;
+    failed_is = sym h.failed_now;
+    book_is = λ works. absurd (true≢false (sym h.failed_now ∙ works));
+    told = λ s events is.
+        let before = like.told s events is in
+        record {
+          more = before.more;
+          book = before.book;
+          left = λ c may. subst (λ (k : ℕ). IsLeft k s (events ++ before.more) c) (sym key) (h.left s (events ++ before.more) (before.all h.worked) c may);
+          all = λ works. absurd (true≢false (sym h.failed_now ∙ works));
+        };
+  }
+
+  -- a step of the kept book is one of the state
+  step_on : (opened a b : KeptBook D g) (failed fails : Bool) (p : KeptState) (r : Request) (now : ℕ) (reply : Reply) → StandsFor opened a failed p → IsStepKept a failed r now reply b fails
+      → (q : KeptState) × StandsFor opened b fails q × IsJournalStep p r now reply q
+  step_on opened a b failed fails p r now reply like step = step_by step.key step.step where
+    step_by : key_in b ≡ key_in a → AnswersKept a failed r now reply b fails ⊎ FailsKept a failed r now reply b fails ⊎ StaysFailed a failed r now reply b fails
+        → (q : KeptState) × StandsFor opened b fails q × IsJournalStep p r now reply q
+    step_by key (inl h) = (
+      working (book_in b),
+      after_answer opened a b failed fails p r now reply like key h,
+      inl (record { worked = like.failed_is ∙ h.worked; works = refl; step = subst (λ (book : PlainBook). IsKeptStep book r now reply (book_in b)) (sym (like.book_is h.worked)) h.step }),
+    )
+    step_by key (inr (inl h)) =
+        (failed_with p.book, after_failure opened a b failed fails p r now reply like key h, inr (record { failed = refl; told = h.told; same = refl }))
+    step_by key (inr (inr h)) =
+        let stood = subst (λ (f : Bool). StandsFor opened a f p) (h.failed_before ∙ sym h.failed_still) like in
+        (p, subst (λ (k : KeptBook D g). StandsFor opened k fails p) (sym h.same) stood, inr (record { failed = like.failed_is ∙ h.failed_before; told = h.told; same = refl }))
+
+  -- what the events that were opened and those that were told of make
+  outlives : (s : Settings) (found : D) (opened last : KeptBook D g) (failed : Bool) (state : KeptState) → IsOpened s journal_key found opened → key_in opened ≡ journal_key → StandsFor opened last failed state
+      → OutlivesCrash g.seen g.may_leave g.is_clean s found (disk_in opened) (disk_in last) (book_in opened) state.book
+  outlives s found opened last failed state is_opened key like = λ events happened records clean.
+      let is = is_opened events happened records clean in
+      let told = like.told s events is in
+      (told.more, is.book, told.book, λ c may. subst (λ (k : ℕ). IsLeft k s (events ++ told.more) c) (like.key ∙ key) (told.left c may))
+
+  -- over what answers with a kept book, and tells whether its journal has failed
+  module _ {A : Type 0} (kept : A → KeptBook D g) (has_failed : A → Bool) where
+    abbrev steps : A → Request → ℕ → Reply → A → Type 0
+    steps a r now reply b = IsStepKept (kept a) (has_failed a) r now reply (kept b) (has_failed b)
+
+    abbrev Like : KeptBook D g → A → KeptState → Type 0
+    Like opened a state = StandsFor opened (kept a) (has_failed a) state
+
+    on : (opened : KeptBook D g) (a : A) (p : KeptState) (r : Request) (now : ℕ) (reply : Reply) (b : A) → Like opened a p → steps a r now reply b → (q : KeptState) × Like opened b q × IsJournalStep p r now reply q
+    on opened a p r now reply b like step = step_on opened (kept a) (kept b) (has_failed a) (has_failed b) p r now reply like step
+
+    like_first : (a : A) → has_failed a ≡ false → Like (kept a) a (working (book_in (kept a)))
+    like_first a works = subst (λ (f : Bool). StandsFor (kept a) (kept a) f (working (book_in (kept a)))) (sym works) (at_first (kept a))
+
+    module _ {R W : Type 0} (arguments : TalkArguments) (reader : StreamUse R) (writer : StreamUse W) (s : Settings) (found : D) where
+      Talks-kept : (x : Exchange A) (e : Ended) → has_failed x.before ≡ false → talk_settings arguments ≡ Ok s → IsOpened s journal_key found (kept x.before) → key_in (kept x.before) ≡ journal_key
+          → Conversation steps (book_in (kept x.before)).settings.numbers.max_size (replicate 4096 arguments.moment) x e → TalksKept g.seen g.may_leave g.is_clean arguments reader writer (has_failed x.after) x.input x.text
+      Talks-kept x e works given is_opened key h =
+          let opened = kept x.before in
+          let max = (book_in opened).settings.numbers.max_size in
+          let whole = Conversation-like steps IsJournalStep (Like opened) (on opened) max (replicate 4096 arguments.moment) x e (working (book_in opened)) (like_first x.before works) h in
+          record {
+            settings = s;
+            is_given = given;
+            found = found;
+            opened = disk_in opened;
+            last = disk_in (kept x.after);
+            before = book_in opened;
+            after = whole.0;
+            outlives = outlives s found opened (kept x.after) (has_failed x.after) whole.0 is_opened key whole.1;
+            failed_is = whole.1.failed_is;
+            ended = e;
+            conversation = subst (λ (at : List ℕ). Conversation IsJournalStep max at (record { input = x.input; text = x.text; before = working (book_in opened); after = whole.0 }) e) (laid arguments.moment) whole.2;
+          }
+
+      Breaks-kept : (x : Exchange A) (f : WireFault) → has_failed x.before ≡ false → talk_settings arguments ≡ Ok s → IsOpened s journal_key found (kept x.before) → key_in (kept x.before) ≡ journal_key
+          → Breaks steps (book_in (kept x.before)).settings.numbers.max_size (replicate 4096 arguments.moment) x f → BreaksKept g.seen g.may_leave g.is_clean arguments reader writer x.input x.text
+      Breaks-kept x f works given is_opened key h =
+          let opened = kept x.before in
+          let max = (book_in opened).settings.numbers.max_size in
+          let broken = Breaks-like steps IsJournalStep (Like opened) (on opened) max (replicate 4096 arguments.moment) x f (working (book_in opened)) (like_first x.before works) h in
+          record {
+            settings = s;
+            is_given = given;
+            found = found;
+            opened = disk_in opened;
+            last = disk_in (kept x.after);
+            before = book_in opened;
+            after = broken.0;
+            outlives = outlives s found opened (kept x.after) (has_failed x.after) broken.0 is_opened key broken.1;
+            fault = f;
+            breaks = subst (λ (at : List ℕ). Breaks IsJournalStep max at (record { input = x.input; text = x.text; before = working (book_in opened); after = broken.0 }) f) (laid arguments.moment) broken.2;
+          }
+
+      loses : (x : Exchange A) (f : WireFault) → has_failed x.before ≡ false → talk_settings arguments ≡ Ok s → IsOpened s journal_key found (kept x.before) → key_in (kept x.before) ≡ journal_key
+          → Consumes reader.before reader.after x.input → Appends writer.before writer.after x.text → Breaks steps (book_in (kept x.before)).settings.numbers.max_size (replicate 4096 arguments.moment) x f
+          → LosesKept g.seen g.may_leave g.is_clean arguments reader writer
+      loses x f works given is_opened key consumes appends h = record {
+        got = x.input;
+        text = x.text;
+        consumes = consumes;
+        appends = appends;
+        breaks = Breaks-kept x f works given is_opened key h;
+      }
+
+      -- the conversation was broken off by this fault
+      pub KeptTalkEnds-broken : (T : Type 0) (x : Exchange A) (f : WireFault) → has_failed x.before ≡ false → talk_settings arguments ≡ Ok s → IsOpened s journal_key found (kept x.before) → key_in (kept x.before) ≡ journal_key
+          → NamesOrMemory reader.has_failed writer.has_failed f → Consumes reader.before reader.after x.input → Appends writer.before writer.after x.text
+          → Breaks steps (book_in (kept x.before)).settings.numbers.max_size (replicate 4096 arguments.moment) x f
+          → KeptTalkEnds g.seen g.may_leave g.is_clean arguments reader writer {T = T} (Err (fault_of_wire f))
+      KeptTalkEnds-broken T x wire.Read works given is_opened key named consumes appends h = (loses x wire.Read works given is_opened key consumes appends h, named.0)
+      KeptTalkEnds-broken T x wire.Write works given is_opened key named consumes appends h = (loses x wire.Write works given is_opened key consumes appends h, named.1)
+      KeptTalkEnds-broken T x wire.Memory works given is_opened key named consumes appends h = record {
+        reader_keeps = Keeps-consumed reader.before reader.after x.input consumes h.0;
+        writer_keeps = Keeps-appended writer.before writer.after x.text appends h.1;
+        reader_alive = named.0;
+        writer_alive = named.1;
+        untouched = not_err _ (talk_settings arguments) s given;
+      }
+      KeptTalkEnds-broken T x wire.Failed works given is_opened key named consumes appends h = absurd h
+
+      -- the conversation ended, and no stream has failed
+      pub holds : (before after : A) (e : Ended) → has_failed before ≡ false → talk_settings arguments ≡ Ok s → IsOpened s journal_key found (kept before) → key_in (kept before) ≡ journal_key → IsAlive reader → IsAlive writer
+          → ((input written : List ℕ) → reader.before ≡ Some input → writer.before ≡ Some written → (text : List ℕ) × (writer.after ≡ Some (written ++ text))
+          × Conversation steps (book_in (kept before)).settings.numbers.max_size (replicate 4096 arguments.moment) (record { input = input; text = text; before = before; after = after }) e)
+          → HoldsKept g.seen g.may_leave g.is_clean arguments reader writer (has_failed after)
+      holds before after e works given is_opened key read wrote known = record {
+        settings = is_ok_by (talk_settings arguments) s given;
+        talks = λ input written has had.
+            let told = known input written has had in
+            (told.0, told.1, Talks-kept (record { input = input; text = told.0; before = before; after = after }) e works given is_opened key told.2);
+        reader_alive = read;
+        writer_alive = wrote;
+      }

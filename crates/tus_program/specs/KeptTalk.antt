@@ -1,0 +1,103 @@
+-- What `talk --journal` does: one conversation over two streams, on a book that a file keeps.
+use Rattle.std.specs.Prelude.{◌≡◌, ◌⊎◌, ◌++◌, ℕ, Bool, true, false, List, Some, Result, Ok, Err, IsOk, IsTrue}
+use Rattle.std.specs.Io.KnownBytes.{Appends, Consumes}
+use Rattle.book_replay.specs.Replay.{AllHappen, records_of}
+use Rattle.http_wire.specs.Conversation.{Conversation}
+use Rattle.http_wire.specs.Turns.{Breaks}
+use Rattle.http_wire.specs.declared.conversation.Ended.{Ended}
+use Rattle.http_wire.specs.declared.fault.WireFault.{WireFault}
+use Rattle.journal_frames.specs.Frames.{recovered}
+use Rattle.kept_book.specs.Kept.{IsLeft}
+use Rattle.upload_book.specs.Events.{ChangeEvent, book_after_all}
+use Rattle.upload_book.specs.PlainBook.{PlainBook, opening_book}
+use Rattle.upload_book.specs.Settings.{Settings}
+use Rattle.journal_folders.specs.ReadJournal.{journal_key}
+use Rattle.server_words.specs.Arguments.{TalkArguments}
+use Rattle.server_words.specs.Cause.{NamesCause}
+use Rattle.server_words.specs.Settings.{talk_settings}
+use Rattle.server_words.specs.StreamUse.{StreamUse, IsAlive, IsUntouched}
+use Rattle.server_words.specs.declared.fault.RunFault.{RunFault}
+use Rattle.server_words.specs.declared.fault.RunFault.TheVariants as run
+use Rattle.server_words.specs.declared.journal_fault.JournalFault.{JournalFault}
+use Rattle.server_words.specs.declared.journal_fault.JournalFault.TheVariants.{Disk}
+use Rattle.tus_program.specs.KeptStep.{KeptState, IsJournalStep, working}
+use Rattle.tus_program.specs.Talk.{KeepsStreams, moments_at}
+
+-- of a disk is seen what a read returns, what a crash may leave, and whether it told no lie
+module _ {D : Type 0} (seen : D → List ℕ) (may_leave : D → List ℕ → Type 0) (is_clean : D → Bool) where
+  -- The disk as it was found, as it was once the book was opened, and at last, with the books of then. Where its file had the
+  -- records of events that happened to a book of these settings, and the disk told no lie, the book was opened after these.
+  -- Then came the events that the replies told of; and a crash at last leaves all of them.
+  abbrev pub OutlivesCrash : Settings → D → D → D → PlainBook → PlainBook → Type 0
+  OutlivesCrash s found opened last before after =
+      (events : List ChangeEvent)
+      → AllHappen (opening_book s) events → recovered journal_key (seen found) ≡ records_of events → IsTrue (is_clean opened)
+      → (told : List ChangeEvent)
+      × (before ≡ book_after_all (opening_book s) events)
+      × (after ≡ book_after_all (opening_book s) (events ++ told))
+      × ((c : List ℕ) → may_leave last c → IsLeft journal_key s (events ++ told) c)
+
+  -- `talk` was asked for with these arguments, over these streams
+  module _ {R W : Type 0} (arguments : TalkArguments) (reader : StreamUse R) (writer : StreamUse W) where
+    -- The input is answered with this text, in a conversation on the book that was opened. At its end the journal has failed or
+    -- not; from the request on at which it failed, each is refused.
+    pub record TalksKept (failed : Bool) (input text : List ℕ) : Type 0 where
+      pub settings : Settings
+      pub is_given : talk_settings arguments ≡ Ok settings
+      pub found : D
+      pub opened : D
+      pub last : D
+      pub before : PlainBook
+      pub after : KeptState
+      pub outlives : OutlivesCrash settings found opened last before after.book
+      pub failed_is : after.has_failed ≡ failed
+      pub ended : Ended
+      pub conversation : Conversation IsJournalStep before.settings.numbers.max_size (moments_at arguments.moment)
+          (record { input = input; text = text; before = working before; after = after }) ended
+
+    -- these bytes were read and this text was written in such a conversation, until a stream failed
+    pub record BreaksKept (got text : List ℕ) : Type 0 where
+      pub settings : Settings
+      pub is_given : talk_settings arguments ≡ Ok settings
+      pub found : D
+      pub opened : D
+      pub last : D
+      pub before : PlainBook
+      pub after : KeptState
+      pub outlives : OutlivesCrash settings found opened last before after.book
+      pub fault : WireFault
+      pub breaks : Breaks IsJournalStep before.settings.numbers.max_size (moments_at arguments.moment)
+          (record { input = got; text = text; before = working before; after = after }) fault
+
+    -- The conversation ended, in whatever way: where the bytes of both streams are known, what was written is the text of
+    -- the conversation of the whole input. Neither stream has failed.
+    pub record HoldsKept (failed : Bool) : Type 0 where
+      pub settings : IsOk (talk_settings arguments)
+      pub talks : (input before : List ℕ) → reader.before ≡ Some input → writer.before ≡ Some before
+          → (text : List ℕ) × (writer.after ≡ Some (before ++ text)) × TalksKept failed input text
+      pub reader_alive : IsAlive reader
+      pub writer_alive : IsAlive writer
+
+    -- A stream has failed: what was read and written is such a conversation, broken off.
+    pub record LosesKept : Type 0 where
+      pub got : List ℕ
+      pub text : List ℕ
+      pub consumes : Consumes reader.before reader.after got
+      pub appends : Appends writer.before writer.after text
+      pub breaks : BreaksKept got text
+
+    -- the journal could not be had, or it failed, and the conversation went on to its end
+    abbrev pub LacksJournal : JournalFault → Type 0
+    LacksJournal why = (IsUntouched reader × IsUntouched writer) ⊎ ((why ≡ Disk) × HoldsKept true)
+
+    -- How `talk --journal` ends: it held its conversation, or lost it to a stream that is named, or refused the settings, or
+    -- lacked its journal, or lacked memory to begin with.
+    abbrev pub KeptTalkEnds : {T : Type 0} → Result T RunFault → Type 0
+    KeptTalkEnds (Ok _) = HoldsKept false
+    KeptTalkEnds (Err (run.Wire cause)) = LosesKept × NamesCause reader.has_failed writer.has_failed cause
+    KeptTalkEnds (Err (run.Settings why)) = (talk_settings arguments ≡ Err why) × IsUntouched reader × IsUntouched writer
+    KeptTalkEnds (Err (run.Journal why)) = IsOk (talk_settings arguments) × LacksJournal why
+    KeptTalkEnds (Err run.Memory) = KeepsStreams arguments reader writer
+    KeptTalkEnds (Err run.Address) = ⊥
+    KeptTalkEnds (Err run.Ports) = ⊥
+    KeptTalkEnds (Err run.Words) = ⊥

@@ -1,0 +1,64 @@
+//! The command `talk` with a journal.
+ghost use Rattle.std.specs.Prelude.{◌≡◌, false};
+ghost use Rattle.server_words.specs.Arguments.{talk_arguments_of};
+ghost use Rattle.server_words.specs.StreamUse.{used};
+ghost use Rattle.tus_program.specs.KeptTalk.{KeptTalkEnds};
+
+use crate::at_journal::AtJournal;
+use http_wire::{Sink, Source, converse};
+use journal_folders::{Folder, Journals, open_kept, open_renewed};
+use server_words::{JournalFault, RunFault, TalkOptions, settings_with};
+use sqlite_disk::Disk;
+use std::alloc::Global;
+use tus_workers::MESSAGES_MAX;
+
+/// Holds one conversation over `reader` and `writer`, on the book that the journal in the folder at `path` keeps, with the
+/// settings of the options: where others stand beside it, it is put back under these first ([`open_renewed`]). Each message has
+/// the moment of the options, and at most 4,096 are read. No reply tells of a change before the journal has it, so a crash at any moment loses nothing of what
+/// was told.
+///
+/// It is `Ok` where the conversation ended, in whatever way. The error is the fault of the settings, or the journal's, and then
+/// both streams are untouched; `RunFault::Wire` with the stream where a read or a write failed; or `RunFault::Memory` where
+/// memory was lacking to begin with, and then nothing was read or written. Where a read, a write or a sync of the file fails
+/// later, that request and all after it are refused as Memory, and the error is the journal's, `JournalFault::Disk`, once the
+/// conversation has ended.
+pub fn talk_kept<D: Disk, J: Journals<Disk = D>, R: Source, W: Sink>(
+    journals: &J,
+    alloc: Global,
+    options: &TalkOptions,
+    path: &str,
+    reader: &mut R,
+    writer: &mut W,
+) -> Result<(), RunFault>
+where
+    D: Drop,
+    requires reader { R.has_failed reader.old ≡ false }
+    requires writer { W.has_failed writer.old ≡ false }
+    ensures { KeptTalkEnds D.seen D.may_leave D.is_clean (talk_arguments_of options.now)
+        (used R.remaining R.has_failed reader.old reader.new)
+        (used W.contents W.has_failed writer.old writer.new) result }
+{
+    let settings = settings_with(alloc, options.numbers, options.tenants)?;
+    let folder = open_renewed(journals, alloc, path, &settings)?;
+    let Folder {
+        disk,
+        mut file,
+        place: _place,
+    } = folder;
+    let kept = open_kept(alloc, &mut file, disk, settings)?;
+    let mut at = AtJournal {
+        kept,
+        has_failed: false,
+    };
+    converse(
+        alloc,
+        reader,
+        writer,
+        &mut at,
+        &[options.moment; MESSAGES_MAX],
+    )?;
+    if at.has_failed {
+        return Err(RunFault::Journal(JournalFault::Disk));
+    }
+    Ok(())
+}

@@ -1,0 +1,16 @@
+//! What the program `tus-server` does, over streams, sockets and folders: its commands, from the words of the command line to
+//! the exit status.
+#![tactic(auto)]
+
+mod at_journal;
+mod keeping;
+mod kept_serve;
+mod kept_talk;
+mod lines;
+mod program;
+mod progress;
+mod serve;
+mod started;
+mod talk;
+
+pub use program::run;

@@ -1,6 +1,0 @@
-use Rattle.upload_book.specs.Book.{plain_of}
-use Rattle.tus_server.proofs.HeldLemmas.{IsHeldSoFar}
-use Rattle.tus_server.proofs.held.held_in.Given as goal
-
-abbrev pub invariant-loop-tenant : goal.invariant-loop-tenant
-invariant-loop-tenant l = IsHeldSoFar (plain_of l.book) l.tenant l.all
