@@ -4,8 +4,8 @@
     bench/journal/churn.py PROGRAM FOLDER [SECONDS]
 
 Eight clients create uploads, send their bytes and delete them, as fast as they can, so that a minute has as much as hours of
-most servers. Twenty times a second the size of the file is held against three times the bytes of the blocks that are held, and
-64 MiB and the room ahead. In the end the server is killed and started again, and each upload that is left has the bytes that
+most servers. Twenty times a second the size of the file is held against three times the bytes of the blocks that were held, at
+most, in the last two seconds, and 64 MiB and the room ahead: a file that was longer before is cut within one. In the end the server is killed and started again, and each upload that is left has the bytes that
 were sent. It fails where the file was larger, or something was not as it was told.
 """
 import http.client
@@ -28,6 +28,8 @@ PART = 256 << 10
 MOST = 3 * MIB
 # By so much the file may be longer than its records: what each worker was granted, and up to a mebibyte of zeros.
 AHEAD = WORKERS * 5 * MIB + MIB
+# A connection has at most 4,096 messages.
+MESSAGES = 4000
 TYPE = 'application/offset+octet-stream'
 
 
@@ -73,7 +75,8 @@ class Client(threading.Thread):
 
     def __init__(self, server, seed, end):
         super().__init__()
-        self.link, self.random, self.end = server.connect(), random.Random(seed), end
+        self.server, self.random, self.end = server, random.Random(seed), end
+        self.link, self.asked = server.connect(), 0
         self.held, self.made, self.sent, self.fault = {}, 0, 0, None
 
     def run(self):
@@ -86,6 +89,10 @@ class Client(threading.Thread):
             self.fault = repr(fault)
 
     def ask(self, wanted, method, path, fields=None, body=b''):
+        if self.asked == MESSAGES:
+            self.link.close()
+            self.link, self.asked = self.server.connect(), 0
+        self.asked += 1
         reply = ask(self.link, method, path, fields, body)
         if reply[0] not in wanted:
             raise AssertionError(f'{method} {path}: {reply[0]} in place of one of {wanted}')
@@ -118,16 +125,28 @@ def ask(link, method, path, fields=None, body=b''):
     return reply.status, reply.headers, reply.read()
 
 
-class Sizes:
-    """What the file of a journal was like, by the numbers that were asked for."""
+def size_of(path):
+    """How many bytes a file has; 0 where there is none."""
+    try:
+        return os.path.getsize(path)
+    except FileNotFoundError:
+        return 0
 
-    def __init__(self):
-        self.live = self.records = self.file = self.last = self.shrunk = 0
-        self.beyond = -1 << 60
+
+class Sizes:
+    """What the files of a journal were like, by the numbers that were asked for and by what stands in its folder."""
+
+    def __init__(self, folder):
+        self.names = [os.path.join(folder, name) for name in ('journal', 'journal.spare')]
+        self.live = self.records = self.file = self.spare = self.last = self.shrunk = 0
+        self.beyond, self.recent = -1 << 60, []
 
     def note(self, numbers):
-        live = (BLOCKS - numbers['blocks_free']) * BLOCK
-        records, file = numbers['journal_bytes'], numbers['journal_file_bytes']
+        now = time.time()
+        self.recent = [each for each in self.recent if each[0] > now - 2] + [(now, (BLOCKS - numbers['blocks_free']) * BLOCK)]
+        live = max(held for _, held in self.recent)
+        records, (file, spare) = numbers['journal_bytes'], map(size_of, self.names)
+        self.spare = max(self.spare, spare)
         self.shrunk += records < self.last
         self.last = records
         self.live, self.records = max(self.live, live), max(self.records, records)
@@ -147,7 +166,7 @@ def compare(server, held):
 
 
 def measure(program, folder, seconds):
-    server, sizes = Server(program, folder), Sizes()
+    server, sizes = Server(program, folder), Sizes(folder)
     end = time.time() + seconds
     clients = [Client(server, seed, end) for seed in range(CLIENTS)]
     for client in clients:
@@ -165,7 +184,8 @@ def measure(program, folder, seconds):
     server.kill()
     made, sent = sum(client.made for client in clients), sum(client.sent for client in clients)
     print(f'{made} uploads with {sent // MIB} MiB in {seconds} s, at most {sizes.live / MIB:.0f} MiB held at once')
-    print(f'the records had at most {sizes.records / MIB:.0f} MiB, the file {sizes.file / MIB:.0f} MiB; '
+    print(f'the records had at most {sizes.records / MIB:.0f} MiB, the file {sizes.file / MIB:.0f} MiB, and the one '
+          f'beside it {sizes.spare / MIB:.0f} MiB; '
           f'it was made smaller {sizes.shrunk} times, and given up {sum("smaller" in line for line in told)} times')
     print(f'to three times the bytes that were held, 64 MiB and the room ahead it lacked {-sizes.beyond / MIB:.0f} MiB or more')
     print(f'after a kill all {len(held)} uploads had the bytes that were sent')

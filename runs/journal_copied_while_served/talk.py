@@ -57,7 +57,12 @@ with tempfile.TemporaryDirectory() as folder:
         told = sender.told
         copy = os.path.join(folder, f'copy{number}')
         os.mkdir(copy)
-        subprocess.run(['cp', os.path.join(uploads, 'settings'), os.path.join(uploads, 'journal'), copy], check=True)
+        # As long as the file has a second name, nothing else is written to it.
+        second = os.path.join(uploads, 'copying')
+        os.link(os.path.join(uploads, 'journal'), second)
+        subprocess.run(['cp', second, os.path.join(copy, 'journal')], check=True)
+        subprocess.run(['cp', os.path.join(uploads, 'settings'), copy], check=True)
+        os.remove(second)
         sender.is_over = True
         sender.join()
         copies.append((copy, sender.path, told))

@@ -1,8 +1,8 @@
 -- Bytes that are written over zeros, as lists: what is there, and what a crash leaves.
-use Rattle.std.proofs.Common.{◌≡◌, ◌⊎◌, ℕ, zero, suc, ◌+◌, ◌-◌, ◌<◌, ◌≤◌, List, ◌++◌, length, get_or, take, drop, refl, sym, ap, ◌∙◌, arith, length-append, inl, inr}
+use Rattle.std.proofs.Common.{◌≡◌, ◌⊎◌, ℕ, zero, suc, ◌+◌, ◌-◌, ◌<◌, ◌≤◌, List, ◌++◌, length, get_or, take, drop, refl, sym, ap, subst, ◌∙◌, arith, length-append, inl, inr}
 use Rattle.std.proofs.lemmas.Bool.{cases_lt}
 use Rattle.std.proofs.lemmas.List.{ext_get_or, get_or_append_left, get_or-append-add, get_or-take, length-take, length-replicate, replicate-append-replicate, take-append-drop}
-use Rattle.sqlite_disk.specs.Disk.{Holds, Mixed, Torn}
+use Rattle.sqlite_disk.specs.Disk.{Cut, Holds, Mixed, Torn}
 use Rattle.journal_frames.specs.Crash.{zeros}
 use Rattle.journal_file.specs.Journal.{MayLose}
 
@@ -64,25 +64,6 @@ overwritten front middle bytes others seen same_len torn holds = ext_get_or 0 se
           rw is (kept ∙ old ∙ sym (at-third front bytes others j))
     ]
 
--- what was written at the end of a file stands behind what it had, and nothing behind that
-pub put_behind : (front bytes seen : List ℕ) → Torn (length front) (length bytes) front seen → (0 < length bytes → Holds seen (length front) bytes) → seen ≡ front ++ bytes
-put_behind front bytes seen torn holds = ext_get_or 0 seen (front ++ bytes) len each
-  where
-    long : length front + length bytes ≤ length seen
-    long = elim (cases_lt 0 (length bytes)) [ inl some ↦ (holds some).within | inr none ↦ omega (arith, torn.no_shorter) ]
-
-    len : length seen ≡ length (front ++ bytes)
-    len = omega (arith, torn.no_longer, long, length-append front bytes)
-
-    each : (i : ℕ) → i < length seen → get_or seen i 0 ≡ get_or (front ++ bytes) i 0
-    each i within = elim (place (length front) (length bytes) i) [
-      | in_front lt ↦ torn.below i lt lt ∙ sym (at-front front bytes i lt)
-      | at_place j lt is ↦
-          let here : get_or seen (length front + j) 0 ≡ get_or bytes j 0 = (holds (omega arith)).each j lt in
-          rw is (here ∙ sym (get_or-append-add front bytes j 0))
-      | behind j is ↦ absurd (omega (arith, len, length-append front bytes))
-    ]
-
 -- so many zeros, where others stand
 pub zeros-split : (n k : ℕ) → k ≤ n → zeros n ≡ zeros k ++ zeros (n - k)
 zeros-split n k le = ap zeros (omega arith) ∙ sym (replicate-append-replicate k (n - k) 0)
@@ -102,35 +83,54 @@ front-torn at n front rest left is torn = sym (take-append-drop (length front) l
             let below : i < length front = omega (arith, length-take (length front) left) in
             get_or-take (length front) left i 0 below ∙ torn.below i (omega (arith, length-append front rest)) (omega arith) ∙ get_or_append_left front rest 0 i below
 
--- a file of which so much is known, behind which zeros were written
-pub grown : (front rest seen : List ℕ) (n : ℕ) → Torn (length front) n (front ++ rest) seen → (0 < n → Holds seen (length front) (zeros n)) → seen ≡ (front ++ zeros n) ++ drop (length front + n) seen
-grown front rest seen n torn holds = sym (take-append-drop (length front + n) seen) ∙ ap (λ (t : List ℕ). t ++ drop (length front + n) seen) same
+-- what a file begins with stays where it is cut behind it
+pub front-cut : (n : ℕ) (front rest left : List ℕ) → length front ≡ n → Cut n (front ++ rest) left → left ≡ front ++ drop (length front) left
+front-cut n front rest left is cut = sym (take-append-drop (length front) left) ∙ ap (λ (t : List ℕ). t ++ drop (length front) left) same
   where
-    long : length front + n ≤ length seen
-    long = elim (cases_lt 0 n) [
-      | inl some ↦ omega (arith, (holds some).within, length-replicate {A = ℕ} n 0)
+    long : length front ≤ length left
+    long = omega (arith, cut.no_shorter, is, length-append front rest)
+
+    same : take (length front) left ≡ front
+    same = ext_get_or 0 (take (length front) left) front (omega (arith, length-take (length front) left, long)) each
+      where
+        each : (i : ℕ) → i < length (take (length front) left) → get_or (take (length front) left) i 0 ≡ get_or front i 0
+        each i lt =
+            let below : i < length front = omega (arith, length-take (length front) left) in
+            get_or-take (length front) left i 0 below ∙ cut.below i (omega (arith, length-append front rest)) (omega (arith, is)) ∙ get_or_append_left front rest 0 i below
+
+-- a file of which so much is known, behind which bytes were written
+pub grown : (front rest bytes seen : List ℕ) → Torn (length front) (length bytes) (front ++ rest) seen → (0 < length bytes → Holds seen (length front) bytes) → seen ≡ (front ++ bytes) ++ drop (length front + length bytes) seen
+grown front rest bytes seen torn holds = sym (take-append-drop (length front + length bytes) seen) ∙ ap (λ (t : List ℕ). t ++ drop (length front + length bytes) seen) same
+  where
+    long : length front + length bytes ≤ length seen
+    long = elim (cases_lt 0 (length bytes)) [
+      | inl some ↦ (holds some).within
       | inr none ↦ omega (arith, torn.no_shorter, length-append front rest)
     ]
 
-    len : length (take (length front + n) seen) ≡ length front + n
-    len = omega (arith, length-take (length front + n) seen, long)
+    len : length (take (length front + length bytes) seen) ≡ length front + length bytes
+    len = omega (arith, length-take (length front + length bytes) seen, long)
 
-    len_new : length (front ++ zeros n) ≡ length front + n
-    len_new = omega (arith, length-append front (zeros n), length-replicate {A = ℕ} n 0)
-
-    same : take (length front + n) seen ≡ front ++ zeros n
-    same = ext_get_or 0 (take (length front + n) seen) (front ++ zeros n) (omega (arith, len, len_new)) each
+    same : take (length front + length bytes) seen ≡ front ++ bytes
+    same = ext_get_or 0 (take (length front + length bytes) seen) (front ++ bytes) (omega (arith, len, length-append front bytes)) each
       where
-        each : (i : ℕ) → i < length (take (length front + n) seen) → get_or (take (length front + n) seen) i 0 ≡ get_or (front ++ zeros n) i 0
+        each : (i : ℕ) → i < length (take (length front + length bytes) seen) → get_or (take (length front + length bytes) seen) i 0 ≡ get_or (front ++ bytes) i 0
         each i within =
-            let taken : get_or (take (length front + n) seen) i 0 ≡ get_or seen i 0 = get_or-take (length front + n) seen i 0 (omega (arith, len)) in
-            elim (place (length front) n i) [
-              | in_front lt ↦ taken ∙ torn.below i (omega (arith, length-append front rest)) lt ∙ get_or_append_left front rest 0 i lt ∙ sym (at-front front (zeros n) i lt)
+            let taken : get_or (take (length front + length bytes) seen) i 0 ≡ get_or seen i 0 = get_or-take (length front + length bytes) seen i 0 (omega (arith, len)) in
+            elim (place (length front) (length bytes) i) [
+              | in_front lt ↦ taken ∙ torn.below i (omega (arith, length-append front rest)) lt ∙ get_or_append_left front rest 0 i lt ∙ sym (at-front front bytes i lt)
               | at_place j lt is ↦
-                  let here : get_or seen (length front + j) 0 ≡ get_or (zeros n) j 0 = (holds (omega arith)).each j (omega (arith, length-replicate {A = ℕ} n 0)) in
-                  taken ∙ ap (λ (k : ℕ). get_or seen k 0) is ∙ here ∙ sym (get_or-append-add front (zeros n) j 0) ∙ ap (λ (k : ℕ). get_or (front ++ zeros n) k 0) (sym is)
+                  let here : get_or seen (length front + j) 0 ≡ get_or bytes j 0 = (holds (omega arith)).each j lt in
+                  taken ∙ ap (λ (k : ℕ). get_or seen k 0) is ∙ here ∙ sym (get_or-append-add front bytes j 0) ∙ ap (λ (k : ℕ). get_or (front ++ bytes) k 0) (sym is)
               | behind j is ↦ absurd (omega (arith, len))
             ]
+
+-- the same, where the bytes are zeros
+pub zeros-grown : (front rest seen : List ℕ) (n : ℕ) → Torn (length front) n (front ++ rest) seen → (0 < n → Holds seen (length front) (zeros n)) → seen ≡ (front ++ zeros n) ++ drop (length front + n) seen
+zeros-grown front rest seen n torn holds =
+    let len : length (zeros n) ≡ n = length-replicate {A = ℕ} n 0 in
+    grown front rest (zeros n) seen (subst (λ (k : ℕ). Torn (length front) k (front ++ rest) seen) (sym len) torn) (λ some. holds (omega (arith, len)))
+    ∙ ap (λ (k : ℕ). (front ++ zeros n) ++ drop (length front + k) seen) len
 
 -- a write within what a file begins with
 pub mixed-front : (at : ℕ) (bytes front rest left : List ℕ) → at + length bytes ≤ length front → Mixed at bytes (front ++ rest) left → Mixed at bytes front (take (length front) left)

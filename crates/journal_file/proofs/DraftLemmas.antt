@@ -1,5 +1,5 @@
 -- What each call of a draft makes of its file.
-use Rattle.std.proofs.Common.{◌≡◌, ℕ, ◌+◌, ◌<◌, List, [], ◌++◌, length, sym, ap, subst, ◌∙◌, arith, length-append}
+use Rattle.std.proofs.Common.{◌≡◌, ℕ, ◌+◌, ◌<◌, List, [], ◌++◌, length, drop, refl, sym, ap, subst, ◌∙◌, arith, length-append}
 use Rattle.std.specs.List.{AllByRecursion}
 use Rattle.std.proofs.lemmas.List.{length-replicate}
 use Rattle.sqlite_disk.specs.Disk.{Holds, Only, Torn}
@@ -9,19 +9,25 @@ use Rattle.journal_frames.specs.Frames.{frames, Fits}
 use Rattle.journal_file.specs.declared.draft.Draft.{Draft}
 use Rattle.journal_file.specs.declared.journal.Journal.{Journal}
 use Rattle.journal_file.specs.Draft.{IsDraft}
-use Rattle.journal_file.specs.Journal.{IsJournal}
-use Rattle.journal_file.proofs.Bytes.{put_behind}
+use Rattle.journal_file.specs.Journal.{BeginsWith, IsJournal}
+use Rattle.journal_file.proofs.Bytes.{grown}
 use Rattle.journal_file.proofs.JournalLemmas.{journal_opened}
 use Rattle.journal_file.proofs.Losses.{AllByRecursion-append, frames-append}
 
 module _ {D : Type 0} {g : Ghosts D} where
-  -- what the file has once these bytes were written behind its frames
+  -- what the file begins with once these bytes were written behind its frames
   written_behind : (draft : Draft D g) (payloads : List (List ℕ)) (bytes seen : List ℕ) → IsDraft draft payloads → Torn draft.end (length bytes) (g.seen draft.disk) seen → (0 < length bytes → Holds seen draft.end bytes)
-      → seen ≡ frames draft.key payloads ++ bytes
+      → BeginsWith (frames draft.key payloads ++ bytes) seen
   written_behind draft payloads bytes seen is torn holds =
       let front = frames draft.key payloads in
-      let torn_here = subst (λ (n : ℕ). Torn n (length bytes) front seen) (sym is.place) (subst (λ (t : List ℕ). Torn draft.end (length bytes) t seen) is.file torn) in
-      put_behind front bytes seen torn_here (subst (λ (n : ℕ). 0 < length bytes → Holds seen n bytes) (sym is.place) holds)
+      let torn_here = subst (λ (n : ℕ). Torn n (length bytes) (front ++ is.file.rest) seen) (sym is.place) (subst (λ (t : List ℕ). Torn draft.end (length bytes) t seen) is.file.is torn) in
+      record {
+        rest = drop (length front + length bytes) seen;
+        is = grown front is.file.rest bytes seen torn_here (subst (λ (n : ℕ). 0 < length bytes → Holds seen n bytes) (sym is.place) holds);
+      }
+
+  pub draft_begun : (draft : Draft D g) → draft.end ≡ 0 → IsDraft draft []
+  draft_begun draft end = record { file = record { rest = g.seen draft.disk; is = refl }; place = sym end; fits = tt }
 
   pub draft_appended : (old new : Draft D g) (payloads more : List (List ℕ)) (bytes : List ℕ) → IsDraft old payloads → AllByRecursion Fits more → bytes ≡ frames old.key more → new.key ≡ old.key → new.end ≡ old.end + length bytes
       → Torn old.end (length bytes) (g.seen old.disk) (g.seen new.disk) → (0 < length bytes → Holds (g.seen new.disk) old.end bytes)
@@ -31,7 +37,7 @@ module _ {D : Type 0} {g : Ghosts D} where
       let all : front ++ bytes ≡ frames new.key (payloads ++ more) =
       ap (λ (t : List ℕ). front ++ t) are ∙ sym (frames-append old.key payloads more) ∙ ap (λ (k : ℕ). frames k (payloads ++ more)) (sym key) in
       record {
-        file = written_behind old payloads bytes (g.seen new.disk) is torn holds ∙ all;
+        file = subst (λ (t : List ℕ). BeginsWith t (g.seen new.disk)) all (written_behind old payloads bytes (g.seen new.disk) is torn holds);
         place = omega (arith, ap length all, length-append front bytes, is.place, end);
         fits = AllByRecursion-append payloads more is.fits fit;
       }
@@ -45,6 +51,6 @@ module _ {D : Type 0} {g : Ghosts D} where
       let torn_here = subst (λ (k : ℕ). Torn draft.end k (g.seen draft.disk) seen) (sym n) torn in
       let file = written_behind draft payloads (zeros journal.blank) seen is torn_here (λ some. holds (omega (arith, n))) in
       journal_opened journal payloads
-      (file ∙ ap (λ (k : ℕ). frames k payloads ++ zeros journal.blank) (sym key))
+      (subst (λ (k : ℕ). BeginsWith (frames k payloads ++ zeros journal.blank) seen) (sym key) file)
       (ap (λ (k : ℕ). length (frames k payloads)) key ∙ is.place ∙ sym end)
       is.fits only

@@ -2,13 +2,13 @@
 use Rattle.std.proofs.Common.{◌≡◌, ℕ, ◌+◌, ◌-◌, ◌<◌, ◌≤◌, List, [], ◌++◌, length, take, drop, Result, Ok, Err, OnErr, inl, inr, sym, ap, subst, ◌∙◌, append_assoc, arith, length-append}
 use Rattle.std.specs.List.{AllByRecursion}
 use Rattle.std.proofs.lemmas.List.{append-nil, length-replicate, replicate-append-replicate, take-append-drop, take-append-le}
-use Rattle.sqlite_disk.specs.Disk.{Follows, Holds, Mixed, Only, Torn}
+use Rattle.sqlite_disk.specs.Disk.{Cut, Follows, Holds, Mixed, Only, Torn}
 use Rattle.journal_frames.specs.Crash.{Leaves, zeros}
 use Rattle.journal_frames.specs.Frames.{frames, Fits}
 use Rattle.sqlite_disk.specs.declared.Disk.{Ghosts}
 use Rattle.journal_file.specs.declared.journal.Journal.{Journal}
 use Rattle.journal_file.specs.Journal.{BeginsWith, IsJournal, LeavesOldOr, LosesOf, MayLose}
-use Rattle.journal_file.proofs.Bytes.{front-torn, grown, lost_after, mixed-front, overwritten, zeros-split}
+use Rattle.journal_file.proofs.Bytes.{front-cut, front-torn, lost_after, mixed-front, overwritten, zeros-grown, zeros-split}
 use Rattle.journal_file.proofs.Losses.{AllByRecursion-append, frames-append, leaves_with, lost-refl}
 
 more_frames : (key : ℕ) (synced unsynced more : List (List ℕ)) (bytes rest : List ℕ) → bytes ≡ frames key more → frames key (synced ++ unsynced) ++ (bytes ++ rest) ≡ frames key (synced ++ (unsynced ++ more)) ++ rest
@@ -60,16 +60,13 @@ module _ {D : Type 0} {g : Ghosts D} where
     loss = λ c left. lost_none (length (frames journal.key payloads)) _ (g.seen journal.disk) c file (only c left);
   }
 
-  -- one that was recovered
-  pub journal_opened : (journal : Journal D g) (payloads : List (List ℕ)) → g.seen journal.disk ≡ frames journal.key payloads ++ zeros journal.blank → length (frames journal.key payloads) ≡ journal.end → AllByRecursion Fits payloads
+  -- one that was recovered, or written beside another
+  pub journal_opened : (journal : Journal D g) (payloads : List (List ℕ)) → BeginsWith (frames journal.key payloads ++ zeros journal.blank) (g.seen journal.disk) → length (frames journal.key payloads) ≡ journal.end → AllByRecursion Fits payloads
       → Only (g.seen journal.disk) (g.may_leave journal.disk) → IsJournal journal payloads []
   journal_opened journal payloads file place fits only =
       let all : frames journal.key (payloads ++ []) ≡ frames journal.key payloads = ap (frames journal.key) (append-nil payloads) in
       journal_synced journal payloads
-      (record {
-        rest = [];
-        is = file ∙ ap (λ (t : List ℕ). t ++ zeros journal.blank) (sym all) ∙ sym (append-nil (frames journal.key (payloads ++ []) ++ zeros journal.blank));
-      })
+      (record { rest = file.rest; is = file.is ∙ ap (λ (t : List ℕ). (t ++ zeros journal.blank) ++ file.rest) (sym all) })
       (ap length all ∙ place) fits only
 
   -- ---- an append
@@ -191,7 +188,7 @@ module _ {D : Type 0} {g : Ghosts D} where
       let front = frames old.key all ++ zeros old.blank in
       let len = front_len old synced unsynced is in
       let torn_here = subst (λ (at : ℕ). Torn at n (front ++ is.file.rest) (g.seen new.disk)) (sym len) (subst (λ (t : List ℕ). Torn (old.end + old.blank) n t (g.seen new.disk)) is.file.is torn) in
-      let bigger = grown front is.file.rest (g.seen new.disk) n torn_here (subst (λ (at : ℕ). 0 < n → Holds (g.seen new.disk) at (zeros n)) (sym len) holds) in
+      let bigger = zeros-grown front is.file.rest (g.seen new.disk) n torn_here (subst (λ (at : ℕ). 0 < n → Holds (g.seen new.disk) at (zeros n)) (sym len) holds) in
       let rest = drop (length front + n) (g.seen new.disk) in
       let same : front ++ zeros n ≡ frames new.key (all ++ []) ++ zeros new.blank =
       append_assoc (frames old.key all) (zeros old.blank) (zeros n)
@@ -203,6 +200,44 @@ module _ {D : Type 0} {g : Ghosts D} where
       (record { rest = rest; is = bigger ∙ ap (λ (t : List ℕ). t ++ rest) same })
       (ap (λ (k : ℕ). length (frames k (all ++ []))) key ∙ ap (λ (ps : List (List ℕ)). length (frames old.key ps)) (append-nil all) ∙ is.place ∙ sym end)
       (AllByRecursion-append synced unsynced is.fits is.more_fits) only
+
+  -- ---- a cut behind the zeros
+
+  pub shorten_keeps : (old new : Journal D g) (synced unsynced : List (List ℕ)) → IsJournal old synced unsynced → new.key ≡ old.key → new.end ≡ old.end → new.blank ≡ old.blank
+      → Cut (old.end + old.blank) (g.seen old.disk) (g.seen new.disk) → Follows (Cut (old.end + old.blank)) (g.may_leave old.disk) (g.may_leave new.disk)
+      → IsJournal new synced unsynced
+  shorten_keeps old new synced unsynced is key end blank cut follows = record {
+    file = subst (λ (t : List ℕ). BeginsWith t (g.seen new.disk)) same (record { rest = drop (length front) (g.seen new.disk); is = front-cut n front is.file.rest (g.seen new.disk) len (subst (λ (t : List ℕ). Cut n t (g.seen new.disk)) is.file.is cut) });
+    place = ap (λ (k : ℕ). length (frames k (synced ++ unsynced))) key ∙ is.place ∙ sym end;
+    fits = is.fits;
+    more_fits = is.more_fits;
+    loss = λ c left.
+        subst (λ (t : List ℕ). LosesOf (length (frames new.key synced)) t c) same
+        (subst (λ (k : ℕ). LosesOf (length (frames k synced)) front c) (sym key) (cut_loss c left));
+  }
+    where
+      n : ℕ
+      n = old.end + old.blank
+
+      front : List ℕ
+      front = frames old.key (synced ++ unsynced) ++ zeros old.blank
+
+      len : length front ≡ n
+      len = front_len old synced unsynced is
+
+      same : front ≡ frames new.key (synced ++ unsynced) ++ zeros new.blank
+      same = ap (λ (k : ℕ). frames k (synced ++ unsynced) ++ zeros old.blank) (sym key) ∙ ap (λ (m : ℕ). frames new.key (synced ++ unsynced) ++ zeros m) (sym blank)
+
+      cut_loss : (c : List ℕ) → g.may_leave new.disk c → LosesOf (length (frames old.key synced)) front c
+      cut_loss c left =
+          let from = follows c left in
+          let loss = is.loss from.0 from.1 in
+          let kept_len : length loss.kept ≡ n = loss.lost.len ∙ len in
+          record {
+            kept = loss.kept;
+            lost = loss.lost;
+            begins = record { rest = drop (length loss.kept) c; is = front-cut n loss.kept loss.begins.rest c kept_len (subst (λ (t : List ℕ). Cut n t c) loss.begins.is from.2) };
+          }
 
   -- ---- a sync
 

@@ -3,3 +3,4 @@ pub mod DraftLemmas
 pub mod JournalLemmas
 pub mod Losses
 pub mod RecoverLemmas
+pub mod Zeros

@@ -1,6 +1,7 @@
 -- A file that is read frame by frame, and its tail that is cleared.
-use Rattle.std.proofs.Common.{◌≡◌, ◌≢◌, ◌⊎◌, ℕ, zero, suc, ◌+◌, ◌-◌, ◌<◌, ◌≤◌, List, [], ◌∷◌, ◌++◌, length, get_or, take, drop, refl, sym, ap, subst, ◌∙◌, append_assoc, arith, length-append, inl, inr}
+use Rattle.std.proofs.Common.{◌≡◌, ◌≢◌, ◌⊎◌, ℕ, ◌+◌, ◌-◌, ◌<◌, ◌≤◌, List, [], ◌∷◌, ◌++◌, length, get_or, take, drop, refl, sym, ap, subst, ◌∙◌, append_assoc, arith, length-append, inl, inr}
 use Rattle.std.specs.List.{AllByRecursion}
+use Rattle.std.proofs.lemmas.Bool.{cases_lt}
 use Rattle.std.proofs.lemmas.List.{append-nil, drop_at, ext_get_or, get_or_append_left, get_or-drop, get_or-take, length-drop, length-replicate, length-take, take_at, take-append-drop}
 use Rattle.sqlite_disk.specs.Disk.{Holds, Mixed, Only, Torn as WasTorn}
 use Rattle.journal_frames.specs.Crash.{IsTornTail, Loses, zeros}
@@ -8,11 +9,11 @@ use Rattle.journal_frames.specs.Frames.{frame, frames, recovered, tail_of, Fits}
 use Rattle.journal_frames.specs.declared.tail.Tail.TheVariants.{Torn}
 use Rattle.journal_frames.proofs.TornTails.{stays_torn}
 use Rattle.journal_frames.proofs.WholeFrames.{frames_again}
-use Rattle.journal_file.specs.Journal.{LeavesOldOr}
+use Rattle.journal_file.specs.Journal.{BeginsWith, LeavesOldOr}
 use Rattle.journal_file.specs.JournalError.{IsDamagedAt}
 use Rattle.journal_file.specs.Recovered.{EndsAt}
 use Rattle.journal_file.specs.declared.error.Damage.{Damage}
-use Rattle.journal_file.proofs.Bytes.{overwritten, zeros-at}
+use Rattle.journal_file.proofs.Bytes.{zeros-at, zeros-grown}
 use Rattle.journal_file.proofs.Losses.{AllByRecursion-append, frames-append, loses_by_index}
 
 -- ---- reading
@@ -104,22 +105,23 @@ room_behind key file rest count so_far none torn = omega (arith, tail_is_long ke
 -- ---- clearing
 
 module _ (key : ℕ) (file : List ℕ) (end : ℕ) (ends : EndsAt key file end) where
-  pub cleared : (seen : List ℕ) (n : ℕ) → n ≡ length file - end → WasTorn end n file seen → (0 < n → Holds seen end (zeros n)) → seen ≡ frames key (recovered key file) ++ zeros n
-  cleared seen n is torn holds =
-      let len : length (drop end file) ≡ length (zeros n) = omega (arith, length-drop end file, length-replicate {A = ℕ} n 0) in
-      let whole : file ≡ frames key (recovered key file) ++ (drop end file ++ []) = ends.whole ∙ ap (λ (t : List ℕ). frames key (recovered key file) ++ t) (sym (append-nil (drop end file))) in
-      let torn_here = subst (λ (t : List ℕ). WasTorn (length (frames key (recovered key file))) (length (zeros n)) t seen) whole (subst (λ (k : ℕ). WasTorn (length (frames key (recovered key file))) k file seen) (sym (length-replicate n 0)) (subst (λ (at : ℕ). WasTorn at n file seen) (sym ends.place) torn)) in
-      let holds_here : 0 < length (zeros n) → Holds seen (length (frames key (recovered key file))) (zeros n) = λ some. subst (λ (at : ℕ). Holds seen at (zeros n)) (sym ends.place) (holds (omega (arith, length-replicate {A = ℕ} n 0))) in
-      overwritten (frames key (recovered key file)) (drop end file) (zeros n) [] seen len torn_here holds_here ∙ ap (λ (t : List ℕ). frames key (recovered key file) ++ t) (append-nil (zeros n))
+  pub cleared : (seen : List ℕ) (n : ℕ) → WasTorn end n file seen → (0 < n → Holds seen end (zeros n)) → BeginsWith (frames key (recovered key file) ++ zeros n) seen
+  cleared seen n torn holds =
+      let front = frames key (recovered key file) in
+      let torn_here = subst (λ (at : ℕ). WasTorn at n (front ++ drop end file) seen) (sym ends.place) (subst (λ (t : List ℕ). WasTorn end n t seen) ends.whole torn) in
+      record {
+        rest = drop (length front + n) seen;
+        is = zeros-grown front (drop end file) seen n torn_here (subst (λ (at : ℕ). 0 < n → Holds seen at (zeros n)) (sym ends.place) holds);
+      }
 
   -- what a crash leaves meanwhile
-  cleared_torn : (n : ℕ) (c : List ℕ) → n ≡ length file - end → Mixed end (zeros n) file c → recovered key c ≡ recovered key file
+  cleared_torn : (n : ℕ) (c : List ℕ) → n ≤ length file - end → Mixed end (zeros n) file c → recovered key c ≡ recovered key file
   cleared_torn n c is mixed = ap (recovered key) c_is ∙ (frames_again key (recovered key file) (drop end c) ends.fits).0 ∙ ap (λ (ps : List (List ℕ)). recovered key file ++ ps) still.none ∙ append-nil (recovered key file)
     where
       long : length file ≡ end + length (drop end file)
       long = omega (arith, ap length ends.whole, length-append (frames key (recovered key file)) (drop end file), ends.place)
 
-      all : n ≡ length (drop end file)
+      all : n ≤ length (drop end file)
       all = omega (arith, is, long)
 
       len : length c ≡ length file
@@ -141,15 +143,19 @@ module _ (key : ℕ) (file : List ℕ) (end : ℕ) (ends : EndsAt key file end) 
 
       each : (i : ℕ) → i < length (drop end file) → (get_or (drop end c) i 0 ≡ get_or (drop end file) i 0) ⊎ (get_or (drop end c) i 0 ≡ 0)
       each i lt =
-          elim (mixed.each i (omega (arith, length-replicate {A = ℕ} n 0, all)) (omega (arith, long))) [
-            | inl same ↦ inl (get_or-drop end c i 0 ∙ same ∙ sym (get_or-drop end file i 0))
-            | inr cleared_it ↦ inr (get_or-drop end c i 0 ∙ cleared_it ∙ zeros-at n i)
+          elim (cases_lt i n) [
+            | inl written ↦
+                elim (mixed.each i (omega (arith, length-replicate {A = ℕ} n 0)) (omega (arith, long))) [
+                  | inl same ↦ inl (get_or-drop end c i 0 ∙ same ∙ sym (get_or-drop end file i 0))
+                  | inr cleared_it ↦ inr (get_or-drop end c i 0 ∙ cleared_it ∙ zeros-at n i)
+                ]
+            | inr behind ↦ inl (get_or-drop end c i 0 ∙ mixed.torn.above (end + i) (omega (arith, long)) (omega (arith, length-replicate {A = ℕ} n 0)) ∙ sym (get_or-drop end file i 0))
           ]
 
       still : IsTornTail key (drop end c)
       still = (stays_torn key (drop end file) (drop end c) ends.tail (loses_by_index (drop end file) (drop end c) (omega (arith, length-drop end c, length-drop end file, len)) each)).1
 
-  pub cleared_crash : (seen : List ℕ) (n : ℕ) (old new : List ℕ → Type 0) → file ≡ seen → n ≡ length file - end → Only seen old → LeavesOldOr (Mixed end (zeros n)) old new → (c : List ℕ) → new c → recovered key c ≡ recovered key seen
+  pub cleared_crash : (seen : List ℕ) (n : ℕ) (old new : List ℕ → Type 0) → file ≡ seen → n ≤ length file - end → Only seen old → LeavesOldOr (Mixed end (zeros n)) old new → (c : List ℕ) → new c → recovered key c ≡ recovered key seen
   cleared_crash seen n old new is len only leaves_or c left = elim (leaves_or c left) [
     | inl before ↦ ap (recovered key) (only c before)
     | inr from ↦ cleared_torn n c len (subst (λ (t : List ℕ). Mixed end (zeros n) t c) (only from.0 from.1 ∙ sym is) from.2) ∙ ap (recovered key) is

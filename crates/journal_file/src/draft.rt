@@ -1,4 +1,4 @@
-ghost use Rattle.std.specs.Prelude.{◌≡◌, ◌+◌, ◌^◌, ◌<◌, ◌≤◌, ◌↔◌, ℕ, List, [], ◌++◌, true, length, ⊤, IfErr, IfOk, IsErrOf, OnOk};
+ghost use Rattle.std.specs.Prelude.{◌≡◌, ◌+◌, ◌^◌, ◌<◌, ◌≤◌, ◌↔◌, ℕ, List, [], ◌++◌, true, length, ⊤, IfErr, IfOk, IsErrOf, IsTrue, OnOk};
 ghost use Rattle.std.specs.List.{AllByRecursion};
 ghost use Rattle.sqlite_disk.specs.Disk.{MoreFaults, Only};
 ghost use Rattle.journal_frames.specs.Frames.{frames, Fits};
@@ -8,10 +8,10 @@ use crate::error::JournalError;
 use crate::filling::{check_disk, fill, sync_disk};
 use crate::journal::{Journal, LEN_MAX, MARGIN};
 use sqlite_disk::Disk;
-use std::alloc::Global;
 
-/// A journal that is written beside another one, and takes its place once it is finished. Its file has whole frames, from
-/// its first byte on, and nothing else: no zeros are written ahead, so each byte is written once.
+/// A journal that is written beside another one, and takes its place once it is finished. Its file begins with whole frames.
+/// What else it holds is never read, so it may be one that was a journal's before: a disk that has its blocks already is asked
+/// for no others. No zeros are written ahead, so each byte is written once.
 ///
 /// It counts once [`Draft::finish`] was `Ok`. A crash before that may leave any file, which is thrown away, and so is a
 /// draft of which a call of the disk failed.
@@ -28,15 +28,18 @@ impl<D: Disk> Draft<D> {
     ghost use Rattle.journal_file.specs.Draft.{draft_disk, draft_end, draft_key, IsDraft};
     ghost use Rattle.journal_file.specs.Journal.{disk_of, end_of, key_of, room_of, IsJournal};
 
-    /// Empties the file, whatever it held, and begins a draft under this key.
+    /// Begins a draft under this key in a file, whatever that holds. What it has beyond so many bytes is cut off.
     ///
     /// `Err`, at which the disk is let go, is Unusable, NotMixing, or Disk.
-    pub fn new(mut disk: D, key: u64) -> Result<Draft<D>, JournalError>
+    pub fn new(mut disk: D, key: u64, longest: usize) -> Result<Draft<D>, JournalError>
     where
         D: Drop,
         ensures begun { IfOk result (λ draft. IsDraft draft []) }
+        // Where the disk told no lie.
+        ensures short { IfOk result (λ draft. IsTrue (D.is_clean (draft_disk draft))
+            → length (D.seen (draft_disk draft)) ≤ longest) }
         ensures key { IfOk result (λ draft. draft_key draft ≡ key) }
-        ensures clean { IfOk result (λ draft. D.is_clean (draft_disk draft) ≡ D.is_clean disk) }
+        ensures clean { IfOk result (λ draft. IsTrue (D.is_clean (draft_disk draft)) → IsTrue (D.is_clean disk)) }
         ensures why { IfErr result (IsReason (record {
           no_room = ⊥;
           is_usable = D.is_usable disk;
@@ -47,7 +50,9 @@ impl<D: Disk> Draft<D> {
         })) }
     {
         check_disk(&disk)?;
-        disk.set_len(0)?;
+        if disk.len()? > longest {
+            disk.set_len(longest)?;
+        }
         Ok(Draft { disk, key, end: 0 })
     }
 
@@ -58,7 +63,7 @@ impl<D: Disk> Draft<D> {
         self.key
     }
 
-    /// How many bytes its frames have, and its file.
+    /// How many bytes its frames have.
     pub fn frames_len(&self) -> usize
         ensures value { result ≡ draft_end self.now }
         ensures frames { (payloads : List (List ℕ))
@@ -126,9 +131,9 @@ impl<D: Disk> Draft<D> {
 
     /// The journal of all that was appended: zeros for so much room are written behind the frames, and all is synced.
     ///
-    /// `Err`, at which the disk is let go, is NoRoom where the file would have more than 2^62 bytes, Unusable, NotMixing,
-    /// Memory, or Disk.
-    pub fn finish(self, alloc: Global, room: usize) -> Result<Journal<D>, JournalError>
+    /// `Err`, at which the disk is let go, is NoRoom where the frames and the zeros would have more than 2^62 bytes, Unusable,
+    /// NotMixing, or Disk.
+    pub fn finish(self, room: usize) -> Result<Journal<D>, JournalError>
     where
         D: Drop,
         ensures finished { (payloads : List (List ℕ))
@@ -143,7 +148,7 @@ impl<D: Disk> Draft<D> {
           is_usable = D.is_usable (draft_disk self);
           is_mixing = D.is_mixing (draft_disk self);
           damaged = λ _. ⊥;
-          memory = ⊤;
+          memory = ⊥;
           disk = ⊤;
         })) }
     {
@@ -153,7 +158,7 @@ impl<D: Disk> Draft<D> {
         }
         check_disk(&disk)?;
         let blank = room + MARGIN;
-        fill(alloc, &mut disk, end, blank)?;
+        fill(&mut disk, end, blank)?;
         Ok(Journal {
             disk,
             key,

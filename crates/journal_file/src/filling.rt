@@ -1,12 +1,12 @@
 //! A disk that is synced, and zeros that are written to it.
-ghost use Rattle.std.specs.Prelude.{◌≡◌, ◌+◌, ◌^◌, ◌<◌, ℕ, List, true, replicate, ⊤, IsTrue, IfErr, OnOk};
-ghost use Rattle.sqlite_disk.specs.Disk.{Holds, Mixed, MoreFaults, Only, Torn};
+ghost use Rattle.std.specs.Prelude.{◌≡◌, ◌+◌, ◌^◌, ◌<◌, ℕ, List, true, length, replicate, IsTrue, IfErr, OnOk};
+ghost use Rattle.sqlite_disk.specs.Disk.{CountsFault, Follows, Holds, Mixed, MoreFaults, Only, Torn};
 ghost use Rattle.journal_file.specs.JournalError.{IsReason, IsRefusal};
 ghost use Rattle.journal_file.specs.Journal.{LeavesOldOr};
 
 use crate::error::JournalError;
 use sqlite_disk::Disk;
-use std::alloc::Global;
+use std::io;
 
 // Whether the disk may be written to as a journal does.
 pub(crate) fn check_disk<D: Disk>(disk: &D) -> Result<(), JournalError>
@@ -55,13 +55,11 @@ pub(crate) fn sync_disk<D: Disk>(disk: &mut D) -> Result<(), JournalError>
     Ok(())
 }
 
+// How many zeros are written at a time: so few that they stay in a cache.
+const PIECE: usize = 65_536;
+
 // Writes so many zeros at a place, and syncs.
-pub(crate) fn fill<D: Disk>(
-    alloc: Global,
-    disk: &mut D,
-    at: usize,
-    len: usize,
-) -> Result<(), JournalError>
+pub(crate) fn fill<D: Disk>(disk: &mut D, at: usize, len: usize) -> Result<(), JournalError>
     requires usable { IsTrue (D.is_usable disk.old) }
     requires mixing { IsTrue (D.is_mixing disk.old) }
     requires fits { at + len < 2 ^ 64 }
@@ -76,11 +74,33 @@ pub(crate) fn fill<D: Disk>(
       is_usable = true;
       is_mixing = true;
       damaged = λ _. ⊥;
-      memory = ⊤;
+      memory = ⊥;
       disk = MoreFaults (D.faults disk.old) (D.faults disk.new);
     })) }
 {
-    let zeros = vec![in alloc; 0u8; len]?;
-    disk.write_at(at, &zeros)?;
+    write_zeros(disk, at, len, &[0u8; PIECE])?;
     sync_disk(disk)
+}
+
+// Writes so many zeros at a place, as many at a time as these are.
+fn write_zeros<D: Disk>(disk: &mut D, at: usize, len: usize, zeros: &[u8]) -> io::Result<()>
+    requires usable { IsTrue (D.is_usable disk.old) }
+    requires mixing { IsTrue (D.is_mixing disk.old) }
+    requires fits { at + len < 2 ^ 64 }
+    requires zeros { zeros.now ≡ replicate (length zeros.now) 0 }
+    requires some { 0 < length zeros.now }
+    ensures usable { IsTrue (D.is_usable disk.new) }
+    ensures filled { OnOk result (0 < len → Holds (D.seen disk.new) at (replicate len 0)) }
+    ensures others { Torn at len (D.seen disk.old) (D.seen disk.new) }
+    ensures crash { Follows (Mixed at (replicate len 0)) (D.may_leave disk.old) (D.may_leave disk.new) }
+    ensures clean { D.is_clean disk.new ≡ D.is_clean disk.old }
+    ensures faults { CountsFault result (D.faults disk.old) (D.faults disk.new) }
+{
+    let mut done: usize = 0;
+    'pieces: while done < len {
+        let piece = (len - done).min(zeros.len());
+        disk.write_at(at + done, &zeros[..piece])?;
+        done += piece;
+    }
+    Ok(())
 }

@@ -25,7 +25,7 @@ pub struct Journal<D: Disk> {
     pub(crate) key: u64,
     // where the next frame goes
     pub(crate) end: usize,
-    // how many zeros stand from there on, to the end of the file
+    // how many zeros stand from there on; what stands behind these may be anything
     pub(crate) blank: usize,
     ghost in_range: { end + blank ≤ 2 ^ 62 },
     ghost margin: { 16 ≤ blank },
@@ -53,13 +53,8 @@ impl<D: Disk> Journal<D> {
     /// Makes an empty journal under this key with so much room, over whatever the file held. A crash before it is `Ok` may
     /// leave any file.
     ///
-    /// `Err` is NoRoom where the file would have more than 2^62 bytes, Unusable, NotMixing, Memory, or Disk.
-    pub fn create(
-        alloc: Global,
-        mut disk: D,
-        key: u64,
-        room: usize,
-    ) -> Result<Journal<D>, JournalError>
+    /// `Err` is NoRoom where the file would have more than 2^62 bytes, Unusable, NotMixing, or Disk.
+    pub fn create(mut disk: D, key: u64, room: usize) -> Result<Journal<D>, JournalError>
     where
         D: Drop,
         ensures created { IfOk result (λ journal. IsJournal journal [] []) }
@@ -71,7 +66,7 @@ impl<D: Disk> Journal<D> {
           is_usable = D.is_usable disk;
           is_mixing = false;
           damaged = λ _. ⊥;
-          memory = ⊤;
+          memory = ⊥;
           disk = ⊤;
         })) }
     {
@@ -84,7 +79,7 @@ impl<D: Disk> Journal<D> {
         disk.set_len(0)?;
         check_disk(&disk)?;
         let blank = room + MARGIN;
-        fill(alloc, &mut disk, 0, blank)?;
+        fill(&mut disk, 0, blank)?;
         Ok(Journal {
             disk,
             key,
@@ -183,7 +178,8 @@ impl<D: Disk> Journal<D> {
         self.end
     }
 
-    /// How many bytes its frames and the zeros behind them have. A file that could not be made longer may have more.
+    /// How many bytes its frames and the zeros behind them have. A file that could not be made longer, or that was longer
+    /// before, may have more.
     pub fn file_len(&self) -> usize
         ensures value { result ≡ len_of self.now }
         ensures zeros { result ≡ end_of self.now + room_of self.now + 16 }
@@ -254,11 +250,40 @@ impl<D: Disk> Journal<D> {
         sync_disk(&mut self.disk)
     }
 
+    /// Cuts off what the file has behind the zeros, as one that was longer before may have. Where it fails, the journal is the one
+    /// that it was, and goes on as long as its disk may be used.
+    ///
+    /// `Err` is Unusable, or Disk.
+    pub fn shorten(&mut self) -> Result<(), JournalError>
+        ensures stays { (synced unsynced : List (List ℕ))
+            → IsJournal self.old synced unsynced
+            → IsJournal self.new synced unsynced }
+        ensures short { OnOk result (length (D.seen (disk_of self.new)) ≡ len_of self.new) }
+        ensures key { key_of self.new ≡ key_of self.old }
+        ensures end { end_of self.new ≡ end_of self.old }
+        ensures room { room_of self.new ≡ room_of self.old }
+        ensures refused { IfErr result (λ why. IsRefusal why → self.new ≡ self.old) }
+        ensures why { IfErr result (IsReason (record {
+          no_room = ⊥;
+          is_usable = D.is_usable (disk_of self.old);
+          is_mixing = true;
+          damaged = λ _. ⊥;
+          memory = ⊥;
+          disk = MoreFaults (D.faults (disk_of self.old)) (D.faults (disk_of self.new));
+        })) }
+    {
+        if !self.disk.may_be_used() {
+            return Err(JournalError::Unusable);
+        }
+        self.disk.set_len(self.end + self.blank)?;
+        Ok(())
+    }
+
     /// Makes more room: so many zeros behind the others, which are synced with all that was appended. Where it fails, the
     /// journal is the one that it was, and goes on as long as its disk may be used.
     ///
-    /// `Err` is NoRoom where the zeros would reach past 2^62 bytes, Unusable, NotMixing, Memory, or Disk.
-    pub fn extend(&mut self, alloc: Global, more: usize) -> Result<(), JournalError>
+    /// `Err` is NoRoom where the zeros would reach past 2^62 bytes, Unusable, NotMixing, or Disk.
+    pub fn extend(&mut self, more: usize) -> Result<(), JournalError>
         ensures extended { (synced unsynced : List (List ℕ))
             → IsJournal self.old synced unsynced
             → OnOk result (IsJournal self.new (synced ++ unsynced) []) }
@@ -277,7 +302,7 @@ impl<D: Disk> Journal<D> {
           is_usable = D.is_usable (disk_of self.old);
           is_mixing = D.is_mixing (disk_of self.old);
           damaged = λ _. ⊥;
-          memory = ⊤;
+          memory = ⊥;
           disk = MoreFaults (D.faults (disk_of self.old)) (D.faults (disk_of self.new));
         })) }
     {
@@ -286,7 +311,7 @@ impl<D: Disk> Journal<D> {
             return Err(JournalError::NoRoom);
         }
         check_disk(&self.disk)?;
-        fill(alloc, &mut self.disk, len, more)?;
+        fill(&mut self.disk, len, more)?;
         self.blank += more;
         Ok(())
     }

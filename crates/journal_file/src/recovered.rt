@@ -12,6 +12,10 @@ use journal_frames::{Frames, Tail};
 use sqlite_disk::Disk;
 use std::alloc::Global;
 
+// How many zeros are written behind the frames of a file that is opened, at most. A file that once had more frames than it has
+// now is long, and nothing is to be gained by clearing all of it.
+const CLEARED: usize = 4 << 20;
+
 /// What was found in a file that a crash may have left.
 #[derive(Drop)]
 pub struct Recovered {
@@ -21,8 +25,9 @@ pub struct Recovered {
     pub blank: usize,
 }
 
-/// Reads the file of a journal under this key, writes zeros over what a crash left behind its whole frames, and syncs. It
-/// may crash too, and be called again.
+/// Reads the file of a journal under this key, writes zeros behind its whole frames, over what a crash left there, and syncs:
+/// as many as the file has bytes there, and at most 4 MiB. What stands behind these may be anything. It may crash too, and be
+/// called again.
 ///
 /// `Err` is Unusable; Damaged with the place, where no crash leaves such a file of a journal under this key; NotMixing;
 /// Memory; or Disk. Where it is Damaged nothing was written.
@@ -33,6 +38,7 @@ pub fn recover<D: Disk>(alloc: Global, disk: &mut D, key: u64) -> Result<Recover
     ensures synced { OnOk result (Only (D.seen disk.new) (D.may_leave disk.new)) }
     ensures usable { OnOk result (IsTrue (D.is_usable disk.new)) }
     ensures room { IfOk result (λ found. 16 ≤ found.blank) }
+    ensures few { IfOk result (λ found. found.blank ≤ 4194304) }
     // A damaged file is left as it reads.
     ensures damaged { (damage : Damage) → IsErrOf result (JournalError.Damaged damage) → D.seen disk.new ≡ D.seen disk.old }
     // A crash meanwhile leaves what one could have left before, or the same payloads.
@@ -52,9 +58,9 @@ pub fn recover<D: Disk>(alloc: Global, disk: &mut D, key: u64) -> Result<Recover
     let mut frames = read_synced(alloc, disk)?;
     let found = whole_frames(key, &frames)?;
     let end = found.end;
-    let blank = frames.len() - end;
+    let blank = (frames.len() - end).min(CLEARED);
     check_disk(disk)?;
-    fill(alloc, disk, end, blank)?;
+    fill(disk, end, blank)?;
     frames.truncate(end);
     Ok(Recovered { frames, blank })
 }

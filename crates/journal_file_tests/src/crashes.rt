@@ -1,8 +1,8 @@
 //! A small script at a journal, and each range of bytes that a crash may lose after each step.
-use crate::payloads::{KEY, assert_crashes, assert_opens, frames_of};
+use crate::payloads::{KEY, assert_crashes, assert_opens, frames_of, has_all};
 use crate::torn_disk::TornDisk;
 use journal_file::Journal;
-use sqlite_disk::Fuse;
+use sqlite_disk::{Disk, Fuse};
 use std::alloc::Global;
 use std::process::Abort;
 use std::test::Fail;
@@ -16,7 +16,7 @@ const BC: &[u8] = b"bc";
 #[test]
 fn each_loss_after_each_step(rt: HostRuntime) -> Result<(), Fail> {
     let alloc = rt.alloc();
-    let mut journal = Journal::create(alloc, TornDisk::new(alloc), KEY, 80)?;
+    let mut journal = Journal::create(TornDisk::new(alloc), KEY, 80)?;
     assert_crashes(&rt, alloc, journal.disk(), &[], 0)?;
     journal.append(&frames_of(alloc, &[X])?)?;
     assert_crashes(&rt, alloc, journal.disk(), &[X], 0)?;
@@ -32,10 +32,10 @@ fn each_loss_after_each_step(rt: HostRuntime) -> Result<(), Fail> {
 #[test]
 fn each_loss_after_more_room(rt: HostRuntime) -> Result<(), Fail> {
     let alloc = rt.alloc();
-    let mut journal = Journal::create(alloc, TornDisk::new(alloc), KEY, 25)?;
+    let mut journal = Journal::create(TornDisk::new(alloc), KEY, 25)?;
     journal.append(&frames_of(alloc, &[X])?)?;
     assert!(rt; journal.room() == 0);
-    journal.extend(alloc, 26)?;
+    journal.extend(26)?;
     assert!(rt; journal.room() == 26);
     assert_crashes(&rt, alloc, journal.disk(), &[X], 1)?;
     journal.append(&frames_of(alloc, &[BC])?)?;
@@ -43,11 +43,29 @@ fn each_loss_after_more_room(rt: HostRuntime) -> Result<(), Fail> {
     assert_crashes(&rt, alloc, journal.disk(), &[X, BC], 1)
 }
 
+// A long file behind a torn tail is left as it is but for 4 MiB of zeros, and a journal goes on over these.
+#[test]
+fn long_file_is_opened(rt: HostRuntime) -> Result<(), Fail> {
+    let alloc = rt.alloc();
+    let mut disk = TornDisk::new(alloc);
+    assert!(rt; disk.may_be_used());
+    disk.write_at(0, &frames_of(alloc, &[X])?)?;
+    disk.write_at(25, &[0; 16])?;
+    disk.write_at(41, vec![in alloc; 1u8; 4_194_304]?.as_slice())?;
+    let journal = assert_opens(&rt, alloc, disk, &[X]);
+    assert!(rt; journal.room() == 4_194_288);
+    let bytes = journal.disk().bytes();
+    assert!(rt; bytes.len() == 4_194_345);
+    assert!(rt; has_all(bytes, 25, 4_194_304, 0));
+    assert!(rt; has_all(bytes, 4_194_329, 16, 1));
+    Ok(())
+}
+
 // A frame that lost its first bytes is gone, with all behind it, and the journal goes on.
 #[test]
 fn goes_on_after_a_crash(rt: HostRuntime) -> Result<(), Fail> {
     let alloc = rt.alloc();
-    let mut journal = Journal::create(alloc, TornDisk::new(alloc), KEY, 100)?;
+    let mut journal = Journal::create(TornDisk::new(alloc), KEY, 100)?;
     journal.append(&frames_of(alloc, &[X])?)?;
     journal.sync()?;
     journal.append(&frames_of(alloc, &[A, BC])?)?;
@@ -76,7 +94,7 @@ fn synced_before(alloc: Global, journal: &mut Journal<Fuse<TornDisk>>) -> Result
 // The disk fails at a call, and then the machine: what was told to be synced is there after each crash.
 fn assert_after_calls(rt: &impl Abort, alloc: Global, calls: u64) -> Result<usize, Fail> {
     let disk = Fuse::new(TornDisk::new(alloc), calls);
-    let Ok(mut journal) = Journal::create(alloc, disk, KEY, 80) else {
+    let Ok(mut journal) = Journal::create(disk, KEY, 80) else {
         return Ok(0);
     };
     let synced = synced_before(alloc, &mut journal)?;

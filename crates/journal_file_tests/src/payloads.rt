@@ -20,6 +20,14 @@ pub(crate) fn frames_of(alloc: Global, payloads: &[&[u8]]) -> Result<Vec<u8>, Fa
     Ok(frames)
 }
 
+/// Whether a file has this byte everywhere from a place on, so many times.
+pub(crate) fn has_all(file: &[u8], start: usize, count: usize, byte: u8) -> bool {
+    file.iter()
+        .skip(start)
+        .take(count)
+        .all(|found| *found == byte)
+}
+
 // How many of these payloads are frames at the front of a file.
 fn count_whole(alloc: Global, file: &[u8], payloads: &[&[u8]]) -> Result<usize, Fail> {
     let mut front = Vec::new(alloc);

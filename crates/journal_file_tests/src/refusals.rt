@@ -10,14 +10,14 @@ use std::test::Fail;
 #[test]
 fn no_room(rt: HostRuntime) -> Result<(), Fail> {
     let alloc = rt.alloc();
-    let mut journal = Journal::create(alloc, TornDisk::new(alloc), KEY, 24)?;
+    let mut journal = Journal::create(TornDisk::new(alloc), KEY, 24)?;
     let frames = frames_of(alloc, &[b"x"])?;
     assert!(rt; matches!(journal.append(&frames), Err(JournalError::NoRoom)));
     assert!(rt; journal.room() == 24);
-    assert!(rt; matches!(journal.extend(alloc, usize::MAX), Err(JournalError::NoRoom)));
+    assert!(rt; matches!(journal.extend(usize::MAX), Err(JournalError::NoRoom)));
     assert!(rt;
         matches!(
-            Journal::create(alloc, TornDisk::new(alloc), KEY, usize::MAX),
+            Journal::create(TornDisk::new(alloc), KEY, usize::MAX),
             Err(JournalError::NoRoom)
         )
     );
@@ -30,7 +30,7 @@ fn not_mixing(rt: HostRuntime) {
     let alloc = rt.alloc();
     assert!(rt;
         matches!(
-            Journal::create(alloc, Memory::new(alloc), KEY, 10),
+            Journal::create(Memory::new(alloc), KEY, 10),
             Err(JournalError::NotMixing)
         )
     );
@@ -40,11 +40,12 @@ fn not_mixing(rt: HostRuntime) {
 fn unusable(rt: HostRuntime) -> Result<(), Fail> {
     let alloc = rt.alloc();
     let disk = Fuse::new(TornDisk::new(alloc), 3);
-    let mut journal = Journal::create(alloc, disk, KEY, 30)?;
+    let mut journal = Journal::create(disk, KEY, 30)?;
     assert!(rt; matches!(journal.sync(), Err(JournalError::Disk(_))));
     assert!(rt; matches!(journal.sync(), Err(JournalError::Unusable)));
     assert!(rt; matches!(journal.append(b""), Err(JournalError::Unusable)));
-    assert!(rt; matches!(journal.extend(alloc, 1), Err(JournalError::Unusable)));
+    assert!(rt; matches!(journal.extend(1), Err(JournalError::Unusable)));
+    assert!(rt; matches!(journal.shorten(), Err(JournalError::Unusable)));
     let mut disk = journal.into_disk();
     assert!(rt; matches!(recover(alloc, &mut disk, KEY), Err(JournalError::Unusable)));
     Ok(())
@@ -54,19 +55,19 @@ fn unusable(rt: HostRuntime) -> Result<(), Fail> {
 #[test]
 fn draft_refused(rt: HostRuntime) -> Result<(), Fail> {
     let alloc = rt.alloc();
-    let draft = Draft::new(TornDisk::new(alloc), KEY)?;
-    assert!(rt; matches!(draft.finish(alloc, usize::MAX), Err(JournalError::NoRoom)));
+    let draft = Draft::new(TornDisk::new(alloc), KEY, 4_096)?;
+    assert!(rt; matches!(draft.finish(usize::MAX), Err(JournalError::NoRoom)));
     assert!(rt;
         matches!(
-            Draft::new(Memory::new(alloc), KEY),
+            Draft::new(Memory::new(alloc), KEY, 4_096),
             Err(JournalError::NotMixing)
         )
     );
-    let mut draft = Draft::new(Fuse::new(TornDisk::new(alloc), 1), KEY)?;
+    let mut draft = Draft::new(Fuse::new(TornDisk::new(alloc), 1), KEY, 4_096)?;
     assert!(rt; matches!(draft.sync(), Err(JournalError::Disk(_))));
     assert!(rt; matches!(draft.sync(), Err(JournalError::Unusable)));
     assert!(rt; matches!(draft.append(b""), Err(JournalError::Unusable)));
-    assert!(rt; matches!(draft.finish(alloc, 1), Err(JournalError::Unusable)));
+    assert!(rt; matches!(draft.finish(1), Err(JournalError::Unusable)));
     Ok(())
 }
 
@@ -75,7 +76,7 @@ fn draft_refused(rt: HostRuntime) -> Result<(), Fail> {
 #[test]
 fn damaged(rt: HostRuntime) -> Result<(), Fail> {
     let alloc = rt.alloc();
-    let mut journal = Journal::create(alloc, TornDisk::new(alloc), KEY, 60)?;
+    let mut journal = Journal::create(TornDisk::new(alloc), KEY, 60)?;
     journal.append(&frames_of(alloc, &[b"ab", b"cd"])?)?;
     journal.sync()?;
     let mut disk = journal.into_disk();

@@ -2,7 +2,7 @@
 use Rattle.std.proofs.Common.{◌≡◌, ◌≢◌, ◌⊎◌, ℕ, ◌+◌, ◌-◌, ◌<◌, ◌≤◌, List, length, arith, subst, sym, inl, inr}
 use Rattle.std.proofs.Math.Nat.{eq-or-lt_of_le}
 use Rattle.std.specs.Prelude.{slice_index}
-use Rattle.journal_folders.specs.ReadJournal.{IsTornTo}
+use Rattle.journal_folders.specs.ReadJournal.{IsUpToLast}
 
 -- the same of the bytes that were looked at so far
 pub record IsTornSoFar (tail : List ℕ) (upto torn : ℕ) : Type 0 where
@@ -31,5 +31,5 @@ torn-same tail upto torn so_far none = record {
     at i from (inr earlier) = so_far.zeros i from earlier
     at i from (inl here) = subst (λ (k : ℕ). slice_index tail k ≡ 0) (sym here) none
 
-pub torn-all : (tail : List ℕ) (torn : ℕ) → IsTornSoFar tail (length tail) torn → IsTornTo tail torn
+pub torn-all : (tail : List ℕ) (torn : ℕ) → IsTornSoFar tail (length tail) torn → IsUpToLast tail torn
 torn-all tail torn so_far = record { within = so_far.within; last = so_far.last; zeros = so_far.zeros }

@@ -1,5 +1,5 @@
 -- What is made of the files of a journal: the bytes of its own, and the text of the settings beside it.
-use Rattle.std.specs.Prelude.{◌≡◌, ◌≢◌, ◌⊎◌, ℕ, true, false, ◌-◌, ◌<◌, ◌≤◌, List, [], ◌++◌, length, drop, slice_index, Some, Result, Ok, Err, codes, decimal, ⊤}
+use Rattle.std.specs.Prelude.{◌≡◌, ◌≢◌, ◌⊎◌, ℕ, true, false, ◌-◌, ◌<◌, ◌≤◌, List, [], ◌++◌, length, drop, take, slice_index, Some, Result, Ok, Err, codes, decimal, ⊤}
 use Rattle.book_replay.specs.Replay.{replayed}
 use Rattle.journal_file.specs.JournalError.{IsDamagedAt}
 use Rattle.journal_file.specs.declared.recovered.WholeFrames.{WholeFrames}
@@ -56,11 +56,17 @@ IsFaultOfFiles journal settings (run.Journal fault) = IsWrongWith journal settin
 IsFaultOfFiles journal settings run.Memory = ⊤
 IsFaultOfFiles journal settings fault = ⊥
 
--- behind the first bytes of a tail, so many, stand zeros alone, and the last of the first ones is none
+-- behind the first of these bytes, so many, stand zeros alone, and the last of the first ones is none
+pub record IsUpToLast (bytes : List ℕ) (len : ℕ) : Type 0 where
+  pub within : len ≤ length bytes
+  pub last : 0 < len → slice_index bytes (len - 1) ≢ 0
+  pub zeros : (i : ℕ) → len ≤ i → i < length bytes → slice_index bytes i ≡ 0
+
+-- What a crash has left of a record: nothing where 16 zeros stand, and else all up to the last byte that is not 0. Behind the
+-- zeros a file may have bytes of a longer journal, which it was before.
 pub record IsTornTo (tail : List ℕ) (torn : ℕ) : Type 0 where
-  pub within : torn ≤ length tail
-  pub last : 0 < torn → slice_index tail (torn - 1) ≢ 0
-  pub zeros : (i : ℕ) → torn ≤ i → i < length tail → slice_index tail i ≡ 0
+  pub blank : IsUpToLast (take 16 tail) 0 → torn ≡ 0
+  pub left : ¬ (IsUpToLast (take 16 tail) 0) → IsUpToLast tail torn
 
 -- The line of `journal check`: how many records the journal has, what their book holds, how many bytes the file has, how many
 -- of these are of the records, and how many a crash has left behind them.

@@ -6,7 +6,8 @@ ghost use Rattle.server_words.specs.declared.fault.RunFault.{RunFault};
 
 use crate::closing::close_beside;
 use crate::mark::Mark;
-use journal_file::Journal;
+use crate::spare::{FileId, Spare, SpareFile, is_alone_at};
+use journal_file::{Journal, whole_frames};
 use journal_keeper::{JournalPlace, PlaceFault};
 use server_words::{JournalFault, Mismatch, RunFault};
 use sqlite_disk::{Disk, Unknown};
@@ -24,7 +25,10 @@ pub const JOURNAL_KEY: u64 = 8_391_740_119_571_199_346;
 /// The most bytes of a text of settings: those of a journal have less than 2,048.
 const SETTINGS_MAX: u64 = 65_536;
 
-/// How often a journal is read while its settings change.
+/// How many bytes of a journal are read again at a time.
+const PIECE: usize = 65_536;
+
+/// How often a journal is read while its settings change, or its file.
 const READINGS: u64 = 8;
 
 /// What opens the folders of journals.
@@ -42,7 +46,7 @@ pub trait Journals {
     /// The journal in the folder at a path, and the settings beside it. The folder is made where there is none, and so is the
     /// journal's file, without a byte. No other process can have the folder until its place is let go. Beside the journal stand
     /// two files without a byte: `lock`, and one whose name ends in `-wal`. What a crash has left of a smaller journal is
-    /// removed.
+    /// removed, and so is a file that was the journal's before.
     ///
     /// The error is NoFolder where something else stands at the path; File where the folder can't be made, or the lock's or the
     /// journal's file can't be opened or made, or the journal's is no regular file with one name, as a symbolic link, which a
@@ -57,7 +61,7 @@ pub trait Journals {
     ///
     /// The error is NoJournal where there is no folder, or no file for the journal in it, or one that can't be opened, or is no
     /// regular file; Settings with Missing where no settings stand beside it, or with Unreadable where they are far too long;
-    /// Disk where a read fails, or other settings are put again and again; or Memory.
+    /// Disk where a read fails, or other settings or another journal are put again and again; or Memory.
     fn read(&self, path: &str) -> Result<JournalFiles, RunFault>
         ensures read { IfOk result (λ files. finds self.now path.now (Ok (files.journal.items, files.settings.items))) }
         ensures fault { IfErr result (λ fault. finds self.now path.now (Err fault)) }
@@ -114,24 +118,28 @@ impl<'a, T: Threads + Copy + Sync> Journals for MachineJournals<'a, T> {
 
     type File = MachineSettings<'a>;
 
-    type Place = MachinePlace<'a, T>;
+    type Place = MachinePlace<'a, T, DiskFile>;
 
     ghost finds = { λ _ _ _. ⊤ };
 
     fn open(
         &self,
         path: &str,
-    ) -> Result<Folder<DiskFile, MachineSettings<'a>, MachinePlace<'a, T>>, RunFault> {
+    ) -> Result<Folder<DiskFile, MachineSettings<'a>, MachinePlace<'a, T, DiskFile>>, RunFault> {
         make_folder(self.rt, path)?;
         let place = MachinePlace::open(self.rt, self.threads, path)?;
-        let files = sqlite_std_file::open(self.rt, place.journal.as_str(), Unknown)?;
+        // A crash may have left the journal's file with a second name, under which it can't be opened.
         place.give_up();
+        let files = sqlite_std_file::open(self.rt, place.journal.as_str(), Unknown)?;
+        place
+            .spare
+            .note_journal(FileId::at(self.rt, place.journal.as_str()));
         let file = MachineSettings::open(self.rt, path)?;
         // A folder without settings is new, whatever stood there before.
         if file.text.is_some() {
             place.mark.hold_to()?;
         } else {
-            place.mark.remove();
+            let _ = place.mark.remove();
         }
         Ok(Folder {
             disk: files.db,
@@ -142,17 +150,21 @@ impl<'a, T: Threads + Copy + Sync> Journals for MachineJournals<'a, T> {
 
     fn read(&self, path: &str) -> Result<JournalFiles, RunFault> {
         let alloc = self.rt.alloc();
-        let journal = format!(in alloc; "{path}/journal")?;
+        let file = format!(in alloc; "{path}/journal")?;
         let settings = format!(in alloc; "{path}/settings")?;
         // A start with other settings puts the journal back first, and then its settings. So the journal is of those that stood
-        // before it was read, where the same stand there after.
+        // before it was read, where the same stand there after. And a server that makes it smaller may write to the file that
+        // was the journal's when it was opened: so that has to be the journal's still, and is read again, to see that its records
+        // stand there.
         for _ in 0..READINGS {
             let before = read_text(self.rt, settings.as_str());
-            let journal = read_journal(self.rt, journal.as_str())?;
+            let (journal, id) = read_journal_of(self.rt, file.as_str())?;
             let Some(settings) = read_text(self.rt, settings.as_str())? else {
                 return Err(RunFault::Journal(JournalFault::Settings(Mismatch::Missing)));
             };
-            if is_text(&before, settings.as_slice()) {
+            if is_text(&before, settings.as_slice())
+                && still_begins(self.rt, file.as_str(), id, &journal).map_err(disk_fault)?
+            {
                 return Ok(JournalFiles { journal, settings });
             }
         }
@@ -218,7 +230,7 @@ impl<'a> SettingsFile for MachineSettings<'a> {
 /// Where the file of a journal stands in a folder of this machine. No other process has the folder meanwhile. Once another
 /// folder stands at its path, as where this one was moved away, nothing is done there.
 #[derive(Drop)]
-pub struct MachinePlace<'a, T> {
+pub struct MachinePlace<'a, T, D> {
     rt: &'a HostRuntime,
     threads: T,
     // Held for its lock alone.
@@ -231,12 +243,19 @@ pub struct MachinePlace<'a, T> {
     // The file beside it, which may take its place, and the one without a byte that stands beside that.
     new: String,
     new_log: String,
+    // The name of the file that was the journal's before, which is used again, and that file.
+    spare_name: String,
+    spare: Spare<D>,
     mark: Mark<'a>,
 }
 
-impl<'a, T: Threads + Copy> MachinePlace<'a, T> {
+impl<'a, T: Threads + Copy> MachinePlace<'a, T, DiskFile> {
     /// That of the journal in a folder, once no other process has this.
-    fn open(rt: &'a HostRuntime, threads: T, path: &str) -> Result<MachinePlace<'a, T>, RunFault>
+    fn open(
+        rt: &'a HostRuntime,
+        threads: T,
+        path: &str,
+    ) -> Result<MachinePlace<'a, T, DiskFile>, RunFault>
         ensures { IfErr result IsOfJournal }
     {
         let alloc = rt.alloc();
@@ -249,6 +268,8 @@ impl<'a, T: Threads + Copy> MachinePlace<'a, T> {
             journal: format!(in alloc; "{path}/journal")?,
             new: format!(in alloc; "{path}/journal.new")?,
             new_log: format!(in alloc; "{path}/journal.new-wal")?,
+            spare_name: format!(in alloc; "{path}/journal.spare")?,
+            spare: Spare::new(),
             mark: Mark::of(rt, path)?,
         };
         if is_link(rt, place.journal.as_str()) {
@@ -268,6 +289,70 @@ impl<'a, T: Threads + Copy> MachinePlace<'a, T> {
         }
     }
 
+    /// Takes away the file beside that of the journal, if there is one. Nobody waits until its blocks are free.
+    fn remove_new(&self) {
+        if !self.is_there() {
+            return;
+        }
+        let file = File::open(self.rt, self.new.as_str());
+        let _ = fs::remove_file(self.rt, self.new.as_str());
+        let _ = fs::remove_file(self.rt, self.new_log.as_str());
+        if let Ok(file) = file {
+            close_beside(&self.threads, file);
+        }
+    }
+
+    /// Gives the file that was the journal's before the name of the one beside it, with the rights, the group and the owner that
+    /// the journal's has now; None where there is none, another one has its name, or it has a further one.
+    fn take_spare(&self) -> Option<DiskFile> {
+        let SpareFile { disk, id } = self.spare.take()?;
+        if self.is_there() && self.rename_spare(id).is_ok() {
+            return Some(disk);
+        }
+        close_beside(&self.threads, disk);
+        None
+    }
+
+    /// Gives what has the name of the file that was the journal's before the name of the one beside it, and the rights of the
+    /// journal's. The error is one of these calls, or InvalidInput where it is not this file, or has a further name.
+    fn rename_spare(&self, id: FileId) -> io::Result<()> {
+        let found = fs::metadata(self.rt, self.journal.as_str())?;
+        fs::rename(self.rt, self.spare_name.as_str(), self.new.as_str())?;
+        if !is_alone_at(self.rt, self.new.as_str(), id) {
+            return Err(ErrorKind::InvalidInput.into());
+        }
+        copy_access(&found, &File::open(self.rt, self.new.as_str())?)
+    }
+
+    /// Gives the journal's file a second name, under which it stays once another one has taken its place. Where the file system
+    /// has no second names, the file is gone then.
+    fn name_spare(&self) {
+        self.remove_spare();
+        let _ = fs::hard_link(self.rt, self.journal.as_str(), self.spare_name.as_str());
+    }
+
+    /// Takes the second name away.
+    fn remove_spare(&self) {
+        let _ = fs::remove_file(self.rt, self.spare_name.as_str());
+    }
+
+    /// Whether this file has the name of the one that was the journal's before, and no other, and at most so many bytes.
+    fn is_spare(&self, id: FileId, most: u64) -> bool {
+        is_alone_at(self.rt, self.spare_name.as_str(), id)
+            && match fs::symlink_metadata(self.rt, self.spare_name.as_str()) {
+                Ok(found) => found.len() <= most,
+                Err(_) => false,
+            }
+    }
+
+    /// A file beside that of the journal that has not a byte.
+    fn open_new(&self) -> Option<DiskFile> {
+        self.remove_new();
+        self.make_new().ok()?;
+        let files = sqlite_std_file::open(self.rt, self.new.as_str(), Unknown).ok()?;
+        Some(files.db)
+    }
+
     /// Makes the file beside that of the journal anew, with the rights, the group and the owner of that.
     fn make_new(&self) -> io::Result<()> {
         if !self.is_there() {
@@ -284,28 +369,37 @@ impl<'a, T: Threads + Copy> MachinePlace<'a, T> {
     }
 }
 
-impl<'a, T: Threads + Copy> JournalPlace<DiskFile> for MachinePlace<'a, T> {
+impl<'a, T: Threads + Copy> JournalPlace<DiskFile> for MachinePlace<'a, T, DiskFile> {
     fn open_beside(&self) -> Option<DiskFile> {
-        self.give_up();
-        self.make_new().ok()?;
-        let files = sqlite_std_file::open(self.rt, self.new.as_str(), Unknown).ok()?;
-        Some(files.db)
+        self.remove_new();
+        let disk = match self.take_spare() {
+            Some(disk) => disk,
+            None => self.open_new()?,
+        };
+        self.spare.note_new(FileId::at(self.rt, self.new.as_str()));
+        Some(disk)
     }
 
     fn give_up(&self) {
+        self.remove_new();
         if self.is_there() {
-            let _ = fs::remove_file(self.rt, self.new.as_str());
-            let _ = fs::remove_file(self.rt, self.new_log.as_str());
+            self.remove_spare();
         }
+        drop(self.spare.take());
     }
 
     fn put_in_place(&self, journal: &Journal<DiskFile>) -> Result<(), PlaceFault> {
         if !self.is_there() {
             return Err(PlaceFault::Stays);
         }
-        // The number of an inode may be given again: so no mark of the old file is to stand beside the new one.
-        self.mark.remove();
+        // The new file may have been the journal's before, with the same inode: so no mark of that time is to stand beside it.
+        if self.mark.remove().is_err() {
+            return Err(PlaceFault::Stays);
+        }
+        self.name_spare();
         if fs::rename(self.rt, self.new.as_str(), self.journal.as_str()).is_err() {
+            // The journal's file is to have one name.
+            self.remove_spare();
             return Err(unmoved(self.rt, self.new.as_str()));
         }
         if self.folder.sync_all().is_err() {
@@ -313,11 +407,30 @@ impl<'a, T: Threads + Copy> JournalPlace<DiskFile> for MachinePlace<'a, T> {
         }
         let _ = fs::remove_file(self.rt, self.new_log.as_str());
         self.mark.put(journal.frames_len() as u64);
+        self.spare.note_exchange();
         Ok(())
     }
 
-    fn let_go(&self, old: DiskFile) {
-        close_beside(&self.threads, old);
+    fn let_go(&self, old: DiskFile, most: u64) {
+        match self.spare.old() {
+            Some(id) if self.is_spare(id, most) => self.spare.keep(old),
+            _ => {
+                self.remove_spare();
+                close_beside(&self.threads, old);
+            }
+        }
+    }
+
+    fn keep_at_most(&self, most: u64) {
+        let Some(SpareFile { disk, id }) = self.spare.take() else {
+            return;
+        };
+        if self.is_there() && self.is_spare(id, most) {
+            self.spare.keep(disk);
+        } else {
+            self.remove_spare();
+            close_beside(&self.threads, disk);
+        }
     }
 
     fn mark(&self, bytes: u64) {
@@ -414,6 +527,15 @@ pub fn read_journal(rt: &HostRuntime, path: &str) -> Result<Vec<u8>, RunFault>
     ensures of_journal { IfErr result IsOfJournal }
     ensures unread { IfErr result IsUnread }
 {
+    let (bytes, _) = read_journal_of(rt, path)?;
+    Ok(bytes)
+}
+
+/// The bytes of a journal's file, and which file that is.
+fn read_journal_of(rt: &HostRuntime, path: &str) -> Result<(Vec<u8>, FileId), RunFault>
+    ensures of_journal { IfErr result IsOfJournal }
+    ensures unread { IfErr result IsUnread }
+{
     let found = fs::metadata(rt, path).map_err(no_journal)?;
     if !found.is_file() {
         return Err(RunFault::Journal(JournalFault::NoJournal));
@@ -421,7 +543,40 @@ pub fn read_journal(rt: &HostRuntime, path: &str) -> Result<Vec<u8>, RunFault>
     let mut file = File::open(rt, path).map_err(no_journal)?;
     let mut bytes = Vec::with_capacity(rt.alloc(), found.len() as usize)?;
     file.read_to_end(&mut bytes).map_err(disk_fault)?;
-    Ok(bytes)
+    let id = FileId::of(&file.metadata().map_err(disk_fault)?);
+    Ok((bytes, id))
+}
+
+/// Whether this is the file of a journal still, and begins with all whole frames that it had when it was read.
+fn still_begins(rt: &HostRuntime, path: &str, id: FileId, read: &[u8]) -> io::Result<bool> {
+    let end = match whole_frames(JOURNAL_KEY, read) {
+        Ok(found) => found.end,
+        Err(damage) => damage.at,
+    };
+    let mut file = File::open(rt, path)?;
+    if FileId::of(&file.metadata()?) != id {
+        return Ok(false);
+    }
+    let (front, _) = read.split_at(end.min(read.len()));
+    has_front(&mut file, front)
+}
+
+/// Whether what is read of a file begins with these bytes.
+fn has_front(file: &mut File, front: &[u8]) -> io::Result<bool> {
+    let mut left = front;
+    let mut piece = [0; PIECE];
+    for _ in 0..u64::MAX {
+        if left.is_empty() {
+            return Ok(true);
+        }
+        let got = file.read(&mut piece)?;
+        let (here, behind) = left.split_at(got.min(left.len()));
+        if got == 0 || !piece.starts_with(here) {
+            return Ok(false);
+        }
+        left = behind;
+    }
+    Ok(false)
 }
 
 /// What it is to the program that a journal's file can't be read at all.

@@ -13,6 +13,7 @@ mod printing;
 mod reading;
 mod renewing;
 mod shortage;
+mod spare;
 
 pub use checking::check;
 pub use exporting::export;

@@ -16,7 +16,8 @@ use std::{fs, io, str};
 
 /// The mark beside the journal in a folder of this machine: which file is the journal's, by its inode's number, and how many of
 /// its first bytes are synced, as two numbers in a text. No crash tears a frame among these. The text is put without a sync, so
-/// after a crash it may be an older one, a front of one, or none; each of these tells of no more bytes.
+/// after a crash it may be an older one, a front of one, or none; each of these tells of no more bytes. It is taken away, and the
+/// folder synced, where another file takes the journal's place, so none of an earlier time of that file comes back.
 #[derive(Drop)]
 pub struct Mark<'a> {
     rt: &'a HostRuntime,
@@ -64,10 +65,13 @@ impl<'a> Mark<'a> {
         }
     }
 
-    /// Takes the mark away, before another file takes the place of the journal's.
-    pub fn remove(&self) {
-        let _ = fs::remove_file(self.rt, self.text.as_str());
+    /// Takes the mark away, before another file takes the place of the journal's. Where it fails there may be one still.
+    pub fn remove(&self) -> io::Result<()> {
         self.bytes.store(0, Ordering::Relaxed);
+        match fs::remove_file(self.rt, self.text.as_str()) {
+            Err(error) if error.kind() != ErrorKind::NotFound => Err(error),
+            _ => Ok(()),
+        }
     }
 
     // Writes a new text beside the old one, and gives it the name of that.

@@ -1,7 +1,7 @@
 //! The book that the files of a journal make again, in memory alone.
-ghost use Rattle.std.specs.Prelude.{◌≡◌, ◌≢◌, ◌≤◌, [], length, Ok, IfErr, IfOk};
+ghost use Rattle.std.specs.Prelude.{◌≡◌, ◌≢◌, ◌≤◌, ◌↔◌, [], length, take, Ok, IfErr, IfOk, IsTrue};
 ghost use Rattle.journal_file.specs.JournalError.{IsDamagedAt};
-ghost use Rattle.journal_folders.specs.ReadJournal.{IsFaultOfFiles, IsReadTo, IsTornTo, Makes};
+ghost use Rattle.journal_folders.specs.ReadJournal.{IsFaultOfFiles, IsReadTo, IsTornTo, IsUpToLast, Makes};
 ghost use Rattle.upload_book.specs.Book.{plain_of};
 
 use crate::journal_folder::journal_settings;
@@ -52,15 +52,36 @@ fn frames_of(file: &[u8]) -> Result<WholeFrames, Damage>
     whole_frames(JOURNAL_KEY, file)
 }
 
-/// How many of the bytes behind the records of a journal's file a crash has left: those up to the last one that is not 0.
+/// How many of the bytes behind the records of a journal's file a crash has left of a record: none where 16 zeros stand there,
+/// and else those up to the last one that is not 0. A file that was a longer journal's before has bytes of that behind the zeros.
 pub fn torn_len(tail: &[u8]) -> usize
     ensures { IsTornTo tail.now result }
 {
-    let mut torn = 0;
-    for place in 0..tail.len() {
-        if tail[place] != 0 {
-            torn = place + 1;
+    if is_blank(tail) {
+        return 0;
+    }
+    len_to_last(tail)
+}
+
+/// Whether no frame begins there: the first 16 bytes are zeros.
+fn is_blank(tail: &[u8]) -> bool
+    ensures { IsTrue result ↔ IsUpToLast (take 16 tail.now) 0 }
+{
+    match tail.split_at_checked(16) {
+        Some((header, _)) => len_to_last(header) == 0,
+        None => len_to_last(tail) == 0,
+    }
+}
+
+/// How many bytes there are up to the last one that is not 0.
+fn len_to_last(bytes: &[u8]) -> usize
+    ensures { IsUpToLast bytes.now result }
+{
+    let mut len = 0;
+    for place in 0..bytes.len() {
+        if bytes[place] != 0 {
+            len = place + 1;
         }
     }
-    torn
+    len
 }

@@ -174,7 +174,7 @@ where
     let Some(disk) = place.open_beside() else {
         return Err(RunFault::Journal(JournalFault::Disk));
     };
-    let put = match written(alloc, disk, bytes) {
+    let put = match written(disk, bytes) {
         Ok(journal) => place.put_in_place(&journal).is_ok(),
         Err(JournalError::Memory) => {
             place.give_up();
@@ -182,21 +182,23 @@ where
         }
         Err(_) => false,
     };
-    if put {
-        return Ok(());
-    }
+    // The file of before is of no use to a start.
     place.give_up();
-    Err(RunFault::Journal(JournalFault::Disk))
+    if put {
+        Ok(())
+    } else {
+        Err(RunFault::Journal(JournalFault::Disk))
+    }
 }
 
 /// A journal of these frames on a disk, whatever it held, all synced, with no room for more.
-fn written<D: Disk>(alloc: Global, disk: D, bytes: &[u8]) -> Result<Journal<D>, JournalError>
+fn written<D: Disk>(disk: D, bytes: &[u8]) -> Result<Journal<D>, JournalError>
 where
     D: Drop,
     ensures { (records : List (List ℕ)) → bytes.now ≡ frames 8391740119571199346 records → AllByRecursion Fits records
         → IfOk result (λ journal. IsJournal journal records []) }
 {
-    let mut draft = Draft::new(disk, JOURNAL_KEY)?;
+    let mut draft = Draft::new(disk, JOURNAL_KEY, bytes.len())?;
     draft.append(bytes)?;
-    draft.finish(alloc, 0)
+    draft.finish(0)
 }

@@ -1,12 +1,11 @@
 -- A new journal beside the one that goes on.
 use Rattle.std.proofs.Common.{◌≡◌, ℕ, ◌+◌, ◌≤◌, ◌^◌, List, [], ◌∷◌, ◌++◌, Vec, Global, length, map, replicate, Option, Some, None, IfSome, IfNone, refl, sym, ap, subst, ◌∙◌, append_assoc, arith}
-use Rattle.std.proofs.lemmas.List.{append-nil, length-append, map-append}
+use Rattle.std.proofs.lemmas.List.{append-nil, length-append}
 use Rattle.std.specs.List.{AllByRecursion}
 use Rattle.sqlite_disk.specs.declared.Disk.{Ghosts}
 use Rattle.book_replay.specs.Snapshot.{behind_room}
 use Rattle.journal_file.specs.declared.draft.Draft.{Draft}
 use Rattle.journal_file.specs.Draft.{draft_key, IsDraft}
-use Rattle.journal_file.proofs.Losses.{AllByRecursion-append}
 use Rattle.journal_frames.specs.Frames.{frame, frames, Fits}
 use Rattle.tus_shared.specs.Journal.{CanBeReplayed}
 use Rattle.upload_book.specs.Settings.{Settings}

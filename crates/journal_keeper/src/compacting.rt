@@ -1,5 +1,5 @@
 //! A keeper that makes its journal small.
-ghost use Rattle.std.specs.Prelude.{◌≡◌, ◌≢◌, ◌≤◌, ◌<◌, ◌+◌, ◌-◌, ◌*◌, List, [], Ok, None, true, false, IfSome, IsErrOf, IsSome, IsTrue, OnErr, OnOk};
+ghost use Rattle.std.specs.Prelude.{◌≡◌, ◌≢◌, ◌≤◌, ◌<◌, ◌+◌, ◌-◌, ◌*◌, ℕ, List, [], Ok, None, true, false, IfSome, IsErrOf, IsSome, IsTrue, OnErr, OnOk};
 ghost use mathlib.Core.List.{IsPrefix};
 ghost use Rattle.head_board.specs.Event.{Event};
 ghost use Rattle.head_board.specs.Events.{HaveHappened, book_at};
@@ -13,7 +13,7 @@ use crate::compaction::Compaction;
 use crate::fault::KeepFault;
 use crate::journalled::Journalled;
 use crate::keeper::Keeper;
-use crate::numbers::ALWAYS_SMALL;
+use crate::numbers::{ALWAYS_SMALL, longest_for, spare_for};
 use crate::place::{JournalPlace, PlaceFault};
 use crate::taking::keep_taken;
 use journal_file::{Draft, Journal};
@@ -28,12 +28,24 @@ use tus_shared::{Records, RecordsAndSnapshot, Shared};
 pub enum Compacted {
     /// It is small enough.
     Rests,
+    /// So it is, but its file was longer than may be, or it was not known how long it is: it was cut to the frames and the zeros.
+    /// Where that failed it is tried again.
+    Shortened,
     /// A new one is being written.
     GoesOn,
     /// A new one has taken its place.
     Ended,
     /// A new one could not be had: there was no memory or no disk for it. The old one goes on.
     GivenUp,
+}
+
+// What a look at a journal found.
+enum Size {
+    Fits,
+    // Its file is longer than it may be, though not for its frames, while so many bytes are held.
+    IsLong { held: u64 },
+    // Its frames have so many bytes that a new one is to be begun, while so many are held.
+    IsLarge { held: u64 },
 }
 
 impl<D: Disk + Drop, C: Journalled> Keeper<D, C> {
@@ -62,6 +74,10 @@ impl<D: Disk + Drop, C: Journalled> Keeper<D, C> {
     /// and syncs some of it: at least 1 MiB, and at least four times as much as was kept since the last. Once it has all that
     /// this one has it takes its place. Where it can't be had, what there is of it is taken away; the old one goes on, and
     /// another is begun once that has 48 MiB more.
+    ///
+    /// A new journal may be written to the file of an older one. Where such a file may be longer than three times the bytes that
+    /// are held, plus 64 MiB, as one that was opened may, what it has behind the zeros is cut off.
+    /// A file of more than twice that is not kept for the next one.
     ///
     /// `Err` is as of [`Keeper::keep`], or Place where it is not known which journal a crash leaves in its place; and from then
     /// on Ended.
@@ -93,30 +109,52 @@ impl<D: Disk + Drop, C: Journalled> Keeper<D, C> {
         if let Some(compaction) = self.compaction.take() {
             return self.go_on(compaction, place);
         }
-        if !self.is_large(rt, shared) {
-            return Ok(Compacted::Rests);
+        match self.look(rt, shared) {
+            Size::Fits => Ok(Compacted::Rests),
+            Size::IsLong { held } => Ok(self.shorten(place, longest_for(held))),
+            Size::IsLarge { held } => self.begin(rt, shared, place, longest_for(held)),
         }
-        self.begin(rt, shared, place)
     }
 
-    // Whether the journal is so large that a new one is to be begun. It notes beyond how many bytes it is.
-    fn is_large<R: Ledger, M: Ledger, B: Wait + Drop, W: Wait>(
+    // Looks how large the journal is, and notes beyond how many bytes a new one is to be begun.
+    fn look<R: Ledger, M: Ledger, B: Wait + Drop, W: Wait>(
         &mut self,
         rt: &W,
         shared: &Shared<C, R, M, B>,
-    ) -> bool
+    ) -> Size
         ensures same { self.new ≡ self.old }
-        ensures large { IsTrue result → (events : List Event)
+        ensures large { (held : ℕ) → result ≡ Size.IsLarge held → (events : List Event)
             × HaveHappened C.settings events
-            × (2 * held_bytes (book_at C.settings events) + 50331648 < self.new.bytes) }
+            × (held ≡ held_bytes (book_at C.settings events))
+            × (2 * held + 50331648 < self.new.bytes) }
     {
         let bytes = self.journal.frames_len() as u64;
-        if bytes <= ALWAYS_SMALL || bytes < self.try_again_at {
-            return false;
+        let may_be_large = bytes > ALWAYS_SMALL && bytes >= self.try_again_at;
+        if !may_be_large && self.longest <= longest_for(0) {
+            return Size::Fits;
         }
         let held = shared.held_bytes(rt);
         self.look_at = held.saturating_mul(2).saturating_add(ALWAYS_SMALL);
-        bytes > self.look_at
+        if may_be_large && bytes > self.look_at {
+            return Size::IsLarge { held };
+        }
+        if self.longest > longest_for(held) {
+            return Size::IsLong { held };
+        }
+        Size::Fits
+    }
+
+    // Cuts off what the file has behind the zeros, where it may have so many bytes, and lets one go that is kept and has far more.
+    fn shorten<P: JournalPlace<D>>(&mut self, place: &P, longest: u64) -> Compacted
+        requires { self.old.failed ≡ false }
+        ensures others { self.new ≡ record self.old { disk = self.new.disk } }
+        ensures shortened { result ≡ Compacted.Shortened }
+    {
+        if self.journal.shorten().is_ok() {
+            self.longest = 0;
+        }
+        place.keep_at_most(spare_for(longest));
+        Compacted::Shortened
     }
 
     // Gives up what there is of a new journal; another is begun once this one has 48 MiB more.
@@ -131,12 +169,13 @@ impl<D: Disk + Drop, C: Journalled> Keeper<D, C> {
         Compacted::GivenUp
     }
 
-    // Begins a new journal beside this one.
+    // Begins a new journal beside this one, in a file of at most so many bytes, where what it is to have takes no more.
     fn begin<R: Ledger, M: Ledger, B: Wait + Drop, W: Wait + time::Clock, P: JournalPlace<D>>(
         &mut self,
         rt: &W,
         shared: &Shared<C, R, M, B>,
         place: &P,
+        longest: u64,
     ) -> Result<Compacted, KeepFault>
         requires { self.old.failed ≡ false }
         ensures keeps { IsPrefix self.old.kept self.new.kept }
@@ -153,8 +192,8 @@ impl<D: Disk + Drop, C: Journalled> Keeper<D, C> {
         let Some(disk) = place.open_beside() else {
             return Ok(self.give_up(place));
         };
-        match Draft::new(disk, self.journal.key()) {
-            Ok(draft) => self.take_snapshot(rt, shared, place, draft),
+        match Draft::new(disk, self.journal.key(), longest as usize) {
+            Ok(draft) => self.take_snapshot(rt, shared, place, draft, longest),
             Err(_) => Ok(self.give_up(place)),
         }
     }
@@ -172,6 +211,7 @@ impl<D: Disk + Drop, C: Journalled> Keeper<D, C> {
         shared: &Shared<C, R, M, B>,
         place: &P,
         draft: Draft<D>,
+        longest: u64,
     ) -> Result<Compacted, KeepFault>
         requires well { self.old.failed ≡ false }
         requires key { draft_key draft ≡ self.old.key }
@@ -196,7 +236,6 @@ impl<D: Disk + Drop, C: Journalled> Keeper<D, C> {
         let mut synced = self.synced;
         keep_taken::<D, C, W>(
             rt,
-            self.alloc,
             &mut self.journal,
             &self.front,
             &records,
@@ -210,7 +249,7 @@ impl<D: Disk + Drop, C: Journalled> Keeper<D, C> {
         let Ok(rooms) = snapshot else {
             return Ok(self.give_up(place));
         };
-        self.compaction = Some(Compaction::new(self.alloc, draft, rooms));
+        self.compaction = Some(Compaction::new(self.alloc, draft, rooms, longest));
         Ok(Compacted::GoesOn)
     }
 
@@ -238,16 +277,18 @@ impl<D: Disk + Drop, C: Journalled> Keeper<D, C> {
             self.compaction = Some(compaction);
             return Ok(Compacted::GoesOn);
         }
-        match compaction.finish(self.alloc, self.granted as usize) {
-            Ok(journal) => self.replace(journal, place),
+        let longest = compaction.longest();
+        match compaction.finish(self.granted as usize) {
+            Ok(journal) => self.replace(journal, longest, place),
             Err(_) => Ok(self.give_up(place)),
         }
     }
 
-    // Puts a new journal, which has all that this one has, in its place.
+    // Puts a new journal, which has all that this one has, and whose file may have so many bytes, in its place.
     fn replace<P: JournalPlace<D>>(
         &mut self,
         journal: Journal<D>,
+        longest: u64,
         place: &P,
     ) -> Result<Compacted, KeepFault>
         requires well { self.old.failed ≡ false }
@@ -271,7 +312,8 @@ impl<D: Disk + Drop, C: Journalled> Keeper<D, C> {
                 let old = mem::replace(&mut self.journal, journal);
                 self.look_at = ALWAYS_SMALL;
                 self.try_again_at = 0;
-                place.let_go(old.into_disk());
+                self.longest = longest;
+                place.let_go(old.into_disk(), spare_for(longest));
                 Ok(Compacted::Ended)
             }
             Err(PlaceFault::Stays) => Ok(self.give_up(place)),

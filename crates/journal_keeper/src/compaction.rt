@@ -31,11 +31,19 @@ pub(crate) struct Compaction<D: Disk> {
     since: VecDeque<Vec<u8>>,
     // How many bytes are to be written for those that were kept since the last slice.
     owed: u64,
+    // How many bytes its file may have, where that is more than those of the frames and the zeros.
+    longest: u64,
 }
 
 impl<D: Disk + Drop> Compaction<D> {
-    /// A new journal of which nothing is written, and which is to have the records of a snapshot.
-    pub(crate) fn new(alloc: Global, draft: Draft<D>, snapshot: Vec<Vec<u8>>) -> Compaction<D>
+    /// A new journal of which nothing is written, and which is to have the records of a snapshot. Its file has at most so many
+    /// bytes, where these take no more.
+    pub(crate) fn new(
+        alloc: Global,
+        draft: Draft<D>,
+        snapshot: Vec<Vec<u8>>,
+        longest: u64,
+    ) -> Compaction<D>
         ensures { (records : List (List ℕ))
             → IsDraft draft []
             → map (λ room. room.items) snapshot.items ≡ map behind_room records
@@ -47,6 +55,7 @@ impl<D: Disk + Drop> Compaction<D> {
             pieces: VecDeque::from(snapshot),
             since: VecDeque::new(alloc),
             owed: 0,
+            longest,
         }
     }
 
@@ -111,6 +120,11 @@ impl<D: Disk + Drop> Compaction<D> {
         Ok(frame.len())
     }
 
+    /// How many bytes its file may have, where its frames and zeros have fewer.
+    pub(crate) fn longest(&self) -> u64 {
+        self.longest
+    }
+
     /// Whether all is written.
     pub(crate) fn is_written(&self) -> bool
         ensures written { IsTrue result → (self.now.pieces.items ≡ []) × (self.now.since.items ≡ []) }
@@ -119,9 +133,8 @@ impl<D: Disk + Drop> Compaction<D> {
         self.pieces.is_empty() && self.since.is_empty()
     }
 
-    /// The new journal, with all of its records, synced, and so much room. `Err` where there is no memory, or a write or a
-    /// sync failed.
-    pub(crate) fn finish(self, alloc: Global, room: usize) -> Result<Journal<D>, JournalError>
+    /// The new journal, with all of its records, synced, and so much room. `Err` where a write or a sync failed.
+    pub(crate) fn finish(self, room: usize) -> Result<Journal<D>, JournalError>
         requires pieces { self.pieces.items ≡ [] }
         requires since { self.since.items ≡ [] }
         ensures journal { (key : ℕ) (records : List (List ℕ)) → WillHave self key records
@@ -130,7 +143,7 @@ impl<D: Disk + Drop> Compaction<D> {
         ensures room { IfOk result (λ journal. room_of journal ≡ room) }
     {
         let Compaction { draft, .. } = self;
-        draft.finish(alloc, room)
+        draft.finish(room)
     }
 }
 

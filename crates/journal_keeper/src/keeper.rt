@@ -14,6 +14,7 @@ use crate::granting::{AHEAD, SPARE, needed_for};
 use crate::journalled::Journalled;
 use crate::keeping::make_room;
 use crate::numbers::{ALWAYS_SMALL, KeeperNumbers, SyncCounts};
+use crate::place::JournalPlace;
 use crate::taking::{keep_taken, take_behind, tell};
 use journal_file::Journal;
 use sqlite_disk::Disk;
@@ -44,6 +45,9 @@ pub struct Keeper<D: Disk, C: Journalled> {
     pub(crate) look_at: u64,
     // How many bytes of frames it is to have before another new one is begun, where the last could not be had.
     pub(crate) try_again_at: u64,
+    // How many bytes its file may have, where that is more than those of the frames and the zeros. Of one that was opened it is
+    // not known.
+    pub(crate) longest: u64,
     // A new one that may have taken its place, where that failed.
     pub(crate) maybe_in_place: Option<Journal<D>>,
     opening: PhantomData<C>,
@@ -104,6 +108,7 @@ impl<D: Disk + Drop, C: Journalled> Keeper<D, C> {
             has_lost: false,
             look_at: ALWAYS_SMALL,
             try_again_at: 0,
+            longest: u64::MAX,
             maybe_in_place: None,
             opening: PhantomData,
         }
@@ -227,7 +232,6 @@ impl<D: Disk + Drop, C: Journalled> Keeper<D, C> {
         let mut synced = self.synced;
         keep_taken::<D, C, W>(
             rt,
-            self.alloc,
             &mut self.journal,
             &self.front,
             &taken,
@@ -247,11 +251,16 @@ impl<D: Disk + Drop, C: Journalled> Keeper<D, C> {
 
     /// Sees to it that a desk may queue so many bytes of records, and 65,536 more. Where it has less room than that, it is
     /// granted so much that it has room for these and 4 MiB more; and the journal is made longer before, where it has no room
-    /// for all that was granted and not used. Where it can't be, as on a full disk, the 4 MiB are left out; and where it
-    /// can't be either, the desk is granted room for 65,536 bytes, by which uploads can be ended. Where that can't be, or
+    /// for all that was granted and not used. Where it can't be, as on a full disk, what is kept beside the journal is given up,
+    /// unless a new one is being written there, and it is tried again; then the 4 MiB are left out; and where it can't be either, the desk is granted room for 65,536 bytes, by which uploads can be ended. Where that can't be, or
     /// keeping has failed, nothing is granted, and what the desk has and what is kept stay: a change is then refused as
     /// Memory where it takes more.
-    pub fn make_room<R: Ledger, M: Ledger>(&mut self, desk: &mut Desk<C, R, M>, bytes: u64)
+    pub fn make_room<R: Ledger, M: Ledger, P: JournalPlace<D>>(
+        &mut self,
+        desk: &mut Desk<C, R, M>,
+        bytes: u64,
+        place: &P,
+    )
         ensures grants { MayGrant bytes self.old self.new desk.old desk.new }
         // Where there is room for it, it is granted, and the disk is asked for nothing.
         ensures granted { IsNeeded bytes desk.old → HasRoom (bytes + 65536 + 4194304) self.old desk.old
@@ -272,6 +281,12 @@ impl<D: Disk + Drop, C: Journalled> Keeper<D, C> {
         let Some(needed) = needed_for(desk.room(), bytes) else {
             return;
         };
+        if self.grant(desk, needed + AHEAD) {
+            return;
+        }
+        if self.compaction.is_none() {
+            place.give_up();
+        }
         let _granted = self.grant(desk, needed + AHEAD)
             || self.grant(desk, needed)
             || self.grant(desk, SPARE);
@@ -296,7 +311,7 @@ impl<D: Disk + Drop, C: Journalled> Keeper<D, C> {
         let Some(all) = self.granted.checked_add(more) else {
             return false;
         };
-        if make_room(self.alloc, &mut self.journal, all).is_err() {
+        if make_room(&mut self.journal, all).is_err() {
             return false;
         }
         self.granted = all;

@@ -10,12 +10,10 @@ use crate::fault::KeepFault;
 use journal_file::{Journal, JournalError};
 use journal_frames::{HEADER_LEN, PAYLOAD_MAX};
 use sqlite_disk::Disk;
-use std::alloc::Global;
 
 /// Keeps payloads, each framed under the journal's key: where the room does not suffice there is made more, then each frame is
 /// appended, and then they are synced, once. `Err` where one of these failed, or a frame is longer than one may be.
 pub(crate) fn keep_frames<D: Disk>(
-    alloc: Global,
     journal: &mut Journal<D>,
     waiting: &[Vec<u8>],
 ) -> Result<(), KeepFault>
@@ -36,7 +34,7 @@ pub(crate) fn keep_frames<D: Disk>(
         → OnOk result (AllByRecursion Fits more) }
     ensures sure { ¬ (IsErrOf result KeepFault.Place) }
 {
-    make_room(alloc, journal, len_of_all(waiting))?;
+    make_room(journal, len_of_all(waiting))?;
     append_all(journal, waiting)?;
     journal.sync()?;
     Ok(())
@@ -54,11 +52,7 @@ pub(crate) fn len_of_all(frames: &[Vec<u8>]) -> u64
 }
 
 /// Makes room for so many bytes, where there is less. Where it can't be made, the journal keeps what it has.
-pub(crate) fn make_room<D: Disk>(
-    alloc: Global,
-    journal: &mut Journal<D>,
-    len: u64,
-) -> Result<(), JournalError>
+pub(crate) fn make_room<D: Disk>(journal: &mut Journal<D>, len: u64) -> Result<(), JournalError>
     ensures stays { (payloads : List (List ℕ)) → IsJournal journal.old payloads [] → IsJournal journal.new payloads [] }
     ensures key { key_of journal.new ≡ key_of journal.old }
     ensures covers { OnOk result (len ≤ room_of journal.new) }
@@ -67,7 +61,7 @@ pub(crate) fn make_room<D: Disk>(
 {
     let room = journal.room() as u64;
     if len > room {
-        journal.extend(alloc, (len - room) as usize)?;
+        journal.extend((len - room) as usize)?;
     }
     Ok(())
 }

@@ -1,5 +1,5 @@
 //! The numbers of a keeper: what it has synced, and how large its journal is.
-ghost use Rattle.std.specs.Prelude.{◌≡◌, ◌≤◌, ◌<◌, ◌↔◌, IsTrue};
+ghost use Rattle.std.specs.Prelude.{◌≡◌, ◌≤◌, ◌<◌, ◌↔◌, ◌+◌, ◌*◌, ◌-◌, ◌^◌, min, IsTrue};
 ghost use Rattle.journal_keeper.specs.Numbers.{no_syncs, synced_with};
 
 use std::time;
@@ -7,6 +7,21 @@ use std::time::Instant;
 
 /// With how many bytes of frames a journal is small, however few bytes are held.
 pub(crate) const ALWAYS_SMALL: u64 = 48 << 20;
+
+/// How many bytes the file of a journal has at most, where so many are held: three times these, and 64 MiB.
+pub(crate) fn longest_for(held: u64) -> u64
+    ensures { result ≡ min (3 * held + 67108864) (2 ^ 64 - 1) }
+{
+    held.saturating_mul(3).saturating_add(64 << 20)
+}
+
+/// How many bytes a file has at most that is kept for the next journal, where that of this one may have so many: twice these, so
+/// that it is not let go each time somewhat less is held.
+pub(crate) fn spare_for(longest: u64) -> u64
+    ensures { result ≡ min (2 * longest) (2 ^ 64 - 1) }
+{
+    longest.saturating_mul(2)
+}
 
 /// What a keeper has synced since it was made. Each number stays at 2^64 - 1 once it is there.
 #[derive(Clone, Copy)]
@@ -51,7 +66,7 @@ pub struct KeeperNumbers {
     pub synced: SyncCounts,
     /// The bytes of the journal's file that records fill.
     pub bytes: u64,
-    /// The bytes of the journal's file, with the zeros ahead.
+    /// These bytes and those of the zeros ahead. A file that was another journal's before may be longer.
     pub file_bytes: u64,
     // Beyond how many bytes of records a look after a sync is due.
     pub(crate) due_beyond: u64,

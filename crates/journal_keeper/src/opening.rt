@@ -56,7 +56,7 @@ where
     }
     let len = disk.len()?;
     if len == 0 {
-        let journal = Journal::create(alloc, disk, key, FIRST_ROOM)?;
+        let journal = Journal::create(disk, key, FIRST_ROOM)?;
         return Ok(Opened {
             journal,
             frames: Vec::new(alloc),

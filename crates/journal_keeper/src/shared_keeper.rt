@@ -73,17 +73,18 @@ impl<D: Disk + Drop, C: Journalled> SharedKeeper<D, C> {
 
     /// Sees to it that a desk may queue so many bytes of records, and 65,536 more, where the journal has or gets room for
     /// that ([`Keeper::make_room`]). Where the desk has it already, no lock is taken. It may wait for other desks.
-    pub fn make_room<R: Ledger, M: Ledger, W: Wait>(
+    pub fn make_room<R: Ledger, M: Ledger, W: Wait, P: JournalPlace<D>>(
         &self,
         rt: &W,
         desk: &mut Desk<C, R, M>,
         bytes: u64,
+        place: &P,
     )
         ensures { MayHaveMore bytes desk.old desk.new }
     {
         if needed_for(desk.room(), bytes).is_some() {
             let mut keeper = self.keeper.lock(rt);
-            keeper.make_room(desk, bytes);
+            keeper.make_room(desk, bytes, place);
             self.told.lock(rt).renew(&keeper);
         }
     }

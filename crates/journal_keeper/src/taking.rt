@@ -15,7 +15,6 @@ use crate::keeping::{keep_frames, len_of_all};
 use crate::numbers::{SyncCounts, micros_since};
 use journal_file::Journal;
 use sqlite_disk::Disk;
-use std::alloc::Global;
 use std::sync::Wait;
 use std::sync::ledger::Ledger;
 use std::time;
@@ -28,7 +27,6 @@ use tus_shared::{Charges, Desk, Records, SeenEvents, Shared};
 /// `Err` where a write or a sync failed, or there was no room for them and none can be made.
 pub(crate) fn keep_taken<D: Disk, C: Charges, W: time::Clock>(
     rt: &W,
-    alloc: Global,
     journal: &mut Journal<D>,
     front: &SeenEvents,
     taken: &Records,
@@ -58,7 +56,7 @@ pub(crate) fn keep_taken<D: Disk, C: Charges, W: time::Clock>(
     ensures sure { ¬ (IsErrOf result KeepFault.Place) }
 {
     let start = Instant::now(rt).ok();
-    keep_frames(alloc, journal, &taken.frames)?;
+    keep_frames(journal, &taken.frames)?;
     *synced = synced.with(taken.frames.len() as u64, micros_since(rt, &start));
     *granted = granted.saturating_sub(len_of_all(&taken.frames));
     Ok(())

@@ -24,12 +24,12 @@ pub(crate) fn settings() -> Result<Settings, Fail> {
 /// The settings of acme with 50 MiB, and uploads of at most 12 MiB.
 pub(crate) fn large_settings() -> Result<Settings, Fail> {
     let numbers = Numbers {
-        blocks: 800,
+        blocks: 1_000,
         block_size: 65_536,
         max_size: 12 << 20,
         ..NUMBERS
     };
-    Ok(Settings::new(numbers, &[(b"acme", 800)])?)
+    Ok(Settings::new(numbers, &[(b"acme", 1_000)])?)
 }
 
 /// What is asked of acme.

@@ -3,7 +3,7 @@ ghost use Rattle.std.specs.Prelude.{◌≡◌, [], Some};
 ghost use Rattle.journal_file.specs.Journal.{key_of, IsJournal};
 
 use crate::requests::{Asked, large_settings, settings, turn};
-use crate::small::{Ends, is_made_small};
+use crate::small::{Ends, Shelf, is_made_small};
 use crate::torn_disk::TornDisk;
 use journal_file::{Journal, JournalError};
 use journal_frames::{Frames, HEADER_LEN};
@@ -99,27 +99,31 @@ fn room_is_made<C: Journalled, R: Ledger, M: Ledger, W: Wait + Abort>(
     rt: &W,
     keeper: Keeper<Fuse<TornDisk>, C>,
     desk: &mut Desk<C, R, M>,
+    shelf: &Shelf,
 ) {
     let keeper = SharedKeeper::new(keeper);
-    keeper.make_room(rt, desk, 100);
+    keeper.make_room(rt, desk, 100, shelf);
     assert!(rt; desk.room() == 100 + 65_536 + 4_194_304);
-    keeper.make_room(rt, desk, 4_194_304);
+    keeper.make_room(rt, desk, 4_194_304, shelf);
     assert!(rt; desk.room() == 100 + 65_536 + 4_194_304);
+    assert!(rt; !shelf.was_taken_away());
     let keeper = keeper.into_keeper();
     assert!(rt; keeper.disk().inner().bytes().len() > 4_259_940);
 }
 
-// On a disk without room for 4 MiB ahead a desk is granted this room for 200 bytes of records, and the next one nothing.
+// On a disk without room for 4 MiB ahead a desk is granted this room for 200 bytes of records, and the next one nothing. What
+// stands beside the journal is given up first.
 fn disk_is_nearly_full<C: Journalled, R: Ledger, M: Ledger, W: Wait + Abort>(
     rt: &W,
     mut keeper: Keeper<Fuse<TornDisk>, C>,
     first: &mut Desk<C, R, M>,
     second: &mut Desk<C, R, M>,
+    shelf: &Shelf,
     granted: u64,
 ) {
-    keeper.make_room(first, 200);
-    assert!(rt; first.room() == granted);
-    keeper.make_room(second, 200);
+    keeper.make_room(first, 200, shelf);
+    assert!(rt; first.room() == granted && shelf.was_taken_away());
+    keeper.make_room(second, 200, shelf);
     assert!(rt; second.room() == 0);
 }
 
@@ -129,11 +133,12 @@ fn disk_is_full<C: Journalled, R: Ledger, M: Ledger, W: Wait + Abort + time::Clo
     shared: &Shared<C, R, M, &W>,
     mut keeper: Keeper<Fuse<TornDisk>, C>,
     desk: &mut Desk<C, R, M>,
+    shelf: &Shelf,
 ) {
     desk.grant(65_536 + 100);
     assert!(rt; makes(rt, shared, desk, Asked::Create));
     let room = desk.room();
-    keeper.make_room(desk, 2_000);
+    keeper.make_room(desk, 2_000, shelf);
     assert!(rt; desk.room() == room);
     assert!(rt; !makes(rt, shared, desk, Asked::Create));
     assert!(rt; makes(rt, shared, desk, Asked::Delete(b"/files/acme/1")));
@@ -243,15 +248,16 @@ fn play<C: Journalled, R: Ledger, M: Ledger, W: Wait + Abort + time::Clock>(
     )?;
     let mut second = desks.pop().ok_or("a desk")?;
     let mut first = desks.pop().ok_or("a desk")?;
+    let shelf = Shelf::new(alloc, Ends::Nowhere);
     match scene {
         Scene::OneSyncServesBoth => {
             one_sync_serves_both(rt, &shared, keeper, &mut first, &mut second);
         }
-        Scene::RoomIsMade => room_is_made(rt, keeper, &mut first),
+        Scene::RoomIsMade => room_is_made(rt, keeper, &mut first, &shelf),
         Scene::DiskIsNearlyFull { granted } => {
-            disk_is_nearly_full(rt, keeper, &mut first, &mut second, granted);
+            disk_is_nearly_full(rt, keeper, &mut first, &mut second, &shelf, granted);
         }
-        Scene::DiskIsFull => disk_is_full(rt, &shared, keeper, &mut first),
+        Scene::DiskIsFull => disk_is_full(rt, &shared, keeper, &mut first, &shelf),
         Scene::SyncFails => sync_fails(rt, &shared, keeper, &mut first),
         Scene::IsLeftAfterACrash => {
             is_left_after_a_crash(rt, alloc, &shared, keeper, &mut first)?;
@@ -272,7 +278,7 @@ fn play_at<W: Wait + Abort + time::Clock>(
     scene: Scene,
 ) -> Result<(), Fail> {
     let disk = Fuse::new(TornDisk::new(alloc, all), calls);
-    let journal = Journal::create(alloc, disk, KEY, ROOM)?;
+    let journal = Journal::create(disk, KEY, ROOM)?;
     play::<Brand, Brand, Brand, W>(
         rt,
         alloc,
@@ -367,10 +373,10 @@ fn a_journal_is_made_small(rt: HostRuntime) -> Result<(), Fail> {
     Ok(())
 }
 
-// A new journal is begun with two calls, a slice takes two or three, and the end takes three more.
+// A new journal asks for the length of its file, writes and syncs a slice, and then writes zeros and syncs them.
 #[test]
 fn a_new_journal_whose_disk_fails(rt: HostRuntime) -> Result<(), Fail> {
-    for calls in 0..12 {
+    for calls in 0..14 {
         play_small(&rt, rt.alloc(), Ends::FailsAfter(calls))?;
     }
     Ok(())

@@ -6,7 +6,6 @@ ghost use Rattle.journal_frames.specs.Frames.{frames, Fits};
 
 use journal_file::{Journal, JournalError};
 use sqlite_disk::Disk;
-use std::alloc::Global;
 
 // How many bytes of room are made at once, where a record does not take more.
 const ROOM_STEP: usize = 1 << 20;
@@ -15,11 +14,7 @@ const ROOM_STEP: usize = 1 << 20;
 /// appended and synced. Whether it is kept. Where it is not, the journal has the payloads that it had.
 ///
 /// `Err` where a write or a sync failed, after which the journal is to be opened again.
-pub(crate) fn keep<D: Disk>(
-    alloc: Global,
-    journal: &mut Journal<D>,
-    frame: &[u8],
-) -> Result<bool, JournalError>
+pub(crate) fn keep<D: Disk>(journal: &mut Journal<D>, frame: &[u8]) -> Result<bool, JournalError>
     ensures kept { (payloads : List (List ℕ)) (payload : List ℕ)
         → IsJournal journal.old payloads []
         → Fits payload
@@ -33,7 +28,7 @@ pub(crate) fn keep<D: Disk>(
         → (c : List ℕ) → D.may_leave (disk_of journal.new) c → Leaves (key_of journal.old) payloads (payload ∷ []) c }
     ensures key { key_of journal.new ≡ key_of journal.old }
 {
-    if !make_room(alloc, journal, frame.len())? {
+    if !make_room(journal, frame.len())? {
         return Ok(false);
     }
     append_synced(journal, frame)?;
@@ -41,11 +36,7 @@ pub(crate) fn keep<D: Disk>(
 }
 
 // Makes room for so many bytes, where there is less. Whether there is room then. `Err` where a sync failed.
-fn make_room<D: Disk>(
-    alloc: Global,
-    journal: &mut Journal<D>,
-    len: usize,
-) -> Result<bool, JournalError>
+fn make_room<D: Disk>(journal: &mut Journal<D>, len: usize) -> Result<bool, JournalError>
     ensures stays { (payloads : List (List ℕ)) → IsJournal journal.old payloads [] → IsJournal journal.new payloads [] }
     ensures room { IfOk result (λ is_there. IsTrue is_there → len ≤ room_of journal.new) }
     ensures key { key_of journal.new ≡ key_of journal.old }
@@ -53,7 +44,7 @@ fn make_room<D: Disk>(
     if len <= journal.room() {
         return Ok(true);
     }
-    let Err(why) = journal.extend(alloc, len.max(ROOM_STEP)) else {
+    let Err(why) = journal.extend(len.max(ROOM_STEP)) else {
         return Ok(true);
     };
     if journal.disk().may_be_used() {

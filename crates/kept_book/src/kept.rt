@@ -60,7 +60,7 @@ impl<D: Disk> KeptBook<D> {
         ensures outside { IfErr result IsOutsideFile }
     {
         let book = Book::new(alloc, settings)?;
-        let journal = Journal::create(alloc, disk, key, room)?;
+        let journal = Journal::create(disk, key, room)?;
         let log = Log::new(alloc, journal, key);
         Ok(KeptBook { book, log })
     }

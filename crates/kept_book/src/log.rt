@@ -66,7 +66,7 @@ impl<D: Disk> Log<D> {
         };
         self.frame = frame;
         self.has_failed = true;
-        let kept = keep(self.alloc, &mut self.journal, &self.frame)?;
+        let kept = keep(&mut self.journal, &self.frame)?;
         self.has_failed = false;
         Ok(kept)
     }

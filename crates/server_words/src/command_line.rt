@@ -63,8 +63,9 @@ Example, which tells what is in the journal in the folder uploads:
 const CHECK_HELP: &str = "\
 It reads the settings and the journal, makes all changes again in memory, and prints one line:
   N records, N uploads, N bytes; file: N bytes, N of records, N torn
-The bytes of the uploads count those of a final upload once more. The torn bytes are what stands behind the records up to
-the last byte that is not 0: what a crash has left of a record, or what a server is writing just now.
+The bytes of the uploads count those of a final upload once more. The torn bytes are what a crash has left of a record, or
+what a server is writing just now. There are none where 16 zeros stand behind the records. Else all bytes up to the last
+that is not 0 count, those too that the file had as a longer journal before.
 Where there is no journal or no settings, the journal is damaged, or a record is of no change that the settings allow, the
 status is 5, and standard error says what is wrong, and where.";
 

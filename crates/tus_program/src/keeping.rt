@@ -40,7 +40,7 @@ impl<
     P: JournalPlace<D>,
 > Keeping<C, R, M, B> for InJournal<D, C, P> {
     fn make_room<W: Wait>(&self, rt: &W, desk: &mut Desk<C, R, M>, bytes: u64) {
-        self.keeper.make_room(rt, desk, bytes);
+        self.keeper.make_room(rt, desk, bytes, &self.place);
     }
 
     fn keep<W: Wait + time::Clock>(
@@ -75,7 +75,8 @@ fn told_compacted(compacted: Result<Compacted, KeepFault>) -> Compacting
     ensures given_up { result ≡ Compacting.GivenUp ↔ (compacted ≡ Ok Compacted.GivenUp) }
 {
     match compacted {
-        Ok(Compacted::Rests | Compacted::GoesOn | Compacted::Ended) => Compacting::Fine,
+        Ok(Compacted::Rests | Compacted::Shortened | Compacted::GoesOn | Compacted::Ended) =>
+            Compacting::Fine,
         Ok(Compacted::GivenUp) => Compacting::GivenUp,
         Err(_) => Compacting::Failed,
     }

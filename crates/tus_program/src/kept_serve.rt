@@ -217,6 +217,8 @@ where
         output,
     );
     keeping.mark(rt);
+    // What stands beside the journal is of use only to a server that goes on.
+    keeping.place.give_up();
     if keeping.has_failed() {
         return Err(RunFault::Journal(JournalFault::Disk));
     }

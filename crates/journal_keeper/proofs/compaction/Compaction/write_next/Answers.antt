@@ -1,6 +1,6 @@
 use Rattle.std.proofs.Common.{◌≡◌, ℕ, List, [], ◌∷◌, drop, refl, sym, ap, ◌∙◌}
 use Rattle.journal_file.specs.Draft.{draft_key}
-use Rattle.journal_frames.specs.Frames.{frame, frames}
+use Rattle.journal_frames.specs.Frames.{frame}
 use Rattle.journal_keeper.proofs.CompactionLemmas.{next-piece, piece-fits, piece-long, piece-short, room-closed, still-has, wrote-piece}
 use Rattle.journal_keeper.proofs.compaction.Compaction.write_next.Goals as goal
 

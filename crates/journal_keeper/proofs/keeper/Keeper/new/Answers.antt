@@ -1,5 +1,5 @@
 use Rattle.std.proofs.Common.{arith, refl}
-use Rattle.journal_keeper.proofs.KeeperLemmas.{left-all, no-other}
+use Rattle.journal_keeper.proofs.KeeperLemmas.{left-all}
 use Rattle.journal_keeper.proofs.keeper.Keeper.new.Goals as goal
 
 pub invariant_of-result : goal.invariant_of-result
