@@ -86,13 +86,13 @@ impl<
     {
         let poll = self.commons.bodies.take_poll(self.rt, number);
         let prepared = self.prepare_crowd(number, worker.desk.settings());
-        let (Some(poll), Ok((rounds, events))) = (poll, prepared) else {
+        let (Some(poll), Ok((mut rounds, mut events))) = (poll, prepared) else {
             self.say("tus-server: a worker ended, since it found no memory for its clients");
             worker.acceptor.give_up();
             return;
         };
         let mut door = Door::new(poll, self.options.connections);
-        if !self.go_round(worker, &mut door, rounds, events) {
+        if !self.go_round(worker, &mut door, &mut rounds, &mut events) {
             worker.acceptor.give_up();
         }
     }
@@ -143,8 +143,8 @@ impl<
         &self,
         worker: &mut Worker<C, R, M, A>,
         door: &mut Door,
-        rounds: Rounds<'a, H>,
-        events: Events,
+        rounds: &mut Rounds<'a, H>,
+        events: &mut Events,
     ) -> bool
         requires unstopped { A.is_stopped worker.old.acceptor ≡ false }
         requires within { A.accepted worker.old.acceptor + door.old.left < 2 ^ 64 }
@@ -154,8 +154,6 @@ impl<
         ensures done { result ≡ true → A.is_stopped worker.new.acceptor ≡ false → door.new.left ≡ 0 }
         ensures unasked { self.now.options.grace ≡ None → A.is_stopped worker.new.acceptor ≡ false }
     {
-        let mut events = events;
-        let mut rounds = rounds;
         if door.open(&mut worker.acceptor).is_err() {
             self.say("tus-server: a worker ended, since it is told of no connections");
             return false;
@@ -166,18 +164,16 @@ impl<
                 worker.acceptor.stop();
                 return self.wind_up(worker, door, rounds, events);
             }
-            if door.is_done() && self.may_leave(&rounds) {
+            if door.is_done() && self.may_leave(rounds) {
                 return true;
             }
-            if !self.goes_on(door, &rounds, &mut events) {
+            if !self.goes_on(door, rounds, events) {
                 return false;
             }
-            replace_with(&mut worker.desk, (), |desk, _| {
-                (self.serve_ready(desk, &mut rounds, &events), ())
-            });
-            self.take_in(worker, door, &mut rounds);
+            self.serve_all(&mut worker.desk, rounds, events);
+            self.take_in(worker, door, rounds);
             rounds.publish(self.rt);
-            self.answer_questions(&mut worker.desk, door, &mut rounds, &events);
+            self.answer_questions(&mut worker.desk, door, rounds, events);
         }
         false
     }
@@ -189,27 +185,23 @@ impl<
         &self,
         worker: &mut Worker<C, R, M, A>,
         door: &mut Door,
-        rounds: Rounds<'a, H>,
-        events: Events,
+        rounds: &mut Rounds<'a, H>,
+        events: &mut Events,
     ) -> bool
         ensures acceptor { worker.new.acceptor ≡ worker.old.acceptor }
         ensures left { door.new.left ≡ door.old.left }
     {
-        let mut events = events;
-        let mut rounds = rounds;
         events.clear();
         rounds.stopped = Some(second_since(self.rt, &rounds.start));
         for _ in 0..u64::MAX {
-            replace_with(&mut worker.desk, (), |desk, _| {
-                (self.serve_ready(desk, &mut rounds, &events), ())
-            });
-            self.tell_of_clients(&mut rounds);
+            self.serve_all(&mut worker.desk, rounds, events);
+            self.tell_of_clients(rounds);
             rounds.publish(self.rt);
-            self.answer_questions(&mut worker.desk, door, &mut rounds, &events);
-            if self.may_leave(&rounds) {
+            self.answer_questions(&mut worker.desk, door, rounds, events);
+            if self.may_leave(rounds) {
                 return true;
             }
-            if !self.goes_on(door, &rounds, &mut events) {
+            if !self.goes_on(door, rounds, events) {
                 return false;
             }
         }
@@ -287,6 +279,13 @@ impl<
         } else {
             TICK_MILLIS
         }
+    }
+
+    // Serves the clients that are ready by the desk that the worker has.
+    fn serve_all(&self, desk: &mut Desk<C, R, M>, rounds: &mut Rounds<'a, H>, events: &Events) {
+        replace_with(desk, (), |desk, _| {
+            (self.serve_ready(desk, rounds, events), ())
+        });
     }
 
     // Takes a turn of each client that is ready, had more to do, or waited for another one, and then sends what was held back.
