@@ -1,16 +1,80 @@
 //! Changes in two halves: prepared and made, and prepared and let go.
 
-ghost use Rattle.std.specs.Prelude.{◌≡◌, ℕ, false, [], Some, length};
+ghost use Rattle.std.specs.Prelude.{IfOk, length};
 ghost use Rattle.upload_book.specs.Book.{plain_of};
 ghost use Rattle.upload_book.specs.Change.{CanBeMade};
+ghost use Rattle.upload_book.specs.Ready.{IsReady};
 
-use crate::books::{ACME, NUMBERS, acme, moment, new_book};
+use crate::books::{ACME, NUMBERS, acme, moment, new_book, new_upload};
 use crate::plain::PlainBook;
+use crate::steps::{Told, appended};
 use std::process::Abort;
 use upload_book::{
-    Appended, BoardLine, Book, Change, Chunk, FirstChunk, HeadChange, Kind, Moment, Name,
-    NewUpload, Outcome, Payload, Refusal, Refused,
+    Accounts, BoardLine, Book, Change, Chunk, FirstChunk, HeadChange, Kind, Moment, Name, Outcome,
+    Payload, Ready, Refusal, Refused,
 };
+
+// What becomes of acme's first upload, which has ten bytes when it is complete.
+#[derive(Clone, Copy)]
+enum Asked {
+    // A PATCH brings the first five.
+    Patch,
+    Delete,
+    Sweep,
+}
+
+impl Asked {
+    fn change(self, book: &Book) -> Change<'static>
+        ensures { CanBeMade (length (plain_of book.now).settings.tenants) result }
+    {
+        match self {
+            Asked::Patch => Change::Append {
+                name: acme(1),
+                chunk: hello(),
+            },
+            Asked::Delete => Change::Terminate(acme(1)),
+            Asked::Sweep => Change::Sweep,
+        }
+    }
+}
+
+// What is done with a book, and what it has to show.
+enum Step {
+    // The PATCH is prepared at second 1000 and let go.
+    LetsGo,
+    // It is prepared at second 1000 and made, unless it is refused, and answers this, as by the plain program.
+    Makes(Told<'static>),
+    // The line of a change at a second, which is let go, puts the row of this upload, which is so far by it, and has these
+    // accounts.
+    Foretells(Asked, u64, Option<(Name, u64)>, [u64; 4]),
+    // What was charged and released, and what the two tenants pay.
+    Accounts([u64; 4]),
+    // How far the upload is, what acme pays, and how many blocks are free.
+    Has([u64; 3]),
+}
+
+static STEPS: [Step; 11] = [
+    // A PATCH that is let go costs nothing, and its line tells what will be.
+    Step::LetsGo,
+    Step::Has([0, 0, 12]),
+    Step::Foretells(
+        Asked::Patch,
+        1000,
+        Some((Name { tenant: 0, id: 1 }, 5)),
+        [2, 0, 2, 0],
+    ),
+    // The accounts after one that is made have its blocks.
+    Step::Makes(Told::Appended(5, Some(4600))),
+    Step::Has([5, 2, 10]),
+    Step::Accounts([2, 0, 2, 0]),
+    // What ends the upload gives its blocks back, and a sweep too soon does not.
+    Step::Foretells(Asked::Delete, 1000, None, [2, 2, 0, 0]),
+    Step::Foretells(Asked::Sweep, 4599, None, [2, 0, 2, 0]),
+    Step::Foretells(Asked::Sweep, 4600, None, [2, 2, 0, 0]),
+    // The same PATCH is refused after it, and changes nothing.
+    Step::Makes(Told::RefusedPatch(Refusal::Offset, Some(4600))),
+    Step::Has([5, 2, 10]),
+];
 
 fn hello<'a>() -> Chunk<'a> {
     Chunk {
@@ -30,145 +94,96 @@ fn no_bytes<'a>() -> FirstChunk<'a> {
     }
 }
 
-// An upload of ten bytes.
-fn ten_bytes<'a>() -> NewUpload<'a>
-    ensures { result ≡ record { partial = false; length = Some 10; metadata = []; concat = [] } }
+// Prepares a change of the first upload.
+fn prepare(book: &mut Book, asked: Asked, now: Moment) -> Result<Ready<'static>, Refused>
+    ensures { IfOk result (IsReady book.new) }
 {
-    NewUpload {
-        partial: false,
-        length: Some(10),
-        metadata: b"",
-        concat: b"",
+    let change = asked.change(book);
+    book.prepare(change, now)
+}
+
+// Prepares the PATCH and makes it.
+fn make(book: &mut Book, now: Moment) -> Result<Outcome, Refused> {
+    let ready = prepare(book, Asked::Patch, now)?;
+    Ok(book.commit(ready))
+}
+
+// What it answers, where it is answered as a PATCH is.
+fn answer(made: Result<Outcome, Refused>) -> Option<Told<'static>> {
+    match made {
+        Ok(Outcome::Appended(done)) => Some(appended(Ok(done))),
+        Ok(_) => None,
+        Err(refused) => Some(appended(Err(refused))),
     }
 }
 
-// The PATCH of acme's first upload.
-fn greeting<'a>() -> Change<'a>
-    ensures { (tenants : ℕ) → CanBeMade tenants result }
-{
-    Change::Append {
-        name: acme(1),
-        chunk: hello(),
-    }
+// Whether the PATCH answers this, of the book and of the plain one.
+fn makes(rt: &impl Abort, book: &mut Book, plain: &mut PlainBook, told: Told) -> bool {
+    let now = moment(rt, 1000);
+    let plainly = plain.append(rt, &acme(1), &hello(), now);
+    appended(plainly) == told && answer(make(book, now)) == Some(told)
 }
 
-// Prepares a PATCH of acme's first upload at second 1000, and makes it where it is to be made and was not refused.
-fn patch(rt: &impl Abort, book: &mut Book, made: bool) -> Result<Option<Outcome>, Refused> {
-    let ready = book.prepare(greeting(), moment(rt, 1000))?;
-    Ok(if made { Some(book.commit(ready)) } else { None })
-}
-
-// The line of a change that is let go.
-fn line(book: &mut Book, change: Change, now: Moment) -> Result<BoardLine, Refused>
-    requires { CanBeMade (length (plain_of book.old).settings.tenants) change }
-{
-    let ready = book.prepare(change, now)?;
-    Ok(ready.line(book))
-}
-
-// What was charged and released by a line, and what the two tenants pay.
-fn paid(line: Result<BoardLine, Refused>) -> Option<(u64, u64, u64, u64)> {
-    let accounts = line.ok()?.accounts;
-    Some((
-        accounts.charged,
-        accounts.released,
-        accounts.charge[0],
-        accounts.charge[1],
-    ))
-}
-
-// The name of the upload whose row a line puts, and how far it is by the row.
-fn put(line: Result<BoardLine, Refused>) -> Option<(Name, u64)> {
-    match line.ok()?.change {
-        HeadChange::Put(name, row) => Some((name, row.offset)),
+// The upload whose row is put, and how far it is by that.
+fn put_by(change: &HeadChange) -> Option<(Name, u64)> {
+    match change {
+        HeadChange::Put(name, row) => Some((*name, row.offset)),
         HeadChange::Gone(_) | HeadChange::Swept(_) | HeadChange::Next(_) | HeadChange::Totals =>
             None,
     }
 }
 
-// How far acme's first upload is, what acme pays, and how many blocks are free.
-fn seen(rt: &impl Abort, book: &Book) -> Option<(u64, u64, u64)> {
+// What was charged and released, and what the two tenants pay.
+fn paid(accounts: &Accounts) -> [u64; 4] {
+    [
+        accounts.charged,
+        accounts.released,
+        accounts.charge[0],
+        accounts.charge[1],
+    ]
+}
+
+// The line of a change that is let go.
+fn line(book: &mut Book, asked: Asked, now: Moment) -> Result<BoardLine, Refused> {
+    let ready = prepare(book, asked, now)?;
+    Ok(ready.line(book))
+}
+
+// Whether the line of a change tells this.
+fn tells(line: Result<BoardLine, Refused>, put: Option<(Name, u64)>, accounts: [u64; 4]) -> bool {
+    match line {
+        Ok(line) => put_by(&line.change) == put && paid(&line.accounts) == accounts,
+        Err(_) => false,
+    }
+}
+
+// How far the upload is, what acme pays, and how many blocks are free.
+fn seen(rt: &impl Abort, book: &Book) -> Option<[u64; 3]> {
     let tenant = book.settings().tenant(ACME).expect(rt, "acme");
     let row = book.look(&acme(1), moment(rt, 1000)).ok()?;
-    Some((row.offset, book.charge(tenant), book.free_blocks()))
+    Some([row.offset, book.charge(tenant), book.free_blocks()])
 }
 
-// What an accepted PATCH gives,
-fn appended(rt: &impl Abort) -> Appended {
-    Appended {
-        offset: 5,
-        expires: Some(moment(rt, 4600)),
-    }
-}
-
-// and why the same is refused after it.
-fn refused(rt: &impl Abort) -> Refused {
-    Refused {
-        refusal: Refusal::Offset,
-        expires: Some(moment(rt, 4600)),
-    }
-}
-
-// An upload of acme's, in the book and in the plain program.
+// The upload, in the book and in the plain program.
 fn create(rt: &impl Abort, book: &mut Book, plain: &mut PlainBook) {
     let now = moment(rt, 1000);
     let place = book.settings().tenant(ACME).expect(rt, "acme");
-    let created = book.create(place, ten_bytes(), now);
+    let created = book.create(place, new_upload(false, Some(10)), now);
     let plainly = plain.create(rt, place, Kind::Plain, Some(10), &no_bytes(), now);
     assert!(rt; created == plainly);
 }
 
-// A PATCH that is let go costs nothing.
-fn assert_let_go(rt: &impl Abort, book: &mut Book) {
-    assert!(rt; patch(rt, book, false) == Ok(None));
-    assert!(rt; seen(rt, book) == Some((0, 0, 12)));
-}
-
-// And its line tells what will be.
-fn assert_foretold(rt: &impl Abort, book: &mut Book) {
-    let now = moment(rt, 1000);
-    assert!(rt; put(line(book, greeting(), now)) == Some((acme(1), 5)));
-    assert!(rt; paid(line(book, greeting(), now)) == Some((2, 0, 2, 0)));
-}
-
-// The line of a change at a second tells what will be charged and released in all, and what the two tenants will pay.
-fn assert_paid(
-    rt: &impl Abort,
-    book: &mut Book,
-    change: Change,
-    secs: u64,
-    expected: (u64, u64, u64, u64),
-)
-    requires { CanBeMade (length (plain_of book.old).settings.tenants) change }
-{
-    let now = moment(rt, secs);
-    assert!(rt;
-        paid(line(book, change, now)) == Some(expected),
-        "at second {secs}"
-    );
-}
-
-// A PATCH that is made answers as the plain program.
-fn assert_made(rt: &impl Abort, book: &mut Book, plain: &mut PlainBook) {
-    let plainly = plain.append(rt, &acme(1), &hello(), moment(rt, 1000));
-    assert!(rt; plainly == Ok(appended(rt)));
-    assert!(rt; patch(rt, book, true) == Ok(Some(Outcome::Appended(appended(rt)))));
-    assert!(rt; seen(rt, book) == Some((5, 2, 10)));
-}
-
-// The accounts after it have its blocks.
-fn assert_accounts(rt: &impl Abort, book: &Book) {
-    let accounts = book.accounts();
-    assert!(rt; accounts.charged == 2 && accounts.released == 0);
-    assert!(rt; accounts.charge[0] == 2 && accounts.charge[1] == 0);
-}
-
-// The same PATCH is refused after it, as by the plain program, and changes nothing.
-fn assert_refused(rt: &impl Abort, book: &mut Book, plain: &mut PlainBook) {
-    let plainly = plain.append(rt, &acme(1), &hello(), moment(rt, 1000));
-    assert!(rt; plainly == Err(refused(rt)));
-    assert!(rt; patch(rt, book, true) == Err(refused(rt)));
-    assert!(rt; seen(rt, book) == Some((5, 2, 10)));
+// Takes a step. Says whether the book shows what it has to.
+fn goes(rt: &impl Abort, book: &mut Book, plain: &mut PlainBook, step: &Step) -> bool {
+    match step {
+        Step::LetsGo => prepare(book, Asked::Patch, moment(rt, 1000)).is_ok(),
+        Step::Makes(told) => makes(rt, book, plain, *told),
+        Step::Foretells(asked, secs, put, accounts) => {
+            tells(line(book, *asked, moment(rt, *secs)), *put, *accounts)
+        }
+        Step::Accounts(accounts) => paid(&book.accounts()) == *accounts,
+        Step::Has(has) => seen(rt, book) == Some(*has),
+    }
 }
 
 #[test]
@@ -176,14 +191,7 @@ fn a_patch_in_two_halves(rt: HostRuntime) {
     let mut book = new_book(&rt, rt.alloc(), NUMBERS);
     let mut plain = PlainBook::new(rt.alloc(), NUMBERS, [8, 4]);
     create(&rt, &mut book, &mut plain);
-    assert_let_go(&rt, &mut book);
-    assert_foretold(&rt, &mut book);
-    assert_made(&rt, &mut book, &mut plain);
-    assert_accounts(&rt, &book);
-    // what ends the upload gives its blocks back, and a sweep too soon does not
-    let gone = Change::Terminate(acme(1));
-    assert_paid(&rt, &mut book, gone, 1000, (2, 2, 0, 0));
-    assert_paid(&rt, &mut book, Change::Sweep, 4599, (2, 0, 2, 0));
-    assert_paid(&rt, &mut book, Change::Sweep, 4600, (2, 2, 0, 0));
-    assert_refused(&rt, &mut book, &mut plain);
+    for (place, step) in STEPS.iter().enumerate() {
+        assert!(rt; goes(&rt, &mut book, &mut plain, step), "step {place}");
+    }
 }

@@ -92,14 +92,14 @@ fn secs(expires: Option<Moment>) -> Option<u64> {
     expires.map(|end| end.secs())
 }
 
-fn created<'a>(answer: Result<Created, Refusal>) -> Told<'a> {
+pub fn created<'a>(answer: Result<Created, Refusal>) -> Told<'a> {
     match answer {
         Ok(created) => Told::Created(created.name.id, secs(created.expires)),
         Err(refusal) => Told::Refused(refusal),
     }
 }
 
-fn appended<'a>(answer: Result<Appended, Refused>) -> Told<'a> {
+pub fn appended<'a>(answer: Result<Appended, Refused>) -> Told<'a> {
     match answer {
         Ok(appended) => Told::Appended(appended.offset, secs(appended.expires)),
         Err(refused) => Told::RefusedPatch(refused.refusal, secs(refused.expires)),
@@ -120,7 +120,7 @@ fn plain_row<'a>(answer: Result<PlainRow, Refusal>) -> Told<'a> {
     }
 }
 
-fn bytes<'a>(answer: &'a Result<Content, Refusal>) -> Told<'a> {
+pub fn bytes<'a>(answer: &'a Result<Content, Refusal>) -> Told<'a> {
     match answer {
         Ok(content) => Told::Bytes(content.as_slice()),
         Err(refusal) => Told::Refused(*refusal),
@@ -134,7 +134,7 @@ fn plain_bytes<'a>(answer: &'a Result<Vec<u8>, Refusal>) -> Told<'a> {
     }
 }
 
-fn removed<'a>(answer: Result<Removed, Refusal>) -> Told<'a> {
+pub fn removed<'a>(answer: Result<Removed, Refusal>) -> Told<'a> {
     match answer {
         Ok(removed) => Told::Removed(removed.blocks, removed.released),
         Err(refusal) => Told::Refused(refusal),
@@ -235,37 +235,47 @@ impl Pair {
     fn assert_content(&self, rt: &impl Abort, place: usize, name: Name, now: Moment, told: Told) {
         let answer = self.book.content(&name, now, self.book.no_room());
         let plainly = self.plain.content(rt, &name, now);
-        assert_told(rt, place, [bytes(&answer), plain_bytes(&plainly)], told);
+        let wrong = wrong_in([bytes(&answer), plain_bytes(&plainly)], told);
+        assert_right(rt, place, wrong);
     }
 
-    // Asserts that the uploads which expire are those of the plain book, in order, and that they are these where they
-    // are asked for.
-    fn assert_expiries(&self, rt: &impl Abort, place: usize, told: Told) {
-        let plainly = self.plain.expiries(rt);
+    // The uploads that expire, in order.
+    fn expiries(&self, rt: &impl Abort) -> Vec<Ending> {
         let mut endings = Vec::new(self.plain.alloc);
         for expiring in self.book.expiries() {
             let Name { tenant, id } = expiring.name;
             let ending = [expiring.at.secs(), u64::from(tenant), id];
             endings.push(ending).expect(rt, "memory");
         }
-        assert!(rt; endings == plainly, "after call {place}");
-        if let Told::Expire(expected) = told {
-            assert!(rt; endings.as_slice() == expected, "call {place}");
-        }
+        endings
     }
 
-    // Asserts what the tenants pay, how many blocks are free, and the two totals.
-    fn assert_paid(&self, rt: &impl Abort, place: usize, after: [u64; 5]) {
+    // Whether the uploads which expire are those of the plain book, in order, and these where they are asked for.
+    fn has_expiries(&self, rt: &impl Abort, told: Told) -> bool {
+        let endings = self.expiries(rt);
+        let is_expected = match told {
+            Told::Expire(expected) => endings.as_slice() == expected,
+            _ => true,
+        };
+        is_expected && endings == self.plain.expiries(rt)
+    }
+
+    // What the tenants pay, how many blocks are free, and the two totals.
+    fn paid(&self, rt: &impl Abort) -> [u64; 5] {
         let book = &self.book;
         let acme = book.settings().tenant(ACME).expect(rt, "acme");
         let beta = book.settings().tenant(BETA).expect(rt, "beta");
-        let paid = [
+        [
             book.charge(acme),
             book.charge(beta),
             book.free_blocks(),
             book.charged_total(),
             book.released_total(),
-        ];
+        ]
+    }
+
+    // The same by the plain book.
+    fn plainly_paid(&self) -> [u64; 5] {
         let plain = &self.plain;
         let (acme, beta) = (plain.charge(0), plain.charge(1));
         let free = plain
@@ -273,9 +283,20 @@ impl Pair {
             .blocks
             .saturating_sub(acme)
             .saturating_sub(beta);
-        let plainly = [acme, beta, free, plain.charged, plain.released];
-        assert!(rt; paid == after, "after call {place}");
-        assert!(rt; plainly == after, "after call {place}, by the plain book");
+        [acme, beta, free, plain.charged, plain.released]
+    }
+
+    // What is not as a step says after it, if anything.
+    fn wrong_after(&self, rt: &impl Abort, step: &Step) -> Option<&'static str> {
+        if !self.has_expiries(rt, step.told) {
+            Some("the uploads that expire")
+        } else if self.paid(rt) != step.after {
+            Some("what is paid")
+        } else if self.plainly_paid() != step.after {
+            Some("what is paid by the plain book")
+        } else {
+            None
+        }
     }
 }
 
@@ -321,11 +342,23 @@ fn untyped<'a>(bytes: &'a [u8]) -> Chunk<'a> {
     }
 }
 
-// Asserts what a call answers, of a book and of the plain one.
-fn assert_told(rt: &impl Abort, place: usize, answers: [Told; 2], told: Told) {
+// What of the answers, of a book and of the plain one, is not this, if anything.
+fn wrong_in(answers: [Told; 2], told: Told) -> Option<&'static str> {
     let [answer, plainly] = answers;
-    assert!(rt; answer == told, "call {place}");
-    assert!(rt; plainly == told, "call {place}, by the plain book");
+    if answer != told {
+        Some("the answer")
+    } else if plainly != told {
+        Some("the answer of the plain book")
+    } else {
+        None
+    }
+}
+
+// Asserts that nothing of a call is wrong.
+fn assert_right(rt: &impl Abort, place: usize, wrong: Option<&'static str>) {
+    if let Some(what) = wrong {
+        panic!(rt; "call {place}: {what}");
+    }
 }
 
 // What the call of a step answers, of a book and of the plain one.
@@ -387,9 +420,8 @@ fn later_answers(
 // Takes the pair through one step.
 fn take(rt: &impl Abort, pair: &mut Pair, place: usize, step: &Step) {
     let answers = answers(rt, pair, place, step);
-    assert_told(rt, place, answers, step.told);
-    pair.assert_expiries(rt, place, step.told);
-    pair.assert_paid(rt, place, step.after);
+    assert_right(rt, place, wrong_in(answers, step.told));
+    assert_right(rt, place, pair.wrong_after(rt, step));
 }
 
 /// Takes a new book, and a new plain one, through the steps of a table.
