@@ -1,24 +1,40 @@
 //! A book that is put back, piece by piece, beside the one that it was.
 
-ghost use Rattle.std.specs.Prelude.{◌≡◌, ℕ, List, [], ◌∷◌, Some, length};
+ghost use Rattle.std.specs.Prelude.{◌≡◌, ℕ, ◌<◌, List, [], ◌∷◌, Some, length};
 ghost use Rattle.upload_book.specs.Book.{plain_of};
 ghost use Rattle.upload_book.specs.declared.head_row.Kind.TheVariants.{Final};
 ghost use Rattle.upload_book.specs.snapshot.Restore.{CanBePutBack, HasSegments, IsRestorable};
 
 use crate::books::{ACME, NUMBERS, acme, create, end, join, moment, new_book, part, send};
 use crate::plain::PlainRow;
+use crate::restores::Piece::{Joined, Next, Own, Totals};
+use std::alloc::Global;
 use std::process::Abort;
 use tus_text::{Concat, read_concat};
 use upload_book::{
-    BoardLine, Book, Change, HeadChange, HeadRow, Kind, Moment, Numbers, Outcome, Refusal,
-    Restored, RestoredSegment, RestoredUpload,
+    Accounts, BoardLine, Book, Change, HeadChange, HeadRow, Kind, Moment, Numbers, Outcome,
+    Refusal, Restored, RestoredSegment, RestoredUpload,
 };
 
-/// An upload of its own that is put back: its id, whether it is a part, its length, its bytes and the second at which it
-/// expires.
-type Row<'a> = (u64, bool, Option<u64>, &'a [u8], Option<u64>);
+/// A piece that is put back.
+enum Piece {
+    /// An upload of acme's own: its id, whether it is a part, its length, its bytes and the second at which it expires.
+    Own(u64, bool, Option<u64>, &'static [u8], Option<u64>),
+    /// A final upload of acme of two parts: its id, its length, both parts, and the second at which it expires.
+    Joined(u64, u64, Part, Part, Option<u64>),
+    /// Acme's next id.
+    Next(u64),
+    /// How many blocks were released.
+    Totals(u64),
+}
 
-// One that is put back with this segment, without metadata.
+/// A part: its id, and the bytes that it brings.
+type Part = (u64, Option<&'static [u8]>);
+
+/// A piece, and why it is not put back, if it is not.
+type Step = (Piece, Option<Refusal>);
+
+// An upload of its own that is put back with this segment, without metadata.
 fn own_upload<'a>(
     partial: bool,
     id: u64,
@@ -89,38 +105,98 @@ fn assert_row(rt: &impl Abort, told: &HeadRow, row: &HeadRow) {
     assert!(rt; told.concat.as_slice() == row.concat.as_slice());
 }
 
-// Puts back an upload of acme.
-fn restore(rt: &impl Abort, book: &mut Book, row: &Row) -> Result<(), Refusal> {
-    let acme = book.settings().tenant(ACME).expect(rt, "acme");
-    let (id, partial, declared, bytes, expires) = *row;
+// Puts back an upload of acme's own.
+fn restore_own(
+    rt: &impl Abort,
+    book: &mut Book,
+    id: u64,
+    partial: bool,
+    declared: Option<u64>,
+    bytes: &[u8],
+    expires: Option<u64>,
+) -> Result<(), Refusal> {
+    let tenant = book.settings().tenant(ACME).expect(rt, "acme");
     let segments = [RestoredSegment {
         origin: id,
         bytes: Some(bytes),
     }];
     let expires = expires.and_then(Moment::new);
     let upload = own_upload(partial, id, declared, &segments, expires);
-    let piece = Restored::Upload {
-        tenant: acme,
-        upload,
-    };
-    put_back(rt, book, piece)
+    put_back(rt, book, Restored::Upload { tenant, upload })
 }
 
-// Asserts that an upload of acme is put back.
-fn assert_restored(rt: &impl Abort, book: &mut Book, row: &Row) {
-    assert!(rt; restore(rt, book, row) == Ok(()));
+// The segment of a part of a final upload of this id.
+fn part_segment(rt: &impl Abort, id: u64, part: Part) -> RestoredSegment<'static>
+    ensures some { 0 < result.origin }
+    ensures earlier { result.origin < id }
+{
+    let (origin, bytes) = part;
+    assert!(rt; 0 < origin && origin < id);
+    RestoredSegment { origin, bytes }
 }
 
-// Asserts what the putting back of acme's next id answers.
-fn assert_next(rt: &impl Abort, book: &mut Book, next: u64, answer: Result<(), Refusal>) {
-    let acme = book.settings().tenant(ACME).expect(rt, "acme");
-    let piece = Restored::Next { tenant: acme, next };
-    assert!(rt; put_back(rt, book, piece) == answer);
+// Puts back a final upload of acme.
+fn restore_final(
+    rt: &impl Abort,
+    book: &mut Book,
+    id: u64,
+    declared: u64,
+    first: Part,
+    second: Part,
+    expires: Option<u64>,
+) -> Result<(), Refusal> {
+    let tenant = book.settings().tenant(ACME).expect(rt, "acme");
+    let segments = [part_segment(rt, id, first), part_segment(rt, id, second)];
+    let expires = expires.and_then(Moment::new);
+    let upload = final_upload(rt, id, declared, &segments, expires);
+    put_back(rt, book, Restored::Upload { tenant, upload })
 }
 
-// Asserts what the putting back of the totals answers.
-fn assert_totals(rt: &impl Abort, book: &mut Book, released: u64, answer: Result<(), Refusal>) {
-    assert!(rt; put_back(rt, book, Restored::Totals { released }) == answer);
+// Puts back acme's next id.
+fn restore_next(rt: &impl Abort, book: &mut Book, next: u64) -> Result<(), Refusal> {
+    let tenant = book.settings().tenant(ACME).expect(rt, "acme");
+    put_back(rt, book, Restored::Next { tenant, next })
+}
+
+fn restore(rt: &impl Abort, book: &mut Book, piece: &Piece) -> Result<(), Refusal> {
+    match piece {
+        Own(id, partial, declared, bytes, expires) => {
+            restore_own(rt, book, *id, *partial, *declared, bytes, *expires)
+        }
+        Joined(id, declared, first, second, expires) => {
+            restore_final(rt, book, *id, *declared, *first, *second, *expires)
+        }
+        Next(next) => restore_next(rt, book, *next),
+        Totals(released) => put_back(
+            rt,
+            book,
+            Restored::Totals {
+                released: *released,
+            },
+        ),
+    }
+}
+
+// Whether a piece is put back, or not, as the step says. What is refused changes neither what HEADs tell nor the accounts.
+fn goes(rt: &impl Abort, book: &mut Book, step: &Step) -> bool {
+    let before = seen(rt, book);
+    let (piece, refusal) = step;
+    let refused = restore(rt, book, piece).err();
+    refused == *refusal && (refused.is_none() || seen(rt, book) == before)
+}
+
+// A new book after these steps.
+fn book_after(rt: &impl Abort, alloc: Global, numbers: Numbers, steps: &[Step]) -> Book {
+    let mut book = new_book(rt, alloc, numbers);
+    for (place, step) in steps.iter().enumerate() {
+        assert!(rt; goes(rt, &mut book, step), "piece {place}");
+    }
+    book
+}
+
+// Takes a new book through these steps.
+fn run(rt: &impl Abort, alloc: Global, numbers: Numbers, steps: &[Step]) {
+    book_after(rt, alloc, numbers, steps);
 }
 
 // What HEADs tell at second 1000 of acme's first uploads, without their texts.
@@ -138,6 +214,11 @@ fn told(rt: &impl Abort, book: &Book) -> [Result<PlainRow, Refusal>; 7] {
     rows
 }
 
+// The same, and the accounts.
+fn seen(rt: &impl Abort, book: &Book) -> ([Result<PlainRow, Refusal>; 7], Accounts) {
+    (told(rt, book), book.accounts())
+}
+
 // A book of acme with uploads of each kind of its own, of which the second has ended.
 pub(crate) fn requested(rt: &impl Abort, book: &mut Book) {
     for length in [Some(10), Some(4), None, Some(2)] {
@@ -151,11 +232,17 @@ pub(crate) fn requested(rt: &impl Abort, book: &mut Book) {
 }
 
 // What puts it back.
-const ROWS: [Row<'static>; 4] = [
-    (1, false, Some(10), b"hello", Some(4600)),
-    (3, false, None, b"", Some(4600)),
-    (4, false, Some(2), b"hi", None),
-    (5, true, Some(5), b"abcde", Some(4600)),
+static PIECES: [Step; 10] = [
+    (Next(1), None),
+    (Own(1, false, Some(10), b"hello", Some(4600)), None),
+    (Next(3), None),
+    (Own(3, false, None, b"", Some(4600)), None),
+    (Next(4), None),
+    (Own(4, false, Some(2), b"hi", None), None),
+    (Next(5), None),
+    (Own(5, true, Some(5), b"abcde", Some(4600)), None),
+    (Next(6), None),
+    (Totals(1), None),
 ];
 
 // Asserts that HEADs tell the same of both books, and that these have the same accounts, ends and free blocks.
@@ -166,59 +253,58 @@ fn assert_alike(rt: &impl Abort, book: &Book, was: &Book) {
     assert!(rt; book.free_blocks() == was.free_blocks());
 }
 
+// Asserts that a book is put back by these steps.
+fn assert_put_back(rt: &impl Abort, alloc: Global, was: &Book, steps: &[Step]) {
+    let book = book_after(rt, alloc, NUMBERS, steps);
+    assert_alike(rt, &book, was);
+}
+
 #[test]
 fn a_book_is_put_back(rt: HostRuntime) {
     let mut was = new_book(&rt, rt.alloc(), NUMBERS);
     requested(&rt, &mut was);
-    let mut book = new_book(&rt, rt.alloc(), NUMBERS);
-    for row in &ROWS {
-        assert_next(&rt, &mut book, row.0, Ok(()));
-        assert_restored(&rt, &mut book, row);
-    }
-    assert_next(&rt, &mut book, 6, Ok(()));
-    assert_totals(&rt, &mut book, 1, Ok(()));
-    assert_alike(&rt, &book, &was);
+    assert_put_back(&rt, rt.alloc(), &was, &PIECES);
 }
 
-// What is not put back behind acme's upload 1, of which there may be two, with ids up to 9.
-static REFUSED: [(Row<'static>, Refusal); 8] = [
-    ((1, false, None, b"", Some(4600)), Refusal::Field),
-    ((2, false, Some(2), b"hi", Some(4600)), Refusal::Field),
-    ((2, false, Some(3), b"hi", None), Refusal::Field),
-    ((2, true, Some(2), b"hi", None), Refusal::Field),
-    ((2, false, Some(1), b"hi", Some(4600)), Refusal::TooLong),
-    ((2, false, Some(65), b"hi", Some(4600)), Refusal::TooLong),
-    ((3, false, None, b"hi", Some(4600)), Refusal::Field),
+// What is not put back where acme may have two uploads, ids up to 9, and as many blocks charged in all.
+static REFUSED: [Step; 17] = [
+    (Own(1, false, None, b"", Some(4600)), None),
+    (Own(1, false, None, b"", Some(4600)), Some(Refusal::Field)),
     (
-        (
+        Own(2, false, Some(2), b"hi", Some(4600)),
+        Some(Refusal::Field),
+    ),
+    (Own(2, false, Some(3), b"hi", None), Some(Refusal::Field)),
+    (Own(2, true, Some(2), b"hi", None), Some(Refusal::Field)),
+    (
+        Own(2, false, Some(1), b"hi", Some(4600)),
+        Some(Refusal::TooLong),
+    ),
+    (
+        Own(2, false, Some(65), b"hi", Some(4600)),
+        Some(Refusal::TooLong),
+    ),
+    (Own(3, false, None, b"hi", Some(4600)), Some(Refusal::Field)),
+    (
+        Own(
             2,
             false,
             None,
             b"0123456789012345678901234567890123",
             Some(4600),
         ),
-        Refusal::Quota,
+        Some(Refusal::Quota),
     ),
+    // next ids and totals, and the last total, which is put back
+    (Next(1), Some(Refusal::Field)),
+    (Next(11), Some(Refusal::Spent)),
+    (Totals(10), Some(Refusal::Spent)),
+    (Totals(9), None),
+    (Totals(8), Some(Refusal::Field)),
+    (Own(2, false, None, b"x", Some(4600)), Some(Refusal::Spent)),
+    (Own(2, false, None, b"", Some(4600)), None),
+    (Own(3, false, None, b"", Some(4600)), Some(Refusal::Uploads)),
 ];
-
-// Nothing that is refused changes what HEADs tell, what is charged, or when uploads expire.
-fn assert_refused(rt: &impl Abort, book: &mut Book, row: &Row, refusal: Refusal) {
-    let before = (told(rt, book), book.accounts());
-    assert!(rt;
-        restore(rt, book, row) == Err(refusal),
-        "it is refused otherwise"
-    );
-    assert!(rt; (told(rt, book), book.accounts()) == before);
-}
-
-// Next ids and totals that are not put back behind it, and the last total, which is.
-fn assert_bounds(rt: &impl Abort, book: &mut Book) {
-    assert_next(rt, book, 1, Err(Refusal::Field));
-    assert_next(rt, book, 11, Err(Refusal::Spent));
-    assert_totals(rt, book, 10, Err(Refusal::Spent));
-    assert_totals(rt, book, 9, Ok(()));
-    assert_totals(rt, book, 8, Err(Refusal::Field));
-}
 
 #[test]
 fn what_is_not_put_back(rt: HostRuntime) {
@@ -228,26 +314,16 @@ fn what_is_not_put_back(rt: HostRuntime) {
         last_total: 9,
         ..NUMBERS
     };
-    let mut book = new_book(&rt, rt.alloc(), numbers);
-    assert_restored(&rt, &mut book, &(1, false, None, b"", Some(4600)));
-    for (row, refusal) in &REFUSED {
-        assert_refused(&rt, &mut book, row, *refusal);
-    }
-    assert_bounds(&rt, &mut book);
-    assert_refused(
-        &rt,
-        &mut book,
-        &(2, false, None, b"x", Some(4600)),
-        Refusal::Spent,
-    );
-    assert_restored(&rt, &mut book, &(2, false, None, b"", Some(4600)));
-    assert_refused(
-        &rt,
-        &mut book,
-        &(3, false, None, b"", Some(4600)),
-        Refusal::Uploads,
-    );
+    run(&rt, rt.alloc(), numbers, &REFUSED);
 }
+
+// The last id is 9.
+static LAST_IDS: [Step; 4] = [
+    (Own(10, false, None, b"", Some(4600)), Some(Refusal::Field)),
+    (Next(10), None),
+    (Own(10, false, None, b"", Some(4600)), Some(Refusal::Spent)),
+    (Next(9), Some(Refusal::Field)),
+];
 
 #[test]
 fn ids_that_are_not_put_back(rt: HostRuntime) {
@@ -255,21 +331,10 @@ fn ids_that_are_not_put_back(rt: HostRuntime) {
         last_id: 9,
         ..NUMBERS
     };
-    let mut book = new_book(&rt, rt.alloc(), numbers);
-    let last: Row = (10, false, None, b"", Some(4600));
-    assert_refused(&rt, &mut book, &last, Refusal::Field);
-    assert_next(&rt, &mut book, 10, Ok(()));
-    assert_refused(&rt, &mut book, &last, Refusal::Spent);
-    assert_next(&rt, &mut book, 9, Err(Refusal::Field));
+    run(&rt, rt.alloc(), numbers, &LAST_IDS);
 }
 
-/// A final upload of two parts that is put back: its id, its length, its parts, and the second at which it expires.
-type FinalRow<'a> = (u64, u64, PartRow<'a>, PartRow<'a>, Option<u64>);
-
-/// A part of it: its id, and the bytes that it brings.
-type PartRow<'a> = (u64, Option<&'a [u8]>);
-
-// One that is put back with these segments, without metadata. The book keeps its text, and does not read it.
+// A final upload that is put back with these segments, without metadata. The book keeps its text, and does not read it.
 fn final_upload<'a>(
     rt: &impl Abort,
     id: u64,
@@ -296,35 +361,6 @@ fn final_upload<'a>(
     }
 }
 
-// Puts back a final upload of acme.
-fn restore_final(rt: &impl Abort, book: &mut Book, row: &FinalRow) -> Result<(), Refusal> {
-    let acme = book.settings().tenant(ACME).expect(rt, "acme");
-    let (id, declared, first, second, expires) = *row;
-    assert!(rt; 0 < first.0 && first.0 < id && 0 < second.0 && second.0 < id);
-    let segments = [
-        RestoredSegment {
-            origin: first.0,
-            bytes: first.1,
-        },
-        RestoredSegment {
-            origin: second.0,
-            bytes: second.1,
-        },
-    ];
-    let expires = expires.and_then(Moment::new);
-    let upload = final_upload(rt, id, declared, &segments, expires);
-    let piece = Restored::Upload {
-        tenant: acme,
-        upload,
-    };
-    put_back(rt, book, piece)
-}
-
-// Asserts that a final upload of acme is put back.
-fn assert_final_restored(rt: &impl Abort, book: &mut Book, row: &FinalRow) {
-    assert!(rt; restore_final(rt, book, row) == Ok(()));
-}
-
 // A book of acme with a final upload of one part twice and one of it and another, whose parts have ended, and with one of a
 // part that stands.
 pub(crate) fn joined(rt: &impl Abort, book: &mut Book) {
@@ -339,25 +375,17 @@ pub(crate) fn joined(rt: &impl Abort, book: &mut Book) {
     join(rt, book, &[Some(5), Some(5)]);
 }
 
-// What puts back those whose parts have ended: of each part the bytes come once.
-const FINAL_ROWS: [FinalRow<'static>; 2] = [
-    (3, 10, (1, Some(b"abcde")), (1, None), None),
-    (4, 7, (1, None), (2, Some(b"fg")), None),
+// What puts it back: of each part that has ended the bytes come once.
+static FINAL_PIECES: [Step; 8] = [
+    (Next(3), None),
+    (Joined(3, 10, (1, Some(b"abcde")), (1, None), None), None),
+    (Next(4), None),
+    (Joined(4, 7, (1, None), (2, Some(b"fg")), None), None),
+    (Own(5, true, Some(2), b"hi", Some(4600)), None),
+    (Joined(6, 4, (5, None), (5, None), None), None),
+    (Next(7), None),
+    (Totals(0), None),
 ];
-
-// Puts it back.
-fn restored(rt: &impl Abort, book: &mut Book) {
-    for row in &FINAL_ROWS {
-        assert_next(rt, book, row.0, Ok(()));
-        assert_final_restored(rt, book, row);
-    }
-    let own: Row = (5, true, Some(2), b"hi", Some(4600));
-    assert_restored(rt, book, &own);
-    let last: FinalRow = (6, 4, (5, None), (5, None), None);
-    assert_final_restored(rt, book, &last);
-    assert_next(rt, book, 7, Ok(()));
-    assert_totals(rt, book, 0, Ok(()));
-}
 
 // How many uploads acme has.
 fn count(rt: &impl Abort, book: &Book) -> u64 {
@@ -376,78 +404,102 @@ fn assert_same(rt: &impl Abort, book: &Book, was: &Book, id: u64) {
     assert!(rt; book.holders(&name, 1, 0) == was.holders(&name, 1, 0));
 }
 
+// Asserts that a book with four finals and parts is put back by these steps.
+fn assert_finals_put_back(rt: &impl Abort, alloc: Global, was: &Book, steps: &[Step]) {
+    let book = book_after(rt, alloc, NUMBERS, steps);
+    assert_alike(rt, &book, was);
+    assert!(rt; count(rt, &book) == 4);
+    for id in 3..7 {
+        assert_same(rt, &book, was, id);
+    }
+}
+
 #[test]
 fn finals_are_put_back(rt: HostRuntime) {
     let mut was = new_book(&rt, rt.alloc(), NUMBERS);
     joined(&rt, &mut was);
-    let mut book = new_book(&rt, rt.alloc(), NUMBERS);
-    restored(&rt, &mut book);
-    assert!(&rt; count(&rt, &book) == 4);
-    assert_alike(&rt, &book, &was);
-    for id in 3..7 {
-        assert_same(&rt, &book, &was, id);
-    }
+    assert_finals_put_back(&rt, rt.alloc(), &was, &FINAL_PIECES);
 }
 
-// What is not put back behind acme's part 1 of 5 bytes and its part 2, which lacks some, where 4 is the next id.
-static REFUSED_FINALS: [(FinalRow<'static>, Refusal); 8] = [
-    ((5, 10, (1, None), (1, None), None), Refusal::Field),
-    ((4, 10, (1, None), (1, Some(b"abcde")), None), Refusal::Part),
-    ((4, 10, (1, None), (3, None), None), Refusal::Part),
-    ((4, 11, (1, None), (1, None), None), Refusal::Field),
-    ((4, 10, (1, None), (1, None), Some(4600)), Refusal::Field),
+// Behind acme's part 1 of 5 bytes and its part 2, which lacks some, 4 is the next id.
+static REFUSED_FINALS: [Step; 12] = [
+    (Own(1, true, Some(5), b"abcde", Some(4600)), None),
+    (Own(2, true, Some(9), b"fg", Some(4600)), None),
+    (Next(4), None),
     (
-        (
+        Joined(5, 10, (1, None), (1, None), None),
+        Some(Refusal::Field),
+    ),
+    (
+        Joined(4, 10, (1, None), (1, Some(b"abcde")), None),
+        Some(Refusal::Part),
+    ),
+    (
+        Joined(4, 10, (1, None), (3, None), None),
+        Some(Refusal::Part),
+    ),
+    (
+        Joined(4, 11, (1, None), (1, None), None),
+        Some(Refusal::Field),
+    ),
+    (
+        Joined(4, 10, (1, None), (1, None), Some(4600)),
+        Some(Refusal::Field),
+    ),
+    (
+        Joined(
             4,
             66,
             (3, Some(b"012345678901234567890123456789012")),
             (3, None),
             None,
         ),
-        Refusal::TooLong,
+        Some(Refusal::TooLong),
     ),
-    ((4, 7, (1, None), (2, None), None), Refusal::PartOpen),
     (
-        (
+        Joined(4, 7, (1, None), (2, None), None),
+        Some(Refusal::PartOpen),
+    ),
+    (
+        Joined(
             4,
             29,
             (1, None),
             (3, Some(b"012345678901234567890123")),
             None,
         ),
-        Refusal::Quota,
+        Some(Refusal::Quota),
     ),
+    (Joined(4, 10, (1, None), (1, None), None), None),
 ];
-
-// Nothing that is refused changes what HEADs tell, or what is charged.
-fn assert_final_refused(rt: &impl Abort, book: &mut Book, row: &FinalRow, refusal: Refusal) {
-    let before = (told(rt, book), book.accounts());
-    assert!(rt;
-        restore_final(rt, book, row) == Err(refusal),
-        "it is refused otherwise"
-    );
-    assert!(rt; (told(rt, book), book.accounts()) == before);
-}
-
-// Puts back acme's part 1 of 5 bytes and its part 2, which lacks some; 4 is then the next id.
-fn with_parts(rt: &impl Abort, book: &mut Book) {
-    let whole: Row = (1, true, Some(5), b"abcde", Some(4600));
-    assert_restored(rt, book, &whole);
-    let open: Row = (2, true, Some(9), b"fg", Some(4600));
-    assert_restored(rt, book, &open);
-    assert_next(rt, book, 4, Ok(()));
-}
 
 #[test]
 fn finals_that_are_not_put_back(rt: HostRuntime) {
-    let mut book = new_book(&rt, rt.alloc(), NUMBERS);
-    with_parts(&rt, &mut book);
-    for (row, refusal) in &REFUSED_FINALS {
-        assert_final_refused(&rt, &mut book, row, *refusal);
-    }
-    let held: FinalRow = (4, 10, (1, None), (1, None), None);
-    assert_final_restored(&rt, &mut book, &held);
+    run(&rt, rt.alloc(), NUMBERS, &REFUSED_FINALS);
 }
+
+// There may be two uploads.
+static TWO_UPLOADS: [Step; 4] = [
+    (Own(1, true, Some(5), b"abcde", Some(4600)), None),
+    (Own(2, true, Some(9), b"fg", Some(4600)), None),
+    (Next(4), None),
+    (
+        Joined(4, 10, (1, None), (1, None), None),
+        Some(Refusal::Uploads),
+    ),
+];
+
+// Four blocks may be charged in all.
+static FOUR_BLOCKS: [Step; 5] = [
+    (Own(1, true, Some(5), b"abcde", Some(4600)), None),
+    (Own(2, true, Some(9), b"fg", Some(4600)), None),
+    (Next(4), None),
+    (
+        Joined(4, 10, (1, None), (3, Some(b"01234")), None),
+        Some(Refusal::Spent),
+    ),
+    (Joined(4, 9, (1, None), (3, Some(b"0123")), None), None),
+];
 
 #[test]
 fn finals_past_the_last(rt: HostRuntime) {
@@ -455,18 +507,10 @@ fn finals_past_the_last(rt: HostRuntime) {
         uploads: 2,
         ..NUMBERS
     };
-    let mut book = new_book(&rt, rt.alloc(), few);
-    with_parts(&rt, &mut book);
-    let held: FinalRow = (4, 10, (1, None), (1, None), None);
-    assert_final_refused(&rt, &mut book, &held, Refusal::Uploads);
+    run(&rt, rt.alloc(), few, &TWO_UPLOADS);
     let spent = Numbers {
         last_total: 4,
         ..NUMBERS
     };
-    let mut book = new_book(&rt, rt.alloc(), spent);
-    with_parts(&rt, &mut book);
-    let two: FinalRow = (4, 10, (1, None), (3, Some(b"01234")), None);
-    assert_final_refused(&rt, &mut book, &two, Refusal::Spent);
-    let one: FinalRow = (4, 9, (1, None), (3, Some(b"0123")), None);
-    assert_final_restored(&rt, &mut book, &one);
+    run(&rt, rt.alloc(), spent, &FOUR_BLOCKS);
 }

@@ -13,42 +13,82 @@ type Piece<'a> = (
     Option<u64>,
 );
 
-// The segment has this origin, and brings these bytes, at most eight, which lie in blocks of four.
-fn assert_segment(rt: &impl Abort, segment: &KeptSegment, origin: u64, bytes: Option<&[u8]>) {
+// The bytes that a segment brings, at most eight, which lie in blocks of four: how many there are, and those of each block.
+type Brought<'a> = (Option<u64>, &'a [u8], &'a [u8]);
+
+fn brought<'a>(segment: &KeptSegment<'a>) -> Brought<'a> {
+    (segment.len(), segment.bytes_from(0), segment.bytes_from(4))
+}
+
+fn expected<'a>(bytes: Option<&'a [u8]>) -> Brought<'a> {
+    match bytes {
+        Some(bytes) => {
+            let (first, second) = bytes.split_at(bytes.len().min(4));
+            (Some(bytes.len() as u64), first, second)
+        }
+        None => (None, b"", b""),
+    }
+}
+
+// What a piece is beside its bytes: its id, what it is for, its length, the second at which it expires, and how many
+// segments it has.
+type Shape = (u64, Kind, Option<u64>, Option<u64>, usize);
+
+fn shape(kept: &KeptUpload) -> Shape {
+    let row = kept.row();
+    let growth = row.growth();
+    let expires = growth.expires.map(Moment::secs);
+    (
+        kept.id(),
+        row.kind(),
+        growth.declared,
+        expires,
+        kept.segment_count(),
+    )
+}
+
+// The segment at a place has this origin, and brings these bytes.
+fn assert_segment(
+    rt: &impl Abort,
+    kept: &KeptUpload,
+    place: usize,
+    origin: u64,
+    bytes: Option<&[u8]>,
+) {
+    assert!(rt; place < kept.segment_count());
+    let segment = kept.segment(place);
     assert!(rt; segment.origin() == origin);
-    let Some(bytes) = bytes else {
-        assert!(rt; segment.len().is_none());
-        return;
-    };
-    assert!(rt; segment.len() == Some(bytes.len() as u64));
-    let (first, second) = bytes.split_at(bytes.len().min(4));
-    assert!(rt; segment.bytes_from(0) == first);
-    assert!(rt; segment.bytes_from(4) == second);
+    assert!(rt; brought(&segment) == expected(bytes));
 }
 
 fn assert_piece(rt: &impl Abort, kept: &KeptUpload, piece: &Piece) {
     let (id, kind, declared, segments, expires) = *piece;
-    assert!(rt; kept.id() == id);
-    let row = kept.row();
-    assert!(rt; row.kind() == kind);
-    assert!(rt; row.growth().declared == declared);
-    assert!(rt; row.growth().expires.map(Moment::secs) == expires);
-    assert!(rt; kept.segment_count() == segments.len());
-    for place in 0..segments.len() {
-        let (origin, bytes) = segments[place];
-        assert_segment(rt, &kept.segment(place), origin, bytes);
+    assert!(rt; shape(kept) == (id, kind, declared, expires, segments.len()));
+    for (place, (origin, bytes)) in segments.iter().enumerate() {
+        assert_segment(rt, kept, place, *origin, *bytes);
     }
+}
+
+// The piece of acme at a place.
+fn kept_at<'a>(rt: &impl Abort, book: &'a Book, place: usize) -> Option<KeptUpload<'a>> {
+    let acme = book.settings().tenant(ACME).expect(rt, "acme");
+    book.kept_upload(acme, place)
+}
+
+// Acme's next id.
+fn next_id(rt: &impl Abort, book: &Book) -> u64 {
+    let acme = book.settings().tenant(ACME).expect(rt, "acme");
+    book.next_id(acme)
 }
 
 // The pieces of acme are these, in their order, and then its next id.
 fn assert_pieces(rt: &impl Abort, book: &Book, pieces: &[Piece], next: u64) {
-    let acme = book.settings().tenant(ACME).expect(rt, "acme");
-    for place in 0..pieces.len() {
-        let kept = book.kept_upload(acme, place).expect(rt, "an upload");
-        assert_piece(rt, &kept, &pieces[place]);
+    for (place, piece) in pieces.iter().enumerate() {
+        let kept = kept_at(rt, book, place).expect(rt, "an upload");
+        assert_piece(rt, &kept, piece);
     }
-    assert!(rt; book.kept_upload(acme, pieces.len()).is_none());
-    assert!(rt; book.next_id(acme) == next);
+    assert!(rt; kept_at(rt, book, pieces.len()).is_none());
+    assert!(rt; next_id(rt, book) == next);
 }
 
 // Those of uploads of their own, of which the second has ended.
