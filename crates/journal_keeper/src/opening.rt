@@ -1,5 +1,5 @@
 //! A journal that is opened, and a store whose changes are made again of its records.
-ghost use Rattle.std.specs.Prelude.{◌≡◌, ℕ, List, [], length, Some, None, Ok, All, false, IsTrue, IfErr, IfOk, IsErrOf, OnErr, OnOk};
+ghost use Rattle.std.specs.Prelude.{◌≡◌, ℕ, List, [], length, Some, None, Ok, All, false, IsTrue, IfErr, IfOk, IsErrOf, OnErr, OnOk, IsSome};
 ghost use Rattle.book_replay.specs.Replay.{after_accepted, after_record, replayed};
 ghost use Rattle.head_board.specs.Event.{Event};
 ghost use Rattle.head_board.specs.Events.{HaveHappened, book_at};
@@ -150,6 +150,7 @@ fn make_all_again<C: Charges, R: Ledger, M: Ledger, B: Wait + Drop, P: Progress>
     mut records: Frames,
     progress: &mut P,
 ) -> Result<u64, ReopenFault>
+    requires journal { IsSome C.journal }
     requires store { store.old ≡ [] }
     requires seen { desk.old.seen ≡ [] }
     ensures happened { HaveHappened C.settings store.new }
@@ -199,6 +200,7 @@ fn make_record_again<C: Charges, R: Ledger, M: Ledger, B: Wait + Drop>(
     desk: &mut Desk<C, R, M>,
     bytes: &[u8],
 ) -> Result<(), NotMade>
+    requires journal { IsSome C.journal }
     requires seen { desk.old.seen ≡ store.old }
     ensures happened { OnOk result (HaveHappened C.settings store.new) }
     ensures made { OnOk result (IsMadeAgain desk.old.number bytes.now store.old store.new) }
@@ -226,6 +228,7 @@ fn make_change_again<C: Charges, R: Ledger, M: Ledger, B: Wait + Drop>(
     change: Change,
     now: Moment,
 ) -> Result<(), NotMade>
+    requires journal { IsSome C.journal }
     requires seen { desk.old.seen ≡ store.old }
     ensures happened { OnOk result (HaveHappened C.settings store.new) }
     ensures made { OnOk result (IsNextEvent store.old desk.old.number change.entry now store.new) }

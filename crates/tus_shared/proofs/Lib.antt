@@ -1,5 +1,6 @@
 pub mod SharesLemmas
 pub mod EventLemmas
+pub mod FinalLemmas
 pub mod TenantLemmas
 pub mod ZipLemmas
 pub mod ChangeLemmas

@@ -13,8 +13,10 @@ use Rattle.upload_book.specs.Settings.{Settings}
 use Rattle.head_board.specs.Event.{Event}
 use Rattle.head_board.specs.Events.{HaveHappened, book_at, change_event}
 use Rattle.tus_shared.specs.Journal.{AreTaken, CanBeReplayed, change_frame, event_frame, event_frames, journal_len}
+use Rattle.tus_shared.specs.Finals.{RestoreNothing, RestoresNothing}
 use Rattle.tus_shared.specs.inside.QueueRule.{IsFramed, IsQueued, QueueView, Takes, Waits, new_queue, passed}
 use Rattle.tus_shared.proofs.ChangeLemmas.{event_by}
+use Rattle.tus_shared.proofs.FinalLemmas.{none-restored, restored-on}
 
 -- lists that begin each other are the same
 pub prefix-both : (a b : List Event) → IsPrefix a b → IsPrefix b a → a ≡ b
@@ -52,11 +54,16 @@ pub replayed-on : (s : Settings) (before more events : List Event) (e : Event) �
 replayed-on s before more events e is again here =
     replay-one (book_at s before) more e again (subst (λ (b : PlainBook). Happens b (change_event e)) (ap (book_at s) is ∙ after-more (opening_book s) before more) here)
 
+-- without a journal nothing is restored by one event more
+joined-on : (journal : Option ℕ) (events after : List Event) (e : Event) → after ≡ events ++ e ∷ [] → (journal ≡ None → RestoresNothing e.change) → (journal ≡ None → RestoreNothing events) → journal ≡ None → RestoreNothing after
+joined-on journal events after e next joins before none = restored-on events after e next (before none) (joins none)
+
 -- the queue of a store after one event more
 pub queue-on : (s : Settings) (journal : Option ℕ) (log : Book) (events after : List Event) (e : Event) (frame : Option (List ℕ)) (old new : Option QueueView) (room spare left : ℕ)
-    → IsFramed true old frame room spare new left → IsFrameOf journal e frame → after ≡ events ++ e ∷ [] → Happens (book_at s events) (change_event e) → IsQueued s journal log events old → IsQueued s journal log after new
-queue-on s journal log events after e frame None new room spare left framed is next here queued = subst (IsQueued s journal log after) (sym framed.1) (record { there = queued.there; waits = tt })
-queue-on s journal log events after e frame (Some waiting) new room spare left framed is next here queued =
+    → IsFramed true old frame room spare new left → IsFrameOf journal e frame → after ≡ events ++ e ∷ [] → Happens (book_at s events) (change_event e) → (journal ≡ None → RestoresNothing e.change)
+    → IsQueued s journal log events old → IsQueued s journal log after new
+queue-on s journal log events after e frame None new room spare left framed is next here joins queued = subst (IsQueued s journal log after) (sym framed.1) (record { there = queued.there; waits = tt; joined = joined-on journal events after e next joins queued.joined })
+queue-on s journal log events after e frame (Some waiting) new room spare left framed is next here joins queued =
     let w : Waits s journal log events waiting = queued.waits in
     let frames : waiting.frames ++ framed.bytes ∷ [] ≡ event_frames journal w.more ++ event_frame journal e ∷ [] = ap₂ (λ (fs : List (List ℕ)) (b : List ℕ). fs ++ b ∷ []) w.frames_are (frame-is journal e frame framed.bytes framed.is is) in
     subst (IsQueued s journal log after) (sym framed.queued) (record {
@@ -68,6 +75,7 @@ queue-on s journal log events after e frame (Some waiting) new room spare left f
         frames_are = frames ∙ sym (map-append (event_frame journal) w.more (e ∷ []));
         again = replayed-on s waiting.behind w.more events e w.reaches w.again here;
       };
+      joined = joined-on journal events after e next joins queued.joined;
     })
 
 -- where no frame is queued, there is a queue, and it stays
@@ -102,18 +110,23 @@ spends-one journal own before after e room left now is next stays spent =
     let same : length (event_frame own e) ≡ length (event_frame journal e) = ap (λ (j : Option ℕ). length (event_frame j e)) is in
     omega arith
 
+-- where there is a journal, what holds without one is nothing
+none-there : (journal : Option ℕ) (events : List Event) → IsSome journal → journal ≡ None → RestoreNothing events
+none-there journal events there none = absurd (let no = subst (λ (j : Option ℕ). IsSome j) none there in cc)
+
 -- a queue in which nothing waits begins behind more events
-pub queue-passed : (s : Settings) (journal : Option ℕ) (log : Book) (events all : List Event) (old : Option QueueView) → IfSome old (λ (q : QueueView). q.frames ≡ []) → IsQueued s journal log events old → IsQueued s journal log all (passed old log all)
-queue-passed s journal log events all None idle queued = record { there = queued.there; waits = tt }
-queue-passed s journal log events all (Some waiting) idle queued = record {
+pub queue-passed : (s : Settings) (journal : Option ℕ) (log : Book) (events all : List Event) (old : Option QueueView) → IsSome journal → IfSome old (λ (q : QueueView). q.frames ≡ []) → IsQueued s journal log events old → IsQueued s journal log all (passed old log all)
+queue-passed s journal log events all None journalled idle queued = record { there = queued.there; waits = tt; joined = none-there journal all journalled }
+queue-passed s journal log events all (Some waiting) journalled idle queued = record {
+  joined = none-there journal all journalled;
   there = queued.there;
   waits = record { log_is = refl; more = []; reaches = sym (append-nil all); frames_are = idle; again = tt };
 }
 
 -- that of a new store
 pub queue-new : (s : Settings) (journal : Option ℕ) (log : Book) → IsQueued s journal log [] (new_queue journal log [])
-queue-new s None log = record { there = refl; waits = tt }
-queue-new s (Some key) log = record { there = refl; waits = record { log_is = refl; more = []; reaches = refl; frames_are = refl; again = tt } }
+queue-new s None log = record { there = refl; waits = tt; joined = λ _. none-restored }
+queue-new s (Some key) log = record { there = refl; waits = record { log_is = refl; more = []; reaches = refl; frames_are = refl; again = tt }; joined = λ _. none-restored }
 
 -- frames that are taken out of the queue
 pub frames-taken : (s : Settings) (journal : Option ℕ) (log : Book) (events from : List Event) (waiting : List (List ℕ)) (old new : Option QueueView) → HaveHappened s events → Takes old from waiting log events new → IsQueued s journal log events old
@@ -132,6 +145,7 @@ pub queue-taken : (s : Settings) (journal : Option ℕ) (log : Book) (events fro
 queue-taken s journal log events from waiting old new takes queued =
     let there : true ≡ is_some journal = (subst (IsQueued s journal log events) takes.was queued).there in
     subst (IsQueued s journal log events) (sym takes.empty) (record {
+      joined = queued.joined;
       there = there;
       waits = record { log_is = refl; more = []; reaches = sym (append-nil events); frames_are = refl; again = tt };
     })

@@ -1,33 +1,34 @@
 -- The headline: what is true of the book behind the lock whenever the lock is got.
-use Rattle.std.specs.Prelude.{◌≡◌, ◌≤◌, List, All, map}
+use Rattle.std.specs.Prelude.{◌≡◌, ◌≤◌, ℕ, List, All, Option, map}
 use Rattle.upload_book.specs.BlockBook.{AreCounted, AreExtents, AreOwn, FitsPool, all_read, all_segments, blocks_of}
 use Rattle.upload_book.specs.Book.{StoredBook, plain_of}
 use Rattle.upload_book.specs.Charge.{charge_in}
 use Rattle.upload_book.specs.declared.head_row.Kind.TheVariants.{Final}
 use Rattle.upload_book.specs.declared.head_row.Name.{Name}
 use Rattle.upload_book.specs.Events.{ChangeEvent, HasUpload}
-use Rattle.upload_book.specs.FinalLaws.{IsMadeIn}
 use Rattle.upload_book.specs.Lawful.{IsLawful}
 use Rattle.upload_book.specs.PlainBook.{opening_book}
 use Rattle.upload_book.specs.Settings.{Settings}
 use Rattle.upload_book.specs.Upload.{Upload}
 use Rattle.head_board.specs.Event.{Event}
 use Rattle.head_board.specs.Events.{HaveHappened, book_at, change_event}
+use Rattle.tus_shared.specs.Finals.{ComesBy}
 
 -- `events` are all that happened to the book since its opening with these settings: the changes that it accepted, in their
--- order. The plain book is the book of byte lists after them.
-pub record Headline (s : Settings) (events : List Event) (book : StoredBook) : Type 0 where
+-- order. The plain book is the book of byte lists after them. `journal` is the key of the journal, if there is one.
+pub record Headline (s : Settings) (journal : Option ℕ) (events : List Event) (book : StoredBook) : Type 0 where
   -- every block is free or counted by exactly its holders, and no block is two tenants';
   pub counted : AreCounted (blocks_of book)
   -- every upload's bytes read through its blocks are those of the plain book,
   pub read : all_read (blocks_of book) ≡ all_segments (book_at s events)
   -- for which the book stands, with all else that it tells;
   pub stands : plain_of book ≡ book_at s events
-  -- each final of it is the concatenation that it was created from, which is among the events, or was put back by one of them;
+  -- each final of it is the concatenation that it was created from, which is among the events, or stands in the snapshot that
+  -- a journal begins with;
   pub finals :
       (name : Name) (u : Upload)
       → u.kind ≡ Final → HasUpload (book_at s events) name u
-      → IsMadeIn (opening_book s) (map {A = Event} {B = ChangeEvent} change_event events) name u
+      → ComesBy journal (opening_book s) (map {A = Event} {B = ChangeEvent} change_event events) name u
   -- no tenant exceeds its quota;
   pub quotas : All (λ part. charge_in s.numbers part ≤ part.quota) (book_at s events).tenants
   -- each event happened to the book of its time, so each was accepted there.

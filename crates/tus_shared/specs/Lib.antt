@@ -1,4 +1,5 @@
 pub mod Headline
+pub mod Finals
 pub mod Laws
 pub mod Answers
 pub mod Steps

@@ -1,4 +1,5 @@
 //! Laws of the definitions that the contracts cite: each is the contract of a function that does nothing.
+ghost use Rattle.tus_shared.specs.Finals.{FinalsAreJoined};
 ghost use Rattle.tus_shared.specs.Laws.{LaterAnswers, OneLog, WithoutAJournal};
 
 /// All desks answer in one list of events: there the replies of every desk are the plain book's, in its own order, and each
@@ -17,4 +18,10 @@ pub fn later_answers()
 /// record.
 pub fn without_a_journal()
     ensures { WithoutAJournal }
+{}
+
+/// Where no piece of a snapshot was restored, as without a journal none is, each final upload is the concatenation that it was
+/// created from: one of the events joined it of the parts that were there then.
+pub fn finals_are_joined()
+    ensures { FinalsAreJoined }
 {}

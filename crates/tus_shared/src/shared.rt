@@ -1,4 +1,4 @@
-ghost use Rattle.std.specs.Prelude.{◌≡◌, ◌↔◌, List, Err, IfOk, IfSome, IsTrue, map};
+ghost use Rattle.std.specs.Prelude.{◌≡◌, ◌↔◌, List, Err, IfOk, IfSome, IsSome, IsTrue, map};
 ghost use Rattle.std.specs.Fn.{FnOnceReturnsAt};
 ghost use Rattle.book_replay.specs.Snapshot.{IsSnapshot};
 ghost use Rattle.head_board.specs.Event.{Event};
@@ -76,7 +76,7 @@ impl<C: Charges, R: Ledger, M: Ledger, B: Wait + Drop> Shared<C, R, M, B> {
     /// that book ([`Store::headline`]). It may wait for the desks.
     pub fn look<W: Wait, T, F: FnOnce(&Book) -> T>(&self, rt: &W, looks: F) -> T
         requires { F.IsAlwaysCallable looks }
-        ensures { (events : List Event) × (book : StoredBook) × Headline C.settings events book
+        ensures { (events : List Event) × (book : StoredBook) × Headline C.settings C.journal events book
             × FnOnceReturnsAt F.FnOnce looks book result }
     {
         let store = self.store.lock(rt);
@@ -124,7 +124,7 @@ impl<C: Charges, R: Ledger, M: Ledger, B: Wait + Drop> Shared<C, R, M, B> {
     }
 
     /// Takes the lock, and makes a change at a desk again whose record stands in the journal already
-    /// ([`Store::make_again`]). It may wait for the desks.
+    /// ([`Store::make_again`]), where changes are journalled. It may wait for the desks.
     pub fn make_again<W: Wait>(
         &self,
         rt: &W,
@@ -132,6 +132,7 @@ impl<C: Charges, R: Ledger, M: Ledger, B: Wait + Drop> Shared<C, R, M, B> {
         change: Change,
         now: Moment,
     ) -> Result<(), AgainFault>
+        requires { IsSome C.journal }
         ensures again { MakesAgain C.settings change.entry now result desk.old desk.new }
         ensures counted { desk.new.steps ≡ next_count desk.old.steps }
     {

@@ -1,4 +1,4 @@
-ghost use Rattle.std.specs.Prelude.{◌≡◌, ◌≤◌, IfOk, IfSome, IsSome, OnOk, length, map, vec_capacity};
+ghost use Rattle.std.specs.Prelude.{◌≡◌, ◌≤◌, None, IfOk, IfSome, IsSome, OnOk, length, map, vec_capacity};
 ghost use mathlib.Core.List.{IsPrefix};
 ghost use Rattle.book_replay.specs.Snapshot.{IsSnapshot};
 ghost use Rattle.head_board.specs.Events.{HaveHappened, book_at};
@@ -8,6 +8,7 @@ ghost use Rattle.tus_steps.specs.declared.asked.Asked.TheVariants as asks;
 ghost use Rattle.tus_steps.specs.PlacedReply.{reply_in};
 ghost use Rattle.tus_steps.specs.Step.{IsContentReply};
 ghost use Rattle.tus_shared.specs.Desk.{Moves, Spends, next_count};
+ghost use Rattle.tus_shared.specs.Finals.{RestoresNothing};
 ghost use Rattle.tus_shared.specs.Headline.{Headline};
 ghost use Rattle.tus_shared.specs.Journal.{AreTaken, change_frame, held_bytes, spare_of};
 ghost use Rattle.tus_shared.specs.Steps.{AddsChange, IsDone, IsDoneAgain, IsStepAt, IsSweepAt};
@@ -70,7 +71,7 @@ impl<C: Charges, R: Ledger, M: Ledger, B: Wait + Drop> Store<C, R, M, B> {
     /// holders, every upload's bytes read through its blocks are those of the plain book, in which each final upload is
     /// the concatenation that it was created from and no tenant exceeds its quota.
     pub fn headline(&self) -> &Book
-        ensures { Headline C.settings self.now result.now }
+        ensures { Headline C.settings C.journal self.now result.now }
     {
         self.book.tell_blocks();
         &self.book
@@ -160,7 +161,7 @@ impl<C: Charges, R: Ledger, M: Ledger, B: Wait + Drop> Store<C, R, M, B> {
     /// Makes a change at a desk whose record stands in the journal already, as when a journal is opened: it is the next
     /// event, made at this desk, and nothing is queued. The records that are queued from now on come after it. The desk has
     /// seen all events after it, its shares rise by what that charges and releases, and by that event, and its room stays.
-    /// The step is counted at the desk.
+    /// The step is counted at the desk. It is for a store whose changes are journalled.
     ///
     /// `Err` is Waiting where records wait in the queue, Change where a book may not be asked for the change, and Refused
     /// where the book refuses it or lacks memory; then nothing happens.
@@ -170,6 +171,7 @@ impl<C: Charges, R: Ledger, M: Ledger, B: Wait + Drop> Store<C, R, M, B> {
         change: Change,
         now: Moment,
     ) -> Result<(), AgainFault>
+        requires journal { IsSome C.journal }
         ensures happened { HaveHappened C.settings self.old }
         ensures stays_happened { HaveHappened C.settings self.new }
         ensures lawful { IsLawful (book_at C.settings self.old) }
@@ -261,6 +263,7 @@ impl<C: Charges, R: Ledger, M: Ledger, B: Wait + Drop> Store<C, R, M, B> {
         now: Moment,
     ) -> Result<Outcome, Refused>
         requires change { CanBeMade (length C.settings.tenants) change }
+        requires joined { C.journal ≡ None → RestoresNothing change }
         requires frame { IfSome frame (λ f. f.items ≡ change_frame C.journal change now) }
         requires seen { desk.old.seen ≡ self.old }
         ensures happened { HaveHappened C.settings self.old }
@@ -309,6 +312,7 @@ impl<C: Charges, R: Ledger, M: Ledger, B: Wait + Drop> Store<C, R, M, B> {
         change: Change,
         now: Moment,
     ) -> Result<(), AgainFault>
+        requires journal { IsSome C.journal }
         requires seen { desk.old.seen ≡ self.old }
         ensures happened { HaveHappened C.settings self.old }
         ensures stays_happened { HaveHappened C.settings self.new }

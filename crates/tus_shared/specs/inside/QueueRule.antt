@@ -3,6 +3,7 @@ use Rattle.std.specs.Prelude.{◌≡◌, ℕ, ◌+◌, ◌≤◌, Bool, true, fa
 use Rattle.logbook.specs.Pages.{Book}
 use Rattle.upload_book.specs.Settings.{Settings}
 use Rattle.head_board.specs.Event.{Event}
+use Rattle.tus_shared.specs.Finals.{RestoreNothing}
 use Rattle.tus_shared.specs.Journal.{event_frames, CanBeReplayed}
 
 -- what is seen of a queue: which log its events are in, the events whose records were taken out of it, and the frames that wait
@@ -19,10 +20,11 @@ pub record Waits (s : Settings) (journal : Option ℕ) (log : Book) (events : Li
   pub frames_are : queue.frames ≡ event_frames journal more
   pub again : CanBeReplayed s queue.behind more
 
--- there is a queue exactly where there is a journal
+-- there is a queue exactly where there is a journal; without one nothing was restored
 pub record IsQueued (s : Settings) (journal : Option ℕ) (log : Book) (events : List Event) (queue : Option QueueView) : Type 0 where
   pub there : is_some queue ≡ is_some journal
   pub waits : IfSome queue (Waits s journal log events)
+  pub joined : journal ≡ None → RestoreNothing events
 
 -- a frame was queued: it is the last of those that wait, and the room fell by its length, and has so much to spare
 pub record Queues (waiting : QueueView) (frame : Option (List ℕ)) (room spare : ℕ) (queue : Option QueueView) (left : ℕ) : Type 0 where

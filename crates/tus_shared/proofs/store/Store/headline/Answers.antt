@@ -1,13 +1,12 @@
-use Rattle.std.proofs.Common.{◌≤◌, All, map, subst}
+use Rattle.std.proofs.Common.{◌≤◌, All, subst}
 use Rattle.upload_book.specs.BlockBook.{HoldsBook, blocks_of}
 use Rattle.upload_book.specs.Charge.{charge_in}
-use Rattle.upload_book.specs.Events.{ChangeEvent}
 use Rattle.upload_book.specs.Lawful.{IsLawful}
 use Rattle.upload_book.specs.Settings.{Settings}
-use Rattle.upload_book.proofs.Lawful.FinalLaw.{finals_stay}
 use Rattle.head_board.specs.Event.{Event}
-use Rattle.head_board.specs.Events.{book_at, change_event}
+use Rattle.head_board.specs.Events.{book_at}
 use Rattle.tus_shared.proofs.EventLemmas.{at-settings}
+use Rattle.tus_shared.proofs.FinalLemmas.{comes-by}
 use Rattle.tus_shared.proofs.store.Store.headline.Goals as goal
 
 pub returns : goal.returns
@@ -22,7 +21,7 @@ returns g c =
       counted = holds.counted;
       read = holds.read;
       stands = at.is;
-      finals = λ name u final has. finals_stay.comes s (map {A = Event} {B = ChangeEvent} change_event events) name u final has;
+      finals = λ name u final has. comes-by s g.C.Charges.journal events name u c.self.invariant.1.joined final has;
       quotas = subst (λ (t : Settings). All (λ part. charge_in t.numbers part ≤ part.quota) (book_at s events).tenants) (at-settings s events) lawful.charges;
       happened = at.happened;
       paid = holds.fits;

@@ -36,7 +36,7 @@ invariant_of-self-2 g c =
     let all = c.again.ensures ∙ c.seen.ensures in
     let next = c.pass_queue.ensures ∙ ap₂ (λ (b : Book) (es : List Event). passed c.self.inside.queue b es) (ap (λ (p : LogPrefix). p.book) all ∙ c.make_ready.ensures.store.board_log) (ap (λ (p : LogPrefix). p.events) all) in (
       c.make_ready.ensures.store,
-      subst (λ (q : Option QueueView). IsQueued g.C.Charges.settings g.C.Charges.journal g.C.Charges.log after q) (sym next) (queue-passed g.C.Charges.settings g.C.Charges.journal g.C.Charges.log events after c.self.inside.queue (c.is_idle.ensures yes_idle) c.self.invariant.1),
+      subst (λ (q : Option QueueView). IsQueued g.C.Charges.settings g.C.Charges.journal g.C.Charges.log after q) (sym next) (queue-passed g.C.Charges.settings g.C.Charges.journal g.C.Charges.log events after c.self.inside.queue c.requires.journal (c.is_idle.ensures yes_idle) c.self.invariant.1),
     )
 
 pub returns-clause-stays_happened : goal.returns-clause-stays_happened

@@ -9,6 +9,7 @@ use Rattle.tus_shared.specs.Desk.{Desk}
 use Rattle.tus_shared.specs.Steps.{IsStepAt}
 use Rattle.tus_shared.proofs.ChangeLemmas.{done-step}
 use Rattle.tus_shared.proofs.EventLemmas.{at-settings}
+use Rattle.tus_shared.proofs.FinalLemmas.{request-restores-nothing}
 use Rattle.tus_shared.proofs.store.Store.step.Goals as goal
 
 pub returns-in-Change-clause-step : goal.returns-in-Change-clause-step
@@ -30,3 +31,6 @@ answer_asked-requires-clause-found g c =
     let s = g.C.Charges.settings in
     let settings = ap (λ (b : PlainBook). b.settings) c.headline.ensures.stands ∙ at-settings s c.args.self.now in
     subst (λ (s : Settings). c.args.asked ≡ asked_in s c.args.request.now) (sym settings) c.requires.found.is
+
+pub make-outcome-requires-clause-joined : goal.make-outcome-requires-clause-joined
+make-outcome-requires-clause-joined g c = λ _. request-restores-nothing g.C.Charges.settings c.args.request.now c.in-Change.asked (ap change_in (sym c.requires.found.is ∙ c.in-Change.is))
