@@ -1,7 +1,7 @@
 //! Desks whose changes are journalled: what they queue, what they refuse without room, what they know to be kept, and the
 //! same changes made again at a new desk.
 
-ghost use Rattle.std.specs.Prelude.{◌≡◌};
+ghost use Rattle.std.specs.Prelude.{◌≡◌, IsSome};
 
 use crate::requests::Asked::{Delete, Get, Head, Patch, Post};
 use crate::requests::{Answer, Asked, answer_by, moment, settings, turn};
@@ -209,7 +209,9 @@ fn again<C: Charges, R: Ledger, M: Ledger, W: Wait + Abort>(
     shared: &Shared<C, R, M, &W>,
     desk: &mut Desk<C, R, M>,
     stands: Stands,
-) -> Result<(), AgainFault> {
+) -> Result<(), AgainFault>
+    requires { IsSome C.journal }
+{
     shared.make_again(rt, desk, stands.change(), moment(rt, 1000))
 }
 
@@ -253,6 +255,7 @@ fn goes<C: Charges, R: Ledger, M: Ledger, W: Wait + Abort>(
     mark: &mut SeenEvents,
     step: &Step,
 ) -> bool
+    requires journal { IsSome C.journal }
     requires opened { opened.now.book ≡ C.log }
     requires mark { mark.old.book ≡ C.log }
     ensures { mark.new.book ≡ C.log }
@@ -296,7 +299,8 @@ fn take_steps<C: Charges, R: Ledger, M: Ledger, W: Wait + Abort>(
     opened: &SeenEvents,
     steps: &[Step],
 )
-    requires { opened.now.book ≡ C.log }
+    requires journal { IsSome C.journal }
+    requires opened { opened.now.book ≡ C.log }
 {
     assert!(rt; desk.journal() == Some(KEY));
     let mut mark = opened.again();
