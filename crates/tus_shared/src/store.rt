@@ -69,7 +69,8 @@ impl<C: Charges, R: Ledger, M: Ledger, B: Wait + Drop> Model for Store<C, R, M, 
 impl<C: Charges, R: Ledger, M: Ledger, B: Wait + Drop> Store<C, R, M, B> {
     /// Lends the book, and says of it what is true whenever the lock is got: every block is free or counted by exactly its
     /// holders, every upload's bytes read through its blocks are those of the plain book, in which each final upload is
-    /// the concatenation that it was created from and no tenant exceeds its quota.
+    /// the concatenation that it was created from and no tenant exceeds its quota. Where changes are journalled, a final upload
+    /// may also have come with the snapshot that the journal begins with.
     pub fn headline(&self) -> &Book
         ensures { Headline C.settings C.journal self.now result.now }
     {
