@@ -9,7 +9,7 @@ use crate::spoken::{
     Expected, NUMBERS, Spoken, assert_spoken, at, at_1000, charge_of, joined, new_book, plain_talk,
     talk, talk_of,
 };
-use crate::wires::{MemoryWire, assert_end, assert_served, assert_turn, assert_written, new_wire};
+use crate::wires::{MemoryWire, is_at_end, new_wire, serve_on, take_turn, written_on};
 use http_wire::{Ended, Framing, WireFault, WireRefusal};
 use std::alloc::Global;
 use std::process::Abort;
@@ -38,16 +38,14 @@ const CLOSING: Framing = Framing {
     close: true,
 };
 
-/// Asserts that each call on a wire gives `Failed`.
-fn assert_failed(rt: &impl Abort, what: &str, wire: &mut MemoryWire<'_>, book: &mut Book) {
+/// Whether each call on a wire gives `Failed`.
+fn is_failed(wire: &mut MemoryWire<'_>, book: &mut Book) -> bool {
     let failed = WireFault::Failed;
-    assert_turn(rt, what, wire, book, Err(failed));
-    assert_end(rt, what, wire, Err(failed));
-    let refused = wire.write_refusal(WireRefusal::Head, at(1000), CLOSING);
-    assert!(rt; refused == Err(failed), "{what}: a refusal");
     let mut reply = PlacedReply::of(Reply::Deleted);
-    let replied = wire.write_reply(&mut reply, at(1000), CLOSING);
-    assert!(rt; replied == Err(failed), "{what}: a reply");
+    take_turn(wire, book) == Err(failed)
+        && is_at_end(wire) == Err(failed)
+        && wire.write_refusal(WireRefusal::Head, at(1000), CLOSING) == Err(failed)
+        && wire.write_reply(&mut reply, at(1000), CLOSING) == Err(failed)
 }
 
 /// Asserts that a wire over these streams gives a fault, and `Failed` at each later call, with this text written.
@@ -62,9 +60,10 @@ fn assert_stays_failed(
 ) {
     let mut book = new_book(rt, alloc);
     let mut wire = new_wire(rt, alloc, input, output);
-    assert_served(rt, what, &mut wire, &mut book, &mut at(1000), 8, Err(fault));
-    assert_failed(rt, what, &mut wire, &mut book);
-    assert_written(rt, wire, text);
+    let served = serve_on(rt, &mut wire, &mut book, &mut at(1000), 8);
+    assert!(rt; served == Err(fault), "{what}");
+    assert!(rt; is_failed(&mut wire, &mut book), "{what}: a later call");
+    assert!(rt; written_on(wire).as_slice() == text, "{what}: written");
 }
 
 /// Asserts that a conversation with a new book over these streams is as expected, and what is not read of its input.

@@ -11,12 +11,13 @@ use crate::concatenations::{
 use crate::conversations::{DELETED, NONE, PATCHED};
 use crate::plain::plain_conversation;
 use crate::spoken::{NUMBERS, at, charge_of, new_book, put};
+use crate::wires::reply_to;
 use http_wire::{Ended, Framing, Incoming, Tapped, Wire, WireFault, converse};
 use std::alloc::Global;
 use std::io;
 use std::io::{Print, Read, Write};
 use std::process::Abort;
-use tus_steps::{PlacedReply, ReplyKind, answer};
+use tus_steps::{PlacedReply, ReplyKind};
 use upload_book::{Book, Moment, Name, Refusal, Settings};
 
 /// A message, its reply, and what is written in place of that where memory is lacking for its step: nothing where its
@@ -304,8 +305,8 @@ enum Answer {
 fn answer_of(rt: &impl Abort, wire: &mut TurnWire, book: &mut Book) -> Answer {
     match wire.read_request().expect(rt, "a read") {
         Incoming::Message(message) => {
-            let reply = answer(book, &message.request(), at(1000));
-            Answer::Reply(PlacedReply::of(reply), message.framing())
+            let reply = reply_to(book, &message.request());
+            Answer::Reply(reply, message.framing())
         }
         _ => Answer::Nothing,
     }
