@@ -1,6 +1,9 @@
 //! Connections over streams that would block before each piece: however their bytes are cut, the conversation is the
 //! same. Replies to messages that came together leave together.
 
+ghost use Rattle.std.specs.Prelude.{◌≡◌};
+ghost use Rattle.http_wire.specs.OnConnection.{wanted};
+
 use crate::conversations::{CREATED, FIRST_UPLOAD, POST, REPLIES};
 use crate::driven::{Arriving, Leaving, Pieces, drive};
 use crate::hostile::{Dice, NUMBERS as HOSTILE_NUMBERS, moments, text_of};
@@ -9,10 +12,10 @@ use crate::spoken::{
     Expected, Spoken, assert_spoken, at, at_1000, book_with, charge_of, joined, new_book,
     offset_of, put,
 };
-use http_wire::{Buffers, Connection, Ended, Tapped, Wants};
+use http_wire::{Buffers, Connection, Ended, Tapped, Wants, WireFault};
 use std::alloc::Global;
 use std::process::Abort;
-use upload_book::Book;
+use upload_book::{Book, Moment};
 
 /// All that there is, as one piece.
 const WHOLE: Pieces = Pieces::Each(usize::MAX);
@@ -91,21 +94,24 @@ fn repeated(rt: &impl Abort, alloc: Global, bytes: &[u8], times: usize) -> Vec<u
 
 /// Lets so many HEADs come in one read, asserts that the conversation ends after them, and gives its writer.
 fn speak_whole(rt: &impl Abort, alloc: Global, heads: usize, text: &[u8]) -> Leaving {
-    let mut connection = Connection::new(alloc, 64).expect(rt, "memory");
-    let mut reader = Arriving::new(text, WHOLE);
     let mut writer = Leaving::new(alloc, WHOLE);
-    let mut book = new_book(rt, alloc);
-    let moments = [at(1000); 160];
-    let ended = drive(
-        rt,
-        &mut connection,
-        &mut reader,
-        &mut writer,
-        &mut book,
-        &moments,
-    );
+    let ended = drive_whole(rt, alloc, text, &mut writer, &[at(1000); 160]);
     assert!(rt; ended == Ok(Ended::Input), "{heads} HEADs: end");
     writer
+}
+
+/// Drives a connection with a new book to which all comes in one read.
+fn drive_whole(
+    rt: &impl Abort,
+    alloc: Global,
+    text: &[u8],
+    writer: &mut Leaving,
+    moments: &[Moment],
+) -> Result<Ended, WireFault> {
+    let mut connection = Connection::new(alloc, 64).expect(rt, "memory");
+    let mut reader = Arriving::new(text, WHOLE);
+    let mut book = new_book(rt, alloc);
+    drive(rt, &mut connection, &mut reader, writer, &mut book, moments)
 }
 
 /// In how many writes the replies to so many HEADs leave that came in one read, where a write takes all.
@@ -145,11 +151,17 @@ pub fn answer_next(rt: &impl Abort, what: &str, connection: &mut Connection, boo
 /// Puts bytes into a connection that wants to read; none are the end of the input.
 pub fn take_in(rt: &impl Abort, what: &str, connection: &mut Connection, bytes: &[u8]) {
     match connection.wants() {
-        Wants::Read => {}
+        Wants::Read => assert!(rt; takes_all(connection, bytes), "{what}: a read"),
         wants => panic!(rt; "{what}: {wants:?} in place of a read"),
     }
+}
+
+/// Puts bytes into a connection. Says whether it takes all of them.
+fn takes_all(connection: &mut Connection, bytes: &[u8]) -> bool
+    requires { wanted connection.old ≡ Wants.Read }
+{
     let read = connection.read_from(&mut Tapped::new(bytes));
-    assert!(rt; read.ok() == Some(bytes.len()), "{what}: a read");
+    read.ok() == Some(bytes.len())
 }
 
 /// Takes up to so many of the bytes that are pending, as sent.
@@ -163,38 +175,88 @@ pub fn assert_wants(rt: &impl Abort, what: &str, connection: &mut Connection, ex
     assert_eq!(rt; connection.wants(), expected, "{what}");
 }
 
+/// What is done with a connection, and what it has to show.
+enum Step {
+    /// So many messages that came in are answered.
+    Answers(usize),
+    /// So many of the bytes that are pending are sent.
+    TakesOut(usize),
+    /// So many bytes are pending.
+    Pends(usize),
+    Wants(Wants),
+}
+
+/// Takes a step with a connection. Says whether that shows what it has to.
+fn goes(rt: &impl Abort, connection: &mut Connection, book: &mut Book, step: &Step) -> bool {
+    match step {
+        Step::Answers(count) => {
+            answer_each(rt, connection, book, *count);
+            true
+        }
+        Step::TakesOut(count) => {
+            take_out(connection, *count);
+            true
+        }
+        Step::Pends(count) => connection.pending_len() == *count,
+        Step::Wants(wants) => connection.wants() == *wants,
+    }
+}
+
+/// Lets so many messages that came in be answered.
+fn answer_each(rt: &impl Abort, connection: &mut Connection, book: &mut Book, count: usize) {
+    for _ in 0..count {
+        answer_next(rt, "the next", connection, book);
+    }
+}
+
+/// A connection to which these messages came in one read, after steps, each with a name, with a new book.
+fn connection_after(
+    rt: &impl Abort,
+    alloc: Global,
+    sent: &[u8],
+    steps: &[(&str, Step)],
+) -> Connection {
+    let mut book = new_book(rt, alloc);
+    let mut connection = Connection::new(alloc, 64).expect(rt, "memory");
+    take_in(rt, "messages", &mut connection, sent);
+    for (what, step) in steps {
+        assert!(rt; goes(rt, &mut connection, &mut book, step), "{what}");
+    }
+    connection
+}
+
 /// Where there is no room for one more reply, the connection wants to write, and the next message waits until all of it
 /// is sent, but for the last byte too.
+static NO_ROOM: [(&str, Step); 7] = [
+    ("room", Step::Answers(75)),
+    ("no room", Step::Wants(Wants::Write)),
+    ("no room", Step::Pends(8_250)),
+    ("all but one byte", Step::TakesOut(8_249)),
+    ("one byte is left", Step::Wants(Wants::Write)),
+    ("the last byte", Step::TakesOut(1)),
+    ("room again", Step::Wants(Wants::Answer)),
+];
+
 #[test]
 fn no_room_for_one_more(rt: HostRuntime) {
     let sent = repeated(&rt, rt.alloc(), MISSED, 76);
-    let mut book = new_book(&rt, rt.alloc());
-    let mut connection = Connection::new(rt.alloc(), 64).expect(&rt, "memory");
-    take_in(&rt, "76 HEADs", &mut connection, &sent);
-    for _ in 0..75 {
-        answer_next(&rt, "room", &mut connection, &mut book);
-    }
-    assert_wants(&rt, "no room", &mut connection, Wants::Write);
-    assert!(rt; connection.pending_len() == 8_250, "no room");
-    take_out(&mut connection, 8_249);
-    assert_wants(&rt, "one byte is left", &mut connection, Wants::Write);
-    take_out(&mut connection, 1);
-    assert_wants(&rt, "room again", &mut connection, Wants::Answer);
+    connection_after(&rt, rt.alloc(), &sent, &NO_ROOM);
 }
 
 /// A message that came with the one before it is answered while some of the reply to that is still pending.
+static BEHIND: [(&str, Step); 3] = [
+    ("the first", Step::Answers(1)),
+    ("a part of its reply", Step::TakesOut(10)),
+    ("the second", Step::Answers(1)),
+];
+
 #[test]
 fn answers_stand_behind_what_is_pending(rt: HostRuntime) {
     let sent = joined(&rt, rt.alloc(), &[POST, MISSED]);
-    let mut book = new_book(&rt, rt.alloc());
-    let mut connection = Connection::new(rt.alloc(), 64).expect(&rt, "memory");
-    take_in(&rt, "two messages", &mut connection, &sent);
-    answer_next(&rt, "the first", &mut connection, &mut book);
-    take_out(&mut connection, 10);
-    answer_next(&rt, "the second", &mut connection, &mut book);
     let (_, rest) = CREATED.split_at(10);
     let expected = joined(&rt, rt.alloc(), &[rest, MISSING]);
-    assert_eq!(rt; connection.pending(), expected.as_slice());
+    let connection = connection_after(&rt, rt.alloc(), &sent, &BEHIND);
+    assert!(rt; connection.pending() == expected.as_slice());
 }
 
 /// How many conversations are tried.

@@ -117,12 +117,32 @@ pub fn drive(
     moments: &[Moment],
 ) -> Result<Ended, WireFault> {
     for now in moments {
-        if !comes_to_an_answer(rt, connection, reader, writer) {
+        if !answers_one(rt, connection, reader, writer, book, *now) {
             break;
         }
-        connection.answer(book, *now);
     }
     send_rest(rt, connection, writer);
+    end_of(connection)
+}
+
+/// Does what a connection wants until it wants an answer, and answers. Says whether it came to that.
+fn answers_one(
+    rt: &impl Abort,
+    connection: &mut Connection,
+    reader: &mut Arriving<'_>,
+    writer: &mut Leaving,
+    book: &mut Book,
+    now: Moment,
+) -> bool {
+    let answers = comes_to_an_answer(rt, connection, reader, writer);
+    if answers {
+        connection.answer(book, now);
+    }
+    answers
+}
+
+/// How a conversation ended, which has not ended by itself where no moment is left.
+fn end_of(connection: &Connection) -> Result<Ended, WireFault> {
     Ok(connection.ended()?.unwrap_or(Ended::Moments))
 }
 
