@@ -63,14 +63,19 @@ impl Gate for Meeting {
     }
 }
 
+/// Whether the replies at a desk tell this.
+fn tell(replies: &[Reply], answers: &[Answer]) -> bool {
+    let mut are_told = replies.len() == answers.len();
+    for (reply, expected) in replies.iter().zip(answers) {
+        are_told = are_told && answer_by(reply).is(*expected);
+    }
+    are_told
+}
+
 /// Asserts what the replies at a desk tell.
 pub fn assert_answers(rt: &impl Abort, replies: Option<&Vec<Reply>>, answers: &[Answer]) {
     let replies = replies.expect(rt, "a list");
-    assert!(rt; replies.len() == answers.len());
-    for (turn, expected) in answers.iter().enumerate() {
-        let reply = replies.get(turn).expect(rt, "a reply");
-        assert!(rt; answer_by(reply).is(*expected), "turn {turn}");
-    }
+    assert!(rt; tell(replies, answers));
 }
 
 /// A desk makes an upload of this length.
@@ -274,18 +279,21 @@ static RACES: [Race; 10] = [
 // What a PATCH is told where another was first.
 const LATE: Answer<'static> = Answer::Refused(Refusal::Offset, Some(4600));
 
-// Asserts that of the desks' replies to one turn one tells `first`, and each other `late`.
-fn assert_race(rt: &impl Abort, replies: &[Vec<Reply>], turn: usize, first: Answer, late: Answer) {
+// Whether of the desks' replies to one turn one tells `first`, and each other `late`.
+fn is_won(replies: &[Vec<Reply>], turn: usize, first: Answer, late: Answer) -> bool {
     let mut is_open = true;
     for batch in replies {
-        let answer = answer_by(batch.get(turn).expect(rt, "a reply"));
+        let Some(reply) = batch.get(turn) else {
+            return false;
+        };
+        let answer = answer_by(reply);
         if is_open && answer.is(first) {
             is_open = false;
-        } else {
-            assert!(rt; answer.is(late), "turn {turn}");
+        } else if !answer.is(late) {
+            return false;
         }
     }
-    assert!(rt; !is_open, "turn {turn}");
+    !is_open
 }
 
 // The turns of these races.
@@ -340,7 +348,7 @@ fn meet_each_turn<
 fn assert_races(rt: &impl Abort, replies: &[Vec<Reply>], races: &[Race]) {
     assert!(rt; replies.len() == 16);
     for (turn, (_, first, late)) in races.iter().enumerate() {
-        assert_race(rt, replies, turn, *first, *late);
+        assert!(rt; is_won(replies, turn, *first, *late), "turn {turn}");
     }
 }
 
