@@ -1,0 +1,6 @@
+//! Journals over a disk that tears: scripts with every loss, drafts, and each error once.
+
+mod crashes;
+mod drafts;
+mod payloads;
+mod refusals;

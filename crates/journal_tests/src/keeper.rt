@@ -1,0 +1,5 @@
+//! The keeper of a journal for several desks.
+
+mod requests;
+mod scenes;
+mod small;

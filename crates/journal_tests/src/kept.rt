@@ -1,0 +1,8 @@
+//! A kept book: crashes, damage, room and failing writes.
+
+mod crashes;
+mod damage;
+mod requests;
+mod room;
+mod seen;
+mod writes;

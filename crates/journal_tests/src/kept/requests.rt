@@ -1,0 +1,153 @@
+//! A script of forty changes, five times eight: an upload of acme, created with two bytes and patched twice; a partial one, a
+//! final one of it, and the end of the partial one; one whose length is told later; and the end of the first.
+use kept_book::{KeepFault, KeptBook};
+use sqlite_disk::Disk;
+use std::alloc::{AllocError, Global};
+use std::process::Abort;
+use tus_steps::{Field, Method, PlacedReply, Reply, Request, TusFields};
+use tus_text::read_path;
+use upload_book::{Book, Moment, Numbers, Settings};
+
+/// How many changes the script has.
+pub(crate) const CHANGES: u64 = 40;
+
+const NUMBERS: Numbers = Numbers {
+    blocks: 64,
+    block_size: 4,
+    lifetime: 3600,
+    max_size: 64,
+    uploads: 64,
+    last_id: u64::MAX - 1,
+    last_total: u64::MAX,
+};
+
+const FIELDS: TusFields<Field<'static>> = TusFields {
+    version: Field::One(b"1.0.0"),
+    length: Field::Absent,
+    defer: Field::Absent,
+    offset: Field::Absent,
+    metadata: Field::Absent,
+    concat: Field::Absent,
+    checksum: Field::Absent,
+    media: Field::One(b"application/offset+octet-stream"),
+};
+
+/// The settings of acme with all blocks.
+pub(crate) fn settings(rt: &impl Abort) -> Settings {
+    let Ok(settings) = Settings::new(NUMBERS, &[(b"acme", 64)]) else {
+        panic!(rt; "no settings");
+    };
+    settings
+}
+
+/// The moment of all requests.
+pub(crate) fn moment(rt: &impl Abort) -> Moment {
+    let Some(moment) = Moment::new(1000) else {
+        panic!(rt; "no moment");
+    };
+    moment
+}
+
+// The final upload of each eight changes, of the partial one before it.
+static FINALS: [&[u8]; 5] = [
+    b"final;/files/acme/2",
+    b"final;/files/acme/6",
+    b"final;/files/acme/10",
+    b"final;/files/acme/14",
+    b"final;/files/acme/18",
+];
+
+/// The change of this number, from 0, of an upload whose path this is.
+pub(crate) fn request(number: u64, path: &[u8]) -> Request<'static> {
+    let (method, fields, body) = asked(number % 8, number / 8);
+    Request {
+        method,
+        path: read_path(path),
+        fields,
+        body,
+    }
+}
+
+// What the change at a place of the eight asks for, when these come for the time of this number.
+fn asked(place: u64, time: u64) -> (Method, TusFields<Field<'static>>, &'static [u8]) {
+    match place {
+        0 => (Method::Post, with_length(b"6"), b"ab"),
+        1 => (Method::Patch, at_offset(b"2"), b"cd"),
+        2 => (Method::Patch, at_offset(b"4"), b"ef"),
+        3 => (Method::Post, with_concat(b"partial", b"2"), b"xy"),
+        4 => (Method::Post, final_of(time), b""),
+        6 => (Method::Post, DEFERRED, b"z"),
+        _ => (Method::Delete, FIELDS, b""),
+    }
+}
+
+const DEFERRED: TusFields<Field<'static>> = TusFields {
+    defer: Field::One(b"1"),
+    ..FIELDS
+};
+
+fn with_length(length: &'static [u8]) -> TusFields<Field<'static>> {
+    TusFields {
+        length: Field::One(length),
+        ..FIELDS
+    }
+}
+
+fn at_offset(offset: &'static [u8]) -> TusFields<Field<'static>> {
+    TusFields {
+        offset: Field::One(offset),
+        ..FIELDS
+    }
+}
+
+fn with_concat(concat: &'static [u8], length: &'static [u8]) -> TusFields<Field<'static>> {
+    TusFields {
+        concat: Field::One(concat),
+        ..with_length(length)
+    }
+}
+
+fn final_of(time: u64) -> TusFields<Field<'static>> {
+    TusFields {
+        concat: match FINALS.get(time as usize) {
+            Some(text) => Field::One(text),
+            None => Field::Absent,
+        },
+        ..FIELDS
+    }
+}
+
+/// Answers the change of this number on a book that is not kept.
+pub(crate) fn answer_plain(
+    rt: &impl Abort,
+    alloc: Global,
+    book: &mut Book,
+    number: u64,
+) -> Result<(), AllocError> {
+    let path = path_of(alloc, number)?;
+    let reply = tus_steps::answer(book, &request(number, path.as_bytes()), moment(rt));
+    assert!(rt; !matches!(reply, Reply::Refused { .. }));
+    Ok(())
+}
+
+/// Answers the change of this number.
+pub(crate) fn answer<D: Disk>(
+    rt: &impl Abort,
+    alloc: Global,
+    kept: &mut KeptBook<D>,
+    number: u64,
+    reply: &mut PlacedReply,
+) -> Result<Result<(), KeepFault>, AllocError> {
+    let path = path_of(alloc, number)?;
+    Ok(kept.answer(&request(number, path.as_bytes()), moment(rt), reply))
+}
+
+// The path of the change of this number.
+fn path_of(alloc: Global, number: u64) -> Result<String, AllocError> {
+    let first = number / 8 * 4 + 1;
+    match number % 8 {
+        0 | 3 | 4 | 6 => String::from_str(alloc, "/files/acme"),
+        5 => format!(in alloc; "/files/acme/{}", first + 1),
+        _ => format!(in alloc; "/files/acme/{first}"),
+    }
+}
