@@ -86,13 +86,15 @@ class Edit:
 
     def has_clause(self):
         """Returns whether the clause that it names is there: in this crate, one below it, or for what a call requires in the kit."""
-        found = re.fullmatch(r"(?:(\w+)::)?(\w+) (ensures|requires|invariant|safe)(?: (\w+))?", self.clause or "")
+        found = re.fullmatch(r"(?:(\w+)::)?(\w+) (ensures|requires|invariant|gives|safe)(?: (\w+))?", self.clause or "")
         if not found:
             return False
         _, name, kind, clause = found.groups()
-        if kind == "invariant":
-            return any(re.search(rf"impl(<[^>]*>)? Model for {name}\b", it.text) for it in sources_of(tuple(with_those_below(self.crate))))
-        contracts = [text for it in sources_of(tuple(with_those_below(self.crate))) for text in it.contracts_of(name)]
+        sources = sources_of(tuple(with_those_below(self.crate)))
+        if kind in ("invariant", "gives"):
+            trait = "Model for" if kind == "invariant" else r"From<(\w+::)*"
+            return any(re.search(rf"impl(<[^>]*>)? {trait} ?{name}\b", it.text) for it in sources)
+        contracts = [text for it in sources for text in it.contracts_of(name)]
         if kind == "safe":
             return bool(contracts)
         wanted = re.compile(rf"^ *{kind}\*?{' ' + clause if clause else ''} \{{", re.MULTILINE)

@@ -72,7 +72,7 @@ pub finals-joined : FinalsAreJoined
 finals-joined s events name u nothing final has =
     let made = finals_stay.comes s (map {A = Event} {B = ChangeEvent} change_event events) name u final has in
     let none = middle (λ (e : ChangeEvent). RestoresNothing e.change) (map {A = Event} {B = ChangeEvent} change_event events) made.before made.after made.event made.all
-        (All-map (λ (e : ChangeEvent). RestoresNothing e.change) change_event events nothing) in
+    (All-map (λ (e : ChangeEvent). RestoresNothing e.change) change_event events nothing) in
     elim made.made [
       | inl joined ↦ record { before = made.before; event = made.event; after = made.after; all = made.all; joined = joined }
       | inr back ↦ absurd (none back.restored back.is)
