@@ -1,11 +1,11 @@
 ghost use Rattle.std.specs.Prelude.{◌≡◌, Some};
 ghost use Rattle.block_bodies.specs.Faults.{fault_text};
 
-use std::error::Error;
 use std::fmt;
+use thiserror::Error;
 
 /// Why bytes were not appended. It displays its [`BodyFault::text`].
-#[derive(Clone, Copy, Debug, PartialEq, Eq)]
+#[derive(Clone, Copy, Debug, PartialEq, Eq, Error)]
 pub enum BodyFault {
     /// Fewer blocks are free than the bytes need.
     Full,
@@ -32,5 +32,3 @@ impl fmt::Display for BodyFault {
         f.write_str(self.text())
     }
 }
-
-impl Error for BodyFault {}

@@ -2,12 +2,12 @@ ghost use Rattle.std.specs.Prelude.{◌≡◌};
 ghost use Rattle.http_wire.specs.declared.fault.WireFault.TheVariants.{Memory};
 
 use std::alloc::AllocError;
-use std::error::Error;
 use std::fmt;
+use thiserror::Error;
 
 /// Why a wire stopped, other than by the end of its input or by what the peer sent. It displays this in
 /// words.
-#[derive(Clone, Copy, Debug, PartialEq, Eq)]
+#[derive(Clone, Copy, Debug, PartialEq, Eq, Error)]
 pub enum WireFault {
     /// A read of the reader failed.
     Read,
@@ -46,5 +46,3 @@ impl From<AllocError> for WireFault {
         WireFault::Memory
     }
 }
-
-impl Error for WireFault {}

@@ -1,12 +1,12 @@
 ghost use Rattle.std.specs.Prelude.{◌≡◌, ◌≤◌, length};
 ghost use Rattle.http_wire.specs.Refusal.{word_of, status_of};
 
-use std::error::Error;
 use std::fmt;
+use thiserror::Error;
 
 /// Why the wire answers a request itself, without a step. Each closes the connection. It displays its
 /// word.
-#[derive(Clone, Copy, Debug, PartialEq, Eq)]
+#[derive(Clone, Copy, Debug, PartialEq, Eq, Error)]
 pub enum WireRefusal {
     /// The body found no memory.
     Memory,
@@ -64,5 +64,3 @@ impl fmt::Display for WireRefusal {
         f.write_str(self.word())
     }
 }
-
-impl Error for WireRefusal {}

@@ -1,13 +1,13 @@
 ghost use Rattle.std.specs.Prelude.{◌≡◌, Some};
 ghost use Rattle.tus_shared.specs.Fault.{again_fault_word};
 
-use std::error::Error;
 use std::fmt;
 use std::fmt::{Display, Formatter, Write};
+use thiserror::Error;
 use upload_book::Refused;
 
 /// Why a change whose record stands in the journal was not made again. It displays its word.
-#[derive(Clone, Copy, Debug, PartialEq, Eq)]
+#[derive(Clone, Copy, Debug, PartialEq, Eq, Error)]
 pub enum AgainFault {
     /// Records wait to be written, which would come before it.
     Waiting,
@@ -37,5 +37,3 @@ impl Display for AgainFault {
         f.write_str(self.word())
     }
 }
-
-impl Error for AgainFault {}

@@ -1,12 +1,12 @@
 ghost use Rattle.std.specs.Prelude.{◌≡◌, Some};
 ghost use Rattle.tus_shared.specs.Fault.{open_fault_word};
 
-use std::error::Error;
 use std::fmt;
 use std::fmt::{Display, Formatter, Write};
+use thiserror::Error;
 
 /// Why nothing was opened. It displays its word.
-#[derive(Clone, Copy, Debug, PartialEq, Eq)]
+#[derive(Clone, Copy, Debug, PartialEq, Eq, Error)]
 pub enum OpenFault {
     /// There are to be no desks, or more than 16.
     Desks,
@@ -36,5 +36,3 @@ impl Display for OpenFault {
         f.write_str(self.word())
     }
 }
-
-impl Error for OpenFault {}

@@ -1,12 +1,12 @@
 ghost use Rattle.std.specs.Prelude.{◌≡◌, Some};
 ghost use Rattle.tus_shared.specs.Fault.{work_fault_word};
 
-use std::error::Error;
 use std::fmt;
 use std::fmt::{Display, Formatter, Write};
+use thiserror::Error;
 
 /// Why no desk answered its batch. It displays its word.
-#[derive(Clone, Copy, Debug, PartialEq, Eq)]
+#[derive(Clone, Copy, Debug, PartialEq, Eq, Error)]
 pub enum WorkFault {
     /// There was too little memory for the lists of replies.
     Memory,
@@ -30,5 +30,3 @@ impl Display for WorkFault {
         f.write_str(self.word())
     }
 }
-
-impl Error for WorkFault {}

@@ -1,12 +1,12 @@
 ghost use Rattle.std.specs.Prelude.{◌≡◌, Some};
 ghost use Rattle.tus_steps.specs.Fault.{run_fault_word};
 
-use std::error::Error;
 use std::fmt;
 use std::fmt::{Display, Formatter, Write};
+use thiserror::Error;
 
 /// Why no request of a run was answered. It displays its word.
-#[derive(Clone, Copy, Debug, PartialEq, Eq)]
+#[derive(Clone, Copy, Debug, PartialEq, Eq, Error)]
 pub enum RunFault {
     /// There was too little memory for the list of replies.
     Memory,
@@ -30,5 +30,3 @@ impl Display for RunFault {
         f.write_str(self.word())
     }
 }
-
-impl Error for RunFault {}

@@ -1,13 +1,13 @@
 ghost use Rattle.std.specs.Prelude.{◌≡◌, ◌≤◌, Some, length};
 ghost use Rattle.upload_book.specs.Refusal.{word_of, status_of};
 
-use std::error::Error;
 use std::fmt;
 use std::fmt::{Display, Formatter, Write};
+use thiserror::Error;
 
 /// Why a request was refused. The reasons are checked in this order, but for Memory, which is the last
 /// wherever it comes, and Board, which no request is refused by. It displays its word.
-#[derive(Clone, Copy, Debug, PartialEq, Eq)]
+#[derive(Clone, Copy, Debug, PartialEq, Eq, Error)]
 pub enum Refusal {
     /// `Tus-Resumable` is not one field of value `1.0.0`.
     Version,
@@ -114,5 +114,3 @@ impl Display for Refusal {
         f.write_str(self.word())
     }
 }
-
-impl Error for Refusal {}

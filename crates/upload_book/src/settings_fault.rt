@@ -1,12 +1,12 @@
 ghost use Rattle.std.specs.Prelude.{◌≡◌, Some};
 ghost use Rattle.upload_book.specs.Settings.{fault_word};
 
-use std::error::Error;
 use std::fmt;
 use std::fmt::{Display, Formatter, Write};
+use thiserror::Error;
 
 /// What is wrong with settings, in the order in which it is looked for. It displays its word.
-#[derive(Clone, Copy, Debug, PartialEq, Eq)]
+#[derive(Clone, Copy, Debug, PartialEq, Eq, Error)]
 pub enum SettingsFault {
     /// The number of blocks is outside 1 to 1,048,576.
     Blocks,
@@ -60,5 +60,3 @@ impl Display for SettingsFault {
         f.write_str(self.word())
     }
 }
-
-impl Error for SettingsFault {}
