@@ -12,8 +12,7 @@ use Rattle.upload_book.specs.declared.operation.Operation.TheVariants as operati
 use Rattle.upload_book.specs.declared.refusal.Refusal.{Refusal}
 use Rattle.upload_book.specs.declared.restored.Restored.{Restored}
 use Rattle.upload_book.specs.Events.{ChangeEvent, HasUpload, book_after_all}
-use Rattle.upload_book.specs.FinalLaws.{IsMadeIn}
-use Rattle.upload_book.specs.PlainBook.{PlainBook, opening_book}
+use Rattle.upload_book.specs.PlainBook.{opening_book}
 use Rattle.upload_book.specs.Settings.{Settings}
 use Rattle.upload_book.specs.Upload.{Upload}
 use Rattle.upload_book.proofs.Lawful.FinalLaw.{finals_stay}
@@ -24,7 +23,7 @@ use Rattle.tus_steps.specs.Operation.{operation_of}
 use Rattle.tus_steps.specs.Request.{Request}
 use Rattle.head_board.specs.Event.{Event}
 use Rattle.head_board.specs.Events.{change_event}
-use Rattle.tus_shared.specs.Finals.{ComesBy, FinalsAreJoined, IsJoinedIn, RestoreNothing, RestoresNothing}
+use Rattle.tus_shared.specs.Finals.{ComesBy, FinalsAreJoined, FinalsOfOpenings, IsJoinedIn, RestoreNothing, RestoresNothing}
 
 -- no operation restores anything
 of-operation : (op : Operation) (found : ChangeOf) → change_in (asked_for op) ≡ Some found → RestoresNothing found.change
@@ -78,9 +77,23 @@ finals-joined s events name u nothing final has =
       | inr back ↦ absurd (none back.restored back.is)
     ]
 
+-- an event of one of the openings joined it
+pub of-openings : FinalsOfOpenings
+of-openings [] name u are final stood = stood
+of-openings (opening ∷ earlier) name u are final (inr stood) = inr (of-openings earlier name u are.1 final stood)
+of-openings (opening ∷ earlier) name u are final (inl has) =
+    let made = finals_stay.comes opening.settings opening.events name u final has in
+    elim made.made [
+      | inl joined ↦ inl (record { before = made.before; event = made.event; after = made.after; all = made.all; joined = joined })
+      | inr back ↦ inr (of-openings earlier name u are.1 final (are.0 made.before made.after made.event name u made.all final back))
+    ]
+
 -- how each final came to a store
 pub comes-by : (s : Settings) (journal : Option ℕ) (events : List Event) (name : Name) (u : Upload) → (journal ≡ None → RestoreNothing events) → u.kind ≡ Final
     → HasUpload (book_after_all (opening_book s) (map {A = Event} {B = ChangeEvent} change_event events)) name u
-    → ComesBy journal (opening_book s) (map {A = Event} {B = ChangeEvent} change_event events) name u
+    → ComesBy journal s (map {A = Event} {B = ChangeEvent} change_event events) name u
 comes-by s None events name u nothing final has = finals-joined s events name u (nothing refl) final has
-comes-by s (Some key) events name u nothing final has = finals_stay.comes s (map {A = Event} {B = ChangeEvent} change_event events) name u final has
+comes-by s (Some key) events name u nothing final has = (
+  finals_stay.comes s (map {A = Event} {B = ChangeEvent} change_event events) name u final has,
+  λ earlier are. of-openings (record { settings = s; events = map {A = Event} {B = ChangeEvent} change_event events } ∷ earlier) name u are final (inl has),
+)

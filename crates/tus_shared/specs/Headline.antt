@@ -7,7 +7,6 @@ use Rattle.upload_book.specs.declared.head_row.Kind.TheVariants.{Final}
 use Rattle.upload_book.specs.declared.head_row.Name.{Name}
 use Rattle.upload_book.specs.Events.{ChangeEvent, HasUpload}
 use Rattle.upload_book.specs.Lawful.{IsLawful}
-use Rattle.upload_book.specs.PlainBook.{opening_book}
 use Rattle.upload_book.specs.Settings.{Settings}
 use Rattle.upload_book.specs.Upload.{Upload}
 use Rattle.head_board.specs.Event.{Event}
@@ -23,12 +22,12 @@ pub record Headline (s : Settings) (journal : Option ℕ) (events : List Event) 
   pub read : all_read (blocks_of book) ≡ all_segments (book_at s events)
   -- for which the book stands, with all else that it tells;
   pub stands : plain_of book ≡ book_at s events
-  -- each final of it is the concatenation that it was created from, which is among the events, or stands in the snapshot that
-  -- a journal begins with;
+  -- each final of it is the concatenation that it was created from: one of the events joined it; with a journal one of an
+  -- earlier opening may have, and then the snapshot that the journal began with brought it;
   pub finals :
       (name : Name) (u : Upload)
       → u.kind ≡ Final → HasUpload (book_at s events) name u
-      → ComesBy journal (opening_book s) (map {A = Event} {B = ChangeEvent} change_event events) name u
+      → ComesBy journal s (map {A = Event} {B = ChangeEvent} change_event events) name u
   -- no tenant exceeds its quota;
   pub quotas : All (λ part. charge_in s.numbers part ≤ part.quota) (book_at s events).tenants
   -- each event happened to the book of its time, so each was accepted there.

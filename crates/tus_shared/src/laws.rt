@@ -1,5 +1,5 @@
 //! Laws of the definitions that the contracts cite: each is the contract of a function that does nothing.
-ghost use Rattle.tus_shared.specs.Finals.{FinalsAreJoined};
+ghost use Rattle.tus_shared.specs.Finals.{FinalsAreJoined, FinalsOfOpenings};
 ghost use Rattle.tus_shared.specs.Laws.{LaterAnswers, OneLog, WithoutAJournal};
 
 /// All desks answer in one list of events: there the replies of every desk are the plain book's, in its own order, and each
@@ -24,4 +24,10 @@ pub fn without_a_journal()
 /// created from: one of the events joined it of the parts that were there then.
 pub fn finals_are_joined()
     ensures { FinalsAreJoined }
+{}
+
+/// However many openings of a journal there were, where each restored final uploads of earlier ones alone, each final upload is
+/// the concatenation that it was created from: an event of one of them joined it of the parts that were there then.
+pub fn finals_of_openings()
+    ensures { FinalsOfOpenings }
 {}
