@@ -38,10 +38,11 @@ Upload-Expires: Thu, 01 Jan 1970 01:16:40 GMT\r\nContent-Type: text/plain\r\nCon
 memory\n";
 
 const POST_HELLO: &[u8] = b"POST /files/acme HTTP/1.1\r\nHost: x\r\nTus-Resumable: 1.0.0\r\n\
-Upload-Length: 5\r\nContent-Type: application/offset+octet-stream\r\nContent-Length: 5\r\n\r\nhello";
+Upload-Length: 10\r\nContent-Type: application/offset+octet-stream\r\nContent-Length: 5\r\n\r\nhello";
 
 const CREATED_1: &[u8] = b"HTTP/1.1 201 Created\r\nDate: Thu, 01 Jan 1970 00:16:40 GMT\r\n\
-Tus-Resumable: 1.0.0\r\nLocation: /files/acme/1\r\nUpload-Offset: 5\r\nContent-Length: 0\r\n\r\n";
+Tus-Resumable: 1.0.0\r\nLocation: /files/acme/1\r\nUpload-Offset: 5\r\n\
+Upload-Expires: Thu, 01 Jan 1970 01:16:40 GMT\r\nContent-Length: 0\r\n\r\n";
 
 const ABCDE_TO_2: &[u8] = b"PATCH /files/acme/2 HTTP/1.1\r\nHost: x\r\nTus-Resumable: 1.0.0\r\n\
 Content-Type: application/offset+octet-stream\r\nUpload-Offset: 0\r\nContent-Length: 5\r\n\r\n\
@@ -71,7 +72,8 @@ const DELETE_3: &[u8] = b"DELETE /files/acme/3 HTTP/1.1\r\nHost: x\r\nTus-Resuma
 const GET_4: &[u8] = b"GET /files/acme/4 HTTP/1.1\r\nHost: x\r\n\r\n";
 
 const CREATED_5: &[u8] = b"HTTP/1.1 201 Created\r\nDate: Thu, 01 Jan 1970 00:16:40 GMT\r\n\
-Tus-Resumable: 1.0.0\r\nLocation: /files/acme/5\r\nUpload-Offset: 5\r\nContent-Length: 0\r\n\r\n";
+Tus-Resumable: 1.0.0\r\nLocation: /files/acme/5\r\nUpload-Offset: 5\r\n\
+Upload-Expires: Thu, 01 Jan 1970 01:16:40 GMT\r\nContent-Length: 0\r\n\r\n";
 
 /// An upload with its first bytes before all else, two parts and the final upload of both, which stays when the parts
 /// end, and another upload with its first bytes.

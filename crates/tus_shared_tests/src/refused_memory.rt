@@ -29,7 +29,7 @@ const JOINED: &[u8] = b"final;/files/acme/2 /files/acme/3";
 /// An upload with its first bytes, and two parts and the final upload of both, which stays when the parts end: what is
 /// asked, and what is told.
 static TURNS: [(Asked, Answer<'static>); 10] = [
-    (Upload(b"5", b"hello"), Created(1, Some(5), None)),
+    (Upload(b"10", b"hello"), Created(1, Some(5), Some(4600))),
     (Partial(b"5"), Created(2, None, Some(4600))),
     (Patch(SECOND, b"0", b"abcde"), Patched(5, Some(4600))),
     (Partial(b"2"), Created(3, None, Some(4600))),
