@@ -1,5 +1,5 @@
 -- Lines that wait to be written, and how many were lost.
-use Rattle.std.specs.Prelude.{◌≡◌, ℕ, ◌+◌, ◌-◌, ◌^◌, min, List, ◌++◌, Bool, if◌then◌else◌}
+use Rattle.std.specs.Prelude.{ℕ, ◌+◌, ◌-◌, ◌^◌, min, List, ◌++◌, Bool, if◌then◌else◌}
 
 pub record Log : Type 0 where
   pub waiting : List ℕ

@@ -1,9 +1,8 @@
 -- Numbers in Prometheus' text format (version 0.0.4): families of samples.
-use Rattle.std.specs.Prelude.{ℕ, ◌==◌, List, [], ◌∷◌, ◌++◌, map, codes, decimal, Option, Some, None, if◌then◌else◌}
+use Rattle.std.specs.Prelude.{ℕ, ◌==◌, List, [], ◌∷◌, ◌++◌, map, codes, decimal, if◌then◌else◌}
 use Rattle.std.specs.List.{flat_map}
 use Rattle.service_watch.specs.Seconds.{seconds_text}
 use Rattle.service_watch.specs.declared.counts.Bucket.{Bucket}
-use Rattle.service_watch.specs.declared.counts.Counts.{Counts}
 use Rattle.service_watch.specs.declared.counts.Histogram.{Histogram}
 use Rattle.service_watch.specs.declared.counts.NamedCount.{NamedCount}
 use Rattle.service_watch.specs.declared.counts.ReplyCount.{ReplyCount}

@@ -1,8 +1,12 @@
 //! Text from outside, escaped by percent signs, so that it is one word of printable ASCII.
-ghost use Rattle.std.specs.Prelude.{◌≡◌, ◌<◌, ◌++◌, OnOk};
-ghost use Rattle.service_watch.specs.Escape.{escape, escaped, hex_digit, is_plain, shown};
+ghost use Rattle.std.specs.Prelude.{◌≡◌, ◌++◌, OnOk};
+ghost use Rattle.service_watch.specs.Escape.{escaped, shown};
 
+use percent_encoding::{AsciiSet, CONTROLS, ascii_set, percent_encode};
 use std::alloc::AllocError;
+
+/// What is escaped of ASCII, beside all bytes that are none.
+const ESCAPED: AsciiSet = ascii_set!(CONTROLS.add(b' ').add(b'"').add(b'%').add(b'\\'));
 
 /// Puts a text behind what is there, escaped; a hyphen where it has no bytes.
 #[tactic(auto, unfolding(crate::specs::Escape::shown))]
@@ -16,40 +20,11 @@ pub(crate) fn put_shown(out: &mut Vec<u8>, text: &[u8]) -> Result<(), AllocError
 }
 
 /// Puts a text behind what is there, escaped.
-#[tactic(auto, unfolding(crate::specs::Escape::escaped))]
 pub(crate) fn put_escaped(out: &mut Vec<u8>, text: &[u8]) -> Result<(), AllocError>
     ensures { OnOk result (out.new.items ≡ out.old.items ++ escaped text.now) }
 {
-    for byte in text {
-        put_byte(out, *byte)?;
+    for piece in percent_encode(text, ESCAPED) {
+        out.extend_from_slice(piece.as_bytes())?;
     }
     Ok(())
-}
-
-fn put_byte(out: &mut Vec<u8>, byte: u8) -> Result<(), AllocError>
-    ensures { OnOk result (out.new.items ≡ out.old.items ++ escape byte) }
-{
-    if is_plain(byte) {
-        out.extend_from_slice(&[byte])
-    } else {
-        out.extend_from_slice(&[b'%', hex_digit(byte / 16), hex_digit(byte % 16)])
-    }
-}
-
-// Whether a byte stands for itself.
-fn is_plain(byte: u8) -> bool
-    ensures { result ≡ is_plain byte }
-{
-    33 <= byte && byte <= 126 && byte != b'"' && byte != b'%' && byte != b'\\'
-}
-
-fn hex_digit(number: u8) -> u8
-    requires { number < 16 }
-    ensures { result ≡ hex_digit number }
-{
-    if number < 10 {
-        48 + number
-    } else {
-        55 + number
-    }
 }

@@ -1,7 +1,8 @@
-use Rattle.std.proofs.Common.{◌≡◌, ◌++◌, take}
-use Rattle.std.specs.List.{flat_map}
-use Rattle.service_watch.specs.Escape.{escape}
+use Rattle.std.proofs.Common.{◌≡◌, ◌++◌}
+use Rattle.percent_encoding.specs.Iter.{encoded_text}
+use Rattle.percent_encoding.specs.Percent.{percent_encode}
+use Rattle.service_watch.specs.declared.escape.TheConstants.{ESCAPED}
 use Rattle.service_watch.proofs.escape.put_escaped.Given as goal
 
-abbrev pub invariant-loop-byte : goal.invariant-loop-byte
-invariant-loop-byte l = l.out.items ≡ l.fn.out.items ++ flat_map escape (take l.byte-index l.text)
+abbrev pub invariant-loop-piece : goal.invariant-loop-piece
+invariant-loop-piece l = l.out.items ++ encoded_text l.piece-iterator ≡ l.fn.out.items ++ percent_encode ESCAPED l.text

@@ -1,4 +1,4 @@
-use Rattle.std.proofs.Common.{◌≡◌, ◌++◌, codes, map, take}
+use Rattle.std.proofs.Common.{◌≡◌, ◌++◌, take}
 use Rattle.std.specs.List.{flat_map}
 use Rattle.service_watch.specs.Metrics.{label_byte}
 use Rattle.service_watch.proofs.exposition.put_label_value.Given as goal

@@ -1,4 +1,4 @@
-use Rattle.std.proofs.Common.{◌≡◌, ◌++◌, codes, map, take}
+use Rattle.std.proofs.Common.{◌≡◌, ◌++◌, map, take}
 use Rattle.std.specs.List.{flat_map}
 use Rattle.service_watch.specs.Metrics.{reply_sample, sample_text}
 use Rattle.service_watch.proofs.exposition.put_replies.Given as goal
