@@ -1,14 +1,17 @@
 //! How many connections the limit of descriptors allows.
-ghost use Rattle.std.specs.Prelude.{◌≡◌, ◌≤◌};
+ghost use Rattle.std.specs.Prelude.{◌≡◌, ◌⊎◌, ◌+◌, ◌*◌, ◌<◌, ◌≤◌};
 
 use connection_turns::WorkOptions;
 use libc::types::rlimit;
 use std::io::Eprint;
 use thiserror::Error;
 
-/// How many descriptors a server has besides those of its clients: some of its own, and four for each worker.
-const OWN: u64 = 10;
+/// How many descriptors a server has at most besides those of its workers: three streams, the listener, the log, the file that
+/// tells of memory, seven of a journal, and for numbers a listener, those who ask and one that is turned away.
+const OWN: u64 = 31;
 
+/// How many descriptors a worker has besides those of its clients: what tells it of events, what wakes it, its listener, and one
+/// connection more that is let go.
 const OF_WORKER: u64 = 4;
 
 /// That workers hold fewer connections than they were asked to.
@@ -29,9 +32,7 @@ pub fn within_descriptors<H: Eprint>(rt: &H, options: WorkOptions, workers: usiz
     let Some(limit) = descriptor_limit() else {
         return options;
     };
-    let workers = (workers as u64).max(1);
-    let own = OWN.saturating_add(workers.saturating_mul(OF_WORKER));
-    let most = (limit.saturating_sub(own) / workers).max(1);
+    let most = most_at_once(limit, (workers as u64).max(1));
     if options.at_once as u64 <= most {
         return options;
     }
@@ -43,6 +44,18 @@ pub fn within_descriptors<H: Eprint>(rt: &H, options: WorkOptions, workers: usiz
         at_once: most as usize,
         ..options
     }
+}
+
+// How many connections each of so many workers may hold where so many descriptors may be open: as many as leave the server its
+// own, and one at least.
+fn most_at_once(limit: u64, workers: u64) -> u64
+    requires { 0 < workers }
+    ensures some { 1 ≤ result }
+    ensures fits { (31 + workers * (result + 4) ≤ limit) ⊎ (result ≡ 1) }
+    ensures most { limit < 31 + workers * (result + 1 + 4) }
+{
+    let left = limit.saturating_sub(OWN) / workers;
+    left.saturating_sub(OF_WORKER).max(1)
 }
 
 // How many descriptors the process may have; None where the system does not tell.

@@ -19,6 +19,7 @@ mod machine_clock;
 mod metrics_door;
 mod numbers;
 mod precedence;
+mod question;
 mod seen;
 mod socket_listener;
 mod stream;

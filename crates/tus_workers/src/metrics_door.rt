@@ -1,6 +1,7 @@
 //! Where numbers are asked for: a second listener, which answers `GET /metrics`, `GET /health`, and, from this machine,
 //! `POST /stop`.
 
+use crate::question::{Question, question_in};
 use mio::net::{TcpListener, TcpStream};
 use mio::{Events, Interest, Registry, Token};
 use slab::Slab;
@@ -25,29 +26,6 @@ const SECONDS_MAX: u64 = 5;
 const READ_SIZE: usize = 1_024;
 
 const READS_MAX: usize = 16;
-
-/// The end of a request's head.
-const HEAD_END: &[u8] = b"\r\n\r\n";
-
-/// How a field begins that a browser sends with each POST of a page.
-const ORIGIN: &[u8] = b"\r\norigin:";
-
-/// What somebody asks for.
-#[derive(Clone, Copy, Debug, PartialEq, Eq)]
-pub(crate) enum Question {
-    /// All numbers.
-    Metrics,
-    /// Whether the service is there.
-    Health,
-    /// That the service end, asked for on this machine.
-    Stop,
-    /// The same, asked for from another machine, or by a page in a browser.
-    StopFromElsewhere,
-    /// Where a stop is asked for, but by another method.
-    StopByOtherMethod,
-    /// Something else.
-    Other,
-}
 
 /// A question of one connection.
 #[derive(Clone, Copy)]
@@ -242,8 +220,8 @@ impl Asker {
         self.read() && self.send()
     }
 
-    // Reads what came, until the whole head of a request is there. What comes after it is dropped. It is false where the
-    // input ended before, or the request is too long.
+    // Reads what came, until it is known what it asks for. What comes after that is dropped. It is false where the input ended
+    // before, or the request is too long.
     fn read(&mut self) -> bool {
         let mut bytes = [0; READ_SIZE];
         for _ in 0..READS_MAX {
@@ -271,10 +249,8 @@ impl Asker {
         {
             return false;
         }
-        if has_head(&self.request) {
-            self.has_asked = true;
-            self.question = Some(question_in(&self.request, self.is_near));
-        }
+        self.question = question_in(&self.request, self.is_near);
+        self.has_asked = self.question.is_some();
         true
     }
 
@@ -295,11 +271,6 @@ impl Asker {
     }
 }
 
-// Whether the whole head of a request is there.
-fn has_head(request: &[u8]) -> bool {
-    request.windows(HEAD_END.len()).any(|part| part == HEAD_END)
-}
-
 // Whether who asks is on this machine: at a loopback address, or at the one that was asked.
 fn is_near(stream: &TcpStream, peer: &SocketAddr) -> bool {
     let peer = peer.ip().to_canonical();
@@ -307,40 +278,6 @@ fn is_near(stream: &TcpStream, peer: &SocketAddr) -> bool {
         Ok(own) if own.ip().to_canonical() == peer => true,
         _ => peer.is_loopback(),
     }
-}
-
-// What a request asks for.
-fn question_in(request: &[u8], is_near: bool) -> Question {
-    if request.starts_with(b"GET /metrics ") {
-        Question::Metrics
-    } else if request.starts_with(b"GET /health ") {
-        Question::Health
-    } else if request.starts_with(b"POST /stop ") {
-        if is_near && !has_origin(request) {
-            Question::Stop
-        } else {
-            Question::StopFromElsewhere
-        }
-    } else if is_for_stop(request) {
-        Question::StopByOtherMethod
-    } else {
-        Question::Other
-    }
-}
-
-// Whether a request has the path at which a stop is asked for, whatever its method.
-fn is_for_stop(request: &[u8]) -> bool {
-    match request.iter().position(|byte| *byte == b' ') {
-        Some(place) => request.get(place..).unwrap_or(b"").starts_with(b" /stop "),
-        None => false,
-    }
-}
-
-// Whether a page in a browser sent a request, so that whoever wrote the page may have asked.
-fn has_origin(request: &[u8]) -> bool {
-    request
-        .windows(ORIGIN.len())
-        .any(|part| part.eq_ignore_ascii_case(ORIGIN))
 }
 
 /// A reply with this status, these lines of fields, and this text, after which the connection ends. The error is that memory is

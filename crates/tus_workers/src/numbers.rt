@@ -1,7 +1,8 @@
 //! The numbers that somebody asks a worker for.
 
 use crate::keeping::Keeping;
-use crate::metrics_door::{Question, reply_with};
+use crate::metrics_door::reply_with;
+use crate::question::Question;
 use crate::watching::Watching;
 use crate::workers::Workers;
 use head_board::Totals;

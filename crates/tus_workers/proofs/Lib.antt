@@ -1,0 +1,2 @@
+pub mod DescriptorLemmas
+pub mod QuestionLemmas
