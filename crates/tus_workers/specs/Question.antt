@@ -1,4 +1,4 @@
--- What a request at the port for numbers asks for (RFC 9110, RFC 9112).
+-- What a request at the port for numbers asks for: a method (RFC 9110, section 9) at a target, in a head (RFC 9112, section 2).
 use Rattle.std.specs.Prelude.{◌≡◌, ◌≤◌, ◌⊎◌, ℕ, Bool, not, ◌&&◌, List, length, map, codes, bytes_eq, if◌then◌else◌, Option, Some, None}
 use Rattle.std.specs.Char.{to_ascii_lowercase}
 use Rattle.std.specs.List.{list_any}
@@ -11,20 +11,21 @@ use Rattle.tus_workers.specs.declared.question.Question.TheVariants.{Metrics, He
 abbrev pub field_limit : ℕ
 field_limit = 64
 
--- a field that a browser sends with each POST of a page (RFC 6454, section 7); names have no case (RFC 9110, section 5.1)
+-- the name of the field that a browser sends with each POST of a page (RFC 6454, section 7), in any letter case (RFC 9110,
+-- section 5.1)
 abbrev pub is_origin : List ℕ → Bool
 is_origin name = bytes_eq (map to_ascii_lowercase name) (codes "origin")
 
--- some field of the head tells the page that asks
+-- some field tells of a page
 abbrev pub has_origin : List Field → Bool
 has_origin fields = list_any (λ f. is_origin f.name) fields
 
--- where a stop is asked for: only by POST, and only by one who may
+-- what is asked for where the service is stopped: by POST alone, and by one who may
 abbrev pub stop_by : List ℕ → Bool → Question
 stop_by method may_stop =
     if bytes_eq method (codes "POST") then (if may_stop then Stop else StopFromElsewhere) else StopByOtherMethod
 
--- where something is read: only by GET
+-- what is asked for where something is read: by GET alone
 abbrev pub read_by : List ℕ → Question → Question
 read_by method question = if bytes_eq method (codes "GET") then question else Other
 
@@ -36,7 +37,7 @@ asked_by method target may_stop =
     else if bytes_eq target (codes "/health") then read_by method Health
     else Other
 
--- what a head asks for; a stop is for who is near, and for no page
+-- what a head asks for; one who is near may stop the service, but no page
 abbrev pub question_of : Bool → RequestHead → Question
 question_of is_near h = asked_by h.method h.target (is_near && not (has_origin h.fields))
 

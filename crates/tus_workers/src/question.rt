@@ -5,7 +5,7 @@ ghost use Rattle.httparse.specs.Spans.{IsHeaderWithin, span_bytes};
 ghost use Rattle.tus_workers.specs.Question.{Asks, asked_by, is_origin, read_by, stop_by};
 
 use httparse::Status;
-use httparse::spans::{EMPTY_HEADER_SPAN, HeaderSpan, RequestSpans, parse_request};
+use httparse::spans::{EMPTY_HEADER_SPAN, HeaderSpan, parse_request};
 
 /// The most fields of a request.
 const FIELDS_MAX: usize = 64;
@@ -27,8 +27,8 @@ pub(crate) enum Question {
     Other,
 }
 
-/// What the bytes that came of a request ask for, whose sender may be on this machine. None is that its head is not whole yet.
-/// It takes no memory.
+/// What a request asks for of which these bytes came; `is_near` is that its sender is on this machine. None is that its head may
+/// become whole, and is not yet. It takes no memory.
 pub(crate) fn question_in(bytes: &[u8], is_near: bool) -> Option<Question>
     ensures { Asks is_near bytes.now result }
 {
@@ -90,7 +90,7 @@ fn read_by(method: &[u8], question: Question) -> Question
     }
 }
 
-// Whether a stop is for who sent a head with these fields.
+// Whether who sent a head with these fields may stop the service.
 fn may_stop(is_near: bool, head: &[u8], spans: &[HeaderSpan]) -> bool
     requires { All (IsHeaderWithin (length head.now)) spans.now }
     ensures { result ≡ (is_near && not (list_any (λ s. is_origin (span_bytes head.now s.name)) spans.now)) }
