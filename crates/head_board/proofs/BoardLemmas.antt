@@ -1,9 +1,10 @@
 -- What the writer's calls leave of a board.
-use Rattle.std.proofs.Common.{◌≡◌, ℕ, true, List, [], ◌∷◌, ◌++◌, fold, map, Some, Result, Ok, Err, refl, sym, ap, ap₂, subst, ◌∙◌}
+use Rattle.std.proofs.Common.{◌≡◌, ℕ, true, List, [], ◌∷◌, ◌++◌, fold, length, map, Some, None, Result, Ok, Err, refl, sym, ap, ap₂, subst, ◌∙◌}
 use Rattle.std.specs.Option.{option_map_or}
 use Rattle.std.proofs.lemmas.List.Sums.{fold-append}
 use Rattle.std.specs.Result.{IsOk, MatchResult}
 use Rattle.left_right.specs.Register.{TurnsAt}
+use Rattle.upload_book.specs.Change.{CanBeMade}
 use Rattle.upload_book.specs.declared.board_line.Accounts.{Accounts}
 use Rattle.upload_book.specs.declared.board_line.BoardLine.{BoardLine}
 use Rattle.upload_book.specs.declared.head_note.HeadNote.{HeadNote}
@@ -13,7 +14,7 @@ use Rattle.upload_book.specs.HeadNotes.{line_told}
 use Rattle.upload_book.specs.Heads.{Heads, apply_line, heads_of}
 use Rattle.upload_book.specs.HeadSteps.{MayFollow}
 use Rattle.upload_book.specs.PlainBook.{PlainBook, opening_book}
-use Rattle.upload_book.specs.Settings.{Settings}
+use Rattle.upload_book.specs.Settings.{Settings, settings_fault}
 use Rattle.head_board.specs.Event.{Event}
 use Rattle.head_board.specs.declared.board_copy.Added.{Added}
 use Rattle.head_board.specs.declared.board_copy.Note.{Note}
@@ -96,9 +97,9 @@ noted-line : (h : Heads) (note : HeadNote) (line : BoardLine) → line_told h no
 noted-line h note line told = ap (λ line. option_map_or (heads_with h) line h) told
 
 -- a current copy is current after the note of an event that happened
-pub current-noted : (s : BoardCopy) (e : Event) (note : HeadNote) (after : LogPrefix) (texts : ComingTexts) → IsCurrent s → after ≡ record s.seen { events = s.seen.events ++ e ∷ [] } → IsNoteOfEvent (book_at s.table.settings s.seen.events) e note
+pub current-noted : (s : BoardCopy) (e : Event) (note : HeadNote) (after : LogPrefix) (texts : ComingTexts) → IsCurrent s → after ≡ record s.seen { events = s.seen.events ++ e ∷ [] } → CanBeMade (length (book_at s.table.settings s.seen.events).settings.tenants) e.change → IsNoteOfEvent (book_at s.table.settings s.seen.events) e note
     → IsNext s (record (with_note s note after) { coming = texts })
-current-noted s e note after texts current is told =
+current-noted s e note after texts current is asked told =
     let next : BoardCopy = record (with_note s note after) { coming = texts } in
     let line : BoardLine = told.line in
     let events : after.events ≡ s.seen.events ++ e ∷ [] = ap (λ (t : LogPrefix). t.events) is in
@@ -107,11 +108,12 @@ current-noted s e note after texts current is told =
     let table : next.table ≡ apply_line s.table line = noted-line s.table note line told_here ∙ rw (lines_have_room s.table line may) refl in
     let settings : next.table.settings ≡ s.table.settings = ap (λ (h : Heads). h.settings) table in
     let happened : HaveHappened s.table.settings after.events =
-    subst (HaveHappened s.table.settings) (sym events) (happen-one (opening_book s.table.settings) s.seen.events e current.happened (line, record { is = told.is; leads = told.leads })) in
+    subst (HaveHappened s.table.settings) (sym events) (happen-one (opening_book s.table.settings) s.seen.events e current.happened (record { asked = asked; line = line; told = record { is = told.is; leads = told.leads } })) in
     let heads : next.table ≡ heads_of (book_at s.table.settings after.events) =
     table ∙ ap (λ (h : Heads). apply_line h line) current.heads ∙ sym told.leads.heads ∙ sym (ap heads_of (ap (book_at s.table.settings) events ∙ after-one (opening_book s.table.settings) s.seen.events e)) in
     record {
       current = record {
+        sound = subst (λ (settings : Settings). settings_fault settings ≡ None) (sym settings) current.sound;
         happened = subst (λ (settings : Settings). HaveHappened settings after.events) (sym settings) happened;
         heads = heads ∙ ap (λ (settings : Settings). heads_of (book_at settings after.events)) (sym settings);
         slots = note-slots s.table s.last_changes note.change after current.slots;

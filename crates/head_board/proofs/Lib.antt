@@ -2,6 +2,8 @@ pub mod RowLemmas
 pub mod TableLemmas
 pub mod BoundLemmas
 pub mod LineLemmas
+pub mod LawfulLemmas
+pub mod SettingsLemmas
 pub mod LogLemmas
 pub mod PrefixLemmas
 pub mod LastLemmas

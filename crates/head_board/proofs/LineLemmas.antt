@@ -256,13 +256,13 @@ line-right h line may right t =
 
 -- so it is after an event, whose line leads to the book after it,
 event-right : (b : PlainBook) (e : Event) → Happens b e → AreRight (heads_of b) → AreRight (heads_of (book_after_event b (change_event e)))
-event-right b e here right = subst AreRight (sym here.1.leads.heads) (line-right (heads_of b) here.0 here.1.leads.may right)
+event-right b e here right = subst AreRight (sym here.told.leads.heads) (line-right (heads_of b) here.line here.told.leads.may right)
 
 event-later : (b : PlainBook) (e : Event) (name : Name) → Happens b e → AreRight (heads_of b) → IsLaterBook name b (book_after_event b (change_event e))
 event-later b e name here right =
     let part : HeadPart = head_part_at (heads_of b) name.tenant in
-    subst (λ (h : Heads). IsLater name.id part (head_part_at h name.tenant)) (sym here.1.leads.heads)
-    (step-later part (right name.tenant) name.id (head_part_at (apply_line (heads_of b) here.0) name.tenant) (part-step (heads_of b) here.0.change name.tenant here.1.leads.may.change))
+    subst (λ (h : Heads). IsLater name.id part (head_part_at h name.tenant)) (sym here.told.leads.heads)
+    (step-later part (right name.tenant) name.id (head_part_at (apply_line (heads_of b) here.line) name.tenant) (part-step (heads_of b) here.line.change name.tenant here.told.leads.may.change))
 
 -- and after several
 events-later : (b : PlainBook) (events : List Event) (name : Name) → AllHappen b events → AreRight (heads_of b) → IsLaterBook name b (book_after_all b (map {A = Event} {B = ChangeEvent} change_event events))

@@ -1,13 +1,14 @@
 -- What a reader finds.
-use Rattle.std.proofs.Common.{◌≡◌, ℕ, Bool, true, false, if◌then◌else◌, Option, Some, None, IfSome, option_map, Ok, Err, refl, sym, ap, ap₂, subst, ◌∙◌}
+use Rattle.std.proofs.Common.{◌≡◌, ℕ, Bool, true, false, if◌then◌else◌, List, Option, Some, None, IfSome, option_map, Ok, Err, refl, sym, ap, ap₂, subst, ◌∙◌}
 use mathlib.Core.List.{IsPrefix}
 use Rattle.upload_book.specs.declared.head_row.HeadRow.{HeadRow}
 use Rattle.upload_book.specs.declared.head_row.Name.{Name}
 use Rattle.upload_book.specs.declared.refusal.Refusal.TheVariants.{Gone, Unknown}
 use Rattle.upload_book.specs.Heads.{Heads, HeadPart, head_part, heads_of, shown}
+use Rattle.upload_book.specs.Lawful.{IsLawful}
 use Rattle.upload_book.specs.Look.{look_answer, row_of}
 use Rattle.upload_book.specs.PlainBook.{PlainBook, answer_of, opening_book, tenant_book}
-use Rattle.upload_book.specs.Settings.{Settings}
+use Rattle.upload_book.specs.Settings.{Settings, settings_fault}
 use Rattle.upload_book.specs.TenantBook.{TenantBook, is_given, kept_in, visible, visible_in, visible_upload}
 use Rattle.upload_book.specs.Expiry.{has_expired}
 use Rattle.upload_book.specs.Upload.{Upload, head_row_of}
@@ -17,12 +18,14 @@ use Rattle.head_board.specs.declared.board_copy.View.{View}
 use Rattle.head_board.specs.declared.head_reader.Found.{Found}
 use Rattle.head_board.specs.declared.totals.Totals.{Totals}
 use Rattle.head_board.specs.Board.{row_read}
+use Rattle.head_board.specs.Event.{Event}
 use Rattle.head_board.specs.Events.{HaveHappened, book_at}
 use Rattle.head_board.specs.Expired.{NoneHasExpired}
 use Rattle.head_board.specs.Totals.{totals_of}
 use Rattle.head_board.specs.inside.EventLog.{IsMore, LogPrefix}
 use Rattle.head_board.specs.inside.LastChanges.{last_of}
 use Rattle.head_board.specs.inside.Showing.{IsFound, log_of}
+use Rattle.head_board.proofs.LawfulLemmas.{books_stay_lawful}
 use Rattle.head_board.proofs.PrefixLemmas.{happen-before, more-seen}
 
 -- what is found of an upload is what is found of its row
@@ -56,6 +59,11 @@ found-happened v s seen events knows there is =
     subst (λ (settings : Settings). HaveHappened settings events.events) (sym (there.fits knows).0)
     (subst (λ (t : LogPrefix). HaveHappened s.table.settings t.events) (sym is) there.current.happened)
 
+-- so that is lawful after them
+found-lawful : (v : View) (s : BoardCopy) (seen : LogPrefix) (events : List Event) → v.knows ≡ true → IsFound v seen s → HaveHappened v.settings events → IsLawful (book_at v.settings events)
+found-lawful v s seen events knows there happened =
+    books_stay_lawful.opened v.settings events (subst (λ (settings : Settings). settings_fault settings ≡ None) (sym (there.fits knows).0) there.current.sound) happened
+
 -- what a copy that was found rests on is of the log that the reader reads
 pub found-log : (v : View) (s : BoardCopy) (seen : LogPrefix) (name : Name) → v.knows ≡ true → log_of v.log ≡ seen.book → IsFound v seen s → (last_of s.last_changes name.id).book ≡ seen.book
 found-log v s seen name knows log there = (there.current.rests name).log ∙ sym (there.fits knows).1 ∙ log
@@ -63,15 +71,17 @@ found-log v s seen name knows log there = (there.current.rests name).log ∙ sym
 -- it tells what the book does after what changed the upload last, and after what was seen
 pub found-right : (v : View) (s : BoardCopy) (seen : LogPrefix) (name : Name) (now : ℕ) (f : Found) (row : HeadRow) → v.knows ≡ true → log_of v.log ≡ seen.book → IsFound v seen s
     → IsMore (last_of s.last_changes name.id) seen f.seen → row_read f.read row ≡ shown s.table name now
-    → (f.seen.book ≡ seen.book) × IsPrefix seen.events f.seen.events × HaveHappened v.settings f.seen.events
+    → (f.seen.book ≡ seen.book) × IsPrefix seen.events f.seen.events × HaveHappened v.settings f.seen.events × IsLawful (book_at v.settings f.seen.events)
     × (row_read f.read row ≡ answer_of (book_at v.settings f.seen.events) name.tenant (look_answer name.id now))
 found-right v s seen name now f row knows log there more told =
     let rests = there.current.rests name in
     let both = more-seen (last_of s.last_changes name.id) seen f.seen s.seen rests.begins there.begins (found-log v s seen name knows log there) more in
-    let settings : s.table.settings ≡ v.settings = sym (there.fits knows).0 in (
+    let settings : s.table.settings ≡ v.settings = sym (there.fits knows).0 in
+    let happened : HaveHappened v.settings f.seen.events = subst (λ (settings : Settings). HaveHappened settings f.seen.events) settings (happen-before (opening_book s.table.settings) f.seen.events s.seen.events there.current.happened both.3) in (
       both.0,
       both.1,
-      subst (λ (settings : Settings). HaveHappened settings f.seen.events) settings (happen-before (opening_book s.table.settings) f.seen.events s.seen.events there.current.happened both.3),
+      happened,
+      found-lawful v s seen f.seen.events knows there happened,
       told ∙ sym (rests.same f.seen.events both.2 both.3 now) ∙ ap (λ (settings : Settings). shown (heads_of (book_at settings f.seen.events)) name now) settings
           ∙ shown-look (book_at v.settings f.seen.events) name now,
     )
@@ -79,22 +89,24 @@ found-right v s seen name now f row knows log there more told =
 -- and what has expired after what happened
 pub none-right : (v : View) (s : BoardCopy) (seen : LogPrefix) (now : ℕ) (found : Option LogPrefix) → v.knows ≡ true → log_of v.log ≡ seen.book → IsFound v seen s
     → IfSome found (λ f. (f ≡ s.seen) × NoneHasExpired now s.table)
-    → IfSome found (λ f. (f.book ≡ seen.book) × IsPrefix seen.events f.events × HaveHappened v.settings f.events × NoneHasExpired now (heads_of (book_at v.settings f.events)))
+    → IfSome found (λ f. (f.book ≡ seen.book) × IsPrefix seen.events f.events × HaveHappened v.settings f.events × IsLawful (book_at v.settings f.events) × NoneHasExpired now (heads_of (book_at v.settings f.events)))
 none-right v s seen now None knows log there found = tt
 none-right v s seen now (Some f) knows log there found = (
   ap (λ (t : LogPrefix). t.book) found.0 ∙ sym (there.fits knows).1 ∙ log,
   subst (λ (t : LogPrefix). IsPrefix seen.events t.events) (sym found.0) there.begins,
   found-happened v s seen f knows there found.0,
+  found-lawful v s seen f.events knows there (found-happened v s seen f knows there found.0),
   subst (λ (h : Heads). NoneHasExpired now h) (found-heads v s seen f knows there found.0) found.1,
 )
 
 -- and the totals after what happened
 pub totals-right : (v : View) (s : BoardCopy) (seen found : LogPrefix) (totals : Totals) → v.knows ≡ true → log_of v.log ≡ seen.book → IsFound v seen s
     → found ≡ s.seen → totals ≡ totals_of s.table
-    → (found.book ≡ seen.book) × IsPrefix seen.events found.events × HaveHappened v.settings found.events × (totals ≡ totals_of (heads_of (book_at v.settings found.events)))
+    → (found.book ≡ seen.book) × IsPrefix seen.events found.events × HaveHappened v.settings found.events × IsLawful (book_at v.settings found.events) × (totals ≡ totals_of (heads_of (book_at v.settings found.events)))
 totals-right v s seen found totals knows log there is told = (
   ap (λ (t : LogPrefix). t.book) is ∙ sym (there.fits knows).1 ∙ log,
   subst (λ (t : LogPrefix). IsPrefix seen.events t.events) (sym is) there.begins,
   found-happened v s seen found knows there is,
+  found-lawful v s seen found.events knows there (found-happened v s seen found knows there is),
   told ∙ ap totals_of (found-heads v s seen found knows there is),
 )

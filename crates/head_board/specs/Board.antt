@@ -6,6 +6,7 @@ use Rattle.upload_book.specs.declared.head_row.HeadRow.{HeadRow}
 use Rattle.upload_book.specs.declared.head_row.Name.{Name}
 use Rattle.upload_book.specs.declared.refusal.Refusal.{Refusal}
 use Rattle.upload_book.specs.Heads.{heads_of}
+use Rattle.upload_book.specs.Lawful.{IsLawful}
 use Rattle.upload_book.specs.Look.{look_answer}
 use Rattle.upload_book.specs.PlainBook.{answer_of}
 use Rattle.upload_book.specs.Settings.{Settings}
@@ -39,21 +40,24 @@ abbrev pub row_read : Result ⊤ Refusal → HeadRow → Result HeadRow Refusal
 row_read (Ok read) row = Ok row
 row_read (Err why) row = Err why
 
--- Who has seen some events reads a head: the answer is the one that the plain book gives after events that begin with
--- these.
+-- Who has seen some events reads a head: the answer is the one that the plain book, which is lawful, gives after events that
+-- begin with these.
 pub record ReadsHead (s : Settings) (seen events : List Event) (name : Name) (now : ℕ) (row : Result HeadRow Refusal) : Type 0 where
   pub begins : IsPrefix seen events
   pub happened : HaveHappened s events
+  pub lawful : IsLawful (book_at s events)
   pub tells : row ≡ answer_of (book_at s events) name.tenant (look_answer name.id now)
 
 -- Who has seen some events reads that no upload has expired at a moment: none has after events that begin with these.
 pub record SeesNoneExpired (s : Settings) (seen events : List Event) (now : ℕ) : Type 0 where
   pub begins : IsPrefix seen events
   pub happened : HaveHappened s events
+  pub lawful : IsLawful (book_at s events)
   pub none : NoneHasExpired now (heads_of (book_at s events))
 
 -- Who has seen some events reads totals: those of the plain book after events that begin with these.
 pub record ReadsTotals (s : Settings) (seen events : List Event) (totals : Totals) : Type 0 where
   pub begins : IsPrefix seen events
   pub happened : HaveHappened s events
+  pub lawful : IsLawful (book_at s events)
   pub tells : totals ≡ totals_of (heads_of (book_at s events))

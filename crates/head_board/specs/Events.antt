@@ -1,6 +1,6 @@
 -- What happened to a book that a board shows: changes that it accepted, one after another.
-use Rattle.std.specs.Prelude.{◌≡◌, List, [], ◌∷◌, map, Some, ⊤}
-use Rattle.upload_book.specs.Change.{line_of}
+use Rattle.std.specs.Prelude.{◌≡◌, List, [], ◌∷◌, length, map, Some, ⊤}
+use Rattle.upload_book.specs.Change.{CanBeMade, line_of}
 use Rattle.upload_book.specs.declared.board_line.BoardLine.{BoardLine}
 use Rattle.upload_book.specs.Events.{ChangeEvent, book_after_all, book_after_event}
 use Rattle.upload_book.specs.declared.head_note.HeadNote.{HeadNote}
@@ -33,9 +33,11 @@ pub record IsLineOf (b : PlainBook) (e : Event) (line : BoardLine) : Type 0 wher
 abbrev pub IsNoteOfEvent : PlainBook → Event → HeadNote → Type 0
 IsNoteOfEvent b e note = IsNoteOf b e.change e.now note
 
--- the event happened to the book: that accepted it, so it has a line
-abbrev pub Happens : PlainBook → Event → Type 0
-Happens b e = (line : BoardLine) × IsLineOf b e line
+-- the event happened to the book: that may be asked for its change, and accepted it, so it has a line
+pub record Happens (b : PlainBook) (e : Event) : Type 0 where
+  pub asked : CanBeMade (length b.settings.tenants) e.change
+  pub line : BoardLine
+  pub told : IsLineOf b e line
 
 -- each of the events happened to the book after those before it
 abbrev pub AllHappen : PlainBook → List Event → Type 0

@@ -8,6 +8,7 @@ ghost use Rattle.head_board.specs.inside.BoardRule.{IsAtRest};
 ghost use Rattle.head_board.specs.inside.ComingTexts.{text_in, text_room};
 ghost use Rattle.head_board.specs.inside.Showing.{change_with, noted, view_of, with_note, Fits, IsCurrent, IsNext, WithTexts};
 ghost use Rattle.left_right.specs.Sides.{view as known_at};
+ghost use Rattle.upload_book.specs.Change.{CanBeMade};
 
 use crate::board_copy::{Added, BoardCopy, Note, SmallChange};
 use crate::coming_texts::{ComingTexts, PIECE, TextField};
@@ -64,6 +65,8 @@ impl<W: Wait + Drop> Board<W> {
         requires { (0 < readers) × (readers < 2 ^ 32) }
         ensures { IfOk result (λ b. b ≡ record { settings = settings.now; log = opened.seen.book; events = [] }) }
     {
+        // the contract of this call tells that the settings have no fault
+        let _sound = settings.numbers();
         let Opened { word, seen } = opened;
         let first = BoardCopy {
             table: HeadTable::new(alloc, settings)?,
@@ -91,15 +94,16 @@ impl<W: Wait + Drop> Board<W> {
         })
     }
 
-    /// Shows what will have happened once a change is made for which the book is ready, by the note of what it changes of
-    /// the heads: who reads from now on sees it. It waits for readers that still read the older copy.
+    /// Shows what will have happened once a change is made that the book may be asked for and is ready for, by the note of what
+    /// it changes of the heads: who reads from now on sees it. It waits for readers that still read the older copy.
     ///
     /// Nothing is shown in part, and no memory is taken: room for the notes of two events was made by [`Board::new`], and
     /// there are never more. Were a note refused all the same, it would wait until there is room for it, and it waits until
     /// the log has no more events than the board. No run waits for either, but no contract of the log or of the list of
     /// notes tells that.
     pub fn show(&mut self, coming: &Coming, note: &HeadNote)
-        requires { IsNoteOfEvent (book_at self.old.settings self.old.events) (event_of coming.now) note.now }
+        requires asked { CanBeMade (length self.old.settings.tenants) (event_of coming.now).change }
+        requires note { IsNoteOfEvent (book_at self.old.settings self.old.events) (event_of coming.now) note.now }
         ensures { self.new ≡ record self.old { events = self.old.events ++ event_of coming.now ∷ [] } }
     {
         let after = self.seen.with(&self.rt, &self.word, coming);

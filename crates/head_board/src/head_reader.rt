@@ -9,6 +9,7 @@ ghost use Rattle.head_board.specs.inside.LastChanges.{last_of};
 ghost use Rattle.head_board.specs.inside.Showing.{log_of};
 ghost use Rattle.left_right.specs.Sides.{view as known_at};
 ghost use Rattle.upload_book.specs.Heads.{heads_of, shown};
+ghost use Rattle.upload_book.specs.Lawful.{IsLawful};
 ghost use Rattle.upload_book.specs.Look.{look_answer};
 ghost use Rattle.upload_book.specs.PlainBook.{answer_of};
 
@@ -217,6 +218,7 @@ fn read_head(seat: Seat, query: HeadQuery) -> (Seat, Result<Found, Missed>)
         (found.seen.book ≡ query.seen.book)
         × IsPrefix query.seen.events found.seen.events
         × HaveHappened (known_at seat.reader.place).settings found.seen.events
+        × IsLawful (book_at (known_at seat.reader.place).settings found.seen.events)
         × (row_read found.read result.0.row.value
         ≡ answer_of (book_at (known_at seat.reader.place).settings found.seen.events) query.name.tenant (look_answer query.name.id query.moment))) }
 {
@@ -262,6 +264,7 @@ fn read_ends(seat: Seat, query: EndQuery) -> (Seat, Result<Option<SeenEvents>, M
         (seen.book ≡ query.seen.book)
         × IsPrefix query.seen.events seen.events
         × HaveHappened (known_at seat.reader.place).settings seen.events
+        × IsLawful (book_at (known_at seat.reader.place).settings seen.events)
         × NoneHasExpired query.moment (heads_of (book_at (known_at seat.reader.place).settings seen.events)))) }
 {
     let Seat { reader, row } = seat;
@@ -294,6 +297,7 @@ fn read_totals(seat: Seat, seen: SeenEvents) -> (Seat, Result<FoundTotals, Misse
         (found.seen.book ≡ seen.book)
         × IsPrefix seen.events found.seen.events
         × HaveHappened (known_at seat.reader.place).settings found.seen.events
+        × IsLawful (book_at (known_at seat.reader.place).settings found.seen.events)
         × (found.totals ≡ totals_of (heads_of (book_at (known_at seat.reader.place).settings found.seen.events)))) }
 {
     let Seat { reader, row } = seat;

@@ -1,12 +1,12 @@
 -- A connection that is driven over a reader and a writer that wait.
-use Rattle.std.proofs.Common.{◌≡◌, ◌≢◌, ◌⊎◌, inl, inr, ◌+◌, ◌∷◌, ◌++◌, ℕ, Bool, true, false, List, [], length, take, Option, Ok, Err, IfSome, refl, ap, sym, subst, ◌∙◌, append-nil}
+use Rattle.std.proofs.Common.{◌≡◌, ◌≢◌, ◌⊎◌, ◌≤◌, arith, length-append, inl, inr, ◌+◌, ◌∷◌, ◌++◌, ℕ, Bool, true, false, List, [], length, take, Option, Ok, Err, IfSome, refl, ap, sym, subst, ◌∙◌, append-nil}
 use Rattle.std.proofs.Math.Seq.{take-append-add}
 use Rattle.std.specs.Prelude.{if◌then◌else◌}
 use Rattle.http_wire.specs.ConnectionCalls.{BreaksTo}
 use Rattle.http_wire.specs.Conversation.{continue_text}
 use Rattle.http_wire.specs.Incoming.{FramedRequest, is_cut_by_fault}
 use Rattle.http_wire.specs.OnConnection.{OnConnection, Stands, StandsIn, ended_in, is_looking, owed_in, unless_pending, wanted, wanted_in}
-use Rattle.http_wire.specs.ReadOnWire.{BreaksFront, TellsEnd}
+use Rattle.http_wire.specs.ReadOnWire.{BreaksFront, TellsEnd, read_limit}
 use Rattle.http_wire.specs.declared.connection.Wants.{Wants}
 use Rattle.http_wire.specs.declared.connection.Wants.TheVariants as wants
 use Rattle.http_wire.specs.declared.conversation.Ended.{Ended}
@@ -25,6 +25,11 @@ use Rattle.http_wire.proofs.PhaseLemmas.{reads-waiting}
 -- it does not look at a message where it wants to read
 pub reads-other : (o : OnOutbox) (p : Phase FramedRequest) → wanted_in o p ≡ wants.Read → is_looking p ≡ false
 reads-other o p reads = ap is_looking (reads-waiting o p reads).1
+
+-- with what one read brought, no more bytes came than the limit
+pub read-few : (max seen : ℕ) (held read got : List ℕ) (n : ℕ) → length got ≡ n → seen ≡ max → length (held ++ read) + n ≤ read_limit seen → length (read ++ got) ≤ read_limit max
+read-few max seen held read got n count size few =
+    omega (arith, count, size, few, length-append held read, length-append read got)
 
 -- it owes an answer where it wants one
 answers-owing : (o : OnOutbox) (p : Phase FramedRequest) → wanted_in o p ≡ wants.Answer → (i : Incoming FramedRequest) × (p ≡ Owing i)

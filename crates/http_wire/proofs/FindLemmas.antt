@@ -1,5 +1,5 @@
 -- The search for a head, one look after another.
-use Rattle.std.proofs.Common.{◌≡◌, Bool, ℕ, zero, suc, ◌+◌, ◌-◌, ◌<◌, ◌≤◌, nat_le, if◌then◌else◌, true, false, List, [], ◌∷◌, ◌++◌, length, take, drop, Option, None, Some, option_map, refl, sym, ap, ◌∙◌, arith, inl, inr, one-add, le-leb, length-append, append-nil, append_assoc, take-append-drop, length-drop, length-take-le, add-zero, zero-add, take_all}
+use Rattle.std.proofs.Common.{◌≡◌, ◌⊎◌, Bool, ℕ, zero, suc, ◌+◌, ◌-◌, ◌<◌, ◌≤◌, nat_le, if◌then◌else◌, true, false, List, [], ◌∷◌, ◌++◌, length, take, drop, Option, None, Some, option_map, refl, sym, ap, ◌∙◌, arith, inl, inr, one-add, le-leb, length-append, append-nil, append_assoc, take-append-drop, length-drop, length-take-le, add-zero, zero-add, take_all}
 use Rattle.std.proofs.lemmas.Bool.{cases_Bool, cases_lt, lt-leb}
 use Rattle.std.proofs.lemmas.List.{take-append-le, drop-append-le}
 use Rattle.http_wire.specs.inside.Ahead.{Ahead}
@@ -280,3 +280,34 @@ whole_short input text rest is =
     rest_of too_long = []
     rest_of cut = []
     rest_of nothing = []
+
+-- bytes without a whole head, and with none that is too long, are fewer than a head may have
+pub unfinished_short : (bytes : List ℕ) → IsUnfinished bytes → length bytes < head_limit
+unfinished_short bytes unfinished =
+    let text = drop (blank_len bytes) bytes in
+    omega (arith, short (blank_len bytes) text (head_len text) unfinished, length-drop (blank_len bytes) bytes)
+  where
+    not_whole : (text rest : List ℕ) → (whole text rest ≡ cut) ⊎ (whole text rest ≡ nothing) → ⊥
+    not_whole text rest (inl e) = absurd cc
+    not_whole text rest (inr e) = absurd cc
+
+    not_long : (too_long ≡ cut) ⊎ (too_long ≡ nothing) → ⊥
+    not_long (inl e) = absurd cc
+    not_long (inr e) = absurd cc
+
+    short : (skipped : ℕ) (text : List ℕ) (o : Option ℕ) → (text_at skipped text o ≡ cut) ⊎ (text_at skipped text o ≡ nothing) → skipped + length text < head_limit
+    short skipped text (Some n) e =
+        elim (cases_lt head_limit (skipped + n)) [
+          | inl long ↦ absurd (not_long (rw (lt-leb (skipped + n) head_limit long) at e))
+          | inr fits ↦ absurd (not_whole _ _ (rw (le-leb (skipped + n) head_limit fits) at e))
+        ]
+    short skipped [] None e =
+        elim (cases_lt skipped head_limit) [
+          | inl few ↦ omega (arith, few)
+          | inr many ↦ absurd (not_long (rw (le-leb head_limit skipped many) at e))
+        ]
+    short skipped (b ∷ text) None e =
+        elim (cases_lt (skipped + length (b ∷ text)) head_limit) [
+          | inl few ↦ few
+          | inr many ↦ absurd (not_long (rw (le-leb head_limit (skipped + length (b ∷ text)) many) at e))
+        ]

@@ -1,25 +1,61 @@
 -- What a head with a body begins.
-use Rattle.std.proofs.Common.{◌≡◌, ℕ, ◌+◌, ◌<◌, ◌≤◌, Bool, true, false, true≢false, nat_le, if◌then◌else◌, List, [], ◌++◌, length, take, drop, Option, None, Some, Result, Ok, Err, refl, sym, ap, ◌∙◌, subst, subst₂, arith, inl, inr, le-leb, append-nil, append_assoc, length-append, length-drop, length-take-le, take-take, drop-drop}
+use Rattle.std.specs.Prelude.{codes}
+use Rattle.std.proofs.Common.{◌≡◌, ℕ, ◌+◌, ◌-◌, ◌<◌, ◌≤◌, Bool, true, false, true≢false, nat_le, if◌then◌else◌, List, [], ◌++◌, length, take, drop, Option, None, Some, Result, Ok, Err, refl, sym, ap, ◌∙◌, subst, subst₂, arith, inl, inr, le-leb, le-ltb, lt-ltb, append-nil, append_assoc, length-append, length-drop, length-take-le, take-take, drop-drop}
 use Rattle.std.proofs.lemmas.Bool.{lt-leb, cases_Bool, cases_lt}
 use Rattle.std.proofs.lemmas.List.{take-append-le, drop-append-le, drop-take}
 use Rattle.httparse.specs.Grammar.{RequestHead}
 use Rattle.tus_steps.specs.declared.tus_fields.TusFields.{TusFields}
-use Rattle.tus_steps.specs.Field.{FieldText}
+use Rattle.tus_steps.specs.Field.{FieldText, is_absent}
 use Rattle.tus_steps.specs.Method.{is_applied_when_cut}
 use Rattle.tus_steps.specs.Request.{Request}
 use Rattle.http_wire.specs.inside.Ahead.{Ahead}
 use Rattle.http_wire.specs.Front.{Front, Begins, BeginsWhole, IsFront, LacksMemory, message, refused, cut_patch, cut_other, clean_end, closing, framing_of, unknown_framing, sure_room, method_in, is_waiting, request_of, tus_fields, with_body, judged, judged_front, parsed_front}
+use Rattle.http_wire.specs.Fields.{field_text}
+use Rattle.http_wire.specs.Judge.{body_len, is_host_wrong, judge, sized}
 use Rattle.http_wire.specs.Layout.{field_at, request_at}
 use Rattle.http_wire.specs.inside.HeadLayout.{ShowsHead, BeginsHead, ReadsLayout}
 use Rattle.http_wire.specs.ReadOnWire.{BreaksFront, waits}
 use Rattle.http_wire.specs.inside.HeadSearch.{IsUnfinished}
-use Rattle.http_wire.specs.HeadText.{HeadText, whole, too_long, cut, nothing, head_text, has_many_lines}
+use Rattle.http_wire.specs.HeadText.{HeadText, whole, too_long, cut, nothing, head_limit, head_text, has_many_lines}
 use Rattle.http_wire.specs.declared.read.layout.Layout.{Layout}
 use Rattle.http_wire.specs.declared.refusal.WireRefusal.{WireRefusal}
-use Rattle.http_wire.specs.declared.refusal.WireRefusal.TheVariants.{Memory, HeadSize}
+use Rattle.http_wire.specs.declared.refusal.WireRefusal.TheVariants.{BodySize, Coding, HeadSize, Host, Memory}
 use Rattle.http_wire.specs.declared.framing.Framing.{Framing}
 use Rattle.http_wire.specs.declared.fault.WireFault.TheVariants.{Read}
-use Rattle.http_wire.proofs.FindLemmas.{head_text-append}
+use Rattle.http_wire.proofs.FindLemmas.{head_text-append, whole_short}
+
+-- a body that is accepted is no longer than the greatest
+sized-bound : (max : ℕ) (len : Option ℕ) (n : ℕ) → sized max len ≡ Ok n → n ≤ max
+sized-bound max None n is = absurd cc
+sized-bound max (Some k) n is =
+    elim (cases_lt max k) [
+      | inl long ↦ absurd (no_length (rw (lt-ltb max k long) at is))
+      | inr fits ↦ omega (arith, fits, same (Ok k) refl (rw (le-ltb max k fits) at is))
+    ]
+  where
+    no_length : Err BodySize ≡ Ok n → ⊥
+    no_length e = absurd cc
+
+    same : (r : Result ℕ WireRefusal) → r ≡ Ok k → r ≡ Ok n → k ≡ n
+    same r x y = cc
+
+judge-bound : (max minor : ℕ) (host coding len : FieldText) (n : ℕ) → judge max minor host coding len ≡ Ok n → n ≤ max
+judge-bound max minor host coding len n is =
+    elim (cases_Bool (is_host_wrong minor host)) [
+      | inl wrong ↦ absurd (no_length Host (rw wrong at is))
+      | inr right ↦ elim (cases_Bool (is_absent coding)) [
+        | inl none ↦ sized-bound max (body_len len) n (rw none at rw right at is)
+        | inr some ↦ absurd (no_length Coding (rw some at rw right at is))
+      ]
+    ]
+  where
+    no_length : (why : WireRefusal) → Err why ≡ Ok n → ⊥
+    no_length why e = absurd cc
+
+pub judged-bound : (max : ℕ) (h : RequestHead) (n : ℕ) → judged max h ≡ Ok n → n ≤ max
+judged-bound max h n is =
+    let field = λ (name : List ℕ). field_text name h.fields in
+    judge-bound max h.minor (field (codes "host")) (field (codes "transfer-encoding")) (field (codes "content-length")) n is
 
 -- more bytes came
 pub BeginsHead-more : (max : ℕ) (bytes : List ℕ) (p : Layout) (held got all : List ℕ) → BeginsHead max bytes p held → p.head_len ≤ length held → all ≡ held ++ got
@@ -35,6 +71,15 @@ BeginsHead-more max bytes p held got all b within e =
       begins = λ rest. ap head_text (append_assoc bytes got rest) ∙ b.begins (got ++ rest)
           ∙ rw (head, rest_of) (ap (whole (take p.head_len held)) (sym (append_assoc (drop p.head_len held) got rest)));
     }
+
+-- what came with a head whose body lacks some bytes, and these, are at most a head and the greatest body
+pub BeginsHead-short : (max : ℕ) (bytes : List ℕ) (p : Layout) (held : List ℕ) → BeginsHead max bytes p held → p.head_len ≤ length held → length held < p.head_len + p.body_len
+    → length bytes + ((p.head_len + p.body_len) - length held) ≤ head_limit + max
+BeginsHead-short max bytes p held b within short =
+    let text = take p.head_len held in
+    let rest = drop p.head_len held in
+    let begins : head_text bytes ≡ whole text rest = ap head_text (sym (append-nil bytes)) ∙ b.begins [] ∙ ap (whole text) (append-nil rest) in
+    omega (arith, within, short, whole_short bytes text rest begins, length-drop p.head_len held, judged-bound max b.head p.body_len b.shows.body_len)
 
 -- the front, by the length of the body
 pub IsFront-with_body : (max : ℕ) (bytes : List ℕ) (p : Layout) (held : List ℕ) (b : BeginsHead max bytes p held) (rest : List ℕ)

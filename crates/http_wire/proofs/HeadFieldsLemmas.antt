@@ -1,13 +1,14 @@
--- The fields of a head that count, one after another.
-use Rattle.std.proofs.Common.{◌≡◌, ℕ, ◌+◌, ◌<◌, Bool, true, false, List, [], ◌∷◌, ◌++◌, All, length, take, map, get_or, bytes_eq, refl, sym, ap, ◌∙◌, subst, inl, inr, append-nil, arith}
-use Rattle.std.specs.Prelude.{◌||◌, ◌==◌, codes, filter, if◌then◌else◌}
-use Rattle.std.proofs.lemmas.Bool.{cases_Bool}
+-- The fields of a head that count, one after another, and the map that has them by name.
+use Rattle.std.proofs.Common.{◌≡◌, ◌≤◌, ℕ, ◌+◌, ◌<◌, Bool, true, false, List, [], ◌∷◌, ◌++◌, All, length, take, map, get_or, bytes_eq, Option, Some, None, refl, sym, ap, ◌∙◌, subst, inl, inr, append-nil, arith}
+use Rattle.std.specs.Prelude.{◌||◌, codes, if◌then◌else◌}
+use Rattle.std.specs.List.{list_any}
+use Rattle.std.proofs.lemmas.Bool.{cases_Bool, cond-true, cond-false}
 use Rattle.std.proofs.lemmas.Bool.Decides.{Decides-eqb}
-use Rattle.std.proofs.lemmas.List.{map-append, take_more}
+use Rattle.std.proofs.lemmas.List.{take_more}
 use Rattle.std.proofs.lemmas.List.Elements.{All-head}
-use Rattle.std.proofs.lemmas.List.Folds.{list_any-append}
 use Rattle.std.proofs.lemmas.Slice.Eq.{bytes_eq-Decides}
-use Rattle.http_wire.specs.Fields.{lowercase}
+use Rattle.http_header.specs.HeaderMap.{Entries, get}
+use Rattle.http_header.specs.Token.{lowercase}
 use Rattle.httparse.specs.declared.spans.Span.{Span}
 use Rattle.httparse.specs.declared.spans.HeaderSpan.{HeaderSpan}
 use Rattle.httparse.specs.Grammar.{Field}
@@ -16,30 +17,87 @@ use Rattle.http_wire.specs.ConnectionFields.{closes, has_close}
 use Rattle.http_wire.specs.Fields.{field_of_values}
 use Rattle.http_wire.specs.Layout.{IsInside, field_at}
 use Rattle.http_wire.proofs.NameLemmas.{All-spans_named, map-spans_named}
-use Rattle.http_wire.specs.declared.read.fields.FieldName.{FieldName}
 use Rattle.http_wire.specs.declared.read.fields.FieldSpan.{FieldSpan}
-use Rattle.http_wire.specs.declared.read.fields.HeadFields.{HeadFields}
-use Rattle.http_wire.specs.inside.HeadFields.{AreInside, ShowFields, added, counted, field_named, fields_from, first_named, head_fields, of_length, place_in, spans_named, with_named}
+use Rattle.http_wire.specs.declared.read.fields.FieldSpan.TheVariants.{Absent, One}
+use Rattle.http_wire.specs.declared.read.fields.Found.{Found}
+use Rattle.http_wire.specs.inside.HeadFields.{AreInside, ShowFields, Shows, added, changed, changed_at, closes_by, counted, found_by, found_in, head_fields, map_by, place_in, spans_named, with_value}
 
--- names that are equal have one length
-same_length : (x w : List ℕ) (n : ℕ) → length x ≡ n → bytes_eq x w ≡ true → (length w == n) ≡ true
-same_length x w n len same = ap (λ (l : List ℕ). length l == n) (sym ((bytes_eq-Decides x w).0 same)) ∙ rw len ((Decides-eqb n n).1 refl)
-
--- a name is looked for only among those of its length
-first_of_length : (x : List ℕ) (n : ℕ) → length x ≡ n → (fields : List (List ℕ × FieldName)) → first_named x fields ≡ first_named x (filter (λ f. length f.0 == n) fields)
-first_of_length x n len [] = refl
-first_of_length x n len (f ∷ fields) =
-    let rest = first_of_length x n len fields in
-    elim (cases_Bool (bytes_eq x f.0)) [
-      | inl t ↦ rw (same_length x f.0 n len t, t) refl
-      | inr o ↦ elim (cases_Bool (length f.0 == n)) [
-        | inl l ↦ rw (l, o) rest
-        | inr l ↦ rw (l, o) rest
+-- it makes no difference which name is compared with which
+flip : (a b : List ℕ) → bytes_eq a b ≡ bytes_eq b a
+flip a b =
+    elim (cases_Bool (bytes_eq a b)) [
+      | inl t ↦ t ∙ sym ((bytes_eq-Decides b a).1 (sym ((bytes_eq-Decides a b).0 t)))
+      | inr f ↦ elim (cases_Bool (bytes_eq b a)) [
+        | inl t ↦ (bytes_eq-Decides a b).1 (sym ((bytes_eq-Decides b a).0 t)) ∙ sym t
+        | inr g ↦ f ∙ sym g
       ]
     ]
 
-pub field_of_length : (x : List ℕ) (n : ℕ) → length x ≡ n → field_named x ≡ first_named x (of_length n)
-field_of_length x n len = first_of_length x n len counted
+-- none of these names is n
+abbrev is_apart : List ℕ → List (List ℕ) → Bool
+is_apart n [] = true
+is_apart n (m ∷ names) = if bytes_eq m n then false else is_apart n names
+
+-- no two of these names are one
+abbrev are_distinct : List (List ℕ) → Bool
+are_distinct [] = true
+are_distinct (n ∷ names) = if is_apart n names then are_distinct names else false
+
+module _ (g : Found → Found) (at : List ℕ → Found) (x : List ℕ) where
+  -- what was found, with g of that under the name x
+  abbrev after : List ℕ → Found
+  after name = if bytes_eq name x then g (at name) else at name
+
+  other : (n : List ℕ) (names : List (List ℕ)) → bytes_eq n x ≡ true → is_apart n names ≡ true → map_by at names ≡ map_by after names
+  other n [] same apart = refl
+  other n (m ∷ names) same apart =
+      elim (cases_Bool (bytes_eq m n)) [
+        | inl t ↦ absurd (no (rw t at apart))
+        | inr f ↦
+            let differs : bytes_eq m x ≡ false = ap (bytes_eq m) (sym ((bytes_eq-Decides n x).0 same)) ∙ f in
+            rw differs (ap (λ (l : Entries Found). (m, at m ∷ []) ∷ l) (other n names same (rw f at apart)))
+      ]
+    where
+      no : false ≡ true → ⊥
+      no e = absurd cc
+
+  -- the map behind an entry of another name is changed
+  behind : (n : List ℕ) (m changed_m : Entries Found) (o : Option Found) → bytes_eq n x ≡ false
+      → changed_at g m x o ≡ changed_m → changed_at g ((n, at n ∷ []) ∷ m) x o ≡ (n, at n ∷ []) ∷ changed_m
+  behind n m changed_m None f e = ap (λ (l : Entries Found). (n, at n ∷ []) ∷ l) e
+  behind n m changed_m (Some v) f e = rw f (ap (λ (l : Entries Found). (n, at n ∷ []) ∷ l) e)
+
+  get_here : (n : List ℕ) (m : Entries Found) → bytes_eq n x ≡ true → get ((n, at n ∷ []) ∷ m) x ≡ Some (at n)
+  get_here n m t = rw t refl
+
+  get_behind : (n : List ℕ) (m : Entries Found) → bytes_eq n x ≡ false → get ((n, at n ∷ []) ∷ m) x ≡ get m x
+  get_behind n m f = rw f refl
+
+  here : (n : List ℕ) (m : Entries Found) → bytes_eq n x ≡ true → changed_at g ((n, at n ∷ []) ∷ m) x (Some (at n)) ≡ (n, g (at n) ∷ []) ∷ m
+  here n m t = rw t refl
+
+  changed-map_by : (names : List (List ℕ)) → are_distinct names ≡ true → changed g (map_by at names) x ≡ map_by after names
+  changed-map_by [] d = refl
+  changed-map_by (n ∷ names) d =
+      let m = map_by at names in
+      elim (cases_Bool (is_apart n names)) [
+        | inr near ↦ absurd (no (rw near at d))
+        | inl apart ↦ elim (cases_Bool (bytes_eq n x)) [
+          | inl t ↦
+              ap (λ (o : Option Found). changed_at g ((n, at n ∷ []) ∷ m) x o) (get_here n m t) ∙ here n m t
+              ∙ rw t (ap (λ (l : Entries Found). (n, g (at n) ∷ []) ∷ l) (other n names t apart))
+          | inr f ↦
+              ap (λ (o : Option Found). changed_at g ((n, at n ∷ []) ∷ m) x o) (get_behind n m f)
+              ∙ behind n m (map_by after names) (get m x) f (changed-map_by names (rw apart at d))
+              ∙ rw f refl
+        ]
+      ]
+    where
+      no : false ≡ true → ⊥
+      no e = absurd cc
+
+  changed-found_by : changed g (found_by at) x ≡ found_by after
+  changed-found_by = changed-map_by counted refl
 
 module _ (head : List ℕ) where
   spans_named-append : (name : List ℕ) (xs ys : List HeaderSpan) → spans_named head name (xs ++ ys) ≡ spans_named head name xs ++ spans_named head name ys
@@ -55,129 +113,90 @@ module _ (head : List ℕ) where
   place_in-added (first ∷ []) value = refl
   place_in-added (first ∷ second ∷ values) value = refl
 
-  -- what a head has under a name with one more field
-  at_more : (name : List ℕ) (spans : List HeaderSpan) (h : HeaderSpan)
-      → place_in (spans_named head name (spans ++ h ∷ [])) ≡ (if bytes_eq (lowercase (span_bytes head h.name)) name then added (place_in (spans_named head name spans)) h.value else place_in (spans_named head name spans))
-  at_more name spans h =
-      ap place_in (spans_named-append name spans (h ∷ []))
-      ∙ elim (cases_Bool (bytes_eq (lowercase (span_bytes head h.name)) name)) [
-        | inl t ↦ rw t (place_in-added (spans_named head name spans) h.value)
-        | inr f ↦ rw f (ap place_in (append-nil (spans_named head name spans)))
-      ]
+  -- what a head has under a name with one more field of that name
+  more_here : (name : List ℕ) (spans : List HeaderSpan) (h : HeaderSpan) → bytes_eq (lowercase (span_bytes head h.name)) name ≡ true
+      → place_in (spans_named head name (spans ++ h ∷ [])) ≡ added (place_in (spans_named head name spans)) h.value
+  more_here name spans h t =
+      ap place_in (spans_named-append name spans (h ∷ [])) ∙ rw t (place_in-added (spans_named head name spans) h.value)
+
+  -- and with one of another name
+  more_other : (name : List ℕ) (spans : List HeaderSpan) (h : HeaderSpan) → bytes_eq (lowercase (span_bytes head h.name)) name ≡ false
+      → place_in (spans_named head name (spans ++ h ∷ [])) ≡ place_in (spans_named head name spans)
+  more_other name spans h f =
+      ap place_in (spans_named-append name spans (h ∷ [])) ∙ rw f (ap place_in (append-nil (spans_named head name spans)))
+
+  found_here : (number : ℕ) (value : Span) (f : Found) → found_in number (with_value number value f) ≡ added (found_in number f) value
+  found_here number value f = rw ((Decides-eqb number number).1 refl) refl
+
+  -- the map shows one more field of the head
+  Shows-more : (number : ℕ) (spans : List HeaderSpan) (h : HeaderSpan) (m : Entries Found) → Shows number head spans m
+      → Shows number head (spans ++ h ∷ []) (changed (with_value number h.value) m (lowercase (span_bytes head h.name)))
+  Shows-more number spans h m s =
+      record { at = after g s.at x; map = ap (λ (l : Entries Found). changed g l x) s.map ∙ changed-found_by g s.at x; within = within; places = places }
+    where
+      g : Found → Found
+      g = with_value number h.value
+
+      x : List ℕ
+      x = lowercase (span_bytes head h.name)
+
+      within : (name : List ℕ) → (after g s.at x name).number ≤ number
+      within name =
+          elim (cases_Bool (bytes_eq name x)) [
+            | inl t ↦ rw t (omega arith)
+            | inr f ↦ rw f (s.within name)
+          ]
+
+      places : (name : List ℕ) → found_in number (after g s.at x name) ≡ place_in (spans_named head name (spans ++ h ∷ []))
+      places name =
+          elim (cases_Bool (bytes_eq name x)) [
+            | inl t ↦
+                ap (found_in number) (cond-true (bytes_eq name x) (g (s.at name)) (s.at name) t) ∙ found_here number h.value (s.at name)
+                ∙ ap (λ (p : FieldSpan). added p h.value) (s.places name) ∙ sym (more_here name spans h (flip x name ∙ t))
+            | inr f ↦
+                ap (found_in number) (cond-false (bytes_eq name x) (g (s.at name)) (s.at name) f) ∙ s.places name
+                ∙ sym (more_other name spans h (flip x name ∙ f))
+          ]
+
+  -- one more step of the loop over the fields
+  pub shown_more : (number : ℕ) (spans : List HeaderSpan) (i : ℕ) (d : HeaderSpan) (before next : Entries Found) → i < length spans
+      → next ≡ changed (with_value number (get_or spans i d).value) before (lowercase (span_bytes head (get_or spans i d).name))
+      → Shows number head (take i spans) before → Shows number head (take (i + 1) spans) next
+  shown_more number spans i d before next inside step so_far =
+      subst (Shows number head (take (i + 1) spans)) (sym step)
+      (subst (λ (l : List HeaderSpan). Shows number head l (changed (with_value number (get_or spans i d).value) before (lowercase (span_bytes head (get_or spans i d).name))))
+      (sym (take_more spans i d inside)) (Shows-more number (take i spans) (get_or spans i d) before so_far))
+
+  -- no field has the name, or one has it
+  pub closes-absent : (values : List Span) → place_in values ≡ Absent → false ≡ closes (map (span_bytes head) values)
+  closes-absent [] e = refl
+  closes-absent (value ∷ []) e = absurd cc
+  closes-absent (value ∷ other_value ∷ values) e = absurd cc
 
   or_false : (b : Bool) → (b || false) ≡ b
   or_false true = refl
   or_false false = refl
 
-  -- whether the connection closes with one more field
-  close_more : (name : List ℕ) (spans : List HeaderSpan) (h : HeaderSpan)
-      → closes (map (span_bytes head) (spans_named head name (spans ++ h ∷ []))) ≡ (if bytes_eq (lowercase (span_bytes head h.name)) name then closes (map (span_bytes head) (spans_named head name spans)) || has_close (span_bytes head h.value) else closes (map (span_bytes head) (spans_named head name spans)))
-  close_more name spans h =
-      let before = spans_named head name spans in
-      ap (λ (values : List Span). closes (map (span_bytes head) values)) (spans_named-append name spans (h ∷ []))
-      ∙ elim (cases_Bool (bytes_eq (lowercase (span_bytes head h.name)) name)) [
-        | inl t ↦ rw t (ap closes (map-append (span_bytes head) before (h.value ∷ [])) ∙ list_any-append (λ v. has_close v) (map (span_bytes head) before) (span_bytes head h.value ∷ [])
-            ∙ ap (λ b. closes (map (span_bytes head) before) || b) (or_false (has_close (span_bytes head h.value))))
-        | inr f ↦ rw f (ap (λ (values : List Span). closes (map (span_bytes head) values)) (append-nil before))
+  pub closes-one : (values : List Span) (value : Span) → place_in values ≡ One value → has_close (span_bytes head value) ≡ closes (map (span_bytes head) values)
+  closes-one [] value e = absurd cc
+  closes-one (first ∷ []) value e =
+      let same : first ≡ value = cc in
+      ap (λ (v : Span). has_close (span_bytes head v)) (sym same) ∙ sym (or_false (has_close (span_bytes head first)))
+  closes-one (first ∷ other_value ∷ values) value e = absurd cc
+
+  -- whether one of the fields of the name `connection` has the token
+  pub closes-any : (spans : List HeaderSpan) → list_any (closes_by head) spans ≡ closes (map (span_bytes head) (spans_named head (codes "connection") spans))
+  closes-any [] = refl
+  closes-any (h ∷ spans) =
+      elim (cases_Bool (bytes_eq (lowercase (span_bytes head h.name)) (codes "connection"))) [
+        | inl t ↦ rw t (ap (λ (b : Bool). has_close (span_bytes head h.value) || b) (closes-any spans))
+        | inr f ↦ rw f (closes-any spans)
       ]
-
-  fields_from-same : (g k : List ℕ → FieldSpan) (a b : Bool) → ((name : List ℕ) → g name ≡ k name) → a ≡ b → fields_from g a ≡ fields_from k b
-  fields_from-same g k a b same e =
-      rw (same (codes "host"), same (codes "expect"), same (codes "content-type"), same (codes "tus-resumable"), same (codes "upload-offset"), same (codes "upload-length"), same (codes "upload-concat"), same (codes "content-length"), same (codes "upload-metadata"), same (codes "upload-checksum"), same (codes "transfer-encoding"), same (codes "upload-defer-length"), same (codes "x-http-method-override"), e) refl
-
-  -- the place of each name, of which that of x has one more value
-  abbrev grown : List ℕ → (List ℕ → FieldSpan) → Span → List ℕ → FieldSpan
-  grown x at value name = if bytes_eq x name then added (at name) value else at name
-
-  -- one more field of the name x
-  abbrev Steps : (List ℕ → FieldSpan) → Bool → Span → List ℕ → Type 0
-  Steps at close value x =
-      fields_from (grown x at value) (if bytes_eq x (codes "connection") then close || has_close (span_bytes head value) else close)
-      ≡ with_named head (field_named x) value (fields_from at close)
-
-  steps : (at : List ℕ → FieldSpan) (close : Bool) (value : Span) (x : List ℕ) → Steps at close value x
-  steps at close value x =
-      elim (cases_Bool (bytes_eq x (codes "host"))) [
-        | inl t ↦ subst (Steps at close value) (sym ((bytes_eq-Decides x (codes "host")).0 t)) refl
-        | inr n0 ↦
-            elim (cases_Bool (bytes_eq x (codes "expect"))) [
-              | inl t ↦ subst (Steps at close value) (sym ((bytes_eq-Decides x (codes "expect")).0 t)) refl
-              | inr n1 ↦
-                  elim (cases_Bool (bytes_eq x (codes "connection"))) [
-                    | inl t ↦ subst (Steps at close value) (sym ((bytes_eq-Decides x (codes "connection")).0 t)) refl
-                    | inr n2 ↦
-                        elim (cases_Bool (bytes_eq x (codes "content-type"))) [
-                          | inl t ↦ subst (Steps at close value) (sym ((bytes_eq-Decides x (codes "content-type")).0 t)) refl
-                          | inr n3 ↦
-                              elim (cases_Bool (bytes_eq x (codes "tus-resumable"))) [
-                                | inl t ↦ subst (Steps at close value) (sym ((bytes_eq-Decides x (codes "tus-resumable")).0 t)) refl
-                                | inr n4 ↦
-                                    elim (cases_Bool (bytes_eq x (codes "upload-offset"))) [
-                                      | inl t ↦ subst (Steps at close value) (sym ((bytes_eq-Decides x (codes "upload-offset")).0 t)) refl
-                                      | inr n5 ↦
-                                          elim (cases_Bool (bytes_eq x (codes "upload-length"))) [
-                                            | inl t ↦ subst (Steps at close value) (sym ((bytes_eq-Decides x (codes "upload-length")).0 t)) refl
-                                            | inr n6 ↦
-                                                elim (cases_Bool (bytes_eq x (codes "upload-concat"))) [
-                                                  | inl t ↦ subst (Steps at close value) (sym ((bytes_eq-Decides x (codes "upload-concat")).0 t)) refl
-                                                  | inr n7 ↦
-                                                      elim (cases_Bool (bytes_eq x (codes "content-length"))) [
-                                                        | inl t ↦ subst (Steps at close value) (sym ((bytes_eq-Decides x (codes "content-length")).0 t)) refl
-                                                        | inr n8 ↦
-                                                            elim (cases_Bool (bytes_eq x (codes "upload-metadata"))) [
-                                                              | inl t ↦ subst (Steps at close value) (sym ((bytes_eq-Decides x (codes "upload-metadata")).0 t)) refl
-                                                              | inr n9 ↦
-                                                                  elim (cases_Bool (bytes_eq x (codes "upload-checksum"))) [
-                                                                    | inl t ↦ subst (Steps at close value) (sym ((bytes_eq-Decides x (codes "upload-checksum")).0 t)) refl
-                                                                    | inr n10 ↦
-                                                                        elim (cases_Bool (bytes_eq x (codes "transfer-encoding"))) [
-                                                                          | inl t ↦ subst (Steps at close value) (sym ((bytes_eq-Decides x (codes "transfer-encoding")).0 t)) refl
-                                                                          | inr n11 ↦
-                                                                              elim (cases_Bool (bytes_eq x (codes "upload-defer-length"))) [
-                                                                                | inl t ↦ subst (Steps at close value) (sym ((bytes_eq-Decides x (codes "upload-defer-length")).0 t)) refl
-                                                                                | inr n12 ↦
-                                                                                    elim (cases_Bool (bytes_eq x (codes "x-http-method-override"))) [
-                                                                                      | inl t ↦ subst (Steps at close value) (sym ((bytes_eq-Decides x (codes "x-http-method-override")).0 t)) refl
-                                                                                      | inr n13 ↦
-                                                                                          rw (n0, n1, n2, n3, n4, n5, n6, n7, n8, n9, n10, n11, n12, n13) refl
-                                                                                    ]
-                                                                              ]
-                                                                        ]
-                                                                  ]
-                                                            ]
-                                                      ]
-                                                ]
-                                          ]
-                                    ]
-                              ]
-                        ]
-                  ]
-            ]
-      ]
-
-  -- what is found with one more field
-  head_fields-more : (spans : List HeaderSpan) (h : HeaderSpan)
-      → head_fields head (spans ++ h ∷ []) ≡ with_named head (field_named (lowercase (span_bytes head h.name))) h.value (head_fields head spans)
-  head_fields-more spans h =
-      let x = lowercase (span_bytes head h.name) in
-      let at = λ (name : List ℕ). place_in (spans_named head name spans) in
-      let close = closes (map (span_bytes head) (spans_named head (codes "connection") spans)) in
-      fields_from-same (λ name. place_in (spans_named head name (spans ++ h ∷ []))) (grown x at h.value) _ _ (λ name. at_more name spans h) (close_more (codes "connection") spans h)
-      ∙ steps at close h.value x
-
-  -- one more step of the loop over the fields
-  pub found_more : (spans : List HeaderSpan) (i : ℕ) (d : HeaderSpan) (before after : HeadFields) → i < length spans
-      → after ≡ with_named head (field_named (lowercase (span_bytes head (get_or spans i d).name))) (get_or spans i d).value before → before ≡ head_fields head (take i spans)
-      → after ≡ head_fields head (take (i + 1) spans)
-  found_more spans i d before after inside step so_far =
-      let h = get_or spans i d in
-      step ∙ ap (with_named head (field_named (lowercase (span_bytes head h.name))) h.value) so_far
-      ∙ sym (ap (head_fields head) (take_more spans i d inside) ∙ head_fields-more (take i spans) h)
 
   field_at-place : (values : List Span) → field_at head (place_in values) ≡ field_of_values (map (span_bytes head) values)
   field_at-place [] = refl
   field_at-place (value ∷ []) = refl
-  field_at-place (value ∷ other ∷ values) = refl
+  field_at-place (value ∷ second ∷ values) = refl
 
   -- what was found is what the fields of the head have
   pub ShowFields-found : (spans : List HeaderSpan) (fields : List Field) → map (header_bytes head) spans ≡ map name_and_value fields → ShowFields head (head_fields head spans) fields
@@ -197,6 +216,12 @@ inside_place : (n : ℕ) (values : List Span) → All (IsWithin n) values → Is
 inside_place n [] h = (omega arith, omega arith)
 inside_place n (value ∷ []) h = All-head (IsWithin n) value [] h
 inside_place n (value ∷ other ∷ values) h = (omega arith, omega arith)
+
+-- the one value of a name lies where all fields lie
+pub one_within : (n : ℕ) (head name : List ℕ) (spans : List HeaderSpan) (value : Span) → All (IsHeaderWithin n) spans
+    → One value ≡ place_in (spans_named head name spans) → IsWithin n value
+one_within n head name spans value h e =
+    subst (λ (p : FieldSpan). IsInside n p) (sym e) (inside_place n (spans_named head name spans) (All-spans_named n head name spans h))
 
 -- what was found lies where all fields lie
 pub AreInside-found : (n : ℕ) (head : List ℕ) (spans : List HeaderSpan) → All (IsHeaderWithin n) spans → AreInside n (head_fields head spans)

@@ -1,26 +1,22 @@
 -- The laws of conversations, and of what an input begins with.
-use Rattle.std.proofs.Common.{◌≡◌, ◌≤◌, ◌⊎◌, ℕ, ◌+◌, Bool, true, false, List, [], length, drop, Option, None, Some, Result, Ok, Err, refl, sym, ap, ◌∙◌, subst, inl, inr, arith, le-leb, le-ltb, lt-ltb, length-drop}
+use Rattle.std.proofs.Common.{◌≡◌, ◌≤◌, ◌⊎◌, ℕ, ◌+◌, Bool, true, false, List, [], length, drop, Option, None, Some, Result, Ok, Err, refl, sym, ap, ◌∙◌, subst, inl, inr, arith, le-leb, length-drop}
 use Rattle.std.proofs.lemmas.Bool.{cases_Bool, cases_lt}
-use Rattle.std.specs.Prelude.{codes}
 use Rattle.httparse.specs.Grammar.{RequestHead}
 use Rattle.httparse.proofs.GrammarLemmas.{request_unique}
 use Rattle.tus_steps.specs.Request.{Request}
 use Rattle.tus_steps.specs.declared.reply.Reply.{Reply}
-use Rattle.tus_steps.specs.Field.{FieldText, is_absent}
 use Rattle.http_wire.specs.Asking.{asked, unasked}
 use Rattle.http_wire.specs.Conversation.{Conversation}
 use Rattle.http_wire.specs.Exchange.{followed}
-use Rattle.http_wire.specs.Fields.{field_text}
 use Rattle.http_wire.specs.Front.{Front, message, refused, cut_patch, cut_other, clean_end, Begins, BeginsWhole, LacksMemory, Parses, closing, framing_of, unknown_framing, judged, judged_front, parsed_front, with_body}
 use Rattle.http_wire.specs.HeadText.{HeadText, whole, too_long, cut, nothing, head_text, has_many_lines}
-use Rattle.http_wire.specs.Judge.{is_host_wrong, body_len, judge, sized}
 use Rattle.http_wire.specs.Laws.{BodiesComeFirst, InputsJoin, MessagesAreShort, OneFront, RefusesForMemory, TurnsJoin}
 use Rattle.http_wire.specs.Turns.{Turns}
 use Rattle.http_wire.specs.declared.framing.Framing.{Framing}
 use Rattle.http_wire.specs.declared.refusal.WireRefusal.{WireRefusal}
-use Rattle.http_wire.specs.declared.refusal.WireRefusal.TheVariants.{Host, Coding, BodySize, Head, HeadSize}
+use Rattle.http_wire.specs.declared.refusal.WireRefusal.TheVariants.{Head, HeadSize}
 use Rattle.http_wire.proofs.FindLemmas.{whole_short}
-use Rattle.http_wire.proofs.FrontLemmas.{is_message, no_message, lacks_none}
+use Rattle.http_wire.proofs.FrontLemmas.{is_message, judged-bound, lacks_none, no_message}
 use Rattle.http_wire.proofs.ConversationLemmas.{Turns-Conversation, Turns-followed, Turns-join}
 
 module _ {A : Type 0} (steps : A → Request → ℕ → Reply → A → Type 0) where
@@ -91,34 +87,6 @@ rest_of (cut_patch request framing waiting) = []
 rest_of (cut_other waiting) = []
 rest_of clean_end = []
 
--- a body that is accepted is no longer than the greatest
-sized-bound : (max : ℕ) (len : Option ℕ) (n : ℕ) → sized max len ≡ Ok n → n ≤ max
-sized-bound max None n is = absurd cc
-sized-bound max (Some k) n is =
-    elim (cases_lt max k) [
-      | inl long ↦ absurd (no_length (rw (lt-ltb max k long) at is))
-      | inr fits ↦ omega (arith, fits, same (Ok k) refl (rw (le-ltb max k fits) at is))
-    ]
-  where
-    no_length : Err BodySize ≡ Ok n → ⊥
-    no_length e = absurd cc
-
-    same : (r : Result ℕ WireRefusal) → r ≡ Ok k → r ≡ Ok n → k ≡ n
-    same r x y = cc
-
-judge-bound : (max minor : ℕ) (host coding len : FieldText) (n : ℕ) → judge max minor host coding len ≡ Ok n → n ≤ max
-judge-bound max minor host coding len n is =
-    elim (cases_Bool (is_host_wrong minor host)) [
-      | inl wrong ↦ absurd (no_length Host (rw wrong at is))
-      | inr right ↦ elim (cases_Bool (is_absent coding)) [
-        | inl none ↦ sized-bound max (body_len len) n (rw none at rw right at is)
-        | inr some ↦ absurd (no_length Coding (rw some at rw right at is))
-      ]
-    ]
-  where
-    no_length : (why : WireRefusal) → Err why ≡ Ok n → ⊥
-    no_length why e = absurd cc
-
 -- the body of a message, and what follows it
 with_body-short : (max : ℕ) (h : RequestHead) (n : ℕ) (rest : List ℕ) (f : Front) → n ≤ max → is_message f ≡ true → f ≡ with_body h n rest → length rest ≤ max + length (rest_of f)
 with_body-short max h n rest f bound is same =
@@ -133,8 +101,7 @@ judged-short : (max : ℕ) (h : RequestHead) (r : Result ℕ WireRefusal) (rest 
     → length rest ≤ max + length (rest_of f)
 judged-short max h (Err why) rest f is is_one same = absurd (no_message f (refused why (closing (framing_of h))) is_one same refl)
 judged-short max h (Ok n) rest f is is_one same =
-    let field = λ (name : List ℕ). field_text name h.fields in
-    with_body-short max h n rest f (judge-bound max h.minor (field (codes "host")) (field (codes "transfer-encoding")) (field (codes "content-length")) n is) is_one same
+    with_body-short max h n rest f (judged-bound max h n is) is_one same
 
 parsed-short : (max : ℕ) (h : Option RequestHead) (rest : List ℕ) (f : Front) → is_message f ≡ true → f ≡ parsed_front max h rest → length rest ≤ max + length (rest_of f)
 parsed-short max None rest f is_one same = absurd (no_message f (refused Head unknown_framing) is_one same refl)

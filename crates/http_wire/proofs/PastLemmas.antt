@@ -4,8 +4,8 @@ use Rattle.std.proofs.lemmas.List.{take-append-drop}
 use Rattle.http_wire.specs.ConnectionCalls.{BreaksTo}
 use Rattle.http_wire.specs.Exchange.{Exchange, followed}
 use Rattle.http_wire.specs.Incoming.{FramedRequest}
-use Rattle.http_wire.specs.OnConnection.{OnConnection, Stands, StandsIn, owed_in, phase_after, turn_end}
-use Rattle.http_wire.specs.Past.{Answering, HasPast, Notes, Past, StandsAfter, Stood, gave, noted, told, took}
+use Rattle.http_wire.specs.OnConnection.{IsFresh, OnConnection, Stands, StandsIn, owed_in, phase_after, turn_end}
+use Rattle.http_wire.specs.Past.{Answering, HasPast, Notes, Past, StandsAfter, Stood, gave, noted, nothing_yet, told, took}
 use Rattle.http_wire.specs.Turns.{Answered, Breaks, BreaksTurn, Converses, LastTurn, MayRemain, TakesTurn, Turns}
 use Rattle.http_wire.specs.declared.conversation.Ended.{Ended}
 use Rattle.http_wire.specs.declared.fault.WireFault.{WireFault}
@@ -30,6 +30,17 @@ Stood-past p c h = go c.phase (λ stands. h) h.stands
     go (Waiting s) stood stands = stood stands
     go (Owing i) stood stands = stood stands
     go (Over r) stood stands = absurd stands
+
+-- a connection on which nothing was read, and nothing is to be sent, has no past
+pub Past-start : (c : OnConnection) → IsFresh c → HasPast nothing_yet c
+Past-start c h = Stood-past nothing_yet c (record {
+  start = [];
+  said = [];
+  text = [];
+  reached = λ rest. (refl, refl, refl);
+  sent = ap (λ (o : OnOutbox). o.pending) h.outbox;
+  stands = subst (StandsIn c.max_size [] [] c.inbox) (sym h.phase) (refl, subst (λ held. Searching [] held search_start) (sym h.held) (Searching-start []));
+})
 
 -- the same bytes are held
 pub StandsIn-kept : (max : ℕ) (bytes said : List ℕ) (old new : Ahead) (p : Phase FramedRequest) → StandsIn max bytes said old p → new.held ≡ old.held → StandsIn max bytes said new p

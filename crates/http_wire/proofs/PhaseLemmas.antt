@@ -1,12 +1,12 @@
 -- How far a connection has come, after each of its calls.
-use Rattle.std.proofs.Common.{◌≡◌, ◌≢◌, ◌↔◌, false, IfSome, ◌+◌, ◌∷◌, ◌++◌, ℕ, Bool, true, List, [], length, Option, Some, None, Result, Ok, Err, refl, ap, ◌∙◌, ◌<◌, ◌^◌, sym, subst, arith, length-append}
+use Rattle.std.proofs.Common.{◌≡◌, ◌≢◌, ◌≤◌, ◌↔◌, false, IfSome, ◌+◌, ◌∷◌, ◌++◌, ℕ, Bool, true, List, [], length, Option, Some, None, Result, Ok, Err, refl, ap, ◌∙◌, ◌<◌, ◌^◌, sym, subst, arith, length-append}
 use Rattle.http_wire.specs.Incoming.{FramedRequest}
 use Rattle.std.specs.Prelude.{if◌then◌else◌}
 use Rattle.http_wire.specs.ConnectionCalls.{Takes}
 use Rattle.http_wire.specs.Layout.{framed_at}
 use Rattle.http_wire.specs.OnConnection.{HasNoMessage, StandsIn, at_start, is_looking, owed_in, phase_after, unless_pending, wanted_in}
 use Rattle.http_wire.specs.Past.{HasPast, Past}
-use Rattle.http_wire.specs.ReadOnWire.{TellsEnd}
+use Rattle.http_wire.specs.ReadOnWire.{TellsEnd, ahead_limit, read_limit}
 use Rattle.http_wire.specs.declared.connection.Wants.TheVariants as wants
 use Rattle.http_wire.specs.declared.conversation.Ended.{Ended}
 use Rattle.http_wire.specs.declared.fault.WireFault.{WireFault}
@@ -15,10 +15,10 @@ use Rattle.http_wire.specs.declared.phase.Phase.TheVariants.{Looking, Waiting, O
 use Rattle.http_wire.specs.declared.read.layout.Layout.{Layout}
 use Rattle.http_wire.specs.declared.read.stage.Stage.{Stage}
 use Rattle.http_wire.specs.inside.Ahead.{Ahead}
-use Rattle.http_wire.specs.inside.Phases.{map_phase, IsConnection, IsPhase}
+use Rattle.http_wire.specs.inside.Phases.{map_phase, lacking, IsConnection, IsPhase}
 use Rattle.http_wire.specs.inside.Sending.{OnOutbox}
 use Rattle.http_wire.proofs.PastLemmas.{Past-kept, Past-took}
-use Rattle.http_wire.proofs.StageLemmas.{Standing-more, Standing-unfinished, Wants-unended}
+use Rattle.http_wire.proofs.StageLemmas.{Standing-few, Standing-more, Standing-unfinished, Wants-unended}
 
 -- the start of a message may stand over any inbox
 pub IsConnection-start : (a : Ahead) (p : Phase Layout) (max : ℕ) → max < 2 ^ 31 → p ≡ at_start → IsConnection a p max
@@ -69,6 +69,14 @@ Takes-read got f (Waiting t) s old new o max is at held ended = record {
 }
 Takes-read got f (Owing i) s old new o max is at held ended = absurd cc
 Takes-read got f (Over r) s old new o max is at held ended = absurd cc
+
+-- what one read brings of a message that needs more stays within the limit
+pub Reads-few : (f : Layout → FramedRequest) (p : Phase Layout) (s : Stage) (max n : ℕ) (a : Ahead) → p ≡ Waiting s → IsPhase a p → n ≤ ahead_limit + lacking a p
+    → (bytes said : List ℕ) → StandsIn max bytes said a (map_phase f p) → length bytes + n ≤ read_limit max
+Reads-few f (Looking t) s max n a is at few bytes said h = absurd cc
+Reads-few f (Waiting t) s max n a is at few bytes said h = omega (arith, few, Standing-few max bytes said a t h at.0 at.1)
+Reads-few f (Owing i) s max n a is at few bytes said h = absurd cc
+Reads-few f (Over r) s max n a is at few bytes said h = absurd cc
 
 -- some bytes behind others are some
 pub some-behind : (old new : List ℕ) (b : ℕ) (rest : List ℕ) → new ≡ old ++ b ∷ rest → new ≢ []

@@ -1,5 +1,5 @@
 -- A reading of a message, look by look and read by read.
-use Rattle.std.proofs.Common.{◌≡◌, ℕ, Bool, true, false, List, [], ◌++◌, Result, Ok, Err, IfOk, IfErr, inl, inr, refl, subst, arith, length-append, append_assoc}
+use Rattle.std.proofs.Common.{◌≡◌, ◌≤◌, ◌+◌, length, ℕ, Bool, true, false, List, [], ◌++◌, Result, Ok, Err, IfOk, IfErr, inl, inr, refl, subst, arith, length-append, append_assoc}
 use Rattle.http_wire.specs.Conversation.{continue_text}
 use Rattle.tus_steps.specs.Method.{is_applied_when_cut}
 use Rattle.tus_steps.specs.declared.method.Method.{Method}
@@ -11,11 +11,14 @@ use Rattle.http_wire.specs.declared.read.fields.FieldSpan.TheVariants.{Absent, O
 use Rattle.http_wire.specs.ReadOnWire.{waits}
 use Rattle.http_wire.specs.inside.Ahead.{Ahead}
 use Rattle.http_wire.specs.inside.HeadLayout.{BeginsHead}
+use Rattle.http_wire.specs.HeadText.{head_limit}
+use Rattle.http_wire.specs.declared.phase.Phase.TheVariants.{Waiting}
+use Rattle.http_wire.specs.inside.Phases.{lacking}
 use Rattle.http_wire.specs.inside.Standing.{Fits, Standing, Wants}
 use Rattle.http_wire.specs.declared.read.stage.Stage.{Stage}
 use Rattle.http_wire.specs.declared.read.stage.Stage.TheVariants.{Head, Body}
-use Rattle.http_wire.proofs.FindLemmas.{Searching-more, Searching-unfinished}
-use Rattle.http_wire.proofs.FrontLemmas.{BeginsHead-more, BreaksFront-unfinished, IsFront-cut_other, IsFront-cut_patch, IsFront-waits}
+use Rattle.http_wire.proofs.FindLemmas.{Searching-more, Searching-unfinished, unfinished_short}
+use Rattle.http_wire.proofs.FrontLemmas.{BeginsHead-more, BeginsHead-short, BreaksFront-unfinished, IsFront-cut_other, IsFront-cut_patch, IsFront-waits}
 
 -- more bytes came
 pub Standing-more : (max : ℕ) (start read got said : List ℕ) (old new : Ahead) (s : Stage) → Standing max (start ++ read) said old s → Fits old s → new.held ≡ old.held ++ got
@@ -81,3 +84,8 @@ IfOk-from (Err e) p all = tt
 pub IfErr-from : {T E : Type 0} {P Q : E → Type 0} (r : Result T E) → IfErr r P → ((e : E) → P e → Q e) → IfErr r Q
 IfErr-from (Ok x) p all = tt
 IfErr-from (Err e) p all = all e p
+
+-- what came of a message that needs more, and what its body lacks, are at most a head and the greatest body
+pub Standing-few : (max : ℕ) (bytes said : List ℕ) (a : Ahead) (s : Stage) → Standing max bytes said a s → Fits a s → Wants a s → length bytes + lacking a (Waiting s) ≤ head_limit + max
+Standing-few max bytes said a (Head s) h fits wants = omega (arith, unfinished_short bytes (Searching-unfinished bytes a s h.1 wants))
+Standing-few max bytes said a (Body p) h fits wants = BeginsHead-short max bytes p a.held h.1 fits.held wants.0

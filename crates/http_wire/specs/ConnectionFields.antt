@@ -1,7 +1,7 @@
 -- What the fields of a connection ask for (RFC 9110, sections 5.6.1, 7.6.1 and 10.1.1).
 use Rattle.std.specs.Prelude.{ℕ, Bool, false, ◌==◌, List, bytes_eq, codes}
 use Rattle.std.specs.List.{slice_split, list_any}
-use Rattle.http_wire.specs.Fields.{lowercase}
+use Rattle.http_header.specs.Token.{lowercase}
 use Rattle.tus_steps.specs.Field.{FieldText, absent, one, many}
 use Rattle.tus_steps.specs.Media.{trim_blanks}
 

@@ -1,12 +1,8 @@
 -- The fields of a head by their names.
-use Rattle.std.specs.Prelude.{ℕ, List, [], ◌∷◌, if◌then◌else◌, bytes_eq, map}
-use Rattle.std.specs.Char.{to_ascii_lowercase}
+use Rattle.std.specs.Prelude.{ℕ, List, [], ◌∷◌, if◌then◌else◌, bytes_eq}
+use Rattle.http_header.specs.Token.{lowercase}
 use Rattle.httparse.specs.Grammar.{Field, field_value}
 use Rattle.tus_steps.specs.Field.{FieldText, absent, one, many}
-
--- the bytes with each ASCII letter in lower case
-abbrev pub lowercase : List ℕ → List ℕ
-lowercase bytes = map to_ascii_lowercase bytes
 
 -- the values of the fields of that name, which is compared without regard to case (RFC 9110, section 5.1)
 abbrev pub values_named : List ℕ → List Field → List (List ℕ)

@@ -1,9 +1,10 @@
 -- What the reading of the next message tells of the bytes that were read, and of the text that was written meanwhile.
-use Rattle.std.specs.Prelude.{◌≡◌, ◌⊎◌, ℕ, Bool, true, false, List, [], ◌++◌, take, Option, Result, Ok, Err, IfOk, OnOk, IfErr, ⊤}
+use Rattle.std.specs.Prelude.{◌≡◌, ◌⊎◌, ◌≤◌, ◌+◌, ℕ, length, Bool, true, false, List, [], ◌++◌, take, Option, Result, Ok, Err, IfOk, OnOk, IfErr, ⊤}
 use Rattle.std.specs.Io.KnownBytes.{Appends, Consumes, IsAtEnd}
 use Rattle.http_wire.specs.Conversation.{continue_text}
 use Rattle.http_wire.specs.Front.{Front, IsFront, message, refused, cut_patch, cut_other, clean_end}
 use Rattle.http_wire.specs.Fault.{NamesStream}
+use Rattle.http_wire.specs.HeadText.{head_limit}
 use Rattle.http_wire.specs.Incoming.{FramedRequest, is_cut_by_fault}
 use Rattle.http_wire.specs.OnWire.{OnWire}
 use Rattle.http_wire.specs.Streams.{Streams}
@@ -13,6 +14,14 @@ use Rattle.http_wire.specs.declared.fault.WireFault.TheVariants.{Read, Write, Me
 use Rattle.http_wire.specs.declared.incoming.Cut.TheVariants.{Ended, Fault}
 use Rattle.http_wire.specs.declared.incoming.Incoming.{Incoming}
 use Rattle.http_wire.specs.declared.incoming.Incoming.TheVariants.{Message, CutPatch, CutOther, Refused, End}
+
+-- the most bytes that are read ahead of the next message: a read asks for at most so many beyond what the message lacks
+abbrev pub ahead_limit : ℕ
+ahead_limit = 16384
+
+-- the most bytes that are read for one message: those of a head with the line ends before it, of a body, and what is read ahead
+abbrev pub read_limit : ℕ → ℕ
+read_limit max = head_limit + max + ahead_limit
 
 -- these bytes were read, and this text was written meanwhile
 pub record Intake : Type 0 where
@@ -88,12 +97,12 @@ TellsEnd ended (Err Write) = ⊤
 TellsEnd ended (Err Memory) = ⊤
 TellsEnd ended (Err Failed) = ⊤
 
--- What the reading of the next message did to a wire that reads: some bytes were read and some were written, and what came
--- in is what they begin with. Nothing had failed before. Where something did now, the fault names which; after what came in,
+-- What the reading of the next message did to a wire that reads: some bytes were read, no more than the limit, and some were
+-- written, and what came in is what they begin with. Nothing had failed before. Where something did now, the fault names which; after what came in,
 -- the writer has not failed, and the reader only where a read that failed cut a PATCH. Nothing is read after the reader's end.
 pub record Reads {R W : Type 0} (s : Streams R W) (old new : OnWire R W) (r : Result (Incoming FramedRequest) WireFault) : Type 0 where
   pub next : (got text : List ℕ) × Consumes (s.remaining old.reader) (s.remaining new.reader) got × Appends (s.contents old.writer) (s.contents new.writer) text
-      × ReadsNext old.max_size (record { input = old.held ++ got; text = text }) new.held r
+      × ReadsNext old.max_size (record { input = old.held ++ got; text = text }) new.held r × (length got ≤ read_limit old.max_size)
   pub at_end : IfOk r (ComesAtEnd (s.remaining new.reader))
   pub tells_end : TellsEnd new.ended r
   pub stops : old.ended ≡ true → (new.reader ≡ old.reader) × (new.ended ≡ true)

@@ -1,6 +1,7 @@
 ghost use Rattle.std.specs.Prelude.{◌≡◌, ◌≢◌, [], false, true, IfOk};
 ghost use Rattle.http_wire.specs.inside.Sending.{empty_outbox};
 
+use crate::read::fields::FieldMap;
 use crate::read::head::FIELD_LIMIT;
 use crate::read::inbox::Inbox;
 use crate::write::outbox::Outbox;
@@ -9,12 +10,13 @@ use std::alloc::{AllocError, Global};
 use tus_steps::PlacedReply;
 
 /// The memory that the messages of a connection share: what was read ahead, where the fields of the head
-/// that was read last stand, a reply in its place, and what is to be sent of it. After a connection they serve another
+/// that was read last stand, in their order and by their names, a reply in its place, and what is to be sent of it. After a connection they serve another
 /// ([`Connection::with_buffers`](crate::Connection::with_buffers), [`Wire::with_buffers`](crate::Wire::with_buffers)).
 #[derive(Drop)]
 pub struct Buffers {
     pub(crate) inbox: Inbox,
     pub(crate) spans: Box<[HeaderSpan; FIELD_LIMIT]>,
+    pub(crate) fields: FieldMap,
     pub(crate) reply: Box<PlacedReply>,
     pub(crate) outbox: Outbox,
     // Whether the last message was refused: what followed its head was not read.
@@ -34,6 +36,7 @@ impl Buffers {
         Ok(Buffers {
             inbox,
             spans: Box::new(alloc, [EMPTY_HEADER_SPAN; FIELD_LIMIT])?,
+            fields: FieldMap::new(alloc)?,
             reply: Box::new(alloc, PlacedReply::new())?,
             outbox,
             is_refused: false,

@@ -1,5 +1,5 @@
 //! A connection that holds no stream: what its client sends is put in, and what it is to be sent is taken out.
-ghost use Rattle.std.specs.Prelude.{◌≡◌, ◌≢◌, ◌⊎◌, ◌≤◌, ◌<◌, ◌^◌, ◌++◌, ℕ, List, [], Ok, true, false, length, drop, take, IfOk, OnOk, OnErr, IfSome, is_err, option_map};
+ghost use Rattle.std.specs.Prelude.{◌≡◌, ◌≢◌, ◌⊎◌, ◌≤◌, ◌<◌, ◌+◌, ◌^◌, ◌++◌, ℕ, List, [], Ok, true, false, length, drop, take, IfOk, OnOk, OnErr, IfSome, is_err, option_map};
 ghost use Rattle.std.specs.Bool.{OnFalse, OnTrue};
 ghost use Rattle.std.specs.Io.KnownBytes.{Appends, Consumes, IsAtEnd, Keeps};
 ghost use Rattle.http_wire.specs.ConnectionCalls.{BreaksTo, Puts, Sends, Takes};
@@ -8,12 +8,12 @@ ghost use Rattle.http_wire.specs.Layout.{framed_at};
 ghost use Rattle.http_wire.specs.Message.{framed};
 ghost use Rattle.http_wire.specs.OnConnection.{HasNoMessage, IsFresh, IsIdle, OnConnection, Stands, StandsIn, at_start, body_held, ended_in, is_looking, left, left_in, looking_again, owed_in, passed_over, phase_after, turn_end, under_way, unless_pending, wanted, wanted_in};
 ghost use Rattle.http_wire.specs.Past.{Answering, Follows, HasPast, Past, noted, nothing_yet};
-ghost use Rattle.http_wire.specs.ReadOnWire.{TellsEnd};
+ghost use Rattle.http_wire.specs.ReadOnWire.{TellsEnd, read_limit};
 ghost use Rattle.http_wire.specs.ReplyText.{refusal_text, reply_text};
 ghost use Rattle.http_wire.specs.Streams.{took_nothing};
 ghost use Rattle.http_wire.specs.Writes.{Writes};
 ghost use Rattle.http_wire.specs.inside.IncomingLayout.{IsLent};
-ghost use Rattle.http_wire.specs.inside.Phases.{map_phase, IsPhase};
+ghost use Rattle.http_wire.specs.inside.Phases.{map_phase, IsPhase, lacking};
 ghost use Rattle.http_wire.specs.inside.Sending.{empty_outbox};
 ghost use Rattle.http_wire.specs.inside.Standing.{Fits, HasRoom, Standing, Wants as WantsMore};
 ghost use Rattle.http_wire.specs.inside.TurnFinish.{AnswersTurn};
@@ -31,7 +31,7 @@ use crate::framing::Framing;
 use crate::incoming::Incoming;
 use crate::message::Message;
 use crate::phase::Phase;
-use crate::read::inbox::Inbox;
+use crate::read::inbox::{Inbox, READ_SIZE};
 use crate::read::layout::Layout;
 use crate::read::stage::{Looked, Stage};
 use crate::refusal::WireRefusal;
@@ -208,13 +208,15 @@ impl Connection {
     /// Reads once, where it wants to read. `Ok` gives how many bytes came; 0 tells that the input ended. An error is the
     /// reader's, and then nothing came and it still wants to read. Where the error tells that nothing had come yet, it may
     /// read again, by a [`Tapped`](crate::Tapped) made anew, since one remembers any error; else [`Connection::fail`] tells
-    /// the connection.
+    /// the connection. It asks for what the message lacks of its body, and at most 16,384 bytes beyond.
     pub fn read_from<R: Source>(&mut self, reader: &mut R) -> io::Result<usize>
         requires alive { R.has_failed reader.old ≡ false }
         requires wants { wanted self.old ≡ Wants.Read }
         ensures takes { IfOk result (λ n. (got : List ℕ) × (length got ≡ n)
             × Consumes (R.remaining reader.old) (R.remaining reader.new) got × Takes got self.old self.new) }
         ensures end { IfOk result (λ n. n ≡ 0 → IsAtEnd (R.remaining reader.new)) }
+        ensures few { IfOk result (λ n. (bytes said : List ℕ) → Stands bytes said self.old
+            → length bytes + n ≤ read_limit self.old.max_size) }
         ensures nearer { OnOk result (left self.new < left self.old) }
         ensures room { self.new.inbox.room ≡ self.old.inbox.room }
         ensures fits { length self.new.inbox.held ≤ self.new.inbox.room }
@@ -223,7 +225,8 @@ impl Connection {
         ensures kept { OnErr result ((p : Past) → HasPast p self.old → HasPast p self.new) }
         ensures failed { R.has_failed reader.new ≡ is_err result }
     {
-        let count = self.buffers.inbox.fill(reader)?;
+        let most = READ_SIZE + lacking(&self.phase, &self.buffers.inbox);
+        let count = self.buffers.inbox.fill(reader, most)?;
         if let Phase::Waiting(stage) = &self.phase {
             self.phase = Phase::Looking(*stage);
         }
@@ -412,13 +415,33 @@ fn look_on(stage: Stage, buffers: &mut Buffers, max_size: u64) -> Phase<Layout>
         return Phase::Looking(stage);
     }
     let mut stage = stage;
-    match stage.look(&mut buffers.inbox, &mut buffers.spans, max_size) {
+    match stage.look(
+        &mut buffers.inbox,
+        &mut buffers.spans,
+        &mut buffers.fields,
+        max_size,
+    ) {
         Looked::More => Phase::Waiting(stage),
         Looked::Continue => {
             buffers.outbox.put_continue();
             Phase::Looking(stage)
         }
         Looked::Came(incoming) => Phase::Owing(incoming),
+    }
+}
+
+// How many bytes the body lacks of a message for which the connection waits.
+fn lacking(phase: &Phase<Layout>, inbox: &Inbox) -> usize
+    requires { IsPhase inbox.now phase.now }
+    ensures lacks { result ≡ lacking inbox.now phase.now }
+    ensures few { result < 2 ^ 32 }
+{
+    match phase {
+        Phase::Waiting(Stage::Body(layout)) => {
+            let total = layout.head_len + layout.body_len;
+            total.saturating_sub(inbox.held().len())
+        }
+        _ => 0,
     }
 }
 

@@ -1,8 +1,8 @@
 //! A connection over a reader and a writer that wait.
-ghost use Rattle.std.specs.Prelude.{◌≡◌, ◌++◌, ℕ, List, Err, false, OnOk, IfErr};
+ghost use Rattle.std.specs.Prelude.{◌≡◌, ◌≤◌, ◌++◌, ℕ, List, length, Err, false, OnOk, IfErr};
 ghost use Rattle.std.specs.Io.KnownBytes.{Appends, Consumes};
 ghost use Rattle.http_wire.specs.Fault.{NamesStream};
-ghost use Rattle.http_wire.specs.ReadOnWire.{BreaksFront, TellsEnd};
+ghost use Rattle.http_wire.specs.ReadOnWire.{BreaksFront, TellsEnd, read_limit};
 ghost use Rattle.http_wire.specs.inside.Ahead.{SeesEnd, StopsAtEnd};
 ghost use Rattle.http_wire.specs.inside.Driving.{CameIn, IsBetween};
 ghost use Rattle.http_wire.specs.inside.Sending.{empty_outbox};
@@ -24,12 +24,14 @@ pub fn await_incoming<R: Source, W: Sink>(
     ensures comes { OnOk result ((got text : List ℕ)
         × Consumes (R.remaining reader.old) (R.remaining reader.new) got
         × Appends (W.contents writer.old) (W.contents writer.new) text
-        × CameIn (connection.old.inbox.held ++ got) text (R.has_failed reader.new) connection.new) }
+        × CameIn (connection.old.inbox.held ++ got) text (R.has_failed reader.new) connection.new
+        × (length got ≤ read_limit connection.old.max_size)) }
     ensures breaks { IfErr result (λ f. (got text : List ℕ)
         × Consumes (R.remaining reader.old) (R.remaining reader.new) got
         × Appends (W.contents writer.old) (W.contents writer.new) text
         × BreaksFront connection.old.max_size
-        (record { input = connection.old.inbox.held ++ got; text = text }) f) }
+        (record { input = connection.old.inbox.held ++ got; text = text }) f
+        × (length got ≤ read_limit connection.old.max_size)) }
     ensures end { OnOk result (SeesEnd (R.remaining reader.old) connection.old.inbox
         → SeesEnd (R.remaining reader.new) connection.new.inbox) }
     ensures tells_end { IfErr result (λ f. TellsEnd connection.new.inbox.ended (Err f)) }

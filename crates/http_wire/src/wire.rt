@@ -119,7 +119,8 @@ impl<R: Source + Drop, W: Sink + Drop> Wire<R, W> {
         self.state == State::Open
     }
 
-    /// Reads the next message, and writes `100 Continue` where it is due. The error is
+    /// Reads the next message, and writes `100 Continue` where it is due. It reads at most 16,384 bytes of a head, a body,
+    /// and 16,384 bytes ahead, which stay for the next call. The error is
     /// `WireFault::Read` where a read failed, `WireFault::Write` where a write did, and then, as after a
     /// body that a failed read cut, every later call gives `WireFault::Failed`. After a message that was
     /// cut or refused, and after the end, it gives `Incoming::End`.

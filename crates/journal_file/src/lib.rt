@@ -5,9 +5,11 @@ mod draft;
 mod error;
 mod filling;
 mod journal;
+mod place;
 mod recovered;
 
 pub use draft::Draft;
 pub use error::{Damage, JournalError};
 pub use journal::{Journal, NotOpened, Opened};
+pub use place::{JournalPlace, PlaceFault};
 pub use recovered::{Recovered, WholeFrames, recover, whole_frames};

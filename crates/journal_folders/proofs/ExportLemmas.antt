@@ -36,7 +36,7 @@ export-files word journal settings (run.Journal fault.NoFolder) wrong = wrong
 export-files word journal settings (run.Journal fault.NoJournal) wrong = wrong
 export-files word journal settings (run.Journal fault.Busy) wrong = wrong
 export-files word journal settings (run.Journal (fault.Settings what)) wrong = wrong
-export-files word journal settings (run.Journal (fault.Damaged damage)) wrong = wrong
+export-files word journal settings (run.Journal (fault.Damaged at len)) wrong = wrong
 export-files word journal settings (run.Journal (fault.Record number)) wrong = wrong
 export-files word journal settings (run.Journal fault.Disk) wrong = wrong
 export-files word journal settings (run.Journal (fault.Upload what)) wrong = absurd wrong
@@ -55,7 +55,7 @@ export-misses word journal settings found read book made (run.Journal fault.NoFo
 export-misses word journal settings found read book made (run.Journal fault.NoJournal) lacks = absurd lacks
 export-misses word journal settings found read book made (run.Journal fault.Busy) lacks = absurd lacks
 export-misses word journal settings found read book made (run.Journal (fault.Settings what)) lacks = absurd lacks
-export-misses word journal settings found read book made (run.Journal (fault.Damaged damage)) lacks = absurd lacks
+export-misses word journal settings found read book made (run.Journal (fault.Damaged at len)) lacks = absurd lacks
 export-misses word journal settings found read book made (run.Journal (fault.Record number)) lacks = absurd lacks
 export-misses word journal settings found read book made (run.Journal fault.Disk) lacks = absurd lacks
 export-misses word journal settings found read book made (run.Journal (fault.Upload what)) lacks = record { found = found; read = read; book = book; made = made; lacks = lacks }

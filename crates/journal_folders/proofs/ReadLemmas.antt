@@ -7,11 +7,11 @@ use Rattle.journal_file.specs.declared.error.Damage.{Damage}
 use Rattle.journal_file.specs.Recovered.{EndsAt}
 use Rattle.journal_file.specs.declared.recovered.WholeFrames.{WholeFrames}
 use Rattle.journal_frames.specs.Frames.{frames, recovered}
-use Rattle.journal_keeper.proofs.OpeningLemmas.{nothing-recovered}
-use Rattle.server_words.specs.Fault.{WritesOrFails}
+use Rattle.journal_file.proofs.ReadAgain.{nothing-recovered}
+use Rattle.journal_folders.specs.StreamUse.{WritesOrFails}
 use Rattle.server_words.specs.JournalFault.{IsUnread}
 use Rattle.journal_folders.specs.ReadJournal.{IsReadTo, LookEnds, journal_key}
-use Rattle.server_words.specs.StreamUse.{StreamUse, IsUntouched}
+use Rattle.journal_folders.specs.StreamUse.{StreamUse, IsUntouched}
 use Rattle.server_words.specs.declared.cause.Cause.{Cause}
 use Rattle.server_words.specs.declared.cause.Cause.TheVariants.{Output}
 use Rattle.server_words.specs.declared.fault.RunFault.{RunFault}

@@ -9,10 +9,10 @@ use Rattle.book_replay.specs.declared.fault.ReplayFault.{ReplayFault}
 use Rattle.book_replay.specs.declared.fault.ReplayFault.TheVariants.{Record, Memory}
 use Rattle.journal_file.proofs.Losses.{frames-append}
 use Rattle.journal_frames.specs.Frames.{frame, frames, Fits, recovered}
-use Rattle.journal_keeper.proofs.OpeningLemmas.{recovered-frames}
+use Rattle.journal_file.proofs.ReadAgain.{recovered-frames}
 use Rattle.upload_book.specs.PlainBook.{PlainBook, opening_book}
 use Rattle.upload_book.specs.Settings.{Settings}
-use Rattle.server_words.specs.JournalFault.{fault_of_replay}
+use Rattle.journal_folders.specs.Fault.{fault_of_replay}
 use Rattle.server_words.specs.declared.fault.RunFault.{RunFault}
 use Rattle.journal_folders.specs.ReadJournal.{journal_key}
 use Rattle.journal_folders.specs.Renewed.{IsNotRenewed, IsSnapshotOf}

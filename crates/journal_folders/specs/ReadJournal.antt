@@ -9,8 +9,8 @@ use Rattle.upload_book.specs.PlainBook.{PlainBook, opening_book}
 use Rattle.upload_book.specs.Settings as given
 use Rattle.journal_folders.specs.Held.{IsHeldIn}
 use Rattle.server_words.specs.JournalFault.{IsUnread}
-use Rattle.server_words.specs.Fault.{WritesOrFails}
-use Rattle.server_words.specs.StreamUse.{StreamUse, IsUntouched}
+use Rattle.journal_folders.specs.StreamUse.{WritesOrFails}
+use Rattle.journal_folders.specs.StreamUse.{StreamUse, IsUntouched}
 use Rattle.server_words.specs.declared.cause.Cause.TheVariants.{Output}
 use Rattle.server_words.specs.declared.fault.RunFault.{RunFault}
 use Rattle.server_words.specs.declared.fault.RunFault.TheVariants as run
@@ -46,7 +46,8 @@ IsWhole journal = (found : WholeFrames) × IsReadTo journal found
 -- records. A file without a byte is that of a journal that has just begun.
 abbrev pub IsWrongWith : List ℕ → List ℕ → JournalFault → Type 0
 IsWrongWith journal settings (why.Settings what) = (what ≡ Unreadable) × GivesNone settings
-IsWrongWith journal settings (why.Damaged damage) = GivesSome settings × (journal ≢ []) × IsDamagedAt journal_key journal damage
+IsWrongWith journal settings (why.Damaged at len) =
+    GivesSome settings × (journal ≢ []) × IsDamagedAt journal_key journal (record { at = at; len = len })
 IsWrongWith journal settings (why.Record number) = IsWhole journal × Makes journal settings (Err number)
 IsWrongWith journal settings fault = ⊥
 

@@ -1,6 +1,6 @@
 //! The command `journal check`.
 ghost use Rattle.std.specs.Prelude.{◌≡◌, ◌≤◌, false, length};
-ghost use Rattle.server_words.specs.StreamUse.{used};
+ghost use Rattle.journal_folders.specs.StreamUse.{used};
 ghost use Rattle.journal_folders.specs.ReadJournal.{IsChecked, IsFaultOfFiles, IsLineOf, LookEnds, checked_text};
 ghost use Rattle.upload_book.specs.Book.{plain_of};
 

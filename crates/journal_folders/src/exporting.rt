@@ -1,6 +1,6 @@
 //! The command `journal export`.
 ghost use Rattle.std.specs.Prelude.{◌≡◌, Ok, false, option_map, MatchResult};
-ghost use Rattle.server_words.specs.StreamUse.{used};
+ghost use Rattle.journal_folders.specs.StreamUse.{used};
 ghost use Rattle.journal_folders.specs.Export.{exported, name_and_id, upload_named, IsExported, IsFaultOfExport, IsNoUpload};
 ghost use Rattle.journal_folders.specs.ReadJournal.{LookEnds};
 ghost use Rattle.tus_text.specs.Path.{id_of};

@@ -6,6 +6,7 @@ ghost use Rattle.server_words.specs.SettingsFile.{settings_text};
 ghost use Rattle.server_words.specs.declared.journal_fault.JournalFault.{JournalFault};
 ghost use Rattle.journal_folders.specs.JournalSettings.{Follows, Gives, IsMismatch, IsUnreadable};
 
+use crate::fault::fault_of_kept;
 use crate::journals::{JOURNAL_KEY, SettingsFile};
 use kept_book::{KeptBook, open_or_create};
 use server_words::{
@@ -39,7 +40,7 @@ where
 {
     check_settings(alloc, file, &mut disk, &settings)?;
     let asked = settings.copied();
-    let kept = open_or_create(alloc, settings, disk, JOURNAL_KEY)?;
+    let kept = open_or_create(alloc, settings, disk, JOURNAL_KEY).map_err(fault_of_kept)?;
     renew_settings(alloc, file, &asked)?;
     Ok(kept)
 }

@@ -5,10 +5,10 @@ ghost use Rattle.server_words.specs.JournalFault.{IsOfJournal, IsOfSystem, IsUnr
 ghost use Rattle.server_words.specs.declared.fault.RunFault.{RunFault};
 
 use crate::closing::close_beside;
+use crate::fault::fault_of_file;
 use crate::mark::Mark;
 use crate::spare::{FileId, Spare, SpareFile, is_alone_at};
-use journal_file::{Journal, whole_frames};
-use journal_keeper::{JournalPlace, PlaceFault};
+use journal_file::{Journal, JournalPlace, PlaceFault, whole_frames};
 use server_words::{JournalFault, Mismatch, RunFault};
 use sqlite_disk::{Disk, Unknown};
 use sqlite_std_file::File as DiskFile;
@@ -130,10 +130,9 @@ impl<'a, T: Threads + Copy + Sync> Journals for MachineJournals<'a, T> {
         let place = MachinePlace::open(self.rt, self.threads, path)?;
         // A crash may have left the journal's file with a second name, under which it can't be opened.
         place.give_up();
-        let files = sqlite_std_file::open(self.rt, place.journal.as_str(), Unknown)?;
-        place
-            .spare
-            .note_journal(FileId::at(self.rt, place.journal.as_str()));
+        let journal = place.journal.as_str();
+        let files = sqlite_std_file::open(self.rt, journal, Unknown).map_err(fault_of_file)?;
+        place.spare.note_journal(FileId::at(self.rt, journal));
         let file = MachineSettings::open(self.rt, path)?;
         // A folder without settings is new, whatever stood there before.
         if file.text.is_some() {

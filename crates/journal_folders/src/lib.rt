@@ -5,6 +5,7 @@
 mod checking;
 mod closing;
 mod exporting;
+mod fault;
 mod held;
 mod journal_folder;
 mod journals;
@@ -17,6 +18,7 @@ mod spare;
 
 pub use checking::check;
 pub use exporting::export;
+pub use fault::fault_of_journal;
 pub use held::{Held, held_in};
 pub use journal_folder::{check_settings, open_kept, renew_settings};
 pub use journals::{

@@ -4,9 +4,10 @@ ghost use Rattle.journal_file.specs.JournalError.{IsDamagedAt};
 ghost use Rattle.journal_file.specs.Recovered.{EndsAt};
 ghost use Rattle.server_words.specs.JournalFault.{IsOfJournal};
 
+use crate::fault::fault_of_damage;
 use crate::journals::{JOURNAL_KEY, disk_fault, read_journal};
 use journal_file::{Damage, whole_frames};
-use server_words::{JournalFault, RunFault};
+use server_words::RunFault;
 use std::alloc::AllocError;
 use std::fs::File;
 use std::io::{ErrorKind, Read, Write};
@@ -52,10 +53,7 @@ impl<'a> Mark<'a> {
             return Ok(());
         };
         let file = read_journal(self.rt, self.journal.as_str())?;
-        match judge(&file, marked) {
-            Ok(()) => Ok(()),
-            Err(damage) => Err(RunFault::Journal(JournalFault::Damaged(damage))),
-        }
+        judge(&file, marked).map_err(fault_of_damage)
     }
 
     /// Marks that so many bytes are synced, unless these were marked last. Where that fails, the mark that was there stays.

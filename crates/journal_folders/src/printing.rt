@@ -1,6 +1,6 @@
 //! What a command that looks into a journal writes.
 ghost use Rattle.std.specs.Prelude.{◌≡◌, false, true, IfErr, OnErr, OnOk};
-ghost use Rattle.server_words.specs.Fault.{WritesOrFails};
+ghost use Rattle.journal_folders.specs.StreamUse.{WritesOrFails};
 
 use http_wire::{Sink, put_all};
 use server_words::{Cause, RunFault};

@@ -4,6 +4,7 @@ ghost use Rattle.journal_file.specs.JournalError.{IsDamagedAt};
 ghost use Rattle.journal_folders.specs.ReadJournal.{IsFaultOfFiles, IsReadTo, IsTornTo, IsUpToLast, Makes};
 ghost use Rattle.upload_book.specs.Book.{plain_of};
 
+use crate::fault::{fault_of_damage, fault_of_replay};
 use crate::journal_folder::journal_settings;
 use crate::journals::{JOURNAL_KEY, JournalFiles};
 use book_replay::replay;
@@ -34,8 +35,9 @@ pub fn make_of(alloc: Global, files: &JournalFiles) -> Result<MadeOf, RunFault>
     ensures fault { IfErr result (IsFaultOfFiles files.now.journal.items files.now.settings.items) }
 {
     let settings = journal_settings(alloc, &files.settings)?;
-    let frames = frames_of(&files.journal)?;
-    let book = replay(alloc, settings, Frames::new(JOURNAL_KEY, &files.journal))?;
+    let frames = frames_of(&files.journal).map_err(fault_of_damage)?;
+    let records = Frames::new(JOURNAL_KEY, &files.journal);
+    let book = replay(alloc, settings, records).map_err(fault_of_replay)?;
     Ok(MadeOf { book, frames })
 }
 

@@ -7,14 +7,14 @@ ghost use Rattle.journal_frames.specs.Frames.{Fits, frame, frames};
 ghost use Rattle.journal_folders.specs.Renewed.{HaveTheirPlaces, IsFaultOfRenewing, IsNotRenewed, IsRenewed, IsSnapshotOf};
 ghost use Rattle.server_words.specs.JournalFault.{IsOfJournal, IsOfSystem};
 
+use crate::fault::fault_of_replay;
 use crate::journal_folder::journal_settings;
 use crate::journals::{Folder, JOURNAL_KEY, JournalFiles, Journals, SettingsFile};
 use crate::reading::make_of;
 use crate::shortage::shortage_in;
 use book_replay::{replay, snapshot_records};
-use journal_file::{Draft, Journal, JournalError};
+use journal_file::{Draft, Journal, JournalError, JournalPlace};
 use journal_frames::{Frames, HEADER_LEN, push_frame};
-use journal_keeper::JournalPlace;
 use server_words::{JournalFault, Mismatch, RunFault, settings_text, tenant_difference};
 use sqlite_disk::Disk;
 use std::alloc::{AllocError, Global};
@@ -79,7 +79,7 @@ fn renew<J: Journals>(
 {
     let files = journals.read(path)?;
     let frames = renewed(alloc, &files, settings)?;
-    put_in_place(alloc, place, frames.as_slice())?;
+    put_in_place(place, frames.as_slice())?;
     file.put(text)
 }
 
@@ -94,7 +94,8 @@ fn renewed(alloc: Global, files: &JournalFiles, settings: &Settings) -> Result<V
     ensures of_journal { IfErr result IsOfJournal }
 {
     let bytes = snapshot_of(alloc, files, settings)?;
-    replay(alloc, settings.copied(), Frames::new(JOURNAL_KEY, &bytes))?;
+    let records = Frames::new(JOURNAL_KEY, &bytes);
+    replay(alloc, settings.copied(), records).map_err(fault_of_replay)?;
     Ok(bytes)
 }
 
@@ -160,12 +161,8 @@ fn push_behind_room(bytes: &mut Vec<u8>, room: &[u8]) -> Result<(), AllocError>
     push_frame(bytes, JOURNAL_KEY, payload)
 }
 
-/// Puts a journal of these frames in the place of the one that stands there. The error is Disk or Memory.
-fn put_in_place<D: Disk, P: JournalPlace<D>>(
-    alloc: Global,
-    place: &P,
-    bytes: &[u8],
-) -> Result<(), RunFault>
+/// Puts a journal of these frames in the place of the one that stands there. The error is Disk.
+fn put_in_place<D: Disk, P: JournalPlace<D>>(place: &P, bytes: &[u8]) -> Result<(), RunFault>
 where
     D: Drop,
     requires { (records : List (List ℕ)) × (bytes.now ≡ frames 8391740119571199346 records) × AllByRecursion Fits records }
@@ -176,10 +173,6 @@ where
     };
     let put = match written(disk, bytes) {
         Ok(journal) => place.put_in_place(&journal).is_ok(),
-        Err(JournalError::Memory) => {
-            place.give_up();
-            return Err(RunFault::Memory);
-        }
         Err(_) => false,
     };
     // The file of before is of no use to a start.

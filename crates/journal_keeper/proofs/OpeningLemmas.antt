@@ -14,10 +14,11 @@ use Rattle.book_replay.specs.Replay.{accepts, after_accepted, after_record, repl
 use Rattle.book_replay.proofs.ReplayLemmas.{after_accepted-refused, after_accepted-unasked}
 use Rattle.head_board.specs.Event.{Event}
 use Rattle.head_board.specs.Events.{book_at}
+use Rattle.head_board.proofs.SettingsLemmas.{at-settings}
 use Rattle.tus_shared.specs.declared.again_fault.AgainFault.{AgainFault}
 use Rattle.tus_shared.specs.declared.again_fault.AgainFault.TheVariants as again
 use Rattle.tus_shared.specs.Steps.{IsMade, IsNextEvent, IsNotMade}
-use Rattle.tus_shared.proofs.EventLemmas.{at-one, at-settings}
+use Rattle.tus_shared.proofs.EventLemmas.{at-one}
 use Rattle.tus_shared.proofs.LogLaws.{prefix-on}
 use Rattle.journal_keeper.specs.declared.fault.ReopenFault.{ReopenFault}
 use Rattle.journal_keeper.specs.declared.fault.ReopenFault.TheVariants.{Record, Memory as NoMemory, Waiting}
@@ -31,17 +32,9 @@ use Rattle.journal_records.specs.Records.{record_bytes}
 use Rattle.tus_shared.specs.Desk.{Desk, Moves}
 use Rattle.journal_keeper.specs.Keeper.{event_records, IsLeft}
 use Rattle.journal_keeper.proofs.KeeperLemmas.{records-append}
-use Rattle.std.specs.List.{AllByRecursion}
-use Rattle.std.proofs.lemmas.List.{append-nil}
-use Rattle.journal_frames.specs.Frames as reading
-use Rattle.journal_frames.specs.Frames.{frames, recovered, Fits}
-use Rattle.journal_frames.proofs.WholeFrames.{frames_again}
+use Rattle.journal_frames.specs.Frames.{recovered}
 
 -- ---- a journal that was opened
-
-pub nothing-recovered : (key : ℕ) → recovered key [] ≡ []
-unfolding reading.read_past
-nothing-recovered key = refl
 
 -- the place of a damage is that of the file which this disk had, too
 pub damage-told : {D : Type 0} (seen : D → List ℕ) (is_clean : D → Bool) (key : ℕ) (first opened last : D) (reasons : Reasons) (why : JournalError)
@@ -56,11 +49,6 @@ damage-told seen is_clean key first opened last reasons (Damaged damage) is told
     (last, λ clean. subst (λ (file : List ℕ). IsDamagedAt key file damage) same (told damage is clean))
 damage-told seen is_clean key first opened last reasons Memory is told same = tt
 damage-told seen is_clean key first opened last reasons (Disk error) is told same = tt
-
--- frames are read again
-pub recovered-frames : (key : ℕ) (payloads : List (List ℕ)) → AllByRecursion Fits payloads → recovered key (frames key payloads) ≡ payloads
-recovered-frames key payloads fits =
-    ap (recovered key) (sym (append-nil (frames key payloads))) ∙ (frames_again key payloads [] fits).0 ∙ ap (λ (ps : List (List ℕ)). payloads ++ ps) (nothing-recovered key) ∙ append-nil payloads
 
 -- ---- a change that is made again, or not
 

@@ -2,6 +2,7 @@
 
 mod crashes;
 mod damage;
+mod failed;
 mod requests;
 mod room;
 mod seen;

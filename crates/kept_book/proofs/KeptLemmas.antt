@@ -1,6 +1,5 @@
 -- What is kept as changes happen, and what a crash leaves of it.
 use Rattle.std.proofs.Common.{◌≡◌, ℕ, zero, suc, ◌≤◌, List, [], ◌∷◌, ◌++◌, length, take, Result, Ok, refl, sym, ap, subst, ◌∙◌, arith}
-use Rattle.std.specs.List.{AllByRecursion}
 use Rattle.std.proofs.lemmas.List.{append-nil, map-append}
 use Rattle.sqlite_disk.specs.declared.Disk.{Ghosts}
 use Rattle.book_replay.specs.Replay.{AllHappen, Happens, record_of, records_of, replayed}
@@ -9,9 +8,8 @@ use Rattle.journal_file.specs.declared.journal.Journal.{Journal}
 use Rattle.journal_file.specs.Journal.{key_of, IsJournal}
 use Rattle.journal_file.proofs.JournalLemmas.{journal_leaves}
 use Rattle.journal_frames.specs.Crash.{Leaves}
-use Rattle.journal_frames.specs.Frames as reading
-use Rattle.journal_frames.specs.Frames.{frames, recovered, tail_of, Fits}
-use Rattle.journal_frames.proofs.WholeFrames.{frames_again}
+use Rattle.journal_frames.specs.Frames.{frames, recovered, tail_of}
+use Rattle.journal_file.proofs.ReadAgain.{nothing-recovered, recovered-frames}
 use Rattle.journal_frames.specs.declared.tail.Tail.TheVariants.{Torn}
 use Rattle.upload_book.specs.declared.change.Change.{Change}
 use Rattle.upload_book.specs.Change.{book_after_change}
@@ -68,15 +66,6 @@ none-taken (suc kept) within = absurd (omega (arith, within))
 -- all
 pub left-all : (key : ℕ) (s : Settings) (events : List ChangeEvent) (c : List ℕ) → AllHappen (opening_book s) events → Leaves key (records_of events) [] c → IsLeft key s events c
 left-all key s events c happened left = left-none key s events c happened (left.payloads ∙ ap (λ (rs : List (List ℕ)). records_of events ++ rs) (none-taken left.kept left.within)) left.behind
-
--- what is read of frames
-pub nothing-recovered : (key : ℕ) → recovered key [] ≡ []
-unfolding reading.read_past
-nothing-recovered key = refl
-
-recovered-frames : (key : ℕ) (payloads : List (List ℕ)) → AllByRecursion Fits payloads → recovered key (frames key payloads) ≡ payloads
-recovered-frames key payloads fits =
-    ap (recovered key) (sym (append-nil (frames key payloads))) ∙ (frames_again key payloads [] fits).0 ∙ ap (λ (ps : List (List ℕ)). payloads ++ ps) (nothing-recovered key) ∙ append-nil payloads
 
 ok_is : (x y : PlainBook) → (let left : Result PlainBook ℕ = Ok x in let right : Result PlainBook ℕ = Ok y in left ≡ right) → x ≡ y
 ok_is x y is = cc

@@ -25,8 +25,8 @@ use journal_file::{Journal, NotOpened};
 use journal_frames::Frames;
 use sqlite_disk::Disk;
 use std::alloc::Global;
-use tus_steps::{Asked, PartIds, PlacedReply, Request, answer_asked, asked_of};
-use upload_book::{Book, Change, Moment, Outcome, Refusal, Settings, Swept};
+use tus_steps::{Asked, PartIds, PlacedReply, Request, answer_asked, asked_of, refused_for_memory};
+use upload_book::{Book, Change, Moment, Outcome, Refused, Settings, Swept};
 
 /// A book over a journal. All changes of the book stand there, synced, and no reply tells of one that does not.
 #[derive(Drop)]
@@ -37,8 +37,8 @@ pub struct KeptBook<D: Disk> {
 
 impl<D: Disk> KeptBook<D> {
     ghost use Rattle.book_replay.specs.Replay.{AllHappen, records_of};
-    ghost use Rattle.kept_book.specs.Answer.{GoesOn, IsKeptStep};
-    ghost use Rattle.kept_book.specs.Done.{added, IsDone};
+    ghost use Rattle.kept_book.specs.Answer.{GoesOn, IsKeptStep, IsUnkeptAnswer};
+    ghost use Rattle.kept_book.specs.Done.{added, IsDone, IsRefused};
     ghost use Rattle.kept_book.specs.Kept.{book_in, disk_in, has_failed, key_in, IsKept, IsLeft};
 
     /// Makes a book of these settings without an upload, over an empty journal under this key with so much room, over
@@ -138,8 +138,8 @@ impl<D: Disk> KeptBook<D> {
 
     /// Answers a request and applies it to the book, as the plain book does at this moment ([`tus_steps::answer`]). A
     /// change is made only once its record was appended to the journal and synced. The reply is put to its place. Where
-    /// there is no room for the record, and none can be made, as on a full disk, the change is refused as Memory, and
-    /// nothing changes. What changes nothing writes nothing.
+    /// there is no room for the record, and none can be made, as on a full disk, the change is refused as where memory lacks,
+    /// and nothing changes. What changes nothing writes nothing.
     ///
     /// `Err` is Journal where a write or a sync failed, and from then on Ended: nothing more is answered, and what the
     /// place of the reply has is no reply.
@@ -158,6 +158,7 @@ impl<D: Disk> KeptBook<D> {
             → (c : List ℕ) → D.may_leave (disk_in self.new) c → IsLeft (key_in self.old) s events c }
         ensures key { key_in self.new ≡ key_in self.old }
         ensures failed { OnErr result (has_failed self.new ≡ true) }
+        ensures stays { OnErr result (book_in self.new ≡ book_in self.old) }
         ensures ended { has_failed self.old ≡ true → IsErrOf result KeepFault.Ended × (self.new ≡ self.old) }
     {
         if self.log.has_failed {
@@ -207,8 +208,45 @@ impl<D: Disk> KeptBook<D> {
         match self.make(Change::Sweep, now)? {
             Done::Told(Ok(Outcome::Swept(swept))) => Ok(Some(swept)),
             Done::Told(_) => unreachable!("a sweep is never refused, and gives what it ended"),
-            Done::Unkept => Ok(None),
+            Done::Unkept(_) => Ok(None),
         }
+    }
+
+    /// Answers a request where nothing more can be kept, as once a write or a sync has failed: what changes nothing as the
+    /// book does, and with the first refusal of a change that applies. A change that the book accepts is refused as where
+    /// memory lacks. Nothing changes, and nothing is asked of the disk.
+    pub fn answer_unkept(&mut self, request: &Request, now: Moment, reply: &mut PlacedReply)
+        ensures answer { IsUnkeptAnswer (book_in self.old) request.now now (reply_in reply.new) }
+        ensures stays { book_in self.new ≡ book_in self.old }
+        ensures disk { disk_in self.new ≡ disk_in self.old }
+        ensures key { key_in self.new ≡ key_in self.old }
+    {
+        let mut ids = PartIds::new();
+        match asked_of(self.book.settings(), request, &mut ids) {
+            Asked::Change(asked) => {
+                let offset = asked.offset;
+                let refused = self.refuse(asked.change, now);
+                reply.put_change(request, offset, Err(refused));
+            }
+            asked => {
+                answer_asked(&self.book, request, asked, now, self.book.no_room(), reply);
+            }
+        }
+    }
+
+    // Refuses a change as the book does, or, where the book accepts it or memory lacks, as where memory lacks.
+    fn refuse(&mut self, change: Change, now: Moment) -> Refused
+        requires { CanBeMade (length (book_in self.old).settings.tenants) change }
+        ensures refused { IsRefused (book_in self.old) change.entry now result }
+        ensures stays { book_in self.new ≡ book_in self.old }
+        ensures log { self.new.log ≡ self.old.log }
+    {
+        let copy = copied(&change);
+        match self.book.prepare(change, now) {
+            Ok(ready) => drop(ready),
+            Err(refused) => return refused,
+        }
+        refused_for_memory(&self.book, &copy, now)
     }
 
     // Makes a change of the book: it is prepared, its record is kept, and then the change, which can no longer fail, is
@@ -224,6 +262,7 @@ impl<D: Disk> KeptBook<D> {
             → (c : List ℕ) → D.may_leave (disk_in self.new) c → IsLeft (key_in self.old) s events c }
         ensures key { key_in self.new ≡ key_in self.old }
         ensures failed { OnErr result (has_failed self.new ≡ true) }
+        ensures stays { OnErr result (book_in self.new ≡ book_in self.old) }
     {
         let _in_range = now.secs();
         tell_fits(self.book.settings().tenant_count(), &change);
@@ -233,7 +272,7 @@ impl<D: Disk> KeptBook<D> {
             Err(refused) => return Ok(Done::Told(Err(refused))),
         };
         if !self.log.keep(&copy, now)? {
-            return Ok(Done::Unkept);
+            return Ok(Done::Unkept(refused_for_memory(&self.book, &copy, now)));
         }
         Ok(Done::Told(Ok(self.book.commit(ready))))
     }
@@ -257,7 +296,7 @@ fn put_done(reply: &mut PlacedReply, request: &Request, offset: Option<u64>, don
 {
     match done {
         Done::Told(outcome) => reply.put_change(request, offset, outcome),
-        Done::Unkept => reply.refuse(request, Refusal::Memory, None),
+        Done::Unkept(refused) => reply.put_change(request, offset, Err(refused)),
     }
 }
 

@@ -11,7 +11,7 @@ use Rattle.clap.specs.Walk.{Row, rows_of}
 use Rattle.clap.specs.Words.{ReadsOne, Text, all_of, first_of, one_text}
 use Rattle.clap.specs.declared.parser.matches.Found.{Found}
 use Rattle.upload_book.specs.declared.settings.Numbers.{Numbers}
-use Rattle.connection_turns.specs.declared.work_options.WorkOptions.{WorkOptions}
+use Rattle.server_words.specs.declared.options.WorkerOptions.{WorkerOptions}
 use Rattle.server_words.specs.Arguments.{grace_given, is_number, is_set, number_in, metrics_set, number_given, number_under, numbers_given, port_given, serve_arguments, talk_arguments, talk_arguments_with, work_given, work_with, workers_given}
 
 digits_pass : (digits : List ℕ) → AllDigits 10 digits → list_all (λ d. nat_lt (digit_value d) 10) digits ≡ true
@@ -89,7 +89,7 @@ pub talk_arguments-none : (rows : List Row) → None ≡ all_of (codes "tenant")
 talk_arguments-none rows h = ap (talk_arguments_with (number_under (codes "moment") rows) rows) h
 
 -- the options of `serve` are the arguments that its rows give
-pub serve_arguments-some : (rows : List Row) (numbers : Numbers) (words : List Text) (address : Text) (port workers : ℕ) (work : WorkOptions) (journal log : Option Text) (metrics : Option ℕ) → numbers ≡ numbers_given rows
+pub serve_arguments-some : (rows : List Row) (numbers : Numbers) (words : List Text) (address : Text) (port workers : ℕ) (work : WorkerOptions) (journal log : Option Text) (metrics : Option ℕ) → numbers ≡ numbers_given rows
     → Some address ≡ first_of (codes "address") rows → Some work ≡ work_given rows → Some port ≡ port_given rows → Some workers ≡ workers_given rows
     → journal ≡ first_of (codes "journal") rows → log ≡ first_of (codes "log") rows → Some metrics ≡ metrics_set (number_given (codes "metrics") rows) → Some words ≡ all_of (codes "tenant") rows
     → Some (record { numbers = numbers; tenants = words; address = address; port = port; journal = journal; workers = workers; work = work; log = log; metrics = metrics }) ≡ serve_arguments rows
@@ -97,11 +97,11 @@ serve_arguments-some rows numbers words address port workers work journal log me
     rw (given, found, kept, ← place, ← each, ← at, ← many, ← told, ← all) refl
 
 -- the grace of what each worker is asked for
-abbrev grace_in : Option WorkOptions → Option ℕ
+abbrev grace_in : Option WorkerOptions → Option ℕ
 grace_in None = None
 grace_in (Some work) = work.grace
 
-grace-given : (rows : List Row) (moment : Option (Option ℕ)) (at_once : Option ℕ) (work : WorkOptions) → Some work ≡ work_with rows moment at_once → work.grace ≡ grace_given rows
+grace-given : (rows : List Row) (moment : Option (Option ℕ)) (at_once : Option ℕ) (work : WorkerOptions) → Some work ≡ work_with rows moment at_once → work.grace ≡ grace_given rows
 grace-given rows None at_once work at = absurd (true≢false (ap is_some at))
 grace-given rows (Some moment) None work at = absurd (true≢false (ap is_some at))
 grace-given rows (Some moment) (Some n) work at = ap grace_in at
@@ -120,12 +120,12 @@ no_grace f None metrics told none = refl
 no_grace f (Some port) metrics told none = no_port f port (nat_lt 65535 port) metrics told none
 
 -- without a port at which a stop can be asked for there is no grace
-pub grace-with_port : (rows : List Row) (work : WorkOptions) (metrics : Option ℕ) → Some work ≡ work_given rows → Some metrics ≡ metrics_set (number_given (codes "metrics") rows) → metrics ≡ None → work.grace ≡ None
+pub grace-with_port : (rows : List Row) (work : WorkerOptions) (metrics : Option ℕ) → Some work ≡ work_given rows → Some metrics ≡ metrics_set (number_given (codes "metrics") rows) → metrics ≡ None → work.grace ≡ None
 grace-with_port rows work metrics at told none =
     grace-given rows _ _ work at ∙ no_grace (λ port. number_under (codes "grace") rows) (number_given (codes "metrics") rows) metrics told none
 
 -- without words there are none
-pub serve_arguments-none : (rows : List Row) (address : Text) (port workers : ℕ) (work : WorkOptions) (metrics : Option ℕ) → Some address ≡ first_of (codes "address") rows → Some work ≡ work_given rows
+pub serve_arguments-none : (rows : List Row) (address : Text) (port workers : ℕ) (work : WorkerOptions) (metrics : Option ℕ) → Some address ≡ first_of (codes "address") rows → Some work ≡ work_given rows
     → Some port ≡ port_given rows → Some workers ≡ workers_given rows → Some metrics ≡ metrics_set (number_given (codes "metrics") rows) → None ≡ all_of (codes "tenant") rows → None ≡ serve_arguments rows
 serve_arguments-none rows address port workers work metrics place each at many told none = rw (← place, ← each, ← at, ← many, ← told, ← none) refl
 

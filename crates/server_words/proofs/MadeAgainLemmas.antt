@@ -1,16 +1,14 @@
 -- Under settings that may follow the same changes make the same uploads.
-use Rattle.std.proofs.Common.{◌≡◌, ◌≢◌, ◌⊎◌, ℕ, zero, suc, ◌+◌, ◌<◌, ◌≤◌, Bool, true, false, min, List, [], ◌∷◌, ◌++◌, get_or, length, map, set, Option, None, Some, Result, Ok, Err, inl, inr, refl, sym, subst, ap, ap₂, ◌∙◌, arith, length-append, ◌==◌}
+use Rattle.std.proofs.Common.{◌≡◌, ◌≢◌, ◌⊎◌, ℕ, zero, suc, ◌+◌, ◌<◌, ◌≤◌, true, false, List, [], ◌∷◌, ◌++◌, get_or, length, map, set, Option, None, Some, Result, Ok, Err, inl, inr, refl, sym, subst, ap, ap₂, ◌∙◌, arith, length-append, ◌==◌}
 use Rattle.std.specs.Prelude.{IsOk}
 use Rattle.std.proofs.lemmas.Bool.Decides.{eqb_tells}
 use Rattle.std.proofs.lemmas.List.{get_or-map, get_or-set_other, get_or-set_same, length-map, length-set}
-use Rattle.book_replay.specs.Replay.{AllHappen, Happens}
 use Rattle.upload_book.specs.Account.{account_in}
-use Rattle.upload_book.specs.Append.{append_answer, append_refusal, appended, appended_upload, part_after_append, upload_with}
+use Rattle.upload_book.specs.Append.{append_answer, append_refusal, part_after_append, upload_with}
 use Rattle.upload_book.specs.Change.{appended_in, book_after_change, change_answer, outcome_in}
 use Rattle.upload_book.specs.Chunk.{Chunk}
 use Rattle.upload_book.specs.Concat.{concat_answer, concat_refusal, final_upload, part_after_concat, parts_found}
 use Rattle.upload_book.specs.Create.{create_answer, created_upload, creation_refusal, part_after_create}
-use Rattle.upload_book.specs.declared.append.Refused.{Refused}
 use Rattle.upload_book.specs.declared.change.Change.{Change}
 use Rattle.upload_book.specs.declared.change.Change.TheVariants as change
 use Rattle.upload_book.specs.declared.change.Outcome.{Outcome}
@@ -22,7 +20,6 @@ use Rattle.upload_book.specs.declared.restored.Restored.TheVariants as piece
 use Rattle.upload_book.specs.declared.settings.Numbers.{Numbers}
 use Rattle.upload_book.specs.declared.settings.TenantQuota.{TenantQuota}
 use Rattle.upload_book.specs.Events.{ChangeEvent, book_after_all, book_after_event}
-use Rattle.upload_book.specs.Expiry.{renewed}
 use Rattle.upload_book.specs.FirstChunk.{FirstChunk}
 use Rattle.upload_book.specs.NewFinal.{NewFinal}
 use Rattle.upload_book.specs.NewUpload.{NewUpload}
@@ -33,12 +30,12 @@ use Rattle.upload_book.specs.snapshot.Restore.{book_after_piece, book_with, part
 use Rattle.upload_book.specs.snapshot.Restored.{RestoredUpload}
 use Rattle.upload_book.specs.Sweep.{book_after_sweep, part_after_sweep}
 use Rattle.upload_book.specs.TenantBook.{Entry, TenantBook, opening_part, visible_upload, with_changed, with_new}
-use Rattle.upload_book.specs.Terminate.{part_after_terminate, removed_where, terminate_answer, without}
+use Rattle.upload_book.specs.Terminate.{part_after_terminate, terminate_answer, without}
 use Rattle.upload_book.specs.Upload.{Upload, head_row_of}
 use Rattle.upload_book.proofs.Lawful.AppendLemmas.{part_after_append-none}
 use Rattle.upload_book.proofs.Lawful.Outcomes.{part_after_concat-none, part_after_create-none, part_after_terminate-visible}
 use Rattle.upload_book.proofs.Restoring.NextSteps.{after-none}
-use Rattle.server_words.specs.MadeAgain.{IsSamePart, MakesTheSame}
+use Rattle.server_words.specs.MadeAgain.{AllAccepted, IsSamePart, MakesTheSame}
 use Rattle.server_words.specs.MayFollow.{MayFollow, names_of}
 
 -- a part as what is told of it
@@ -198,8 +195,8 @@ restored_alike few b c restored alike was is =
     subst (λ (x : PlainBook). AreAlike few x (book_after_piece c restored)) (sym (after-none b restored was))
     (subst (λ (x : PlainBook). AreAlike few (book_with b restored) x) (sym (after-none c restored is)) (alike_with few b c restored alike))
 
-happened : (few : ℕ) (b c : PlainBook) (e : ChangeEvent) → AreAlike few b c → Happens b e → Happens c e → AreAlike few (book_after_event b e) (book_after_event c e)
-happened few b c e alike was is = by e.change e.now was.accepted is.accepted
+accepted_by_both : (few : ℕ) (b c : PlainBook) (e : ChangeEvent) → AreAlike few b c → IsOk (change_answer b e.change e.now) → IsOk (change_answer c e.change e.now) → AreAlike few (book_after_event b e) (book_after_event c e)
+accepted_by_both few b c e alike was is = by e.change e.now was is
   where
     by : (change : Change) (now : ℕ) → IsOk (change_answer b change now) → IsOk (change_answer c change now) → AreAlike few (book_after_change b change now) (book_after_change c change now)
     by (change.Create tenant new first) now x y =
@@ -213,10 +210,10 @@ happened few b c e alike was is = by e.change e.now was.accepted is.accepted
     by change.Sweep now x y = swept few b c now alike
     by (change.Restore restored) now x y = restored_alike few b c restored alike (unrefused (piece_refusal b restored) x) (unrefused (piece_refusal c restored) y)
 
-all_happened : (few : ℕ) (b c : PlainBook) (events : List ChangeEvent) → AreAlike few b c → AllHappen b events → AllHappen c events → AreAlike few (book_after_all b events) (book_after_all c events)
-all_happened few b c [] alike was is = alike
-all_happened few b c (e ∷ events) alike was is =
-    all_happened few (book_after_event b e) (book_after_event c e) events (happened few b c e alike was.0 is.0) was.1 is.1
+all_accepted : (few : ℕ) (b c : PlainBook) (events : List ChangeEvent) → AreAlike few b c → AllAccepted b events → AllAccepted c events → AreAlike few (book_after_all b events) (book_after_all c events)
+all_accepted few b c [] alike was is = alike
+all_accepted few b c (e ∷ events) alike was is =
+    all_accepted few (book_after_event b e) (book_after_event c e) events (accepted_by_both few b c e alike was.0 is.0) was.1 is.1
 
 -- a part at the opening
 opened : (xs : List TenantQuota) (t : ℕ) → IsSamePart (opening_part 0) (get_or (map {A = TenantQuota} {B = TenantBook} (λ t. opening_part t.quota) xs) t (opening_part 0))
@@ -229,7 +226,7 @@ both p q of_p of_q = record { next = of_q.next ∙ sym of_p.next; uploads = of_q
 
 pub makes-the-same : (old new : Settings) → MayFollow old new → MakesTheSame old new
 makes-the-same old new follows events was is tenant within =
-    (all_happened (length old.tenants) (opening_book old) (opening_book new) events (record {
+    (all_accepted (length old.tenants) (opening_book old) (opening_book new) events (record {
       lifetime = follows.lifetime;
       old_long = omega (arith, length-map old.tenants (λ (t : TenantQuota). opening_part {K = Upload} t.quota));
       new_long = omega (

@@ -1,5 +1,5 @@
 -- The text of settings, and the lines of a text.
-use Rattle.std.proofs.Common.{◌≡◌, ◌≢◌, ◌⊎◌, ℕ, zero, suc, ◌+◌, ◌<◌, ◌≤◌, List, [], ◌∷◌, ◌++◌, get_or, length, map, take, Option, Some, None, inl, inr, refl, sym, subst, ap, ap₂, ◌∙◌, ◌==◌, arith, add-one, append_assoc, length-append, length-take-le}
+use Rattle.std.proofs.Common.{◌≡◌, ◌≢◌, ℕ, zero, suc, ◌+◌, ◌<◌, List, [], ◌∷◌, ◌++◌, get_or, length, map, take, Option, Some, None, inl, inr, refl, sym, subst, ap, ap₂, ◌∙◌, ◌==◌, arith, add-one, append_assoc, length-append, length-take-le}
 use Rattle.std.specs.Prelude.{codes, decimal, slice_get}
 use Rattle.std.specs.List.{AllByRecursion, after_first, before_first, position_or_len}
 use Rattle.std.specs.Str.{byte}
@@ -17,7 +17,7 @@ use Rattle.upload_book.specs.declared.settings.Numbers.{Numbers}
 use Rattle.upload_book.specs.declared.settings.TenantQuota.{TenantQuota}
 use Rattle.server_words.specs.Arguments.{CommandArguments, arguments_in}
 use Rattle.server_words.specs.CommandLine.{faults_in}
-use Rattle.server_words.specs.SettingsFile.{AreLines, IsFirstLine, IsLastLine, IsWord, lines, number_words, settings_given_by, settings_in, settings_where, tenant_word}
+use Rattle.server_words.specs.SettingsFile.{AreLines, IsFirstLine, IsWord, lines, number_words, settings_given_by, settings_in, settings_where, tenant_word}
 
 -- one line more
 pub lines-more : (words : List Text) (word : Text) → lines (words ++ word ∷ []) ≡ lines words ++ (word ++ codes "\n")

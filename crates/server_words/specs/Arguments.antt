@@ -9,13 +9,12 @@ use Rattle.clap.specs.Walk.{texts}
 use Rattle.clap.specs.Words.{Row, Text, all_of, first_of, one_of}
 use Rattle.upload_book.specs.declared.settings.Numbers.{Numbers}
 use Rattle.upload_book.specs.Settings.{is_outside}
-use Rattle.connection_turns.specs.declared.pace.Bounds.{Bounds}
-use Rattle.connection_turns.specs.declared.work_options.WorkOptions.{WorkOptions}
 use Rattle.server_words.specs.declared.options.CommandOptions.{CommandOptions}
 use Rattle.server_words.specs.declared.options.CommandOptions.TheVariants.{Talk, Serve, Check, Export}
 use Rattle.server_words.specs.declared.options.ExportOptions.{ExportOptions}
 use Rattle.server_words.specs.declared.options.ServeOptions.{ServeOptions}
 use Rattle.server_words.specs.declared.options.TalkOptions.{TalkOptions}
+use Rattle.server_words.specs.declared.options.WorkerOptions.{WorkerOptions}
 use Rattle.server_words.specs.CommandLine.{command_in}
 
 -- the text is a decimal number below 2^64, perhaps after a plus
@@ -93,14 +92,6 @@ at_once_set forever (Some n) = if is_outside n 16384 then None else Some n
 abbrev pub at_once_given : List Row → Option ℕ
 at_once_given rows = at_once_set (is_set (codes "forever") rows) (number_given (codes "at-once") rows)
 
--- what a client may take at most
-abbrev pub bounds_given : List Row → Bounds
-bounds_given rows = record {
-  idle = number_under (codes "idle") rows;
-  message_seconds = number_under (codes "message-seconds") rows;
-  least_rate = number_under (codes "least-rate") rows;
-}
-
 -- there is a journal, a log, or a port at which numbers are asked for, so clients are served by readiness
 abbrev pub is_by_readiness : List Row → Bool
 is_by_readiness rows = is_some (first_of (codes "journal") rows) || (is_some (first_of (codes "log") rows) || is_some (number_given (codes "metrics") rows))
@@ -116,20 +107,22 @@ abbrev pub grace_given : List Row → Option ℕ
 grace_given rows = option_map (λ port. number_under (codes "grace") rows) (number_given (codes "metrics") rows)
 
 -- what each worker is asked for, where the moment can be, and how many connections it holds
-abbrev pub work_with : List Row → Option (Option ℕ) → Option ℕ → Option WorkOptions
+abbrev pub work_with : List Row → Option (Option ℕ) → Option ℕ → Option WorkerOptions
 work_with rows None at_once = None
 work_with rows (Some moment) None = None
 work_with rows (Some moment) (Some n) = Some (record {
   moment = moment;
   connections = connections_given rows;
   at_once = n;
-  bounds = bounds_given rows;
+  idle = number_under (codes "idle") rows;
+  message_seconds = number_under (codes "message-seconds") rows;
+  least_rate = number_under (codes "least-rate") rows;
   body_memory = number_under (codes "body-memory") rows;
   by_readiness = is_by_readiness rows;
   grace = grace_given rows;
 })
 
-abbrev pub work_given : List Row → Option WorkOptions
+abbrev pub work_given : List Row → Option WorkerOptions
 work_given rows = work_with rows (moment_set (number_given (codes "moment") rows)) (at_once_given rows)
 
 -- the port that is listened at, where the number is one
@@ -150,13 +143,13 @@ pub record ServeArguments : Type 0 where
   pub port : ℕ
   pub journal : Option Text
   pub workers : ℕ
-  pub work : WorkOptions
+  pub work : WorkerOptions
   pub log : Option Text
   pub metrics : Option ℕ
 
 -- The arguments of `serve`, where there is an address, the moment, the ports and the number of workers can be, and there are
 -- words NAME:QUOTA.
-abbrev pub serve_arguments_with : List Row → Option Text → Option WorkOptions → Option ℕ → Option ℕ → Option (Option ℕ) → Option (List Text) → Option ServeArguments
+abbrev pub serve_arguments_with : List Row → Option Text → Option WorkerOptions → Option ℕ → Option ℕ → Option (Option ℕ) → Option (List Text) → Option ServeArguments
 serve_arguments_with rows None work port workers metrics words = None
 serve_arguments_with rows (Some address) None port workers metrics words = None
 serve_arguments_with rows (Some address) (Some work) None workers metrics words = None

@@ -1,6 +1,7 @@
 pub mod Arguments
 pub mod Cause
 pub mod CommandLine
+pub mod Explained
 pub mod Fault
 pub mod JournalFault
 pub mod MadeAgain
@@ -9,4 +10,3 @@ pub mod Quota
 pub mod Sentences
 pub mod Settings
 pub mod SettingsFile
-pub mod StreamUse

@@ -162,7 +162,7 @@ cause_text Input arguments = codes "standard input could not be read: see where 
 cause_text Output arguments = output_text
 cause_text (Port why) arguments = port_text why (address_in arguments) (port_in arguments)
 cause_text Workers arguments = codes "there was no socket for each worker: give fewer --workers, or a higher ulimit -n\n"
-cause_text Accept arguments = codes "a worker could accept no connection: see the lines before, and ulimit -n\n"
+cause_text Accept arguments = codes "a worker could accept no connection: see ulimit -n\n"
 cause_text Log arguments = shown (log_in arguments) ++ codes " can't be opened for the log: see its folder, and whose it is\n"
 cause_text Metrics arguments = codes "--metrics " ++ decimal (metrics_in arguments) ++ codes " can't be listened at: give another port\n"
 
@@ -207,8 +207,8 @@ journal_text NoJournal path word = shown path ++ codes " has no journal that can
 journal_text (Settings why) path word = mismatch_text why path
 journal_text File path word = shown path ++ codes " can't be made, or its lock or journal can't be opened: see rights, and that the journal is a file with one name and no link\n"
 journal_text Busy path word = shown path ++ codes " is another process's journal: end that, or give another --journal\n"
-journal_text (Damaged damage) path word =
-    shown path ++ codes " is damaged from byte " ++ decimal damage.at ++ codes " of " ++ decimal damage.len
+journal_text (Damaged at len) path word =
+    shown path ++ codes " is damaged from byte " ++ decimal at ++ codes " of " ++ decimal len
     ++ codes " on, or no journal; nothing was written to it: give a copy of it, or another folder\n"
 journal_text (Record number) path word =
     codes "record " ++ decimal number ++ codes " of " ++ shown path

@@ -3,12 +3,11 @@ ghost use Rattle.std.specs.Borrow.{Bor};
 ghost use Rattle.std.specs.Prelude.{◌≡◌, ℕ, IfSome, List, codes, false, option_map};
 ghost use Rattle.clap.specs.Walk.{rows_of};
 ghost use Rattle.clap.specs.Words.{first_of, found_of, subcommand_rows_of};
-ghost use Rattle.server_words.specs.Arguments.{arguments_entered, arguments_of, at_once_given, bounds_given, check, connections_given, export, export_arguments, grace_given, is_by_readiness, is_set, metrics_set, moment_set, number_given, number_under, numbers_given, port_given, serve, serve_arguments, talk, talk_arguments, work_given, workers_given};
+ghost use Rattle.server_words.specs.Arguments.{arguments_entered, arguments_of, at_once_given, check, connections_given, export, export_arguments, grace_given, is_by_readiness, is_set, metrics_set, moment_set, number_given, number_under, numbers_given, port_given, serve, serve_arguments, talk, talk_arguments, work_given, workers_given};
 ghost use Rattle.upload_book.specs.Settings.{is_outside};
 
-use crate::options::{CommandOptions, ExportOptions, ServeOptions, TalkOptions};
+use crate::options::{CommandOptions, ExportOptions, ServeOptions, TalkOptions, WorkerOptions};
 use clap::ArgMatches;
-use connection_turns::{Bounds, WorkOptions};
 use upload_book::{Moment, Numbers};
 
 /// The command that was entered, with its options. None where there is none, its moment is past the year 9999, it has no
@@ -171,16 +170,18 @@ fn port_of(found: &ArgMatches) -> Option<u16>
 
 /// What each worker is asked for; None where the moment is past the year 9999, or a worker is to hold no connection or more
 /// than 16,384.
-fn work_of(found: &ArgMatches) -> Option<WorkOptions>
+fn work_of(found: &ArgMatches) -> Option<WorkerOptions>
     ensures { result ≡ work_given (rows_of (found_of found.now)) }
 {
     let moment = moment_of(found)?;
     let at_once = at_once_of(found)?;
-    Some(WorkOptions {
+    Some(WorkerOptions {
         moment,
         connections: connections_of(found),
         at_once,
-        bounds: bounds_of(found),
+        idle: number_of(found, "idle"),
+        message_seconds: number_of(found, "message-seconds"),
+        least_rate: number_of(found, "least-rate"),
         body_memory: number_of(found, "body-memory"),
         by_readiness: is_by_readiness(found),
         grace: grace_of(found),
@@ -206,17 +207,6 @@ fn at_once_of(found: &ArgMatches) -> Option<usize>
         Some(number) => Some(number as usize),
         None if is_set(found, "forever") => Some(8192),
         None => Some(1),
-    }
-}
-
-/// What a client may take at most.
-fn bounds_of(found: &ArgMatches) -> Bounds
-    ensures { result ≡ bounds_given (rows_of (found_of found.now)) }
-{
-    Bounds {
-        idle: number_of(found, "idle"),
-        message_seconds: number_of(found, "message-seconds"),
-        least_rate: number_of(found, "least-rate"),
     }
 }
 

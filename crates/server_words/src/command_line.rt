@@ -26,8 +26,8 @@ At 2, 3, 4 and 5 standard error says why.";
 
 const TALK_HELP: &str = "\
 Uploads are created by POST to /files/NAME, and live as long as the conversation, or with --journal in its folder: no
-reply tells of a change before the folder has it, and the next conversation goes on from there. That has the same lifetime
-and the same tenants in the same order; new ones may follow them.
+reply tells of a change before the folder has it, and the next conversation goes on from there. That has the same tenants
+in the same order; new ones may follow them.
 A quota is a number of blocks, or of bytes with KiB, MiB, GiB or TiB, of which the whole blocks count: with blocks of
 4096 bytes acme:4096 and acme:16MiB are the same. An upload takes a block for each that its bytes begin.
 A PATCH that would take more blocks than the tenant's quota is refused with 507.
@@ -40,7 +40,7 @@ const SERVE_HELP: &str = "\
 All uploads are kept in memory, in blocks that are taken at the start: --blocks times --block-size bytes.
 Without --journal everything ends with the process: its end, or the end of the machine, loses all uploads. With it a
 folder has all of them: no reply tells of what the folder does not have, and the next start goes on from there. That has
-the same lifetime and the same tenants in the same order; new ones may follow them.
+the same tenants in the same order; new ones may follow them.
 A quota is a number of blocks, or of bytes with KiB, MiB, GiB or TiB, of which the whole blocks count: with blocks of
 4096 bytes acme:4096 and acme:16MiB are the same. An upload takes a block for each that its bytes begin.
 

@@ -4,7 +4,6 @@ ghost use Rattle.server_words.specs.JournalFault.{journal_word};
 
 use crate::difference::Difference;
 use crate::shortage::Shortage;
-use journal_file::Damage;
 
 /// What is wrong with a journal.
 #[derive(Clone, Copy, Debug, PartialEq, Eq)]
@@ -20,8 +19,8 @@ pub enum JournalFault {
     Busy,
     /// The settings that stand beside it, or its uploads, don't go with the settings of the options.
     Settings(Mismatch),
-    /// Its file is damaged, or is no journal, from this place on.
-    Damaged(Damage),
+    /// Its file, which has `len` bytes, is damaged, or is no journal, from the place `at` on.
+    Damaged { at: usize, len: usize },
     /// The record of this number, counted from 1, is of no change that a book of the settings takes.
     Record(u64),
     /// A read, a write or a sync of its file, or of its settings, failed; or it is not known whether a smaller one got its name.
@@ -66,7 +65,7 @@ impl JournalFault {
             JournalFault::File | JournalFault::NoFolder | JournalFault::NoJournal => "file",
             JournalFault::Busy => "busy",
             JournalFault::Settings(_) => "settings",
-            JournalFault::Damaged(_) => "damaged",
+            JournalFault::Damaged { .. } => "damaged",
             JournalFault::Record(_) => "record",
             JournalFault::Disk => "disk",
             JournalFault::Upload(_) => "upload",

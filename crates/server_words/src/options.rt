@@ -2,7 +2,6 @@
 ghost use Rattle.std.specs.Prelude.{◌≡◌, None, false};
 ghost use Rattle.upload_book.specs.Settings.{is_outside};
 
-use connection_turns::WorkOptions;
 use upload_book::{Moment, Numbers};
 
 /// A command with what it was asked for.
@@ -41,13 +40,37 @@ pub struct ServeOptions<'m, 'a> {
     pub journal: Option<&'a str>,
     /// How many workers there are, from 1 to 16.
     pub workers: usize,
-    pub work: WorkOptions,
+    pub work: WorkerOptions,
     /// The file of the log, where there is one; `-` is standard error.
     pub log: Option<&'a str>,
     /// The port at which numbers and a stop are asked for, where there is one.
     pub metrics: Option<u16>,
     pub ghost workers_in_range: { is_outside workers 16 ≡ false },
     pub ghost grace_with_port: { metrics ≡ None → work.grace ≡ None },
+}
+
+/// What each worker of `serve` was asked for.
+#[derive(Clone, Copy)]
+pub struct WorkerOptions {
+    /// The moment of every message; the machine's clock where there is none.
+    pub moment: Option<Moment>,
+    /// How many connections it accepts.
+    pub connections: u64,
+    /// How many of them it holds at once, 1 or more.
+    pub at_once: usize,
+    /// For how many seconds a client may neither send nor take a byte; of this and the next two, 0 is no bound.
+    pub idle: u64,
+    /// How many seconds one message may take, head and body.
+    pub message_seconds: u64,
+    /// How many bytes a second a client has to send of a body, or to take of a reply.
+    pub least_rate: u64,
+    /// How many bytes all workers together may hold of bodies that are half read, and of replies that are half sent.
+    pub body_memory: u64,
+    /// Whether clients are served by the readiness of their streams even where each worker holds one at a time.
+    pub by_readiness: bool,
+    /// For how many seconds messages that are under way may still end once a stop was asked for; none where nobody can ask for
+    /// one.
+    pub grace: Option<u64>,
 }
 
 /// What the command `journal export` was asked for.

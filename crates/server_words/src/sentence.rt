@@ -16,7 +16,6 @@ use crate::settings::tenant_of;
 use crate::shortage::Shortage;
 use arrayvec::ArrayString;
 use itoa::Buffer;
-use journal_file::Damage;
 use tus_text::is_tenant_name;
 use upload_book::{Numbers, SettingsFault};
 
@@ -320,9 +319,7 @@ fn cause_line(cause: Cause, command: &CommandOptions) -> ArrayString<SENTENCE_MA
         Cause::Workers => line(
             "there was no socket for each worker: give fewer --workers, or a higher ulimit -n\n",
         ),
-        Cause::Accept => line(
-            "a worker could accept no connection: see the lines before, and ulimit -n\n",
-        ),
+        Cause::Accept => line("a worker could accept no connection: see ulimit -n\n"),
         Cause::Log => path_is(
             log_of(command),
             " can't be opened for the log: see its folder, and whose it is\n",
@@ -422,7 +419,7 @@ fn journal_line(why: &JournalFault, path: &str, word: &str) -> ArrayString<SENTE
             path,
             " is another process's journal: end that, or give another --journal\n",
         ),
-        JournalFault::Damaged(damage) => damage_line(damage, path),
+        JournalFault::Damaged { at, len } => damage_line(*at, *len, path),
         JournalFault::Record(number) => record_line(*number, path),
         JournalFault::Disk => path_is(
             path,
@@ -447,16 +444,16 @@ fn no_upload_line(why: &NoUpload, word: &str) -> ArrayString<SENTENCE_MAX>
 }
 
 /// The file of a journal is damaged.
-fn damage_line(damage: &Damage, path: &str) -> ArrayString<SENTENCE_MAX>
-    ensures { result.bytes ≡ journal_text (JournalFault.Damaged damage.now) path.now [] }
+fn damage_line(at: usize, len: usize, path: &str) -> ArrayString<SENTENCE_MAX>
+    ensures { result.bytes ≡ journal_text (JournalFault.Damaged at len) path.now [] }
 {
     let mut digits = Buffer::new();
     let mut line = ArrayString::new();
     line.push_str(shown(path).as_str());
     line.push_str(" is damaged from byte ");
-    line.push_str(digits.format(damage.at));
+    line.push_str(digits.format(at));
     line.push_str(" of ");
-    line.push_str(digits.format(damage.len));
+    line.push_str(digits.format(len));
     line.push_str(
         " on, or no journal; nothing was written to it: give a copy of it, or another folder\n",
     );

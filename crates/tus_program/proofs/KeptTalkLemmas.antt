@@ -11,7 +11,7 @@ use Rattle.http_wire.specs.declared.conversation.Ended.{Ended}
 use Rattle.http_wire.specs.declared.fault.WireFault.{WireFault}
 use Rattle.http_wire.specs.declared.fault.WireFault.TheVariants as wire
 use Rattle.kept_book.proofs.KeptLemmas.{kept-leaves}
-use Rattle.kept_book.specs.Answer.{IsKeptStep}
+use Rattle.kept_book.specs.Answer.{IsKeptStep, IsUnkeptAnswer}
 use Rattle.kept_book.specs.declared.kept.KeptBook.{KeptBook}
 use Rattle.kept_book.specs.Kept.{book_in, disk_in, key_in, IsKept, IsLeft, IsOpened}
 use Rattle.tus_steps.specs.Request.{Request}
@@ -20,9 +20,9 @@ use Rattle.upload_book.specs.Events.{ChangeEvent, book_after_all}
 use Rattle.upload_book.specs.PlainBook.{PlainBook, opening_book}
 use Rattle.upload_book.specs.Settings.{Settings}
 use Rattle.server_words.specs.Arguments.{TalkArguments}
-use Rattle.server_words.specs.Fault.{fault_of_wire}
+use Rattle.tus_program.specs.Fault.{fault_of_wire}
 use Rattle.server_words.specs.Settings.{talk_settings}
-use Rattle.server_words.specs.StreamUse.{StreamUse, IsAlive}
+use Rattle.journal_folders.specs.StreamUse.{StreamUse, IsAlive}
 use Rattle.server_words.specs.declared.fault.RunFault.{RunFault}
 use Rattle.server_words.specs.declared.fault.RunFault.TheVariants as run
 use Rattle.journal_folders.specs.ReadJournal.{journal_key}
@@ -49,14 +49,14 @@ module _ {D : Type 0} {g : Ghosts D} where
   record StandsFor (opened kept : KeptBook D g) (failed : Bool) (state : KeptState) : Type 0 where
     key : key_in kept ≡ key_in opened
     failed_is : state.has_failed ≡ failed
-    book_is : failed ≡ false → state.book ≡ book_in kept
+    book_is : state.book ≡ book_in kept
     told : (s : Settings) (events : List ChangeEvent) → IsKept opened s events → Told s events kept failed state
 
   at_first : (opened : KeptBook D g) → StandsFor opened opened false (working (book_in opened))
   at_first opened = record {
     key = refl;
     failed_is = refl;
-    book_is = λ works. refl;
+    book_is = refl;
     told = λ s events is.
         let all = subst (IsKept opened s) (sym (append-nil events)) is in
         record { more = []; book = all.book; left = λ c may. kept-leaves opened s (events ++ []) all c may; all = λ works. all };
@@ -67,7 +67,7 @@ module _ {D : Type 0} {g : Ghosts D} where
   after_answer opened a b failed fails p r now reply like key h = record {
     key = key ∙ like.key;
     failed_is = sym h.works;
-    book_is = λ works. refl;
+    book_is = refl;
     told = λ s events is.
         let before = like.told s events is in
         let goes = h.kept s (events ++ before.more) (before.all h.worked) in
@@ -85,7 +85,7 @@ module _ {D : Type 0} {g : Ghosts D} where
   after_failure opened a b failed fails p r now reply like key h = record {
     key = key ∙ like.key;
     failed_is = sym h.failed_now;
-    book_is = λ works. absurd (true≢false (sym h.failed_now ∙ works));
+    book_is = like.book_is ∙ sym h.stays;
     told = λ s events is.
         let before = like.told s events is in
         record {
@@ -96,22 +96,56 @@ module _ {D : Type 0} {g : Ghosts D} where
         };
   }
 
+  after_silence : (opened a b : KeptBook D g) (failed fails : Bool) (p : KeptState) (r : Request) (now : ℕ) (reply : Reply) → StandsFor opened a failed p → key_in b ≡ key_in a → StaysFailed a failed r now reply b fails
+      → StandsFor opened b fails p
+  after_silence opened a b failed fails p r now reply like key h = record {
+    key = key ∙ like.key;
+    failed_is = like.failed_is ∙ h.failed_before ∙ sym h.failed_still;
+    book_is = like.book_is ∙ sym h.stays;
+    told = λ s events is.
+        let before = like.told s events is in
+        record {
+          more = before.more;
+          book = before.book;
+          left = λ c may. subst (λ (k : ℕ). IsLeft k s (events ++ before.more) c) (sym key) (before.left c (subst (λ (d : D). g.may_leave d c) h.disk may));
+          all = λ works. absurd (true≢false (sym h.failed_still ∙ works));
+        };
+  }
+
+  -- The journal failed at a request, which is answered then as where nothing more can be kept.
+  pub failed_now : (old between new : KeptBook D g) (r : Request) (now : ℕ) (reply : Reply) → book_in between ≡ book_in old → key_in between ≡ key_in old
+      → ((s : Settings) (events : List ChangeEvent) → IsKept old s events → (c : List ℕ) → g.may_leave (disk_in between) c → IsLeft (key_in old) s events c)
+      → IsUnkeptAnswer (book_in between) r now reply → book_in new ≡ book_in between → disk_in new ≡ disk_in between → key_in new ≡ key_in between
+      → IsStepKept old false r now reply new true
+  failed_now old between new r now reply book key left answer stays disk key_stays = record {
+    key = key_stays ∙ key;
+    step = inr (inl (record {
+      worked = refl;
+      failed_now = refl;
+      answer = subst (λ (b : PlainBook). IsUnkeptAnswer b r now reply) book answer;
+      stays = stays ∙ book;
+      left = λ s events is c may. left s events is c (subst (λ (d : D). g.may_leave d c) disk may);
+    }));
+  }
+
   -- a step of the kept book is one of the state
   step_on : (opened a b : KeptBook D g) (failed fails : Bool) (p : KeptState) (r : Request) (now : ℕ) (reply : Reply) → StandsFor opened a failed p → IsStepKept a failed r now reply b fails
       → (q : KeptState) × StandsFor opened b fails q × IsJournalStep p r now reply q
   step_on opened a b failed fails p r now reply like step = step_by step.key step.step where
+    on_state : IsUnkeptAnswer (book_in a) r now reply → IsUnkeptAnswer p.book r now reply
+    on_state answer = subst (λ (book : PlainBook). IsUnkeptAnswer book r now reply) (sym like.book_is) answer
+
     step_by : key_in b ≡ key_in a → AnswersKept a failed r now reply b fails ⊎ FailsKept a failed r now reply b fails ⊎ StaysFailed a failed r now reply b fails
         → (q : KeptState) × StandsFor opened b fails q × IsJournalStep p r now reply q
     step_by key (inl h) = (
       working (book_in b),
       after_answer opened a b failed fails p r now reply like key h,
-      inl (record { worked = like.failed_is ∙ h.worked; works = refl; step = subst (λ (book : PlainBook). IsKeptStep book r now reply (book_in b)) (sym (like.book_is h.worked)) h.step }),
+      inl (record { worked = like.failed_is ∙ h.worked; works = refl; step = subst (λ (book : PlainBook). IsKeptStep book r now reply (book_in b)) (sym like.book_is) h.step }),
     )
     step_by key (inr (inl h)) =
-        (failed_with p.book, after_failure opened a b failed fails p r now reply like key h, inr (record { failed = refl; told = h.told; same = refl }))
+        (failed_with p.book, after_failure opened a b failed fails p r now reply like key h, inr (record { failed = refl; answer = on_state h.answer; same = refl }))
     step_by key (inr (inr h)) =
-        let stood = subst (λ (f : Bool). StandsFor opened a f p) (h.failed_before ∙ sym h.failed_still) like in
-        (p, subst (λ (k : KeptBook D g). StandsFor opened k fails p) (sym h.same) stood, inr (record { failed = like.failed_is ∙ h.failed_before; told = h.told; same = refl }))
+        (p, after_silence opened a b failed fails p r now reply like key h, inr (record { failed = like.failed_is ∙ h.failed_before; answer = on_state h.answer; same = refl }))
 
   -- what the events that were opened and those that were told of make
   outlives : (s : Settings) (found : D) (opened last : KeptBook D g) (failed : Bool) (state : KeptState) → IsOpened s journal_key found opened → key_in opened ≡ journal_key → StandsFor opened last failed state

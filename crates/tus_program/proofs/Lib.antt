@@ -1,5 +1,6 @@
 pub mod DeskLemmas
 pub mod KeptTalkLemmas
+pub mod ReportLemmas
 pub mod RunLemmas
 pub mod ServeLemmas
 pub mod SimulationLemmas

@@ -4,7 +4,6 @@ use Rattle.std.proofs.lemmas.List.{get_or-map, length-map}
 use Rattle.std.proofs.lemmas.List.Elements.{All-map}
 use Rattle.std.proofs.lemmas.List.Folds.{Any-from_list_any, list_any_at}
 use Rattle.std.specs.Prelude.{IfErr, IsSome, OnOk}
-use Rattle.std.specs.Io.KnownBytes.{Appends}
 use Rattle.std.specs.List.{Any, list_any}
 use Rattle.http_wire.proofs.AheadLemmas.{Appends-more}
 use Rattle.http_wire.specs.Writes.{Writes}
@@ -15,16 +14,16 @@ use Rattle.upload_book.specs.Settings.{Settings}
 use Rattle.server_words.specs.Arguments.{ServeArguments}
 use Rattle.journal_keeper.specs.declared.fault.ReopenFault.{ReopenFault}
 use Rattle.journal_keeper.specs.declared.fault.ReopenFault.TheVariants as reopening
-use Rattle.server_words.specs.JournalFault.{fault_of_reopening}
-use Rattle.server_words.specs.StreamUse.{StreamUse, IsUntouched}
+use Rattle.tus_program.specs.Fault.{fault_of_reopening}
+use Rattle.journal_folders.specs.StreamUse.{StreamUse, IsUntouched, used}
 use Rattle.server_words.specs.declared.cause.Cause.{Cause}
-use Rattle.server_words.specs.declared.cause.Cause.TheVariants.{Output, Accept}
+use Rattle.server_words.specs.declared.cause.Cause.TheVariants.{Input, Output, Port, Workers, Accept, Log, Metrics}
 use Rattle.server_words.specs.declared.journal_fault.JournalFault.{JournalFault}
 use Rattle.server_words.specs.declared.fault.RunFault.{RunFault}
 use Rattle.server_words.specs.declared.fault.RunFault.TheVariants as run
-use Rattle.tus_program.specs.Lines.{Settles, balance_text, listening_text}
-use Rattle.tus_program.specs.Serve.{BreaksOff, IsPlaceAsked, KeepsQuiet, PrintsBoth, ServeEnds, ServesEach, has_port_twice, is_of_kept_service, is_of_service, serve_settings}
-use Rattle.tus_program.specs.Sockets.{AreUnstopped, Sockets}
+use Rattle.tus_program.specs.Lines.{Settles, balance_text}
+use Rattle.tus_program.specs.Serve.{BreaksOff, HaveEnded, KeepsQuiet, PrintsBoth, ServeEnds, ServesEach, has_port_twice, is_before_listening, is_of_kept_service, is_of_service, serve_settings}
+use Rattle.tus_program.specs.Sockets.{AreUnstopped, HasFailed, HaveAccepted, Sockets}
 
 false_unless : (b : Bool) → (b ≡ true → ⊥) → b ≡ false
 false_unless true never = absurd (never refl)
@@ -45,70 +44,69 @@ Any-map P f xs (k, x, lt, is, holds) = (
   holds,
 )
 
-module _ {X L A W : Type 0} (seen : Sockets L A) (arguments : ServeArguments) (s : Settings) (output : StreamUse W) (acceptor : X → A) (workers : List X) where
+module _ {X L A : Type 0} (seen : Sockets L A) (arguments : ServeArguments) (acceptor : X → A) (workers : List X) where
   -- no acceptor was stopped, where nobody can ask for that
   pub unstopped-unasked : {grace : Option ℕ} → (arguments.metrics ≡ None → grace ≡ None) → All (λ w. grace ≡ None → seen.is_stopped (acceptor w) ≡ false) workers
       → arguments.metrics ≡ None → AreUnstopped seen (map acceptor workers)
   unstopped-unasked bound each none = All-map (λ a. seen.is_stopped a ≡ false) acceptor workers (λ k d lt. each k d lt (bound none))
 
-  -- each worker accepted as many connections as it was to, or was stopped before, since no accept failed
-  pub ServesEach-whole : list_any (λ w. seen.has_failed (acceptor w)) workers ≡ false
+  -- each worker accepted as many connections as it was to, or was stopped before, where no accept failed
+  pub HaveAccepted-whole : {failed : Bool} → failed ≡ list_any (λ w. seen.has_failed (acceptor w)) workers
       → All (λ w. seen.has_failed (acceptor w) ≡ false → seen.is_stopped (acceptor w) ≡ false → seen.accepted (acceptor w) ≡ arguments.work.connections) workers
       → All (λ w. seen.accepted (acceptor w) ≤ arguments.work.connections) workers
-      → PrintsBoth seen arguments s output (map acceptor workers) → ServesEach seen arguments s output
-  ServesEach-whole none all most prints =
+      → failed ≡ false → HaveAccepted seen arguments.work.connections (map acceptor workers)
+  HaveAccepted-whole told all most none =
       let accepts : A → Type 0 = λ a. (seen.has_failed a ≡ false) × (seen.accepted a ≤ arguments.work.connections) × (seen.is_stopped a ≡ false → seen.accepted a ≡ arguments.work.connections) in
-      let alive = none_passes (λ w. seen.has_failed (acceptor w)) workers none in
-      record {
-        acceptors = map acceptor workers;
-        prints = prints;
-        accepted = All-map accepts acceptor workers (λ k d lt. (alive k d lt, most k d lt, all k d lt (alive k d lt)));
-      }
+      let alive = none_passes (λ w. seen.has_failed (acceptor w)) workers (sym told ∙ none) in
+      All-map accepts acceptor workers (λ k d lt. (alive k d lt, most k d lt, all k d lt (alive k d lt)))
 
   -- an accept failed
-  pub BreaksOff-failed : list_any (λ w. seen.has_failed (acceptor w)) workers ≡ true
-      → PrintsBoth seen arguments s output (map acceptor workers) → BreaksOff seen arguments s output Accept
-  BreaksOff-failed some prints = record {
-    acceptors = map acceptor workers;
-    prints = prints;
-    failed = Any-map (λ a. seen.has_failed a ≡ true) acceptor workers (Any-from_list_any (λ w. seen.has_failed (acceptor w)) workers some);
-  }
+  pub HasFailed-some : {failed : Bool} → failed ≡ list_any (λ w. seen.has_failed (acceptor w)) workers → failed ≡ true → HasFailed seen (map acceptor workers)
+  HasFailed-some told some =
+      Any-map (λ a. seen.has_failed a ≡ true) acceptor workers (Any-from_list_any (λ w. seen.has_failed (acceptor w)) workers (sym told ∙ some))
 
-module _ {L A W : Type 0} (seen : Sockets L A) (arguments : ServeArguments) (s : Settings) (output : StreamUse W) (listener : L) (desks : List Desk) where
+-- the workers have ended after the first line, and then the balance of what the desks did was written, or broke off
+module _ {L A W T : Type 0} (seen : Sockets L A) (arguments : ServeArguments) (s : Settings) (contents : W → Option (List ℕ)) (failed : W → Bool) (old between new : W) (desks : List Desk) (has_failed : Bool) (balance : Balance)
+    (ended : HaveEnded seen arguments (used contents failed old between) desks has_failed) (settled : Settles s desks balance) (r : Result T WireFault) (wrote : Writes (contents between) (contents new) (failed new) (balance_text balance) r) where
   -- the second line broke off
-  pub BreaksOff-second : {T : Type 0} (between : Option (List ℕ)) (balance : Balance) (fault : WireFault) → IsPlaceAsked arguments (seen.asked listener) → Settles s desks balance
-      → Appends output.before between (listening_text (seen.place listener))
-      → Writes {T = T} between output.after output.has_failed (balance_text balance) (Err fault) → BreaksOff seen arguments s output Output
-  BreaksOff-second between balance fault asked settled first last =
+  pub BreaksOff-second : (fault : WireFault) → r ≡ Err fault → BreaksOff seen arguments s (used contents failed old new) Output
+  BreaksOff-second fault is =
+      let last = subst (λ (r : Result T WireFault). Writes (contents between) (contents new) (failed new) (balance_text balance) r) is wrote in
       inr (record {
-        listener = listener;
-        asked = asked;
+        listener = ended.listener;
+        asked = ended.asked;
         desks = desks;
         balance = balance;
         settled = settled;
         n = last.prefix.0;
         within = last.prefix.1;
-        lines = Appends-more _ _ _ _ _ first last.prefix.2;
+        lines = Appends-more _ _ _ _ _ ended.line last.prefix.2;
         failed = last.failed;
       })
 
   -- both lines were written
-  pub PrintsBoth-lines : (acceptors : List A) (between : Option (List ℕ)) (balance : Balance) → IsPlaceAsked arguments (seen.asked listener) → Settles s desks balance
-      → length desks ≡ arguments.workers → length acceptors ≡ arguments.workers → (arguments.metrics ≡ None → AreUnstopped seen acceptors)
-      → Appends output.before between (listening_text (seen.place listener)) → Appends between output.after (balance_text balance) → output.has_failed ≡ false
-      → PrintsBoth seen arguments s output acceptors
-  PrintsBoth-lines acceptors between balance asked settled at_desks at_acceptors unasked first last alive = record {
-    listener = listener;
-    asked = asked;
-    desks = desks;
-    balance = balance;
-    settled = settled;
-    each_has_a_desk = at_desks;
-    each_accepts = at_acceptors;
-    unasked = unasked;
-    lines = Appends-more _ _ _ _ _ first last;
-    alive = alive;
-  }
+  module _ (v : T) (is : r ≡ Ok v) where
+    prints : PrintsBoth seen arguments s (used contents failed old new) ended.acceptors
+    prints =
+        let last = subst (λ (r : Result T WireFault). Writes (contents between) (contents new) (failed new) (balance_text balance) r) is wrote in
+        record {
+          listener = ended.listener;
+          asked = ended.asked;
+          desks = desks;
+          balance = balance;
+          settled = settled;
+          each_has_a_desk = ended.each_has_a_desk;
+          each_accepts = ended.each_accepts;
+          unasked = ended.unasked;
+          lines = Appends-more _ _ _ _ _ ended.line last.all;
+          alive = last.failed;
+        }
+
+    pub ServesEach-ended : has_failed ≡ false → ServesEach seen arguments s (used contents failed old new)
+    ServesEach-ended none = record { acceptors = ended.acceptors; prints = prints; accepted = ended.accepted none }
+
+    pub BreaksOff-refused : has_failed ≡ true → BreaksOff seen arguments s (used contents failed old new) Accept
+    BreaksOff-refused some = record { acceptors = ended.acceptors; prints = prints; failed = ended.refused some }
 
 -- the cause of a fault, where it has one
 abbrev cause_in : RunFault → Cause
@@ -127,6 +125,36 @@ cause_of (Ok v) = Output
 -- what holds of the cause that is given holds of the cause, whichever name it has
 pub by_cause : {T : Type 0} (P : Cause → Type 0) (r : Result T RunFault) (given : Cause) → r ≡ Err (run.Wire given) → P given → (cause : Cause) → r ≡ Err (run.Wire cause) → P cause
 by_cause P r given is h cause named = subst P (sym (ap cause_of is) ∙ ap cause_of named) h
+
+-- results that give these faults
+pub err_is : {T : Type 0} (x y : RunFault) → (let left : Result T RunFault = Err x in let right : Result T RunFault = Err y in left ≡ right) → x ≡ y
+err_is x y is = cc
+
+-- a fault that comes before anything is printed is one of `serve`
+pub before-service : (fault : RunFault) → is_before_listening fault ≡ true → is_of_service fault ≡ true
+before-service run.Words before = absurd (true≢false (sym before))
+before-service run.Address before = absurd (true≢false (sym before))
+before-service run.Ports before = absurd (true≢false (sym before))
+before-service (run.Settings why) before = absurd (true≢false (sym before))
+before-service (run.Wire cause) before = refl
+before-service (run.Journal why) before = absurd (true≢false (sym before))
+before-service run.Memory before = refl
+
+-- and nothing was printed
+pub BreaksOff-before : {L A W T : Type 0} (seen : Sockets L A) (arguments : ServeArguments) (s : Settings) (output : StreamUse W) (r : Result T RunFault) (fault : RunFault) → IsUntouched output → r ≡ Err fault → is_before_listening fault ≡ true
+    → (cause : Cause) → r ≡ Err (run.Wire cause) → BreaksOff seen arguments s output cause
+BreaksOff-before seen arguments s output r fault untouched is before cause named =
+    let same : fault ≡ run.Wire cause = let both : Err fault ≡ Err (run.Wire cause) = sym is ∙ named in cc in
+    by cause (subst (λ (f : RunFault). is_before_listening f ≡ true) same before)
+  where
+    by : (cause : Cause) → is_before_listening (run.Wire cause) ≡ true → BreaksOff seen arguments s output cause
+    by Input late = absurd (true≢false (sym late))
+    by Output late = absurd (true≢false (sym late))
+    by (Port why) early = untouched
+    by Workers early = untouched
+    by Accept late = absurd (true≢false (sym late))
+    by Log early = untouched
+    by Metrics early = untouched
 
 -- a fault with a cause
 abbrev has_cause : RunFault → Bool

@@ -20,9 +20,9 @@ use Rattle.upload_book.specs.PlainBook.{PlainBook, opening_book}
 use Rattle.upload_book.specs.Settings.{Settings}
 use Rattle.upload_book.specs.declared.settings_fault.SettingsFault.{SettingsFault}
 use Rattle.server_words.specs.Arguments.{TalkArguments}
-use Rattle.server_words.specs.Fault.{fault_of_wire}
+use Rattle.tus_program.specs.Fault.{fault_of_wire}
 use Rattle.server_words.specs.Settings.{talk_settings}
-use Rattle.server_words.specs.StreamUse.{StreamUse, IsAlive}
+use Rattle.journal_folders.specs.StreamUse.{StreamUse, IsAlive}
 use Rattle.tus_program.specs.Talk.{BreaksTalk, LosesTalk, TalkEnds, Talks, moments_at}
 
 -- where no byte was read, all are left

@@ -1,15 +1,13 @@
 -- A step of a conversation on a kept book.
-use Rattle.std.specs.Prelude.{◌≡◌, ◌⊎◌, ℕ, Bool, true, false, List, None}
+use Rattle.std.specs.Prelude.{◌≡◌, ◌⊎◌, ℕ, Bool, true, false, List}
 use Rattle.sqlite_disk.specs.declared.Disk.{Ghosts}
-use Rattle.kept_book.specs.Answer.{GoesOn, IsKeptStep}
+use Rattle.kept_book.specs.Answer.{GoesOn, IsKeptStep, IsUnkeptAnswer}
 use Rattle.kept_book.specs.declared.kept.KeptBook.{KeptBook}
 use Rattle.kept_book.specs.Kept.{book_in, disk_in, key_in, IsKept, IsLeft}
 use Rattle.tus_steps.specs.declared.reply.Reply.{Reply}
-use Rattle.tus_steps.specs.Reply.{refusing}
 use Rattle.tus_steps.specs.Request.{Request}
 use Rattle.upload_book.specs.Events.{ChangeEvent}
 use Rattle.upload_book.specs.PlainBook.{PlainBook}
-use Rattle.upload_book.specs.declared.refusal.Refusal.TheVariants.{Memory}
 use Rattle.upload_book.specs.Settings.{Settings}
 
 -- what a conversation on a kept book is about: the plain book, and whether a write or a sync of the journal has failed
@@ -28,10 +26,11 @@ pub record Works (old : KeptState) (r : Request) (now : ℕ) (reply : Reply) (ne
   pub works : new.has_failed ≡ false
   pub step : IsKeptStep old.book r now reply new.book
 
--- The journal has failed, at this request or before it: the request is refused as Memory, and the book stays.
+-- The journal has failed, at this request or before it: what changes nothing is answered, a change that the book accepts is
+-- refused as where memory lacks, and the book stays.
 pub record Fails (old : KeptState) (r : Request) (now : ℕ) (reply : Reply) (new : KeptState) : Type 0 where
   pub failed : new.has_failed ≡ true
-  pub told : reply ≡ refusing r Memory None
+  pub answer : IsUnkeptAnswer old.book r now reply
   pub same : new.book ≡ old.book
 
 abbrev pub IsJournalStep : KeptState → Request → ℕ → Reply → KeptState → Type 0
@@ -50,7 +49,8 @@ module _ {D : Type 0} {g : Ghosts D} (old : KeptBook D g) (failed : Bool) (r : R
   pub record FailsKept : Type 0 where
     pub worked : failed ≡ false
     pub failed_now : fails ≡ true
-    pub told : reply ≡ refusing r Memory None
+    pub answer : IsUnkeptAnswer (book_in old) r now reply
+    pub stays : book_in new ≡ book_in old
     pub left : (s : Settings) (events : List ChangeEvent) → IsKept old s events
         → (c : List ℕ) → g.may_leave (disk_in new) c → IsLeft (key_in old) s events c
 
@@ -58,8 +58,9 @@ module _ {D : Type 0} {g : Ghosts D} (old : KeptBook D g) (failed : Bool) (r : R
   pub record StaysFailed : Type 0 where
     pub failed_before : failed ≡ true
     pub failed_still : fails ≡ true
-    pub told : reply ≡ refusing r Memory None
-    pub same : new ≡ old
+    pub answer : IsUnkeptAnswer (book_in old) r now reply
+    pub stays : book_in new ≡ book_in old
+    pub disk : disk_in new ≡ disk_in old
 
   pub record IsStepKept : Type 0 where
     pub key : key_in new ≡ key_in old

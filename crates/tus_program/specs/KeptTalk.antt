@@ -15,7 +15,7 @@ use Rattle.journal_folders.specs.ReadJournal.{journal_key}
 use Rattle.server_words.specs.Arguments.{TalkArguments}
 use Rattle.server_words.specs.Cause.{NamesCause}
 use Rattle.server_words.specs.Settings.{talk_settings}
-use Rattle.server_words.specs.StreamUse.{StreamUse, IsAlive, IsUntouched}
+use Rattle.journal_folders.specs.StreamUse.{StreamUse, IsAlive, IsUntouched}
 use Rattle.server_words.specs.declared.fault.RunFault.{RunFault}
 use Rattle.server_words.specs.declared.fault.RunFault.TheVariants as run
 use Rattle.server_words.specs.declared.journal_fault.JournalFault.{JournalFault}
@@ -40,7 +40,7 @@ module _ {D : Type 0} (seen : D → List ℕ) (may_leave : D → List ℕ → Ty
   -- `talk` was asked for with these arguments, over these streams
   module _ {R W : Type 0} (arguments : TalkArguments) (reader : StreamUse R) (writer : StreamUse W) where
     -- The input is answered with this text, in a conversation on the book that was opened. At its end the journal has failed or
-    -- not; from the request on at which it failed, each is refused.
+    -- not; from the request on at which it failed, nothing changes.
     pub record TalksKept (failed : Bool) (input text : List ℕ) : Type 0 where
       pub settings : Settings
       pub is_given : talk_settings arguments ≡ Ok settings

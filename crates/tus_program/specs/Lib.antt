@@ -1,7 +1,10 @@
+pub mod Fault
 pub mod KeptStep
 pub mod KeptTalk
 pub mod Lines
+pub mod Report
 pub mod Run
 pub mod Serve
 pub mod Sockets
 pub mod Talk
+pub mod Work

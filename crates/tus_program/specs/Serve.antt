@@ -12,7 +12,7 @@ use Rattle.upload_book.specs.Settings.{Settings}
 use Rattle.upload_book.specs.declared.settings_fault.SettingsFault.{SettingsFault}
 use Rattle.server_words.specs.Arguments.{ServeArguments}
 use Rattle.server_words.specs.Settings.{settings_given}
-use Rattle.server_words.specs.StreamUse.{StreamUse, IsAlive, IsUntouched}
+use Rattle.journal_folders.specs.StreamUse.{StreamUse, IsAlive, IsUntouched}
 use Rattle.server_words.specs.declared.cause.Cause.{Cause}
 use Rattle.server_words.specs.declared.cause.Cause.TheVariants.{Input, Output, Port, Workers, Accept, Log, Metrics}
 use Rattle.server_words.specs.declared.cause.PortFault.TheVariants.{NotHere}
@@ -34,6 +34,22 @@ IsPlaceAsked arguments place = IsHostAndPort arguments.address arguments.port pl
 -- numbers are to be asked for at the port of the clients; port 0 is any that is free, and so no other's
 abbrev pub has_port_twice : ServeArguments → Bool
 has_port_twice arguments = option_map_or (λ port. nat_lt 0 port && port == arguments.port) arguments.metrics false
+
+-- `serve` was asked for with these arguments; it has these sockets and this output
+module _ {L A W : Type 0} (seen : Sockets L A) (arguments : ServeArguments) (output : StreamUse W) where
+  -- The line that tells where the server listens was printed, and then the workers have ended, one at each of these desks; an
+  -- accept of one of them failed, or not.
+  pub record HaveEnded (desks : List Desk) (failed : Bool) : Type 0 where
+    pub listener : L
+    pub asked : IsPlaceAsked arguments (seen.asked listener)
+    pub line : Appends output.before output.after (listening_text (seen.place listener))
+    pub alive : IsAlive output
+    pub acceptors : List A
+    pub each_has_a_desk : length desks ≡ arguments.workers
+    pub each_accepts : length acceptors ≡ arguments.workers
+    pub unasked : arguments.metrics ≡ None → AreUnstopped seen acceptors
+    pub accepted : failed ≡ false → HaveAccepted seen arguments.work.connections acceptors
+    pub refused : failed ≡ true → HasFailed seen acceptors
 
 -- `serve` was asked for with these arguments, and so with these settings; it has these sockets and this output
 module _ {L A W : Type 0} (seen : Sockets L A) (arguments : ServeArguments) (s : Settings) (output : StreamUse W) where
@@ -116,6 +132,22 @@ is_of_service (run.Wire cause) = true
 is_of_service (run.Journal why) = false
 is_of_service run.Memory = true
 
+-- a fault that comes before anything is printed: memory was lacking, or a port, a socket or the log could not be had
+abbrev pub is_before_listening : RunFault → Bool
+is_before_listening run.Words = false
+is_before_listening run.Address = false
+is_before_listening run.Ports = false
+is_before_listening (run.Settings why) = false
+is_before_listening (run.Wire Input) = false
+is_before_listening (run.Wire Output) = false
+is_before_listening (run.Wire (Port why)) = true
+is_before_listening (run.Wire Workers) = true
+is_before_listening (run.Wire Accept) = false
+is_before_listening (run.Wire Log) = true
+is_before_listening (run.Wire Metrics) = true
+is_before_listening (run.Journal why) = false
+is_before_listening run.Memory = true
+
 -- What was printed where the journal can't be had, or failed: nothing, unless it is that a read, a write or a sync failed,
 -- which may be at any time.
 abbrev pub KeepsQuiet : {W : Type 0} → StreamUse W → JournalFault → Type 0
@@ -125,7 +157,7 @@ KeepsQuiet output journal.NoFolder = IsUntouched output
 KeepsQuiet output journal.NoJournal = IsUntouched output
 KeepsQuiet output journal.Busy = IsUntouched output
 KeepsQuiet output (journal.Settings why) = IsUntouched output
-KeepsQuiet output (journal.Damaged damage) = IsUntouched output
+KeepsQuiet output (journal.Damaged at len) = IsUntouched output
 KeepsQuiet output (journal.Record number) = IsUntouched output
 KeepsQuiet output (journal.Upload why) = IsUntouched output
 

@@ -13,7 +13,7 @@ use Rattle.upload_book.specs.declared.settings_fault.SettingsFault.{SettingsFaul
 use Rattle.server_words.specs.Arguments.{TalkArguments}
 use Rattle.server_words.specs.Cause.{NamesCause}
 use Rattle.server_words.specs.Settings.{talk_settings}
-use Rattle.server_words.specs.StreamUse.{StreamUse, IsAlive, IsUntouched, KeepsBytes}
+use Rattle.journal_folders.specs.StreamUse.{StreamUse, IsAlive, IsUntouched, KeepsBytes}
 use Rattle.server_words.specs.declared.fault.RunFault.{RunFault}
 use Rattle.server_words.specs.declared.fault.RunFault.TheVariants as run
 

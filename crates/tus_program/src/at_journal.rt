@@ -6,10 +6,10 @@ use http_wire::Answer;
 use kept_book::KeptBook;
 use sqlite_disk::Disk;
 use tus_steps::{PlacedReply, Request};
-use upload_book::{Moment, Refusal};
+use upload_book::Moment;
 
-/// A kept book that answers requests, and whether a write or a sync of its journal has failed. From then on each request is
-/// refused as Memory, and nothing is asked of the disk.
+/// A kept book that answers requests, and whether a write or a sync of its journal has failed. From then on a change that the
+/// book accepts is refused as where memory lacks, and nothing is asked of the disk.
 #[derive(Drop)]
 pub struct AtJournal<D: Disk + Drop> {
     pub kept: KeptBook<D>,
@@ -25,14 +25,15 @@ impl<D: Disk + Drop> Answer for AtJournal<D> {
         self.kept.book().settings().numbers().max_size
     }
 
+    #[tactic(auto, using(crate::proofs::KeptTalkLemmas::failed_now))]
     fn answer(&mut self, request: &Request, now: Moment, reply: &mut PlacedReply) {
         if self.has_failed {
-            reply.refuse(request, Refusal::Memory, None);
+            self.kept.answer_unkept(request, now, reply);
             return;
         }
         if self.kept.answer(request, now, reply).is_err() {
             self.has_failed = true;
-            reply.refuse(request, Refusal::Memory, None);
+            self.kept.answer_unkept(request, now, reply);
         }
     }
 }

@@ -1,7 +1,8 @@
 //! How the program keeps what happens at its desks.
 ghost use Rattle.std.specs.Prelude.{◌≡◌, ◌↔◌, Ok, IsErr};
 
-use journal_keeper::{Compacted, JournalPlace, Journalled, KeepFault, KeeperNumbers, SharedKeeper};
+use journal_file::JournalPlace;
+use journal_keeper::{Compacted, Journalled, KeepFault, KeeperNumbers, SharedKeeper};
 use service_watch::JournalNumbers;
 use sqlite_disk::Disk;
 use std::sync::Wait;

@@ -4,20 +4,21 @@ ghost use Rattle.journal_file.specs.Journal.{key_of, IsJournal};
 ghost use Rattle.journal_frames.specs.Frames.{recovered};
 ghost use Rattle.server_words.specs.Arguments.{serve_arguments_of};
 ghost use Rattle.server_words.specs.SettingsFile.{settings_text};
-ghost use Rattle.server_words.specs.StreamUse.{used};
+ghost use Rattle.journal_folders.specs.StreamUse.{used};
 ghost use Rattle.server_words.specs.declared.cause.Cause.{Cause};
 ghost use Rattle.server_words.specs.declared.journal_fault.JournalFault.{JournalFault};
 ghost use Rattle.tus_program.specs.Serve.{BreaksOff, IsPlaceAsked, KeepsQuiet, ServesEach, is_of_kept_service};
 ghost use Rattle.tus_program.specs.Sockets.{sockets};
 
+use crate::fault::{fault_of_opening, fault_of_reopening};
 use crate::keeping::InJournal;
 use crate::progress::ProgressLine;
 use crate::serve::serve_desks;
 use crate::started::tell_started;
 use http_wire::Sink;
-use journal_file::Opened as OpenedJournal;
-use journal_folders::{JOURNAL_KEY, SettingsFile, renew_settings};
-use journal_keeper::{JournalPlace, Journalled, SharedKeeper, open_journal, reopen};
+use journal_file::{JournalPlace, Opened as OpenedJournal};
+use journal_folders::{JOURNAL_KEY, SettingsFile, fault_of_journal, renew_settings};
+use journal_keeper::{Journalled, SharedKeeper, open_journal, reopen};
 use server_words::{JournalFault, RunFault, ServeOptions};
 use sqlite_disk::Disk;
 use std::alloc::Global;
@@ -89,7 +90,10 @@ where
     ensures put { OnOk result (F.text_in file.new ≡ Some (settings_text settings)) }
 {
     let start = Instant::now(rt).ok();
-    let opened = open_journal(alloc, disk, JOURNAL_KEY)?;
+    let opened = match open_journal(alloc, disk, JOURNAL_KEY) {
+        Ok(opened) => opened,
+        Err(error) => return Err(fault_of_journal(error)),
+    };
     serve_journalled::<L, D, F, P, Brand, Brand, Brand, H, W>(
         rt,
         alloc,
@@ -184,7 +188,8 @@ where
         made,
         events,
         Some(JOURNAL_KEY),
-    )?;
+    )
+    .map_err(fault_of_opening)?;
     let Some(mut desk) = desks.pop() else {
         return Err(RunFault::Memory);
     };
@@ -198,7 +203,7 @@ where
         &mut progress,
     );
     progress.clear();
-    let reopened = reopened?;
+    let reopened = reopened.map_err(fault_of_reopening)?;
     renew_settings(alloc, file, desk.settings())?;
     tell_started(rt, start, reopened.records, store.headline());
     desks.push_reserved(desk);

@@ -1,10 +1,11 @@
 //! The command `talk` with a journal.
 ghost use Rattle.std.specs.Prelude.{◌≡◌, false};
 ghost use Rattle.server_words.specs.Arguments.{talk_arguments_of};
-ghost use Rattle.server_words.specs.StreamUse.{used};
+ghost use Rattle.journal_folders.specs.StreamUse.{used};
 ghost use Rattle.tus_program.specs.KeptTalk.{KeptTalkEnds};
 
 use crate::at_journal::AtJournal;
+use crate::fault::fault_of_wire;
 use http_wire::{Sink, Source, converse};
 use journal_folders::{Folder, Journals, open_kept, open_renewed};
 use server_words::{JournalFault, RunFault, TalkOptions, settings_with};
@@ -20,8 +21,8 @@ use tus_workers::MESSAGES_MAX;
 /// It is `Ok` where the conversation ended, in whatever way. The error is the fault of the settings, or the journal's, and then
 /// both streams are untouched; `RunFault::Wire` with the stream where a read or a write failed; or `RunFault::Memory` where
 /// memory was lacking to begin with, and then nothing was read or written. Where a read, a write or a sync of the file fails
-/// later, that request and all after it are refused as Memory, and the error is the journal's, `JournalFault::Disk`, once the
-/// conversation has ended.
+/// later, that change and all after it are refused as where memory lacks, and the error is the journal's, `JournalFault::Disk`,
+/// once the conversation has ended.
 pub fn talk_kept<D: Disk, J: Journals<Disk = D>, R: Source, W: Sink>(
     journals: &J,
     alloc: Global,
@@ -56,7 +57,8 @@ where
         writer,
         &mut at,
         &[options.moment; MESSAGES_MAX],
-    )?;
+    )
+    .map_err(fault_of_wire)?;
     if at.has_failed {
         return Err(RunFault::Journal(JournalFault::Disk));
     }

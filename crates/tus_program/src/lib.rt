@@ -3,14 +3,18 @@
 #![tactic(auto)]
 
 mod at_journal;
+mod fault;
 mod keeping;
 mod kept_serve;
 mod kept_talk;
 mod lines;
 mod program;
 mod progress;
+mod report;
 mod serve;
 mod started;
 mod talk;
+mod work;
 
 pub use program::run;
+pub use report::{is_watched, report_fault};

@@ -2,6 +2,7 @@
 ghost use Rattle.std.specs.Prelude.{◌≡◌};
 ghost use Rattle.tus_program.specs.Lines.{progress_text};
 
+use crate::report::is_watched;
 use crate::started::millis_since;
 use arrayvec::ArrayString;
 use itoa::Buffer;
@@ -39,10 +40,9 @@ pub struct ProgressLine<'a, H> {
 impl<'a, H: Eprint + time::Clock> ProgressLine<'a, H> {
     /// Tells of a start that began then, of a journal whose frames have so many bytes.
     pub fn new(rt: &'a H, start: &'a Option<Instant>, all: usize) -> ProgressLine<'a, H> {
-        let is_watched = libc::isatty(libc::STDERR_FILENO) == 1;
         ProgressLine {
             rt,
-            start: if is_watched { start.as_ref() } else { None },
+            start: if is_watched() { start.as_ref() } else { None },
             all,
             read: 0,
             records: 0,

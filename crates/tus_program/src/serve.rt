@@ -1,5 +1,5 @@
 //! The command `serve`, after its command line was read.
-ghost use Rattle.std.specs.Prelude.{◌≡◌, ◌⊎◌, false, true, OnOk, OnErr, IfOk, IsErrOf, IfErr, vec_len};
+ghost use Rattle.std.specs.Prelude.{◌≡◌, ◌≤◌, [], ◌⊎◌, false, true, All, OnOk, OnErr, IfOk, IsErrOf, IfErr, string_bytes, vec_capacity, vec_len};
 ghost use Rattle.std.specs.IoError.{error_kind};
 ghost use Rattle.std.specs.Net.Grammar.{IsIpText};
 ghost use Rattle.std.specs.Net.ToAddrs.{IsHostAndPort};
@@ -7,16 +7,19 @@ ghost use Rattle.std.specs.declared.net.ip_addr.IpAddr.{IpAddr};
 ghost use Rattle.http_wire.specs.Writes.{Writes};
 ghost use Rattle.server_words.specs.Arguments.{serve_arguments_of};
 ghost use Rattle.server_words.specs.Cause.{metrics_cause_of};
-ghost use Rattle.server_words.specs.StreamUse.{used};
+ghost use Rattle.journal_folders.specs.StreamUse.{used};
 ghost use Rattle.server_words.specs.declared.cause.Cause.{Cause};
 ghost use Rattle.server_words.specs.declared.cause.PortFault.{PortFault};
-ghost use Rattle.tus_program.specs.Lines.{Settles, balance_text};
-ghost use Rattle.tus_program.specs.Serve.{BreaksOff, IsOfWatching, IsPlaceAsked, ServeEnds, ServesEach, has_port_twice, is_of_service};
+ghost use Rattle.tus_program.specs.Lines.{Settles, balance_text, listening_text};
+ghost use Rattle.tus_program.specs.Serve.{BreaksOff, HaveEnded, IsOfWatching, IsPlaceAsked, ServeEnds, ServesEach, has_port_twice, is_before_listening, is_of_service};
 ghost use Rattle.tus_program.specs.Sockets.{sockets};
 ghost use Rattle.tus_shared.specs.declared.balance.Balance.{Balance};
 
+use crate::fault::{fault_of_opening, fault_of_wire};
 use crate::kept_serve::serve_kept;
 use crate::lines::{listening_line, put_balance};
+use crate::work::work_of;
+use connection_turns::WorkOptions;
 use http_wire::{Sink, WireFault, put_all};
 use journal_folders::{Folder, Journals, check_settings, open_renewed};
 use server_words::{Cause, PortFault, RunFault, ServeOptions, settings_with};
@@ -32,8 +35,8 @@ use std::thread::Threads;
 use std::time;
 use tus_shared::{Charges, Desk, Opened, Shared, settle};
 use tus_workers::{
-    Commons, Keeping, Listener, LogTarget, NoJournal, Watching, any_failed, dismiss, hire,
-    within_descriptors, work_all,
+    Accept, Commons, Keeping, Listener, LogTarget, NoJournal, Watching, Worker, any_failed,
+    dismiss, hire, within_descriptors, work_all,
 };
 use upload_book::Settings;
 
@@ -166,14 +169,15 @@ where
         made,
         events,
         None,
-    )?;
+    )
+    .map_err(fault_of_opening)?;
     serve_desks::<L, C, R, M, H, &H, NoJournal, W>(
         rt, alloc, options, place, shared, desks, &NoJournal, output,
     )
 }
 
-/// Listens, and lets workers serve at these desks, one each, until all connections have ended, or a stop was asked for. The
-/// socket that listens is the acceptors' then, so that it is closed once all of them were stopped.
+/// Listens, and lets workers serve at these desks, one each, until all connections have ended, or a stop was asked for; then it
+/// prints the balance of what the desks did.
 pub(crate) fn serve_desks<
     L: Listener,
     C: Charges + Send + Sync,
@@ -222,32 +226,175 @@ where
         (ServesEach (sockets L.asked L.place L.Acceptor.accepted L.Acceptor.has_failed L.Acceptor.is_stopped)
         (serve_arguments_of options.now) C.settings (used W.contents W.has_failed output.old output.new)) }
 {
-    let work = within_descriptors(rt, options.work, options.workers);
-    let commons = Commons::new(alloc, options.workers, &work)?;
-    let mut commons = watched(rt, alloc, commons, options, place)?;
-    commons.watch(rt)?;
-    let room = Vec::with_capacity(alloc, desks.len())?;
-    let room_after = Vec::with_capacity(alloc, desks.len())?;
-    let listener = listen::<L, H>(rt, place)?;
-    let line = listening_line(alloc, listener.place())?;
-    let mut workers = hire(&listener, desks, room)?;
+    let EndedWorkers { desks, has_failed } = listen_and_serve::<L, C, R, M, H, B, K, W>(
+        rt, alloc, options, place, &shared, desks, keeping, output,
+    )?;
+    put_settled(output, shared, desks).map_err(fault_of_wire)?;
+    if has_failed {
+        return Err(RunFault::Wire(Cause::Accept));
+    }
+    Ok(())
+}
+
+/// What is left of workers that have ended.
+#[derive(Drop)]
+struct EndedWorkers<C: Charges, R: Ledger, M: Ledger> {
+    /// Their desks, in their order.
+    desks: Vec<Desk<C, R, M>>,
+    /// Whether an accept of one of them failed.
+    has_failed: bool,
+}
+
+/// Listens, prints where, and lets workers serve at these desks until they have ended. The socket that listens is the
+/// acceptors' then, so that it is closed once all of them were stopped.
+fn listen_and_serve<
+    L: Listener,
+    C: Charges + Send + Sync,
+    R: Ledger + Send + Sync,
+    M: Ledger + Send + Sync,
+    H: Threads
+        + Wait
+        + Net<Stream = TcpStream, Listener = TcpListener>
+        + time::Clock
+        + Eprint
+        + Files<File = File>
+        + Sync
+        + Send
+        + Copy
+        + 'static,
+    B: Wait + Drop + Send,
+    K: Keeping<C, R, M, B> + Sync,
+    W: Sink,
+>(
+    rt: &H,
+    alloc: Global,
+    options: &ServeOptions,
+    place: SocketAddr,
+    shared: &Shared<C, R, M, B>,
+    desks: Vec<Desk<C, R, M>>,
+    keeping: &K,
+    output: &mut W,
+) -> Result<EndedWorkers<C, R, M>, RunFault>
+where
+    L::Acceptor: Send + Drop,
+    L: Drop,
+    requires desks { options.now.workers ≡ C.desks }
+    requires count { vec_len desks ≡ C.desks }
+    requires place { IsPlaceAsked (serve_arguments_of options.now) place }
+    requires output { W.has_failed output.old ≡ false }
+    ensures fault { IfErr result (λ fault. is_of_service fault ≡ true) }
+    ensures memory { IsErrOf result RunFault.Memory → output.new ≡ output.old }
+    ensures wire { (cause : Cause) → IsErrOf result (RunFault.Wire cause)
+        → BreaksOff (sockets L.asked L.place L.Acceptor.accepted L.Acceptor.has_failed L.Acceptor.is_stopped)
+        (serve_arguments_of options.now) C.settings (used W.contents W.has_failed output.old output.new)
+        cause }
+    ensures ended { IfOk result (λ ended.
+        HaveEnded (sockets L.asked L.place L.Acceptor.accepted L.Acceptor.has_failed L.Acceptor.is_stopped)
+        (serve_arguments_of options.now) (used W.contents W.has_failed output.old output.new)
+        ended.desks.items ended.has_failed) }
+{
+    let work = within_descriptors(rt, work_of(&options.work), options.workers);
+    let commons = commons_for(rt, alloc, options, place, &work)?;
+    let at = listen_for::<L, C, R, M, H>(rt, alloc, place, desks)?;
+    let Listening {
+        listener,
+        line,
+        mut workers,
+        room,
+    } = at;
     let _listener = held(listener, work.grace);
-    put_all(output, line.as_bytes())?;
+    put_all(output, line.as_bytes()).map_err(fault_of_wire)?;
     work_all(
         rt,
         alloc,
-        &shared,
+        shared,
         keeping,
         workers.as_mut_slice(),
         work,
         &commons,
     );
-    let failed = any_failed(workers.as_slice());
-    put_settled(output, shared, dismiss(workers, room_after))?;
-    if failed {
-        return Err(RunFault::Wire(Cause::Accept));
-    }
-    Ok(())
+    let has_failed = any_failed(workers.as_slice());
+    Ok(EndedWorkers {
+        desks: dismiss(workers, room),
+        has_failed,
+    })
+}
+
+/// What the workers share, which watches them where the options ask for that. The error is that there is no memory, or that one
+/// of the files and sockets for it can't be had.
+fn commons_for<
+    H: Threads
+        + Wait
+        + Net<Stream = TcpStream, Listener = TcpListener>
+        + time::Clock
+        + Eprint
+        + Files<File = File>
+        + Send
+        + Copy
+        + 'static,
+>(
+    rt: &H,
+    alloc: Global,
+    options: &ServeOptions,
+    place: SocketAddr,
+    work: &WorkOptions,
+) -> Result<Commons, RunFault>
+    ensures { IfErr result (λ fault. is_before_listening fault ≡ true) }
+{
+    let commons = Commons::new(alloc, options.workers, work)?;
+    let mut commons = watched(rt, alloc, commons, options, place)?;
+    commons.watch(rt)?;
+    Ok(commons)
+}
+
+/// Workers that can accept connections, and where they listen.
+#[derive(Drop)]
+struct Listening<L, C: Charges, R: Ledger, M: Ledger, A: Accept> {
+    listener: L,
+    /// The line that tells where.
+    line: String,
+    workers: Vec<Worker<C, R, M, A>>,
+    /// Room for the desks of the workers, once these have ended.
+    room: Vec<Desk<C, R, M>>,
+}
+
+/// Listens at a place, and gives each of these desks a worker that accepts there. The error is that there is no memory, or that
+/// the port or a worker's socket can't be had.
+fn listen_for<
+    L: Listener,
+    C: Charges,
+    R: Ledger,
+    M: Ledger,
+    N: Net<Stream = TcpStream, Listener = TcpListener>,
+>(
+    net: &N,
+    alloc: Global,
+    place: SocketAddr,
+    desks: Vec<Desk<C, R, M>>,
+) -> Result<Listening<L, C, R, M, L::Acceptor>, RunFault>
+where
+    L::Acceptor: Drop,
+    L: Drop,
+    ensures asked { IfOk result (λ at. L.asked at.listener ≡ place) }
+    ensures line { IfOk result (λ at. string_bytes at.line ≡ listening_text (L.place at.listener)) }
+    ensures count { IfOk result (λ at. vec_len at.workers ≡ vec_len desks) }
+    ensures alive { IfOk result (λ at. All (λ w. L.Acceptor.has_failed w.acceptor ≡ false) at.workers.items) }
+    ensures unstopped { IfOk result (λ at. All (λ w. L.Acceptor.is_stopped w.acceptor ≡ false) at.workers.items) }
+    ensures new { IfOk result (λ at. All (λ w. L.Acceptor.accepted w.acceptor ≡ 0) at.workers.items) }
+    ensures room { IfOk result (λ at. (at.room.items ≡ []) × (vec_len desks ≤ vec_capacity at.room)) }
+    ensures fault { IfErr result (λ fault. is_before_listening fault ≡ true) }
+{
+    let empty = Vec::with_capacity(alloc, desks.len())?;
+    let room = Vec::with_capacity(alloc, desks.len())?;
+    let listener = listen::<L, N>(net, place)?;
+    let line = listening_line(alloc, listener.place())?;
+    let workers = hire(&listener, desks, empty)?;
+    Ok(Listening {
+        listener,
+        line,
+        workers,
+        room,
+    })
 }
 
 /// The listener, which stays to the end; but where a stop can be asked for it is let go, so that the port is closed once all

@@ -6,9 +6,10 @@ ghost use Rattle.upload_book.specs.PlainBook.{opening_book};
 ghost use Rattle.server_words.specs.Arguments.{talk_arguments_of};
 ghost use Rattle.server_words.specs.Fault.{IsFaultOf};
 ghost use Rattle.server_words.specs.Settings.{settings_given};
-ghost use Rattle.server_words.specs.StreamUse.{used};
+ghost use Rattle.journal_folders.specs.StreamUse.{used};
 ghost use Rattle.tus_program.specs.Talk.{TalkEnds};
 
+use crate::fault::fault_of_wire;
 use http_wire::{Sink, Source, converse};
 use server_words::{RunFault, TalkOptions, settings_with};
 use std::alloc::Global;
@@ -40,7 +41,8 @@ pub fn talk<R: Source, W: Sink>(
         writer,
         &mut book,
         &[options.moment; MESSAGES_MAX],
-    )?;
+    )
+    .map_err(fault_of_wire)?;
     Ok(())
 }
 

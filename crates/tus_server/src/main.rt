@@ -7,17 +7,18 @@ ghost use Rattle.std.specs.IoError.{error_kind};
 
 use http_wire::Tapped;
 use journal_folders::MachineJournals;
-use server_words::{NO_TEXT, RunFault, WORDS_MEMORY, report_fault};
+use server_words::{NO_TEXT, RunFault, WORDS_MEMORY};
 use std::env;
 use std::io::{Error, ErrorKind};
 use std::process::ExitCode;
-use tus_program::run;
+use tus_program::{is_watched, report_fault, run};
 use tus_workers::SocketListener;
 
 fn main(rt: HostRuntime) -> ExitCode {
     let mut reader = Tapped::new(rt.stdin());
     let mut writer = Tapped::new(rt.stdout());
     let mut errors = Tapped::new(rt.stderr());
+    let is_watched = is_watched();
     let status = match words(&rt) {
         Ok(words) => run::<SocketListener, _, _, _, _, _, _, _>(
             &rt,
@@ -27,12 +28,18 @@ fn main(rt: HostRuntime) -> ExitCode {
             },
             rt.alloc(),
             words.as_slice(),
+            is_watched,
             &mut reader,
             &mut writer,
             &mut errors,
         ),
-        Err(RunFault::Memory) => report_fault(&RunFault::Memory, WORDS_MEMORY, &mut errors),
-        Err(fault) => report_fault(&fault, NO_TEXT, &mut errors),
+        Err(RunFault::Memory) => report_fault(
+            &RunFault::Memory,
+            WORDS_MEMORY,
+            is_watched,
+            &mut errors,
+        ),
+        Err(fault) => report_fault(&fault, NO_TEXT, is_watched, &mut errors),
     };
     ExitCode::from(status)
 }

@@ -6,25 +6,18 @@ use Rattle.upload_book.specs.declared.board_line.BoardLine.{BoardLine}
 use Rattle.upload_book.specs.declared.change.Change.{Change}
 use Rattle.upload_book.specs.declared.change.Change.TheVariants.{Create, Append, Concat, Terminate, Sweep, Restore}
 use Rattle.upload_book.specs.declared.settings.TenantQuota.{TenantQuota}
-use Rattle.upload_book.specs.Change.{book_after_change}
+use Rattle.upload_book.specs.Change.{CanBeMade, book_after_change}
 use Rattle.upload_book.specs.Events.{ChangeEvent, book_after_all, book_after_event}
 use Rattle.upload_book.specs.PlainBook.{PlainBook, opening_book}
 use Rattle.upload_book.specs.Settings.{Settings}
 use Rattle.upload_book.specs.Sweep.{part_after_sweep}
 use Rattle.upload_book.specs.TenantBook.{TenantBook, opening_part}
-use Rattle.upload_book.proofs.Restoring.PieceSteps.{piece-settings, piece-tenants}
+use Rattle.upload_book.proofs.Restoring.PieceSteps.{piece-tenants}
 use Rattle.head_board.specs.Event.{Event}
 use Rattle.head_board.specs.Events.{AllHappen, HaveHappened, IsLineOf, book_at, change_event}
 use Rattle.tus_shared.specs.Store.{IsBookAt}
 use Rattle.head_board.proofs.BoardLemmas.{after-one, happen-one}
-
-change-settings : (b : PlainBook) (change : Change) (now : ℕ) → (book_after_change b change now).settings ≡ b.settings
-change-settings b (Create tenant new first) now = refl
-change-settings b (Append name chunk) now = refl
-change-settings b (Concat tenant new) now = refl
-change-settings b (Terminate name) now = refl
-change-settings b Sweep now = refl
-change-settings b (Restore restored) now = piece-settings b restored
+use Rattle.head_board.proofs.SettingsLemmas.{at-settings}
 
 change-tenants : (b : PlainBook) (change : Change) (now : ℕ) → length (book_after_change b change now).tenants ≡ length b.tenants
 change-tenants b (Create tenant new first) now = length-set b.tenants tenant _
@@ -34,18 +27,11 @@ change-tenants b (Terminate name) now = length-set b.tenants name.tenant _
 change-tenants b Sweep now = length-map b.tenants (part_after_sweep now)
 change-tenants b (Restore restored) now = piece-tenants b restored
 
-all-settings : (b : PlainBook) (events : List Event) → (book_after_all b (map {A = Event} {B = ChangeEvent} change_event events)).settings ≡ b.settings
-all-settings b [] = refl
-all-settings b (e ∷ events) = all-settings (book_after_event b (change_event e)) events ∙ change-settings b e.change e.now
-
 all-tenants : (b : PlainBook) (events : List Event) → length (book_after_all b (map {A = Event} {B = ChangeEvent} change_event events)).tenants ≡ length b.tenants
 all-tenants b [] = refl
 all-tenants b (e ∷ events) = all-tenants (book_after_event b (change_event e)) events ∙ change-tenants b e.change e.now
 
--- the settings stay, and so do the tenants
-pub at-settings : (s : Settings) (events : List Event) → (book_at s events).settings ≡ s
-at-settings s events = all-settings (opening_book s) events
-
+-- there are the tenants of the settings
 pub at-tenants : (s : Settings) (events : List Event) → length (book_at s events).tenants ≡ length s.tenants
 at-tenants s events = all-tenants (opening_book s) events ∙ length-map s.tenants (λ (t : TenantQuota). let part : TenantBook = opening_part t.quota in part)
 
@@ -53,9 +39,13 @@ at-tenants s events = all-tenants (opening_book s) events ∙ length-map s.tenan
 pub at-one : (s : Settings) (events : List Event) (e : Event) → book_at s (events ++ e ∷ []) ≡ book_after_change (book_at s events) e.change e.now
 at-one s events e = after-one (opening_book s) events e
 
-pub book-one : (s : Settings) (events : List Event) (e : Event) (line : BoardLine) (b after : PlainBook) → IsBookAt s events b → IsLineOf b e line → after ≡ book_after_change b e.change e.now → IsBookAt s (events ++ e ∷ []) after
-book-one s events e line b after at told is = record {
-  happened = happen-one (opening_book s) events e at.happened (line, subst (λ (b : PlainBook). IsLineOf b e line) at.is told);
+pub book-one : (s : Settings) (events : List Event) (e : Event) (line : BoardLine) (b after : PlainBook) → IsBookAt s events b → CanBeMade (length s.tenants) e.change → IsLineOf b e line → after ≡ book_after_change b e.change e.now → IsBookAt s (events ++ e ∷ []) after
+book-one s events e line b after at asked told is = record {
+  happened = happen-one (opening_book s) events e at.happened (record {
+    asked = subst (λ (of : Settings). CanBeMade (length of.tenants) e.change) (sym (at-settings s events)) asked;
+    line = line;
+    told = subst (λ (b : PlainBook). IsLineOf b e line) at.is told;
+  });
   is = is ∙ ap (λ (b : PlainBook). book_after_change b e.change e.now) at.is ∙ sym (at-one s events e);
 }
 

@@ -6,7 +6,7 @@ use Rattle.upload_book.specs.declared.head_row.HeadRow.{HeadRow}
 use Rattle.upload_book.specs.declared.head_row.Name.{Name}
 use Rattle.upload_book.specs.declared.operation.Operation.{Operation}
 use Rattle.upload_book.specs.declared.refusal.Refusal.{Refusal}
-use Rattle.upload_book.specs.Settings.{Settings}
+use Rattle.upload_book.specs.Settings.{Settings, settings_fault}
 use Rattle.tus_steps.specs.Asked.{asked_in, change_in}
 use Rattle.tus_steps.specs.Changing.{change_found}
 use Rattle.tus_steps.specs.declared.asked.Asked.{Asked}
@@ -24,16 +24,17 @@ use Rattle.head_board.specs.Board.{ReadsHead, row_read}
 use Rattle.head_board.specs.Event.{Event}
 use Rattle.head_board.specs.Events.{HaveHappened, book_at}
 use Rattle.tus_shared.specs.Answers.{Answers, AnswersTurn, IsRefusedHead, IsUploadHead, MissesBoard, OnlyLooks, OnlySeesMore}
-use Rattle.tus_shared.specs.Desk.{Desk, Moves}
-use Rattle.tus_shared.specs.Journal.{journal_len}
+use Rattle.tus_shared.specs.Desk.{Desk, Moves, queueing}
+use Rattle.tus_shared.specs.Journal.{Queueing, journal_len}
 use Rattle.tus_shared.specs.Steps.{AddsBy, AddsChange}
+use Rattle.head_board.proofs.LawfulLemmas.{books_stay_lawful}
 use Rattle.tus_steps.proofs.AskedLemmas.{asks-in, look-step, refused-step}
-use Rattle.tus_shared.proofs.EventLemmas.{at-settings}
+use Rattle.head_board.proofs.SettingsLemmas.{at-settings}
 use Rattle.tus_shared.proofs.LogLaws.{prefix-on, prefix-self}
 
 -- a request that asks for no change adds nothing to what happened
-adds-nothing : (journal : Option ℕ) (s : Settings) (events : List Event) (desk : ℕ) (r : Request) (now : ℕ) (reply : Reply) → change_found s r ≡ None → AddsChange journal s events desk r now reply events
-adds-nothing journal s events desk r now reply none = subst (λ (o : Option ChangeOf). AddsBy journal o (book_at s events) events desk r now reply events) (sym none) refl
+adds-nothing : (q : Queueing) (s : Settings) (events : List Event) (desk : ℕ) (r : Request) (now : ℕ) (reply : Reply) → change_found s r ≡ None → AddsChange q s events desk r now reply events
+adds-nothing q s events desk r now reply none = subst (λ (o : Option ChangeOf). AddsBy q o (book_at s events) events desk r now reply events) (sym none) refl
 
 -- what a request asks for under the settings of a book after events
 asked-at : (s : Settings) (events : List Event) (r : Request) (asks : Asked) → asks ≡ asked_in s r → asks ≡ asked_in (book_at s events).settings r
@@ -74,10 +75,12 @@ pub head-answers : (s : Settings) (r : Request) (now : ℕ) (name : Name) (row :
 head-answers s r now name row old new is reads alone = record {
   before = new.seen;
   begins = reads.begins;
+  lawful = reads.lawful;
   happened = reads.happened;
   step = inl (subst (λ (row : Result HeadRow Refusal). IsStep (book_at s new.seen) r now (head_reply row) (book_at s new.seen)) (sym reads.tells)
       (look-step (book_at s new.seen) r now name (asked-at s new.seen r (asked.Look name) is)));
-  adds = adds-nothing old.journal s new.seen old.number r now (head_reply row) (ap change_in (sym is));
+  frame = None;
+  adds = adds-nothing (queueing old None) s new.seen old.number r now (head_reply row) (ap change_in (sym is));
   moves = sees-more s old new alone;
   spends = ap (λ (d : Desk). d.room + journal_len old.journal new.seen) alone;
 }
@@ -101,7 +104,9 @@ sees-first s r now reply old ready new looks answers =
     record {
       before = seen.before;
       begins = prefix-on old.seen ready.seen seen.before looks.begins seen.begins;
+      lawful = seen.lawful;
       happened = seen.happened;
+      frame = seen.frame;
       step = seen.step;
       adds = seen.adds;
       moves = record {
@@ -116,13 +121,15 @@ sees-first s r now reply old ready new looks answers =
     }
 
 -- a request that is refused before the book is asked changes nothing, at a desk that has seen what happened
-pub refused-answers : (s : Settings) (r : Request) (now : ℕ) (why : Refusal) (desk : Desk) → asked.Refused why ≡ asked_in s r → HaveHappened s desk.seen → Answers s r now (refusing r why None) desk desk
-refused-answers s r now why desk is happened = record {
+pub refused-answers : (s : Settings) (r : Request) (now : ℕ) (why : Refusal) (desk : Desk) → asked.Refused why ≡ asked_in s r → settings_fault s ≡ None → HaveHappened s desk.seen → Answers s r now (refusing r why None) desk desk
+refused-answers s r now why desk is sound happened = record {
   before = desk.seen;
   begins = prefix-self desk.seen;
+  lawful = books_stay_lawful.opened s desk.seen sound happened;
   happened = happened;
   step = inl (refused-step (book_at s desk.seen) r now why (asked-at s desk.seen r (asked.Refused why) is));
-  adds = adds-nothing desk.journal s desk.seen desk.number r now (refusing r why None) (ap change_in (sym is));
+  frame = None;
+  adds = adds-nothing (queueing desk None) s desk.seen desk.number r now (refusing r why None) (ap change_in (sym is));
   moves = record { number = refl; journal = refl; kept = refl; charged = refl; released = refl; made = refl };
   spends = refl;
 }

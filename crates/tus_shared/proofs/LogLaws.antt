@@ -1,5 +1,5 @@
 -- That all desks answer in one list of events.
-use Rattle.std.proofs.Common.{ℕ, List, [], ◌∷◌, ◌++◌, append_assoc, Option, Some, None, inl, inr, ap, sym, subst, ◌∙◌}
+use Rattle.std.proofs.Common.{ℕ, List, [], ◌∷◌, ◌++◌, append_assoc, Option, Some, None, inl, inr, ap, refl, sym, subst, ◌∙◌}
 use Rattle.std.proofs.lemmas.List.{append-nil}
 use Rattle.std.proofs.lemmas.List.Elements.{All-head, All-tail}
 use mathlib.Core.List.{IsPrefix}
@@ -12,7 +12,8 @@ use Rattle.tus_steps.specs.Request.{Request}
 use Rattle.head_board.specs.Event.{Event}
 use Rattle.head_board.specs.Events.{book_at}
 use Rattle.tus_shared.specs.Answers.{Answers, AnswersBatch}
-use Rattle.tus_shared.specs.Desk.{Desk}
+use Rattle.tus_shared.specs.Desk.{Desk, queueing}
+use Rattle.tus_shared.specs.Journal.{Queueing}
 use Rattle.tus_shared.specs.Laws.{AreAnsweredIn, OneLog}
 use Rattle.tus_shared.specs.Steps.{AddsBy}
 use Rattle.tus_shared.specs.Turn.{Turn}
@@ -25,16 +26,16 @@ pub prefix-on : (a b c : List Event) → IsPrefix a b → IsPrefix b c → IsPre
 prefix-on a b c p q = (p.0 ++ q.0, sym (append_assoc a p.0 q.0) ∙ ap (λ (events : List Event). events ++ q.0) p.1 ∙ q.1)
 
 -- what was before a turn begins what is after it
-adds-more : (journal : Option ℕ) (asked : Option ChangeOf) (b : PlainBook) (before : List Event) (desk : ℕ) (r : Request) (now : ℕ) (reply : Reply) (after : List Event) → AddsBy journal asked b before desk r now reply after → IsPrefix before after
-adds-more journal None b before desk r now reply after same = subst (IsPrefix before) (sym same) (prefix-self before)
-adds-more journal (Some asked) b before desk r now reply after adds = elim (adds.2) [
+adds-more : (q : Queueing) (asked : Option ChangeOf) (b : PlainBook) (before : List Event) (desk : ℕ) (r : Request) (now : ℕ) (reply : Reply) (after : List Event) → AddsBy q asked b before desk r now reply after → IsPrefix before after
+adds-more q None b before desk r now reply after same = subst (IsPrefix before) (sym same) (prefix-self before)
+adds-more q (Some asked) b before desk r now reply after adds = elim (adds.2) [
   | inl made ↦ (record { desk = desk; change = asked.change; now = now } ∷ [], sym made.0.next)
   | inr left ↦ subst (IsPrefix before) (sym left.same) (prefix-self before)
 ]
 
 -- so a desk only sees more, by a turn
 pub sees-on : (s : Settings) (r : Request) (now : ℕ) (reply : Reply) (old new : Desk) → Answers s r now reply old new → IsPrefix old.seen new.seen
-sees-on s r now reply old new answers = prefix-on old.seen answers.before new.seen answers.begins (adds-more old.journal (change_found s r) (book_at s answers.before) answers.before old.number r now reply new.seen answers.adds)
+sees-on s r now reply old new answers = prefix-on old.seen answers.before new.seen answers.begins (adds-more (queueing old answers.frame) (change_found s r) (book_at s answers.before) answers.before old.number r now reply new.seen answers.adds)
 
 -- and by a batch
 pub batch-on : (s : Settings) (batch : List Turn) (replies : List Reply) (old new : Desk) → AnswersBatch s batch replies old new → IsPrefix old.seen new.seen
@@ -56,7 +57,10 @@ batch-in s all (turn ∷ batch) (reply ∷ replies) old new answers within =
       record {
         before = here.before;
         begins = here.begins;
+        lawful = here.lawful;
         within = prefix-on between.seen new.seen all (batch-on s batch replies between new answers.2) within;
+        queueing = queueing old here.frame;
+        keyed = refl;
         step = here.step;
         adds = here.adds;
       },

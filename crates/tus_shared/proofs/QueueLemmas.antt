@@ -1,6 +1,6 @@
 -- What waits in the queue of a store, step by step.
 use Rattle.std.specs.Prelude.{⊤}
-use Rattle.std.proofs.Common.{◌≡◌, ℕ, suc, length-append, ◌+◌, ◌≤◌, Bool, true, false, List, [], ◌∷◌, ◌++◌, append_assoc, zero-add, length, map, Option, Some, None, is_some, IsSome, IfSome, option_map, refl, sym, ap, ap₂, subst, ◌∙◌, arith}
+use Rattle.std.proofs.Common.{◌≡◌, ℕ, suc, length-append, ◌+◌, ◌<◌, ◌≤◌, Bool, true, false, List, [], ◌∷◌, ◌++◌, append_assoc, zero-add, length, map, Option, Some, None, is_some, IsSome, IfSome, option_map, Ok, Err, refl, sym, ap, ap₂, subst, ◌∙◌, arith}
 use Rattle.std.proofs.lemmas.List.{append-nil, map-append}
 use Rattle.std.proofs.lemmas.List.Sums.{sum_by-append}
 use mathlib.Core.List.{IsPrefix}
@@ -12,9 +12,11 @@ use Rattle.upload_book.specs.PlainBook.{PlainBook, opening_book}
 use Rattle.upload_book.specs.Settings.{Settings}
 use Rattle.head_board.specs.Event.{Event}
 use Rattle.head_board.specs.Events.{HaveHappened, book_at, change_event}
-use Rattle.tus_shared.specs.Journal.{AreTaken, CanBeReplayed, change_frame, event_frame, event_frames, journal_len}
+use Rattle.tus_shared.specs.declared.unqueued.Unqueued.{Unqueued}
+use Rattle.tus_shared.specs.declared.unqueued.Unqueued.TheVariants.{NoFrame, NoPlace, NoRoom}
+use Rattle.tus_shared.specs.Journal.{AreTaken, CanBeReplayed, IsUnqueued, change_frame, event_frame, event_frames, journal_len, spare_of}
 use Rattle.tus_shared.specs.Finals.{RestoreNothing, RestoresNothing}
-use Rattle.tus_shared.specs.inside.QueueRule.{IsFramed, IsQueued, QueueView, Takes, Waits, new_queue, passed}
+use Rattle.tus_shared.specs.inside.QueueRule.{IsFramed, IsLacking, IsQueued, QueueView, Takes, Waits, new_queue, passed}
 use Rattle.tus_shared.proofs.ChangeLemmas.{event_by}
 use Rattle.tus_shared.proofs.FinalLemmas.{none-restored, restored-on}
 
@@ -60,9 +62,9 @@ joined-on journal events after e next joins before none = restored-on events aft
 
 -- the queue of a store after one event more
 pub queue-on : (s : Settings) (journal : Option ℕ) (log : Book) (events after : List Event) (e : Event) (frame : Option (List ℕ)) (old new : Option QueueView) (room spare left : ℕ)
-    → IsFramed true old frame room spare new left → IsFrameOf journal e frame → after ≡ events ++ e ∷ [] → Happens (book_at s events) (change_event e) → (journal ≡ None → RestoresNothing e.change)
+    → IsFramed (Ok tt) old frame room spare new left → IsFrameOf journal e frame → after ≡ events ++ e ∷ [] → Happens (book_at s events) (change_event e) → (journal ≡ None → RestoresNothing e.change)
     → IsQueued s journal log events old → IsQueued s journal log after new
-queue-on s journal log events after e frame None new room spare left framed is next here joins queued = subst (IsQueued s journal log after) (sym framed.1) (record { there = queued.there; waits = tt; joined = joined-on journal events after e next joins queued.joined })
+queue-on s journal log events after e frame None new room spare left framed is next here joins queued = subst (IsQueued s journal log after) (sym framed.0) (record { there = queued.there; waits = tt; joined = joined-on journal events after e next joins queued.joined })
 queue-on s journal log events after e frame (Some waiting) new room spare left framed is next here joins queued =
     let w : Waits s journal log events waiting = queued.waits in
     let frames : waiting.frames ++ framed.bytes ∷ [] ≡ event_frames journal w.more ++ event_frame journal e ∷ [] = ap₂ (λ (fs : List (List ℕ)) (b : List ℕ). fs ++ b ∷ []) w.frames_are (frame-is journal e frame framed.bytes framed.is is) in
@@ -79,20 +81,38 @@ queue-on s journal log events after e frame (Some waiting) new room spare left f
     })
 
 -- where no frame is queued, there is a queue, and it stays
-pub queue-stays : (frame : Option (List ℕ)) (old new : Option QueueView) (room spare left : ℕ) → IsFramed false old frame room spare new left → (new ≡ old) × (left ≡ room) × IsSome old
-queue-stays frame None new room spare left framed = absurd (cc (framed.0))
-queue-stays frame (Some waiting) new room spare left framed = (framed.0, framed.1, refl)
+pub queue-stays : (why : Unqueued) (frame : Option (List ℕ)) (old new : Option QueueView) (room spare left : ℕ) → IsFramed (Err why) old frame room spare new left → (new ≡ old) × (left ≡ room) × IsSome old
+queue-stays why frame None new room spare left framed = absurd framed
+queue-stays why frame (Some waiting) new room spare left framed = (framed.0, framed.1, refl)
+
+-- why that of an event is not
+lacking-why : (journal : Option ℕ) (e : Event) (why : Unqueued) (frame : Option (List ℕ)) (waiting : QueueView) (room : ℕ) → IsLacking waiting frame room (spare_of e.change) why → IsFrameOf journal e frame
+    → IsUnqueued (record { journal = journal; frame = frame; room = room }) e.change e.now why
+lacking-why journal e NoFrame frame waiting room lacks is = lacks
+lacking-why journal e NoRoom frame waiting room lacks is =
+    subst (λ (bytes : List ℕ). room < length bytes + spare_of e.change) (frame-is journal e frame lacks.0 lacks.1 is) lacks.2
+lacking-why journal e NoPlace frame waiting room lacks is = (
+  ap is_some lacks.1,
+  subst (λ (bytes : List ℕ). length bytes + spare_of e.change ≤ room) (frame-is journal e frame lacks.0 lacks.1 is) lacks.2,
+)
+
+pub framed-why : (journal own : Option ℕ) (e : Event) (why : Unqueued) (frame : Option (List ℕ)) (old new : Option QueueView) (room spare left : ℕ) → IsFramed (Err why) old frame room spare new left
+    → IsFrameOf journal e frame → spare ≡ spare_of e.change → own ≡ journal → IsUnqueued (record { journal = own; frame = frame; room = room }) e.change e.now why
+framed-why journal own e why frame None new room spare left framed is same keyed = absurd framed
+framed-why journal own e why frame (Some waiting) new room spare left framed is same keyed =
+    subst (λ (j : Option ℕ). IsUnqueued (record { journal = j; frame = frame; room = room }) e.change e.now why) (sym keyed)
+    (lacking-why journal e why frame waiting room (subst (λ (n : ℕ). IsLacking waiting frame room n why) same framed.2) is)
 
 -- the room falls by the frame of the event
 pub framed-spends : (journal : Option ℕ) (e : Event) (frame : Option (List ℕ)) (old new : Option QueueView) (room spare left : ℕ)
-    → IsFramed true old frame room spare new left → IsFrameOf journal e frame → is_some old ≡ is_some journal → left + length (event_frame journal e) ≡ room
-framed-spends None e frame None new room spare left framed is there = omega (arith, framed.2)
+    → IsFramed (Ok tt) old frame room spare new left → IsFrameOf journal e frame → is_some old ≡ is_some journal → left + length (event_frame journal e) ≡ room
+framed-spends None e frame None new room spare left framed is there = omega (arith, framed.1)
 framed-spends (Some key) e frame None new room spare left framed is there = absurd (cc (there))
 framed-spends journal e frame (Some waiting) new room spare left framed is there = ap (λ (b : List ℕ). left + length b) (sym (frame-is journal e frame framed.bytes framed.is is)) ∙ framed.spent
 
 -- and has what is to be spared
 pub framed-spares : (journal : Option ℕ) (frame : Option (List ℕ)) (old new : Option QueueView) (room spare left : ℕ)
-    → IsFramed true old frame room spare new left → is_some old ≡ is_some journal → IsSome journal → spare ≤ left
+    → IsFramed (Ok tt) old frame room spare new left → is_some old ≡ is_some journal → IsSome journal → spare ≤ left
 framed-spares journal frame None new room spare left framed there journalled = absurd (let no : false ≡ true = there ∙ journalled in cc)
 framed-spares journal frame (Some waiting) new room spare left framed there journalled = framed.spared
 

@@ -5,10 +5,12 @@ use Rattle.std.proofs.lemmas.List.{get_or-set_same}
 use mathlib.Core.List.{IsPrefix}
 use Rattle.upload_book.specs.Account.{account_in}
 use Rattle.upload_book.specs.Append.{append_answer, append_lacking, append_refusal, part_after_append, upload_with}
+use Rattle.upload_book.specs.Change.{change_lacking}
 use Rattle.upload_book.specs.Chunk.{Chunk}
 use Rattle.upload_book.specs.declared.append.Appended.{Appended}
 use Rattle.upload_book.specs.declared.append.Refused.{Refused}
-use Rattle.upload_book.specs.declared.change.Change.TheVariants.{Sweep}
+use Rattle.upload_book.specs.declared.change.Change.{Change}
+use Rattle.upload_book.specs.declared.change.Change.TheVariants as change
 use Rattle.upload_book.specs.declared.head_row.HeadRow.{HeadRow}
 use Rattle.upload_book.specs.declared.head_row.Name.{Name}
 use Rattle.upload_book.specs.declared.operation.Operation.{Operation}
@@ -26,6 +28,7 @@ use Rattle.upload_book.proofs.Heads.HeadParts.{head_part-tenant, row-kept, visib
 use Rattle.upload_book.proofs.Heads.HeadsAppend.{row-stands}
 use Rattle.upload_book.proofs.Lawful.AppendLemmas.{part_after_append-none}
 use Rattle.upload_book.proofs.Lawful.Entries.{kept_in-with_same, visible_in-Ok}
+use Rattle.tus_steps.specs.Changing.{change_reply}
 use Rattle.tus_steps.specs.declared.reply.Reply.{Reply}
 use Rattle.tus_steps.specs.declared.reply.Reply.TheVariants as reply
 use Rattle.tus_steps.specs.Method.{is_options}
@@ -38,11 +41,12 @@ use Rattle.head_board.specs.Events.{HaveHappened, book_at}
 use Rattle.head_board.specs.Laws.{IsLaterBook}
 use Rattle.head_board.proofs.LineLemmas.{later_events}
 use Rattle.tus_shared.specs.Answers.{Answers, SeesHead, Sweeps}
-use Rattle.tus_shared.specs.Desk.{Desk}
+use Rattle.tus_shared.specs.Desk.{Desk, queueing}
+use Rattle.tus_shared.specs.Journal.{Queueing}
 use Rattle.tus_shared.specs.Laws.{LaterAnswers, TellsOffset}
 use Rattle.tus_shared.specs.Steps.{IsStepAt, IsSweepAt}
 use Rattle.tus_shared.specs.Turn.{Turn}
-use Rattle.tus_shared.proofs.EventLemmas.{at-settings}
+use Rattle.head_board.proofs.SettingsLemmas.{at-settings}
 use Rattle.tus_shared.proofs.LogLaws.{prefix-on, prefix-self, sees-on}
 
 -- the book has so many bytes of the upload of the name
@@ -140,10 +144,19 @@ step-by : (options : Bool) (b after : PlainBook) (r : Request) (now most : ℕ) 
 step-by true b after r now most told op not step is = absurd (not (step.0 ∙ ap reply.Options is))
 step-by false b after r now most told op not step is = step
 
+-- where memory lacks for a change, the reply is one of a refusal
+lacking-refuses : (b : PlainBook) (r : Request) (offset : Option ℕ) (change : Change) (now : ℕ) → IsRefusing (change_reply r offset (change_lacking b change now))
+lacking-refuses b r offset (change.Create tenant new first) now = tt
+lacking-refuses b r offset (change.Append name chunk) now = tt
+lacking-refuses b r offset (change.Concat tenant new) now = tt
+lacking-refuses b r offset (change.Terminate name) now = tt
+lacking-refuses b r offset change.Sweep now = tt
+lacking-refuses b r offset (change.Restore restored) now = tt
+
 -- a reply that tells of an upload is none of a refusal, so it is that of the plain book's step
-told-step : (journal : Option ℕ) (b after : PlainBook) (r : Request) (now : ℕ) (told : Reply) → (IsRefusing told → ⊥) → IsStepAt journal b r now told after → IsStep b r now told after
-told-step journal b after r now told tells (inl step) = step
-told-step journal b after r now told tells (inr unkept) = absurd (tells (subst IsRefusing (sym unkept.told) tt))
+told-step : (q : Queueing) (b after : PlainBook) (r : Request) (now : ℕ) (told : Reply) → (IsRefusing told → ⊥) → IsStepAt q b r now told after → IsStep b r now told after
+told-step q b after r now told tells (inl step) = step
+told-step q b after r now told tells (inr unkept) = absurd (tells (subst IsRefusing (sym unkept.told) (lacking-refuses b r unkept.asked.offset unkept.asked.change now)))
 
 -- the book has, after a turn of a desk, what its reply tells
 turn-has : (s : Settings) (turn : Turn) (told : Reply) (old new : Desk) (name : Name) (offset : ℕ) → Answers s turn.request turn.now told old new → TellsOffset s turn told name offset → HasOffset (book_at s new.seen) name offset
@@ -154,12 +167,12 @@ turn-has s turn told old new name offset answers tells =
     elim tells [
       | inl head ↦
           let other : told ≡ reply.Options before.settings.numbers.max_size → ⊥ = λ options. absurd (let is = head.is in cc) in
-          let by = step-by (is_options turn.request.method) before after turn.request turn.now _ told (operation_of before.settings turn.request) other (told-step old.journal before after turn.request turn.now told (λ refuses. subst IsRefusing head.is refuses) answers.step) refl in
+          let by = step-by (is_options turn.request.method) before after turn.request turn.now _ told (operation_of before.settings turn.request) other (told-step (queueing old answers.frame) before after turn.request turn.now told (λ refuses. subst IsRefusing head.is refuses) answers.step) refl in
           let asks : operation_of before.settings turn.request ≡ Ok (operation.Look name) = ap (λ (s : Settings). operation_of s turn.request) settings ∙ head.asks in
           subst (HasOffset after name) head.tells (look-step before after turn.request turn.now told name head.row (subst (λ (op : Result Operation Refusal). IsStepBy before turn.request turn.now op told after) asks by) head.is)
       | inr patch ↦
           let other : told ≡ reply.Options before.settings.numbers.max_size → ⊥ = λ options. absurd (let is = patch.is in cc) in
-          let by = step-by (is_options turn.request.method) before after turn.request turn.now _ told (operation_of before.settings turn.request) other (told-step old.journal before after turn.request turn.now told (λ refuses. subst IsRefusing patch.is refuses) answers.step) refl in
+          let by = step-by (is_options turn.request.method) before after turn.request turn.now _ told (operation_of before.settings turn.request) other (told-step (queueing old answers.frame) before after turn.request turn.now told (λ refuses. subst IsRefusing patch.is refuses) answers.step) refl in
           let asks : operation_of before.settings turn.request ≡ Ok (operation.Append name patch.chunk) = ap (λ (s : Settings). operation_of s turn.request) settings ∙ patch.asks in
           patch-step before after turn.request turn.now told name patch.chunk offset patch.expires (subst (λ (op : Result Operation Refusal). IsStepBy before turn.request turn.now op told after) asks by) patch.is
     ]
@@ -174,13 +187,13 @@ has-more s events later name less more begins happened first last =
     omega (arith, becomes.offset, first.has, last.has)
 
 -- what was before a sweep begins what is after it
-sweep-more : (journal : Option ℕ) (s : Settings) (before : List Event) (desk now : ℕ) (swept : Option Swept) (after : List Event) → IsSweepAt journal s before desk now swept after → IsPrefix before after
-sweep-more journal s before desk now (Some swept) after sweep = (record { desk = desk; change = Sweep; now = now } ∷ [], sym sweep.next)
-sweep-more journal s before desk now None after sweep = subst (IsPrefix before) (sym sweep.1) (prefix-self before)
+sweep-more : (q : Queueing) (s : Settings) (before : List Event) (desk now : ℕ) (swept : Option Swept) (after : List Event) → IsSweepAt q s before desk now swept after → IsPrefix before after
+sweep-more q s before desk now (Some swept) after sweep = (record { desk = desk; change = change.Sweep; now = now } ∷ [], sym sweep.next)
+sweep-more q s before desk now None after sweep = subst (IsPrefix before) (sym sweep.1) (prefix-self before)
 
 -- a desk sees more by a sweep, and by a HEAD
 sweep-on : (s : Settings) (now : ℕ) (swept : Option Swept) (old new : Desk) → Sweeps s now swept old new → IsPrefix old.seen new.seen
-sweep-on s now swept old new sweeps = prefix-on old.seen sweeps.before new.seen sweeps.begins (sweep-more old.journal s sweeps.before old.number now swept new.seen sweeps.sweep)
+sweep-on s now swept old new sweeps = prefix-on old.seen sweeps.before new.seen sweeps.begins (sweep-more (queueing old sweeps.frame) s sweeps.before old.number now swept new.seen sweeps.sweep)
 
 head-on : (s : Settings) (name : Name) (now : ℕ) (row : Result HeadRow Refusal) (old new : Desk) → SeesHead s name now row old new → IsPrefix old.seen new.seen
 head-on s name now row old new sees = elim sees [

@@ -1,5 +1,5 @@
 -- What a desk answers. Nobody knows what happened to the book behind a lock before the lock is taken. So a reply is that of
--- the plain book after some events, which begin with those that the desk has seen.
+-- the plain book after some events, which begin with those that the desk has seen. That book is lawful.
 use Rattle.std.specs.Prelude.{◌≡◌, ◌⊎◌, ⊤, ℕ, true, List, [], ◌∷◌, Option, Result, Ok, Err, IsErr}
 use mathlib.Core.List.{IsPrefix}
 use Rattle.upload_book.specs.declared.change.Change.{Change}
@@ -9,6 +9,7 @@ use Rattle.upload_book.specs.declared.operation.Operation.TheVariants.{Look}
 use Rattle.upload_book.specs.declared.refusal.Refusal.{Refusal}
 use Rattle.upload_book.specs.declared.refusal.Refusal.TheVariants.{Board}
 use Rattle.upload_book.specs.declared.sweep.Swept.{Swept}
+use Rattle.upload_book.specs.Lawful.{IsLawful}
 use Rattle.upload_book.specs.Settings.{Settings}
 use Rattle.tus_steps.specs.declared.reply.Reply.{Reply}
 use Rattle.tus_steps.specs.Method.{is_head}
@@ -18,20 +19,22 @@ use Rattle.head_board.specs.Board.{ReadsHead}
 use Rattle.head_board.specs.Event.{Event}
 use Rattle.head_board.specs.Events.{HaveHappened, book_at}
 use Rattle.tus_shared.specs.declared.again_fault.AgainFault.{AgainFault}
-use Rattle.tus_shared.specs.Desk.{Desk, Moves, Spends, next_count}
+use Rattle.tus_shared.specs.Desk.{Desk, Moves, Spends, next_count, queueing}
 use Rattle.tus_shared.specs.Steps.{AddsChange, IsDoneAgain, IsStepAt, IsSweepAt}
 use Rattle.tus_shared.specs.Turn.{Turn}
 
 -- The desk answers the request at a moment with this reply. It is the plain book's, after events that begin with all that
--- the desk has seen; with a journal, a change may also be refused since there is no room for its record. What the request
+-- the desk has seen; with a journal, a change may also be refused since its record is not queued. What the request
 -- changes is the next event, made at this desk, and then the desk has seen it too. Its shares rise by what that charges and
 -- releases, and by the event.
 pub record Answers (s : Settings) (request : Request) (now : ℕ) (reply : Reply) (old new : Desk) : Type 0 where
   pub before : List Event
   pub begins : IsPrefix old.seen before
+  pub lawful : IsLawful (book_at s before)
   pub happened : HaveHappened s new.seen
-  pub step : IsStepAt old.journal (book_at s before) request now reply (book_at s new.seen)
-  pub adds : AddsChange old.journal s before old.number request now reply new.seen
+  pub frame : Option (List ℕ)
+  pub step : IsStepAt (queueing old frame) (book_at s before) request now reply (book_at s new.seen)
+  pub adds : AddsChange (queueing old frame) s before old.number request now reply new.seen
   pub moves : Moves s before new.seen old new
   pub spends : Spends before new.seen old new
 
@@ -39,8 +42,10 @@ pub record Answers (s : Settings) (request : Request) (now : ℕ) (reply : Reply
 pub record Sweeps (s : Settings) (now : ℕ) (swept : Option Swept) (old new : Desk) : Type 0 where
   pub before : List Event
   pub begins : IsPrefix old.seen before
+  pub lawful : IsLawful (book_at s before)
   pub happened : HaveHappened s new.seen
-  pub sweep : IsSweepAt old.journal s before old.number now swept new.seen
+  pub frame : Option (List ℕ)
+  pub sweep : IsSweepAt (queueing old frame) s before old.number now swept new.seen
   pub moves : Moves s before new.seen old new
   pub spends : Spends before new.seen old new
 
@@ -48,6 +53,7 @@ pub record Sweeps (s : Settings) (now : ℕ) (swept : Option Swept) (old new : D
 pub record MakesAgain (s : Settings) (change : Change) (now : ℕ) (result : Result ⊤ AgainFault) (old new : Desk) : Type 0 where
   pub before : List Event
   pub begins : IsPrefix old.seen before
+  pub lawful : IsLawful (book_at s before)
   pub happened : HaveHappened s new.seen
   pub again : IsDoneAgain s before old.number change now result new.seen
   pub moves : Moves s before new.seen old new

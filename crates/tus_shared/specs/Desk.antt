@@ -3,7 +3,7 @@ use Rattle.std.specs.Prelude.{◌≡◌, ℕ, zero, suc, ◌+◌, ◌%◌, ◌^�
 use Rattle.upload_book.specs.Settings.{Settings}
 use Rattle.head_board.specs.Event.{Event}
 use Rattle.head_board.specs.Events.{book_at}
-use Rattle.tus_shared.specs.Journal.{journal_len}
+use Rattle.tus_shared.specs.Journal.{Queueing, journal_len}
 
 -- Its number among the desks of one opening, from 0; the key under which changes are journalled, where they are; its three
 -- shares: how many blocks the steps that it made charged, how many they released, and how many of them changed the book; the
@@ -35,6 +35,10 @@ new_desk journal number = record {
   missed = false;
   steps = 0;
 }
+
+-- what the desk has for the record of a change of which this frame was made
+abbrev pub queueing : Desk → Option (List ℕ) → Queueing
+queueing desk frame = record { journal = desk.journal; frame = frame; room = desk.room }
 
 -- the count after this one: after the last that a word holds comes 0
 abbrev pub next_count : ℕ → ℕ

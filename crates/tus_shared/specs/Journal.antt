@@ -1,5 +1,5 @@
 -- The journal of a store: the frames of the records of what happened, one for each event, which wait to be written.
-use Rattle.std.specs.Prelude.{◌≡◌, ℕ, ◌-◌, ◌*◌, ◌^◌, min, List, [], ◌∷◌, ◌++◌, length, map, Option, Some, None}
+use Rattle.std.specs.Prelude.{◌≡◌, ℕ, ◌+◌, ◌-◌, ◌*◌, ◌^◌, ◌<◌, ◌≤◌, min, List, [], ◌∷◌, ◌++◌, length, map, Option, Some, None, IsSome}
 use Rattle.std.specs.List.{sum_by}
 use Rattle.book_replay.specs.Replay.{AllHappen}
 use Rattle.journal_frames.specs.Frames.{frames}
@@ -12,6 +12,8 @@ use Rattle.upload_book.specs.PlainBook.{PlainBook}
 use Rattle.upload_book.specs.Settings.{Settings}
 use Rattle.head_board.specs.Event.{Event}
 use Rattle.head_board.specs.Events.{HaveHappened, book_at, change_event}
+use Rattle.tus_shared.specs.declared.unqueued.Unqueued.{Unqueued}
+use Rattle.tus_shared.specs.declared.unqueued.Unqueued.TheVariants.{NoFrame, NoPlace, NoRoom}
 
 -- the frame of the record of a change and its moment, under the key of the journal; without a journal there is none
 abbrev pub change_frame : Option ℕ → Change → ℕ → List ℕ
@@ -39,6 +41,24 @@ spare_of (change.Concat tenant new) = 65536
 spare_of (change.Terminate name) = 0
 spare_of change.Sweep = 0
 spare_of (change.Restore restored) = 65536
+
+-- What a desk has for the record of a change: the key of the journal, if there is one; the frame that was made of it before the
+-- lock was taken, if one could be made; and how many bytes of records the desk may still queue.
+pub record Queueing : Type 0 where
+  pub journal : Option ℕ
+  pub frame : Option (List ℕ)
+  pub room : ℕ
+
+-- how many bytes of room the record of a change wants
+abbrev pub wanted_room : Option ℕ → Change → ℕ → ℕ
+wanted_room journal change now = length (change_frame journal change now) + spare_of change
+
+-- Why the record of a change is not queued: there is no frame of it; or the room is less than it wants; or there are both, and
+-- the queue had no place for one frame more, which is seen of the queue alone.
+abbrev pub IsUnqueued : Queueing → Change → ℕ → Unqueued → Type 0
+IsUnqueued q change now NoFrame = q.frame ≡ None
+IsUnqueued q change now NoRoom = q.room < wanted_room q.journal change now
+IsUnqueued q change now NoPlace = IsSome q.frame × (wanted_room q.journal change now ≤ q.room)
 
 -- The events happened, one after another, to the book after those before them, and each can be made again of its record: a
 -- book may be asked for its change and accepts it, and a record holds its numbers (`book_replay/specs/Replay`, `Happens`).

@@ -11,6 +11,7 @@ use Rattle.upload_book.specs.declared.head_row.Name.{Name}
 use Rattle.upload_book.specs.declared.operation.Operation.TheVariants.{Append, Look}
 use Rattle.upload_book.specs.declared.refusal.Refusal.{Refusal}
 use Rattle.upload_book.specs.declared.sweep.Swept.{Swept}
+use Rattle.upload_book.specs.Lawful.{IsLawful}
 use Rattle.upload_book.specs.PlainBook.{PlainBook}
 use Rattle.upload_book.specs.Refusal.{IsAnswer}
 use Rattle.upload_book.specs.Settings.{Settings}
@@ -23,6 +24,7 @@ use Rattle.head_board.specs.Event.{Event}
 use Rattle.head_board.specs.Events.{book_at}
 use Rattle.tus_shared.specs.Answers.{AllFour, Answers, AnswersBatch, SeesHead, Sweeps}
 use Rattle.tus_shared.specs.Desk.{Desk}
+use Rattle.tus_shared.specs.Journal.{Queueing}
 use Rattle.tus_shared.specs.Steps.{AddsChange, IsLeft, IsStepAt, IsSweep, IsSweepAt}
 use Rattle.tus_shared.specs.Turn.{Turn}
 
@@ -32,9 +34,12 @@ use Rattle.tus_shared.specs.Turn.{Turn}
 pub record IsAnsweredIn (s : Settings) (journal : Option ℕ) (all : List Event) (number : ℕ) (turn : Turn) (reply : Reply) (seen after : List Event) : Type 0 where
   pub before : List Event
   pub begins : IsPrefix seen before
+  pub lawful : IsLawful (book_at s before)
   pub within : IsPrefix after all
-  pub step : IsStepAt journal (book_at s before) turn.request turn.now reply (book_at s after)
-  pub adds : AddsChange journal s before number turn.request turn.now reply after
+  pub queueing : Queueing
+  pub keyed : queueing.journal ≡ journal
+  pub step : IsStepAt queueing (book_at s before) turn.request turn.now reply (book_at s after)
+  pub adds : AddsChange queueing s before number turn.request turn.now reply after
 
 -- so is a batch, each turn after the one before
 abbrev pub AreAnsweredIn : Settings → Option ℕ → List Event → ℕ → List Turn → List Reply → List Event → Type 0
@@ -82,12 +87,16 @@ pub record LaterAnswers : Type 0 where
       → (name : Name) (less more : ℕ) → TellsOffset s first reply name less → TellsOffset s later other name more → less ≤ more
 
 -- Without a journal a step is the plain book's, a change that is left is refused by its answer or for want of memory, and a
--- sweep is made: no case of want of room is left.
+-- sweep is made: none is left since its record is not queued.
 pub record WithoutAJournal : Type 0 where
-  pub step : (b : PlainBook) (r : Request) (now : ℕ) (reply : Reply) (after : PlainBook) → IsStepAt None b r now reply after → IsStep b r now reply after
+  pub step :
+      (q : Queueing) (b : PlainBook) (r : Request) (now : ℕ) (reply : Reply) (after : PlainBook)
+      → q.journal ≡ None → IsStepAt q b r now reply after → IsStep b r now reply after
   pub left :
-      (b : PlainBook) (before : List Event) (change : Change) (now : ℕ) (result : Result Outcome Refused) (after : List Event)
-      → IsLeft None b before change now result after → IsAnswer (change_answer b change now) (MayLackFor b change now) (change_lacking b change now) result
+      (q : Queueing) (b : PlainBook) (before : List Event) (change : Change) (now : ℕ) (result : Result Outcome Refused) (after : List Event)
+      → q.journal ≡ None → IsLeft q b before change now result after
+      → IsAnswer (change_answer b change now) (MayLackFor b change now) (change_lacking b change now) result
   pub sweep :
-      (s : Settings) (before : List Event) (desk now : ℕ) (swept : Option Swept) (after : List Event)
-      → IsSweepAt None s before desk now swept after → (told : Swept) × (swept ≡ Some told) × IsSweep s before desk now told after
+      (q : Queueing) (s : Settings) (before : List Event) (desk now : ℕ) (swept : Option Swept) (after : List Event)
+      → q.journal ≡ None → IsSweepAt q s before desk now swept after
+      → (told : Swept) × (swept ≡ Some told) × IsSweep s before desk now told after

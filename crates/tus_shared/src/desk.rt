@@ -215,6 +215,8 @@ impl<C: Charges, R: Ledger, M: Ledger> Desk<C, R, M> {
     )
         ensures { AnswersTurn C.settings request.now now (reply_in reply.new) self.old self.new }
     {
+        // the contract of this call tells that the settings have no fault
+        let _sound = self.settings.numbers();
         let mut ids = PartIds::new();
         match asked_of(&self.settings, request, &mut ids) {
             Asked::Look(name) => {

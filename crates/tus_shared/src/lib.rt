@@ -19,6 +19,7 @@ mod shared;
 mod store;
 mod store_ledger;
 mod turn;
+mod unqueued;
 mod work;
 mod work_fault;
 
@@ -34,5 +35,6 @@ pub use queue::{Records, RecordsAndSnapshot};
 pub use shared::Shared;
 pub use store::Store;
 pub use turn::Turn;
+pub use unqueued::Unqueued;
 pub use work::work_all;
 pub use work_fault::WorkFault;

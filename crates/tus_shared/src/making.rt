@@ -1,11 +1,11 @@
 //! How a change is made for which the book is ready.
-ghost use Rattle.std.specs.Prelude.{◌≡◌, ◌++◌, ◌∷◌, [], Ok};
+ghost use Rattle.std.specs.Prelude.{◌≡◌, ◌++◌, ◌∷◌, [], Ok, length};
 ghost use Rattle.head_board.specs.Events.{IsLineOf, book_at, event_of};
 ghost use Rattle.tus_shared.specs.Desk.{Moves};
 ghost use Rattle.tus_shared.specs.Steps.{IsNextEvent};
 ghost use Rattle.tus_shared.specs.inside.StoreRule.{IsStore};
 ghost use Rattle.upload_book.specs.Book.{plain_of};
-ghost use Rattle.upload_book.specs.Change.{change_answer};
+ghost use Rattle.upload_book.specs.Change.{CanBeMade, change_answer};
 ghost use Rattle.upload_book.specs.declared.board_line.BoardLine.{BoardLine};
 ghost use Rattle.upload_book.specs.Lawful.{IsLawful};
 ghost use Rattle.upload_book.specs.Ready.{IsReady, change_in, moment_in};
@@ -18,7 +18,7 @@ use std::sync::Wait;
 use std::sync::ledger::Ledger;
 use upload_book::{Book, Outcome, Ready};
 
-// Makes a change for which the book is ready, at a desk that has seen all events: its note is shown, and then the change,
+// Makes a change that the book may be asked for and is ready for, at a desk that has seen all events: its note is shown, and then the change,
 // which can no longer fail, is committed. So nothing is shown of a change that is not made.
 pub(crate) fn make_ready<C: Charges, R: Ledger, M: Ledger, B: Wait + Drop>(
     book: &mut Book,
@@ -30,6 +30,7 @@ pub(crate) fn make_ready<C: Charges, R: Ledger, M: Ledger, B: Wait + Drop>(
     ready: Ready,
 ) -> Outcome
     requires ready { IsReady book.old ready }
+    requires asked { CanBeMade (length C.settings.tenants) (change_in ready) }
     requires store { IsStore C.settings C.desks C.log (plain_of book.old) board.old
         (record { total = charged.old.book.total; parts = charged.old.rest.parts; rest = charged.old.rest.amount })
         (record { total = released.old.book.total; parts = released.old.rest.parts; rest = released.old.rest.amount })
@@ -70,6 +71,7 @@ pub(crate) fn make_ready<C: Charges, R: Ledger, M: Ledger, B: Wait + Drop>(
 // Shows the note of a change for which the book is ready, on the board of the book.
 fn show_note<B: Wait + Drop>(board: &mut Board<B>, book: &Book, coming: &Coming)
     requires ready { IsReady book.now coming.now.ready.now }
+    requires asked { CanBeMade (length board.old.settings.tenants) (event_of coming.now).change }
     requires book { plain_of book.now ≡ book_at board.old.settings board.old.events }
     ensures line { (line : BoardLine) × IsLineOf (plain_of book.now) (event_of coming.now) line }
     ensures shown { board.new ≡ record board.old { events = board.old.events ++ event_of coming.now ∷ [] } }

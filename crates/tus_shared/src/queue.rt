@@ -1,7 +1,8 @@
 //! What waits to be written to a journal.
-ghost use Rattle.std.specs.Prelude.{◌≡◌, ◌++◌, ◌∷◌, ◌-◌, ◌+◌, [], Some, None, IfNone, IfSome, IsTrue, ◌↔◌, MatchBool, map, nat_le, option_map, true, if◌then◌else◌};
-ghost use Rattle.tus_shared.specs.inside.QueueRule.{IsFramed, Queues, Takes, new_queue, passed};
+ghost use Rattle.std.specs.Prelude.{◌≡◌, ◌++◌, ◌∷◌, ◌+◌, ◌<◌, ◌≤◌, [], Some, IfNone, IfSome, IsTrue, ◌↔◌, false, length, map, option_map, if◌then◌else◌};
+ghost use Rattle.tus_shared.specs.inside.QueueRule.{IsFramed, Takes, new_queue, passed};
 
+use crate::unqueued::Unqueued;
 use book_replay::SnapshotFault;
 use core::mem;
 use head_board::SeenEvents;
@@ -36,18 +37,23 @@ pub(crate) struct RecordQueue {
 }
 
 impl Model for RecordQueue {
-    ghost use Rattle.std.specs.Prelude.{map};
+    ghost use Rattle.std.specs.Prelude.{map, vec_capacity};
     ghost use Rattle.tus_shared.specs.inside.QueueRule.{QueueView};
 
     ghost Value = { QueueView };
 
-    ghost view = { λ q. record { log = q.behind.book; behind = q.behind.events; frames = map (λ frame. frame.items) q.frames.items } };
+    ghost view = { λ q. record {
+      log = q.behind.book;
+      behind = q.behind.events;
+      frames = map (λ frame. frame.items) q.frames.items;
+      places = vec_capacity q.frames;
+    } };
 }
 
 impl RecordQueue {
     // A queue in which nothing waits, behind these events.
     pub(crate) fn new(alloc: Global, behind: SeenEvents) -> RecordQueue
-        ensures { result ≡ record { log = behind.book; behind = behind.events; frames = [] } }
+        ensures { result ≡ record { log = behind.book; behind = behind.events; frames = []; places = 0 } }
     {
         RecordQueue {
             alloc,
@@ -73,17 +79,23 @@ impl RecordQueue {
         no_less && no_more
     }
 
-    // Puts a frame behind those that wait. Says whether there was a place for it; else nothing is put.
+    // Puts a frame behind those that wait. Says whether there was a place for it: else nothing is put, all places are taken, and
+    // memory lacked for more.
     fn push(&mut self, frame: Vec<u8>) -> bool
-        ensures { self.new ≡ (if result then record self.old { frames = self.old.frames ++ frame.items ∷ [] } else self.old) }
+        ensures pushed { self.new ≡ (if result then record self.old { frames = self.old.frames ++ frame.items ∷ []; places = self.new.places } else self.old) }
+        ensures full { result ≡ false → self.old.places ≤ length self.old.frames }
     {
-        self.frames.push(frame).is_ok()
+        if self.frames.reserve(1).is_err() {
+            return false;
+        }
+        self.frames.push_reserved(frame);
+        true
     }
 
     // Takes all frames that wait, which reach to these events.
     pub(crate) fn take(&mut self, reached: SeenEvents) -> Vec<Vec<u8>>
         ensures frames { map (λ frame. frame.items) result.items ≡ self.old.frames }
-        ensures queue { self.new ≡ record { log = reached.book; behind = reached.events; frames = [] } }
+        ensures queue { self.new ≡ record { log = reached.book; behind = reached.events; frames = []; places = 0 } }
     {
         self.behind = reached;
         mem::replace(&mut self.frames, Vec::new(self.alloc))
@@ -91,50 +103,53 @@ impl RecordQueue {
 
     // From now on it begins behind these events.
     pub(crate) fn pass(&mut self, reached: SeenEvents)
-        ensures { self.new ≡ record { log = reached.book; behind = reached.events; frames = self.old.frames } }
+        ensures { self.new ≡ record self.old { log = reached.book; behind = reached.events } }
     {
         self.behind = reached;
     }
 }
 
-// Queues the frame of a record, where there is a queue. Says whether it did, or there is none: else there was no frame, no
-// place in the queue, or not so much room that after it some is spared, and nothing changes.
+// Queues the frame of a record, where there is a queue. The error is why it is not queued, and then nothing changes.
 pub(crate) fn queue_frame(
     queue: &mut Option<RecordQueue>,
     room: &mut u64,
     frame: Option<Vec<u8>>,
     spare: u64,
-) -> bool
+) -> Result<(), Unqueued>
     ensures { IsFramed result queue.old (option_map (λ f. f.items) frame) room.old spare queue.new room.new }
 {
     match queue {
         Some(waiting) => queue_in(waiting, room, frame, spare),
-        None => true,
+        None => Ok(()),
     }
 }
 
 // The same, in a queue that there is.
-fn queue_in(queue: &mut RecordQueue, room: &mut u64, frame: Option<Vec<u8>>, spare: u64) -> bool
-    ensures { MatchBool result
-        (Queues queue.old (option_map (λ f. f.items) frame) room.old spare (Some queue.new) room.new)
-        ((queue.new ≡ queue.old) × (room.new ≡ room.old)) }
+fn queue_in(
+    queue: &mut RecordQueue,
+    room: &mut u64,
+    frame: Option<Vec<u8>>,
+    spare: u64,
+) -> Result<(), Unqueued>
+    ensures { IsFramed result (Some queue.old) (option_map (λ f. f.items) frame) room.old spare (Some queue.new) room.new }
 {
     let Some(frame) = frame else {
-        return false;
+        return Err(Unqueued::NoFrame);
     };
     let Some(left) = left_of(*room, frame.len() as u64, spare) else {
-        return false;
+        return Err(Unqueued::NoRoom);
     };
     if !queue.push(frame) {
-        return false;
+        return Err(Unqueued::NoPlace);
     }
     *room = left;
-    true
+    Ok(())
 }
 
 // What is left of a room after so many bytes, where it is no less than what is to be spared.
 fn left_of(room: u64, len: u64, spare: u64) -> Option<u64>
-    ensures { result ≡ (if nat_le (len + spare) room then Some (room - len) else None) }
+    ensures left { IfSome result (λ left. (left + len ≡ room) × (spare ≤ left)) }
+    ensures none { IfNone result (room < len + spare) }
 {
     let left = room.checked_sub(len)?;
     if left < spare {

@@ -1,4 +1,4 @@
-ghost use Rattle.std.specs.Prelude.{◌≡◌, ◌≤◌, None, IfOk, IfSome, IsSome, OnOk, length, map, vec_capacity};
+ghost use Rattle.std.specs.Prelude.{◌≡◌, ◌≤◌, None, IfOk, IfSome, IsSome, OnOk, length, map, option_map, vec_capacity};
 ghost use mathlib.Core.List.{IsPrefix};
 ghost use Rattle.book_replay.specs.Snapshot.{IsSnapshot};
 ghost use Rattle.head_board.specs.Events.{HaveHappened, book_at};
@@ -7,7 +7,7 @@ ghost use Rattle.tus_steps.specs.Changing.{IsFound};
 ghost use Rattle.tus_steps.specs.declared.asked.Asked.TheVariants as asks;
 ghost use Rattle.tus_steps.specs.PlacedReply.{reply_in};
 ghost use Rattle.tus_steps.specs.Step.{IsContentReply};
-ghost use Rattle.tus_shared.specs.Desk.{Moves, Spends, next_count};
+ghost use Rattle.tus_shared.specs.Desk.{Moves, Spends, next_count, queueing};
 ghost use Rattle.tus_shared.specs.Finals.{RestoresNothing};
 ghost use Rattle.tus_shared.specs.Headline.{Headline};
 ghost use Rattle.tus_shared.specs.Journal.{AreTaken, change_frame, held_bytes, spare_of};
@@ -31,8 +31,8 @@ use std::alloc::Global;
 use std::marker::Model;
 use std::sync::Wait;
 use std::sync::ledger::Ledger;
-use tus_steps::{Asked, PlacedReply, Request, answer_asked};
-use upload_book::{Book, Change, Moment, Outcome, Refusal, Refused, Swept};
+use tus_steps::{Asked, PlacedReply, Request, answer_asked, refused_for_memory};
+use upload_book::{Book, Change, Moment, Outcome, Refused, Swept};
 
 /// What stands behind the lock: the book, the board that shows its heads, and the books of three ledgers, whose totals
 /// are the book's charged and released blocks, and how many changes it accepted; and, where changes are journalled, the
@@ -70,7 +70,7 @@ impl<C: Charges, R: Ledger, M: Ledger, B: Wait + Drop> Store<C, R, M, B> {
     /// Lends the book, and says of it what is true whenever the lock is got: every block is free or counted by exactly its
     /// holders, every upload's bytes read through its blocks are those of the plain book, in which each final upload is
     /// the concatenation that it was created from and no tenant exceeds its quota. Where changes are journalled, a final upload
-    /// may also have come with the snapshot that the journal begins with.
+    /// may have been created in an earlier opening, and have come with the snapshot that the journal begins with.
     pub fn headline(&self) -> &Book
         ensures { Headline C.settings C.journal self.now result.now }
     {
@@ -86,8 +86,10 @@ impl<C: Charges, R: Ledger, M: Ledger, B: Wait + Drop> Store<C, R, M, B> {
     /// The shares of other desks stay, since no other desk is lent. The reply is put to its place.
     ///
     /// Where changes are journalled, the frame of the record of the change that is asked for was made before the lock was
-    /// taken. That of a change that is made is queued, and the room of the desk falls by its length. Without a frame, or
-    /// room, or a place in the queue, a change that the book would accept is refused as Memory, and nothing happens.
+    /// taken. That of a change that is made is queued, and the room of the desk falls by its length. A change that the book would
+    /// accept is refused as Memory where there is no frame, where the room is less than the frame and what the change has to
+    /// spare, or where the queue has no place for the frame. Then nothing happens, and the refusal of a PATCH tells when its
+    /// upload expires.
     pub fn step(
         &mut self,
         desk: &mut Desk<C, R, M>,
@@ -105,8 +107,8 @@ impl<C: Charges, R: Ledger, M: Ledger, B: Wait + Drop> Store<C, R, M, B> {
         ensures lawful { IsLawful (book_at C.settings self.old) }
         ensures stays_lawful { IsLawful (book_at C.settings self.new) }
         ensures begins { IsPrefix desk.old.seen self.old }
-        ensures step { IsStepAt desk.old.journal (book_at C.settings self.old) request.now now (reply_in reply.new) (book_at C.settings self.new) }
-        ensures adds { AddsChange desk.old.journal C.settings self.old desk.old.number request.now now (reply_in reply.new) self.new }
+        ensures step { IsStepAt (queueing desk.old (option_map (λ f. f.items) frame)) (book_at C.settings self.old) request.now now (reply_in reply.new) (book_at C.settings self.new) }
+        ensures adds { AddsChange (queueing desk.old (option_map (λ f. f.items) frame)) C.settings self.old desk.old.number request.now now (reply_in reply.new) self.new }
         ensures moves { Moves C.settings self.old self.new desk.old desk.new }
         ensures spends { Spends self.old self.new desk.old desk.new }
         ensures seen { desk.new.seen ≡ self.new }
@@ -130,8 +132,7 @@ impl<C: Charges, R: Ledger, M: Ledger, B: Wait + Drop> Store<C, R, M, B> {
     /// this desk, also where none has expired. The desk has seen all events after it, and its shares rise by what that
     /// releases, and by that event. The step is counted at the desk.
     ///
-    /// `None` only where changes are journalled, and there is no frame, or room, or place in the queue for its record; then
-    /// nothing happens.
+    /// `None` only where changes are journalled, and its record is not queued, as in [`Store::step`]; then nothing happens.
     pub fn sweep(
         &mut self,
         desk: &mut Desk<C, R, M>,
@@ -144,7 +145,7 @@ impl<C: Charges, R: Ledger, M: Ledger, B: Wait + Drop> Store<C, R, M, B> {
         ensures lawful { IsLawful (book_at C.settings self.old) }
         ensures stays_lawful { IsLawful (book_at C.settings self.new) }
         ensures begins { IsPrefix desk.old.seen self.old }
-        ensures sweep { IsSweepAt desk.old.journal C.settings self.old desk.old.number now result self.new }
+        ensures sweep { IsSweepAt (queueing desk.old (option_map (λ f. f.items) frame)) C.settings self.old desk.old.number now result self.new }
         ensures moves { Moves C.settings self.old self.new desk.old desk.new }
         ensures spends { Spends self.old self.new desk.old desk.new }
         ensures seen { desk.new.seen ≡ self.new }
@@ -271,7 +272,7 @@ impl<C: Charges, R: Ledger, M: Ledger, B: Wait + Drop> Store<C, R, M, B> {
         ensures stays_happened { HaveHappened C.settings self.new }
         ensures lawful { IsLawful (book_at C.settings self.old) }
         ensures stays_lawful { IsLawful (book_at C.settings self.new) }
-        ensures done { IsDone desk.old.journal (book_at C.settings self.old) self.old desk.old.number change.entry now result self.new }
+        ensures done { IsDone (queueing desk.old (option_map (λ f. f.items) frame)) (book_at C.settings self.old) self.old desk.old.number change.entry now result self.new }
         ensures moves { Moves C.settings self.old self.new desk.old desk.new }
         ensures spends { Spends self.old self.new desk.old desk.new }
         ensures spares { OnOk result (IsSome desk.old.journal → spare_of change.entry ≤ desk.new.room) }
@@ -285,15 +286,13 @@ impl<C: Charges, R: Ledger, M: Ledger, B: Wait + Drop> Store<C, R, M, B> {
         let _in_range = now.secs();
         tell_fits(self.book.settings().tenant_count(), &change);
         let spare = spare_for(&change);
+        let unkept = refused_for_memory(&self.book, &change, now);
         let ready = match self.book.prepare(change, now) {
             Ok(ready) => ready,
             Err(refused) => return Err(refused),
         };
-        if !queue_frame(&mut self.queue, &mut desk.room, frame, spare) {
-            return Err(Refused {
-                refusal: Refusal::Memory,
-                expires: None,
-            });
+        if queue_frame(&mut self.queue, &mut desk.room, frame, spare).is_err() {
+            return Err(unkept);
         }
         Ok(make_ready(
             &mut self.book,

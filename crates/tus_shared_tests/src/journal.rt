@@ -145,6 +145,9 @@ const PATCHED: Answer<'static> = Answer::Patched(5, Some(4600));
 
 const LACKS: Answer<'static> = Answer::Refused(Refusal::Memory, None);
 
+// The same of a PATCH, which tells when its upload expires.
+const PATCH_LACKS: Answer<'static> = Answer::Refused(Refusal::Memory, Some(4600));
+
 const EMPTY: Answer<'static> = Answer::Row(0, Some(10), b"", Some(4600));
 
 // How many bytes the frames have together.
@@ -385,7 +388,7 @@ static NEEDS_ROOM: [Step; 13] = [
         Head(b"/files/acme/2"),
         Answer::Refused(Refusal::Unknown, None),
     ),
-    Step::Told(Patch(b"/files/acme/1", b"0", b"hello"), LACKS),
+    Step::Told(Patch(b"/files/acme/1", b"0", b"hello"), PATCH_LACKS),
     Step::Told(Delete(b"/files/acme/1"), Answer::Deleted),
     Step::Sweeps(true),
     Step::Taken(&[Kept::Created, Kept::Ended(1), Kept::Swept]),

@@ -168,9 +168,6 @@ impl<
         let mut buffers = None;
         for _ in 0..self.options.connections {
             let Ok(stream) = worker.acceptor.accept() else {
-                let _ = self.rt.eprintln(
-                    "tus-server: a worker ended, since it could accept no connection",
-                );
                 return;
             };
             let _ = sweep_expired(self.rt, &mut worker.desk, self.shared, clock.moment());

@@ -1,5 +1,5 @@
 -- What readers read, and the rule that it keeps.
-use Rattle.std.specs.Prelude.{◌≡◌, ℕ, true, false, List, length}
+use Rattle.std.specs.Prelude.{◌≡◌, ℕ, true, false, List, None, length}
 use mathlib.Core.List.{IsPrefix}
 use mathlib.Core.Option.{some}
 use lib.ListN.{get_elem?}
@@ -9,6 +9,7 @@ use Rattle.upload_book.specs.declared.head_note.NotedChange.TheVariants.{Created
 use Rattle.upload_book.specs.declared.head_note.HeadNote.{HeadNote}
 use Rattle.upload_book.specs.declared.head_row.Name.{Name}
 use Rattle.upload_book.specs.Heads.{heads_of, shown}
+use Rattle.upload_book.specs.Settings.{settings_fault}
 use Rattle.head_board.specs.Event.{Event}
 use Rattle.head_board.specs.Events.{HaveHappened, book_at}
 use Rattle.head_board.specs.NoBoard.{no_settings}
@@ -74,7 +75,9 @@ pub record RestsOn (s : BoardCopy) (name : Name) (some_seen : LogPrefix) : Type 
       → (now : ℕ) → shown (heads_of (book_at s.table.settings events)) name now ≡ shown s.table name now
 
 -- The copy has the heads of the book after what happened, and for each name the events on which what it tells of it rests.
+-- The book is of settings without a fault.
 pub record IsCurrent (s : BoardCopy) : Type 0 where
+  pub sound : settings_fault s.table.settings ≡ None
   pub happened : HaveHappened s.table.settings s.seen.events
   pub heads : s.table ≡ heads_of (book_at s.table.settings s.seen.events)
   pub slots : length s.last_changes ≡ 256

@@ -1,6 +1,7 @@
 -- The fields of a head that count: their names, and where they stand.
-use Rattle.std.specs.Prelude.{◌≡◌, ℕ, Bool, ◌||◌, ◌==◌, List, [], ◌∷◌, Option, Some, None, if◌then◌else◌, bytes_eq, codes, filter, length, map}
-use Rattle.http_wire.specs.Fields.{lowercase}
+use Rattle.std.specs.Prelude.{◌≡◌, ◌≤◌, ℕ, Bool, ◌&&◌, ◌==◌, List, [], ◌∷◌, Option, Some, None, if◌then◌else◌, bytes_eq, codes, map}
+use Rattle.http_header.specs.HeaderMap.{Entries, get, set_first}
+use Rattle.http_header.specs.Token.{lowercase}
 use Rattle.httparse.specs.Spans.{span_bytes}
 use Rattle.httparse.specs.declared.spans.Span.{Span}
 use Rattle.httparse.specs.declared.spans.HeaderSpan.{HeaderSpan}
@@ -9,43 +10,29 @@ use Rattle.tus_steps.specs.TusFields.{EachField, fields_by, map_fields}
 use Rattle.http_wire.specs.ConnectionFields.{closes, has_close}
 use Rattle.http_wire.specs.Fields.{field_text, values_named}
 use Rattle.http_wire.specs.Layout.{IsInside, field_at}
-use Rattle.http_wire.specs.declared.read.fields.FieldName.{FieldName}
-use Rattle.http_wire.specs.declared.read.fields.FieldName.TheVariants as field
 use Rattle.http_wire.specs.declared.read.fields.FieldSpan.{FieldSpan}
 use Rattle.http_wire.specs.declared.read.fields.FieldSpan.TheVariants.{Absent, One, Many}
+use Rattle.http_wire.specs.declared.read.fields.Found.{Found}
 use Rattle.http_wire.specs.declared.read.fields.HeadFields.{HeadFields}
 
--- the fields that count, each by its name in lower case: for the framing of a message, its connection and its method, or for the steps
-abbrev pub counted : List (List ℕ × FieldName)
+-- the names of the fields that count, in lower case: for the framing of a message, its method and its connection, and for the steps
+abbrev pub counted : List (List ℕ)
 counted =
-    (codes "host", field.Host)
-    ∷ (codes "expect", field.Expect)
-    ∷ (codes "connection", field.Connection)
-    ∷ (codes "content-type", field.ContentType)
-    ∷ (codes "tus-resumable", field.TusResumable)
-    ∷ (codes "upload-offset", field.UploadOffset)
-    ∷ (codes "upload-length", field.UploadLength)
-    ∷ (codes "upload-concat", field.UploadConcat)
-    ∷ (codes "content-length", field.ContentLength)
-    ∷ (codes "upload-metadata", field.UploadMetadata)
-    ∷ (codes "upload-checksum", field.UploadChecksum)
-    ∷ (codes "transfer-encoding", field.TransferEncoding)
-    ∷ (codes "upload-defer-length", field.UploadDeferLength)
-    ∷ (codes "x-http-method-override", field.MethodOverride)
+    codes "host"
+    ∷ codes "expect"
+    ∷ codes "content-length"
+    ∷ codes "transfer-encoding"
+    ∷ codes "x-http-method-override"
+    ∷ codes "connection"
+    ∷ codes "tus-resumable"
+    ∷ codes "upload-length"
+    ∷ codes "upload-defer-length"
+    ∷ codes "upload-offset"
+    ∷ codes "upload-metadata"
+    ∷ codes "upload-concat"
+    ∷ codes "upload-checksum"
+    ∷ codes "content-type"
     ∷ []
-
--- the first of these that has this name
-abbrev pub first_named : List ℕ → List (List ℕ × FieldName) → Option FieldName
-first_named name [] = None
-first_named name (f ∷ fields) = if bytes_eq name f.0 then Some f.1 else first_named name fields
-
--- the field that counts of this name, which is in lower case
-abbrev pub field_named : List ℕ → Option FieldName
-field_named name = first_named name counted
-
--- the fields that count whose names have n bytes
-abbrev pub of_length : ℕ → List (List ℕ × FieldName)
-of_length n = filter (λ f. length f.0 == n) counted
 
 -- where the values of that name stand in a head whose fields stand in these places
 abbrev pub spans_named : List ℕ → List ℕ → List HeaderSpan → List Span
@@ -59,6 +46,12 @@ place_in [] = Absent
 place_in (value ∷ []) = One value
 place_in (value ∷ other ∷ values) = Many
 
+-- with one more value of a name
+abbrev pub added : FieldSpan → Span → FieldSpan
+added Absent value = One value
+added (One other) value = Many
+added Many value = Many
+
 -- what a head has by these places of each name, and by whether its connection closes
 abbrev pub fields_from : (List ℕ → FieldSpan) → Bool → HeadFields
 fields_from at close = record {
@@ -71,38 +64,55 @@ fields_from at close = record {
   tus = fields_by at;
 }
 
+-- this is a Connection field with the token `close`
+abbrev pub closes_by : List ℕ → HeaderSpan → Bool
+closes_by head h = bytes_eq (lowercase (span_bytes head h.name)) (codes "connection") && has_close (span_bytes head h.value)
+
 -- what a head has whose fields stand in these places
 abbrev pub head_fields : List ℕ → List HeaderSpan → HeadFields
 head_fields head spans =
     fields_from (λ name. place_in (spans_named head name spans)) (closes (map (span_bytes head) (spans_named head (codes "connection") spans)))
 
--- with one more value of a name
-abbrev pub added : FieldSpan → Span → FieldSpan
-added Absent value = One value
-added (One other) value = Many
-added Many value = Many
+-- nothing in any head
+abbrev pub never : Found
+never = record { number = 0; place = Absent }
 
--- with one more field of a head
-abbrev pub with_field : List ℕ → FieldName → Span → HeadFields → HeadFields
-with_field head field.Host value f = record f { host = added f.host value }
-with_field head field.Expect value f = record f { expect = added f.expect value }
-with_field head field.Connection value f = record f { has_close = f.has_close || has_close (span_bytes head value) }
-with_field head field.ContentType value f = record f { tus = record f.tus { media = added f.tus.media value } }
-with_field head field.TusResumable value f = record f { tus = record f.tus { version = added f.tus.version value } }
-with_field head field.UploadOffset value f = record f { tus = record f.tus { offset = added f.tus.offset value } }
-with_field head field.UploadLength value f = record f { tus = record f.tus { length = added f.tus.length value } }
-with_field head field.UploadConcat value f = record f { tus = record f.tus { concat = added f.tus.concat value } }
-with_field head field.ContentLength value f = record f { length = added f.length value }
-with_field head field.UploadMetadata value f = record f { tus = record f.tus { metadata = added f.tus.metadata value } }
-with_field head field.UploadChecksum value f = record f { tus = record f.tus { checksum = added f.tus.checksum value } }
-with_field head field.TransferEncoding value f = record f { coding = added f.coding value }
-with_field head field.UploadDeferLength value f = record f { tus = record f.tus { defer = added f.tus.defer value } }
-with_field head field.MethodOverride value f = record f { instead = added f.instead value }
+-- what was found in this head
+abbrev pub found_in : ℕ → Found → FieldSpan
+found_in number f = if f.number == number then f.place else Absent
 
--- the same of a field of this name, if it counts
-abbrev pub with_named : List ℕ → Option FieldName → Span → HeadFields → HeadFields
-with_named head None value f = f
-with_named head (Some name) value f = with_field head name value f
+-- with one more value in this head
+abbrev pub with_value : ℕ → Span → Found → Found
+with_value number value f = record { number = number; place = added (found_in number f) value }
+
+-- a map that has each of these names once, with what was found under it
+abbrev pub map_by : (List ℕ → Found) → List (List ℕ) → Entries Found
+map_by at names = map (λ name. (name, at name ∷ [])) names
+
+-- the same of the names that count
+abbrev pub found_by : (List ℕ → Found) → Entries Found
+found_by at = map_by at counted
+
+-- the map with g of what was found under a name, if it has the name
+abbrev pub changed_at : (Found → Found) → Entries Found → List ℕ → Option Found → Entries Found
+changed_at g m name None = m
+changed_at g m name (Some f) = set_first m name (g f)
+
+abbrev pub changed : (Found → Found) → Entries Found → List ℕ → Entries Found
+changed g m name = changed_at g m name (get m name)
+
+-- The map has each name that counts, and nothing was found in a later head than this.
+pub record IsFieldMap (heads : ℕ) (m : Entries Found) : Type 0 where
+  pub at : List ℕ → Found
+  pub map : m ≡ found_by at
+  pub within : (name : List ℕ) → (at name).number ≤ heads
+
+-- The same, and it shows where the values of each name stand in the head of this number, whose fields stand in these places.
+pub record Shows (number : ℕ) (head : List ℕ) (spans : List HeaderSpan) (m : Entries Found) : Type 0 where
+  pub at : List ℕ → Found
+  pub map : m ≡ found_by at
+  pub within : (name : List ℕ) → (at name).number ≤ number
+  pub places : (name : List ℕ) → found_in number (at name) ≡ place_in (spans_named head name spans)
 
 -- all that was found lies in the first n bytes
 pub record AreInside (n : ℕ) (f : HeadFields) : Type 0 where

@@ -1,5 +1,5 @@
 -- What holds of every connection at each phase.
-use Rattle.std.specs.Prelude.{⊤, ◌≤◌, ◌<◌, ◌+◌, ◌^◌, ℕ, length, Ok}
+use Rattle.std.specs.Prelude.{⊤, ◌≤◌, ◌<◌, ◌+◌, ◌-◌, ◌^◌, ℕ, length, Ok}
 use Rattle.http_wire.specs.Incoming.{map_incoming}
 use Rattle.http_wire.specs.Layout.{framed_at}
 use Rattle.http_wire.specs.ReadOnWire.{TellsEnd}
@@ -7,6 +7,7 @@ use Rattle.http_wire.specs.declared.phase.Phase.{Phase}
 use Rattle.http_wire.specs.declared.phase.Phase.TheVariants.{Looking, Waiting, Owing, Over}
 use Rattle.http_wire.specs.declared.read.inbox.TheConstants.{READ_SIZE}
 use Rattle.http_wire.specs.declared.read.layout.Layout.{Layout}
+use Rattle.http_wire.specs.declared.read.stage.Stage.TheVariants.{Head, Body}
 use Rattle.http_wire.specs.inside.Ahead.{Ahead}
 use Rattle.http_wire.specs.inside.IncomingLayout.{IsLent}
 use Rattle.http_wire.specs.inside.Standing.{Fits, Wants}
@@ -25,6 +26,14 @@ IsPhase a (Looking s) = Fits a s
 IsPhase a (Waiting s) = Fits a s × Wants a s × (length a.held + READ_SIZE ≤ a.room)
 IsPhase a (Owing i) = IsLent a.lent i × TellsEnd a.ended (Ok (map_incoming (framed_at a.lent) i))
 IsPhase a (Over r) = ⊤
+
+-- how many bytes are missing of a body that is waited for
+abbrev pub lacking : Ahead → Phase Layout → ℕ
+lacking a (Looking s) = 0
+lacking a (Waiting (Head s)) = 0
+lacking a (Waiting (Body p)) = (p.head_len + p.body_len) - length a.held
+lacking a (Owing i) = 0
+lacking a (Over r) = 0
 
 pub record IsConnection (a : Ahead) (p : Phase Layout) (max : ℕ) : Type 0 where
   pub size : max < 2 ^ 31

@@ -1,11 +1,18 @@
-ghost use Rattle.std.specs.Prelude.{◌≡◌, ℕ, List, length, All, Some, None, bytes_eq, if◌then◌else◌};
-ghost use Rattle.httparse.specs.Spans.{IsHeaderWithin, IsWithin, span_bytes};
-ghost use Rattle.http_wire.specs.Fields.{lowercase};
+//! The fields of a head that count, by their names.
+ghost use Rattle.std.specs.Prelude.{◌≡◌, ℕ, List, [], ◌∷◌, length, map, All, codes, OnOk};
+ghost use Rattle.std.specs.List.{list_any};
+ghost use Rattle.http_header.specs.HeaderMap.{insert};
+ghost use Rattle.httparse.specs.Spans.{IsHeaderWithin, span_bytes};
+ghost use Rattle.http_wire.specs.ConnectionFields.{closes};
+ghost use Rattle.http_header.specs.Token.{lowercase};
 ghost use Rattle.http_wire.specs.Layout.{IsInside, field_at};
-ghost use Rattle.http_wire.specs.inside.HeadFields.{added, field_named, first_named, head_fields, of_length, with_field, with_named};
+ghost use Rattle.http_wire.specs.inside.HeadFields.{IsFieldMap, Shows, added, changed, closes_by, found_by, found_in, head_fields, never, place_in, spans_named, with_value};
 
 use crate::read::connection_fields::has_close;
+use http_header::{HeaderMap, HeaderName, Values};
 use httparse::spans::{HeaderSpan, Span};
+use std::alloc::{AllocError, Global};
+use std::marker::Model;
 use tus_steps::{Field, TusFields};
 
 /// Where the value of a field stands in a head.
@@ -54,25 +61,6 @@ impl FieldSpan {
     }
 }
 
-/// A field that counts. Any other is passed over.
-#[derive(Clone, Copy)]
-pub enum FieldName {
-    Host,
-    Expect,
-    Connection,
-    ContentType,
-    TusResumable,
-    UploadOffset,
-    UploadLength,
-    UploadConcat,
-    ContentLength,
-    UploadMetadata,
-    UploadChecksum,
-    TransferEncoding,
-    UploadDeferLength,
-    MethodOverride,
-}
-
 /// Where the fields of a head stand that count.
 #[derive(Clone, Copy)]
 pub struct HeadFields {
@@ -90,127 +78,258 @@ pub struct HeadFields {
     pub tus: TusFields<FieldSpan>,
 }
 
-impl HeadFields {
-    // Those of a head without fields.
-    const NONE: HeadFields = HeadFields {
-        host: FieldSpan::Absent,
-        length: FieldSpan::Absent,
-        coding: FieldSpan::Absent,
-        expect: FieldSpan::Absent,
-        instead: FieldSpan::Absent,
-        has_close: false,
-        tus: TusFields {
-            version: FieldSpan::Absent,
-            length: FieldSpan::Absent,
-            defer: FieldSpan::Absent,
-            offset: FieldSpan::Absent,
-            metadata: FieldSpan::Absent,
-            concat: FieldSpan::Absent,
-            checksum: FieldSpan::Absent,
-            media: FieldSpan::Absent,
-        },
+/// What was found under a name: the number of the head that had it last, from 1, and where it stands there.
+#[derive(Clone, Copy)]
+pub struct Found {
+    number: u64,
+    place: FieldSpan,
+}
+
+impl Found {
+    // Nothing in any head.
+    const NEVER: Found = Found {
+        number: 0,
+        place: FieldSpan::Absent,
     };
 
-    // Adds one more field of the head, where it counts.
-    fn add(&mut self, head: &[u8], span: HeaderSpan)
-        requires { IsHeaderWithin (length head.now) span }
-        ensures { self.new ≡ with_named head.now (field_named (lowercase (span_bytes head.now span.name))) span.value self.old }
+    // What was found in the head of this number: nothing, if another had the name last.
+    fn in_head(&self, number: u64) -> FieldSpan
+        ensures { result ≡ found_in number self.now }
     {
-        if let Some(name) = field_named(span.name.of(head)) {
-            self.put(name, head, span.value);
+        if self.number == number {
+            self.place
+        } else {
+            FieldSpan::Absent
         }
     }
 
-    // Adds one more value of this name.
-    fn put(&mut self, name: FieldName, head: &[u8], value: Span)
-        requires { IsWithin (length head.now) value }
-        ensures { self.new ≡ with_field head.now name value self.old }
+    // With one more value in the head of this number.
+    fn with(&self, number: u64, value: Span) -> Found
+        ensures { result ≡ with_value number value self.now }
     {
-        match name {
-            FieldName::Host => self.host = self.host.with(value),
-            FieldName::Expect => self.expect = self.expect.with(value),
-            FieldName::Connection => {
-                self.has_close = self.has_close || has_close(value.of(head));
-            }
-            FieldName::ContentType => self.tus.media = self.tus.media.with(value),
-            FieldName::TusResumable => self.tus.version = self.tus.version.with(value),
-            FieldName::UploadOffset => self.tus.offset = self.tus.offset.with(value),
-            FieldName::UploadLength => self.tus.length = self.tus.length.with(value),
-            FieldName::UploadConcat => self.tus.concat = self.tus.concat.with(value),
-            FieldName::ContentLength => self.length = self.length.with(value),
-            FieldName::UploadMetadata => self.tus.metadata = self.tus.metadata.with(value),
-            FieldName::UploadChecksum => self.tus.checksum = self.tus.checksum.with(value),
-            FieldName::TransferEncoding => self.coding = self.coding.with(value),
-            FieldName::UploadDeferLength => self.tus.defer = self.tus.defer.with(value),
-            FieldName::MethodOverride => self.instead = self.instead.with(value),
+        Found {
+            number,
+            place: self.in_head(number).with(value),
         }
     }
 }
 
-/// Where the fields of `head` stand that count, in one pass over all of them. Any other field is passed over. It takes no memory.
-pub fn gather(head: &[u8], spans: &[HeaderSpan]) -> HeadFields
+/// How many names count.
+const NAME_COUNT: usize = 14;
+
+/// The fields that count by their names, which are told without regard to case: where the values of each stand in the head
+/// that was read last. It takes memory only where it is made, since the names are put in there. Between two heads it is
+/// cleared of values, and keeps the names.
+#[derive(Drop)]
+pub struct FieldMap {
+    found: HeaderMap<Found>,
+    // How many heads were read. What was found in an earlier one counts no more, so counting a head clears the map.
+    heads: u64,
+}
+
+impl Model for FieldMap {
+    ghost use Rattle.std.specs.Prelude.{ℕ};
+    ghost use Rattle.http_wire.specs.inside.HeadFields.{IsFieldMap};
+
+    ghost Value = { ℕ };
+
+    ghost view = { λ m. m.heads };
+
+    ghost invariant = { λ m. IsFieldMap m.heads m.found };
+}
+
+impl FieldMap {
+    /// A map in which nothing was found. The error is that memory is lacking.
+    pub fn new(alloc: Global) -> Result<Self, AllocError> {
+        let Ok(mut found) = HeaderMap::with_capacity(alloc, NAME_COUNT) else {
+            return Err(AllocError);
+        };
+        name_all(&mut found)?;
+        Ok(FieldMap { found, heads: 0 })
+    }
+
+    /// Where the fields of `head` stand that count, in one pass over all of them. Any other field is passed over. It takes
+    /// no memory.
+    pub fn gather(&mut self, head: &[u8], spans: &[HeaderSpan]) -> HeadFields
+        requires within { All (IsHeaderWithin (length head.now)) spans.now }
+        ensures { result ≡ head_fields head.now spans.now }
+    {
+        self.heads = next_head(&mut self.found, self.heads);
+        note_all(&mut self.found, self.heads, head, spans);
+        fields_in(&self.found, self.heads, head, spans)
+    }
+}
+
+// Puts each name that counts into an empty map.
+fn name_all(map: &mut HeaderMap<Found>) -> Result<(), AllocError>
+    requires { map.old ≡ [] }
+    ensures { OnOk result (map.new ≡ found_by (λ _. never)) }
+{
+    put(map, HeaderName::from_static("host"))?;
+    put(map, HeaderName::from_static("expect"))?;
+    put(map, HeaderName::from_static("content-length"))?;
+    put(map, HeaderName::from_static("transfer-encoding"))?;
+    put(map, HeaderName::from_static("x-http-method-override"))?;
+    put(map, HeaderName::from_static("connection"))?;
+    put(map, HeaderName::from_static("tus-resumable"))?;
+    put(map, HeaderName::from_static("upload-length"))?;
+    put(map, HeaderName::from_static("upload-defer-length"))?;
+    put(map, HeaderName::from_static("upload-offset"))?;
+    put(map, HeaderName::from_static("upload-metadata"))?;
+    put(map, HeaderName::from_static("upload-concat"))?;
+    put(map, HeaderName::from_static("upload-checksum"))?;
+    put(map, HeaderName::from_static("content-type"))
+}
+
+// Puts a name into the map, under which nothing was found.
+fn put(map: &mut HeaderMap<Found>, name: HeaderName) -> Result<(), AllocError>
+    ensures { OnOk result (map.new ≡ insert map.old name never) }
+{
+    match map.insert(name, Found::NEVER) {
+        Ok(_) => Ok(()),
+        Err(_) => Err(AllocError),
+    }
+}
+
+// The number of the next head, in which nothing was found yet. After 2^64 - 1 heads they are counted anew.
+fn next_head(map: &mut HeaderMap<Found>, heads: u64) -> u64
+    requires { IsFieldMap heads map.old }
+    ensures { (head : List ℕ) → Shows result head [] map.new }
+{
+    if heads == u64::MAX {
+        forget_all(map);
+        return 1;
+    }
+    heads + 1
+}
+
+// Forgets what was found in any head.
+fn forget_all(map: &mut HeaderMap<Found>)
+    requires { (heads : ℕ) × IsFieldMap heads map.old }
+    ensures { map.new ≡ found_by (λ _. never) }
+{
+    forget(map, b"host");
+    forget(map, b"expect");
+    forget(map, b"content-length");
+    forget(map, b"transfer-encoding");
+    forget(map, b"x-http-method-override");
+    forget(map, b"connection");
+    forget(map, b"tus-resumable");
+    forget(map, b"upload-length");
+    forget(map, b"upload-defer-length");
+    forget(map, b"upload-offset");
+    forget(map, b"upload-metadata");
+    forget(map, b"upload-concat");
+    forget(map, b"upload-checksum");
+    forget(map, b"content-type");
+}
+
+// Forgets what was found under a name.
+fn forget(map: &mut HeaderMap<Found>, name: &[u8])
+    ensures { map.new ≡ changed (λ _. never) map.old (lowercase name.now) }
+{
+    if let Some(found) = map.get_mut(name) {
+        *found = Found::NEVER;
+    }
+}
+
+// Notes the fields of a head, each under its name if that counts.
+fn note_all(map: &mut HeaderMap<Found>, number: u64, head: &[u8], spans: &[HeaderSpan])
     requires within { All (IsHeaderWithin (length head.now)) spans.now }
+    requires none { Shows number head.now [] map.old }
+    ensures { Shows number head.now spans.now map.new }
+{
+    for span in spans {
+        note(map, number, head, *span);
+    }
+}
+
+// Notes one more field of a head, if its name counts.
+fn note(map: &mut HeaderMap<Found>, number: u64, head: &[u8], span: HeaderSpan)
+    requires { IsHeaderWithin (length head.now) span }
+    ensures { map.new ≡ changed (with_value number span.value) map.old (lowercase (span_bytes head.now span.name)) }
+{
+    if let Some(found) = map.get_mut(span.name.of(head)) {
+        *found = found.with(number, span.value);
+    }
+}
+
+// What was found in the head of this number, which has these fields: name by name, in the order in which they were put in.
+fn fields_in(map: &HeaderMap<Found>, number: u64, head: &[u8], spans: &[HeaderSpan]) -> HeadFields
+    requires within { All (IsHeaderWithin (length head.now)) spans.now }
+    requires shows { Shows number head.now spans.now map.now }
     ensures { result ≡ head_fields head.now spans.now }
 {
-    let mut fields = HeadFields::NONE;
-    for span in spans {
-        fields.add(head, *span);
-    }
-    fields
-}
-
-// The field that counts of this name, in whatever letter case. Few names have one length, and only those are compared.
-fn field_named(name: &[u8]) -> Option<FieldName>
-    ensures { result ≡ field_named (lowercase name.now) }
-{
-    match name.len() {
-        4 => named(name, b"host", FieldName::Host),
-        6 => named(name, b"expect", FieldName::Expect),
-        10 => named(name, b"connection", FieldName::Connection),
-        12 => named(name, b"content-type", FieldName::ContentType),
-        13 => named_in_13(name),
-        14 => named(name, b"content-length", FieldName::ContentLength),
-        15 => named_in_15(name),
-        17 => named(name, b"transfer-encoding", FieldName::TransferEncoding),
-        19 => named(name, b"upload-defer-length", FieldName::UploadDeferLength),
-        22 => named(name, b"x-http-method-override", FieldName::MethodOverride),
-        _ => None,
-    }
-}
-
-// The field of this name, if it has that of `known`.
-fn named(name: &[u8], known: &[u8], field: FieldName) -> Option<FieldName>
-    ensures { result ≡ (if bytes_eq (lowercase name.now) (lowercase known.now) then Some field else None) }
-{
-    if name.eq_ignore_ascii_case(known) {
-        Some(field)
-    } else {
-        None
+    let mut found = map.values();
+    let host = next_place(&mut found, number);
+    let expect = next_place(&mut found, number);
+    let length = next_place(&mut found, number);
+    let coding = next_place(&mut found, number);
+    let instead = next_place(&mut found, number);
+    let connection = next_place(&mut found, number);
+    let version = next_place(&mut found, number);
+    let upload_length = next_place(&mut found, number);
+    let defer = next_place(&mut found, number);
+    let offset = next_place(&mut found, number);
+    let metadata = next_place(&mut found, number);
+    let concat = next_place(&mut found, number);
+    let checksum = next_place(&mut found, number);
+    let media = next_place(&mut found, number);
+    HeadFields {
+        host,
+        length,
+        coding,
+        expect,
+        instead,
+        has_close: closes(connection, head, spans),
+        tus: TusFields {
+            version,
+            length: upload_length,
+            defer,
+            offset,
+            metadata,
+            concat,
+            checksum,
+            media,
+        },
     }
 }
 
-// The field of this name among those whose names have 13 bytes.
-fn named_in_13(name: &[u8]) -> Option<FieldName>
-    ensures { result ≡ first_named (lowercase name.now) (of_length 13) }
+// What was found in the head of this number under the next name.
+fn next_place(found: &mut Values<'_, Found>, number: u64) -> FieldSpan
+    ensures { (f : Found) (rest : List Found) → found.old ≡ f ∷ rest → (result ≡ found_in number f) × (found.new ≡ rest) }
 {
-    if name.eq_ignore_ascii_case(b"tus-resumable") {
-        Some(FieldName::TusResumable)
-    } else if name.eq_ignore_ascii_case(b"upload-offset") {
-        Some(FieldName::UploadOffset)
-    } else if name.eq_ignore_ascii_case(b"upload-length") {
-        Some(FieldName::UploadLength)
-    } else {
-        named(name, b"upload-concat", FieldName::UploadConcat)
+    match found.next() {
+        Some(found) => found.in_head(number),
+        None => FieldSpan::Absent,
     }
 }
 
-// The field of this name among those whose names have 15 bytes.
-fn named_in_15(name: &[u8]) -> Option<FieldName>
-    ensures { result ≡ first_named (lowercase name.now) (of_length 15) }
+// Whether a Connection field has the token `close`. `place` is where the one of them stands, if there is one.
+fn closes(place: FieldSpan, head: &[u8], spans: &[HeaderSpan]) -> bool
+    requires within { All (IsHeaderWithin (length head.now)) spans.now }
+    requires place { place ≡ place_in (spans_named head.now (codes "connection") spans.now) }
+    ensures { result ≡ closes (map (span_bytes head.now) (spans_named head.now (codes "connection") spans.now)) }
 {
-    if name.eq_ignore_ascii_case(b"upload-metadata") {
-        Some(FieldName::UploadMetadata)
-    } else {
-        named(name, b"upload-checksum", FieldName::UploadChecksum)
+    match place {
+        FieldSpan::Absent => false,
+        FieldSpan::One(value) => has_close(value.of(head)),
+        FieldSpan::Many => any_closes(head, spans),
     }
+}
+
+// Whether one of several Connection fields has the token `close`.
+fn any_closes(head: &[u8], spans: &[HeaderSpan]) -> bool
+    requires { All (IsHeaderWithin (length head.now)) spans.now }
+    ensures { result ≡ list_any (closes_by head.now) spans.now }
+{
+    spans.iter().any(|span| closes_by(head, *span))
+}
+
+// Whether this is a Connection field that has the token `close`.
+fn closes_by(head: &[u8], span: HeaderSpan) -> bool
+    requires { IsHeaderWithin (length head.now) span }
+    ensures { result ≡ closes_by head.now span }
+{
+    span.name.of(head).eq_ignore_ascii_case(b"connection") && has_close(span.value.of(head))
 }

@@ -9,7 +9,7 @@ ghost use Rattle.http_wire.specs.Front.{Parses, method_of, method_by, closing, u
 
 use crate::framing::Framing;
 use crate::read::connection_fields::asks_to_continue;
-use crate::read::fields::{HeadFields, gather};
+use crate::read::fields::{FieldMap, HeadFields};
 use crate::read::head_text::has_many_lines;
 use crate::read::judge::judge;
 use crate::read::layout::Layout;
@@ -35,11 +35,12 @@ pub const UNKNOWN_FRAMING: Framing = Framing {
 };
 
 /// The layout of a head, and of the body that follows it, which has at most `max_size` bytes; or the
-/// first refusal of the wire that applies. Where the fields stand is written to `spans`; what these had is not read.
-/// It takes no memory.
+/// first refusal of the wire that applies. Where the fields stand is written to `spans`, and where those that count do, to
+/// `map`; what these had is not read. It takes no memory.
 pub fn read_layout(
     head: &[u8],
     spans: &mut [HeaderSpan; FIELD_LIMIT],
+    map: &mut FieldMap,
     max_size: u64,
 ) -> Result<Layout, RefusedHead>
     requires max_size { max_size < 2 ^ 31 }
@@ -53,7 +54,12 @@ pub fn read_layout(
     let Some(line) = parse(head, spans) else {
         return Err(unknown(WireRefusal::Head));
     };
-    layout_of(line, head, &gather(head, &spans[..line.headers]), max_size)
+    layout_of(
+        line,
+        head,
+        &map.gather(head, &spans[..line.headers]),
+        max_size,
+    )
 }
 
 fn unknown(refusal: WireRefusal) -> RefusedHead

@@ -172,14 +172,16 @@ impl Inbox {
         Ok(())
     }
 
-    /// Reads once, in place of what was lent, and gives how many bytes came: none where the reader gave its end. The error
-    /// is the reader's, and then nothing came.
-    pub fn fill<R: Source>(&mut self, reader: &mut R) -> io::Result<usize>
+    /// Reads once, in place of what was lent, and gives how many bytes came, at most `most`: none where the reader gave its
+    /// end. The error is the reader's, and then nothing came.
+    pub fn fill<R: Source>(&mut self, reader: &mut R, most: usize) -> io::Result<usize>
         requires alive { R.has_failed reader.old ≡ false }
         requires unended { self.old.ended ≡ false }
         requires room { length self.old.held + READ_SIZE ≤ self.old.room }
+        requires most { 0 < most }
         ensures grew { Grew (R.remaining reader.old) (R.remaining reader.new) self.old self.new }
         ensures count { IfOk result (λ n. length self.new.held ≡ length self.old.held + n) }
+        ensures few { IfOk result (λ n. n ≤ most) }
         ensures ended { IfOk result (λ n. (n ≡ 0) ↔ (self.new.ended ≡ true)) }
         ensures lent { self.new.lent ≡ [] }
         ensures room { self.new.room ≡ self.old.room }
@@ -196,7 +198,7 @@ impl Inbox {
         self.start = self.at;
         self.end = self.at + count;
         widen(&mut self.buffer, self.end, needed, self.room);
-        let more = read_after(reader, &mut self.buffer, self.end)?;
+        let more = read_after(reader, &mut self.buffer, self.end, most)?;
         self.ended = more == 0;
         self.end += more;
         Ok(more)
@@ -265,13 +267,20 @@ fn widen(buffer: &mut Vec<u8>, end: usize, needed: usize, room: usize)
     }
 }
 
-// One read into `buffer` from the place `at` on.
-fn read_after<R: Source>(reader: &mut R, buffer: &mut Vec<u8>, at: usize) -> io::Result<usize>
+// One read of at most `most` bytes into `buffer` from the place `at` on.
+fn read_after<R: Source>(
+    reader: &mut R,
+    buffer: &mut Vec<u8>,
+    at: usize,
+    most: usize,
+) -> io::Result<usize>
     requires alive { R.has_failed reader.old ≡ false }
     requires inside { at < vec_len buffer.old }
+    requires most { 0 < most }
     ensures len { vec_len buffer.new ≡ vec_len buffer.old }
     ensures capacity { vec_capacity buffer.new ≡ vec_capacity buffer.old }
     ensures bound { IfOk result (λ n. at + n ≤ vec_len buffer.new) }
+    ensures few { IfOk result (λ n. n ≤ most) }
     ensures before { take at buffer.new.items ≡ take at buffer.old.items }
     ensures bytes { IfOk result (λ n. Consumes (R.remaining reader.old) (R.remaining reader.new)
         (slice_range buffer.new.items at (at + n))) }
@@ -279,5 +288,6 @@ fn read_after<R: Source>(reader: &mut R, buffer: &mut Vec<u8>, at: usize) -> io:
     ensures err { OnErr result (Keeps (R.remaining reader.old) (R.remaining reader.new)) }
     ensures failed { R.has_failed reader.new ≡ is_err result }
 {
-    reader.read(&mut buffer.as_mut_slice()[at..])
+    let end = at + most.min(buffer.len() - at);
+    reader.read(&mut buffer.as_mut_slice()[at..end])
 }

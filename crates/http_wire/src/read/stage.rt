@@ -13,6 +13,7 @@ ghost use Rattle.http_wire.specs.declared.read.stage.Stage.TheVariants as varian
 
 use crate::fault::WireFault;
 use crate::incoming::{Cut, Incoming};
+use crate::read::fields::FieldMap;
 use crate::read::head::{FIELD_LIMIT, UNKNOWN_FRAMING, closing, read_layout};
 use crate::read::head_search::{HeadFound, Search};
 use crate::read::inbox::Inbox;
@@ -49,12 +50,13 @@ impl Stage {
     }
 
     /// Looks at what is held; for the end of a head no byte is searched twice. A body has at most `max_size` bytes. `spans`
-    /// is where the fields of a head are written. `Looked::Continue` comes at most once, between the head and the body.
+    /// and `map` are where the fields of a head are written. `Looked::Continue` comes at most once, between the head and the body.
     /// After `Looked::More` there is room for a read, and the input has not ended.
     pub fn look(
         &mut self,
         inbox: &mut Inbox,
         spans: &mut [HeaderSpan; FIELD_LIMIT],
+        map: &mut FieldMap,
         max_size: u64,
     ) -> Looked
         requires max_size { max_size < 2 ^ 31 }
@@ -70,7 +72,7 @@ impl Stage {
                 let Some(found) = search.look(inbox) else {
                     return Looked::More;
                 };
-                match judge_head(found, inbox, spans, max_size) {
+                match judge_head(found, inbox, spans, map, max_size) {
                     Ok(layout) => {
                         *self = Stage::Body(layout);
                         if layout.is_waiting {
@@ -118,6 +120,7 @@ fn judge_head(
     found: HeadFound,
     inbox: &mut Inbox,
     spans: &mut [HeaderSpan; FIELD_LIMIT],
+    map: &mut FieldMap,
     max_size: u64,
 ) -> Result<Layout, Incoming<Layout>>
     requires max_size { max_size < 2 ^ 31 }
@@ -131,7 +134,7 @@ fn judge_head(
     ensures ended { inbox.new.ended ≡ inbox.old.ended }
 {
     match found {
-        HeadFound::Whole(len) => match read_layout(&inbox.held()[..len], spans, max_size) {
+        HeadFound::Whole(len) => match read_layout(&inbox.held()[..len], spans, map, max_size) {
             Ok(layout) => make_room(inbox, layout),
             Err(refused) => Err(Incoming::Refused(refused.refusal, refused.framing)),
         },

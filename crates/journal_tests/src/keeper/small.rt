@@ -5,11 +5,9 @@ use crate::keeper::requests::{Asked, large_settings};
 use crate::keeper::scenes::makes;
 use crate::torn_disk::TornDisk;
 use book_replay::replay;
-use journal_file::Journal;
+use journal_file::{Journal, JournalPlace, PlaceFault};
 use journal_frames::Frames;
-use journal_keeper::{
-    Compacted, JournalPlace, Journalled, KeepFault, Keeper, PlaceFault, open_journal,
-};
+use journal_keeper::{Compacted, Journalled, KeepFault, Keeper, open_journal};
 use sqlite_disk::{Disk, Fuse};
 use std::alloc::{AllocError, Global};
 use std::process::Abort;

@@ -68,6 +68,16 @@ pub(crate) fn request(number: u64, path: &[u8]) -> Request<'static> {
     }
 }
 
+/// A HEAD of an upload.
+pub(crate) fn head(path: &[u8]) -> Request<'static> {
+    Request {
+        method: Method::Head,
+        path: read_path(path),
+        fields: FIELDS,
+        body: b"",
+    }
+}
+
 // What the change at a place of the eight asks for, when these come for the time of this number.
 fn asked(place: u64, time: u64) -> (Method, TusFields<Field<'static>>, &'static [u8]) {
     match place {

@@ -34,7 +34,7 @@ fn room_is_made(rt: HostRuntime) -> Result<(), Fail> {
     Ok(())
 }
 
-// On a full disk a change is refused as Memory, and so is the next one. Nothing is changed by them, and the book is opened
+// On a full disk a PATCH is refused as Memory, with the time when its upload expires, and so is the next one. Nothing is changed by them, and the book is opened
 // again as it was.
 #[test]
 fn a_full_disk(rt: HostRuntime) -> Result<(), Fail> {
@@ -50,6 +50,7 @@ fn a_full_disk(rt: HostRuntime) -> Result<(), Fail> {
                 reply.kind,
                 ReplyKind::Refused {
                     refusal: Refusal::Memory,
+                    expires: Some(_),
                     ..
                 }
             )

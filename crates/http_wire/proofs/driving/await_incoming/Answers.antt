@@ -1,13 +1,13 @@
-use Rattle.std.proofs.Common.{◌++◌, [], ◌≡◌, ◌≢◌, IfOk, length, ap, refl, sym, ◌∙◌, subst, take, append_assoc}
+use Rattle.std.proofs.Common.{◌++◌, [], ◌≡◌, ◌≢◌, ◌≤◌, ◌+◌, ℕ, List, arith, IfOk, length, ap, refl, sym, ◌∙◌, subst, take, append_assoc}
 use Rattle.std.proofs.lemmas.Result.{err_from_is_err_and}
 use Rattle.std.specs.Io.KnownBytes.{Appends, IsAtEnd}
 use Rattle.http_wire.specs.OnConnection.{OnConnection, Stands, StandsIn, is_looking}
-use Rattle.http_wire.specs.ReadOnWire.{BreaksFront}
+use Rattle.http_wire.specs.ReadOnWire.{BreaksFront, read_limit}
 use Rattle.http_wire.specs.declared.fault.WireFault.TheVariants as fault
 use Rattle.http_wire.specs.inside.Sending.{OnOutbox}
 use Rattle.http_wire.proofs.AheadLemmas.{Appends-more, Appends-none, Consumes-kept, Consumes-more, Consumes-none, IfOk-known, OnErr-known, StopsAtEnd-open}
 use Rattle.http_wire.proofs.ConversationLemmas.{IfErr-from}
-use Rattle.http_wire.proofs.DrivingLemmas.{Breaks-continue, Breaks-over, CameIn-broken, CameIn-wanted, reads-other, settled-reads, writes-looking}
+use Rattle.http_wire.proofs.DrivingLemmas.{Breaks-continue, Breaks-over, CameIn-broken, CameIn-wanted, read-few, reads-other, settled-reads, writes-looking}
 use Rattle.http_wire.proofs.FindLemmas.{Searching-start}
 use Rattle.http_wire.proofs.PastLemmas.{StandsIn-kept}
 use Rattle.http_wire.proofs.driving.await_incoming.Goals as goal
@@ -29,6 +29,7 @@ loop-connection-init g c =
         Consumes-none (g.R.Source.remaining c.args.reader.now),
         Appends-none (g.W.Sink.contents c.args.writer.now),
         subst (Stands (start.inbox.held ++ []) []) (sym passed) (subst (StandsIn start.max_size (start.inbox.held ++ []) [] start.inbox) (sym c.requires.between.phase) (refl, Searching-start start.inbox.held)),
+        omega arith,
       );
       stops = λ h. (refl, ended ∙ h);
       end = λ sees h. sees (sym ended ∙ h);
@@ -51,6 +52,7 @@ returns-in_err-ended-in-Read-clause-breaks g c =
       Consumes-kept _ _ _ s.0 s.2 none.0,
       s.3,
       subst (λ m. BreaksFront m (record { input = bytes; text = s.1 }) c.in_err-ended-in-Read.field-0.0) size broken.0,
+      s.5,
     )
 
 pub returns-in_err-ended-in-Read-clause-fault : goal.returns-in_err-ended-in-Read-clause-fault
@@ -92,6 +94,7 @@ returns-then-is_err-clause-comes g c =
       Consumes-kept _ _ _ s.0 s.2 none.0,
       s.3,
       CameIn-broken c.read_from.new.self.max_size bytes s.1 _ c.fail.new.self _ (c.fail.ensures.breaks bytes s.1 kept) (sym c.fail.ensures.size) (sym c.ended.ensures ∙ c.in_ok-ended-in-Read.was) c.fail.ensures.tells_end (c.read_from.ensures.failed ∙ error),
+      s.5,
     )
 
 pub loop-connection-preserved-else-is_err : goal.loop-connection-preserved-else-is_err
@@ -106,6 +109,7 @@ loop-connection-preserved-else-is_err g c =
     let read = IfOk-known _ c.read_from.result ok c.read_from.ensures.takes in
     let got = read.2.0 in
     let takes = read.2.3 in
+    let size = c.wants.ensures.size ∙ loop.size in
     let end = subst (λ r. IfOk r (λ n. n ≡ 0 → IsAtEnd (g.R.Source.remaining c.read_from.new.reader))) read.1 c.read_from.ensures.end in
     record {
       reader = c.read_from.ensures.failed ∙ ok;
@@ -119,6 +123,7 @@ loop-connection-preserved-else-is_err g c =
         Consumes-more _ _ _ s.0 got s.2 read.2.2,
         s.3,
         subst (λ i. Stands i s.1 c.read_from.new.self) (append_assoc start.held s.0 got) (takes.stands bytes s.1 stands),
+        read-few c.args.connection.now.max_size c.wants.new.self.max_size start.held s.0 got read.0 read.2.1 size (subst (λ r. IfOk r (λ n. (bytes said : List ℕ) → Stands bytes said c.wants.new.self → length bytes + n ≤ read_limit c.wants.new.self.max_size)) read.1 c.read_from.ensures.few bytes s.1 stands),
       );
       stops = StopsAtEnd-open _ c.loop-connection.reader c.read_from.new.reader start c.loop-connection.connection.inbox c.read_from.new.self.inbox loop.stops (sym c.wants.ensures.ended ∙ c.wants.ensures.unended c.in-Read.is);
       end = λ _ ended. end (sym read.2.1 ∙ ap length (takes.ended.1 ended));
@@ -145,6 +150,7 @@ loop-connection-preserved g c =
         s.2,
         Appends-more _ _ _ s.1 put.0 s.3 (subst (Appends _ _) all wrote.all),
         subst (Stands bytes (s.1 ++ put.0)) (sym sent) put.2,
+        s.5,
       );
       stops = λ h.
           let p = loop.stops h in
@@ -171,6 +177,7 @@ returns-in_err-flush-in-Write-clause-breaks g c =
       s.2,
       Appends-more _ _ _ s.1 (take n put.0) s.3 (subst (λ l. Appends (g.W.Sink.contents c.loop-connection.writer) (g.W.Sink.contents c.flush.new.writer) (take n l)) all writes.prefix.2),
       subst (λ m. BreaksFront m (record { input = bytes; text = s.1 ++ take n put.0 }) fault.Write) (c.wants.ensures.size ∙ loop.size) breaks,
+      s.5,
     )
 
 pub returns-in-Answer-clause-comes : goal.returns-in-Answer-clause-comes
@@ -184,6 +191,7 @@ returns-in-Answer-clause-comes g c =
       s.3,
       CameIn-wanted bytes s.1 _ c.loop-connection.connection.outbox c.wants.new.self c.wants.result loop.sent c.wants.ensures.same c.wants.ensures.wants c.in-Answer.is (c.wants.ensures.stands bytes s.1 s.4)
           c.wants.ensures.tells_end (c.wants.ensures.unbroken loop.looks) loop.reader,
+      s.5,
     )
 
 pub returns-in_err-flush-in-Write-clause-tells_end : goal.returns-in_err-flush-in-Write-clause-tells_end

@@ -1,6 +1,7 @@
-use Rattle.std.proofs.Common.{◌≡◌, ◌++◌, ℕ, List, true, false}
+use Rattle.std.proofs.Common.{◌≡◌, ◌≤◌, ◌++◌, ℕ, List, length, true, false}
 use Rattle.std.specs.Io.KnownBytes.{Appends, Consumes}
 use Rattle.http_wire.specs.OnConnection.{Stands, is_looking, left}
+use Rattle.http_wire.specs.ReadOnWire.{read_limit}
 use Rattle.http_wire.specs.inside.Ahead.{SeesEnd, StopsAtEnd}
 use Rattle.http_wire.specs.inside.Sending.{empty_outbox}
 use Rattle.http_wire.proofs.driving.await_incoming.Given as goal
@@ -14,7 +15,8 @@ invariant-loop-connection g l = record {
   sent : l.connection.outbox ≡ empty_outbox;
   size : l.connection.max_size ≡ l.fn.connection.max_size;
   stands : (got said : List ℕ) × Consumes (g.R.Source.remaining l.fn.reader) (g.R.Source.remaining l.reader) got
-      × Appends (g.W.Sink.contents l.fn.writer) (g.W.Sink.contents l.writer) said × Stands (l.fn.connection.inbox.held ++ got) said l.connection;
+      × Appends (g.W.Sink.contents l.fn.writer) (g.W.Sink.contents l.writer) said × Stands (l.fn.connection.inbox.held ++ got) said l.connection
+      × (length got ≤ read_limit l.fn.connection.max_size);
   stops : StopsAtEnd l.fn.reader l.reader l.fn.connection.inbox l.connection.inbox;
   end : SeesEnd (g.R.Source.remaining l.fn.reader) l.fn.connection.inbox → SeesEnd (g.R.Source.remaining l.reader) l.connection.inbox;
 }

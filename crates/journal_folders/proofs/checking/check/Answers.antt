@@ -2,7 +2,7 @@ use Rattle.std.proofs.Common.{◌≡◌, Result, Err, List, ℕ, rules, refl, sy
 use Rattle.std.proofs.lemmas.Result.{err_from_is_err_and}
 use Rattle.upload_book.specs.Book.{plain_of}
 use Rattle.journal_folders.specs.ReadJournal.{IsChecked, IsFaultOfFiles, IsLineOf, LookEnds}
-use Rattle.server_words.specs.StreamUse.{used}
+use Rattle.journal_folders.specs.StreamUse.{used}
 use Rattle.server_words.specs.declared.fault.RunFault.{RunFault}
 use Rattle.journal_folders.proofs.ReadLemmas.{ends-printed, ends-unread, ends-wrong}
 use Rattle.journal_folders.proofs.checking.check.Goals as goal

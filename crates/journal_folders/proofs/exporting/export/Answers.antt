@@ -3,7 +3,7 @@ use Rattle.std.proofs.lemmas.Result.{err_from_is_err_and}
 use Rattle.upload_book.specs.Book.{plain_of}
 use Rattle.journal_folders.specs.Export.{IsExported, IsFaultOfExport}
 use Rattle.journal_folders.specs.ReadJournal.{LookEnds}
-use Rattle.server_words.specs.StreamUse.{used}
+use Rattle.journal_folders.specs.StreamUse.{used}
 use Rattle.server_words.specs.declared.fault.RunFault.{RunFault}
 use Rattle.journal_folders.proofs.ExportLemmas.{export-files, export-misses}
 use Rattle.journal_folders.proofs.ReadLemmas.{ends-printed, ends-unread, ends-wrong}

@@ -1,4 +1,4 @@
-use Rattle.server_words.proofs.FaultLemmas.{written}
+use Rattle.journal_folders.proofs.WrittenLemmas.{written}
 use Rattle.journal_folders.proofs.printing.print.Goals as goal
 
 pub returns-in-Ok-clause-written : goal.returns-in-Ok-clause-written

@@ -1,7 +1,8 @@
 use Rattle.std.proofs.Common.{◌≡◌, ℕ, [], List, sym, ap, subst, ◌∙◌}
 use Rattle.journal_file.specs.Journal.{IsJournal}
 use Rattle.journal_frames.specs.Frames.{recovered}
-use Rattle.journal_keeper.proofs.OpeningLemmas.{damage-told, nothing-recovered, recovered-frames}
+use Rattle.journal_file.proofs.ReadAgain.{nothing-recovered, recovered-frames}
+use Rattle.journal_keeper.proofs.OpeningLemmas.{damage-told}
 use Rattle.journal_keeper.proofs.opening.open_journal.Goals as goal
 
 pub returns-then-len-eq0-clause-journal : goal.returns-then-len-eq0-clause-journal

@@ -1,5 +1,5 @@
 use Rattle.clap.specs.Walk.{texts}
-use Rattle.server_words.proofs.SettingsFileLemmas.{all-lines, last-line, next-line, no-lines, shorter}
+use Rattle.server_words.proofs.SettingsFileLemmas.{next-line, no-lines}
 use Rattle.server_words.proofs.settings_file.push_lines.Goals as goal
 
 pub lines-init : goal.lines-init

@@ -1,5 +1,5 @@
 use Rattle.std.proofs.Common.{inr, rules}
-use Rattle.server_words.proofs.FaultLemmas.{written}
+use Rattle.journal_folders.proofs.WrittenLemmas.{written}
 use Rattle.tus_program.proofs.program.tell.Goals as goal
 
 pub returns-in-Err : goal.returns-in-Err

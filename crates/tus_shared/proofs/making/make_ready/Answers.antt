@@ -1,11 +1,18 @@
-use Rattle.std.proofs.Common.{ap, refl, sym, subst, ◌∙◌, arith}
+use Rattle.std.proofs.Common.{ap, length, refl, sym, subst, ◌∙◌, arith}
+use Rattle.upload_book.specs.Change.{CanBeMade}
 use Rattle.upload_book.specs.Lawful.{IsLawful}
 use Rattle.upload_book.specs.PlainBook.{PlainBook}
+use Rattle.upload_book.specs.Ready.{change_in}
+use Rattle.upload_book.specs.Settings.{Settings}
 use Rattle.head_board.specs.Board.{BoardView, ReaderView}
 use Rattle.head_board.specs.Events.{HaveHappened}
 use Rattle.tus_shared.proofs.ChangeLemmas.{no-less, shown-at, shown-one}
-use Rattle.tus_shared.proofs.EventLemmas.{at-settings}
+use Rattle.head_board.proofs.SettingsLemmas.{at-settings}
 use Rattle.tus_shared.proofs.making.make_ready.Goals as goal
+
+pub show_note-requires-clause-asked : goal.show_note-requires-clause-asked
+show_note-requires-clause-asked g c =
+    subst (λ (s : Settings). CanBeMade (length s.tenants) (change_in c.args.ready)) (sym c.requires.store.board_settings) c.requires.asked
 
 pub returns-clause-store : goal.returns-clause-store
 returns-clause-store g c =
@@ -14,7 +21,7 @@ returns-clause-store g c =
     let shown = c.show_note.ensures.shown in
     let told = c.show_note.ensures.line in
     let after = c.commit-outcome.ensures.after in
-    let at = shown-at s _ _ _ _ _ _ _ old.at refl told.1 shown after in
+    let at = shown-at s _ _ _ _ _ _ _ old.at refl c.requires.asked told.1 shown after in
     let n = no-less _ _ _ _ told.1 after in
     record {
       settings = ap (λ (b : PlainBook). b.settings) at.is ∙ at-settings s c.show_note.new.board.events;
@@ -42,7 +49,7 @@ pub invariant_of-desk : goal.invariant_of-desk
 invariant_of-desk g c =
     let s = g.C.Charges.settings in
     let i = c.desk.invariant in
-    let at = shown-at s _ _ _ _ _ _ _ c.requires.store.at refl c.show_note.ensures.line.1 c.show_note.ensures.shown c.commit-outcome.ensures.after in
+    let at = shown-at s _ _ _ _ _ _ _ c.requires.store.at refl c.requires.asked c.show_note.ensures.line.1 c.show_note.ensures.shown c.commit-outcome.ensures.after in
     let seen = c.show_to.ensures.seen in
     record {
       settings_are = i.settings_are;
@@ -58,7 +65,7 @@ invariant_of-desk g c =
 
 pub returns-clause-lawful : goal.returns-clause-lawful
 returns-clause-lawful g c =
-    let at = shown-at g.C.Charges.settings _ _ _ _ _ _ _ c.requires.store.at refl c.show_note.ensures.line.1 c.show_note.ensures.shown c.commit-outcome.ensures.after in
+    let at = shown-at g.C.Charges.settings _ _ _ _ _ _ _ c.requires.store.at refl c.requires.asked c.show_note.ensures.line.1 c.show_note.ensures.shown c.commit-outcome.ensures.after in
     subst IsLawful at.is c.charged_total.ensures.lawful
 
 pub returns-clause-moves : goal.returns-clause-moves
@@ -68,7 +75,7 @@ returns-clause-moves g c =
     let told = c.show_note.ensures.line in
     let after = c.commit-outcome.ensures.after in
     let old = c.requires.store.at in
-    let at = shown-at s _ _ _ _ _ _ _ old refl told.1 shown after in
+    let at = shown-at s _ _ _ _ _ _ _ old refl c.requires.asked told.1 shown after in
     let n = no-less _ _ _ _ told.1 after in
     rw (← c.desk.view_is) (record {
       number = refl;

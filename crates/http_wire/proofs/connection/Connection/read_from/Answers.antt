@@ -1,10 +1,10 @@
-use Rattle.std.proofs.Common.{◌≡◌, ap, is_err, sym, subst}
+use Rattle.std.proofs.Common.{◌≡◌, ap, arith, is_err, sym, subst}
 use Rattle.http_wire.specs.Layout.{framed_at}
 use Rattle.http_wire.specs.OnConnection.{OnConnection, wanted}
 use Rattle.http_wire.specs.Past.{HasPast}
 use Rattle.http_wire.specs.declared.connection.Wants.TheVariants as wants
 use Rattle.http_wire.proofs.AheadLemmas.{OnErr-always, OnErr-known}
-use Rattle.http_wire.proofs.PhaseLemmas.{Past-unread, Takes-read, came-len, none-came}
+use Rattle.http_wire.proofs.PhaseLemmas.{Past-unread, Reads-few, Takes-read, came-len, none-came}
 use Rattle.http_wire.proofs.connection.Connection.read_from.Goals as goal
 
 pub returns-in-Waiting-clause-takes : goal.returns-in-Waiting-clause-takes
@@ -20,6 +20,12 @@ returns-in-Waiting-clause-takes g c =
       Takes-read grew.0 (framed_at c.self.inside.buffers.inbox.lent) c.self.inside.phase c.in-Waiting.stage c.self.inside.buffers.inbox c.fill.new.self _ _ c.in-Waiting.is c.self.invariant.phase grew.1
           (none-came held grew.0 new c.in_ok-count.count _ grew.1 count c.in_ok-count.ensures.ended),
     )
+
+pub returns-in-Waiting-clause-few : goal.returns-in-Waiting-clause-few
+returns-in-Waiting-clause-few g c =
+    let most = c.lacking-most.ensures.lacks in
+    rw (← c.self.view_is) (λ bytes said h. Reads-few (framed_at c.self.inside.buffers.inbox.lent) c.self.inside.phase c.in-Waiting.stage c.self.inside.max_size c.in_ok-count.count c.self.inside.buffers.inbox c.in-Waiting.is c.self.invariant.phase
+    (omega (arith, c.in_ok-count.ensures.few, most)) bytes said h)
 
 pub returns-in_err-count-clause-kept : goal.returns-in_err-count-clause-kept
 returns-in_err-count-clause-kept g c =

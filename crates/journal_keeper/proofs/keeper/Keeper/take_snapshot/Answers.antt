@@ -5,7 +5,7 @@ use Rattle.book_replay.specs.Snapshot.{IsSnapshot, snapshot_records}
 use Rattle.head_board.specs.Events.{book_at}
 use Rattle.journal_file.specs.Draft.{draft_key}
 use Rattle.journal_file.specs.Journal.{key_of}
-use Rattle.tus_shared.proofs.EventLemmas.{at-settings}
+use Rattle.head_board.proofs.SettingsLemmas.{at-settings}
 use Rattle.upload_book.specs.PlainBook.{opening_book}
 use Rattle.upload_book.specs.Settings.{Settings}
 use Rattle.journal_keeper.specs.Compaction.{WillHave}

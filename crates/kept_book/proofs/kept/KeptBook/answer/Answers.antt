@@ -21,5 +21,6 @@ returns-in_default g c = record {
   crash = λ s events is left may. kept-leaves c.args.self.now s events is left may;
   key = search rules;
   failed = search rules;
+  stays = search rules;
   ended = search rules;
 }

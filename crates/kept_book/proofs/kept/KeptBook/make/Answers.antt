@@ -23,7 +23,7 @@ returns-in_err-keep-clause-crash g c = λ s events is left may.
 
 pub returns-then-not-branch-clause-done : goal.returns-then-not-branch-clause-done
 returns-then-not-branch-clause-done g c =
-    (accepted-as (book_in c.args.self.now) c.prepare.new.self c.in-Ok.ready c.args.change c.args.now c.prepare.ensures.plain c.in-Ok.ensures.change c.in-Ok.ensures.now c.in-Ok.ensures.ready, c.prepare.ensures.plain)
+    (accepted-as (book_in c.args.self.now) c.prepare.new.self c.in-Ok.ready c.args.change c.args.now c.prepare.ensures.plain c.in-Ok.ensures.change c.in-Ok.ensures.now c.in-Ok.ensures.ready, rw (c.prepare.ensures.plain, c.copied-copy.ensures) at c.refused_for_memory.ensures, c.prepare.ensures.plain)
 
 pub returns-then-not-branch-clause-crash : goal.returns-then-not-branch-clause-crash
 returns-then-not-branch-clause-crash g c = λ s events is left may.

@@ -1,4 +1,4 @@
-use Rattle.std.proofs.Common.{List, subst, sym}
+use Rattle.std.proofs.Common.{List, option_map, subst, sym}
 use Rattle.head_board.specs.Event.{Event}
 use Rattle.head_board.specs.Events.{HaveHappened}
 use Rattle.tus_shared.specs.Desk.{Moves, Spends}
@@ -10,7 +10,9 @@ returns-clause-answers g c =
     record {
       before = c.deref_mut.result.now;
       begins = c.step.ensures.begins;
+      lawful = c.step.ensures.lawful;
       happened = subst (λ (events : List Event). HaveHappened g.C.Charges.settings events) (sym seen) c.step.ensures.stays_happened;
+      frame = option_map (λ f. f.items) c.args.frame;
       step = rw seen c.step.ensures.step;
       adds = rw seen c.step.ensures.adds;
       moves = subst (λ (after : List Event). Moves g.C.Charges.settings c.deref_mut.result.now after c.args.self.now c.step.new.desk) (sym seen) c.step.ensures.moves;

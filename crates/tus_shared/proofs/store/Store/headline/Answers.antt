@@ -5,7 +5,7 @@ use Rattle.upload_book.specs.Lawful.{IsLawful}
 use Rattle.upload_book.specs.Settings.{Settings}
 use Rattle.head_board.specs.Event.{Event}
 use Rattle.head_board.specs.Events.{book_at}
-use Rattle.tus_shared.proofs.EventLemmas.{at-settings}
+use Rattle.head_board.proofs.SettingsLemmas.{at-settings}
 use Rattle.tus_shared.proofs.FinalLemmas.{comes-by}
 use Rattle.tus_shared.proofs.store.Store.headline.Goals as goal
 

@@ -1,17 +1,18 @@
-use Rattle.std.proofs.Common.{◌≡◌, ◌≤◌, ◌++◌, ◌∷◌, [], List, length, ℕ, ◌+◌, Bool, true, false, Option, IsSome, ap, refl, rules, sym, subst, inl, ◌∙◌}
+use Rattle.std.proofs.Common.{◌≡◌, ◌≤◌, ◌++◌, ◌∷◌, [], List, length, ℕ, ◌+◌, Option, option_map, IsSome, Err, ap, refl, sym, subst, inl, ◌∙◌}
 use Rattle.book_replay.specs.Replay.{Happens}
-use Rattle.upload_book.specs.Change.{CanBeMade}
+use Rattle.upload_book.specs.Change.{CanBeMade, change_lacking}
 use Rattle.upload_book.specs.Lawful.{IsLawful}
+use Rattle.upload_book.specs.PlainBook.{PlainBook}
 use Rattle.upload_book.specs.Settings.{Settings}
 use Rattle.head_board.specs.Event.{Event}
 use Rattle.head_board.specs.Events.{book_at}
-use Rattle.tus_shared.specs.Desk.{Desk}
-use Rattle.tus_shared.specs.Journal.{journal_len}
+use Rattle.tus_shared.specs.Desk.{Desk, queueing}
+use Rattle.tus_shared.specs.Journal.{Queueing, journal_len}
 use Rattle.tus_shared.specs.Steps.{IsNextEvent}
 use Rattle.tus_shared.specs.inside.QueueRule.{IsQueued, QueueView}
-use Rattle.tus_shared.proofs.ChangeLemmas.{done-made, done-refused, done-unkept, event_by}
-use Rattle.tus_shared.proofs.EventLemmas.{at-settings}
-use Rattle.tus_shared.proofs.QueueLemmas.{frame-given, framed-spares, framed-spends, queue-journal, queue-on, queue-stays, spends-one}
+use Rattle.tus_shared.proofs.ChangeLemmas.{done-made, done-refused, done-unkept, err-of, event_by, ok-of}
+use Rattle.head_board.proofs.SettingsLemmas.{at-settings}
+use Rattle.tus_shared.proofs.QueueLemmas.{frame-given, framed-spares, framed-spends, framed-why, queue-journal, queue-on, queue-stays, spends-one}
 use Rattle.tus_shared.proofs.ReadyLemmas.{accepted-as}
 use Rattle.tus_shared.proofs.store.Store.make.Goals as goal
 
@@ -41,7 +42,7 @@ returns-in-Err-clause-stays_lawful g c = subst IsLawful c.self.invariant.0.at.is
 pub returns-in-Err-clause-done : goal.returns-in-Err-clause-done
 returns-in-Err-clause-done g c =
     let b = book_at g.C.Charges.settings c.self.inside.board.events in
-    rw (← c.self.view_is) (done-refused c.args.desk.now.journal b c.self.inside.board.events c.args.desk.now.number c.args.change c.args.now c.in-Err.refused (rw c.self.invariant.0.at.is at c.in-Err.ensures.refused))
+    rw (← c.self.view_is) (done-refused (queueing c.args.desk.now (option_map (λ f. f.items) c.args.frame)) b c.self.inside.board.events c.args.desk.now.number c.args.change c.args.now c.in-Err.refused (rw c.self.invariant.0.at.is at c.in-Err.ensures.refused))
 
 pub returns-in-Err-clause-moves : goal.returns-in-Err-clause-moves
 returns-in-Err-clause-moves g c = rw (← c.self.view_is) (record { number = refl; journal = refl; kept = refl; charged = refl; released = refl; made = refl })
@@ -52,11 +53,11 @@ returns-in-Err-clause-spends g c = rw (← c.self.view_is) refl
 pub returns-in-Err-clause-seen : goal.returns-in-Err-clause-seen
 returns-in-Err-clause-seen g c = c.requires.seen ∙ sym c.self.view_is
 
-pub invariant_of-self-then-not-queue_frame : goal.invariant_of-self-then-not-queue_frame
-invariant_of-self-then-not-queue_frame g c =
-    let no_place : c.queue_frame.result ≡ false = search rules in
-    let framed = rw no_place at c.queue_frame.ensures in
-    let stays = queue-stays _ c.self.inside.queue c.queue_frame.new.queue c.desk.inside.room c.spare_for-spare.result c.queue_frame.new.room framed in (
+pub invariant_of-self-then-is_err : goal.invariant_of-self-then-is_err
+invariant_of-self-then-is_err g c =
+    let why = err-of c.queue_frame.result (sym c.is_err.ensures.value ∙ c.if-is_err.true) in
+    let framed = rw why.1 at c.queue_frame.ensures in
+    let stays = queue-stays why.0 _ c.self.inside.queue c.queue_frame.new.queue c.desk.inside.room c.spare_for-spare.result c.queue_frame.new.room framed in (
       rw c.prepare.ensures.plain c.self.invariant.0,
       subst (λ (q : Option QueueView). IsQueued g.C.Charges.settings g.C.Charges.journal g.C.Charges.log c.self.inside.board.events q) (sym stays.0) c.self.invariant.1,
     )
@@ -64,54 +65,62 @@ invariant_of-self-then-not-queue_frame g c =
 pub invariant_of-desk : goal.invariant_of-desk
 invariant_of-desk g c = c.desk.invariant
 
-pub returns-then-not-queue_frame-clause-happened : goal.returns-then-not-queue_frame-clause-happened
-returns-then-not-queue_frame-clause-happened g c = rw (← c.self.view_is) c.self.invariant.0.at.happened
+pub returns-then-is_err-clause-happened : goal.returns-then-is_err-clause-happened
+returns-then-is_err-clause-happened g c = rw (← c.self.view_is) c.self.invariant.0.at.happened
 
-pub returns-then-not-queue_frame-clause-stays_happened : goal.returns-then-not-queue_frame-clause-stays_happened
-returns-then-not-queue_frame-clause-stays_happened g c = c.self.invariant.0.at.happened
+pub returns-then-is_err-clause-stays_happened : goal.returns-then-is_err-clause-stays_happened
+returns-then-is_err-clause-stays_happened g c = c.self.invariant.0.at.happened
 
-pub returns-then-not-queue_frame-clause-lawful : goal.returns-then-not-queue_frame-clause-lawful
-returns-then-not-queue_frame-clause-lawful g c = rw (← c.self.view_is) (subst IsLawful c.self.invariant.0.at.is c.settings-lawful.ensures.lawful)
+pub returns-then-is_err-clause-lawful : goal.returns-then-is_err-clause-lawful
+returns-then-is_err-clause-lawful g c = rw (← c.self.view_is) (subst IsLawful c.self.invariant.0.at.is c.settings-lawful.ensures.lawful)
 
-pub returns-then-not-queue_frame-clause-stays_lawful : goal.returns-then-not-queue_frame-clause-stays_lawful
-returns-then-not-queue_frame-clause-stays_lawful g c = subst IsLawful c.self.invariant.0.at.is c.settings-lawful.ensures.lawful
+pub returns-then-is_err-clause-stays_lawful : goal.returns-then-is_err-clause-stays_lawful
+returns-then-is_err-clause-stays_lawful g c = subst IsLawful c.self.invariant.0.at.is c.settings-lawful.ensures.lawful
 
-pub returns-then-not-queue_frame-clause-done : goal.returns-then-not-queue_frame-clause-done
-returns-then-not-queue_frame-clause-done g c =
-    let no_place : c.queue_frame.result ≡ false = search rules in
-    let framed = rw no_place at c.queue_frame.ensures in
-    let stays = queue-stays _ c.self.inside.queue c.queue_frame.new.queue c.desk.inside.room c.spare_for-spare.result c.queue_frame.new.room framed in
+pub returns-then-is_err-clause-done : goal.returns-then-is_err-clause-done
+returns-then-is_err-clause-done g c =
+    let why = err-of c.queue_frame.result (sym c.is_err.ensures.value ∙ c.if-is_err.true) in
+    let framed = rw why.1 at c.queue_frame.ensures in
+    let stays = queue-stays why.0 _ c.self.inside.queue c.queue_frame.new.queue c.desk.inside.room c.spare_for-spare.result c.queue_frame.new.room framed in
     let events = c.self.inside.board.events in
     let b = book_at g.C.Charges.settings events in
     let there = queue-journal g.C.Charges.settings g.C.Charges.journal g.C.Charges.log events c.self.inside.queue c.self.invariant.1 stays.2 in
     let journalled = subst (λ (j : Option ℕ). IsSome j) (sym c.desk.invariant.journal_is) there in
     let accepted = accepted-as b c.prepare.new.self c.in-Ok.ready c.args.change c.args.now (c.prepare.ensures.plain ∙ c.self.invariant.0.at.is) c.in-Ok.ensures.change c.in-Ok.ensures.now c.in-Ok.ensures.ready in
-    rw (← c.self.view_is, ← c.desk.view_is) (done-unkept c.desk.inside.journal b events c.desk.inside.number c.args.change c.args.now journalled accepted)
+    let given = frame-given c.args.frame (λ f. f.items) g.C.Charges.journal c.desk.inside.number c.args.change c.args.now c.requires.frame in
+    let unqueued = framed-why g.C.Charges.journal c.desk.inside.journal (event_by c.desk.inside.number c.args.change c.args.now) why.0 _ c.self.inside.queue c.queue_frame.new.queue c.desk.inside.room c.spare_for-spare.result c.queue_frame.new.room framed given c.spare_for-spare.ensures c.desk.invariant.journal_is in
+    let q : Queueing = record { journal = c.desk.inside.journal; frame = option_map (λ f. f.items) c.args.frame; room = c.desk.inside.room } in
+    let told = subst (λ (b : PlainBook). Err c.refused_for_memory-unkept.result ≡ change_lacking b c.args.change c.args.now) c.self.invariant.0.at.is c.refused_for_memory-unkept.ensures in
+    rw (← c.self.view_is, ← c.desk.view_is) (done-unkept q b events c.desk.inside.number c.args.change c.args.now c.refused_for_memory-unkept.result (record { journalled = journalled; accepted = accepted; why = why.0; unqueued = unqueued }) told)
 
-pub returns-then-not-queue_frame-clause-moves : goal.returns-then-not-queue_frame-clause-moves
-returns-then-not-queue_frame-clause-moves g c = rw (← c.self.view_is, ← c.desk.view_is) (record { number = refl; journal = refl; kept = refl; charged = refl; released = refl; made = refl })
+pub returns-then-is_err-clause-moves : goal.returns-then-is_err-clause-moves
+returns-then-is_err-clause-moves g c = rw (← c.self.view_is, ← c.desk.view_is) (record { number = refl; journal = refl; kept = refl; charged = refl; released = refl; made = refl })
 
-pub returns-then-not-queue_frame-clause-spends : goal.returns-then-not-queue_frame-clause-spends
-returns-then-not-queue_frame-clause-spends g c =
-    let no_place : c.queue_frame.result ≡ false = search rules in
-    let framed = rw no_place at c.queue_frame.ensures in
-    let stays = queue-stays _ c.self.inside.queue c.queue_frame.new.queue c.desk.inside.room c.spare_for-spare.result c.queue_frame.new.room framed in
+pub returns-then-is_err-clause-spends : goal.returns-then-is_err-clause-spends
+returns-then-is_err-clause-spends g c =
+    let why = err-of c.queue_frame.result (sym c.is_err.ensures.value ∙ c.if-is_err.true) in
+    let framed = rw why.1 at c.queue_frame.ensures in
+    let stays = queue-stays why.0 _ c.self.inside.queue c.queue_frame.new.queue c.desk.inside.room c.spare_for-spare.result c.queue_frame.new.room framed in
     rw (← c.self.view_is, ← c.desk.view_is) (ap (λ (n : ℕ). n + journal_len c.desk.inside.journal c.self.inside.board.events) stays.1)
 
-pub returns-then-not-queue_frame-clause-seen : goal.returns-then-not-queue_frame-clause-seen
-returns-then-not-queue_frame-clause-seen g c = ap (λ (d : Desk). d.seen) c.desk.view_is ∙ c.requires.seen ∙ sym c.self.view_is
+pub returns-then-is_err-clause-seen : goal.returns-then-is_err-clause-seen
+returns-then-is_err-clause-seen g c = ap (λ (d : Desk). d.seen) c.desk.view_is ∙ c.requires.seen ∙ sym c.self.view_is
 
-pub returns-then-not-queue_frame-clause-steps : goal.returns-then-not-queue_frame-clause-steps
-returns-then-not-queue_frame-clause-steps g c = ap (λ (d : Desk). d.steps) c.desk.view_is
+pub returns-then-is_err-clause-steps : goal.returns-then-is_err-clause-steps
+returns-then-is_err-clause-steps g c = ap (λ (d : Desk). d.steps) c.desk.view_is
 
-pub returns-then-not-queue_frame-clause-missed : goal.returns-then-not-queue_frame-clause-missed
-returns-then-not-queue_frame-clause-missed g c = ap (λ (d : Desk). d.missed) c.desk.view_is
+pub returns-then-is_err-clause-missed : goal.returns-then-is_err-clause-missed
+returns-then-is_err-clause-missed g c = ap (λ (d : Desk). d.missed) c.desk.view_is
 
 pub invariant_of-desk-2 : goal.invariant_of-desk-2
 invariant_of-desk-2 g c = c.desk.invariant
 
 pub make_ready-requires-clause-ready : goal.make_ready-requires-clause-ready
 make_ready-requires-clause-ready g c = c.in-Ok.ensures.ready
+
+pub make_ready-requires-clause-asked : goal.make_ready-requires-clause-asked
+make_ready-requires-clause-asked g c =
+    subst (CanBeMade (length g.C.Charges.settings.tenants)) (sym c.in-Ok.ensures.change) c.requires.change
 
 pub make_ready-requires-clause-store : goal.make_ready-requires-clause-store
 make_ready-requires-clause-store g c = rw c.prepare.ensures.plain c.self.invariant.0
@@ -123,8 +132,8 @@ invariant_of-self-2 g c =
     let events = c.self.inside.board.events in
     let after = c.make_ready.new.board.events in
     let number = c.desk.inside.number in
-    let place : c.queue_frame.result ≡ true = search rules in
-    let framed = rw place at c.queue_frame.ensures in
+    let placed = ok-of c.queue_frame.result (sym c.is_err.ensures.value ∙ c.if-is_err.false) in
+    let framed = rw placed at c.queue_frame.ensures in
     let given = frame-given c.args.frame (λ f. f.items) journal number c.args.change c.args.now c.requires.frame in
     let next : IsNextEvent events number c.args.change c.args.now after = rw (c.in-Ok.ensures.change, c.in-Ok.ensures.now) at c.make_ready.ensures.next in
     let b = book_at s events in
@@ -167,8 +176,8 @@ returns-clause-spends g c =
     let after = c.make_ready.new.board.events in
     let number = c.desk.inside.number in
     let e : Event = event_by number c.args.change c.args.now in
-    let place : c.queue_frame.result ≡ true = search rules in
-    let framed = rw place at c.queue_frame.ensures in
+    let placed = ok-of c.queue_frame.result (sym c.is_err.ensures.value ∙ c.if-is_err.false) in
+    let framed = rw placed at c.queue_frame.ensures in
     let given = frame-given c.args.frame (λ f. f.items) journal number c.args.change c.args.now c.requires.frame in
     let next : IsNextEvent events number c.args.change c.args.now after = rw (c.in-Ok.ensures.change, c.in-Ok.ensures.now) at c.make_ready.ensures.next in
     let spent = framed-spends journal e _ c.self.inside.queue c.queue_frame.new.queue c.desk.inside.room c.spare_for-spare.result c.queue_frame.new.room framed given c.self.invariant.1.there in
@@ -177,8 +186,8 @@ returns-clause-spends g c =
 pub returns-clause-spares : goal.returns-clause-spares
 returns-clause-spares g c = λ journalled.
     let journal = g.C.Charges.journal in
-    let place : c.queue_frame.result ≡ true = search rules in
-    let framed = rw place at c.queue_frame.ensures in
+    let placed = ok-of c.queue_frame.result (sym c.is_err.ensures.value ∙ c.if-is_err.false) in
+    let framed = rw placed at c.queue_frame.ensures in
     let there = subst (λ (j : Option ℕ). IsSome j) (sym (ap (λ (d : Desk). d.journal) c.desk.view_is) ∙ c.desk.invariant.journal_is) journalled in
     let spared = framed-spares journal _ c.self.inside.queue c.queue_frame.new.queue c.desk.inside.room c.spare_for-spare.result c.queue_frame.new.room framed c.self.invariant.1.there there in
     rw (c.make_ready.ensures.room, ← c.spare_for-spare.ensures) spared

@@ -25,6 +25,12 @@ invariant_of-self g c = (rw c.prepare.ensures.plain c.self.invariant.0, c.self.i
 pub returns-in-Err-clause-again : goal.returns-in-Err-clause-again
 returns-in-Err-clause-again g c = rw (← c.self.view_is) (rw c.self.invariant.0.at.is at c.in-Err.ensures.refused, refl)
 
+pub make_ready-requires-clause-asked : goal.make_ready-requires-clause-asked
+make_ready-requires-clause-asked g c =
+    let count : c.tenant_count.result ≡ length g.C.Charges.settings.tenants = c.tenant_count.ensures ∙ ap (λ (s : Settings). length s.tenants) (c.settings.ensures.value ∙ c.self.invariant.0.settings) in
+    let yes_can : c.can_be_made.result ≡ true = search rules in
+    subst (CanBeMade (length g.C.Charges.settings.tenants)) (sym c.in-Ok.ensures.change) (subst (λ (n : ℕ). CanBeMade n c.args.change) count (c.can_be_made.ensures.required.0 yes_can))
+
 pub make_ready-requires-clause-store : goal.make_ready-requires-clause-store
 make_ready-requires-clause-store g c = rw c.prepare.ensures.plain c.self.invariant.0
 

@@ -1,14 +1,15 @@
-use Rattle.std.proofs.Common.{◌≡◌, ℕ, Option, Some, ap, sym, subst, ◌∙◌}
+use Rattle.std.proofs.Common.{◌≡◌, ℕ, Some, ap, option_map, sym, subst, ◌∙◌}
 use Rattle.upload_book.specs.PlainBook.{PlainBook}
 use Rattle.upload_book.specs.Settings.{Settings}
 use Rattle.tus_steps.specs.Asked.{asked_in, change_in}
 use Rattle.tus_steps.specs.Changing.{IsChangeStep, IsStepOf, change_found, change_reply}
 use Rattle.tus_steps.specs.declared.asked.Asked.{Asked}
 use Rattle.head_board.specs.Events.{book_at}
-use Rattle.tus_shared.specs.Desk.{Desk}
+use Rattle.tus_shared.specs.Desk.{Desk, queueing}
+use Rattle.tus_shared.specs.Journal.{Queueing}
 use Rattle.tus_shared.specs.Steps.{IsStepAt}
 use Rattle.tus_shared.proofs.ChangeLemmas.{done-step}
-use Rattle.tus_shared.proofs.EventLemmas.{at-settings}
+use Rattle.head_board.proofs.SettingsLemmas.{at-settings}
 use Rattle.tus_shared.proofs.FinalLemmas.{request-restores-nothing}
 use Rattle.tus_shared.proofs.store.Store.step.Goals as goal
 
@@ -22,9 +23,10 @@ returns-in-Change-clause-step g c =
     let found = c.requires.found.step before c.args.now c.make-outcome.ensures.lawful settings in
     let steps : IsStepOf before r c.args.now c.in-Change.asked = subst (λ (asks : Asked). IsChangeStep before r c.args.now (change_in asks)) c.in-Change.is found in
     let asks : change_found before.settings r ≡ Some c.in-Change.asked = ap (λ (t : Settings). change_found t r) settings ∙ ap change_in (sym c.requires.found.is ∙ c.in-Change.is) in
-    let made = done-step c.begin.new.desk.journal s c.args.self.now c.make-outcome.new.self c.begin.new.desk.number r c.args.now c.in-Change.asked c.make-outcome.result asks steps c.make-outcome.ensures.done in
-    let same : c.begin.new.desk.journal ≡ c.args.desk.now.journal = ap (λ (d : Desk). d.journal) c.begin.ensures.desk in
-    rw c.put_change.ensures (subst (λ (j : Option ℕ). IsStepAt j before r c.args.now (change_reply r c.in-Change.asked.offset c.make-outcome.result) after) same made)
+    let frame = option_map (λ f. f.items) c.args.frame in
+    let made = done-step (queueing c.begin.new.desk frame) s c.args.self.now c.make-outcome.new.self c.begin.new.desk.number r c.args.now c.in-Change.asked c.make-outcome.result asks steps c.make-outcome.ensures.done in
+    let same = ap (λ (d : Desk). queueing d frame) c.begin.ensures.desk in
+    rw c.put_change.ensures (subst (λ (q : Queueing). IsStepAt q before r c.args.now (change_reply r c.in-Change.asked.offset c.make-outcome.result) after) same made)
 
 pub answer_asked-requires-clause-found : goal.answer_asked-requires-clause-found
 answer_asked-requires-clause-found g c =

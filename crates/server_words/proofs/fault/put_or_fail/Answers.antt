@@ -1,5 +1,0 @@
-use Rattle.server_words.proofs.FaultLemmas.{written}
-use Rattle.server_words.proofs.fault.put_or_fail.Goals as goal
-
-pub returns : goal.returns
-returns g c = written _ _ _ c.args.text.now c.put_all.result c.put_all.ensures
