@@ -23,7 +23,7 @@ use std::alloc::{AllocError, Global};
 use std::marker::Model;
 use std::sync::Wait;
 use tus_text::Text;
-use upload_book::{HeadNote, HeadRow, LentRow, NotedChange, Settings};
+use upload_book::{HeadNote, HeadRow, NotedChange, RowRef, Settings};
 
 /// The heads of a book as they are shown to readers, who need no lock. This is the writer's side. A contract sees the
 /// settings of the book, which log its events are in, and all events that were shown.
@@ -276,7 +276,7 @@ fn note_change<R: Wait>(rt: &R, writer: &mut BoardWriter, change: &NotedChange) 
 }
 
 // Tells both copies the texts of a new upload.
-fn note_texts<R: Wait>(rt: &R, writer: &mut BoardWriter, row: &LentRow)
+fn note_texts<R: Wait>(rt: &R, writer: &mut BoardWriter, row: &RowRef)
     ensures desk { writer.new.desk ≡ writer.old.desk }
     ensures texts { fold noted writer.new.desk.shown.value (drop writer.new.behind writer.new.log.items)
         ≡ record (fold noted writer.old.desk.shown.value (drop writer.old.behind writer.old.log.items)) {

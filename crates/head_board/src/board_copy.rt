@@ -5,7 +5,7 @@ use crate::coming_texts::{ComingTexts, Piece, TextField};
 use crate::event_log::SeenEvents;
 use crate::head_table::HeadTable;
 use crate::last_changes::LastChanges;
-use upload_book::{Accounts, Growth, HeadNote, Kind, LentRow, Moment, Name, NotedChange, Settings};
+use upload_book::{Accounts, Growth, HeadNote, Kind, Moment, Name, NotedChange, RowRef, Settings};
 
 /// What readers read: the heads of the book, and the events of the log whose changes were made to them. There are two
 /// copies: readers read one while the writer changes the other. Each knows up to which event what it tells of an upload last
@@ -80,7 +80,7 @@ impl SmallChange {
     {
         match *self {
             SmallChange::Created(tenant, kind, growth) => {
-                let row = LentRow::new(kind, growth, texts.metadata(), texts.concat());
+                let row = RowRef::new(kind, growth, texts.metadata(), texts.concat());
                 NotedChange::Created(tenant, row)
             }
             SmallChange::Grown(name, growth) => NotedChange::Grown(name, growth),

@@ -12,7 +12,7 @@ use crate::first_end::earlier;
 use crate::kept_row::{KeptRow, empty_rows};
 use std::alloc::{AllocError, Global};
 use std::marker::Model;
-use upload_book::{Growth, HeadRow, LentRow, Moment, Refusal};
+use upload_book::{Growth, HeadRow, Moment, Refusal, RowRef};
 
 /// The rows of a tenant's uploads by ascending id, the id that its next one gets, and boxes for as many more as it may
 /// have. A contract sees the tenant's part of the heads, and for how many rows there is room.
@@ -50,7 +50,7 @@ impl HeadRows {
 
     /// Puts the row of a new upload under the next id. Says whether it did. It does not where there is no room for it, or
     /// no id up to `last_id`, and then nothing changes.
-    pub(crate) fn create(&mut self, last_id: u64, row: &LentRow) -> bool
+    pub(crate) fn create(&mut self, last_id: u64, row: &RowRef) -> bool
         requires { last_id < 18446744073709551615 }
         ensures put { result ≡ takes_row self.old.room last_id self.old.part self.old.part.next }
         ensures after { self.new ≡ (if result then record self.old { part = with_row self.old.part self.old.part.next row.now } else self.old) }
@@ -59,7 +59,7 @@ impl HeadRows {
     }
 
     // Puts the row of a new upload.
-    fn add(&mut self, last_id: u64, row: &LentRow) -> bool
+    fn add(&mut self, last_id: u64, row: &RowRef) -> bool
         requires { last_id < 18446744073709551615 }
         ensures { MatchBool result
             ((length self.old.part.uploads < self.old.room) × (self.old.part.next ≤ last_id)
@@ -127,7 +127,7 @@ impl HeadRows {
 
     /// What a HEAD of this id finds at this moment: Unknown where the id was never given, Gone where its upload has
     /// ended or expired, and else its row, whose texts are lent.
-    pub(crate) fn look(&self, id: u64, now: Moment) -> Result<LentRow<'_>, Refusal>
+    pub(crate) fn look(&self, id: u64, now: Moment) -> Result<RowRef<'_>, Refusal>
         ensures { result ≡ visible_in (λ row. row.expires) self.now.part id now }
     {
         if id == 0 || self.next <= id {

@@ -17,7 +17,7 @@ use crate::totals::Totals;
 use std::alloc::{AllocError, Global};
 use std::marker::Model;
 use upload_book::{
-    Accounts, Growth, HeadNote, HeadRow, LentRow, Moment, Name, NotedChange, Refusal, Settings,
+    Accounts, Growth, HeadNote, HeadRow, Moment, Name, NotedChange, Refusal, RowRef, Settings,
 };
 
 /// The heads of a book once more, from which a HEAD can be answered beside the book: a row for each upload, and the
@@ -117,7 +117,7 @@ impl HeadTable {
 
     /// What a HEAD of an upload finds at this moment: Unknown where its tenant is not there or never had the id, Gone
     /// where the upload has ended or expired, and else its row, whose texts are lent. It takes no memory.
-    pub fn look(&self, name: &Name, now: Moment) -> Result<LentRow<'_>, Refusal>
+    pub fn look(&self, name: &Name, now: Moment) -> Result<RowRef<'_>, Refusal>
         ensures { result ≡ shown self.now name.now now }
     {
         match self.parts.get(usize::from(name.tenant)) {
@@ -169,7 +169,7 @@ impl HeadTable {
     }
 
     // Puts the row of a new upload of a tenant, if there is room for it.
-    fn create(&mut self, tenant: u8, row: &LentRow) -> bool
+    fn create(&mut self, tenant: u8, row: &RowRef) -> bool
         ensures there { result ≡ is_taken self.old (Created tenant row.now) }
         ensures after { self.new ≡ (if result then record self.old { tenants = parts_noted self.old (Created tenant row.now) } else self.old) }
     {

@@ -4,7 +4,7 @@ ghost use Rattle.upload_book.specs.HeadNotes.{row_grown};
 
 use std::alloc::{AllocError, Global};
 use std::marker::Model;
-use upload_book::{Growth, HeadRow, LentRow, Moment};
+use upload_book::{Growth, HeadRow, Moment, RowRef};
 
 /// The row of an upload under its id. It has room for texts of 3 KiB, so it lies in a box: rows move where one of
 /// them is taken out. A contract sees the id and the row.
@@ -25,7 +25,7 @@ impl Model for KeptRow {
 
 impl KeptRow {
     /// A row under an id, whose texts are copied to where the box has its place.
-    pub(crate) fn new(id: u64, mut place: Box<HeadRow>, row: &LentRow) -> KeptRow
+    pub(crate) fn new(id: u64, mut place: Box<HeadRow>, row: &RowRef) -> KeptRow
         ensures { result ≡ record { id = id; kept = row.now } }
     {
         place.set(row);
@@ -50,7 +50,7 @@ impl KeptRow {
     }
 
     /// The row, whose texts are lent.
-    pub(crate) fn lent(&self) -> LentRow<'_>
+    pub(crate) fn lent(&self) -> RowRef<'_>
         ensures { result ≡ self.now.kept }
     {
         self.row.lent()

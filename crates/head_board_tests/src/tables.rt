@@ -8,8 +8,7 @@ use std::process::Abort;
 use std::test::Fail;
 use upload_book::NotedChange::{Created, Gone, Grown, Next, Swept, Totals};
 use upload_book::{
-    Accounts, Growth, HeadNote, Kind, LentRow, Moment, Name, NotedChange, Numbers, Refusal,
-    Settings,
+    Accounts, Growth, HeadNote, Kind, Moment, Name, NotedChange, Numbers, Refusal, RowRef, Settings,
 };
 
 // The note of a change, after which so much was charged.
@@ -41,14 +40,14 @@ fn growth(offset: u64, expires: Option<Moment>) -> Growth {
 }
 
 // A row of so many bytes of ten, with this metadata and this end.
-fn row(offset: u64, metadata: &'static [u8; 6], expires: Option<Moment>) -> LentRow<'static> {
-    LentRow::new(Kind::Plain, growth(offset, expires), metadata, b"")
+fn row(offset: u64, metadata: &'static [u8; 6], expires: Option<Moment>) -> RowRef<'static> {
+    RowRef::new(Kind::Plain, growth(offset, expires), metadata, b"")
 }
 
 /// Asserts the offset and the metadata that a HEAD of an upload finds, or why it finds none.
 pub fn assert_shown(
     rt: &impl Abort,
-    found: &Result<LentRow, Refusal>,
+    found: &Result<RowRef, Refusal>,
     expected: Result<(u64, &[u8]), Refusal>,
 ) {
     match (found, expected) {
@@ -59,7 +58,7 @@ pub fn assert_shown(
 }
 
 // A row of so many bytes of ten has this metadata.
-fn assert_row(rt: &impl Abort, row: &LentRow, offset: u64, metadata: &[u8]) {
+fn assert_row(rt: &impl Abort, row: &RowRef, offset: u64, metadata: &[u8]) {
     let growth = row.growth();
     assert!(rt; growth.offset == offset);
     assert!(rt; growth.declared == Some(10));

@@ -7,7 +7,7 @@ ghost use Rattle.tus_steps.specs.Reply.{content_reply, creation_reply, head_repl
 use crate::reply::{Place, Reply};
 use crate::request::Request;
 use tus_text::{Tenant, Text};
-use upload_book::{Content, Created, HeadRow, LentRow, Moment, Outcome, Refusal, Refused};
+use upload_book::{Content, Created, HeadRow, Moment, Outcome, Refusal, Refused, RowRef};
 
 /// What a [`Reply`] is, but for the row of a HEAD: so it is small.
 #[derive(Drop)]
@@ -164,7 +164,7 @@ impl PlacedReply {
 
     /// Answers a HEAD of an upload by what is told of it, or by why that is refused. Of a row it copies the bytes that are
     /// used.
-    pub fn put_head(&mut self, outcome: Result<LentRow, Refusal>)
+    pub fn put_head(&mut self, outcome: Result<RowRef, Refusal>)
         ensures { reply_in self.new ≡ head_reply outcome.entry }
     {
         match outcome {

@@ -29,7 +29,6 @@ use crate::create::NewUpload;
 use crate::final_back::Left;
 use crate::head_row::Name;
 use crate::kept_upload::KeptUpload;
-use crate::lent_row::LentRow;
 use crate::moment::Moment;
 use crate::parts_seen::PartsSeen;
 use crate::pieces::{UnheldPiece, hold_each};
@@ -37,6 +36,7 @@ use crate::progress::Progress;
 use crate::ready::{ReadyBack, ReadyFinal};
 use crate::refusal::Refusal;
 use crate::restored::RestoredSegment;
+use crate::row_ref::RowRef;
 use crate::settings::Settings;
 use crate::stored_tenant::StoredTenant;
 use crate::stored_upload::{StoredUpload, body_for};
@@ -236,7 +236,7 @@ impl BlockStore {
     }
 
     /// What a HEAD tells of the upload at a place, whose texts are lent.
-    pub(crate) fn head_row(&self, tenant: usize, place: usize) -> LentRow<'_>
+    pub(crate) fn head_row(&self, tenant: usize, place: usize) -> RowRef<'_>
         requires tenant { tenant < length self.now.stored_tenants }
         requires place { place < length (stored_tenant_at self.now tenant).uploads }
         ensures { result ≡ head_row_of (upload_at self.now tenant place) }

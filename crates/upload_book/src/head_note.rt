@@ -1,7 +1,7 @@
 use crate::board_line::Accounts;
 use crate::head_row::Name;
-use crate::lent_row::LentRow;
 use crate::moment::Moment;
+use crate::row_ref::RowRef;
 
 /// How far an upload is, and when it expires: what a PATCH changes of its row.
 #[derive(Clone, Copy, Debug, PartialEq, Eq)]
@@ -18,7 +18,7 @@ pub struct Growth {
 #[derive(Drop)]
 pub enum NotedChange<'a> {
     /// The tenant at this place in the settings has a new upload of this row, under its next id.
-    Created(u8, LentRow<'a>),
+    Created(u8, RowRef<'a>),
     /// The upload of this name is so far from now on.
     Grown(Name, Growth),
     /// The upload of this name has ended.

@@ -5,7 +5,7 @@ ghost use Rattle.upload_book.specs.PlainBook.{tenant_book};
 ghost use Rattle.upload_book.specs.snapshot.Snapshot.{upload_kept};
 
 use crate::book::Book;
-use crate::lent_row::LentRow;
+use crate::row_ref::RowRef;
 use crate::stored_tenant::StoredTenant;
 use block_bodies::Body;
 use block_pool::Pool;
@@ -62,7 +62,7 @@ impl<'a> KeptUpload<'a> {
     }
 
     /// All of it but its id and its segments; its texts are lent. How many bytes it has no clause tells: the segments have them.
-    pub fn row(&self) -> LentRow<'a>
+    pub fn row(&self) -> RowRef<'a>
         ensures kind { result.kind ≡ self.now.kind }
         ensures declared { result.declared ≡ self.now.declared }
         ensures metadata { result.metadata ≡ self.now.metadata }

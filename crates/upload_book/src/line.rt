@@ -19,12 +19,12 @@ use crate::concat::NewFinal;
 use crate::create::{FirstChunk, NewUpload};
 use crate::head_note::{Growth, HeadNote, NotedChange};
 use crate::head_row::{HeadRow, Kind, Name};
-use crate::lent_row::LentRow;
 use crate::moment::Moment;
 use crate::ready::{
     Ready, ReadyBack, ReadyChunk, ReadyEnd, ReadyFinal, ReadyNext, ReadyOwn, ReadyPiece,
     ReadyTotals, ReadyUpload, Step,
 };
+use crate::row_ref::RowRef;
 
 impl<'a> Ready<'a> {
     /// The line by which the change will change the heads of the book, which is ready for it: what HEADs will tell,
@@ -346,7 +346,7 @@ impl Book {
 
 impl<'a> NewUpload<'a> {
     // What a HEAD tells of it once it has so many bytes and this end.
-    fn row(&self, len: u64, expires: Option<Moment>) -> LentRow<'a>
+    fn row(&self, len: u64, expires: Option<Moment>) -> RowRef<'a>
         requires metadata { IsTrue (is_kept_metadata self.now.metadata) }
         requires concat { IsConcatText (new_kind self.now.partial) self.now.concat }
         ensures { result ≡ record {
@@ -363,7 +363,7 @@ impl<'a> NewUpload<'a> {
             declared: self.length,
             expires,
         };
-        LentRow::new(self.kind(), growth, self.metadata, self.concat)
+        RowRef::new(self.kind(), growth, self.metadata, self.concat)
     }
 }
 
@@ -378,7 +378,7 @@ impl<'a> FirstChunk<'a> {
 
 impl<'a> NewFinal<'a> {
     // What a HEAD tells of it once it has so many bytes: it is complete, and never expires.
-    fn row(&self, len: u64) -> LentRow<'a>
+    fn row(&self, len: u64) -> RowRef<'a>
         requires metadata { IsTrue (is_kept_metadata self.now.metadata) }
         requires concat { IsConcatText Final self.now.concat }
         ensures { result ≡ record {
@@ -395,6 +395,6 @@ impl<'a> NewFinal<'a> {
             declared: Some(len),
             expires: None,
         };
-        LentRow::new(Kind::Final, growth, self.metadata, self.concat)
+        RowRef::new(Kind::Final, growth, self.metadata, self.concat)
     }
 }

@@ -5,9 +5,9 @@ ghost use Rattle.upload_book.specs.PlainBook.{answer_of};
 
 use crate::book::Book;
 use crate::head_row::{HeadRow, Name};
-use crate::lent_row::LentRow;
 use crate::moment::Moment;
 use crate::refusal::Refusal;
+use crate::row_ref::RowRef;
 
 impl Book {
     /// What a HEAD of an upload tells at `now`. It is refused as Unknown where the id was never given,
@@ -20,7 +20,7 @@ impl Book {
     }
 
     /// The same, with the texts lent: so nothing is copied.
-    pub fn look_lent(&self, name: &Name, now: Moment) -> Result<LentRow<'_>, Refusal>
+    pub fn look_lent(&self, name: &Name, now: Moment) -> Result<RowRef<'_>, Refusal>
         ensures { result ≡ answer_of (plain_of self.now) name.now.tenant (look_answer name.now.id now) }
     {
         let place = self.store.place(name, now)?;

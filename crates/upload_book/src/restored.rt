@@ -3,8 +3,8 @@ use crate::create::NewUpload;
 use crate::final_back::brought_in;
 use crate::head_note::Growth;
 use crate::head_row::{Kind, Name};
-use crate::lent_row::LentRow;
 use crate::moment::Moment;
+use crate::row_ref::RowRef;
 use std::marker::Model;
 
 /// A piece of a book that is put back.
@@ -144,7 +144,7 @@ impl<'a> RestoredUpload<'a> {
     }
 
     /// What a HEAD tells of one that is not final.
-    pub(crate) fn own_row(&self) -> LentRow<'a>
+    pub(crate) fn own_row(&self) -> RowRef<'a>
         requires own { is_final self.now.kind ≡ false }
         requires form { IsRestorable self.now }
         ensures { (bytes : List ℕ) → self.now.segments ≡ record { origin = self.now.id; bytes = Some bytes } ∷ []
@@ -154,7 +154,7 @@ impl<'a> RestoredUpload<'a> {
     }
 
     /// What a HEAD tells of a final one, which has all of its bytes.
-    pub(crate) fn final_row(&self) -> LentRow<'a>
+    pub(crate) fn final_row(&self) -> RowRef<'a>
         requires { IsRestorable self.now }
         ensures { result ≡ row_back self.now (unwrap_or self.now.declared 0) }
     {
@@ -162,7 +162,7 @@ impl<'a> RestoredUpload<'a> {
     }
 
     // What a HEAD tells of it where it has so many bytes.
-    fn row(&self, len: u64) -> LentRow<'a>
+    fn row(&self, len: u64) -> RowRef<'a>
         requires { IsRestorable self.now }
         ensures { result ≡ row_back self.now len }
     {
@@ -171,7 +171,7 @@ impl<'a> RestoredUpload<'a> {
             declared: self.declared,
             expires: self.expires,
         };
-        LentRow::new(self.kind, growth, self.metadata, self.concat)
+        RowRef::new(self.kind, growth, self.metadata, self.concat)
     }
 
     /// How many blocks of a size the bytes take that it brings.

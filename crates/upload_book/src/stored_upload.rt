@@ -23,12 +23,12 @@ use crate::create::NewUpload;
 use crate::expiry::has_expired;
 use crate::head_note::Growth;
 use crate::head_row::Kind;
-use crate::lent_row::LentRow;
 use crate::moment::Moment;
 use crate::pieces::{
     HeldBytes, Piece, UnheldPiece, chain_from, give_back_each, price_from, read_each,
 };
 use crate::progress::Progress;
+use crate::row_ref::RowRef;
 use crate::texts::Texts;
 use block_bodies::{Body, BodyFault};
 use block_pool::{BlockId, Pool};
@@ -171,7 +171,7 @@ impl StoredUpload {
     }
 
     /// What a HEAD tells of the upload, whose texts are lent.
-    pub(crate) fn head_row(&self) -> LentRow<'_>
+    pub(crate) fn head_row(&self) -> RowRef<'_>
         ensures { (p : Blocks) → ReadsWhole p self.now.kept.pieces
             → result ≡ head_row_of (upload_of p self.now.kept) }
     {
@@ -180,7 +180,7 @@ impl StoredUpload {
             declared: self.declared,
             expires: self.expires,
         };
-        LentRow::new(
+        RowRef::new(
             self.kind(),
             growth,
             self.texts.metadata.as_slice(),

@@ -7,14 +7,14 @@ use tus_text::Text;
 
 /// A row of an upload whose texts are lent: so it is small, however long they are. A contract sees the row.
 #[derive(Drop)]
-pub struct LentRow<'a> {
+pub struct RowRef<'a> {
     kind: Kind,
     growth: Growth,
     metadata: &'a [u8],
     concat: &'a [u8],
 }
 
-impl<'a> Model for LentRow<'a> {
+impl<'a> Model for RowRef<'a> {
     ghost use Rattle.std.specs.Prelude.{◌≤◌, length};
     ghost use Rattle.upload_book.specs.declared.head_row.HeadRow.{HeadRow};
 
@@ -32,10 +32,10 @@ impl<'a> Model for LentRow<'a> {
     ghost invariant = { λ row. (length row.metadata.now ≤ 1024) × (length row.concat.now ≤ 2048) };
 }
 
-impl<'a> LentRow<'a> {
+impl<'a> RowRef<'a> {
     /// The row of an upload that is so far and has these texts: at most 1,024 bytes of metadata, and 2,048 of
     /// `Upload-Concat`.
-    pub fn new(kind: Kind, growth: Growth, metadata: &'a [u8], concat: &'a [u8]) -> LentRow<'a>
+    pub fn new(kind: Kind, growth: Growth, metadata: &'a [u8], concat: &'a [u8]) -> RowRef<'a>
         requires metadata { length metadata.now ≤ 1024 }
         requires concat { length concat.now ≤ 2048 }
         ensures { result ≡ record {
@@ -47,7 +47,7 @@ impl<'a> LentRow<'a> {
           expires = growth.expires;
         } }
     {
-        LentRow {
+        RowRef {
             kind,
             growth,
             metadata,
@@ -118,7 +118,7 @@ impl HeadRow {
     }
 
     /// The same row, whose texts are lent.
-    pub fn lent(&self) -> LentRow<'_>
+    pub fn lent(&self) -> RowRef<'_>
         ensures { result ≡ self.now }
     {
         let growth = Growth {
@@ -126,7 +126,7 @@ impl HeadRow {
             declared: self.declared,
             expires: self.expires,
         };
-        LentRow::new(
+        RowRef::new(
             self.kind,
             growth,
             self.metadata.as_slice(),
@@ -135,7 +135,7 @@ impl HeadRow {
     }
 
     /// Becomes this row. Of the texts it copies the bytes that are used, to where its own lie.
-    pub fn set(&mut self, row: &LentRow)
+    pub fn set(&mut self, row: &RowRef)
         ensures { self.new ≡ row.now }
     {
         let growth = row.growth();
