@@ -1,2 +1,2 @@
-pub mod AttendedLemmas
+pub mod ClientConnectionLemmas
 pub mod TurnLemmas

@@ -6,7 +6,7 @@ use Rattle.tus_steps.specs.declared.reply.Reply.{Reply}
 use Rattle.http_wire.specs.Clock.{Tells}
 use Rattle.http_wire.specs.ConnectionCalls.{Sends, Takes}
 use Rattle.http_wire.specs.OnConnection.{OnConnection}
-use Rattle.http_wire.specs.Past.{Answering, Follows, HasPast, Past, gave, noted, nothing_yet, took}
+use Rattle.http_wire.specs.History.{Answering, Follows, HasHistory, History, gave, noted, nothing_yet, took}
 use Rattle.http_wire.proofs.AheadLemmas.{Appends-more, Appends-none, Consumes-from_keeps, Consumes-more, Consumes-none}
 use Rattle.connection_turns.specs.Turn.{CarriesOn, OnTurn, SendsOn, and_then, on_turn}
 use Rattle.connection_turns.specs.declared.turn.Step.{Step}
@@ -30,19 +30,19 @@ none-answered step.Answered h = absurd (h refl)
 none-answered (step.Stops outcome) h = refl
 
 -- nothing passed
-pub and_then-none : (p : Past) → and_then p nothing_yet ≡ p
+pub and_then-none : (p : History) → and_then p nothing_yet ≡ p
 and_then-none p = rw (append-nil p.taken, append-nil p.handed, append-nil p.moments, append-nil p.answered) refl
 
-and_then-took : (p : Past) (got : List ℕ) → and_then p (record nothing_yet { taken = got }) ≡ took p got
+and_then-took : (p : History) (got : List ℕ) → and_then p (record nothing_yet { taken = got }) ≡ took p got
 and_then-took p got = rw (append-nil p.handed, append-nil p.moments, append-nil p.answered) refl
 
-and_then-gave : (p : Past) (given : List ℕ) → and_then p (record nothing_yet { handed = given }) ≡ gave p given
+and_then-gave : (p : History) (given : List ℕ) → and_then p (record nothing_yet { handed = given }) ≡ gave p given
 and_then-gave p given = rw (append-nil p.taken, append-nil p.moments, append-nil p.answered) refl
 
-and_then-noted : (p : Past) (now : ℕ) (answered : List Answering) → and_then p (record nothing_yet { moments = now ∷ []; answered = answered }) ≡ noted p now answered
+and_then-noted : (p : History) (now : ℕ) (answered : List Answering) → and_then p (record nothing_yet { moments = now ∷ []; answered = answered }) ≡ noted p now answered
 and_then-noted p now answered = rw (append-nil p.taken, append-nil p.handed) refl
 
-and_then-more : (p first next : Past) → and_then (and_then p first) next ≡ and_then p (and_then first next)
+and_then-more : (p first next : History) → and_then (and_then p first) next ≡ and_then p (and_then first next)
 and_then-more p first next =
     rw (append_assoc p.taken first.taken next.taken, append_assoc p.handed first.handed next.handed, append_assoc p.moments first.moments next.moments, append_assoc p.answered first.answered next.answered) refl
 
@@ -50,25 +50,25 @@ Tells-then : {K : Type 0} (tells : K → ℕ → K → Type 0) (a : K) (moments 
 Tells-then tells a [] b later c first next = subst (λ k. Tells tells k later c) first next
 Tells-then tells a (now ∷ moments) b later c first next = (first.0, first.1, Tells-then tells first.0 moments b later c first.2 next)
 
--- what a read does to a past, whether it gave bytes or an error
-pub Past-read : {E : Type 0} (read : Result ℕ E) (u v : Option (List ℕ)) (old new : OnConnection) → IfOk read (λ n. (got : List ℕ) × (length got ≡ n) × Consumes u v got × Takes got old new)
-    → OnErr read (Keeps u v × (new ≡ record old { inbox = record old.inbox { lent = [] } })) → OnErr read ((p : Past) → HasPast p old → HasPast p new)
-    → (p : Past) → HasPast p old → (got : List ℕ) × Consumes u v got × HasPast (took p got) new
-Past-read (Ok n) u v old new takes none kept p h = (takes.0, takes.2, takes.3.past p h)
-Past-read (Err e) u v old new takes none kept p h =
-    ([], Consumes-from_keeps u v none.0, subst (λ l. HasPast (record p { taken = l }) new) (sym (append-nil p.taken)) (kept p h))
+-- what a read does to a history, whether it gave bytes or an error
+pub History-read : {E : Type 0} (read : Result ℕ E) (u v : Option (List ℕ)) (old new : OnConnection) → IfOk read (λ n. (got : List ℕ) × (length got ≡ n) × Consumes u v got × Takes got old new)
+    → OnErr read (Keeps u v × (new ≡ record old { read_buffer = record old.read_buffer { lent = [] } })) → OnErr read ((p : History) → HasHistory p old → HasHistory p new)
+    → (p : History) → HasHistory p old → (got : List ℕ) × Consumes u v got × HasHistory (took p got) new
+History-read (Ok n) u v old new takes none kept p h = (takes.0, takes.2, takes.3.history p h)
+History-read (Err e) u v old new takes none kept p h =
+    ([], Consumes-from_keeps u v none.0, subst (λ l. HasHistory (record p { taken = l }) new) (sym (append-nil p.taken)) (kept p h))
 
--- what a write does to a past
-pub Past-written : {E : Type 0} (written : Result ℕ E) (v w : Option (List ℕ)) (old new : OnConnection)
-    → IfOk written (λ n. (n ≤ length old.outbox.pending) × Sends n old new × Appends v w (take n old.outbox.pending)) → OnErr written (Appends v w [] × (new ≡ old))
-    → (p : Past) → HasPast p old → (given : List ℕ) × Appends v w given × HasPast (gave p given) new
-Past-written (Ok n) v w old new sends none p h = (take n old.outbox.pending, sends.2, sends.1.past p h)
-Past-written (Err e) v w old new sends none p h =
-    ([], none.0, subst (λ l. HasPast (record p { handed = l }) new) (sym (append-nil p.handed)) (subst (HasPast p) (sym none.1) h))
+-- what a write does to a history
+pub History-written : {E : Type 0} (written : Result ℕ E) (v w : Option (List ℕ)) (old new : OnConnection)
+    → IfOk written (λ n. (n ≤ length old.write_buffer.pending) × Sends n old new × Appends v w (take n old.write_buffer.pending)) → OnErr written (Appends v w [] × (new ≡ old))
+    → (p : History) → HasHistory p old → (given : List ℕ) × Appends v w given × HasHistory (gave p given) new
+History-written (Ok n) v w old new sends none p h = (take n old.write_buffer.pending, sends.2, sends.1.history p h)
+History-written (Err e) v w old new sends none p h =
+    ([], none.0, subst (λ l. HasHistory (record p { handed = l }) new) (sym (append-nil p.handed)) (subst (HasHistory p) (sym none.1) h))
 
 -- nothing was sent
 pub SendsOn-none : (c : OnConnection) (w : Option (List ℕ)) → SendsOn c c w w
-SendsOn-none c w = λ p h. ([], Appends-none w, subst (λ l. HasPast (record p { handed = l }) c) (sym (append-nil p.handed)) h)
+SendsOn-none c w = λ p h. ([], Appends-none w, subst (λ l. HasHistory (record p { handed = l }) c) (sym (append-nil p.handed)) h)
 
 -- some was sent, and then more
 pub SendsOn-then : (a b c : OnConnection) (u v w : Option (List ℕ)) → SendsOn a b u v → SendsOn b c v w → SendsOn a c u w
@@ -77,7 +77,7 @@ SendsOn-then a b c u v w first next = λ p h.
     let s = next (gave p f.0) f.2 in (
       f.0 ++ s.0,
       Appends-more u v w f.0 s.0 f.1 s.1,
-      subst (λ l. HasPast (record p { handed = l }) c) (append_assoc p.handed f.0 s.0) s.2,
+      subst (λ l. HasHistory (record p { handed = l }) c) (append_assoc p.handed f.0 s.0) s.2,
     )
 
 module _ {A : Type 0} (steps : A → Request → ℕ → Reply → A → Type 0) where
@@ -86,12 +86,12 @@ module _ {A : Type 0} (steps : A → Request → ℕ → Reply → A → Type 0)
   Follows-then a (q ∷ answered) b later c first next = (first.0, first.1, Follows-then first.0 answered b later c first.2 next)
 
 module _ {A K : Type 0} (steps : A → Request → ℕ → Reply → A → Type 0) (tells : K → ℕ → K → Type 0) where
-  -- a connection is carried on where its pasts stay
-  pub CarriesOn-same : (old new : OnConnection) (a : A) (k : K) (u w : Option (List ℕ)) → ((p : Past) → HasPast p old → HasPast p new) → CarriesOn steps tells 0 (on_turn old a k u w) (on_turn new a k u w)
+  -- a connection is carried on where its histories stay
+  pub CarriesOn-same : (old new : OnConnection) (a : A) (k : K) (u w : Option (List ℕ)) → ((p : History) → HasHistory p old → HasHistory p new) → CarriesOn steps tells 0 (on_turn old a k u w) (on_turn new a k u w)
   CarriesOn-same old new a k u w kept = λ p h. (
     nothing_yet,
     record { taken = Consumes-none u; handed = Appends-none w; told = refl; counted = refl; answered = refl },
-    subst (λ q. HasPast q new) (sym (and_then-none p)) (kept p h),
+    subst (λ q. HasHistory q new) (sym (and_then-none p)) (kept p h),
   )
 
   -- by nothing
@@ -99,37 +99,37 @@ module _ {A K : Type 0} (steps : A → Request → ℕ → Reply → A → Type 
   CarriesOn-none n c a k u w none = λ p h. (
     nothing_yet,
     record { taken = Consumes-none u; handed = Appends-none w; told = refl; counted = sym none; answered = refl },
-    subst (λ q. HasPast q c) (sym (and_then-none p)) h,
+    subst (λ q. HasHistory q c) (sym (and_then-none p)) h,
   )
 
   -- by bytes that came
-  pub CarriesOn-took : (n : ℕ) (old new : OnConnection) (a : A) (k : K) (u v w : Option (List ℕ)) → ((p : Past) → HasPast p old → (got : List ℕ) × Consumes u v got × HasPast (took p got) new)
+  pub CarriesOn-took : (n : ℕ) (old new : OnConnection) (a : A) (k : K) (u v w : Option (List ℕ)) → ((p : History) → HasHistory p old → (got : List ℕ) × Consumes u v got × HasHistory (took p got) new)
       → n ≡ 0 → CarriesOn steps tells n (on_turn old a k u w) (on_turn new a k v w)
   CarriesOn-took n old new a k u v w takes none = λ p h.
       let t = takes p h in (
         record nothing_yet { taken = t.0 },
         record { taken = t.1; handed = Appends-none w; told = refl; counted = sym none; answered = refl },
-        subst (λ q. HasPast q new) (sym (and_then-took p t.0)) t.2,
+        subst (λ q. HasHistory q new) (sym (and_then-took p t.0)) t.2,
       )
 
   -- by bytes that were sent
-  pub CarriesOn-gave : (n : ℕ) (old new : OnConnection) (a : A) (k : K) (u v w : Option (List ℕ)) → ((p : Past) → HasPast p old → (given : List ℕ) × Appends v w given × HasPast (gave p given) new)
+  pub CarriesOn-gave : (n : ℕ) (old new : OnConnection) (a : A) (k : K) (u v w : Option (List ℕ)) → ((p : History) → HasHistory p old → (given : List ℕ) × Appends v w given × HasHistory (gave p given) new)
       → n ≡ 0 → CarriesOn steps tells n (on_turn old a k u v) (on_turn new a k u w)
   CarriesOn-gave n old new a k u v w gives none = λ p h.
       let t = gives p h in (
         record nothing_yet { handed = t.0 },
         record { taken = Consumes-none u; handed = t.1; told = refl; counted = sym none; answered = refl },
-        subst (λ q. HasPast q new) (sym (and_then-gave p t.0)) t.2,
+        subst (λ q. HasHistory q new) (sym (and_then-gave p t.0)) t.2,
       )
 
   -- by an answer
   pub CarriesOn-answered : (old new : OnConnection) (a b : A) (k l : K) (u w : Option (List ℕ)) (now : ℕ) → tells k now l
-      → ((p : Past) → HasPast p old → (answered : List Answering) × Follows steps a answered b × HasPast (noted p now answered) new) → CarriesOn steps tells 1 (on_turn old a k u w) (on_turn new b l u w)
+      → ((p : History) → HasHistory p old → (answered : List Answering) × Follows steps a answered b × HasHistory (noted p now answered) new) → CarriesOn steps tells 1 (on_turn old a k u w) (on_turn new b l u w)
   CarriesOn-answered old new a b k l u w now told answers = λ p h.
       let t = answers p h in (
         record nothing_yet { moments = now ∷ []; answered = t.0 },
         record { taken = Consumes-none u; handed = Appends-none w; told = (l, told, refl); counted = refl; answered = t.1 },
-        subst (λ q. HasPast q new) (sym (and_then-noted p now t.0)) t.2,
+        subst (λ q. HasHistory q new) (sym (and_then-noted p now t.0)) t.2,
       )
 
   -- by one turn and another
@@ -145,5 +145,5 @@ module _ {A K : Type 0} (steps : A → Request → ℕ → Reply → A → Type 
           told = Tells-then tells a.around.clock f.0.moments b.around.clock s.0.moments c.around.clock f.1.told s.1.told;
           answered = Follows-then steps a.around.answerer f.0.answered b.around.answerer s.0.answered c.around.answerer f.1.answered s.1.answered;
         },
-        subst (λ q. HasPast q c.connection) (and_then-more p f.0 s.0) s.2,
+        subst (λ q. HasHistory q c.connection) (and_then-more p f.0 s.0) s.2,
       )

@@ -5,7 +5,7 @@ use Rattle.tus_steps.specs.Request.{Request}
 use Rattle.tus_steps.specs.declared.reply.Reply.{Reply}
 use Rattle.http_wire.specs.Clock.{Tells}
 use Rattle.http_wire.specs.OnConnection.{IsFresh, OnConnection}
-use Rattle.http_wire.specs.Past.{Follows, HasPast, Past, gave}
+use Rattle.http_wire.specs.History.{Follows, HasHistory, History, gave}
 
 -- what stands around a connection: what answers on it, the clock, and, where they are known, the bytes that its reader has left
 -- and all that its writer was given
@@ -26,8 +26,8 @@ pub record OnTurn (A K : Type 0) : Type 0 where
 abbrev pub on_turn : {A K : Type 0} → OnConnection → A → K → Option (List ℕ) → Option (List ℕ) → OnTurn A K
 on_turn connection answerer clock unread written = record { connection = connection; around = around answerer clock unread written }
 
--- a past, and what passed then
-abbrev pub and_then : Past → Past → Past
+-- a history, and what passed then
+abbrev pub and_then : History → History → History
 and_then p more = record {
   taken = p.taken ++ more.taken;
   handed = p.handed ++ more.handed;
@@ -38,7 +38,7 @@ and_then p more = record {
 module _ {A K : Type 0} (steps : A → Request → ℕ → Reply → A → Type 0) (tells : K → ℕ → K → Type 0) where
   -- This passed meanwhile: the bytes came from the reader and went to the writer, the clock told the moments, which are so many,
   -- and the answers are steps.
-  pub record Passes (count : ℕ) (old new : Around A K) (more : Past) : Type 0 where
+  pub record Passes (count : ℕ) (old new : Around A K) (more : History) : Type 0 where
     pub taken : Consumes old.unread new.unread more.taken
     pub handed : Appends old.written new.written more.handed
     pub told : Tells tells old.clock more.moments new.clock
@@ -47,19 +47,19 @@ module _ {A K : Type 0} (steps : A → Request → ℕ → Reply → A → Type 
 
   -- Whatever had passed on the connection, it has passed still, and then what passed meanwhile, with so many moments.
   abbrev pub CarriesOn : ℕ → OnTurn A K → OnTurn A K → Type 0
-  CarriesOn count old new = (p : Past) → HasPast p old.connection → (more : Past) × Passes count old.around new.around more × HasPast (and_then p more) new.connection
+  CarriesOn count old new = (p : History) → HasHistory p old.connection → (more : History) × Passes count old.around new.around more × HasHistory (and_then p more) new.connection
 
 -- Some of what was pending went to the writer, and nothing else passed.
 abbrev pub SendsOn : OnConnection → OnConnection → Option (List ℕ) → Option (List ℕ) → Type 0
-SendsOn old new before after = (p : Past) → HasPast p old → (given : List ℕ) × Appends before after given × HasPast (gave p given) new
+SendsOn old new before after = (p : History) → HasHistory p old → (given : List ℕ) × Appends before after given × HasHistory (gave p given) new
 
--- A past of a client whose bodies have at most so many bytes, and whose connection may be put away while it is silent: then
--- each new one has that past.
-abbrev pub HasPastWithin : ℕ → Past → Option OnConnection → Type 0
-HasPastWithin max p None = (c : OnConnection) → IsFresh c → c.max_size ≡ max → HasPast p c
-HasPastWithin max p (Some c) = HasPast p c × (c.max_size ≡ max)
+-- A history of a client whose bodies have at most so many bytes, and whose connection may be put away while it is silent: then
+-- each new one has that history.
+abbrev pub HasHistoryWithin : ℕ → History → Option OnConnection → Type 0
+HasHistoryWithin max p None = (c : OnConnection) → IsFresh c → c.max_size ≡ max → HasHistory p c
+HasHistoryWithin max p (Some c) = HasHistory p c × (c.max_size ≡ max)
 
 -- the same of a client whose connection may be put away
 abbrev pub SendsOnWithin : ℕ → Option OnConnection → Option OnConnection → Option (List ℕ) → Option (List ℕ) → Type 0
 SendsOnWithin max old new before after =
-    (p : Past) → HasPastWithin max p old → (given : List ℕ) × Appends before after given × HasPastWithin max (gave p given) new
+    (p : History) → HasHistoryWithin max p old → (given : List ℕ) × Appends before after given × HasHistoryWithin max (gave p given) new

@@ -7,7 +7,7 @@ use upload_book::Book;
 /// What answers requests, and may hold back its replies. Then a turn of a connection reads and answers alone
 /// ([`crate::take_turn`]), and what is pending is sent by another call ([`crate::send_pending`]), once all that the replies
 /// rest on is kept.
-pub trait HoldsBack: Answer {
+pub trait Durability: Answer {
     // Its replies are held back.
     ghost holds_back: { Self → Bool };
 
@@ -17,7 +17,7 @@ pub trait HoldsBack: Answer {
 }
 
 /// Nothing of a book outlives its process.
-impl HoldsBack for Book {
+impl Durability for Book {
     ghost holds_back = { λ b. false };
 
     fn holds_back(&self) -> bool {

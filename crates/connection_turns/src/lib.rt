@@ -1,7 +1,7 @@
 //! A client's connection over streams that would block: its turns, what it has sent, and how fast it goes.
 #![tactic(auto)]
 
-mod attended;
+mod client_connection;
 mod holding;
 mod observer;
 mod pace;
@@ -10,8 +10,8 @@ mod turn;
 mod unread;
 mod work_options;
 
-pub use attended::Attended;
-pub use holding::HoldsBack;
+pub use client_connection::ClientConnection;
+pub use holding::Durability;
 pub use observer::{Observer, Unwatched};
 pub use pace::{Bounds, Busy, Late, Pace, Window};
 pub use sending::{Sent, send_pending};

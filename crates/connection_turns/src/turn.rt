@@ -2,11 +2,11 @@
 ghost use Rattle.std.specs.Prelude.{◌≡◌, ◌≢◌, ◌≤◌, ◌-◌, ◌⊎◌, [], List, ℕ, false, true, OnErr};
 ghost use Rattle.std.specs.Io.KnownBytes.{Consumes};
 ghost use Rattle.http_wire.specs.OnConnection.{wanted};
-ghost use Rattle.http_wire.specs.Past.{HasPast, Past, took};
+ghost use Rattle.http_wire.specs.History.{HasHistory, History, took};
 ghost use Rattle.connection_turns.specs.Turn.{CarriesOn, SendsOn, on_turn};
 ghost use Rattle.connection_turns.specs.inside.Steps.{messages_of};
 
-use crate::holding::HoldsBack;
+use crate::holding::Durability;
 use crate::observer::Observer;
 use http_wire::{Clock, Connection, Incoming, Tapped, Wants};
 use std::io;
@@ -34,7 +34,7 @@ pub enum Outcome {
     AwaitsRoom,
     /// A message came that may not be answered yet.
     AwaitsTurn,
-    /// A reply is pending that is held back: see [`HoldsBack`].
+    /// A reply is pending that is held back: see [`Durability`].
     AwaitsKeeping,
     /// The turn came to its bounds. No event need tell of what is left to do, so it is to be taken up again without one.
     HasMore,
@@ -121,7 +121,7 @@ struct Allowed {
 pub fn take_turn<
     R: Read + Drop,
     W: Write + Drop,
-    A: HoldsBack,
+    A: Durability,
     K: Clock,
     P: Precedence,
     O: Observer,
@@ -139,8 +139,8 @@ pub fn take_turn<
         (on_turn connection.new answerer.new clock.new (R.remaining result.streams.reader) (W.contents result.streams.writer)) }
     ensures held { A.holds_back answerer.old ≡ true → W.contents result.streams.writer ≡ W.contents streams.writer }
     ensures bytes { result.outcome ≡ Outcome.AwaitsBytes → wanted connection.new ≡ Wants.Read }
-    ensures room { result.outcome ≡ Outcome.AwaitsRoom → connection.new.outbox.pending ≢ [] }
-    ensures over { result.outcome ≡ Outcome.Over → connection.new.outbox.pending ≡ [] }
+    ensures room { result.outcome ≡ Outcome.AwaitsRoom → connection.new.write_buffer.pending ≢ [] }
+    ensures over { result.outcome ≡ Outcome.Over → connection.new.write_buffer.pending ≡ [] }
     ensures turn { result.outcome ≡ Outcome.AwaitsTurn → wanted connection.new ≡ Wants.Answer }
     ensures left { result.left ≤ share.messages }
     ensures size { connection.new.max_size ≡ connection.old.max_size }
@@ -230,7 +230,7 @@ fn messages_in(step: Step) -> usize
 }
 
 // Does once what a connection wants: a read, a write or an answer.
-fn take_step<R: Read + Drop, W: Write + Drop, A: HoldsBack, K: Clock, P: Precedence, O: Observer>(
+fn take_step<R: Read + Drop, W: Write + Drop, A: Durability, K: Clock, P: Precedence, O: Observer>(
     connection: &mut Connection,
     streams: Streams<R, W>,
     answerer: &mut A,
@@ -244,8 +244,8 @@ fn take_step<R: Read + Drop, W: Write + Drop, A: HoldsBack, K: Clock, P: Precede
         (on_turn connection.new answerer.new clock.new (R.remaining result.0.reader) (W.contents result.0.writer)) }
     ensures held { allowed.send ≡ false → W.contents result.0.writer ≡ W.contents streams.writer }
     ensures bytes { result.1 ≡ Step.Stops Outcome.AwaitsBytes → wanted connection.new ≡ Wants.Read }
-    ensures room { result.1 ≡ Step.Stops Outcome.AwaitsRoom → connection.new.outbox.pending ≢ [] }
-    ensures over { result.1 ≡ Step.Stops Outcome.Over → connection.new.outbox.pending ≡ [] }
+    ensures room { result.1 ≡ Step.Stops Outcome.AwaitsRoom → connection.new.write_buffer.pending ≢ [] }
+    ensures over { result.1 ≡ Step.Stops Outcome.Over → connection.new.write_buffer.pending ≡ [] }
     ensures turn { result.1 ≡ Step.Stops Outcome.AwaitsTurn → wanted connection.new ≡ Wants.Answer }
     ensures more { result.1 ≢ Step.Stops Outcome.HasMore }
     ensures allowed { result.1 ≡ Step.Answered → allowed.answer ≡ true }
@@ -294,12 +294,12 @@ fn may_pass<P: Precedence>(connection: &Connection, precedence: &P) -> bool {
 // What a connection wants that may have another message answered or not. Where it may not, it reads no more, and only sends
 // what is pending.
 fn wants_now(connection: &mut Connection, may_answer: bool) -> Wants
-    ensures past { (p : Past) → HasPast p connection.old → HasPast p connection.new }
+    ensures history { (p : History) → HasHistory p connection.old → HasHistory p connection.new }
     ensures read { result ≡ Wants.Read → wanted connection.new ≡ Wants.Read }
-    ensures write { result ≡ Wants.Write → connection.new.outbox.pending ≢ [] }
+    ensures write { result ≡ Wants.Write → connection.new.write_buffer.pending ≢ [] }
     ensures answer { result ≡ Wants.Answer → wanted connection.new ≡ Wants.Answer }
     ensures allowed { result ≡ Wants.Answer → may_answer ≡ true }
-    ensures nothing { result ≡ Wants.Nothing → connection.new.outbox.pending ≡ [] }
+    ensures nothing { result ≡ Wants.Nothing → connection.new.write_buffer.pending ≡ [] }
     ensures size { connection.new.max_size ≡ connection.old.max_size }
 {
     if may_answer {
@@ -315,8 +315,8 @@ fn wants_now(connection: &mut Connection, may_answer: bool) -> Wants
 // Reads once. A read that a signal interrupted brought nothing; one that fails is told to the connection.
 fn receive<R: Read + Drop>(connection: &mut Connection, reader: R) -> (R, Step)
     requires { wanted connection.old ≡ Wants.Read }
-    ensures takes { (p : Past) → HasPast p connection.old → (got : List ℕ)
-        × Consumes (R.remaining reader) (R.remaining result.0) got × HasPast (took p got) connection.new }
+    ensures takes { (p : History) → HasHistory p connection.old → (got : List ℕ)
+        × Consumes (R.remaining reader) (R.remaining result.0) got × HasHistory (took p got) connection.new }
     ensures blocked { result.1 ≡ Step.Stops Outcome.AwaitsBytes → wanted connection.new ≡ Wants.Read }
     ensures other { (outcome : Outcome) → result.1 ≡ Step.Stops outcome → outcome ≡ Outcome.AwaitsBytes }
     ensures moves { result.1 ≢ Step.Answered }
@@ -331,7 +331,7 @@ fn receive<R: Read + Drop>(connection: &mut Connection, reader: R) -> (R, Step)
 // What a read came to that gave this. One that failed is told to the connection.
 fn step_of_read(connection: &mut Connection, read: io::Result<usize>) -> Step
     requires { OnErr read (wanted connection.old ≡ Wants.Read) }
-    ensures past { (p : Past) → HasPast p connection.old → HasPast p connection.new }
+    ensures history { (p : History) → HasHistory p connection.old → HasHistory p connection.new }
     ensures blocked { result ≡ Step.Stops Outcome.AwaitsBytes → wanted connection.new ≡ Wants.Read }
     ensures other { (outcome : Outcome) → result ≡ Step.Stops outcome → outcome ≡ Outcome.AwaitsBytes }
     ensures moves { result ≢ Step.Answered }
@@ -352,9 +352,9 @@ fn step_of_read(connection: &mut Connection, read: io::Result<usize>) -> Step
 
 // Writes once. A write that a signal interrupted took nothing, and is made again.
 pub(crate) fn send<W: Write + Drop>(connection: &mut Connection, writer: W) -> (W, Step)
-    requires { connection.old.outbox.pending ≢ [] }
+    requires { connection.old.write_buffer.pending ≢ [] }
     ensures gives { SendsOn connection.old connection.new (W.contents writer) (W.contents result.0) }
-    ensures blocked { result.1 ≡ Step.Stops Outcome.AwaitsRoom → connection.new.outbox.pending ≢ [] }
+    ensures blocked { result.1 ≡ Step.Stops Outcome.AwaitsRoom → connection.new.write_buffer.pending ≢ [] }
     ensures other { (outcome : Outcome) → result.1 ≡ Step.Stops outcome → (outcome ≡ Outcome.AwaitsRoom) ⊎ (outcome ≡ Outcome.Failed) }
     ensures moves { result.1 ≢ Step.Answered }
     ensures size { connection.new.max_size ≡ connection.old.max_size }

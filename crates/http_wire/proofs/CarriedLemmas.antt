@@ -4,7 +4,7 @@ use Rattle.tus_steps.specs.Request.{Request}
 use Rattle.tus_steps.specs.declared.reply.Reply.{Reply}
 use Rattle.http_wire.specs.Conversation.{Course, Conversation, EndsWith, Goes, MessageTurn}
 use Rattle.http_wire.specs.Exchange.{Exchange, first_part, followed, last_part}
-use Rattle.http_wire.specs.Front.{Front, message, refused, cut_patch, cut_other, clean_end}
+use Rattle.http_wire.specs.NextMessage.{NextMessage, message, refused, cut_patch, cut_other, clean_end}
 use Rattle.http_wire.specs.Turns.{Answered, Breaks, BreaksOff, Converses, FailsIn, FailsToContinue}
 use Rattle.http_wire.specs.declared.conversation.Ended.{Ended}
 use Rattle.http_wire.specs.declared.fault.WireFault.{WireFault}
@@ -23,7 +23,7 @@ module _ {A B : Type 0} (f : A → B) (steps : A → Request → ℕ → Reply �
   Goes-carried true next then x e on h = EndsWith-carried _ _ x e h
   Goes-carried false next then x e on h = on h
 
-  MessageTurn-carried : (now : ℕ) (next : Course A) (then : Course B) (front : Front) (x : Exchange A) (e : Ended) → ((y : Exchange A) → next y e → then (carried f y) e) → MessageTurn steps now next front x e → MessageTurn others now then front (carried f x) e
+  MessageTurn-carried : (now : ℕ) (next : Course A) (then : Course B) (next_message : NextMessage) (x : Exchange A) (e : Ended) → ((y : Exchange A) → next y e → then (carried f y) e) → MessageTurn steps now next next_message x e → MessageTurn others now then next_message (carried f x) e
   MessageTurn-carried now next then (message request framing waiting rest) x e on h =
       (h.0, f h.1, h.2, carries x.before request now h.0 h.1 h.3, h.4, Goes-carried framing.close next then (last_part x rest h.1 h.2) e (on (last_part x rest h.1 h.2)) h.5)
   MessageTurn-carried now next then (refused why framing) x e on h = EndsWith-carried _ _ x e h
@@ -47,7 +47,7 @@ module _ {A B : Type 0} (f : A → B) (steps : A → Request → ℕ → Reply �
     framing = a.framing;
     waiting = a.waiting;
     reply = a.reply;
-    front = a.front;
+    next_message = a.next_message;
     stays = a.stays;
     step = carries x.before a.request now a.reply x.after a.step;
     wrote = a.wrote;
@@ -56,7 +56,7 @@ module _ {A B : Type 0} (f : A → B) (steps : A → Request → ℕ → Reply �
   waits-carried : (waiting : Bool) (x : Exchange A) → FailsToContinue steps max waiting x → FailsToContinue others max waiting (carried f x)
   waits-carried waiting x h = (h.0, ap f h.1, h.2)
 
-  FailsIn-carried : (now : ℕ) (front : Front) (x : Exchange A) → FailsIn steps max now front x → FailsIn others max now front (carried f x)
+  FailsIn-carried : (now : ℕ) (next_message : NextMessage) (x : Exchange A) → FailsIn steps max now next_message x → FailsIn others max now next_message (carried f x)
   FailsIn-carried now (message request framing waiting rest) x (inl h) = inl (waits-carried waiting x h)
   FailsIn-carried now (message request framing waiting rest) x (inr h) = inr (h.0, h.1, carries x.before request now h.0 x.after h.2, h.3)
   FailsIn-carried now (refused why framing) x h = (ap f h.0, h.1)

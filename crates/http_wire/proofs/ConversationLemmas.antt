@@ -7,7 +7,7 @@ use Rattle.tus_steps.specs.declared.reply.Reply.{Reply}
 use Rattle.http_wire.specs.Clock.{IsTimed, asked, unasked, Tells}
 use Rattle.http_wire.specs.Conversation.{Conversation, Course, Goes, continue_text}
 use Rattle.http_wire.specs.Exchange.{Exchange, first_part, last_part, followed}
-use Rattle.http_wire.specs.Front.{Front, message, IsFront}
+use Rattle.http_wire.specs.NextMessage.{NextMessage, message, IsNextMessage}
 use Rattle.http_wire.specs.ReplyText.{reply_text}
 use Rattle.http_wire.specs.Turns.{Answered, Turns, FailsIn, BreaksOff, Breaks, BreaksTurn, Converses, IsReadWhen, LastTurn, MayRemain}
 use Rattle.http_wire.specs.declared.conversation.Ended.{Ended}
@@ -15,7 +15,7 @@ use Rattle.http_wire.specs.declared.conversation.Ended.TheVariants as ended
 use Rattle.http_wire.specs.declared.fault.WireFault.{WireFault}
 use Rattle.http_wire.specs.declared.framing.Framing.{Framing}
 use Rattle.http_wire.specs.declared.fault.WireFault.TheVariants.{Read, Write, Memory, Failed}
-use Rattle.http_wire.proofs.FrontLemmas.{IsFront-followed}
+use Rattle.http_wire.proofs.NextMessageLemmas.{IsNextMessage-followed}
 
 -- one moment more that a clock told
 pub Tells-more : {C : Type 0} (tells : C → ℕ → C → Type 0) (before : C) (moments : List ℕ) (middle : C) (now : ℕ) (after : C) → Tells tells before moments middle → tells middle now after → Tells tells before (moments ++ now ∷ []) after
@@ -67,12 +67,12 @@ module _ {A : Type 0} (steps : A → Request → ℕ → Reply → A → Type 0)
 
   -- a message is answered, and the connection closes
   pub Conversation-closed : (now : ℕ) (moments : List ℕ) (x : Exchange A) (request : Request) (framing : Framing) (waiting : Bool) (rest : List ℕ) (reply : Reply)
-      → IsFront max x.input (message request framing waiting rest) → steps x.before request now reply x.after → framing.close ≡ true
+      → IsNextMessage max x.input (message request framing waiting rest) → steps x.before request now reply x.after → framing.close ≡ true
       → x.text ≡ continue_text waiting ++ reply_text reply now framing → Conversation steps max (now ∷ moments) x ended.Closed
-  Conversation-closed now moments x request framing waiting rest reply front step close wrote =
+  Conversation-closed now moments x request framing waiting rest reply next_message step close wrote =
       let last : Exchange A = record { input = rest; text = []; before = x.after; after = x.after } in (
         message request framing waiting rest,
-        front,
+        next_message,
         (
           reply,
           x.after,
@@ -95,7 +95,7 @@ module _ {A : Type 0} (steps : A → Request → ℕ → Reply → A → Type 0)
       let rest = Turns-Conversation before after (last_part x t.2 t.3 t.1) middle later b e t.5 c in
       let whole : x.text ++ later ≡ said ++ (t.1 ++ later) = ap (λ l. l ++ later) (t.6 ∙ ap (λ l. l ++ t.1) a.wrote) ∙ append_assoc said t.1 later in (
         message a.request a.framing a.waiting t.2,
-        a.front,
+        a.next_message,
         (a.reply, t.3, t.1 ++ later, a.step, whole, Goes-stays a.framing.close (Conversation steps max (before ++ after)) (record { input = t.2; text = t.1 ++ later; before = t.3; after = b }) e a.stays rest),
       )
 
@@ -116,7 +116,7 @@ module _ {A : Type 0} (steps : A → Request → ℕ → Reply → A → Type 0)
     framing = a.framing;
     waiting = a.waiting;
     reply = a.reply;
-    front = IsFront-followed max x.input more (message a.request a.framing a.waiting rest) refl a.front;
+    next_message = IsNextMessage-followed max x.input more (message a.request a.framing a.waiting rest) refl a.next_message;
     stays = a.stays;
     step = a.step;
     wrote = a.wrote;
@@ -153,17 +153,17 @@ module _ {A : Type 0} (steps : A → Request → ℕ → Reply → A → Type 0)
       (t.0, t.1 ++ text, t.2, t.3, t.4, Turns-snoc before now (last_part x t.2 t.3 t.1) middle text b rest t.5 a, ap (λ l. l ++ text) t.6 ∙ append_assoc t.0 t.1 text)
 
   -- whole turns, and then one that was broken off
-  pub Turns-BreaksOff : (before after : List ℕ) (now : ℕ) (x : Exchange A) (middle part : List ℕ) (b : A) (f : Front) → Turns steps max before x middle → IsFront max middle f
+  pub Turns-BreaksOff : (before after : List ℕ) (now : ℕ) (x : Exchange A) (middle part : List ℕ) (b : A) (f : NextMessage) → Turns steps max before x middle → IsNextMessage max middle f
       → FailsIn steps max now f (record { input = middle; text = part; before = x.after; after = b })
       → BreaksOff steps max (before ++ now ∷ after) (record x { text = x.text ++ part; after = b })
-  Turns-BreaksOff [] after now x middle part b f t front fails =
+  Turns-BreaksOff [] after now x middle part b f t next_message fails =
       inl (
         f,
-        subst (λ i. IsFront max i f) t.0 front,
+        subst (λ i. IsNextMessage max i f) t.0 next_message,
         rw t.1 (subst₂ (λ (i : List ℕ) (y : A). FailsIn steps max now f (record { input = i; text = part; before = y; after = b })) t.0 t.2 fails),
       )
-  Turns-BreaksOff (m ∷ before) after now x middle part b f t front fails =
-      inr (t.0, t.1 ++ part, t.2, t.3, t.4, Turns-BreaksOff before after now (last_part x t.2 t.3 t.1) middle part b f t.5 front fails, ap (λ l. l ++ part) t.6 ∙ append_assoc t.0 t.1 part)
+  Turns-BreaksOff (m ∷ before) after now x middle part b f t next_message fails =
+      inr (t.0, t.1 ++ part, t.2, t.3, t.4, Turns-BreaksOff before after now (last_part x t.2 t.3 t.1) middle part b f t.5 next_message fails, ap (λ l. l ++ part) t.6 ∙ append_assoc t.0 t.1 part)
 
   -- Some turns were taken, after which these bytes of the input are held. What follows the input changes
   -- nothing.

@@ -6,7 +6,7 @@ use Rattle.http_wire.specs.ConnectionCalls.{BreaksTo}
 use Rattle.http_wire.specs.Conversation.{continue_text}
 use Rattle.http_wire.specs.Incoming.{FramedRequest, is_cut_by_fault}
 use Rattle.http_wire.specs.OnConnection.{OnConnection, Stands, StandsIn, ended_in, is_looking, owed_in, unless_pending, wanted, wanted_in}
-use Rattle.http_wire.specs.ReadOnWire.{BreaksFront, TellsEnd, read_limit}
+use Rattle.http_wire.specs.ReadOnWire.{BreaksMessage, TellsEnd, read_limit}
 use Rattle.http_wire.specs.declared.connection.Wants.{Wants}
 use Rattle.http_wire.specs.declared.connection.Wants.TheVariants as wants
 use Rattle.http_wire.specs.declared.conversation.Ended.{Ended}
@@ -18,8 +18,8 @@ use Rattle.http_wire.specs.declared.phase.Phase.TheVariants.{Looking, Waiting, O
 use Rattle.http_wire.specs.declared.read.stage.Stage.TheVariants.{Head, Body}
 use Rattle.http_wire.specs.inside.Ahead.{Ahead}
 use Rattle.http_wire.specs.inside.Driving.{CameIn}
-use Rattle.http_wire.specs.inside.Sending.{OnOutbox, empty_outbox}
-use Rattle.http_wire.proofs.FrontLemmas.{IsFront-waits}
+use Rattle.http_wire.specs.inside.Sending.{OnOutbox, empty_write_buffer}
+use Rattle.http_wire.proofs.NextMessageLemmas.{IsNextMessage-waits}
 use Rattle.http_wire.proofs.PhaseLemmas.{reads-waiting}
 
 -- it does not look at a message where it wants to read
@@ -62,14 +62,14 @@ stands-unended max bytes said a o (Owing i) h is = owes o.has_room is
 stands-unended max bytes said a o (Over r) h is = absurd h
 
 -- with nothing pending, it wants to write only where it looks
-empty-writes : (p : Phase FramedRequest) → wanted_in empty_outbox p ≡ wants.Write → is_looking p ≡ true
+empty-writes : (p : Phase FramedRequest) → wanted_in empty_write_buffer p ≡ wants.Write → is_looking p ≡ true
 empty-writes (Looking s) h = refl
 empty-writes (Waiting s) h = absurd cc
 empty-writes (Owing i) h = absurd cc
 empty-writes (Over r) h = absurd cc
 
 -- where nothing was pending, it wants to write only what was put by a look
-pub writes-looking : (o : OnOutbox) (c : OnConnection) → o ≡ empty_outbox → (is_looking c.phase ≡ false → c.outbox ≡ o) → wanted c ≡ wants.Write → is_looking c.phase ≡ true
+pub writes-looking : (o : OnOutbox) (c : OnConnection) → o ≡ empty_write_buffer → (is_looking c.phase ≡ false → c.write_buffer ≡ o) → wanted c ≡ wants.Write → is_looking c.phase ≡ true
 writes-looking o c empty same writes = go (is_looking c.phase) refl
   where
     go : (b : Bool) → is_looking c.phase ≡ b → is_looking c.phase ≡ true
@@ -77,67 +77,67 @@ writes-looking o c empty same writes = go (is_looking c.phase) refl
     go false is = empty-writes c.phase (subst (λ (o : OnOutbox). wanted_in o c.phase ≡ wants.Write) (same is ∙ empty) writes)
 
 -- a look that does not go on put nothing
-settled : (o : OnOutbox) (c : OnConnection) (bytes said : List ℕ) → o ≡ empty_outbox → (is_looking c.phase ≡ false → c.outbox ≡ o) → is_looking c.phase ≡ false
-    → (put : List ℕ) × (c.outbox.pending ≡ o.pending ++ put) × Stands bytes (said ++ put) c → Stands bytes said c
+settled : (o : OnOutbox) (c : OnConnection) (bytes said : List ℕ) → o ≡ empty_write_buffer → (is_looking c.phase ≡ false → c.write_buffer ≡ o) → is_looking c.phase ≡ false
+    → (put : List ℕ) × (c.write_buffer.pending ≡ o.pending ++ put) × Stands bytes (said ++ put) c → Stands bytes said c
 settled o c bytes said empty same other put =
     let before : o.pending ≡ [] = ap (λ (o : OnOutbox). o.pending) empty in
-    let after : c.outbox.pending ≡ [] = ap (λ (o : OnOutbox). o.pending) (same other ∙ empty) in
+    let after : c.write_buffer.pending ≡ [] = ap (λ (o : OnOutbox). o.pending) (same other ∙ empty) in
     let none : put.0 ≡ [] = sym (put.1 ∙ ap (λ l. l ++ put.0) before) ∙ after in
     subst (λ t. Stands bytes t c) (ap (λ l. said ++ l) none ∙ append-nil said) put.2
 
 -- so it stands as it did where it wants to read
-pub settled-reads : (o : OnOutbox) (c : OnConnection) (bytes said : List ℕ) → o ≡ empty_outbox → (is_looking c.phase ≡ false → c.outbox ≡ o) → wanted c ≡ wants.Read
-    → (put : List ℕ) × (c.outbox.pending ≡ o.pending ++ put) × Stands bytes (said ++ put) c → Stands bytes said c
-settled-reads o c bytes said empty same reads = settled o c bytes said empty same (reads-other c.outbox c.phase reads)
+pub settled-reads : (o : OnOutbox) (c : OnConnection) (bytes said : List ℕ) → o ≡ empty_write_buffer → (is_looking c.phase ≡ false → c.write_buffer ≡ o) → wanted c ≡ wants.Read
+    → (put : List ℕ) × (c.write_buffer.pending ≡ o.pending ++ put) × Stands bytes (said ++ put) c → Stands bytes said c
+settled-reads o c bytes said empty same reads = settled o c bytes said empty same (reads-other c.write_buffer c.phase reads)
 
 -- what is owed an answer came in
 CameIn-owing : (bytes said : List ℕ) (broke : Bool) (c : OnConnection) (i : Incoming FramedRequest) → c.phase ≡ Owing i → Stands bytes said c
-    → IfSome (owed_in c.phase) (λ i. TellsEnd c.inbox.ended (Ok i)) → broke ≡ is_cut_by_fault i → CameIn bytes said broke c
+    → IfSome (owed_in c.phase) (λ i. TellsEnd c.read_buffer.ended (Ok i)) → broke ≡ is_cut_by_fault i → CameIn bytes said broke c
 CameIn-owing bytes said broke c i is stands tells why = record {
   incoming = i;
   owed = ap owed_in is;
-  comes = subst (StandsIn c.max_size bytes said c.inbox) is stands;
-  tells_end = subst (λ p. IfSome (owed_in p) (λ i. TellsEnd c.inbox.ended (Ok i))) is tells;
+  comes = subst (StandsIn c.max_size bytes said c.read_buffer) is stands;
+  tells_end = subst (λ p. IfSome (owed_in p) (λ i. TellsEnd c.read_buffer.ended (Ok i))) is tells;
   why = why;
 }
 
 -- what is wanted an answer for came in, and no failed read cut it
-pub CameIn-wanted : (bytes said : List ℕ) (broke : Bool) (o : OnOutbox) (c : OnConnection) (w : Wants) → o ≡ empty_outbox → (is_looking c.phase ≡ false → c.outbox ≡ o) → w ≡ wanted c → (w ≡ wants.Answer) ⊎ (w ≡ wants.Nothing)
-    → (put : List ℕ) × (c.outbox.pending ≡ o.pending ++ put) × Stands bytes (said ++ put) c → IfSome (owed_in c.phase) (λ i. TellsEnd c.inbox.ended (Ok i))
+pub CameIn-wanted : (bytes said : List ℕ) (broke : Bool) (o : OnOutbox) (c : OnConnection) (w : Wants) → o ≡ empty_write_buffer → (is_looking c.phase ≡ false → c.write_buffer ≡ o) → w ≡ wanted c → (w ≡ wants.Answer) ⊎ (w ≡ wants.Nothing)
+    → (put : List ℕ) × (c.write_buffer.pending ≡ o.pending ++ put) × Stands bytes (said ++ put) c → IfSome (owed_in c.phase) (λ i. TellsEnd c.read_buffer.ended (Ok i))
     → IfSome (owed_in c.phase) (λ i. is_cut_by_fault i ≡ false) → broke ≡ false → CameIn bytes said broke c
-CameIn-wanted bytes said broke o c w empty same is (inr over) put tells whole alive = absurd (stands-unended c.max_size bytes (said ++ put.0) c.inbox c.outbox c.phase put.2 (sym is ∙ over))
+CameIn-wanted bytes said broke o c w empty same is (inr over) put tells whole alive = absurd (stands-unended c.max_size bytes (said ++ put.0) c.read_buffer c.write_buffer c.phase put.2 (sym is ∙ over))
 CameIn-wanted bytes said broke o c w empty same is (inl answers) put tells whole alive =
-    let owing = answers-owing c.outbox c.phase (sym is ∙ answers) in
+    let owing = answers-owing c.write_buffer c.phase (sym is ∙ answers) in
     let other : is_looking c.phase ≡ false = ap is_looking owing.1 in
     let unbroken = subst (λ p. IfSome (owed_in p) (λ i. is_cut_by_fault i ≡ false)) owing.1 whole in
     CameIn-owing bytes said broke c owing.0 owing.1 (settled o c bytes said empty same other put) tells (alive ∙ sym unbroken)
 
 -- after a read that failed, what is owed an answer is what that cut
-pub CameIn-broken : (max : ℕ) (bytes said : List ℕ) (broke : Bool) (c : OnConnection) (x : Option Ended) → BreaksTo max bytes said c.inbox c.phase → max ≡ c.max_size → ended_in c.phase ≡ Ok x
-    → IfSome (owed_in c.phase) (λ i. TellsEnd c.inbox.ended (Ok i)) → broke ≡ true → CameIn bytes said broke c
+pub CameIn-broken : (max : ℕ) (bytes said : List ℕ) (broke : Bool) (c : OnConnection) (x : Option Ended) → BreaksTo max bytes said c.read_buffer c.phase → max ≡ c.max_size → ended_in c.phase ≡ Ok x
+    → IfSome (owed_in c.phase) (λ i. TellsEnd c.read_buffer.ended (Ok i)) → broke ≡ true → CameIn bytes said broke c
 CameIn-broken max bytes said broke c x breaks size ok tells broken = go c.phase refl breaks ok
   where
-    go : (p : Phase FramedRequest) → c.phase ≡ p → BreaksTo max bytes said c.inbox p → ended_in p ≡ Ok x → CameIn bytes said broke c
+    go : (p : Phase FramedRequest) → c.phase ≡ p → BreaksTo max bytes said c.read_buffer p → ended_in p ≡ Ok x → CameIn bytes said broke c
     go (Looking s) is h ok = absurd h
     go (Waiting s) is h ok = absurd h
-    go (Owing i) is h ok = CameIn-owing bytes said broke c i is (subst (StandsIn c.max_size bytes said c.inbox) (sym is) (subst (λ m. StandsIn m bytes said c.inbox (Owing i)) size h.0)) tells (broken ∙ sym h.1)
+    go (Owing i) is h ok = CameIn-owing bytes said broke c i is (subst (StandsIn c.max_size bytes said c.read_buffer) (sym is) (subst (λ m. StandsIn m bytes said c.read_buffer (Owing i)) size h.0)) tells (broken ∙ sym h.1)
     go (Over (Ok e)) is h ok = absurd h
     go (Over (Err f)) is h ok = absurd cc
 
 -- and where nothing is, it breaks the reading off
 pub Breaks-over : (max : ℕ) (bytes said : List ℕ) (a : Ahead) (p : Phase FramedRequest) (f : WireFault) → BreaksTo max bytes said a p → Err f ≡ ended_in p
-    → BreaksFront max (record { input = bytes; text = said }) f × (f ≡ fault.Read)
+    → BreaksMessage max (record { input = bytes; text = said }) f × (f ≡ fault.Read)
 Breaks-over max bytes said a (Looking s) f h is = absurd h
 Breaks-over max bytes said a (Waiting s) f h is = absurd h
 Breaks-over max bytes said a (Owing i) f h is = absurd cc
 Breaks-over max bytes said a (Over (Ok e)) f h is = absurd h
 Breaks-over max bytes said a (Over (Err g)) f h is =
     let same : f ≡ g = cc in
-    subst (λ f. BreaksFront max (record { input = bytes; text = said }) f × (f ≡ fault.Read)) (sym same) h
+    subst (λ f. BreaksMessage max (record { input = bytes; text = said }) f × (f ≡ fault.Read)) (sym same) h
 
--- `100 Continue` was put, and its write failed after a front of it
+-- `100 Continue` was put, and its write failed after a prefix of it
 pub Breaks-continue : (max : ℕ) (bytes said put : List ℕ) (n : ℕ) (a : Ahead) (p : Phase FramedRequest) → StandsIn max bytes (said ++ put) a p → is_looking p ≡ true → put ≢ []
-    → BreaksFront max (record { input = bytes; text = said ++ take n put }) fault.Write
+    → BreaksMessage max (record { input = bytes; text = said ++ take n put }) fault.Write
 Breaks-continue max bytes said put n a (Looking (Head s)) h looks some = absurd (some (nil-right said put h.0))
   where
     nil-right : (xs ys : List ℕ) → xs ++ ys ≡ [] → ys ≡ []
@@ -145,9 +145,9 @@ Breaks-continue max bytes said put n a (Looking (Head s)) h looks some = absurd 
     nil-right (x ∷ xs) ys e = absurd cc
 Breaks-continue max bytes said put n a (Looking (Body p)) h looks some =
     let waits : p.is_waiting ≡ true = is_waiting said put p.is_waiting some h.0 in
-    let front = IsFront-waits max bytes p a.held h.1 waits in
+    let next_message = IsNextMessage-waits max bytes p a.held h.1 waits in
     let whole : said ++ put ≡ continue_text true = h.0 ∙ ap continue_text waits in
-    (front.0, front.1, front.2, (length said + n, sym (take-append-add said put n) ∙ ap (take (length said + n)) whole))
+    (next_message.0, next_message.1, next_message.2, (length said + n, sym (take-append-add said put n) ∙ ap (take (length said + n)) whole))
   where
     is_waiting : (said put : List ℕ) (w : Bool) → put ≢ [] → said ++ put ≡ continue_text w → w ≡ true
     is_waiting said put true some e = refl

@@ -10,7 +10,7 @@ use Rattle.http_wire.specs.Fault.{NamesStream}
 use Rattle.http_wire.specs.Incoming.{FramedRequest, is_cut_by_fault}
 use Rattle.http_wire.specs.Layout.{framed_at, request_at}
 use Rattle.http_wire.specs.OnConnection.{ended_in, phase_after, turn_end}
-use Rattle.http_wire.specs.Past.{Answering, Notes}
+use Rattle.http_wire.specs.History.{Answering, Notes}
 use Rattle.http_wire.specs.ReadOnWire.{ComesIn}
 use Rattle.http_wire.specs.ReplyText.{reply_text, refusal_text}
 use Rattle.http_wire.specs.inside.TurnFinish.{AnswersTurn, FinishesTurn, ended_after, turn_cut}
@@ -113,7 +113,7 @@ module _ {A : Type 0} (steps : A → Request → ℕ → Reply → A → Type 0)
       framing = p.framing;
       waiting = f.0;
       reply = reply;
-      front = f.2;
+      next_message = f.2;
       step = step;
       wrote = append-nil said ∙ f.1;
     };
@@ -165,7 +165,7 @@ module _ {A : Type 0} (steps : A → Request → ℕ → Reply → A → Type 0)
     fault = rw alive h.fault;
   }
 
-  -- a write failed after a front of what was pending
+  -- a write failed after a prefix of what was pending
   pub Finishes-unsent : {T : Type 0} (now : ℕ) (a : Ahead) (incoming : Incoming FramedRequest) (pending : List ℕ) (w0 w1 : Option (List ℕ)) (failed : Bool) (before after : A)
       (answered r : Result (Option Ended) WireFault) (e given : WireFault) → r ≡ Err e → e ≡ given → AnswersTurn steps now a incoming pending before after answered
       → Writes {T = T} w0 w1 failed pending (Err given) → pending ≢ [] → FinishesTurn steps now a incoming w0 w1 failed before after r

@@ -2,7 +2,7 @@
 use Rattle.std.proofs.Common.{◌≡◌, ℕ, List, false, Some, Ok, Err, Result, ap, inl}
 use Rattle.httparse.specs.Grammar.{RequestHead}
 use Rattle.http_wire.specs.HeadText.{has_many_lines}
-use Rattle.http_wire.specs.Front.{Parses, refused, judged, judged_front}
+use Rattle.http_wire.specs.NextMessage.{Parses, refused, judged, judged_message}
 use Rattle.http_wire.specs.inside.HeadLayout.{JudgesHead, ReadsLayout}
 use Rattle.http_wire.specs.declared.read.head.RefusedHead.{RefusedHead}
 use Rattle.http_wire.specs.declared.read.layout.Layout.{Layout}
@@ -12,5 +12,5 @@ pub ReadsLayout-judged : (max : ℕ) (text : List ℕ) (h : RequestHead) (r : Re
     → JudgesHead max text h r → ReadsLayout max text r
 ReadsLayout-judged max text h (Ok p) few parses s = (few, (h, parses, s))
 ReadsLayout-judged max text h (Err e) few parses s = λ rest.
-    let same : refused e.refusal e.framing ≡ judged_front h (judged max h) rest = rw s.0 (ap (refused e.refusal) s.1) in
+    let same : refused e.refusal e.framing ≡ judged_message h (judged max h) rest = rw s.0 (ap (refused e.refusal) s.1) in
     rw few (Some h, parses, inl same)

@@ -4,7 +4,7 @@ pub mod ConversationLemmas
 pub mod DrivingLemmas
 pub mod FindLemmas
 pub mod FinishLemmas
-pub mod FrontLemmas
+pub mod NextMessageLemmas
 pub mod HeadFieldsLemmas
 pub mod HeadLemmas
 pub mod HeadTextLemmas
@@ -12,7 +12,7 @@ pub mod LawsLemmas
 pub mod NameLemmas
 pub mod OrderLemmas
 pub mod PageLemmas
-pub mod PastLemmas
+pub mod HistoryLemmas
 pub mod PhaseLemmas
 pub mod RangeLemmas
 pub mod ReplyLemmas

@@ -10,7 +10,7 @@ use Rattle.tus_steps.specs.Field.{FieldText, is_absent}
 use Rattle.tus_steps.specs.Method.{is_applied_when_cut}
 use Rattle.tus_steps.specs.Request.{Request}
 use Rattle.http_wire.specs.Fields.{field_text}
-use Rattle.http_wire.specs.Front.{Front, message, refused, cut_patch, cut_other, clean_end, Begins, BeginsWhole, LacksMemory, Parses, OutgrowsRoom, closing, framing_of, is_waiting, judged, judged_front, method_in, parsed_front, tus_fields, unknown_framing, with_body}
+use Rattle.http_wire.specs.NextMessage.{NextMessage, message, refused, cut_patch, cut_other, clean_end, Begins, BeginsWhole, LacksMemory, Parses, OutgrowsRoom, closing, framing_of, is_waiting, judged, judged_message, method_in, parsed_message, tus_fields, unknown_framing, with_body}
 use Rattle.http_wire.specs.HeadText.{HeadText, whole, too_long, cut, nothing, has_many_lines}
 use Rattle.http_wire.specs.Judge.{body_len, is_host_wrong, judge, judge_tests, sized}
 use Rattle.http_wire.specs.Laws.{WireFollowsOrder}
@@ -77,17 +77,17 @@ unrefused h n rest = by (nat_le n (length rest)) (is_applied_when_cut (method_in
 
 -- an input with this text begins so, and is refused for this reason
 abbrev BeginsFor : ℕ → HeadText → Option WireRefusal → Type 0
-BeginsFor max t why = (f : Front) × Begins max t f × (refusal_in f ≡ why)
+BeginsFor max t why = (f : NextMessage) × Begins max t f × (refusal_in f ≡ why)
 
 abbrev BeginsWholeFor : ℕ → List ℕ → List ℕ → Option WireRefusal → Type 0
-BeginsWholeFor max text rest why = (f : Front) × BeginsWhole max text rest f × (refusal_in f ≡ why)
+BeginsWholeFor max text rest why = (f : NextMessage) × BeginsWhole max text rest f × (refusal_in f ≡ why)
 
 module _ (max : ℕ) (text rest : List ℕ) (why : Option WireRefusal) where
   -- a head whose fields are tested
   judged-begins : (h : RequestHead) (r : Result ℕ WireRefusal) → judged max h ≡ r → Parses text (Some h) → After (result_err r) (memory (OutgrowsRoom max text h) done) why → BeginsWholeFor max text rest why
-  judged-begins h (Err refusal) is parses q = (judged_front h (Err refusal) rest, (Some h, parses, inl (ap (λ r. judged_front h r rest) (sym is))), sym q)
+  judged-begins h (Err refusal) is parses q = (judged_message h (Err refusal) rest, (Some h, parses, inl (ap (λ r. judged_message h r rest) (sym is))), sym q)
   judged-begins h (Ok n) is parses (inl lacks) = (refused Memory (closing (framing_of h)), (Some h, parses, inr (lacks.0, refl)), sym lacks.1)
-  judged-begins h (Ok n) is parses (inr none) = (with_body h n rest, (Some h, parses, inl (ap (λ r. judged_front h r rest) (sym is))), unrefused h n rest ∙ sym none)
+  judged-begins h (Ok n) is parses (inr none) = (with_body h n rest, (Some h, parses, inl (ap (λ r. judged_message h r rest) (sym is))), unrefused h n rest ∙ sym none)
 
   head-begins : (parsed : Option RequestHead) → Parses text parsed → MatchBool (is_none parsed) (why ≡ Some Head) (IsReason (head_questions max text parsed) why) → BeginsWholeFor max text rest why
   unfolding judged_tests
@@ -98,7 +98,7 @@ module _ (max : ℕ) (text rest : List ℕ) (why : Option WireRefusal) where
 
   whole-begins : (many : Bool) (parsed : Option RequestHead) → Parses text parsed
       → MatchBool many (why ≡ Some HeadSize) (MatchBool (is_none parsed) (why ≡ Some Head) (IsReason (head_questions max text parsed) why))
-      → (f : Front) × MatchBool many (f ≡ refused HeadSize unknown_framing) (BeginsWhole max text rest f) × (refusal_in f ≡ why)
+      → (f : NextMessage) × MatchBool many (f ≡ refused HeadSize unknown_framing) (BeginsWhole max text rest f) × (refusal_in f ≡ why)
   whole-begins true parsed parses q = (refused HeadSize unknown_framing, refl, sym q)
   whole-begins false parsed parses q = head-begins parsed parses q
 
@@ -108,9 +108,9 @@ begins max too_long parsed why parses q = (refused HeadSize unknown_framing, ref
 begins max cut parsed why parses q = (cut_other false, refl, sym q)
 begins max nothing parsed why parses q = (clean_end, refl, sym q)
 
-module _ (max : ℕ) (text rest : List ℕ) (f : Front) where
+module _ (max : ℕ) (text rest : List ℕ) (f : NextMessage) where
   -- a head whose fields were judged
-  judged-reason : (h : RequestHead) (r : Result ℕ WireRefusal) → f ≡ judged_front h r rest → After (result_err r) (memory (OutgrowsRoom max text h) done) (refusal_in f)
+  judged-reason : (h : RequestHead) (r : Result ℕ WireRefusal) → f ≡ judged_message h r rest → After (result_err r) (memory (OutgrowsRoom max text h) done) (refusal_in f)
   judged-reason h (Err refusal) same = ap refusal_in same
   judged-reason h (Ok n) same = inr (ap refusal_in same ∙ unrefused h n rest)
 
@@ -120,7 +120,7 @@ module _ (max : ℕ) (text rest : List ℕ) (f : Front) where
       let later = memory (OutgrowsRoom max text h) done in
       first-tests (judged_tests max h) later (refusal_in f) (subst (λ o. After o later (refusal_in f)) (judged-first max h) q)
 
-  head-reason : (parsed : Option RequestHead) → (f ≡ parsed_front max parsed rest) ⊎ LacksMemory max text parsed f
+  head-reason : (parsed : Option RequestHead) → (f ≡ parsed_message max parsed rest) ⊎ LacksMemory max text parsed f
       → MatchBool (is_none parsed) (refusal_in f ≡ Some Head) (IsReason (head_questions max text parsed) (refusal_in f))
   head-reason None (inl same) = ap refusal_in same
   head-reason None (inr lacks) = absurd lacks
@@ -135,7 +135,7 @@ module _ (max : ℕ) (text rest : List ℕ) (f : Front) where
   whole-reason false parsed parses w =
       subst (λ (p : Option RequestHead). MatchBool (is_none p) (refusal_in f ≡ Some Head) (IsReason (head_questions max text p) (refusal_in f))) (Parses-unique text w.0 parsed w.1 parses) (head-reason w.0 w.2)
 
-reason : (max : ℕ) (t : HeadText) (parsed : Option RequestHead) (f : Front) → IsParsed t parsed → Begins max t f → IsReason (questions max t parsed) (refusal_in f)
+reason : (max : ℕ) (t : HeadText) (parsed : Option RequestHead) (f : NextMessage) → IsParsed t parsed → Begins max t f → IsReason (questions max t parsed) (refusal_in f)
 reason max (whole text rest) parsed f parses b = whole-reason max text rest f (has_many_lines text) parsed parses b
 reason max too_long parsed f parses b = ap refusal_in b
 reason max cut parsed f parses b = ap refusal_in b

@@ -5,7 +5,7 @@ use Rattle.std.specs.Prelude.{if◌then◌else◌}
 use Rattle.http_wire.specs.ConnectionCalls.{Takes}
 use Rattle.http_wire.specs.Layout.{framed_at}
 use Rattle.http_wire.specs.OnConnection.{HasNoMessage, StandsIn, at_start, is_looking, owed_in, phase_after, unless_pending, wanted_in}
-use Rattle.http_wire.specs.Past.{HasPast, Past}
+use Rattle.http_wire.specs.History.{HasHistory, History}
 use Rattle.http_wire.specs.ReadOnWire.{TellsEnd, ahead_limit, read_limit}
 use Rattle.http_wire.specs.declared.connection.Wants.TheVariants as wants
 use Rattle.http_wire.specs.declared.conversation.Ended.{Ended}
@@ -17,10 +17,10 @@ use Rattle.http_wire.specs.declared.read.stage.Stage.{Stage}
 use Rattle.http_wire.specs.inside.Ahead.{Ahead}
 use Rattle.http_wire.specs.inside.Phases.{map_phase, lacking, IsConnection, IsPhase}
 use Rattle.http_wire.specs.inside.Sending.{OnOutbox}
-use Rattle.http_wire.proofs.PastLemmas.{Past-kept, Past-took}
+use Rattle.http_wire.proofs.HistoryLemmas.{History-kept, History-took}
 use Rattle.http_wire.proofs.StageLemmas.{Standing-few, Standing-more, Standing-unfinished, Wants-unended}
 
--- the start of a message may stand over any inbox
+-- the start of a message may stand over any read_buffer
 pub IsConnection-start : (a : Ahead) (p : Phase Layout) (max : ℕ) → max < 2 ^ 31 → p ≡ at_start → IsConnection a p max
 IsConnection-start a p max size is = record {
   size = size;
@@ -56,15 +56,15 @@ none-came old got new n ended is len ends =
 -- one read at a message for which more is needed
 pub Takes-read : (got : List ℕ) (f : Layout → FramedRequest) (p : Phase Layout) (s : Stage) (old new : Ahead) (o : OnOutbox) (max : ℕ) → p ≡ Waiting s → IsPhase old p
     → new.held ≡ old.held ++ got → ((got ≡ []) ↔ (new.ended ≡ true))
-    → Takes got (record { inbox = old; phase = map_phase f p; outbox = o; max_size = max }) (record { inbox = new; phase = Looking s; outbox = o; max_size = max })
+    → Takes got (record { read_buffer = old; phase = map_phase f p; write_buffer = o; max_size = max }) (record { read_buffer = new; phase = Looking s; write_buffer = o; max_size = max })
 Takes-read got f (Looking t) s old new o max is at held ended = absurd cc
 Takes-read got f (Waiting t) s old new o max is at held ended = record {
   stands = λ bytes said h. Standing-more max [] bytes got said old new s (subst (λ p. StandsIn max bytes said old (map_phase f p)) is h) (subst (IsPhase old) is at).0 held;
   held = held;
   ended = ended;
   looks = refl;
-  past = λ q h. Past-took q got (record { inbox = old; phase = map_phase f (Waiting t); outbox = o; max_size = max }) (record { inbox = new; phase = Looking s; outbox = o; max_size = max }) (λ bytes said stands. Standing-more max [] bytes got said old new s (subst (λ p. StandsIn max bytes said old (map_phase f p)) is stands) (subst (IsPhase old) is at).0 held) refl refl h;
-  outbox = refl;
+  history = λ q h. History-took q got (record { read_buffer = old; phase = map_phase f (Waiting t); write_buffer = o; max_size = max }) (record { read_buffer = new; phase = Looking s; write_buffer = o; max_size = max }) (λ bytes said stands. Standing-more max [] bytes got said old new s (subst (λ p. StandsIn max bytes said old (map_phase f p)) is stands) (subst (IsPhase old) is at).0 held) refl refl h;
+  write_buffer = refl;
   size = refl;
 }
 Takes-read got f (Owing i) s old new o max is at held ended = absurd cc
@@ -133,15 +133,15 @@ reads-unfinished f a p o max bytes said at reads stands =
     let phase = subst (IsPhase a) (waits-anyway f p waits.0 waits.1) at in
     Standing-unfinished max bytes said a waits.0 (subst (StandsIn max bytes said a) waits.1 stands) phase.0 phase.1
 
--- a read that brought nothing leaves the past as it is
-pub Past-unread : (p : Past) (q : Phase Layout) (f g : Layout → FramedRequest) (old new : Ahead) (o : OnOutbox) (max : ℕ) → wanted_in o (map_phase f q) ≡ wants.Read → new.held ≡ old.held
-    → HasPast p (record { inbox = old; phase = map_phase f q; outbox = o; max_size = max }) → HasPast p (record { inbox = new; phase = map_phase g q; outbox = o; max_size = max })
-Past-unread p q f g old new o max reads held past =
+-- a read that brought nothing leaves the history as it is
+pub History-unread : (p : History) (q : Phase Layout) (f g : Layout → FramedRequest) (old new : Ahead) (o : OnOutbox) (max : ℕ) → wanted_in o (map_phase f q) ≡ wants.Read → new.held ≡ old.held
+    → HasHistory p (record { read_buffer = old; phase = map_phase f q; write_buffer = o; max_size = max }) → HasHistory p (record { read_buffer = new; phase = map_phase g q; write_buffer = o; max_size = max })
+History-unread p q f g old new o max reads held history =
     let waits = reads-waiting o (map_phase f q) reads in
     let is = waits-anyway f q waits.0 waits.1 in
-    subst (λ q. HasPast p (record { inbox = new; phase = map_phase g q; outbox = o; max_size = max })) (sym is)
-    (Past-kept p (record { inbox = old; phase = Waiting waits.0; outbox = o; max_size = max }) new held
-    (subst (λ q. HasPast p (record { inbox = old; phase = map_phase f q; outbox = o; max_size = max })) is past))
+    subst (λ q. HasHistory p (record { read_buffer = new; phase = map_phase g q; write_buffer = o; max_size = max })) (sym is)
+    (History-kept p (record { read_buffer = old; phase = Waiting waits.0; write_buffer = o; max_size = max }) new held
+    (subst (λ q. HasHistory p (record { read_buffer = old; phase = map_phase f q; write_buffer = o; max_size = max })) is history))
 
 -- what was cut by the end came at the end
 pub owed-tells : (a : Ahead) (p : Phase Layout) → IsPhase a p → IfSome (owed_in (map_phase (framed_at a.lent) p)) (λ i. TellsEnd a.ended (Ok i))

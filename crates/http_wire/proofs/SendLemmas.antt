@@ -5,7 +5,7 @@ use Rattle.std.proofs.lemmas.Bool.{leb-true}
 use Rattle.std.proofs.lemmas.List.{drop-append-le, length-drop, nil_from_length, take-append-drop}
 use Rattle.std.specs.Io.KnownBytes.{Appends}
 use Rattle.http_wire.specs.Writes.{Writes}
-use Rattle.http_wire.specs.inside.Sending.{IsCleared, OnOutbox, TakesSome, empty_outbox, following, outbox_of}
+use Rattle.http_wire.specs.inside.Sending.{IsCleared, OnOutbox, TakesSome, empty_write_buffer, following, write_buffer_of}
 use Rattle.http_wire.specs.declared.fault.WireFault.{WireFault}
 use Rattle.http_wire.proofs.AheadLemmas.{Appends-more}
 
@@ -26,8 +26,8 @@ pub nil-left : (first rest : List ℕ) → first ++ rest ≡ [] → first ≡ []
 nil-left [] rest h = refl
 nil-left (b ∷ first) rest h = absurd cc
 
--- where nothing is pending, there is nothing in an outbox
-pub cleared-empty : (page : List ℕ) (sent : ℕ) (tail : Option (List ℕ)) → IsCleared page sent tail → drop sent page ++ following tail ≡ [] → outbox_of page sent tail ≡ empty_outbox
+-- where nothing is pending, there is nothing in an write_buffer
+pub cleared-empty : (page : List ℕ) (sent : ℕ) (tail : Option (List ℕ)) → IsCleared page sent tail → drop sent page ++ following tail ≡ [] → write_buffer_of page sent tail ≡ empty_write_buffer
 cleared-empty page sent (Some bytes) c none = absurd (c.unsent (nil-right (drop sent page) bytes none))
 cleared-empty page sent None c none =
     let left : length page - sent ≡ 0 = sym (length-drop sent page) ∙ ap length (sym (append-nil (drop sent page)) ∙ none) in
@@ -36,18 +36,18 @@ cleared-empty page sent None c none =
     rw (unsent, blank) refl
 
 -- so where there is no room, something is pending
-pub pending-unless-room : (page : List ℕ) (sent : ℕ) (tail : Option (List ℕ)) (o : OnOutbox) → IsCleared page sent tail → outbox_of page sent tail ≡ o → o.has_room ≡ false → o.pending ≢ []
+pub pending-unless-room : (page : List ℕ) (sent : ℕ) (tail : Option (List ℕ)) (o : OnOutbox) → IsCleared page sent tail → write_buffer_of page sent tail ≡ o → o.has_room ≡ false → o.pending ≢ []
 pending-unless-room page sent tail o cleared is full none =
     let empty = cleared-empty page sent tail cleared (ap (λ (o : OnOutbox). o.pending) is ∙ none) in
     true≢false (sym (ap (λ (o : OnOutbox). o.has_room) empty) ∙ ap (λ (o : OnOutbox). o.has_room) is ∙ full)
 
 -- where there is room, nothing follows the page, and it is short
-pub room-known : (page : List ℕ) (sent : ℕ) (tail : Option (List ℕ)) (o : OnOutbox) → outbox_of page sent tail ≡ o → o.has_room ≡ true → (tail ≡ None) × (length page ≤ 8192)
+pub room-known : (page : List ℕ) (sent : ℕ) (tail : Option (List ℕ)) (o : OnOutbox) → write_buffer_of page sent tail ≡ o → o.has_room ≡ true → (tail ≡ None) × (length page ≤ 8192)
 room-known page sent (Some bytes) o is room = absurd cc
 room-known page sent None o is room = (refl, leb-true (length page) 8192 (ap (λ (o : OnOutbox). o.has_room) is ∙ room))
 
 -- what was put behind a page that nothing follows is behind what was pending
-pub put-behind : (page next text : List ℕ) (sent : ℕ) (tail last : Option (List ℕ)) (o : OnOutbox) → outbox_of page sent tail ≡ o → o.has_room ≡ true → sent ≤ length page → length page ≤ length next
+pub put-behind : (page next text : List ℕ) (sent : ℕ) (tail last : Option (List ℕ)) (o : OnOutbox) → write_buffer_of page sent tail ≡ o → o.has_room ≡ true → sent ≤ length page → length page ≤ length next
     → next ++ following last ≡ page ++ text → drop sent next ++ following last ≡ o.pending ++ text
 put-behind page next text sent tail last o is room within more parts =
     let none = (room-known page sent tail o is room).0 in
@@ -59,7 +59,7 @@ pub sent-more : (all text pending : List ℕ) (n : ℕ) → all ≡ text ++ pend
 sent-more all text pending n is =
     is ∙ ap (λ l. text ++ l) (sym (take-append-drop n pending)) ∙ sym (append_assoc text (take n pending) (drop n pending))
 
--- a write failed after a front of a text was written
+-- a write failed after a prefix of a text was written
 pub Writes-stopped : {T : Type 0} (r : Result T WireFault) (e given : WireFault) (x y z : Option (List ℕ)) (failed : Bool) (all text rest bytes : List ℕ) → r ≡ Err e → e ≡ given
     → all ≡ text ++ rest → Appends x y text → TakesSome y z failed bytes (Err given) → Writes x z failed all r
 Writes-stopped r e given x y z failed all text rest bytes is same parts wrote w =

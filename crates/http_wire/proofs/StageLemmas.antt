@@ -3,7 +3,7 @@ use Rattle.std.proofs.Common.{◌≡◌, ◌≤◌, ◌+◌, length, ℕ, Bool, 
 use Rattle.http_wire.specs.Conversation.{continue_text}
 use Rattle.tus_steps.specs.Method.{is_applied_when_cut}
 use Rattle.tus_steps.specs.declared.method.Method.{Method}
-use Rattle.http_wire.specs.Front.{Front, clean_end, cut_other, IsFront}
+use Rattle.http_wire.specs.NextMessage.{NextMessage, clean_end, cut_other, IsNextMessage}
 use Rattle.http_wire.specs.Layout.{field_at}
 use Rattle.http_wire.specs.OnConnection.{HasNoMessage}
 use Rattle.http_wire.specs.declared.read.fields.FieldSpan.{FieldSpan}
@@ -18,7 +18,7 @@ use Rattle.http_wire.specs.inside.Standing.{Fits, Standing, Wants}
 use Rattle.http_wire.specs.declared.read.stage.Stage.{Stage}
 use Rattle.http_wire.specs.declared.read.stage.Stage.TheVariants.{Head, Body}
 use Rattle.http_wire.proofs.FindLemmas.{Searching-more, Searching-unfinished, unfinished_short}
-use Rattle.http_wire.proofs.FrontLemmas.{BeginsHead-more, BeginsHead-short, BreaksFront-unfinished, IsFront-cut_other, IsFront-cut_patch, IsFront-waits}
+use Rattle.http_wire.proofs.NextMessageLemmas.{BeginsHead-more, BeginsHead-short, BreaksMessage-unfinished, IsNextMessage-cut_other, IsNextMessage-cut_patch, IsNextMessage-waits}
 
 -- more bytes came
 pub Standing-more : (max : ℕ) (start read got said : List ℕ) (old new : Ahead) (s : Stage) → Standing max (start ++ read) said old s → Fits old s → new.held ≡ old.held ++ got
@@ -47,12 +47,12 @@ Wants-unended a (Head s) w = w.unended
 Wants-unended a (Body p) w = w.1
 
 -- a client that waits is told to go on, and what came is a message that waits
-pub Standing-waits : (max : ℕ) (bytes : List ℕ) (a : Ahead) (s : Stage) → Standing max bytes (continue_text true) a s → (f : Front) × IsFront max bytes f × (waits f ≡ true)
+pub Standing-waits : (max : ℕ) (bytes : List ℕ) (a : Ahead) (s : Stage) → Standing max bytes (continue_text true) a s → (f : NextMessage) × IsNextMessage max bytes f × (waits f ≡ true)
 Standing-waits max bytes a (Head s) h = absurd (said h.0)
   where
     said : continue_text true ≡ [] → ⊥
     said e = absurd cc
-Standing-waits max bytes a (Body p) h = IsFront-waits max bytes p a.held h.1 (is_waiting p.is_waiting h.0)
+Standing-waits max bytes a (Body p) h = IsNextMessage-waits max bytes p a.held h.1 (is_waiting p.is_waiting h.0)
   where
     is_waiting : (w : Bool) → continue_text true ≡ continue_text w → w ≡ true
     is_waiting true e = refl
@@ -66,15 +66,15 @@ applied m Many = (is_applied_when_cut m (field_at [] Many), λ head. refl)
 
 -- where more is needed, there is no message yet
 pub Standing-unfinished : (max : ℕ) (bytes said : List ℕ) (a : Ahead) (s : Stage) → Standing max bytes said a s → Fits a s → Wants a s → HasNoMessage max bytes
-Standing-unfinished max bytes said a (Head s) h fits wants = elim (BreaksFront-unfinished max bytes said h.0 (Searching-unfinished bytes a s h.1 wants)) [
+Standing-unfinished max bytes said a (Head s) h fits wants = elim (BreaksMessage-unfinished max bytes said h.0 (Searching-unfinished bytes a s h.1 wants)) [
   | inl cut ↦ (cut_other cut.0, cut.2, tt)
   | inr none ↦ (clean_end, none.1, tt)
 ]
 Standing-unfinished max bytes said a (Body p) h fits wants = by (applied p.method p.fields.checksum)
   where
     by : (b : Bool) × ((head : List ℕ) → is_applied_when_cut p.method (field_at head p.fields.checksum) ≡ b) → HasNoMessage max bytes
-    by (true, is) = (_, IsFront-cut_patch max bytes p a.held h.1 (record a { lent = a.held }) wants.0 fits.held is refl, tt)
-    by (false, is) = (_, IsFront-cut_other max bytes p a.held h.1 wants.0 fits.held is, tt)
+    by (true, is) = (_, IsNextMessage-cut_patch max bytes p a.held h.1 (record a { lent = a.held }) wants.0 fits.held is refl, tt)
+    by (false, is) = (_, IsNextMessage-cut_other max bytes p a.held h.1 wants.0 fits.held is, tt)
 
 -- what holds of what was given, from what held of it
 pub IfOk-from : {T E : Type 0} {P Q : T → Type 0} (r : Result T E) → IfOk r P → ((x : T) → P x → Q x) → IfOk r Q

@@ -1,4 +1,4 @@
--- One turn: what was read and written is the turn of its front.
+-- One turn: what was read and written is the turn of its message.
 use Rattle.std.proofs.Common.{◌≡◌, ℕ, true, false, List, [], ◌++◌, Option, Result, Ok, Err, take, refl, sym, ap, subst, inl, inr, append-nil}
 use Rattle.tus_steps.specs.Request.{Request}
 use Rattle.tus_steps.specs.declared.reply.Reply.{Reply}
@@ -7,8 +7,8 @@ use Rattle.http_wire.specs.inside.Ahead.{Ahead}
 use Rattle.http_wire.specs.inside.TurnFinish.{FinishesIn}
 use Rattle.http_wire.specs.Conversation.{continue_text}
 use Rattle.http_wire.specs.Exchange.{Exchange, followed}
-use Rattle.http_wire.specs.Front.{Front, message, refused, cut_patch, cut_other, clean_end, IsFront}
-use Rattle.http_wire.specs.ReadOnWire.{waits, ComesIn, BreaksFront}
+use Rattle.http_wire.specs.NextMessage.{NextMessage, message, refused, cut_patch, cut_other, clean_end, IsNextMessage}
+use Rattle.http_wire.specs.ReadOnWire.{waits, ComesIn, BreaksMessage}
 use Rattle.http_wire.specs.Layout.{framed_at, request_at}
 use Rattle.http_wire.specs.ReplyText.{reply_text, refusal_text}
 use Rattle.http_wire.specs.Turns.{TakesTurn, Answered, LastTurn, FailsToAnswer, FailsIn, BreaksTurn}
@@ -37,7 +37,7 @@ module _ {A : Type 0} (steps : A → Request → ℕ → Reply → A → Type 0)
     framing = p.framing;
     waiting = f.0;
     reply = reply;
-    front = f.2 rest;
+    next_message = f.2 rest;
     stays = stays;
     step = step;
     wrote = ap (λ l. l ++ reply_text reply now p.framing) f.1;
@@ -68,7 +68,7 @@ module _ {A : Type 0} (steps : A → Request → ℕ → Reply → A → Type 0)
   MessageTurn-cut_other now x a f same moments = (cut_other f.0, f.2, record { ended = refl; text = f.1; same = same })
 
   -- the input ended between two messages
-  pub MessageTurn-end : (now : ℕ) (x : Exchange A) → (x.text ≡ []) × IsFront max x.input clean_end → x.after ≡ x.before → LastTurn steps max now x ended.Input
+  pub MessageTurn-end : (now : ℕ) (x : Exchange A) → (x.text ≡ []) × IsNextMessage max x.input clean_end → x.after ≡ x.before → LastTurn steps max now x ended.Input
   MessageTurn-end now x f same moments = (clean_end, f.1, record { ended = refl; text = f.0; same = same })
 
   -- nothing follows
@@ -76,23 +76,23 @@ module _ {A : Type 0} (steps : A → Request → ℕ → Reply → A → Type 0)
   LastTurn-alone now x rest e h none =
       rw none (subst (λ (i : List ℕ). LastTurn steps max now (record x { input = i }) e) (sym (append-nil x.input)) h)
 
-  fails_waiting : (now n : ℕ) (f : Front) (x : Exchange A) → waits f ≡ true → x.after ≡ x.before → x.text ≡ take n (continue_text true) → FailsIn steps max now f x
+  fails_waiting : (now n : ℕ) (f : NextMessage) (x : Exchange A) → waits f ≡ true → x.after ≡ x.before → x.text ≡ take n (continue_text true) → FailsIn steps max now f x
   fails_waiting now n (message request framing waiting rest) x w same part = inl (w, same, (n, part))
   fails_waiting now n (refused why framing) x w same part = absurd cc
   fails_waiting now n (cut_patch request framing waiting) x w same part = (w, same, (n, part))
   fails_waiting now n (cut_other waiting) x w same part = (w, same, (n, part))
   fails_waiting now n clean_end x w same part = absurd cc
 
-  -- the front could not be read, or `100 Continue` could not be written
-  pub BreaksTurn-front : (now : ℕ) (x : Exchange A) (e : WireFault) → BreaksFront max (record { input = x.input; text = x.text }) e → x.after ≡ x.before → BreaksTurn steps max now x e
-  BreaksTurn-front now x Read (inl f) same = (ended.Cut, tt, λ moments. (cut_other f.0, f.2, record { ended = refl; text = f.1; same = same }))
-  BreaksTurn-front now x Read (inr f) same = (ended.Input, tt, λ moments. (clean_end, f.1, record { ended = refl; text = f.0; same = same }))
-  BreaksTurn-front now x Write f same = (f.0, f.1, fails_waiting now f.3.0 f.0 x f.2 same f.3.1)
-  BreaksTurn-front now x Memory f same = absurd f
-  BreaksTurn-front now x Failed f same = absurd f
+  -- the next message could not be read, or `100 Continue` could not be written
+  pub BreaksTurn-next_message : (now : ℕ) (x : Exchange A) (e : WireFault) → BreaksMessage max (record { input = x.input; text = x.text }) e → x.after ≡ x.before → BreaksTurn steps max now x e
+  BreaksTurn-next_message now x Read (inl f) same = (ended.Cut, tt, λ moments. (cut_other f.0, f.2, record { ended = refl; text = f.1; same = same }))
+  BreaksTurn-next_message now x Read (inr f) same = (ended.Input, tt, λ moments. (clean_end, f.1, record { ended = refl; text = f.0; same = same }))
+  BreaksTurn-next_message now x Write f same = (f.0, f.1, fails_waiting now f.3.0 f.0 x f.2 same f.3.1)
+  BreaksTurn-next_message now x Memory f same = absurd f
+  BreaksTurn-next_message now x Failed f same = absurd f
 
   -- an answer that could not be written is a turn that was broken off
-  fails_to_answer : (now : ℕ) (f : Front) (x : Exchange A) → FailsToAnswer steps max now f x → FailsIn steps max now f x
+  fails_to_answer : (now : ℕ) (f : NextMessage) (x : Exchange A) → FailsToAnswer steps max now f x → FailsIn steps max now f x
   fails_to_answer now (message request framing waiting rest) x h = inr h
   fails_to_answer now (refused why framing) x h = h
   fails_to_answer now (cut_patch request framing waiting) x h = absurd h
@@ -102,7 +102,7 @@ module _ {A : Type 0} (steps : A → Request → ℕ → Reply → A → Type 0)
   -- a turn that was broken off while it was answered is one that was broken off
   pub BreaksTurn-answer : (now : ℕ) (x : Exchange A) (e : WireFault) → BreaksAnswer steps max now x e → BreaksTurn steps max now x e
   BreaksTurn-answer now x Read h =
-      (ended.Cut, tt, λ moments. (cut_patch h.request h.framing h.waiting, h.front, (h.reply, h.step, refl, h.wrote)))
+      (ended.Cut, tt, λ moments. (cut_patch h.request h.framing h.waiting, h.next_message, (h.reply, h.step, refl, h.wrote)))
   BreaksTurn-answer now x Write h = (h.0, h.1, fails_to_answer now h.0 x h.2)
   BreaksTurn-answer now x Memory h = h
   BreaksTurn-answer now x Failed h = h
@@ -117,7 +117,7 @@ module _ {A : Type 0} (steps : A → Request → ℕ → Reply → A → Type 0)
       → steps x.before (request_at p a.lent) now reply x.after → BreaksAnswer steps max now (with_text x (take n (reply_text reply now p.framing))) Write
   BreaksAnswer-reply now n x a p reply f step = (
     message (request_at p a.lent) p.framing f.0 (a.held ++ []),
-    subst (λ i. IsFront max i (message (request_at p a.lent) p.framing f.0 (a.held ++ []))) (append-nil x.input) (f.2 []),
+    subst (λ i. IsNextMessage max i (message (request_at p a.lent) p.framing f.0 (a.held ++ []))) (append-nil x.input) (f.2 []),
     (reply, n, step, ap (λ l. l ++ take n (reply_text reply now p.framing)) f.1),
   )
 
@@ -126,7 +126,7 @@ module _ {A : Type 0} (steps : A → Request → ℕ → Reply → A → Type 0)
       → ComesIn max (record { input = x.input; text = x.text }) a.held (incoming.Refused why framing) → x.after ≡ x.before → BreaksAnswer steps max now (with_text x (take n (refusal_text why now framing))) Write
   BreaksAnswer-refusal now n x a why framing f same = (
     refused why framing,
-    subst (λ i. IsFront max i (refused why framing)) (append-nil x.input) (f.1 []),
+    subst (λ i. IsNextMessage max i (refused why framing)) (append-nil x.input) (f.1 []),
     (same, (n, ap (λ l. l ++ take n (refusal_text why now framing)) f.0)),
   )
 

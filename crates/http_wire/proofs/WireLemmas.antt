@@ -4,7 +4,7 @@ use Rattle.std.specs.Io.KnownBytes.{Appends, Consumes, IsAtEnd}
 use Rattle.http_wire.specs.Fault.{NamesStream}
 use Rattle.http_wire.specs.Incoming.{FramedRequest, is_cut_by_fault}
 use Rattle.http_wire.specs.OnConnection.{OnConnection}
-use Rattle.http_wire.specs.ReadOnWire.{BreaksFront, ComesAtEnd, ComesIn, Reads, ReadsOn, TellsEnd, read_limit}
+use Rattle.http_wire.specs.ReadOnWire.{BreaksMessage, ComesAtEnd, ComesIn, Reads, ReadsOn, TellsEnd, read_limit}
 use Rattle.http_wire.specs.Streams.{Streams}
 use Rattle.http_wire.specs.WireState.{is_open, state_after}
 use Rattle.http_wire.specs.declared.fault.WireFault.{WireFault}
@@ -29,12 +29,12 @@ comes-at-end remaining ended incoming.End tells sees = sees tells
 module _ {R W : Type 0} (s : Streams R W) (r0 r1 : R) (w0 w1 : W) (c0 c1 : OnConnection) (st st1 : State) where
   -- a message came in, or what comes in its place
   Reads-came : (got text : List ℕ) (i : Incoming FramedRequest) → is_open st ≡ true → IsWire s r0 w0 c0 st → Consumes (s.remaining r0) (s.remaining r1) got → Appends (s.contents w0) (s.contents w1) text
-      → ComesIn c1.max_size (record { input = c0.inbox.held ++ got; text = text }) c1.inbox.held i → TellsEnd c1.inbox.ended (Ok i) → s.read_failed r1 ≡ is_cut_by_fault i
-      → (SeesEnd (s.remaining r0) c0.inbox → SeesEnd (s.remaining r1) c1.inbox) → StopsAtEnd r0 r1 c0.inbox c1.inbox → s.write_failed w1 ≡ false → c1.max_size ≡ c0.max_size
+      → ComesIn c1.max_size (record { input = c0.read_buffer.held ++ got; text = text }) c1.read_buffer.held i → TellsEnd c1.read_buffer.ended (Ok i) → s.read_failed r1 ≡ is_cut_by_fault i
+      → (SeesEnd (s.remaining r0) c0.read_buffer → SeesEnd (s.remaining r1) c1.read_buffer) → StopsAtEnd r0 r1 c0.read_buffer c1.read_buffer → s.write_failed w1 ≡ false → c1.max_size ≡ c0.max_size
       → length got ≤ read_limit c0.max_size → Reads s (wire_of r0 w0 c0 st) (wire_of r1 w1 c1 (state_after (Ok i))) (Ok i)
   Reads-came got text i opened wire consumes appends comes tells why end stops writer size few = record {
-    next = (got, text, consumes, appends, subst (λ m. ComesIn m (record { input = c0.inbox.held ++ got; text = text }) c1.inbox.held i) size comes, few);
-    at_end = comes-at-end (s.remaining r1) c1.inbox.ended i tells (end (wire.sound.end opened));
+    next = (got, text, consumes, appends, subst (λ m. ComesIn m (record { input = c0.read_buffer.held ++ got; text = text }) c1.read_buffer.held i) size comes, few);
+    at_end = comes-at-end (s.remaining r1) c1.read_buffer.ended i tells (end (wire.sound.end opened));
     tells_end = tells;
     stops = stops;
     reader = why;
@@ -48,9 +48,9 @@ module _ {R W : Type 0} (s : Streams R W) (r0 r1 : R) (w0 w1 : W) (c0 c1 : OnCon
 
   -- and whatever came of it
   pub ReadsOn-came : (r : Result Unit WireFault) → is_open st ≡ true → IsWire s r0 w0 c0 st → st1 ≡ state_after (read_by r c1)
-      → OnOk r ((got text : List ℕ) × Consumes (s.remaining r0) (s.remaining r1) got × Appends (s.contents w0) (s.contents w1) text × CameIn (c0.inbox.held ++ got) text (s.read_failed r1) c1 × (length got ≤ read_limit c0.max_size))
-      → IfErr r (λ f. (got text : List ℕ) × Consumes (s.remaining r0) (s.remaining r1) got × Appends (s.contents w0) (s.contents w1) text × BreaksFront c0.max_size (record { input = c0.inbox.held ++ got; text = text }) f × (length got ≤ read_limit c0.max_size))
-      → OnOk r (SeesEnd (s.remaining r0) c0.inbox → SeesEnd (s.remaining r1) c1.inbox) → IfErr r (λ f. TellsEnd c1.inbox.ended (Err f)) → StopsAtEnd r0 r1 c0.inbox c1.inbox
+      → OnOk r ((got text : List ℕ) × Consumes (s.remaining r0) (s.remaining r1) got × Appends (s.contents w0) (s.contents w1) text × CameIn (c0.read_buffer.held ++ got) text (s.read_failed r1) c1 × (length got ≤ read_limit c0.max_size))
+      → IfErr r (λ f. (got text : List ℕ) × Consumes (s.remaining r0) (s.remaining r1) got × Appends (s.contents w0) (s.contents w1) text × BreaksMessage c0.max_size (record { input = c0.read_buffer.held ++ got; text = text }) f × (length got ≤ read_limit c0.max_size))
+      → OnOk r (SeesEnd (s.remaining r0) c0.read_buffer → SeesEnd (s.remaining r1) c1.read_buffer) → IfErr r (λ f. TellsEnd c1.read_buffer.ended (Err f)) → StopsAtEnd r0 r1 c0.read_buffer c1.read_buffer
       → OnOk r (s.write_failed w1 ≡ false) → IfErr r (λ f. NamesStream (s.read_failed r1) (s.write_failed w1) f) → c1.max_size ≡ c0.max_size
       → ReadsOn s (wire_of r0 w0 c0 st) (wire_of r1 w1 c1 st1) (read_by r c1)
   ReadsOn-came r opened wire after comes breaks end tells stops writer fault size = record {
@@ -60,9 +60,9 @@ module _ {R W : Type 0} (s : Streams R W) (r0 r1 : R) (w0 w1 : W) (c0 c1 : OnCon
   }
     where
       reads : (r : Result Unit WireFault)
-          → OnOk r ((got text : List ℕ) × Consumes (s.remaining r0) (s.remaining r1) got × Appends (s.contents w0) (s.contents w1) text × CameIn (c0.inbox.held ++ got) text (s.read_failed r1) c1 × (length got ≤ read_limit c0.max_size))
-          → IfErr r (λ f. (got text : List ℕ) × Consumes (s.remaining r0) (s.remaining r1) got × Appends (s.contents w0) (s.contents w1) text × BreaksFront c0.max_size (record { input = c0.inbox.held ++ got; text = text }) f × (length got ≤ read_limit c0.max_size))
-          → OnOk r (SeesEnd (s.remaining r0) c0.inbox → SeesEnd (s.remaining r1) c1.inbox) → IfErr r (λ f. TellsEnd c1.inbox.ended (Err f))
+          → OnOk r ((got text : List ℕ) × Consumes (s.remaining r0) (s.remaining r1) got × Appends (s.contents w0) (s.contents w1) text × CameIn (c0.read_buffer.held ++ got) text (s.read_failed r1) c1 × (length got ≤ read_limit c0.max_size))
+          → IfErr r (λ f. (got text : List ℕ) × Consumes (s.remaining r0) (s.remaining r1) got × Appends (s.contents w0) (s.contents w1) text × BreaksMessage c0.max_size (record { input = c0.read_buffer.held ++ got; text = text }) f × (length got ≤ read_limit c0.max_size))
+          → OnOk r (SeesEnd (s.remaining r0) c0.read_buffer → SeesEnd (s.remaining r1) c1.read_buffer) → IfErr r (λ f. TellsEnd c1.read_buffer.ended (Err f))
           → OnOk r (s.write_failed w1 ≡ false) → IfErr r (λ f. NamesStream (s.read_failed r1) (s.write_failed w1) f)
           → Reads s (wire_of r0 w0 c0 st) (wire_of r1 w1 c1 (state_after (read_by r c1))) (read_by r c1)
       reads (Ok done) comes breaks end tells writer fault =

@@ -6,8 +6,8 @@ use Rattle.tus_steps.specs.declared.reply.Reply.{Reply}
 use Rattle.http_wire.specs.Clock.{Tells}
 use Rattle.http_wire.specs.Exchange.{Exchange, first_part, last_part}
 use Rattle.http_wire.specs.Conversation.{continue_text}
-use Rattle.http_wire.specs.Front.{Front, cut_patch, IsFront}
-use Rattle.http_wire.specs.ReadOnWire.{BreaksFront}
+use Rattle.http_wire.specs.NextMessage.{NextMessage, cut_patch, IsNextMessage}
+use Rattle.http_wire.specs.ReadOnWire.{BreaksMessage}
 use Rattle.http_wire.specs.Turns.{FailsToAnswer, Turns}
 use Rattle.http_wire.specs.declared.fault.WireFault.{WireFault}
 use Rattle.http_wire.specs.declared.fault.WireFault.TheVariants.{Read, Write, Memory, Failed}
@@ -21,7 +21,7 @@ module _ {A : Type 0} (steps : A → Request → ℕ → Reply → A → Type 0)
     pub framing : Framing
     pub waiting : Bool
     pub reply : Reply
-    pub front : IsFront max x.input (cut_patch request framing waiting)
+    pub next_message : IsNextMessage max x.input (cut_patch request framing waiting)
     pub step : steps x.before request now reply x.after
     pub wrote : x.text ≡ continue_text waiting
 
@@ -29,7 +29,7 @@ module _ {A : Type 0} (steps : A → Request → ℕ → Reply → A → Type 0)
   -- failed write cut the reply to a message or the text of a refusal.
   abbrev pub BreaksAnswer : ℕ → Exchange A → WireFault → Type 0
   BreaksAnswer now x Read = AppliesCut now x
-  BreaksAnswer now x Write = (f : Front) × IsFront max x.input f × FailsToAnswer steps max now f x
+  BreaksAnswer now x Write = (f : NextMessage) × IsNextMessage max x.input f × FailsToAnswer steps max now f x
   BreaksAnswer now x Memory = ⊥
   BreaksAnswer now x Failed = ⊥
 
@@ -39,7 +39,7 @@ module _ {A C : Type 0} (steps : A → Request → ℕ → Reply → A → Type 
   -- moment; or it was before, and then the clock was not asked, and nothing was answered.
   pub data BreaksAsked (before after : C) (x : Exchange A) (fault : WireFault) : Type 0 where
     asked : (now : ℕ) → tells before now after → BreaksAnswer steps max now x fault → BreaksAsked before after x fault
-    unasked : after ≡ before → x.after ≡ x.before → BreaksFront max (record { input = x.input; text = x.text }) fault → BreaksAsked before after x fault
+    unasked : after ≡ before → x.after ≡ x.before → BreaksMessage max (record { input = x.input; text = x.text }) fault → BreaksAsked before after x fault
 
   -- A conversation was broken off by a fault: whole turns, for each of which the clock was asked once, and then such a turn.
   pub record BreaksAfterTurns (before after : C) (x : Exchange A) (fault : WireFault) : Type 0 where

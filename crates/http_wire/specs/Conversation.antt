@@ -4,7 +4,7 @@ use Rattle.std.specs.Prelude.{◌≡◌, ℕ, Bool, true, false, List, [], ◌�
 use Rattle.tus_steps.specs.Request.{Request}
 use Rattle.tus_steps.specs.declared.reply.Reply.{Reply}
 use Rattle.http_wire.specs.Exchange.{Exchange, last_part}
-use Rattle.http_wire.specs.Front.{Front, message, refused, cut_patch, cut_other, clean_end, IsFront}
+use Rattle.http_wire.specs.NextMessage.{NextMessage, message, refused, cut_patch, cut_other, clean_end, IsNextMessage}
 use Rattle.http_wire.specs.ReplyText.{crlf, reply_text, refusal_text}
 use Rattle.http_wire.specs.declared.conversation.Ended.{Ended}
 use Rattle.http_wire.specs.declared.conversation.Ended.TheVariants.{Input, Closed, Cut, Moments}
@@ -33,7 +33,7 @@ module _ {A : Type 0} where
 -- state after it; a body has at most max bytes.
 module _ {A : Type 0} (steps : A → Request → ℕ → Reply → A → Type 0) where
   -- the turn of what the input begins with, at a moment
-  abbrev pub MessageTurn : ℕ → Course A → Front → Course A
+  abbrev pub MessageTurn : ℕ → Course A → NextMessage → Course A
   MessageTurn now next (message request framing waiting rest) x e =
       (reply : Reply) × (b : A) × (later : List ℕ) × steps x.before request now reply b
       × (x.text ≡ (continue_text waiting ++ reply_text reply now framing) ++ later)
@@ -47,4 +47,4 @@ module _ {A : Type 0} (steps : A → Request → ℕ → Reply → A → Type 0)
   -- the conversation of an input: the k-th message has the k-th moment
   abbrev pub Conversation : ℕ → List ℕ → Course A
   Conversation max [] x e = EndsWith Moments [] x e
-  Conversation max (now ∷ moments) x e = (f : Front) × IsFront max x.input f × MessageTurn now (Conversation max moments) f x e
+  Conversation max (now ∷ moments) x e = (f : NextMessage) × IsNextMessage max x.input f × MessageTurn now (Conversation max moments) f x e

@@ -7,7 +7,7 @@ use Rattle.tus_steps.specs.declared.reply.Reply.{Reply}
 use Rattle.http_wire.specs.Asking.{BreaksAsked}
 use Rattle.http_wire.specs.Conversation.{Conversation}
 use Rattle.http_wire.specs.Exchange.{Exchange, joined}
-use Rattle.http_wire.specs.Front.{Front, message, refused, cut_other, Begins, IsFront}
+use Rattle.http_wire.specs.NextMessage.{NextMessage, message, refused, cut_other, Begins, IsNextMessage}
 use Rattle.http_wire.specs.HeadText.{HeadText, head_limit}
 use Rattle.http_wire.specs.Questions.{IsParsed, IsReason, questions, refusal_in, words_of}
 use Rattle.http_wire.specs.Turns.{Turns}
@@ -38,7 +38,7 @@ module _ {A : Type 0} (steps : A → Request → ℕ → Reply → A → Type 0)
 -- and nothing was answered: so no clock is asked between a head and such a body.
 abbrev pub BodiesComeFirst : {A C : Type 0} → (A → Request → ℕ → Reply → A → Type 0) → (C → ℕ → C → Type 0) → Type 0
 BodiesComeFirst {A} {C} steps tells =
-    (max : ℕ) (before after : C) (x : Exchange A) (waiting : Bool) → IsFront max x.input (cut_other waiting)
+    (max : ℕ) (before after : C) (x : Exchange A) (waiting : Bool) → IsNextMessage max x.input (cut_other waiting)
     → BreaksAsked steps tells max before after x Read → (after ≡ before) × (x.after ≡ x.before)
 
 -- A message takes no more bytes of the input than a head may have, with the line ends before it, and the
@@ -46,17 +46,17 @@ BodiesComeFirst {A} {C} steps tells =
 abbrev pub MessagesAreShort : Type 0
 MessagesAreShort =
     (max : ℕ) (input : List ℕ) (request : Request) (framing : Framing) (waiting : Bool) (rest : List ℕ)
-    → IsFront max input (message request framing waiting rest) → length input ≤ head_limit + max + length rest
+    → IsNextMessage max input (message request framing waiting rest) → length input ≤ head_limit + max + length rest
 
 -- the refusal that memory is lacking
-abbrev pub RefusesForMemory : Front → Type 0
+abbrev pub RefusesForMemory : NextMessage → Type 0
 RefusesForMemory f = (framing : Framing) × (f ≡ refused Memory framing)
 
 -- An input begins with one thing, and with no other: with the one message that its first bytes are, or with
 -- the one reason why there is none. But there may be no memory for it, and then that is the reason.
-abbrev pub OneFront : Type 0
-OneFront =
-    (max : ℕ) (input : List ℕ) (f g : Front) → IsFront max input f → IsFront max input g
+abbrev pub OneMessage : Type 0
+OneMessage =
+    (max : ℕ) (input : List ℕ) (f g : NextMessage) → IsNextMessage max input f → IsNextMessage max input g
     → (f ≡ g) ⊎ (RefusesForMemory f ⊎ RefusesForMemory g)
 
 -- An input that begins with this head text is refused for the first of the wire's questions that holds, where lacking memory
@@ -64,5 +64,5 @@ OneFront =
 -- stand in the order of refusals.
 pub record WireFollowsOrder : Type 0 where
   pub first : (max : ℕ) (t : HeadText) (parsed : Option RequestHead) (why : Option WireRefusal) → IsParsed t parsed
-      → IsReason (questions max t parsed) why ↔ ((f : Front) × Begins max t f × (refusal_in f ≡ why))
+      → IsReason (questions max t parsed) why ↔ ((f : NextMessage) × Begins max t f × (refusal_in f ≡ why))
   pub order : (max : ℕ) (t : HeadText) (parsed : Option RequestHead) → stand_in (words_of (questions max t parsed)) order ≡ true

@@ -7,7 +7,7 @@ pub mod Conversation
 pub mod Exchange
 pub mod Fault
 pub mod Fields
-pub mod Front
+pub mod NextMessage
 pub mod HeadText
 pub mod Incoming
 pub mod Judge
@@ -16,7 +16,7 @@ pub mod Layout
 pub mod Message
 pub mod OnConnection
 pub mod OnWire
-pub mod Past
+pub mod History
 pub mod Questions
 pub mod ReadOnWire
 pub mod Refusal

@@ -1,7 +1,7 @@
 -- A connection as its callers see it: what it holds of what was read, how far it has come, and what is to be sent.
 use Rattle.std.specs.Prelude.{◌≡◌, ℕ, Bool, true, false, List, [], ◌∷◌, ◌+◌, ◌-◌, ◌⊎◌, length, Option, Some, None, Result, Ok, Err}
 use Rattle.std.specs.Prelude.{if◌then◌else◌}
-use Rattle.http_wire.specs.Front.{Front, IsFront}
+use Rattle.http_wire.specs.NextMessage.{NextMessage, IsNextMessage}
 use Rattle.http_wire.specs.Incoming.{FramedRequest}
 use Rattle.http_wire.specs.Layout.{framed_at}
 use Rattle.http_wire.specs.ReadOnWire.{ComesIn, IsCut}
@@ -17,16 +17,16 @@ use Rattle.http_wire.specs.declared.phase.Phase.TheVariants.{Looking, Waiting, O
 use Rattle.http_wire.specs.declared.read.stage.Stage.TheVariants.{Body, Head}
 use Rattle.http_wire.specs.inside.Ahead.{Ahead}
 use Rattle.http_wire.specs.inside.HeadSearch.{search_start}
-use Rattle.http_wire.specs.inside.Sending.{OnOutbox, empty_outbox}
+use Rattle.http_wire.specs.inside.Sending.{OnOutbox, empty_write_buffer}
 use Rattle.http_wire.specs.inside.Standing.{Standing, still}
 use Rattle.http_wire.specs.inside.TurnFinish.{ended_after, turn_cut}
 
 -- what was read and belongs to no message that was answered, how far it has come with it, what is to be sent, and the most
 -- bytes of a body
 pub record OnConnection : Type 0 where
-  pub inbox : Ahead
+  pub read_buffer : Ahead
   pub phase : Phase FramedRequest
-  pub outbox : OnOutbox
+  pub write_buffer : OnOutbox
   pub max_size : ℕ
 
 -- this, unless something is to be sent first
@@ -44,7 +44,7 @@ wanted_in o (Owing i) = if o.has_room then wants.Answer else wants.Write
 wanted_in o (Over r) = unless_pending o.pending wants.Nothing
 
 abbrev pub wanted : OnConnection → Wants
-wanted c = wanted_in c.outbox c.phase
+wanted c = wanted_in c.write_buffer c.phase
 
 -- the start of a message
 abbrev pub at_start : {M : Type 0} → Phase M
@@ -52,17 +52,17 @@ at_start = Looking (Head search_start)
 
 -- nothing was read or is to be sent
 pub record IsFresh (c : OnConnection) : Type 0 where
-  pub held : c.inbox.held ≡ []
-  pub unended : c.inbox.ended ≡ false
+  pub held : c.read_buffer.held ≡ []
+  pub unended : c.read_buffer.ended ≡ false
   pub phase : c.phase ≡ at_start
-  pub outbox : c.outbox ≡ empty_outbox
+  pub write_buffer : c.write_buffer ≡ empty_write_buffer
 
 -- all that was read was answered, and all answers were sent
 pub record IsIdle (c : OnConnection) : Type 0 where
-  pub held : c.inbox.held ≡ []
-  pub unended : c.inbox.ended ≡ false
+  pub held : c.read_buffer.held ≡ []
+  pub unended : c.read_buffer.ended ≡ false
   pub phase : (c.phase ≡ at_start) ⊎ (c.phase ≡ Waiting (Head search_start))
-  pub outbox : c.outbox ≡ empty_outbox
+  pub write_buffer : c.write_buffer ≡ empty_write_buffer
 
 -- how a turn ends once what came in was answered
 abbrev pub turn_end : Incoming FramedRequest → Result (Option Ended) WireFault
@@ -102,7 +102,7 @@ StandsIn max bytes said a (Owing i) = ComesIn max (record { input = bytes; text 
 StandsIn max bytes said a (Over r) = ⊥
 
 abbrev pub Stands : List ℕ → List ℕ → OnConnection → Type 0
-Stands bytes said c = StandsIn c.max_size bytes said c.inbox c.phase
+Stands bytes said c = StandsIn c.max_size bytes said c.read_buffer c.phase
 
 -- a connection looks at a message
 abbrev pub is_looking : {M : Type 0} → Phase M → Bool
@@ -164,8 +164,8 @@ abbrev pub left_in : Ahead → Phase FramedRequest → List ℕ → ℕ
 left_in a phase pending = (coming a phase + coming a phase) + one_if_pending pending
 
 abbrev pub left : OnConnection → ℕ
-left c = left_in c.inbox c.phase c.outbox.pending
+left c = left_in c.read_buffer c.phase c.write_buffer.pending
 
 -- some bytes are no whole message, nor is a message in them that is refused
 abbrev pub HasNoMessage : ℕ → List ℕ → Type 0
-HasNoMessage max bytes = (f : Front) × IsFront max bytes f × IsCut f
+HasNoMessage max bytes = (f : NextMessage) × IsNextMessage max bytes f × IsCut f

@@ -2,7 +2,7 @@
 use Rattle.std.specs.Prelude.{◌≡◌, ◌⊎◌, ℕ, Bool, true, List, [], ◌∷◌, codes, MatchBool, Option, Some, None, is_none, ⊤}
 use Rattle.httparse.specs.Grammar.{RequestHead}
 use Rattle.http_wire.specs.Fields.{field_text}
-use Rattle.http_wire.specs.Front.{Front, message, refused, cut_patch, cut_other, clean_end, OutgrowsRoom, Parses}
+use Rattle.http_wire.specs.NextMessage.{NextMessage, message, refused, cut_patch, cut_other, clean_end, OutgrowsRoom, Parses}
 use Rattle.http_wire.specs.HeadText.{HeadText, whole, too_long, cut, nothing, has_many_lines}
 use Rattle.http_wire.specs.Judge.{judge_tests}
 use Rattle.http_wire.specs.Refusal.{word_of}
@@ -55,7 +55,7 @@ IsParsed cut parsed = ⊤
 IsParsed nothing parsed = ⊤
 
 -- why an input is refused that begins with this
-abbrev pub refusal_in : Front → Option WireRefusal
+abbrev pub refusal_in : NextMessage → Option WireRefusal
 refusal_in (message request framing waiting rest) = None
 refusal_in (refused why framing) = Some why
 refusal_in (cut_patch request framing waiting) = None

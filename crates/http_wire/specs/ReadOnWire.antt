@@ -2,7 +2,7 @@
 use Rattle.std.specs.Prelude.{◌≡◌, ◌⊎◌, ◌≤◌, ◌+◌, ℕ, length, Bool, true, false, List, [], ◌++◌, take, Option, Result, Ok, Err, IfOk, OnOk, IfErr, ⊤}
 use Rattle.std.specs.Io.KnownBytes.{Appends, Consumes, IsAtEnd}
 use Rattle.http_wire.specs.Conversation.{continue_text}
-use Rattle.http_wire.specs.Front.{Front, IsFront, message, refused, cut_patch, cut_other, clean_end}
+use Rattle.http_wire.specs.NextMessage.{NextMessage, IsNextMessage, message, refused, cut_patch, cut_other, clean_end}
 use Rattle.http_wire.specs.Fault.{NamesStream}
 use Rattle.http_wire.specs.HeadText.{head_limit}
 use Rattle.http_wire.specs.Incoming.{FramedRequest, is_cut_by_fault}
@@ -33,17 +33,17 @@ pub record Intake : Type 0 where
 abbrev pub ComesIn : ℕ → Intake → List ℕ → Incoming FramedRequest → Type 0
 ComesIn max i left (Message m) =
     (waiting : Bool) × (i.text ≡ continue_text waiting)
-    × ((rest : List ℕ) → IsFront max (i.input ++ rest) (message m.request m.framing waiting (left ++ rest)))
+    × ((rest : List ℕ) → IsNextMessage max (i.input ++ rest) (message m.request m.framing waiting (left ++ rest)))
 ComesIn max i left (CutPatch m why) =
-    (waiting : Bool) × (i.text ≡ continue_text waiting) × IsFront max i.input (cut_patch m.request m.framing waiting)
+    (waiting : Bool) × (i.text ≡ continue_text waiting) × IsNextMessage max i.input (cut_patch m.request m.framing waiting)
 ComesIn max i left CutOther =
-    (waiting : Bool) × (i.text ≡ continue_text waiting) × IsFront max i.input (cut_other waiting)
+    (waiting : Bool) × (i.text ≡ continue_text waiting) × IsNextMessage max i.input (cut_other waiting)
 ComesIn max i left (Refused why framing) =
-    (i.text ≡ []) × ((rest : List ℕ) → IsFront max (i.input ++ rest) (refused why framing))
-ComesIn max i left End = (i.text ≡ []) × IsFront max i.input clean_end
+    (i.text ≡ []) × ((rest : List ℕ) → IsNextMessage max (i.input ++ rest) (refused why framing))
+ComesIn max i left End = (i.text ≡ []) × IsNextMessage max i.input clean_end
 
 -- the request waits for `100 Continue`
-abbrev pub waits : Front → Bool
+abbrev pub waits : NextMessage → Bool
 waits (message request framing waiting rest) = waiting
 waits (refused why framing) = false
 waits (cut_patch request framing waiting) = waiting
@@ -51,7 +51,7 @@ waits (cut_other waiting) = waiting
 waits clean_end = false
 
 -- there is no whole message, and none that is refused
-abbrev pub IsCut : Front → Type 0
+abbrev pub IsCut : NextMessage → Type 0
 IsCut (message request framing waiting rest) = ⊥
 IsCut (refused why framing) = ⊥
 IsCut (cut_patch request framing waiting) = ⊤
@@ -60,19 +60,19 @@ IsCut clean_end = ⊤
 
 -- A read failed, and the bytes that were read would be cut as a whole input, or nothing; or the write of `100 Continue`
 -- failed, and a prefix of it was written.
-abbrev pub BreaksFront : ℕ → Intake → WireFault → Type 0
-BreaksFront max i Read =
-    ((waiting : Bool) × (i.text ≡ continue_text waiting) × IsFront max i.input (cut_other waiting))
-    ⊎ ((i.text ≡ []) × IsFront max i.input clean_end)
-BreaksFront max i Write =
-    (f : Front) × IsFront max i.input f × (waits f ≡ true) × ((n : ℕ) × (i.text ≡ take n (continue_text true)))
-BreaksFront max i Memory = ⊥
-BreaksFront max i Failed = ⊥
+abbrev pub BreaksMessage : ℕ → Intake → WireFault → Type 0
+BreaksMessage max i Read =
+    ((waiting : Bool) × (i.text ≡ continue_text waiting) × IsNextMessage max i.input (cut_other waiting))
+    ⊎ ((i.text ≡ []) × IsNextMessage max i.input clean_end)
+BreaksMessage max i Write =
+    (f : NextMessage) × IsNextMessage max i.input f × (waits f ≡ true) × ((n : ℕ) × (i.text ≡ take n (continue_text true)))
+BreaksMessage max i Memory = ⊥
+BreaksMessage max i Failed = ⊥
 
 -- what a reading gave, and these bytes are left
 abbrev pub ReadsNext : ℕ → Intake → List ℕ → Result (Incoming FramedRequest) WireFault → Type 0
 ReadsNext max i left (Ok m) = ComesIn max i left m
-ReadsNext max i left (Err fault) = BreaksFront max i fault
+ReadsNext max i left (Err fault) = BreaksMessage max i fault
 
 -- the input is cut or ended only where no byte of it is left
 abbrev pub ComesAtEnd : Option (List ℕ) → Incoming FramedRequest → Type 0

@@ -5,7 +5,7 @@ use Rattle.tus_steps.specs.Request.{Request}
 use Rattle.tus_steps.specs.declared.reply.Reply.{Reply}
 use Rattle.http_wire.specs.Conversation.{continue_text, Conversation}
 use Rattle.http_wire.specs.Exchange.{Exchange, first_part, last_part, followed}
-use Rattle.http_wire.specs.Front.{Front, message, refused, cut_patch, cut_other, clean_end, IsFront}
+use Rattle.http_wire.specs.NextMessage.{NextMessage, message, refused, cut_patch, cut_other, clean_end, IsNextMessage}
 use Rattle.http_wire.specs.ReplyText.{reply_text, refusal_text}
 use Rattle.http_wire.specs.declared.conversation.Ended.{Ended}
 use Rattle.http_wire.specs.declared.conversation.Ended.TheVariants as ended
@@ -51,7 +51,7 @@ module _ {A : Type 0} (steps : A → Request → ℕ → Reply → A → Type 0)
     pub framing : Framing
     pub waiting : Bool
     pub reply : Reply
-    pub front : IsFront max x.input (message request framing waiting rest)
+    pub next_message : IsNextMessage max x.input (message request framing waiting rest)
     pub stays : framing.close ≡ false
     pub step : steps x.before request now reply x.after
     pub wrote : x.text ≡ continue_text waiting ++ reply_text reply now framing
@@ -68,9 +68,9 @@ module _ {A : Type 0} (steps : A → Request → ℕ → Reply → A → Type 0)
   FailsToContinue waiting x =
       (waiting ≡ true) × (x.after ≡ x.before) × ((n : ℕ) × (x.text ≡ take n (continue_text true)))
 
-  -- The answer to a front was broken off by a write that failed: a prefix of the reply or of the refusal was written, after
+  -- The answer to a message was broken off by a write that failed: a prefix of the reply or of the refusal was written, after
   -- `100 Continue` where that was due. A step that was made before its reply could not be written stays.
-  abbrev pub FailsToAnswer : ℕ → Front → Exchange A → Type 0
+  abbrev pub FailsToAnswer : ℕ → NextMessage → Exchange A → Type 0
   FailsToAnswer now (message request framing waiting rest) x =
       (reply : Reply) × (n : ℕ) × steps x.before request now reply x.after
       × (x.text ≡ continue_text waiting ++ take n (reply_text reply now framing))
@@ -80,8 +80,8 @@ module _ {A : Type 0} (steps : A → Request → ℕ → Reply → A → Type 0)
   FailsToAnswer now (cut_other waiting) x = ⊥
   FailsToAnswer now clean_end x = ⊥
 
-  -- The turn of a front was broken off by a write that failed: that of `100 Continue`, or that of its answer.
-  abbrev pub FailsIn : ℕ → Front → Exchange A → Type 0
+  -- The turn of a message was broken off by a write that failed: that of `100 Continue`, or that of its answer.
+  abbrev pub FailsIn : ℕ → NextMessage → Exchange A → Type 0
   FailsIn now (message request framing waiting rest) x =
       FailsToContinue waiting x ⊎ FailsToAnswer now (message request framing waiting rest) x
   FailsIn now (refused why framing) x = FailsToAnswer now (refused why framing) x
@@ -93,7 +93,7 @@ module _ {A : Type 0} (steps : A → Request → ℕ → Reply → A → Type 0)
   abbrev pub BreaksOff : List ℕ → Exchange A → Type 0
   BreaksOff [] x = ⊥
   BreaksOff (now ∷ moments) x =
-      ((f : Front) × IsFront max x.input f × FailsIn now f x)
+      ((f : NextMessage) × IsNextMessage max x.input f × FailsIn now f x)
       ⊎ ((text later rest : List ℕ) × (b : A) × Answered now (first_part x text b) rest
       × BreaksOff moments (last_part x rest b later) × (x.text ≡ text ++ later))
 
@@ -118,7 +118,7 @@ module _ {A : Type 0} (steps : A → Request → ℕ → Reply → A → Type 0)
   -- a turn was broken off by a fault, after this input
   abbrev pub BreaksTurn : ℕ → Exchange A → WireFault → Type 0
   BreaksTurn now x fault.Read = (e : Ended) × EndsWithInput e × LastTurn now x e
-  BreaksTurn now x fault.Write = (f : Front) × IsFront max x.input f × FailsIn now f x
+  BreaksTurn now x fault.Write = (f : NextMessage) × IsNextMessage max x.input f × FailsIn now f x
   BreaksTurn now x fault.Memory = ⊥
   BreaksTurn now x fault.Failed = ⊥
 

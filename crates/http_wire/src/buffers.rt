@@ -1,10 +1,10 @@
 ghost use Rattle.std.specs.Prelude.{◌≡◌, ◌≢◌, [], false, true, IfOk};
-ghost use Rattle.http_wire.specs.inside.Sending.{empty_outbox};
+ghost use Rattle.http_wire.specs.inside.Sending.{empty_write_buffer};
 
 use crate::read::fields::FieldMap;
 use crate::read::head::FIELD_LIMIT;
-use crate::read::inbox::Inbox;
-use crate::write::outbox::Outbox;
+use crate::read::read_buffer::ReadBuffer;
+use crate::write::write_buffer::WriteBuffer;
 use httparse::spans::{EMPTY_HEADER_SPAN, HeaderSpan};
 use std::alloc::{AllocError, Global};
 use tus_steps::PlacedReply;
@@ -14,11 +14,11 @@ use tus_steps::PlacedReply;
 /// ([`Connection::with_buffers`](crate::Connection::with_buffers), [`Wire::with_buffers`](crate::Wire::with_buffers)).
 #[derive(Drop)]
 pub struct Buffers {
-    pub(crate) inbox: Inbox,
+    pub(crate) read_buffer: ReadBuffer,
     pub(crate) spans: Box<[HeaderSpan; FIELD_LIMIT]>,
     pub(crate) fields: FieldMap,
     pub(crate) reply: Box<PlacedReply>,
-    pub(crate) outbox: Outbox,
+    pub(crate) write_buffer: WriteBuffer,
     // Whether the last message was refused: what followed its head was not read.
     pub(crate) is_refused: bool,
 }
@@ -26,45 +26,45 @@ pub struct Buffers {
 impl Buffers {
     /// Buffers that hold nothing, with memory for 65,536 bytes of messages. The error is that memory is lacking.
     pub fn new(alloc: Global) -> Result<Self, AllocError>
-        ensures held { IfOk result (λ b. b.inbox.held ≡ []) }
-        ensures ended { IfOk result (λ b. b.inbox.ended ≡ false) }
-        ensures outbox { IfOk result (λ b. b.outbox ≡ empty_outbox) }
-        ensures room { IfOk result (λ b. b.inbox.room ≡ 65536) }
+        ensures held { IfOk result (λ b. b.read_buffer.held ≡ []) }
+        ensures ended { IfOk result (λ b. b.read_buffer.ended ≡ false) }
+        ensures write_buffer { IfOk result (λ b. b.write_buffer ≡ empty_write_buffer) }
+        ensures room { IfOk result (λ b. b.read_buffer.room ≡ 65536) }
     {
-        let inbox = Inbox::new(alloc)?;
-        let outbox = Outbox::new(alloc)?;
+        let read_buffer = ReadBuffer::new(alloc)?;
+        let write_buffer = WriteBuffer::new(alloc)?;
         Ok(Buffers {
-            inbox,
+            read_buffer,
             spans: Box::new(alloc, [EMPTY_HEADER_SPAN; FIELD_LIMIT])?,
             fields: FieldMap::new(alloc)?,
             reply: Box::new(alloc, PlacedReply::new())?,
-            outbox,
+            write_buffer,
             is_refused: false,
         })
     }
 
     /// Begins anew, for another connection: nothing is held, lent or pending. The memory stays.
     pub(crate) fn renew(&mut self)
-        ensures inbox { self.new.inbox ≡ record self.old.inbox { lent = []; held = []; ended = false } }
-        ensures outbox { self.new.outbox ≡ empty_outbox }
+        ensures read_buffer { self.new.read_buffer ≡ record self.old.read_buffer { lent = []; held = []; ended = false } }
+        ensures write_buffer { self.new.write_buffer ≡ empty_write_buffer }
     {
-        self.inbox.renew();
-        self.outbox.clear();
+        self.read_buffer.renew();
+        self.write_buffer.clear();
         self.is_refused = false;
     }
 
     /// For how many bytes of messages they have memory: 65,536 at first, and more after a large body.
     pub fn room(&self) -> usize
-        ensures { result ≡ self.now.inbox.room }
+        ensures { result ≡ self.now.read_buffer.room }
     {
-        self.inbox.room()
+        self.read_buffer.room()
     }
 
     /// Whether the client may have sent bytes that belong to no message which was answered: the last message was refused,
     /// and its rest not read, or bytes of a next one are held.
     pub fn has_rest(&self) -> bool
-        ensures held { self.now.inbox.held ≢ [] → result ≡ true }
+        ensures held { self.now.read_buffer.held ≢ [] → result ≡ true }
     {
-        self.is_refused || !self.inbox.held().is_empty()
+        self.is_refused || !self.read_buffer.held().is_empty()
     }
 }

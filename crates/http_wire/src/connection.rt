@@ -7,14 +7,14 @@ ghost use Rattle.http_wire.specs.Incoming.{map_incoming, is_cut_by_fault};
 ghost use Rattle.http_wire.specs.Layout.{framed_at};
 ghost use Rattle.http_wire.specs.Message.{framed};
 ghost use Rattle.http_wire.specs.OnConnection.{HasNoMessage, IsFresh, IsIdle, OnConnection, Stands, StandsIn, at_start, body_held, ended_in, is_looking, left, left_in, looking_again, owed_in, passed_over, phase_after, turn_end, under_way, unless_pending, wanted, wanted_in};
-ghost use Rattle.http_wire.specs.Past.{Answering, Follows, HasPast, Past, noted, nothing_yet};
+ghost use Rattle.http_wire.specs.History.{Answering, Follows, HasHistory, History, noted, nothing_yet};
 ghost use Rattle.http_wire.specs.ReadOnWire.{TellsEnd, read_limit};
 ghost use Rattle.http_wire.specs.ReplyText.{refusal_text, reply_text};
 ghost use Rattle.http_wire.specs.Streams.{took_nothing};
 ghost use Rattle.http_wire.specs.Writes.{Writes};
 ghost use Rattle.http_wire.specs.inside.IncomingLayout.{IsLent};
 ghost use Rattle.http_wire.specs.inside.Phases.{map_phase, IsPhase, lacking};
-ghost use Rattle.http_wire.specs.inside.Sending.{empty_outbox};
+ghost use Rattle.http_wire.specs.inside.Sending.{empty_write_buffer};
 ghost use Rattle.http_wire.specs.inside.Standing.{Fits, HasRoom, Standing, Wants as WantsMore};
 ghost use Rattle.http_wire.specs.inside.TurnFinish.{AnswersTurn};
 ghost use Rattle.http_wire.specs.declared.phase.Phase.TheVariants.{Looking, Waiting};
@@ -31,14 +31,14 @@ use crate::framing::Framing;
 use crate::incoming::Incoming;
 use crate::message::Message;
 use crate::phase::Phase;
-use crate::read::inbox::{Inbox, READ_SIZE};
 use crate::read::layout::Layout;
+use crate::read::read_buffer::{READ_SIZE, ReadBuffer};
 use crate::read::stage::{Looked, Stage};
 use crate::refusal::WireRefusal;
 use crate::replying::answer_incoming;
 use crate::source::{Sink, Source};
-use crate::write::outbox::Outbox;
 use crate::write::send::flush;
+use crate::write::write_buffer::WriteBuffer;
 use std::alloc::{AllocError, Global};
 use std::io;
 use std::marker::Model;
@@ -78,13 +78,13 @@ impl Model for Connection {
     ghost Value = { OnConnection };
 
     ghost view = { λ c. record {
-      inbox = c.buffers.inbox;
-      phase = map_phase (framed_at c.buffers.inbox.lent) c.phase;
-      outbox = c.buffers.outbox;
+      read_buffer = c.buffers.read_buffer;
+      phase = map_phase (framed_at c.buffers.read_buffer.lent) c.phase;
+      write_buffer = c.buffers.write_buffer;
       max_size = c.max_size;
     } };
 
-    ghost invariant = { λ c. IsConnection c.buffers.inbox c.phase c.max_size };
+    ghost invariant = { λ c. IsConnection c.buffers.read_buffer c.phase c.max_size };
 }
 
 impl Connection {
@@ -93,7 +93,7 @@ impl Connection {
     pub fn new(alloc: Global, max_size: u64) -> Result<Self, AllocError>
         requires { max_size < 2 ^ 31 }
         ensures fresh { IfOk result IsFresh }
-        ensures begins { IfOk result (HasPast nothing_yet) }
+        ensures begins { IfOk result (HasHistory nothing_yet) }
         ensures size { IfOk result (λ c. c.max_size ≡ max_size) }
     {
         let buffers = Buffers::new(alloc)?;
@@ -105,7 +105,7 @@ impl Connection {
     pub fn with_buffers(buffers: Buffers, max_size: u64) -> Self
         requires { max_size < 2 ^ 31 }
         ensures fresh { IsFresh result }
-        ensures begins { HasPast nothing_yet result }
+        ensures begins { HasHistory nothing_yet result }
         ensures size { result.max_size ≡ max_size }
     {
         let mut buffers = buffers;
@@ -123,8 +123,8 @@ impl Connection {
     pub fn is_idle(&self) -> bool
         ensures idle { OnTrue result (IsIdle self.now) }
         ensures busy { OnFalse result (IsIdle self.now → ⊥) }
-        ensures renews { OnTrue result ((p : Past) (c : OnConnection) → HasPast p self.now → IsFresh c
-            → c.max_size ≡ self.now.max_size → HasPast p c) }
+        ensures renews { OnTrue result ((p : History) (c : OnConnection) → HasHistory p self.now → IsFresh c
+            → c.max_size ≡ self.now.max_size → HasHistory p c) }
     {
         is_at_start(&self.phase) && is_empty(&self.buffers)
     }
@@ -132,11 +132,11 @@ impl Connection {
     /// How many bytes it holds of a body that has not come whole, as far as `wants` has looked: 0 for a head, and once a
     /// message came in.
     pub fn body_held(&self) -> usize
-        ensures { result ≡ body_held self.now.inbox self.now.phase }
+        ensures { result ≡ body_held self.now.read_buffer self.now.phase }
     {
         match &self.phase {
             Phase::Looking(Stage::Body(layout)) | Phase::Waiting(Stage::Body(layout)) => {
-                let held = self.buffers.inbox.held().len();
+                let held = self.buffers.read_buffer.held().len();
                 held.saturating_sub(layout.head_len)
             }
             _ => 0,
@@ -146,11 +146,11 @@ impl Connection {
     /// A message whose head was read and whose body has not come whole, as far as `wants` has looked. It is lent with the
     /// bytes of its body that came so far. None while a head is read, and once a message came in.
     pub fn under_way(&self) -> Option<Message<'_>>
-        ensures { option_map framed result ≡ under_way self.now.inbox self.now.phase }
+        ensures { option_map framed result ≡ under_way self.now.read_buffer self.now.phase }
     {
         match &self.phase {
             Phase::Looking(Stage::Body(layout)) | Phase::Waiting(Stage::Body(layout)) => Some(
-                lend_held(layout, &self.buffers.inbox),
+                lend_held(layout, &self.buffers.read_buffer),
             ),
             _ => None,
         }
@@ -159,14 +159,14 @@ impl Connection {
     /// For how many bytes of messages its buffers have memory: 65,536 at first. It grows with the greatest body that came, and
     /// never shrinks.
     pub fn room(&self) -> usize
-        ensures { result ≡ self.now.inbox.room }
+        ensures { result ≡ self.now.read_buffer.room }
     {
         self.buffers.room()
     }
 
     /// The buffers. What they hold is lost.
     pub fn into_buffers(self) -> Buffers
-        ensures { result.inbox ≡ self.inbox }
+        ensures { result.read_buffer ≡ self.read_buffer }
     {
         self.buffers
     }
@@ -179,30 +179,30 @@ impl Connection {
     pub fn wants(&mut self) -> Wants
         ensures wants { result ≡ wanted self.new }
         ensures stands { (bytes said : List ℕ) → Stands bytes said self.old
-            → (put : List ℕ) × (self.new.outbox.pending ≡ self.old.outbox.pending ++ put)
+            → (put : List ℕ) × (self.new.write_buffer.pending ≡ self.old.write_buffer.pending ++ put)
             × Stands bytes (said ++ put) self.new }
-        ensures past { (p : Past) → HasPast p self.old → HasPast p self.new }
+        ensures history { (p : History) → HasHistory p self.old → HasHistory p self.new }
         ensures still { is_looking self.old.phase ≡ false → self.new ≡ self.old }
-        ensures same { is_looking self.new.phase ≡ false → self.new.outbox ≡ self.old.outbox }
-        ensures looks { self.old.outbox.has_room ≡ true → is_looking self.new.phase ≡ true
-            → self.new.outbox.pending ≢ self.old.outbox.pending }
+        ensures same { is_looking self.new.phase ≡ false → self.new.write_buffer ≡ self.old.write_buffer }
+        ensures looks { self.old.write_buffer.has_room ≡ true → is_looking self.new.phase ≡ true
+            → self.new.write_buffer.pending ≢ self.old.write_buffer.pending }
         ensures needs { result ≡ Wants.Read → (bytes said : List ℕ) → Stands bytes said self.new
             → HasNoMessage self.new.max_size bytes }
-        ensures few { result ≡ Wants.Answer → length self.new.outbox.pending ≤ 8192 }
-        ensures some { result ≡ Wants.Write → self.new.outbox.pending ≢ [] }
+        ensures few { result ≡ Wants.Answer → length self.new.write_buffer.pending ≤ 8192 }
+        ensures some { result ≡ Wants.Write → self.new.write_buffer.pending ≢ [] }
         ensures nearer { left self.new ≤ left self.old }
-        ensures unended { result ≡ Wants.Read → self.new.inbox.ended ≡ false }
-        ensures ended { self.new.inbox.ended ≡ self.old.inbox.ended }
-        ensures tells_end { IfSome (owed_in self.new.phase) (λ i. TellsEnd self.new.inbox.ended (Ok i)) }
+        ensures unended { result ≡ Wants.Read → self.new.read_buffer.ended ≡ false }
+        ensures ended { self.new.read_buffer.ended ≡ self.old.read_buffer.ended }
+        ensures tells_end { IfSome (owed_in self.new.phase) (λ i. TellsEnd self.new.read_buffer.ended (Ok i)) }
         ensures unbroken { is_looking self.old.phase ≡ true
             → IfSome (owed_in self.new.phase) (λ i. is_cut_by_fault i ≡ false) }
         ensures size { self.new.max_size ≡ self.old.max_size }
     {
         if let Phase::Looking(stage) = &self.phase {
             self.phase = look_on(*stage, &mut self.buffers, self.max_size);
-            return wants_at(&self.phase, &self.buffers.outbox);
+            return wants_at(&self.phase, &self.buffers.write_buffer);
         }
-        wants_at(&self.phase, &self.buffers.outbox)
+        wants_at(&self.phase, &self.buffers.write_buffer)
     }
 
     /// Reads once, where it wants to read. `Ok` gives how many bytes came; 0 tells that the input ended. An error is the
@@ -218,15 +218,15 @@ impl Connection {
         ensures few { IfOk result (λ n. (bytes said : List ℕ) → Stands bytes said self.old
             → length bytes + n ≤ read_limit self.old.max_size) }
         ensures nearer { OnOk result (left self.new < left self.old) }
-        ensures room { self.new.inbox.room ≡ self.old.inbox.room }
-        ensures fits { length self.new.inbox.held ≤ self.new.inbox.room }
+        ensures room { self.new.read_buffer.room ≡ self.old.read_buffer.room }
+        ensures fits { length self.new.read_buffer.held ≤ self.new.read_buffer.room }
         ensures none { OnErr result (Keeps (R.remaining reader.old) (R.remaining reader.new)
-            × (self.new ≡ record self.old { inbox = record self.old.inbox { lent = [] } })) }
-        ensures kept { OnErr result ((p : Past) → HasPast p self.old → HasPast p self.new) }
+            × (self.new ≡ record self.old { read_buffer = record self.old.read_buffer { lent = [] } })) }
+        ensures kept { OnErr result ((p : History) → HasHistory p self.old → HasHistory p self.new) }
         ensures failed { R.has_failed reader.new ≡ is_err result }
     {
-        let most = READ_SIZE + lacking(&self.phase, &self.buffers.inbox);
-        let count = self.buffers.inbox.fill(reader, most)?;
+        let most = READ_SIZE + lacking(&self.phase, &self.buffers.read_buffer);
+        let count = self.buffers.read_buffer.fill(reader, most)?;
         if let Phase::Waiting(stage) = &self.phase {
             self.phase = Phase::Looking(*stage);
         }
@@ -236,17 +236,17 @@ impl Connection {
     /// Tells that the input ended, where it wants to read: no more of it will be read.
     pub fn end(&mut self)
         requires { wanted self.old ≡ Wants.Read }
-        ensures past { (p : Past) → HasPast p self.old → HasPast p self.new }
+        ensures history { (p : History) → HasHistory p self.old → HasHistory p self.new }
         ensures stands { (bytes said : List ℕ) → Stands bytes said self.old → Stands bytes said self.new }
-        ensures inbox { self.new.inbox ≡ record self.old.inbox { ended = true } }
+        ensures read_buffer { self.new.read_buffer ≡ record self.old.read_buffer { ended = true } }
         ensures phase { self.new.phase ≡ looking_again self.old.phase }
         ensures nearer { left self.new < left self.old }
-        ensures outbox { self.new.outbox ≡ self.old.outbox }
+        ensures write_buffer { self.new.write_buffer ≡ self.old.write_buffer }
         ensures size { self.new.max_size ≡ self.old.max_size }
     {
         if let Phase::Waiting(stage) = &self.phase {
             let stage = *stage;
-            self.buffers.inbox.end();
+            self.buffers.read_buffer.end();
             self.phase = Phase::Looking(stage);
         }
     }
@@ -256,15 +256,15 @@ impl Connection {
     pub fn fail(&mut self)
         requires { wanted self.old ≡ Wants.Read }
         ensures breaks { (bytes said : List ℕ) → Stands bytes said self.old
-            → BreaksTo self.old.max_size bytes said self.new.inbox self.new.phase }
-        ensures past { (p : Past) → HasPast p self.old → HasPast p self.new }
-        ensures tells_end { IfSome (owed_in self.new.phase) (λ i. TellsEnd self.new.inbox.ended (Ok i)) }
-        ensures outbox { self.new.outbox ≡ self.old.outbox }
-        ensures ended { self.new.inbox.ended ≡ self.old.inbox.ended }
+            → BreaksTo self.old.max_size bytes said self.new.read_buffer self.new.phase }
+        ensures history { (p : History) → HasHistory p self.old → HasHistory p self.new }
+        ensures tells_end { IfSome (owed_in self.new.phase) (λ i. TellsEnd self.new.read_buffer.ended (Ok i)) }
+        ensures write_buffer { self.new.write_buffer ≡ self.old.write_buffer }
+        ensures ended { self.new.read_buffer.ended ≡ self.old.read_buffer.ended }
         ensures size { self.new.max_size ≡ self.old.max_size }
     {
         if let Phase::Waiting(stage) = &self.phase {
-            self.phase = broken(*stage, &mut self.buffers.inbox);
+            self.phase = broken(*stage, &mut self.buffers.read_buffer);
         }
     }
 
@@ -273,7 +273,7 @@ impl Connection {
         ensures { option_map (map_incoming framed) result ≡ owed_in self.now.phase }
     {
         match &self.phase {
-            Phase::Owing(incoming) => Some(lend_message(incoming, &self.buffers.inbox)),
+            Phase::Owing(incoming) => Some(lend_message(incoming, &self.buffers.read_buffer)),
             _ => None,
         }
     }
@@ -284,12 +284,12 @@ impl Connection {
     pub fn answer<A: Answer>(&mut self, answerer: &mut A, now: Moment)
         requires { wanted self.old ≡ Wants.Answer }
         ensures answers { IfSome (owed_in self.old.phase) (λ i. (put : List ℕ)
-            × (self.new.outbox.pending ≡ self.old.outbox.pending ++ put)
-            × AnswersTurn A.steps now self.old.inbox i put answerer.old answerer.new (turn_end i)) }
-        ensures past { (p : Past) → HasPast p self.old → (answered : List Answering)
-            × Follows A.steps answerer.old answered answerer.new × HasPast (noted p now answered) self.new }
+            × (self.new.write_buffer.pending ≡ self.old.write_buffer.pending ++ put)
+            × AnswersTurn A.steps now self.old.read_buffer i put answerer.old answerer.new (turn_end i)) }
+        ensures history { (p : History) → HasHistory p self.old → (answered : List Answering)
+            × Follows A.steps answerer.old answered answerer.new × HasHistory (noted p now answered) self.new }
         ensures phase { IfSome (owed_in self.old.phase) (λ i. self.new.phase ≡ phase_after (turn_end i)) }
-        ensures inbox { self.new.inbox ≡ self.old.inbox }
+        ensures read_buffer { self.new.read_buffer ≡ self.old.read_buffer }
         ensures size { self.new.max_size ≡ self.old.max_size }
     {
         if let Phase::Owing(incoming) = &self.phase {
@@ -321,27 +321,27 @@ impl Connection {
 }
 
 impl Connection {
-    /// The next bytes that are pending: a front of all of them, which is empty only where nothing is.
+    /// The next bytes that are pending: a prefix of all of them, which is empty only where nothing is.
     pub fn pending(&self) -> &[u8]
-        ensures front { (rest : List ℕ) × (self.now.outbox.pending ≡ result.now ++ rest) }
-        ensures some { result.now ≡ [] → self.now.outbox.pending ≡ [] }
+        ensures prefix { (rest : List ℕ) × (self.now.write_buffer.pending ≡ result.now ++ rest) }
+        ensures some { result.now ≡ [] → self.now.write_buffer.pending ≡ [] }
     {
-        self.buffers.outbox.pending()
+        self.buffers.write_buffer.pending()
     }
 
     /// How many bytes are pending in all, those of an upload included.
     pub fn pending_len(&self) -> usize
-        ensures { result ≡ length self.now.outbox.pending }
+        ensures { result ≡ length self.now.write_buffer.pending }
     {
-        self.buffers.outbox.len()
+        self.buffers.write_buffer.len()
     }
 
     /// Drops the first bytes that are pending, which were sent; `count` is at most all that is.
     pub fn sent(&mut self, count: usize)
-        requires { count ≤ length self.old.outbox.pending }
+        requires { count ≤ length self.old.write_buffer.pending }
         ensures { Sends count self.old self.new }
     {
-        self.buffers.outbox.sent(count);
+        self.buffers.write_buffer.sent(count);
     }
 
     /// Writes once what is pending, of which there is some. `Ok` gives how many bytes were taken: these are no longer
@@ -349,14 +349,14 @@ impl Connection {
     /// is no room yet, it may be written again, by a [`Tapped`](crate::Tapped) made anew.
     pub fn write_to<W: Sink>(&mut self, writer: &mut W) -> io::Result<usize>
         requires alive { W.has_failed writer.old ≡ false }
-        requires some { self.old.outbox.pending ≢ [] }
-        ensures wrote { IfOk result (λ n. (n ≤ length self.old.outbox.pending) × Sends n self.old self.new
-            × Appends (W.contents writer.old) (W.contents writer.new) (take n self.old.outbox.pending)) }
+        requires some { self.old.write_buffer.pending ≢ [] }
+        ensures wrote { IfOk result (λ n. (n ≤ length self.old.write_buffer.pending) × Sends n self.old self.new
+            × Appends (W.contents writer.old) (W.contents writer.new) (take n self.old.write_buffer.pending)) }
         ensures none { OnErr result (Appends (W.contents writer.old) (W.contents writer.new) []
             × (self.new ≡ self.old)) }
-        ensures failed { W.has_failed writer.new ≡ took_nothing result self.old.outbox.pending }
+        ensures failed { W.has_failed writer.new ≡ took_nothing result self.old.write_buffer.pending }
     {
-        self.buffers.outbox.write_to(writer)
+        self.buffers.write_buffer.write_to(writer)
     }
 }
 
@@ -365,19 +365,19 @@ impl Connection {
     // Puts the reply to a message at the message's moment behind what is pending, whatever is owed. The bytes of an upload are
     // taken out of the reply; what is in its place then answers no request.
     pub(crate) fn put_reply(&mut self, reply: &mut PlacedReply, now: Moment, framing: Framing)
-        requires { self.old.outbox.has_room ≡ true }
+        requires { self.old.write_buffer.has_room ≡ true }
         ensures puts { Puts (reply_text (reply_in reply.old) now framing) self.old self.new }
         ensures gone { reply_in reply.new ≡ Deleted }
     {
-        self.buffers.outbox.put_reply(reply, now, framing);
+        self.buffers.write_buffer.put_reply(reply, now, framing);
     }
 
     // The same for a refusal of the wire.
     pub(crate) fn put_refusal(&mut self, refusal: WireRefusal, now: Moment, framing: Framing)
-        requires { self.old.outbox.has_room ≡ true }
+        requires { self.old.write_buffer.has_room ≡ true }
         ensures { Puts (refusal_text refusal now framing) self.old self.new }
     {
-        self.buffers.outbox.put_refusal(refusal, now, framing);
+        self.buffers.write_buffer.put_refusal(refusal, now, framing);
     }
 
     // Writes all that is pending, however long that takes. The error is `WireFault::Write`; what was not sent then is
@@ -385,45 +385,45 @@ impl Connection {
     pub(crate) fn flush<W: Sink>(&mut self, writer: &mut W) -> Result<(), WireFault>
         requires { W.has_failed writer.old ≡ false }
         ensures writes { Writes (W.contents writer.old) (W.contents writer.new) (W.has_failed writer.new)
-            self.old.outbox.pending result }
-        ensures sent { self.new ≡ record self.old { outbox = empty_outbox } }
-        ensures some { OnErr result (self.old.outbox.pending ≢ []) }
+            self.old.write_buffer.pending result }
+        ensures sent { self.new ≡ record self.old { write_buffer = empty_write_buffer } }
+        ensures some { OnErr result (self.old.write_buffer.pending ≢ []) }
     {
-        flush(writer, &mut self.buffers.outbox)
+        flush(writer, &mut self.buffers.write_buffer)
     }
 }
 
 // Looks at what came of a message, and puts `100 Continue` where it is due. Where there is no room for that, it looks later.
 fn look_on(stage: Stage, buffers: &mut Buffers, max_size: u64) -> Phase<Layout>
     requires size { max_size < 2 ^ 31 }
-    requires fits { Fits buffers.old.inbox stage }
-    ensures stands { (bytes said : List ℕ) → Standing max_size bytes said buffers.old.inbox stage
-        → (put : List ℕ) × (buffers.new.outbox.pending ≡ buffers.old.outbox.pending ++ put)
-        × StandsIn max_size bytes (said ++ put) buffers.new.inbox (map_phase (framed_at buffers.new.inbox.lent) result) }
-    ensures phase { IsPhase buffers.new.inbox result }
-    ensures some { is_looking result ≡ true → buffers.new.outbox.pending ≢ [] }
-    ensures same { is_looking result ≡ false → buffers.new.outbox ≡ buffers.old.outbox }
-    ensures looks { buffers.old.outbox.has_room ≡ true → is_looking result ≡ true
-        → buffers.new.outbox.pending ≢ buffers.old.outbox.pending }
-    ensures nearer { left_in buffers.new.inbox (map_phase (framed_at buffers.new.inbox.lent) result) buffers.new.outbox.pending
-        ≤ left_in buffers.old.inbox (Looking stage) buffers.old.outbox.pending }
-    ensures unbroken { IfSome (owed_in (map_phase (framed_at buffers.new.inbox.lent) result))
+    requires fits { Fits buffers.old.read_buffer stage }
+    ensures stands { (bytes said : List ℕ) → Standing max_size bytes said buffers.old.read_buffer stage
+        → (put : List ℕ) × (buffers.new.write_buffer.pending ≡ buffers.old.write_buffer.pending ++ put)
+        × StandsIn max_size bytes (said ++ put) buffers.new.read_buffer (map_phase (framed_at buffers.new.read_buffer.lent) result) }
+    ensures phase { IsPhase buffers.new.read_buffer result }
+    ensures some { is_looking result ≡ true → buffers.new.write_buffer.pending ≢ [] }
+    ensures same { is_looking result ≡ false → buffers.new.write_buffer ≡ buffers.old.write_buffer }
+    ensures looks { buffers.old.write_buffer.has_room ≡ true → is_looking result ≡ true
+        → buffers.new.write_buffer.pending ≢ buffers.old.write_buffer.pending }
+    ensures nearer { left_in buffers.new.read_buffer (map_phase (framed_at buffers.new.read_buffer.lent) result) buffers.new.write_buffer.pending
+        ≤ left_in buffers.old.read_buffer (Looking stage) buffers.old.write_buffer.pending }
+    ensures unbroken { IfSome (owed_in (map_phase (framed_at buffers.new.read_buffer.lent) result))
         (λ i. is_cut_by_fault i ≡ false) }
-    ensures ended { buffers.new.inbox.ended ≡ buffers.old.inbox.ended }
+    ensures ended { buffers.new.read_buffer.ended ≡ buffers.old.read_buffer.ended }
 {
-    if !buffers.outbox.has_room() {
+    if !buffers.write_buffer.has_room() {
         return Phase::Looking(stage);
     }
     let mut stage = stage;
     match stage.look(
-        &mut buffers.inbox,
+        &mut buffers.read_buffer,
         &mut buffers.spans,
         &mut buffers.fields,
         max_size,
     ) {
         Looked::More => Phase::Waiting(stage),
         Looked::Continue => {
-            buffers.outbox.put_continue();
+            buffers.write_buffer.put_continue();
             Phase::Looking(stage)
         }
         Looked::Came(incoming) => Phase::Owing(incoming),
@@ -431,45 +431,45 @@ fn look_on(stage: Stage, buffers: &mut Buffers, max_size: u64) -> Phase<Layout>
 }
 
 // How many bytes the body lacks of a message for which the connection waits.
-fn lacking(phase: &Phase<Layout>, inbox: &Inbox) -> usize
-    requires { IsPhase inbox.now phase.now }
-    ensures lacks { result ≡ lacking inbox.now phase.now }
+fn lacking(phase: &Phase<Layout>, read_buffer: &ReadBuffer) -> usize
+    requires { IsPhase read_buffer.now phase.now }
+    ensures lacks { result ≡ lacking read_buffer.now phase.now }
     ensures few { result < 2 ^ 32 }
 {
     match phase {
         Phase::Waiting(Stage::Body(layout)) => {
             let total = layout.head_len + layout.body_len;
-            total.saturating_sub(inbox.held().len())
+            total.saturating_sub(read_buffer.held().len())
         }
         _ => 0,
     }
 }
 
 // What a connection wants at this phase.
-fn wants_at(phase: &Phase<Layout>, outbox: &Outbox) -> Wants
-    ensures wants { (text : List ℕ) → result ≡ wanted_in outbox.now (map_phase (framed_at text) phase.now) }
-    ensures some { is_looking phase.now ≡ false → result ≡ Wants.Write → outbox.now.pending ≢ [] }
-    ensures few { result ≡ Wants.Answer → length outbox.now.pending ≤ 8192 }
+fn wants_at(phase: &Phase<Layout>, write_buffer: &WriteBuffer) -> Wants
+    ensures wants { (text : List ℕ) → result ≡ wanted_in write_buffer.now (map_phase (framed_at text) phase.now) }
+    ensures some { is_looking phase.now ≡ false → result ≡ Wants.Write → write_buffer.now.pending ≢ [] }
+    ensures few { result ≡ Wants.Answer → length write_buffer.now.pending ≤ 8192 }
 {
     match phase {
         Phase::Looking(_) => Wants::Write,
-        Phase::Waiting(_) => unless_pending(outbox, Wants::Read),
+        Phase::Waiting(_) => unless_pending(write_buffer, Wants::Read),
         Phase::Owing(_) => {
-            if outbox.has_room() {
+            if write_buffer.has_room() {
                 Wants::Answer
             } else {
                 Wants::Write
             }
         }
-        Phase::Over(_) => unless_pending(outbox, Wants::Nothing),
+        Phase::Over(_) => unless_pending(write_buffer, Wants::Nothing),
     }
 }
 
 // This, unless something is to be sent first.
-fn unless_pending(outbox: &Outbox, wants: Wants) -> Wants
-    ensures { result ≡ unless_pending outbox.now.pending wants }
+fn unless_pending(write_buffer: &WriteBuffer, wants: Wants) -> Wants
+    ensures { result ≡ unless_pending write_buffer.now.pending wants }
 {
-    if outbox.is_empty() {
+    if write_buffer.is_empty() {
         wants
     } else {
         Wants::Write
@@ -477,34 +477,37 @@ fn unless_pending(outbox: &Outbox, wants: Wants) -> Wants
 }
 
 // What a read that failed leaves of a message.
-fn broken(stage: Stage, inbox: &mut Inbox) -> Phase<Layout>
-    requires fits { Fits inbox.old stage }
-    requires wants { WantsMore inbox.old stage }
-    ensures breaks { (max : ℕ) (bytes said : List ℕ) → Standing max bytes said inbox.old stage
-        → BreaksTo max bytes said inbox.new (map_phase (framed_at inbox.new.lent) result) }
-    ensures phase { IsPhase inbox.new result }
-    ensures ended { inbox.new.ended ≡ inbox.old.ended }
+fn broken(stage: Stage, read_buffer: &mut ReadBuffer) -> Phase<Layout>
+    requires fits { Fits read_buffer.old stage }
+    requires wants { WantsMore read_buffer.old stage }
+    ensures breaks { (max : ℕ) (bytes said : List ℕ) → Standing max bytes said read_buffer.old stage
+        → BreaksTo max bytes said read_buffer.new (map_phase (framed_at read_buffer.new.lent) result) }
+    ensures phase { IsPhase read_buffer.new result }
+    ensures ended { read_buffer.new.ended ≡ read_buffer.old.ended }
 {
-    match stage.break_off(inbox) {
+    match stage.break_off(read_buffer) {
         Ok(incoming) => Phase::Owing(incoming),
         Err(fault) => Phase::Over(Err(fault)),
     }
 }
 
-// What came in, with the bytes of a message as the inbox lends them.
-fn lend_message<'i>(incoming: &Incoming<Layout>, inbox: &'i Inbox) -> Incoming<Message<'i>>
-    requires { IsLent inbox.now.lent incoming.now }
-    ensures { map_incoming framed result ≡ map_incoming (framed_at inbox.now.lent) incoming.now }
+// What came in, with the bytes of a message as the read_buffer lends them.
+fn lend_message<'i>(
+    incoming: &Incoming<Layout>,
+    read_buffer: &'i ReadBuffer,
+) -> Incoming<Message<'i>>
+    requires { IsLent read_buffer.now.lent incoming.now }
+    ensures { map_incoming framed result ≡ map_incoming (framed_at read_buffer.now.lent) incoming.now }
 {
     match incoming {
         Incoming::Message(layout) => Incoming::Message(Message {
             layout: *layout,
-            text: inbox.lent(),
+            text: read_buffer.lent(),
         }),
         Incoming::CutPatch(layout, why) => Incoming::CutPatch(
             Message {
                 layout: *layout,
-                text: inbox.lent(),
+                text: read_buffer.lent(),
             },
             *why,
         ),
@@ -515,13 +518,13 @@ fn lend_message<'i>(incoming: &Incoming<Layout>, inbox: &'i Inbox) -> Incoming<M
 }
 
 // A message whose body is under way, with all that is held of it.
-fn lend_held<'i>(layout: &Layout, inbox: &'i Inbox) -> Message<'i>
-    requires { HasRoom inbox.now layout.now }
-    ensures { framed result ≡ framed_at inbox.now.held layout.now }
+fn lend_held<'i>(layout: &Layout, read_buffer: &'i ReadBuffer) -> Message<'i>
+    requires { HasRoom read_buffer.now layout.now }
+    ensures { framed result ≡ framed_at read_buffer.now.held layout.now }
 {
     Message {
         layout: *layout,
-        text: inbox.held(),
+        text: read_buffer.held(),
     }
 }
 
@@ -539,11 +542,13 @@ fn is_at_start(phase: &Phase<Layout>) -> bool
 
 // Whether nothing is held, and nothing is pending, and the input has not ended.
 fn is_empty(buffers: &Buffers) -> bool
-    ensures held { OnTrue result (buffers.now.inbox.held ≡ []) }
-    ensures unended { OnTrue result (buffers.now.inbox.ended ≡ false) }
-    ensures sent { OnTrue result (buffers.now.outbox ≡ empty_outbox) }
-    ensures other { OnFalse result (buffers.now.inbox.held ≡ [] → buffers.now.inbox.ended ≡ false
-        → buffers.now.outbox ≡ empty_outbox → ⊥) }
+    ensures held { OnTrue result (buffers.now.read_buffer.held ≡ []) }
+    ensures unended { OnTrue result (buffers.now.read_buffer.ended ≡ false) }
+    ensures sent { OnTrue result (buffers.now.write_buffer ≡ empty_write_buffer) }
+    ensures other { OnFalse result (buffers.now.read_buffer.held ≡ [] → buffers.now.read_buffer.ended ≡ false
+        → buffers.now.write_buffer ≡ empty_write_buffer → ⊥) }
 {
-    buffers.inbox.held().is_empty() && !buffers.inbox.is_ended() && buffers.outbox.is_empty()
+    buffers.read_buffer.held().is_empty()
+        && !buffers.read_buffer.is_ended()
+        && buffers.write_buffer.is_empty()
 }

@@ -9,7 +9,7 @@ ghost use Rattle.http_wire.specs.Turns.{Breaks, Converses, EndsByTurn, IsReadWhe
 ghost use Rattle.http_wire.specs.declared.connection.Wants.TheVariants as Wants;
 ghost use Rattle.http_wire.specs.inside.Ahead.{SeesEnd, StopsAtEnd};
 ghost use Rattle.http_wire.specs.inside.Driving.{IsBetween};
-ghost use Rattle.http_wire.specs.inside.Sending.{empty_outbox};
+ghost use Rattle.http_wire.specs.inside.Sending.{empty_write_buffer};
 ghost use Rattle.http_wire.specs.inside.TurnFinish.{EndsTurnAtEnd, FinishesTurn};
 
 use crate::answer::Answer;
@@ -131,22 +131,22 @@ pub fn take_turn<R: Source, W: Sink, A: Answer, C: Clock>(
         (got text : List ℕ) × Consumes (R.remaining reader.old) (R.remaining reader.new) got
         × Appends (W.contents writer.old) (W.contents writer.new) text
         × TakesTurn A.steps connection.old.max_size now
-        (record { input = connection.old.inbox.held ++ got; text = text; before = answerer.old; after = answerer.new })
-        connection.new.inbox.held result) }
+        (record { input = connection.old.read_buffer.held ++ got; text = text; before = answerer.old; after = answerer.new })
+        connection.new.read_buffer.held result) }
     ensures asked { IfErr result (λ f. (got text : List ℕ)
         × Consumes (R.remaining reader.old) (R.remaining reader.new) got
         × Appends (W.contents writer.old) (W.contents writer.new) text
         × BreaksAsked A.steps C.tells connection.old.max_size clock.old clock.new
-        (record { input = connection.old.inbox.held ++ got; text = text; before = answerer.old; after = answerer.new }) f) }
-    ensures end { IfOk result (λ r. SeesEnd (R.remaining reader.old) connection.old.inbox
-        → EndsTurnAtEnd (R.remaining reader.new) connection.new.inbox r) }
+        (record { input = connection.old.read_buffer.held ++ got; text = text; before = answerer.old; after = answerer.new }) f) }
+    ensures end { IfOk result (λ r. SeesEnd (R.remaining reader.old) connection.old.read_buffer
+        → EndsTurnAtEnd (R.remaining reader.new) connection.new.read_buffer r) }
     ensures ends { IfOk result EndsByTurn }
-    ensures stops { StopsAtEnd reader.old reader.new connection.old.inbox connection.new.inbox }
+    ensures stops { StopsAtEnd reader.old reader.new connection.old.read_buffer connection.new.read_buffer }
     ensures reader { OnOk result (R.has_failed reader.new ≡ false) }
     ensures writer { OnOk result (W.has_failed writer.new ≡ false) }
     ensures fault { IfErr result (NamesStream (R.has_failed reader.new) (W.has_failed writer.new)) }
     ensures starts { IfOk result (λ r. r ≡ None → connection.new.phase ≡ at_start) }
-    ensures sent { connection.new.outbox ≡ empty_outbox }
+    ensures sent { connection.new.write_buffer ≡ empty_write_buffer }
     ensures size { connection.new.max_size ≡ connection.old.max_size }
 {
     await_incoming(reader, writer, connection)?;
@@ -163,13 +163,13 @@ fn finish_turn<W: Sink, A: Answer>(
 ) -> Result<Option<Ended>, WireFault>
     requires writer { W.has_failed writer.old ≡ false }
     requires owed { wanted connection.old ≡ Wants.Answer }
-    requires sent { connection.old.outbox ≡ empty_outbox }
-    ensures inbox { connection.new.inbox ≡ connection.old.inbox }
-    ensures finishes { IfSome (owed_in connection.old.phase) (λ i. FinishesTurn A.steps now connection.old.inbox i
+    requires sent { connection.old.write_buffer ≡ empty_write_buffer }
+    ensures read_buffer { connection.new.read_buffer ≡ connection.old.read_buffer }
+    ensures finishes { IfSome (owed_in connection.old.phase) (λ i. FinishesTurn A.steps now connection.old.read_buffer i
         (W.contents writer.old) (W.contents writer.new) (W.has_failed writer.new)
         answerer.old answerer.new result) }
     ensures starts { IfOk result (λ r. r ≡ None → connection.new.phase ≡ at_start) }
-    ensures sent { connection.new.outbox ≡ empty_outbox }
+    ensures sent { connection.new.write_buffer ≡ empty_write_buffer }
     ensures size { connection.new.max_size ≡ connection.old.max_size }
 {
     connection.answer(answerer, now);

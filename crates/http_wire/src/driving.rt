@@ -2,10 +2,10 @@
 ghost use Rattle.std.specs.Prelude.{◌≡◌, ◌≤◌, ◌++◌, ℕ, List, length, Err, false, OnOk, IfErr};
 ghost use Rattle.std.specs.Io.KnownBytes.{Appends, Consumes};
 ghost use Rattle.http_wire.specs.Fault.{NamesStream};
-ghost use Rattle.http_wire.specs.ReadOnWire.{BreaksFront, TellsEnd, read_limit};
+ghost use Rattle.http_wire.specs.ReadOnWire.{BreaksMessage, TellsEnd, read_limit};
 ghost use Rattle.http_wire.specs.inside.Ahead.{SeesEnd, StopsAtEnd};
 ghost use Rattle.http_wire.specs.inside.Driving.{CameIn, IsBetween};
-ghost use Rattle.http_wire.specs.inside.Sending.{empty_outbox};
+ghost use Rattle.http_wire.specs.inside.Sending.{empty_write_buffer};
 
 use crate::connection::{Connection, Wants};
 use crate::fault::WireFault;
@@ -24,19 +24,19 @@ pub fn await_incoming<R: Source, W: Sink>(
     ensures comes { OnOk result ((got text : List ℕ)
         × Consumes (R.remaining reader.old) (R.remaining reader.new) got
         × Appends (W.contents writer.old) (W.contents writer.new) text
-        × CameIn (connection.old.inbox.held ++ got) text (R.has_failed reader.new) connection.new
+        × CameIn (connection.old.read_buffer.held ++ got) text (R.has_failed reader.new) connection.new
         × (length got ≤ read_limit connection.old.max_size)) }
     ensures breaks { IfErr result (λ f. (got text : List ℕ)
         × Consumes (R.remaining reader.old) (R.remaining reader.new) got
         × Appends (W.contents writer.old) (W.contents writer.new) text
-        × BreaksFront connection.old.max_size
-        (record { input = connection.old.inbox.held ++ got; text = text }) f
+        × BreaksMessage connection.old.max_size
+        (record { input = connection.old.read_buffer.held ++ got; text = text }) f
         × (length got ≤ read_limit connection.old.max_size)) }
-    ensures end { OnOk result (SeesEnd (R.remaining reader.old) connection.old.inbox
-        → SeesEnd (R.remaining reader.new) connection.new.inbox) }
-    ensures tells_end { IfErr result (λ f. TellsEnd connection.new.inbox.ended (Err f)) }
-    ensures stops { StopsAtEnd reader.old reader.new connection.old.inbox connection.new.inbox }
-    ensures sent { connection.new.outbox ≡ empty_outbox }
+    ensures end { OnOk result (SeesEnd (R.remaining reader.old) connection.old.read_buffer
+        → SeesEnd (R.remaining reader.new) connection.new.read_buffer) }
+    ensures tells_end { IfErr result (λ f. TellsEnd connection.new.read_buffer.ended (Err f)) }
+    ensures stops { StopsAtEnd reader.old reader.new connection.old.read_buffer connection.new.read_buffer }
+    ensures sent { connection.new.write_buffer ≡ empty_write_buffer }
     ensures size { connection.new.max_size ≡ connection.old.max_size }
     ensures writer { OnOk result (W.has_failed writer.new ≡ false) }
     ensures fault { IfErr result (λ e. NamesStream (R.has_failed reader.new) (W.has_failed writer.new) e) }

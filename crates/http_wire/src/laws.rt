@@ -1,6 +1,6 @@
 //! Laws of the definitions that the contracts cite: each is the contract of a function that does
 //! nothing, and holds of every input.
-ghost use Rattle.http_wire.specs.Laws.{BodiesComeFirst, InputsJoin, MessagesAreShort, OneFront, TurnsJoin, WireFollowsOrder};
+ghost use Rattle.http_wire.specs.Laws.{BodiesComeFirst, InputsJoin, MessagesAreShort, OneMessage, TurnsJoin, WireFollowsOrder};
 
 use crate::answer::Answer;
 use crate::clock::Clock;
@@ -15,8 +15,8 @@ pub fn inputs_join<A: Answer>()
 
 /// What an input begins with is determined by its bytes and the greatest length of a body, but for a
 /// refusal that memory is lacking.
-pub fn one_front()
-    ensures { OneFront }
+pub fn one_message()
+    ensures { OneMessage }
 {}
 
 /// Where a failed read cut a message that is not applied when it is cut, its clock had not been asked: none is asked

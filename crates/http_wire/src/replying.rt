@@ -3,7 +3,7 @@ ghost use Rattle.std.specs.Prelude.{◌≡◌, ◌++◌, List, ℕ, true};
 ghost use Rattle.http_wire.specs.Incoming.{map_incoming};
 ghost use Rattle.http_wire.specs.Layout.{IsMessage, framed_at, request_at};
 ghost use Rattle.http_wire.specs.OnConnection.{turn_end};
-ghost use Rattle.http_wire.specs.Past.{Answering, Follows, Notes};
+ghost use Rattle.http_wire.specs.History.{Answering, Follows, Notes};
 ghost use Rattle.http_wire.specs.ReplyText.{reply_text};
 ghost use Rattle.http_wire.specs.inside.IncomingLayout.{IsLent};
 ghost use Rattle.http_wire.specs.inside.TurnFinish.{AnswersTurn, ended_after, turn_cut};
@@ -28,17 +28,17 @@ pub fn answer_incoming<A: Answer>(
     incoming: &Incoming<Layout>,
     now: Moment,
 ) -> Result<Option<Ended>, WireFault>
-    requires lent { IsLent buffers.old.inbox.lent incoming.now }
-    requires room { buffers.old.outbox.has_room ≡ true }
-    ensures inbox { buffers.new.inbox ≡ buffers.old.inbox }
+    requires lent { IsLent buffers.old.read_buffer.lent incoming.now }
+    requires room { buffers.old.write_buffer.has_room ≡ true }
+    ensures read_buffer { buffers.new.read_buffer ≡ buffers.old.read_buffer }
     ensures answers { (put : List ℕ)
-        × (buffers.new.outbox.pending ≡ buffers.old.outbox.pending ++ put)
-        × AnswersTurn A.steps now buffers.old.inbox (map_incoming (framed_at buffers.old.inbox.lent) incoming.now)
+        × (buffers.new.write_buffer.pending ≡ buffers.old.write_buffer.pending ++ put)
+        × AnswersTurn A.steps now buffers.old.read_buffer (map_incoming (framed_at buffers.old.read_buffer.lent) incoming.now)
         put answerer.old answerer.new result
         × (answered : List Answering) × Follows A.steps answerer.old answered answerer.new
-        × ((before : List Answering) → AnswersTurn Notes now buffers.old.inbox
-        (map_incoming (framed_at buffers.old.inbox.lent) incoming.now) put before (before ++ answered) result) }
-    ensures end { result ≡ turn_end (map_incoming (framed_at buffers.old.inbox.lent) incoming.now) }
+        × ((before : List Answering) → AnswersTurn Notes now buffers.old.read_buffer
+        (map_incoming (framed_at buffers.old.read_buffer.lent) incoming.now) put before (before ++ answered) result) }
+    ensures end { result ≡ turn_end (map_incoming (framed_at buffers.old.read_buffer.lent) incoming.now) }
 {
     match incoming {
         Incoming::Message(layout) => {
@@ -47,7 +47,7 @@ pub fn answer_incoming<A: Answer>(
         }
         Incoming::Refused(refusal, framing) => {
             buffers.is_refused = true;
-            buffers.outbox.put_refusal(*refusal, now, *framing);
+            buffers.write_buffer.put_refusal(*refusal, now, *framing);
             Ok(ended_after(true))
         }
         Incoming::CutPatch(layout, why) => {
@@ -78,33 +78,33 @@ fn turn_cut(why: Cut) -> Result<Option<Ended>, WireFault>
 
 // Makes the step of a message that the buffers lend, and puts its reply. The step stays where the reply can't be written.
 fn answer_message<A: Answer>(buffers: &mut Buffers, answerer: &mut A, layout: &Layout, now: Moment)
-    requires message { IsMessage layout.now buffers.old.inbox.lent }
-    requires room { buffers.old.outbox.has_room ≡ true }
-    ensures inbox { buffers.new.inbox ≡ buffers.old.inbox }
+    requires message { IsMessage layout.now buffers.old.read_buffer.lent }
+    requires room { buffers.old.write_buffer.has_room ≡ true }
+    ensures read_buffer { buffers.new.read_buffer ≡ buffers.old.read_buffer }
     ensures answers { (reply : Reply)
-        × A.steps answerer.old (request_at layout.now buffers.old.inbox.lent) now reply answerer.new
-        × (buffers.new.outbox.pending
-        ≡ buffers.old.outbox.pending ++ reply_text reply now layout.now.framing) }
+        × A.steps answerer.old (request_at layout.now buffers.old.read_buffer.lent) now reply answerer.new
+        × (buffers.new.write_buffer.pending
+        ≡ buffers.old.write_buffer.pending ++ reply_text reply now layout.now.framing) }
     ensures let_go { reply_in buffers.new.reply.value ≡ Deleted }
 {
-    let request = request_in(layout, buffers.inbox.lent());
+    let request = request_in(layout, buffers.read_buffer.lent());
     answerer.answer(&request, now, &mut buffers.reply);
     buffers
-        .outbox
+        .write_buffer
         .put_reply(&mut buffers.reply, now, layout.framing);
 }
 
 // Makes the step of a PATCH whose body was cut, with the bytes that came. It gets no reply: what was put in its place is let
 // go.
 fn apply_cut<A: Answer>(buffers: &mut Buffers, answerer: &mut A, layout: &Layout, now: Moment)
-    requires { IsMessage layout.now buffers.old.inbox.lent }
-    ensures inbox { buffers.new.inbox ≡ buffers.old.inbox }
-    ensures outbox { buffers.new.outbox ≡ buffers.old.outbox }
+    requires { IsMessage layout.now buffers.old.read_buffer.lent }
+    ensures read_buffer { buffers.new.read_buffer ≡ buffers.old.read_buffer }
+    ensures write_buffer { buffers.new.write_buffer ≡ buffers.old.write_buffer }
     ensures step { (reply : Reply)
-        × A.steps answerer.old (request_at layout.now buffers.old.inbox.lent) now reply answerer.new }
+        × A.steps answerer.old (request_at layout.now buffers.old.read_buffer.lent) now reply answerer.new }
     ensures let_go { reply_in buffers.new.reply.value ≡ Deleted }
 {
-    let request = request_in(layout, buffers.inbox.lent());
+    let request = request_in(layout, buffers.read_buffer.lent());
     answerer.answer(&request, now, &mut buffers.reply);
     buffers.reply.let_go();
 }

@@ -178,7 +178,7 @@ fn receive(rt: &impl Abort, connection: &mut Connection, reader: &mut Arriving<'
 
 /// Writes once. The writer has to be written to again where it would have blocked.
 fn send(rt: &impl Abort, connection: &mut Connection, writer: &mut Leaving)
-    requires { connection.old.outbox.pending ≢ [] }
+    requires { connection.old.write_buffer.pending ≢ [] }
 {
     let mut tapped = Tapped::new(writer);
     match connection.write_to(&mut tapped) {

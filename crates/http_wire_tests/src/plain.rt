@@ -11,7 +11,7 @@ use tus_text::{read_number, read_path};
 use upload_book::{Book, Moment};
 
 /// What an input begins with.
-enum Front<'a> {
+enum NextMessage<'a> {
     /// A request, how its reply is framed, whether it waits for `100 Continue`, and what follows it. Where its body was
     /// cut, nothing follows.
     Request(Request<'a>, Framing, bool, Option<&'a [u8]>),
@@ -34,12 +34,12 @@ pub fn plain_conversation(
     let mut left = input;
     for now in moments {
         match begins(left, max_size) {
-            Front::End(ended) => return (page.text, ended),
-            Front::Refused(refusal, framing) => {
+            NextMessage::End(ended) => return (page.text, ended),
+            NextMessage::Refused(refusal, framing) => {
                 page.put_refusal(rt, refusal, *now, framing);
                 return (page.text, Ended::Closed);
             }
-            Front::Request(request, framing, is_waiting, rest) => {
+            NextMessage::Request(request, framing, is_waiting, rest) => {
                 if is_waiting {
                     page.put(rt, b"HTTP/1.1 100 Continue\r\n\r\n");
                 }
@@ -69,7 +69,7 @@ const UNKNOWN: Framing = Framing {
     close: true,
 };
 
-fn begins(input: &[u8], max_size: u64) -> Front<'_> {
+fn begins(input: &[u8], max_size: u64) -> NextMessage<'_> {
     let blank = input
         .iter()
         .take_while(|b| **b == b'\r' || **b == b'\n')
@@ -77,22 +77,22 @@ fn begins(input: &[u8], max_size: u64) -> Front<'_> {
     let text = input.get(blank..).unwrap_or(b"");
     let Some((head, rest)) = head_and_rest(text) else {
         return if input.len() >= 16_384 {
-            Front::Refused(WireRefusal::HeadSize, UNKNOWN)
+            NextMessage::Refused(WireRefusal::HeadSize, UNKNOWN)
         } else if text.is_empty() {
-            Front::End(Ended::Input)
+            NextMessage::End(Ended::Input)
         } else {
-            Front::End(Ended::Cut)
+            NextMessage::End(Ended::Cut)
         };
     };
     let lines = head.iter().filter(|b| **b == b'\n').count();
     if blank.saturating_add(head.len()) > 16_384 || lines > 66 {
-        return Front::Refused(WireRefusal::HeadSize, UNKNOWN);
+        return NextMessage::Refused(WireRefusal::HeadSize, UNKNOWN);
     }
     let mut headers = [EMPTY_HEADER; 64];
     let mut parsed = Head::new(&mut headers);
     match parsed.parse(head) {
         Ok(Status::Complete(len)) if len == head.len() => with_head(&parsed, rest, max_size),
-        _ => Front::Refused(WireRefusal::Head, UNKNOWN),
+        _ => NextMessage::Refused(WireRefusal::Head, UNKNOWN),
     }
 }
 
@@ -214,7 +214,7 @@ fn body_and_rest(text: &[u8], len: usize) -> (&[u8], Option<&[u8]>) {
 }
 
 // What a head that was parsed begins, with the bytes that follow it.
-fn with_head<'a>(head: &Head<'_, 'a>, rest: &'a [u8], max_size: u64) -> Front<'a> {
+fn with_head<'a>(head: &Head<'_, 'a>, rest: &'a [u8], max_size: u64) -> NextMessage<'a> {
     let headers = &*head.headers;
     let minor = head.version.unwrap_or(1);
     let own = method_of(head.method.unwrap_or("").as_bytes());
@@ -230,8 +230,8 @@ fn with_head<'a>(head: &Head<'_, 'a>, rest: &'a [u8], max_size: u64) -> Front<'a
                 fields: tus_fields(headers),
                 body,
             };
-            Front::Request(request, Framing { bare, close }, is_waiting, after)
+            NextMessage::Request(request, Framing { bare, close }, is_waiting, after)
         }
-        Err(refusal) => Front::Refused(refusal, Framing { bare, close: true }),
+        Err(refusal) => NextMessage::Refused(refusal, Framing { bare, close: true }),
     }
 }

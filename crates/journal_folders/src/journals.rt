@@ -557,11 +557,11 @@ fn still_begins(rt: &HostRuntime, path: &str, id: FileId, read: &[u8]) -> io::Re
         return Ok(false);
     }
     let (front, _) = read.split_at(end.min(read.len()));
-    has_front(&mut file, front)
+    begins_with(&mut file, front)
 }
 
 /// Whether what is read of a file begins with these bytes.
-fn has_front(file: &mut File, front: &[u8]) -> io::Result<bool> {
+fn begins_with(file: &mut File, front: &[u8]) -> io::Result<bool> {
     let mut left = front;
     let mut piece = [0; PIECE];
     for _ in 0..u64::MAX {

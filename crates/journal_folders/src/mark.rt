@@ -17,7 +17,7 @@ use std::{fs, io, str};
 
 /// The mark beside the journal in a folder of this machine: which file is the journal's, by its inode's number, and how many of
 /// its first bytes are synced, as two numbers in a text. No crash tears a frame among these. The text is put without a sync, so
-/// after a crash it may be an older one, a front of one, or none; each of these tells of no more bytes. It is taken away, and the
+/// after a crash it may be an older one, a prefix of one, or none; each of these tells of no more bytes. It is taken away, and the
 /// folder synced, where another file takes the journal's place, so none of an earlier time of that file comes back.
 #[derive(Drop)]
 pub struct Mark<'a> {

@@ -8,14 +8,14 @@ use Rattle.std.proofs.lemmas.List.Sums.{sum_by-take-le}
 use Rattle.std.proofs.lemmas.Nat.{from_be_bytes-to_be_bytes_8}
 use Rattle.std.proofs.Math.Seq.{take-append-add, take-nil}
 use Rattle.journal_frames.specs.Crash.{CutsWholeFrames, Leaves, Loses, LosesWholeFrames, zeros}
-use Rattle.journal_frames.specs.Frames.{Fits, Reading, balance, body, frame, framed, frames, front, judged, number, recovered, tail_of}
+use Rattle.journal_frames.specs.Frames.{Fits, Reading, balance, body, frame, framed, frames, first_frame, judged, number, recovered, tail_of}
 use Rattle.journal_frames.specs.declared.tail.Tail.TheVariants.{Torn, Cut}
-use Rattle.journal_frames.proofs.Fronts.{front-parts, front_short}
+use Rattle.journal_frames.proofs.FirstFrames.{first_frame-parts, first_frame_short}
 use Rattle.journal_frames.proofs.Losses.{loses-append, loses-length, loses-nothing, loses-number, loses-sum, loses-zeros}
-use Rattle.journal_frames.proofs.Readings.{reads_on, reads_no_more, front_none}
+use Rattle.journal_frames.proofs.Readings.{reads_on, reads_no_more, first_frame_none}
 use Rattle.journal_frames.proofs.Headers.{body_len}
 use Rattle.journal_frames.proofs.Sums.{IsBody, IsBody-body}
-use Rattle.journal_frames.proofs.WholeFrames.{frame_again, frames_again, front-framed, judged-body}
+use Rattle.journal_frames.proofs.WholeFrames.{frame_again, frames_again, first_frame-framed, judged-body}
 
 -- ---- lost bytes
 
@@ -52,7 +52,7 @@ lost_frame key p ps len told bytes more fits len_lost told_lost bytes_lost behin
     let lower : from_be_bytes w64 told ≤ balance whole = omega (arith, loses-number (number (balance whole)) told told_lost, from_be_bytes-to_be_bytes_8 (balance whole) (omega arith)) in
     let eight : length len ≡ 8 = loses-length (number (length whole)) len len_lost in
     let also : length told ≡ 8 = loses-length (number (balance whole)) told told_lost in
-    let first : front key file ≡ judged key (from_be_bytes w64 len) (from_be_bytes w64 told) (bytes ++ more) = front-parts key len told (bytes ++ more) eight also in
+    let first : first_frame key file ≡ judged key (from_be_bytes w64 len) (from_be_bytes w64 told) (bytes ++ more) = first_frame-parts key len told (bytes ++ more) eight also in
     elim (judged_lost key whole bytes more (from_be_bytes w64 len) (from_be_bytes w64 told) is_body bytes_lost shorter lower) [
       | inl torn ↦
           let none = reads_no_more key file Torn (first ∙ torn) in
@@ -60,7 +60,7 @@ lost_frame key p ps len told bytes more fits len_lost told_lost bytes_lost behin
       | inr kept ↦
           let same : judged key (from_be_bytes w64 len) (from_be_bytes w64 told) (bytes ++ more) ≡ judged key (length whole) (balance whole) (whole ++ more) =
           ap (λ (n : ℕ). judged key n (from_be_bytes w64 told) (bytes ++ more)) kept.1 ∙ ap (λ (n : ℕ). judged key (length whole) n (bytes ++ more)) kept.2 ∙ ap (λ (t : List ℕ). judged key (length whole) (balance whole) (t ++ more)) kept.0 in
-          let read : front key file ≡ Ok p = first ∙ same ∙ judged-body key p more fits in
+          let read : first_frame key file ≡ Ok p = first ∙ same ∙ judged-body key p more fits in
           let on = reads_on key file p read in
           let regroup : file ≡ (len ++ (told ++ bytes)) ++ more = ap (λ (t : List ℕ). len ++ t) (sym (append_assoc told bytes more)) ∙ sym (append_assoc len (told ++ bytes) more) in
           let before : length (len ++ (told ++ bytes)) ≡ 24 + length p = omega (arith, length-append len (told ++ bytes), length-append told bytes, ap length kept.0, body_len key p) in
@@ -73,16 +73,16 @@ lost_frame key p ps len told bytes more fits len_lost told_lost bytes_lost behin
           }
     ]
 
-front_zeros : (key : ℕ) (rest : List ℕ) → front key (zeros 16 ++ rest) ≡ Err Torn
-front_zeros key rest =
+first_frame_zeros : (key : ℕ) (rest : List ℕ) → first_frame key (zeros 16 ++ rest) ≡ Err Torn
+first_frame_zeros key rest =
     let there : ltb (length rest) 0 ≡ false = le-ltb _ _ (omega arith) in
-    front-parts key (zeros 8) (zeros 8) rest refl refl ∙ rw there refl
+    first_frame-parts key (zeros 8) (zeros 8) rest refl refl ∙ rw there refl
 
 -- what is left of frames, whatever stands behind them and 16 zeros, is the first so many
 lost_frames : (key : ℕ) (payloads : List (List ℕ)) (left rest : List ℕ) → AllByRecursion Fits payloads → Loses (frames key payloads ++ zeros 16) left → Leaves key [] payloads (left ++ rest)
 unfolding framed
 lost_frames key [] left rest fits lost =
-    let none = reads_no_more key (left ++ rest) Torn (ap (λ (t : List ℕ). front key (t ++ rest)) (loses-zeros 16 left lost) ∙ front_zeros key rest) in
+    let none = reads_no_more key (left ++ rest) Torn (ap (λ (t : List ℕ). first_frame key (t ++ rest)) (loses-zeros 16 left lost) ∙ first_frame_zeros key rest) in
     record { kept = 0; within = omega arith; payloads = ap (λ (r : Reading). r.payloads) none; behind = ap (λ (r : Reading). r.tail) none }
 lost_frames key (p ∷ ps) left rest fits lost =
     let whole = body key p in
@@ -122,7 +122,7 @@ loses_whole_frames key synced unsynced left rest fits more_fit lost =
 -- ---- cuts
 
 -- a frame that was cut is torn
-cut_frame : (key : ℕ) (p : List ℕ) (n : ℕ) → Fits p → n < length (frame key p) → front key (take n (frame key p)) ≡ Err Cut
+cut_frame : (key : ℕ) (p : List ℕ) (n : ℕ) → Fits p → n < length (frame key p) → first_frame key (take n (frame key p)) ≡ Err Cut
 unfolding framed
 cut_frame key p n fits cut =
     let whole = body key p in
@@ -131,24 +131,24 @@ cut_frame key p n fits cut =
     let told = number (balance whole) in
     let file = len ++ (told ++ whole) in
     elim (cases_lt n 16) [
-      | inl lt ↦ front_short key (take n file) (omega (arith, length-take n file))
+      | inl lt ↦ first_frame_short key (take n file) (omega (arith, length-take n file))
       | inr le ↦
           let some = take (n - 16) whole in
           let split : take n file ≡ len ++ (told ++ some) =
           ap (λ (m : ℕ). take m file) (omega arith) ∙ take-append-add len (told ++ whole) (8 + (n - 16)) ∙ ap (λ (t : List ℕ). len ++ t) (take-append-add told whole (n - 16)) in
           let fit : ltb (2 ^ 32 + 8) (length whole) ≡ false = le-ltb _ _ is_body.short in
           let past : ltb (length some) (length whole) ≡ true = lt-ltb _ _ (omega (arith, length-take (n - 16) whole, length-append len (told ++ whole), length-append told whole)) in
-          ap (front key) split ∙ front-framed key whole len told some is_body refl refl ∙ rw (fit, past) refl
+          ap (first_frame key) split ∙ first_frame-framed key whole len told some is_body refl refl ∙ rw (fit, past) refl
     ]
 
 pub cuts_whole_frames : CutsWholeFrames
 cuts_whole_frames key [] n fits =
-    let none = reads_no_more key (take n []) Cut (ap (front key) (take-nil n) ∙ front_none key) in
+    let none = reads_no_more key (take n []) Cut (ap (first_frame key) (take-nil n) ∙ first_frame_none key) in
     record { kept = 0; within = omega arith; payloads = ap (λ (r : Reading). r.payloads) none; behind = ap (λ (r : Reading). r.tail) none }
 cuts_whole_frames key (p ∷ ps) n fits = elim (cases_lt n (length (frame key p))) [
   | inl lt ↦
       let first : take n (frames key (p ∷ ps)) ≡ take n (frame key p) = take-append-le n (frame key p) (frames key ps) (omega arith) in
-      let none = reads_no_more key (take n (frames key (p ∷ ps))) Cut (ap (front key) first ∙ cut_frame key p n fits.0 lt) in
+      let none = reads_no_more key (take n (frames key (p ∷ ps))) Cut (ap (first_frame key) first ∙ cut_frame key p n fits.0 lt) in
       record { kept = 0; within = omega arith; payloads = ap (λ (r : Reading). r.payloads) none; behind = ap (λ (r : Reading). r.tail) none }
   | inr le ↦
       let m = n - length (frame key p) in

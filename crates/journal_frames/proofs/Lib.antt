@@ -1,5 +1,5 @@
 pub mod CrashLemmas
-pub mod Fronts
+pub mod FirstFrames
 pub mod Headers
 pub mod Losses
 pub mod Readings

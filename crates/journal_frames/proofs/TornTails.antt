@@ -6,7 +6,7 @@ use Rattle.std.proofs.lemmas.List.{length-take, take-take}
 use Rattle.std.proofs.lemmas.List.Sums.{sum_by-take-le}
 use Rattle.sqlite_disk.specs.Digest.{digest}
 use Rattle.journal_frames.specs.Crash.{IsTornTail, Loses, StaysTorn}
-use Rattle.journal_frames.specs.Frames.{Reading, balance, front, judged, number, number_at, opened, recovered, weighed}
+use Rattle.journal_frames.specs.Frames.{Reading, balance, first_frame, judged, number, number_at, opened, recovered, weighed}
 use Rattle.journal_frames.specs.declared.tail.Tail.{Tail}
 use Rattle.journal_frames.specs.declared.tail.Tail.TheVariants.{Torn, Cut, Damaged}
 use Rattle.journal_frames.proofs.Readings.{reads_no_more, reads_on}
@@ -52,9 +52,9 @@ judged_torn key len told behind is =
     let b = torn_first (ltb (length behind) len) Cut (weighed key told some) cut_is_not_torn a.1 in
     record { short = ltb-false _ _ a.0; there = ltb-false _ _ b.0; lower = weighed_torn key told some b.1 }
 
-front_stays_torn : (key : ℕ) (file left : List ℕ) → front key file ≡ Err Torn → Loses file left → front key left ≡ Err Torn
-unfolding front
-front_stays_torn key file left torn lost =
+first_frame_stays_torn : (key : ℕ) (file left : List ℕ) → first_frame key file ≡ Err Torn → Loses file left → first_frame key left ≡ Err Torn
+unfolding first_frame
+first_frame_stays_torn key file left torn lost =
     let behind = drop 8 (drop 8 file) in
     let rest = drop 8 (drop 8 left) in
     let len = number_at file in
@@ -84,25 +84,25 @@ front_stays_torn key file left torn lost =
     rw (is_long, is_short, is_there, is_lower) refl
 
 -- what stands first in a file of which nothing is read
-front_none : (key : ℕ) (file : List ℕ) → IsTornTail key file → front key file ≡ Err Torn
-front_none key file tail = by_front (front key file) refl
+first_frame_none : (key : ℕ) (file : List ℕ) → IsTornTail key file → first_frame key file ≡ Err Torn
+first_frame_none key file tail = by_first_frame (first_frame key file) refl
   where
-    by_front : (r : Result (List ℕ) Tail) → front key file ≡ r → front key file ≡ Err Torn
-    by_front (Ok payload) is =
+    by_first_frame : (r : Result (List ℕ) Tail) → first_frame key file ≡ r → first_frame key file ≡ Err Torn
+    by_first_frame (Ok payload) is =
         let read : recovered key file ≡ payload ∷ recovered key (drop (24 + length payload) file) = ap (λ (x : Reading). x.payloads) (reads_on key file payload is) in
         absurd (cc (read, tail.none))
-    by_front (Err other) is =
+    by_first_frame (Err other) is =
         let same : other ≡ Torn = sym (ap (λ (x : Reading). x.tail) (reads_no_more key file other is)) ∙ tail.torn in
         is ∙ ap (λ (t : Tail). Err t) same
 
-torn_is_long : (key : ℕ) (file : List ℕ) → front key file ≡ Err Torn → 16 ≤ length file
-unfolding front
+torn_is_long : (key : ℕ) (file : List ℕ) → first_frame key file ≡ Err Torn → 16 ≤ length file
+unfolding first_frame
 torn_is_long key file torn =
     let a = torn_first (ltb (length file) 16) Cut (judged key (number_at file) (number_at (drop 8 file)) (drop 8 (drop 8 file))) cut_is_not_torn torn in
     ltb-false _ _ a.0
 
 pub stays_torn : StaysTorn
 stays_torn key file left tail lost =
-    let first = front_none key file tail in
-    let rest = reads_no_more key left Torn (front_stays_torn key file left first lost) in
+    let first = first_frame_none key file tail in
+    let rest = reads_no_more key left Torn (first_frame_stays_torn key file left first lost) in
     (torn_is_long key file first, record { none = ap (λ (x : Reading). x.payloads) rest; torn = ap (λ (x : Reading). x.tail) rest })

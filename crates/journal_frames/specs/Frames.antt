@@ -62,8 +62,8 @@ judged key len told behind =
     if nat_lt (2 ^ 32 + 8) len then Err Damaged else if nat_lt (length behind) len then Err Cut else weighed key told (take len behind)
 
 -- what stands first in a file: the payload of a whole frame, or what else it is
-unfoldable pub front : ℕ → List ℕ → Result (List ℕ) Tail
-front key file = if nat_lt (length file) 16 then Err Cut else judged key (number_at file) (number_at (drop 8 file)) (drop 8 (drop 8 file))
+unfoldable pub first_frame : ℕ → List ℕ → Result (List ℕ) Tail
+first_frame key file = if nat_lt (length file) 16 then Err Cut else judged key (number_at file) (number_at (drop 8 file)) (drop 8 (drop 8 file))
 
 -- a payload that was read stands first in the file, in its frame
 pub record Stands (key : ℕ) (file payload : List ℕ) : Type 0 where
@@ -85,7 +85,7 @@ before (Ok payload) behind = record { payloads = payload ∷ (behind (23 + lengt
 unfoldable pub read_past : ℕ → ℕ → List ℕ → Reading
 read_past key passed [] = record { payloads = []; tail = Cut }
 read_past key (suc passed) (b ∷ file) = read_past key passed file
-read_past key zero (b ∷ file) = before (front key (b ∷ file)) (λ passed. read_past key passed file)
+read_past key zero (b ∷ file) = before (first_frame key (b ∷ file)) (λ passed. read_past key passed file)
 
 -- the payloads of a file, up to the first place where no whole frame stands
 abbrev pub recovered : ℕ → List ℕ → List (List ℕ)

@@ -1,5 +1,5 @@
 ghost use Rattle.std.specs.Prelude.{◌≡◌, ◌+◌, ◌<◌, ◌≤◌, ◌^◌, ◌∷◌, [], ◌++◌, length, drop, Ok, Err, IfOk, IfErr, OnOk, OnErr, MatchResult};
-ghost use Rattle.journal_frames.specs.Frames.{frame, front, judged, number_at, opened, recovered, tail_of, weighed, Fits, Stands};
+ghost use Rattle.journal_frames.specs.Frames.{frame, first_frame, judged, number_at, opened, recovered, tail_of, weighed, Fits, Stands};
 
 use crate::tail::Tail;
 use crate::writer::{BODY_MAX, HEADER_LEN, balance};
@@ -38,7 +38,7 @@ impl<'a> Frames<'a> {
         ensures tail { IfErr result (λ tail. tail_of self.old.key self.old.rest.now ≡ tail) }
         ensures unchanged { OnErr result (self.new.rest.now ≡ self.old.rest.now) }
     {
-        let payload = front(self.key, self.rest)?;
+        let payload = first_frame(self.key, self.rest)?;
         let (_, rest) = self.rest.split_at(HEADER_LEN + payload.len());
         self.rest = rest;
         Ok(payload)
@@ -46,9 +46,9 @@ impl<'a> Frames<'a> {
 }
 
 // The payload of the frame that stands first, or what else stands there.
-#[tactic(auto, unfolding(crate::specs::Frames::front))]
-fn front(key: u64, file: &[u8]) -> Result<&[u8], Tail>
-    ensures value { MatchResult result (λ payload. front key file.now ≡ Ok payload.now) (λ tail. front key file.now ≡ Err tail) }
+#[tactic(auto, unfolding(crate::specs::Frames::first_frame))]
+fn first_frame(key: u64, file: &[u8]) -> Result<&[u8], Tail>
+    ensures value { MatchResult result (λ payload. first_frame key file.now ≡ Ok payload.now) (λ tail. first_frame key file.now ≡ Err tail) }
     ensures stands { IfOk result (λ payload. Stands key file.now payload.now) }
 {
     if file.len() < 16 {
@@ -107,9 +107,9 @@ fn number_at(bytes: &[u8]) -> (u64, &[u8])
     ensures number { result.0 ≡ number_at bytes.now }
     ensures behind { result.1.now ≡ drop 8 bytes.now }
 {
-    let (front, rest) = bytes.split_at(8);
+    let (number, rest) = bytes.split_at(8);
     let number = u64::from_be_bytes([
-        front[0], front[1], front[2], front[3], front[4], front[5], front[6], front[7],
+        number[0], number[1], number[2], number[3], number[4], number[5], number[6], number[7],
     ]);
     (number, rest)
 }

@@ -61,8 +61,8 @@ replay-first : (b : PlainBook) (first more : List Event) → AllHappen b (map {A
 replay-first b [] more all = tt
 replay-first b (e ∷ first) more all = (all.0, replay-first (book_after_event b (change_event e)) first more all.1)
 
-replay-front : (s : Settings) (kept first more : List Event) → CanBeReplayed s kept (first ++ more) → CanBeReplayed s kept first
-replay-front s kept first more all = replay-first (book_at s kept) first more all
+replay-durable : (s : Settings) (kept first more : List Event) → CanBeReplayed s kept (first ++ more) → CanBeReplayed s kept first
+replay-durable s kept first more all = replay-first (book_at s kept) first more all
 
 -- the records behind some of which a book is made are made on that book
 goes-more : (number : ℕ) (first more : List (List ℕ)) (next : PlainBook) (made : Option PlainBook)
@@ -100,7 +100,7 @@ make-more s kept more records make others =
 pub left-more : (key : ℕ) (s : Settings) (kept more : List Event) (records : List (List ℕ)) (c : List ℕ) → HaveHappened s (kept ++ more) → MakeBook s kept records → CanBeReplayed s kept more → Leaves key records (event_records more) c → IsLeft key s kept c
 left-more key s kept more records c happened make others left =
     let n = left.kept in
-    let front = replay-front s kept (take n more) (drop n more) (subst (CanBeReplayed s kept) (sym (take-append-drop n more)) others) in
+    let durable = replay-durable s kept (take n more) (drop n more) (subst (CanBeReplayed s kept) (sym (take-append-drop n more)) others) in
     let are = left.payloads ∙ ap (λ (rs : List (List ℕ)). records ++ rs) (records-take n more) in
     let all : (kept ++ take n more) ++ drop n more ≡ kept ++ more = append_assoc kept (take n more) (drop n more) ∙ ap (λ (events : List Event). kept ++ events) (take-append-drop n more) in
     record {
@@ -108,7 +108,7 @@ left-more key s kept more records c happened make others left =
       begins = (take n more, refl);
       happened = happened-first s (kept ++ take n more) (drop n more) (subst (HaveHappened s) (sym all) happened);
       torn = left.behind;
-      make = ap (replayed 1 (opening_book s)) are ∙ make-more s kept (take n more) records make front;
+      make = ap (replayed 1 (opening_book s)) are ∙ make-more s kept (take n more) records make durable;
     }
 
 -- what is left of more is left of less
@@ -135,13 +135,13 @@ module _ {D : Type 0} {g : Ghosts D} where
   no-other key s kept other none = subst (OtherLeaves key s kept) (sym none) tt
 
   -- a journal that was made longer, and has room for all that is promised now
-  pub kept-longer : (old new : Journal D g) (other : Option (Journal D g)) (s : Settings) (log : Book) (own : Option ℕ) (honest : Bool) (front : Book) (kept : List Event) (before now : ℕ) (failed : Bool)
-      → failed ≡ false → IsKeeper s log own honest old other front kept before failed → key_of new ≡ key_of old
+  pub kept-longer : (old new : Journal D g) (other : Option (Journal D g)) (s : Settings) (log : Book) (own : Option ℕ) (honest : Bool) (durable : Book) (kept : List Event) (before now : ℕ) (failed : Bool)
+      → failed ≡ false → IsKeeper s log own honest old other durable kept before failed → key_of new ≡ key_of old
       → ((payloads : List (List ℕ)) → IsJournal old payloads [] → IsJournal new payloads []) → now ≤ room_of new
-      → IsKeeper s log own honest new other front kept now failed
-  kept-longer old new other s log own honest front kept before now failed well is key stays covers = record {
+      → IsKeeper s log own honest new other durable kept now failed
+  kept-longer old new other s log own honest durable kept before now failed well is key stays covers = record {
     key = is.key ∙ ap (λ (k : ℕ). Some k) (sym key);
-    front_log = is.front_log;
+    durable_log = is.durable_log;
     happened = is.happened;
     holds = λ well honest. longer (is.holds well honest);
     left = λ honest c may. left-all new s kept is.happened (longer (is.holds well honest)) c may;
@@ -154,13 +154,13 @@ module _ {D : Type 0} {g : Ghosts D} where
       longer keeps = record { records = keeps.records; holds = stays keeps.records keeps.holds; make = keeps.make }
 
   -- a journal that keeps more events
-  pub kept-more : (old new : Journal D g) (other : Option (Journal D g)) (s : Settings) (log : Book) (own : Option ℕ) (honest : Bool) (front reached_log : Book) (kept reached : List Event) (before now : ℕ) (failed : Bool)
-      → failed ≡ false → IsKeeper s log own honest old other front kept before failed → key_of new ≡ key_of old → reached_log ≡ log → HaveHappened s reached
+  pub kept-more : (old new : Journal D g) (other : Option (Journal D g)) (s : Settings) (log : Book) (own : Option ℕ) (honest : Bool) (durable reached_log : Book) (kept reached : List Event) (before now : ℕ) (failed : Bool)
+      → failed ≡ false → IsKeeper s log own honest old other durable kept before failed → key_of new ≡ key_of old → reached_log ≡ log → HaveHappened s reached
       → (KeepsBook s old kept → KeepsBook s new reached) → (before ≤ room_of old → now ≤ room_of new)
       → IsKeeper s log own honest new other reached_log reached now false
-  kept-more old new other s log own honest front reached_log kept reached before now failed well is key log_is happened keeps covers = record {
+  kept-more old new other s log own honest durable reached_log kept reached before now failed well is key log_is happened keeps covers = record {
     key = is.key ∙ ap (λ (k : ℕ). Some k) (sym key);
-    front_log = log_is;
+    durable_log = log_is;
     happened = happened;
     holds = λ _ honest. keeps (is.holds well honest);
     left = λ honest c may. left-all new s reached happened (keeps (is.holds well honest)) c may;
@@ -170,12 +170,12 @@ module _ {D : Type 0} {g : Ghosts D} where
   }
 
   -- another journal that keeps the same events, and has room for all that is promised
-  pub kept-instead : (old new : Journal D g) (other : Option (Journal D g)) (s : Settings) (log : Book) (own : Option ℕ) (honest : Bool) (front : Book) (kept : List Event) (promised : ℕ) (failed : Bool)
-      → failed ≡ false → IsKeeper s log own honest old other front kept promised failed → key_of new ≡ key_of old → promised ≤ room_of new → KeepsBook s new kept
-      → IsKeeper s log own honest new other front kept promised failed
-  kept-instead old new other s log own honest front kept promised failed well is key room keeps = record {
+  pub kept-instead : (old new : Journal D g) (other : Option (Journal D g)) (s : Settings) (log : Book) (own : Option ℕ) (honest : Bool) (durable : Book) (kept : List Event) (promised : ℕ) (failed : Bool)
+      → failed ≡ false → IsKeeper s log own honest old other durable kept promised failed → key_of new ≡ key_of old → promised ≤ room_of new → KeepsBook s new kept
+      → IsKeeper s log own honest new other durable kept promised failed
+  kept-instead old new other s log own honest durable kept promised failed well is key room keeps = record {
     key = is.key ∙ ap (λ (k : ℕ). Some k) (sym key);
-    front_log = is.front_log;
+    durable_log = is.durable_log;
     happened = is.happened;
     holds = λ _ _. keeps;
     left = λ _ c may. left-all new s kept is.happened keeps c may;
@@ -185,12 +185,12 @@ module _ {D : Type 0} {g : Ghosts D} where
   }
 
   -- another one that may have taken its place
-  pub kept-beside : (old new : Journal D g) (other : Option (Journal D g)) (s : Settings) (log : Book) (own : Option ℕ) (honest : Bool) (front : Book) (kept : List Event) (promised : ℕ) (failed : Bool)
-      → IsKeeper s log own honest old other front kept promised failed → key_of new ≡ key_of old → KeepsBook s new kept
-      → IsKeeper s log own honest old (Some new) front kept promised true
-  kept-beside old new other s log own honest front kept promised failed is key keeps = record {
+  pub kept-beside : (old new : Journal D g) (other : Option (Journal D g)) (s : Settings) (log : Book) (own : Option ℕ) (honest : Bool) (durable : Book) (kept : List Event) (promised : ℕ) (failed : Bool)
+      → IsKeeper s log own honest old other durable kept promised failed → key_of new ≡ key_of old → KeepsBook s new kept
+      → IsKeeper s log own honest old (Some new) durable kept promised true
+  kept-beside old new other s log own honest durable kept promised failed is key keeps = record {
     key = is.key;
-    front_log = is.front_log;
+    durable_log = is.durable_log;
     happened = is.happened;
     holds = λ well _. absurd (cc (well));
     left = is.left;

@@ -50,5 +50,5 @@ pub more-split : (more : List (List ℕ)) (i : ℕ) → i < length more → (tak
 more-split more i within = ap (λ (l : List (List ℕ)). l ++ drop (i + 1) more) (sym (take_more more i [] within)) ∙ take-append-drop (i + 1) more
 
 -- a crash that leaves all that was synced and the first so many of the first payloads leaves the first so many of all
-pub leaves-front : (key : ℕ) (payloads front behind all : List (List ℕ)) (c : List ℕ) → front ++ behind ≡ all → Leaves key payloads front c → Leaves key payloads all c
-leaves-front key payloads front behind all c is left = subst (λ (l : List (List ℕ)). Leaves key payloads l c) is (leaves_more key payloads front behind c left)
+pub leaves-durable : (key : ℕ) (payloads durable behind all : List (List ℕ)) (c : List ℕ) → durable ++ behind ≡ all → Leaves key payloads durable c → Leaves key payloads all c
+leaves-durable key payloads durable behind all c is left = subst (λ (l : List (List ℕ)). Leaves key payloads l c) is (leaves_more key payloads durable behind c left)

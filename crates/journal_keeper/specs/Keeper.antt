@@ -68,9 +68,9 @@ pub record CountsSync {D : Type 0} (before after : KeeperView D) : Type 0 where
 -- the disk had told no lie when the journal was opened: while no write or sync has failed, the journal has records of which the
 -- book after these events is made, and no other one may have taken its place; and failed or not, a crash leaves such records, on
 -- whichever disk. The journal has room for all that was granted.
-pub record IsKeeper {D : Type 0} {g : Ghosts D} (s : Settings) (log : Book) (own : Option ℕ) (honest : Bool) (journal : Journal D g) (other : Option (Journal D g)) (front : Book) (kept : List Event) (promised : ℕ) (failed : Bool) : Type 0 where
+pub record IsKeeper {D : Type 0} {g : Ghosts D} (s : Settings) (log : Book) (own : Option ℕ) (honest : Bool) (journal : Journal D g) (other : Option (Journal D g)) (durable : Book) (kept : List Event) (promised : ℕ) (failed : Bool) : Type 0 where
   pub key : own ≡ Some (key_of journal)
-  pub front_log : front ≡ log
+  pub durable_log : durable ≡ log
   pub happened : HaveHappened s kept
   pub holds : failed ≡ false → IsTrue honest → KeepsBook s journal kept
   pub left : IsTrue honest → (c : List ℕ) → g.may_leave (disk_of journal) c → IsLeft (key_of journal) s kept c

@@ -228,7 +228,7 @@ impl<D: Disk + Drop, C: Journalled> Keeper<D, C> {
     {
         self.has_failed = true;
         self.compaction = None;
-        let Some(taken) = shared.take_with_snapshot(rt, self.alloc, &self.front) else {
+        let Some(taken) = shared.take_with_snapshot(rt, self.alloc, &self.durable) else {
             return Err(KeepFault::Queue);
         };
         let RecordsAndSnapshot { records, snapshot } = taken;
@@ -236,13 +236,13 @@ impl<D: Disk + Drop, C: Journalled> Keeper<D, C> {
         keep_taken::<D, C, W>(
             rt,
             &mut self.journal,
-            &self.front,
+            &self.durable,
             &records,
             &mut self.granted,
             &mut synced,
         )?;
         let Records { frames: _, reached } = records;
-        self.front = reached;
+        self.durable = reached;
         self.synced = synced;
         self.has_failed = false;
         let Ok(rooms) = snapshot else {

@@ -32,7 +32,7 @@ use tus_shared::{Desk, Records, SeenEvents, Shared};
 pub struct Keeper<D: Disk, C: Journalled> {
     pub(crate) alloc: Global,
     pub(crate) journal: Journal<D>,
-    pub(crate) front: SeenEvents,
+    pub(crate) durable: SeenEvents,
     pub(crate) granted: u64,
     pub(crate) has_failed: bool,
     pub(crate) synced: SyncCounts,
@@ -62,7 +62,7 @@ impl<D: Disk, C: Journalled> Model for Keeper<D, C> {
 
     ghost view = { λ k. record {
       key = key_of k.journal;
-      kept = k.front.events;
+      kept = k.durable.events;
       failed = k.has_failed;
       promised = k.granted;
       room = room_of k.journal;
@@ -72,21 +72,21 @@ impl<D: Disk, C: Journalled> Model for Keeper<D, C> {
       maybe_in_place = option_map (λ it. disk_of it) k.maybe_in_place;
     } };
 
-    ghost invariant = { λ k. IsKeeper C.settings C.log C.journal C.honest k.journal k.maybe_in_place k.front.book k.front.events k.granted k.has_failed
-        × IfSome k.compaction (λ c. WillKeep C.settings c (key_of k.journal) k.front.events) };
+    ghost invariant = { λ k. IsKeeper C.settings C.log C.journal C.honest k.journal k.maybe_in_place k.durable.book k.durable.events k.granted k.has_failed
+        × IfSome k.compaction (λ c. WillKeep C.settings c (key_of k.journal) k.durable.events) };
 }
 
 impl<D: Disk + Drop, C: Journalled> Keeper<D, C> {
     /// A keeper of events, where a journal has records of which the book after these is made, all synced, and no others. None
     /// of its room was granted, and it has synced nothing.
-    pub fn new(alloc: Global, journal: Journal<D>, front: SeenEvents) -> Keeper<D, C>
+    pub fn new(alloc: Global, journal: Journal<D>, durable: SeenEvents) -> Keeper<D, C>
         requires key { C.journal ≡ Some (key_of journal) }
-        requires log { front.book ≡ C.log }
-        requires happened { HaveHappened C.settings front.events }
-        requires journal { IsTrue C.honest → KeepsBook C.settings journal front.events }
+        requires log { durable.book ≡ C.log }
+        requires happened { HaveHappened C.settings durable.events }
+        requires journal { IsTrue C.honest → KeepsBook C.settings journal durable.events }
         ensures { result ≡ record {
           key = key_of journal;
-          kept = front.events;
+          kept = durable.events;
           failed = false;
           promised = 0;
           room = room_of journal;
@@ -99,7 +99,7 @@ impl<D: Disk + Drop, C: Journalled> Keeper<D, C> {
         Keeper {
             alloc,
             journal,
-            front,
+            durable,
             granted: 0,
             has_failed: false,
             synced: SyncCounts::none(),
@@ -124,7 +124,7 @@ impl<D: Disk + Drop, C: Journalled> Keeper<D, C> {
     pub fn kept(&self) -> SeenEvents
         ensures { result ≡ record { book = C.log; events = self.now.kept } }
     {
-        self.front.again()
+        self.durable.again()
     }
 
     /// What it has synced since it was made, and how large its journal is.
@@ -178,7 +178,7 @@ impl<D: Disk + Drop, C: Journalled> Keeper<D, C> {
         ensures left { IsTrue C.honest
             → (c : List ℕ) → MayBeLeft D.may_leave self.now c → IsLeft self.now.key C.settings self.now.kept c }
     {
-        let _kept = &self.front;
+        let _kept = &self.durable;
     }
 
     /// Keeps all that this desk has seen, and tells it so. Where that is kept already, as by a call for another desk, nothing
@@ -221,25 +221,25 @@ impl<D: Disk + Drop, C: Journalled> Keeper<D, C> {
             return Err(KeepFault::Ended);
         }
         let seen = desk.seen_events();
-        if seen.begins(&self.front) {
-            let told = tell(&self.front, desk);
+        if seen.begins(&self.durable) {
+            let told = tell(&self.durable, desk);
             self.has_failed = told.is_err();
             return told;
         }
         self.has_failed = true;
-        let taken = take_behind(rt, shared, &self.front, &seen)?;
+        let taken = take_behind(rt, shared, &self.durable, &seen)?;
         let mut synced = self.synced;
         keep_taken::<D, C, W>(
             rt,
             &mut self.journal,
-            &self.front,
+            &self.durable,
             &taken,
             &mut self.granted,
             &mut synced,
         )?;
         tell(&taken.reached, desk)?;
         let Records { frames, reached } = taken;
-        self.front = reached;
+        self.durable = reached;
         let goes_on = self.compaction.is_some();
         self.compaction = with_kept(self.compaction.take(), frames);
         self.has_lost = self.has_lost || (goes_on && self.compaction.is_none());

@@ -136,9 +136,9 @@ where
     }) }
 {
     let records = make_all_again(store, desk, Frames::new(key, &opened.frames), progress)?;
-    let front = desk.seen_events();
-    desk.learn_kept(&front);
-    let keeper = Keeper::new(alloc, opened.journal, front);
+    let durable = desk.seen_events();
+    desk.learn_kept(&durable);
+    let keeper = Keeper::new(alloc, opened.journal, durable);
     Ok(Reopened { keeper, records })
 }
 

@@ -67,8 +67,8 @@ impl<D: Disk + Drop, C: Journalled> SharedKeeper<D, C> {
         ensures desk { desk.new ≡ record desk.old { kept = desk.new.kept } }
         ensures same { result ≡ false → desk.new ≡ desk.old }
     {
-        let front = self.told.lock(rt).front();
-        desk.seen_events().begins(&front) && tell(&front, desk).is_ok()
+        let durable = self.told.lock(rt).durable();
+        desk.seen_events().begins(&durable) && tell(&durable, desk).is_ok()
     }
 
     /// Sees to it that a desk may queue so many bytes of records, and 65,536 more, where the journal has or gets room for

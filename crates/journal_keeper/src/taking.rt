@@ -28,30 +28,30 @@ use tus_shared::{Charges, Desk, Records, SeenEvents, Shared};
 pub(crate) fn keep_taken<D: Disk, C: Charges, W: time::Clock>(
     rt: &W,
     journal: &mut Journal<D>,
-    front: &SeenEvents,
+    durable: &SeenEvents,
     taken: &Records,
     granted: &mut u64,
     synced: &mut SyncCounts,
 ) -> Result<(), KeepFault>
     requires key { C.journal ≡ Some (key_of journal.old) }
-    requires happened { HaveHappened C.settings front.now.events }
-    requires taken { AreTaken C.settings C.journal front.now.events taken.now.reached.events (map (λ frame. frame.items) taken.now.frames.items) }
-    ensures kept { KeepsBook C.settings journal.old front.now.events
+    requires happened { HaveHappened C.settings durable.now.events }
+    requires taken { AreTaken C.settings C.journal durable.now.events taken.now.reached.events (map (λ frame. frame.items) taken.now.frames.items) }
+    ensures kept { KeepsBook C.settings journal.old durable.now.events
         → OnOk result (KeepsBook C.settings journal.new taken.now.reached.events) }
     // Whatever it answers, a crash leaves all that was kept.
-    ensures crash { KeepsBook C.settings journal.old front.now.events
-        → (c : List ℕ) → D.may_leave (disk_of journal.new) c → IsLeft (key_of journal.old) C.settings front.now.events c }
+    ensures crash { KeepsBook C.settings journal.old durable.now.events
+        → (c : List ℕ) → D.may_leave (disk_of journal.new) c → IsLeft (key_of journal.old) C.settings durable.now.events c }
     ensures key { key_of journal.new ≡ key_of journal.old }
     // A frame can hold each of the records.
     ensures fit { (records : List (List ℕ))
         → map (λ frame. frame.items) taken.now.frames.items ≡ frames_each (key_of journal.old) records
         → OnOk result (AllByRecursion Fits records) }
     ensures used { OnOk result (granted.new
-        ≡ granted.old - (journal_len C.journal taken.now.reached.events - journal_len C.journal front.now.events)) }
+        ≡ granted.old - (journal_len C.journal taken.now.reached.events - journal_len C.journal durable.now.events)) }
     ensures covered { granted.old ≤ room_of journal.old → OnOk result (granted.new ≤ room_of journal.new) }
     ensures once { OnOk result (synced.new.syncs ≡ more 1 synced.old.syncs) }
     ensures each { OnOk result (synced.new.records
-        ≡ more (length taken.now.reached.events - length front.now.events) synced.old.records) }
+        ≡ more (length taken.now.reached.events - length durable.now.events) synced.old.records) }
     ensures longer { synced.old.micros ≤ synced.new.micros }
     ensures sure { ¬ (IsErrOf result KeepFault.Place) }
 {
@@ -67,17 +67,17 @@ pub(crate) fn keep_taken<D: Disk, C: Charges, W: time::Clock>(
 pub(crate) fn take_behind<C: Charges, R: Ledger, M: Ledger, B: Wait + Drop, W: Wait>(
     rt: &W,
     shared: &Shared<C, R, M, B>,
-    front: &SeenEvents,
+    durable: &SeenEvents,
     seen: &SeenEvents,
 ) -> Result<Records, KeepFault>
-    requires front { front.now.book ≡ C.log }
+    requires durable { durable.now.book ≡ C.log }
     requires seen { seen.now.book ≡ C.log }
     ensures log { IfOk result (λ taken. taken.reached.book ≡ C.log) }
     ensures taken { IfOk result (λ taken.
-        AreTaken C.settings C.journal front.now.events taken.reached.events (map (λ frame. frame.items) taken.frames.items)) }
+        AreTaken C.settings C.journal durable.now.events taken.reached.events (map (λ frame. frame.items) taken.frames.items)) }
     ensures seen { IfOk result (λ taken. IsPrefix seen.now.events taken.reached.events) }
 {
-    let Some(taken) = shared.take_records(rt, front) else {
+    let Some(taken) = shared.take_records(rt, durable) else {
         return Err(KeepFault::Queue);
     };
     if !seen.begins(&taken.reached) {
@@ -89,19 +89,19 @@ pub(crate) fn take_behind<C: Charges, R: Ledger, M: Ledger, B: Wait + Drop, W: W
 /// Tells a desk how far the events are kept, which is no less than it has seen. `Err` where it was told of more, and of other
 /// events than those that it has seen; then it stays.
 pub(crate) fn tell<C: Charges, R: Ledger, M: Ledger>(
-    front: &SeenEvents,
+    durable: &SeenEvents,
     desk: &mut Desk<C, R, M>,
 ) -> Result<(), KeepFault>
-    requires log { front.now.book ≡ C.log }
-    requires seen { IsPrefix desk.old.seen front.now.events }
+    requires log { durable.now.book ≡ C.log }
+    requires seen { IsPrefix desk.old.seen durable.now.events }
     ensures told { OnOk result (IsPrefix desk.new.seen desk.new.kept) }
-    ensures learns { OnOk result (IsPrefix desk.old.kept front.now.events
-        → desk.new ≡ record desk.old { kept = front.now.events }) }
+    ensures learns { OnOk result (IsPrefix desk.old.kept durable.now.events
+        → desk.new ≡ record desk.old { kept = durable.now.events }) }
     ensures desk { OnOk result (desk.new ≡ record desk.old { kept = desk.new.kept }) }
     ensures same { OnErr result (desk.new ≡ desk.old) }
     ensures seen { desk.new.seen ≡ desk.old.seen }
 {
-    desk.learn_kept(front);
+    desk.learn_kept(durable);
     if !desk.is_kept() {
         return Err(KeepFault::Desk);
     }

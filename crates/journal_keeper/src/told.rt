@@ -14,11 +14,11 @@ use std::time::Instant;
 #[derive(Drop)]
 pub(crate) struct Told<C: Journalled> {
     pub(crate) numbers: KeeperNumbers,
-    front: SeenEvents,
+    durable: SeenEvents,
     // When somebody was last told that it is time for a look at the journal's size, and for a mark.
     looked: Option<Instant>,
     opening: PhantomData<C>,
-    ghost log: { front.book ≡ C.log },
+    ghost log: { durable.book ≡ C.log },
 }
 
 impl<C: Journalled> Told<C> {
@@ -26,7 +26,7 @@ impl<C: Journalled> Told<C> {
     pub(crate) fn by<D: Disk + Drop>(keeper: &Keeper<D, C>) -> Told<C> {
         Told {
             numbers: keeper.numbers(),
-            front: keeper.kept(),
+            durable: keeper.kept(),
             looked: None,
             opening: PhantomData,
         }
@@ -35,7 +35,7 @@ impl<C: Journalled> Told<C> {
     /// What this keeper tells, after what was told before.
     pub(crate) fn renew<D: Disk + Drop>(&mut self, keeper: &Keeper<D, C>) {
         self.numbers = keeper.numbers();
-        self.front = keeper.kept();
+        self.durable = keeper.kept();
     }
 
     /// Whether it is time for a look at the journal's size, and for a mark: nobody was told so in this second.
@@ -48,9 +48,9 @@ impl<C: Journalled> Told<C> {
     }
 
     /// How far the events are kept.
-    pub(crate) fn front(&self) -> SeenEvents
+    pub(crate) fn durable(&self) -> SeenEvents
         ensures { result.book ≡ C.log }
     {
-        self.front.again()
+        self.durable.again()
     }
 }

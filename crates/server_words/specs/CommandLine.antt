@@ -101,8 +101,8 @@ with_service command =
     (option_between (codes "idle") (codes "60") 0 86400)
 
 -- the options on how many clients are served at once, and what they may take
-abbrev pub with_crowds : App → App
-with_crowds command =
+abbrev pub with_many_clients : App → App
+with_many_clients command =
     with_rule
     (with_rule
     (with_rule
@@ -132,7 +132,7 @@ serve_command =
     with_rule
     (with_sizes
     (with_rule
-    (with_rule (with_watch (with_crowds (with_service (new_app (codes "serve"))))) moment_rule)
+    (with_rule (with_watch (with_many_clients (with_service (new_app (codes "serve"))))) moment_rule)
     journal_rule))
     tenant_rule
 

@@ -2,7 +2,7 @@
 ghost use Rattle.std.specs.Prelude.{◌≡◌, ◌≤◌, IfOk, IsTrue, codes, false, length, map, true};
 ghost use Rattle.clap.specs.Walk.{texts};
 ghost use Rattle.clap.specs.Words.{FailsBy, HasKind, app_of, fault_of, new_app, rule_of, subcommand_of, subcommand_rows_of};
-ghost use Rattle.server_words.specs.CommandLine.{are_of_journal, ask_help_of_journal, check_command, command_in, export_command, faults_in, flag_rule, help_kinds, is_word, journal_alone, journal_program, journal_rule, log_rule, moment_rule, option_between, option_rule, program, number_rule, program_alone, serve_command, talk_command, tenant_rule, text_rule, with_crowds, with_service, with_sizes, with_watch, word_rule};
+ghost use Rattle.server_words.specs.CommandLine.{are_of_journal, ask_help_of_journal, check_command, command_in, export_command, faults_in, flag_rule, help_kinds, is_word, journal_alone, journal_program, journal_rule, log_rule, moment_rule, option_between, option_rule, program, number_rule, program_alone, serve_command, talk_command, tenant_rule, text_rule, with_many_clients, with_service, with_sizes, with_watch, word_rule};
 
 use crate::version::VERSION;
 use clap::{Arg, ArgAction, ArgMatches, Command, value_parser};
@@ -311,8 +311,8 @@ fn serve<'a>(alloc: Global) -> Result<Command<'a>, AllocError>
     ensures { IfOk result (λ c. app_of c ≡ serve_command) }
 {
     let served = service(alloc, serve_alone(alloc))?;
-    let crowded = crowds(alloc, served)?;
-    let command = watch(alloc, crowded)?
+    let with_clients = many_clients(alloc, served)?;
+    let command = watch(alloc, with_clients)?
         .arg(set_moment(alloc))?
         .arg(journal(alloc))?;
     sizes(alloc, command)?.arg(tenants(alloc))
@@ -341,8 +341,8 @@ fn service<'a>(alloc: Global, command: Command<'a>) -> Result<Command<'a>, Alloc
 }
 
 /// The options on how many clients are served at once, and what they may take.
-fn crowds<'a>(alloc: Global, command: Command<'a>) -> Result<Command<'a>, AllocError>
-    ensures { IfOk result (λ c. app_of c ≡ with_crowds (app_of command.entry)) }
+fn many_clients<'a>(alloc: Global, command: Command<'a>) -> Result<Command<'a>, AllocError>
+    ensures { IfOk result (λ c. app_of c ≡ with_many_clients (app_of command.entry)) }
 {
     command
         .arg(at_once(alloc))?

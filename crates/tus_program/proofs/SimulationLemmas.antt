@@ -2,7 +2,7 @@
 use Rattle.std.proofs.Common.{◌≡◌, ℕ, Bool, true, false, List, [], ◌∷◌, inl, inr, refl, sym, subst}
 use Rattle.http_wire.specs.Conversation.{Course, Conversation, EndsWith, Goes, MessageTurn}
 use Rattle.http_wire.specs.Exchange.{Exchange, last_part}
-use Rattle.http_wire.specs.Front.{Front, message, refused, cut_patch, cut_other, clean_end}
+use Rattle.http_wire.specs.NextMessage.{NextMessage, message, refused, cut_patch, cut_other, clean_end}
 use Rattle.http_wire.specs.Turns.{Breaks, BreaksOff, FailsIn}
 use Rattle.http_wire.specs.declared.conversation.Ended.{Ended}
 use Rattle.http_wire.specs.declared.fault.WireFault.{WireFault}
@@ -27,9 +27,9 @@ module _ {A B : Type 0} (steps : A → Request → ℕ → Reply → A → Type 
   Goes-like true next then x e p like later h = EndsWith-like _ _ x e p like h
   Goes-like false next then x e p like later h = later h
 
-  MessageTurn-like : (now : ℕ) (next : Course A) (then : Course B) (front : Front) (x : Exchange A) (e : Ended) (p : B) → Like x.before p
+  MessageTurn-like : (now : ℕ) (next : Course A) (then : Course B) (next_message : NextMessage) (x : Exchange A) (e : Ended) (p : B) → Like x.before p
       → ((y : Exchange A) (q : B) → Like y.before q → next y e → (last : B) × Like y.after last × then (between y q last) e)
-      → MessageTurn steps now next front x e → (q : B) × Like x.after q × MessageTurn others now then front (between x p q) e
+      → MessageTurn steps now next next_message x e → (q : B) × Like x.after q × MessageTurn others now then next_message (between x p q) e
   MessageTurn-like now next then (message request framing waiting rest) x e p like later h =
       let made = on x.before p request now h.0 h.1 like h.3 in
       let y = last_part x rest h.1 h.2 in
@@ -50,7 +50,7 @@ module _ {A B : Type 0} (steps : A → Request → ℕ → Reply → A → Type 
       let turn = MessageTurn-like now (Conversation steps max moments) (Conversation others max moments) h.0 x e p like (λ y q there rest. Conversation-like moments y e q there rest) h.2 in
       (turn.0, turn.1, (h.0, h.1, turn.2))
 
-  FailsIn-like : (now : ℕ) (front : Front) (x : Exchange A) (p : B) → Like x.before p → FailsIn steps max now front x → (q : B) × Like x.after q × FailsIn others max now front (between x p q)
+  FailsIn-like : (now : ℕ) (next_message : NextMessage) (x : Exchange A) (p : B) → Like x.before p → FailsIn steps max now next_message x → (q : B) × Like x.after q × FailsIn others max now next_message (between x p q)
   FailsIn-like now (message request framing waiting rest) x p like (inl h) = (p, stays x.before x.after p h.1 like, inl (h.0, refl, h.2))
   FailsIn-like now (message request framing waiting rest) x p like (inr h) =
       let made = on x.before p request now h.0 x.after like h.2 in
@@ -75,7 +75,7 @@ module _ {A B : Type 0} (steps : A → Request → ℕ → Reply → A → Type 
           h.1,
           h.2,
           made.0,
-          record { request = h.4.request; framing = h.4.framing; waiting = h.4.waiting; reply = h.4.reply; front = h.4.front; stays = h.4.stays; step = made.2; wrote = h.4.wrote },
+          record { request = h.4.request; framing = h.4.framing; waiting = h.4.waiting; reply = h.4.reply; next_message = h.4.next_message; stays = h.4.stays; step = made.2; wrote = h.4.wrote },
           later.2,
           h.6,
         ),

@@ -37,7 +37,7 @@ use upload_book::Settings;
 
 /// Serves connections as [`crate::serve::serve`] says, over the book that the journal of this disk keeps: all changes are made
 /// again whose records it has, and no reply is sent before it has all that this tells. Where it becomes large, a smaller one is
-/// written beside it, and takes its place on the shelf. Where the settings beside it are others, these are put in their place
+/// written beside it, and takes its place on the location. Where the settings beside it are others, these are put in their place
 /// once all changes were made again, and before a connection is accepted.
 ///
 /// The error is that of `serve`, or the journal's: Damaged or Record where the file is none of a journal, or of one of other
@@ -65,7 +65,7 @@ pub fn serve_kept<
     options: &ServeOptions,
     place: SocketAddr,
     disk: D,
-    shelf: P,
+    location: P,
     file: &mut F,
     output: &mut W,
 ) -> Result<(), RunFault>
@@ -102,7 +102,7 @@ where
         place,
         &start,
         opened,
-        shelf,
+        location,
         Blank::new(16),
         Blank::new(16),
         Blank::new(16),
@@ -141,7 +141,7 @@ fn serve_journalled<
     place: SocketAddr,
     start: &Option<Instant>,
     journal: OpenedJournal<D>,
-    shelf: P,
+    location: P,
     charged: Blank,
     released: Blank,
     made: Blank,
@@ -209,7 +209,7 @@ where
     desks.push_reserved(desk);
     let keeping = InJournal {
         keeper: SharedKeeper::new(reopened.keeper),
-        place: shelf,
+        place: location,
     };
     let served = serve_desks::<L, C, R, M, H, &H, InJournal<D, C, P>, W>(
         rt,

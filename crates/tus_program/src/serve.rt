@@ -35,7 +35,7 @@ use std::thread::Threads;
 use std::time;
 use tus_shared::{Charges, Desk, Opened, Shared, settle};
 use tus_workers::{
-    Accept, Commons, Keeping, Listener, LogTarget, NoJournal, Watching, Worker, any_failed,
+    Accept, Keeping, Listener, LogTarget, NoJournal, ServerState, Watching, Worker, any_failed,
     dismiss, hire, within_descriptors, work_all,
 };
 use upload_book::Settings;
@@ -87,11 +87,11 @@ where
         let Folder {
             mut disk,
             mut file,
-            place: shelf,
+            place: location,
         } = open_renewed(journals, alloc, path, &settings)?;
         check_settings(alloc, &mut file, &mut disk, &settings)?;
         return serve_kept::<L, D, J::File, J::Place, H, W>(
-            rt, alloc, settings, options, place, disk, shelf, &mut file, output,
+            rt, alloc, settings, options, place, disk, location, &mut file, output,
         );
     }
     serve_with::<L, Brand, Brand, Brand, H, W>(
@@ -294,7 +294,7 @@ where
         ended.desks.items ended.has_failed) }
 {
     let work = within_descriptors(rt, work_of(&options.work), options.workers);
-    let commons = commons_for(rt, alloc, options, place, &work)?;
+    let server_state = server_state_for(rt, alloc, options, place, &work)?;
     let at = listen_for::<L, C, R, M, H>(rt, alloc, place, desks)?;
     let Listening {
         listener,
@@ -311,7 +311,7 @@ where
         keeping,
         workers.as_mut_slice(),
         work,
-        &commons,
+        &server_state,
     );
     let has_failed = any_failed(workers.as_slice());
     Ok(EndedWorkers {
@@ -322,7 +322,7 @@ where
 
 /// What the workers share, which watches them where the options ask for that. The error is that there is no memory, or that one
 /// of the files and sockets for it can't be had.
-fn commons_for<
+fn server_state_for<
     H: Threads
         + Wait
         + Net<Stream = TcpStream, Listener = TcpListener>
@@ -338,13 +338,13 @@ fn commons_for<
     options: &ServeOptions,
     place: SocketAddr,
     work: &WorkOptions,
-) -> Result<Commons, RunFault>
+) -> Result<ServerState, RunFault>
     ensures { IfErr result (λ fault. is_before_listening fault ≡ true) }
 {
-    let commons = Commons::new(alloc, options.workers, work)?;
-    let mut commons = watched(rt, alloc, commons, options, place)?;
-    commons.watch(rt)?;
-    Ok(commons)
+    let server_state = ServerState::new(alloc, options.workers, work)?;
+    let mut server_state = watched(rt, alloc, server_state, options, place)?;
+    server_state.watch(rt)?;
+    Ok(server_state)
 }
 
 /// Workers that can accept connections, and where they listen.
@@ -424,19 +424,19 @@ fn watched<
 >(
     rt: &H,
     alloc: Global,
-    mut commons: Commons,
+    mut server_state: ServerState,
     options: &ServeOptions,
     place: SocketAddr,
-) -> Result<Commons, RunFault>
+) -> Result<ServerState, RunFault>
     ensures { IfErr result IsOfWatching }
 {
     if options.log.is_some() || options.metrics.is_some() {
         let log = log_at(rt, options.log)?;
         let metrics = metrics_at(rt, place, options.metrics)?;
         let pages = File::open(rt, "/proc/self/statm").ok();
-        commons.watch_by(Watching::new(rt, alloc, log, metrics, pages));
+        server_state.watch_by(Watching::new(rt, alloc, log, metrics, pages));
     }
-    Ok(commons)
+    Ok(server_state)
 }
 
 /// Where the lines of the log go, if there is one. The error is that its file can't be opened.

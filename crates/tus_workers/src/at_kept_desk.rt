@@ -4,7 +4,7 @@ ghost use Rattle.tus_workers.specs.Serving.{ServesKept, SweepsKept};
 
 use crate::at_desk::AtDesk;
 use crate::keeping::{Compacting, Keeping};
-use connection_turns::HoldsBack;
+use connection_turns::Durability;
 use http_wire::Answer;
 use std::sync::Wait;
 use std::sync::ledger::Ledger;
@@ -164,7 +164,7 @@ impl<
     B: Wait + Drop,
     G: Gate,
     K: Keeping<C, R, M, B>,
-> HoldsBack for AtKeptDesk<'a, C, R, M, W, B, G, K> {
+> Durability for AtKeptDesk<'a, C, R, M, W, B, G, K> {
     ghost holds_back = { λ at. is_some at.at.desk.journal };
 
     fn holds_back(&self) -> bool {

@@ -5,18 +5,18 @@ ghost use Rattle.tus_workers.specs.Serving.{SweepsKept};
 use crate::accept::Accept;
 use crate::at_desk::AtDesk;
 use crate::at_kept_desk::AtKeptDesk;
-use crate::commons::Commons;
-use crate::crowd::Crowd;
+use crate::connections::Connections;
 use crate::door::{Door, Entry, LISTENER};
 use crate::keeping::{Compacting, Keeping};
 use crate::machine_clock::MachineClock;
 use crate::metrics_door::{ASKERS_MAX, MetricsDoor};
+use crate::server_state::ServerState;
 use crate::stream::MESSAGES_MAX;
 use crate::sweeping::sweep_expired;
 use crate::watch::Watch;
 use crate::worker::Worker;
 use crate::workers::Workers;
-use connection_turns::{Attended, HoldsBack};
+use connection_turns::{ClientConnection, Durability};
 use core::mem::replace_with;
 use http_wire::Clock;
 use mio::Events;
@@ -42,7 +42,7 @@ const MANNERS_MILLIS: u64 = 1;
 /// What a worker has besides its door and its desk.
 #[derive(Drop)]
 struct Rounds<'a, H: Wait + time::Clock> {
-    crowd: Crowd<'a, H>,
+    connections: Connections<'a, H>,
     // Where numbers are asked for, if it is at this worker.
     metrics: Option<MetricsDoor>,
     clock: MachineClock<'a, H>,
@@ -84,8 +84,8 @@ impl<
         ensures most { A.accepted worker.new.acceptor ≤ self.now.options.connections }
         ensures unasked { self.now.options.grace ≡ None → A.is_stopped worker.new.acceptor ≡ false }
     {
-        let poll = self.commons.bodies.take_poll(self.rt, number);
-        let prepared = self.prepare_crowd(number, worker.desk.settings());
+        let poll = self.server_state.bodies.take_poll(self.rt, number);
+        let prepared = self.prepare_connections(number, worker.desk.settings());
         let (Some(poll), Ok((mut rounds, mut events))) = (poll, prepared) else {
             self.say("tus-server: a worker ended, since it found no memory for its clients");
             worker.acceptor.give_up();
@@ -98,16 +98,16 @@ impl<
     }
 
     // The clients of this worker, of which there are none yet, and the room for events. The error is that there is no memory.
-    fn prepare_crowd(
+    fn prepare_connections(
         &self,
         number: usize,
         settings: &Settings,
     ) -> Result<(Rounds<'a, H>, Events), AllocError> {
         let events = Events::with_capacity(self.alloc, EVENTS_MAX)?;
-        let crowd = Crowd::new(
+        let connections = Connections::new(
             self.rt,
             self.alloc,
-            &self.commons.bodies,
+            &self.server_state.bodies,
             number,
             self.options.bounds,
             settings.copied(),
@@ -115,7 +115,7 @@ impl<
             self.watch(),
         )?;
         let rounds = Rounds {
-            crowd,
+            connections,
             metrics: None,
             clock: MachineClock::new(self.rt, self.options.moment),
             asked: None,
@@ -131,7 +131,7 @@ impl<
 
     // What this worker sees, where it is watched and the machine's clock can be read.
     fn watch(&self) -> Option<Watch<'a>> {
-        let watching = self.commons.watching.as_ref()?;
+        let watching = self.server_state.watching.as_ref()?;
         let start = Instant::now(self.rt).ok()?;
         Some(Watch::new(self.alloc, watching, start))
     }
@@ -212,7 +212,7 @@ impl<
     fn goes_on(&self, door: &mut Door, rounds: &Rounds<'a, H>, events: &mut Events) -> bool
         ensures { door.new.left ≡ door.old.left }
     {
-        if self.commons.are_to_end() {
+        if self.server_state.are_to_end() {
             return false;
         }
         let most = Duration::from_millis(self.patience(door, rounds));
@@ -226,16 +226,16 @@ impl<
     // Whether nobody needs this worker any more: it has no clients, and where numbers are asked for here, the other workers
     // have ended, and each reply was sent.
     fn may_leave(&self, rounds: &Rounds<'a, H>) -> bool {
-        rounds.crowd.len() == 0
+        rounds.connections.len() == 0
             && match &rounds.metrics {
-                Some(metrics) => self.commons.has_one_left() && !metrics.owes(),
+                Some(metrics) => self.server_state.has_one_left() && !metrics.owes(),
                 None => true,
             }
     }
 
     // Where numbers are asked for, at the first worker that asks for it. Where it can't be had, that is said.
     fn open_metrics(&self, door: &Door) -> Option<MetricsDoor> {
-        let watching = self.commons.watching.as_ref()?;
+        let watching = self.server_state.watching.as_ref()?;
         let listener = watching.take_metrics(self.rt)?;
         match MetricsDoor::open(self.alloc, listener, door.registry()) {
             Ok(metrics) => Some(metrics),
@@ -254,7 +254,8 @@ impl<
         rounds: &mut Rounds<'a, H>,
         events: &Events,
     ) {
-        let (Some(metrics), Some(watching)) = (&mut rounds.metrics, &self.commons.watching) else {
+        let (Some(metrics), Some(watching)) = (&mut rounds.metrics, &self.server_state.watching)
+        else {
             return;
         };
         metrics.serve(self.alloc, door.registry(), events, rounds.second);
@@ -271,8 +272,8 @@ impl<
     fn patience(&self, door: &Door, rounds: &Rounds<'a, H>) -> u64 {
         let may_come = rounds.stopped.is_none()
             && door.has_rung()
-            && rounds.crowd.len() < self.options.at_once;
-        if rounds.crowd.has_more() || (may_come && !rounds.has_waited) {
+            && rounds.connections.len() < self.options.at_once;
+        if rounds.connections.has_more() || (may_come && !rounds.has_waited) {
             0
         } else if may_come {
             MANNERS_MILLIS
@@ -304,7 +305,7 @@ impl<
         rounds.turn_ready(events, &mut answerer, second);
         self.send_kept(&mut answerer, rounds, second);
         if rounds.is_over(second, self.options.grace) {
-            rounds.crowd.cut_all(&mut answerer, &mut rounds.clock);
+            rounds.connections.cut_all(&mut answerer, &mut rounds.clock);
             self.send_kept(&mut answerer, rounds, second);
         }
         if second != rounds.second {
@@ -336,12 +337,12 @@ impl<
         }
         let had_news = !answerer.desk().is_kept();
         if !answerer.keep() {
-            self.commons.end_all();
+            self.server_state.end_all();
             return;
         }
-        rounds.crowd.send_held(answerer.desk(), second);
+        rounds.connections.send_held(answerer.desk(), second);
         if second != rounds.second {
-            rounds.crowd.send_late(answerer.desk(), second);
+            rounds.connections.send_late(answerer.desk(), second);
         }
         if had_news {
             self.note_compacting(answerer.compact_synced());
@@ -355,7 +356,7 @@ impl<
             Compacting::GivenUp => self.say(
                 "tus-server: the journal can't be made smaller for want of memory or disk, and goes on as it is",
             ),
-            Compacting::Failed => self.commons.end_all(),
+            Compacting::Failed => self.server_state.end_all(),
         }
     }
 
@@ -379,7 +380,7 @@ impl<
             door.ring();
         }
         self.tell_of_clients(rounds);
-        if !door.has_rung() || rounds.crowd.len() >= self.options.at_once {
+        if !door.has_rung() || rounds.connections.len() >= self.options.at_once {
             return;
         }
         if !rounds.has_waited && self.has_more_than_others(rounds) {
@@ -390,11 +391,11 @@ impl<
         match door.accept(&mut worker.acceptor) {
             Entry::Came(stream) => {
                 let max_size = worker.desk.settings().numbers().max_size;
-                let attended = Attended::new(max_size, MESSAGES_MAX);
+                let client_connection = ClientConnection::new(max_size, MESSAGES_MAX);
                 let second = rounds.second;
                 rounds
-                    .crowd
-                    .admit(door.registry(), stream, attended, second);
+                    .connections
+                    .admit(door.registry(), stream, client_connection, second);
                 let now = rounds.clock.moment();
                 let has_swept = self.sweep_once(&mut worker.desk, &mut rounds.asked, now);
                 rounds.note_sweeps(u64::from(has_swept));
@@ -422,16 +423,16 @@ impl<
 
     // Whether it has more clients than others, by more than one.
     fn has_more_than_others(&self, rounds: &Rounds<'a, H>) -> bool {
-        let clients = rounds.crowd.len() as u64;
-        let all = self.commons.open.load(Ordering::Relaxed);
-        let workers = self.commons.workers;
+        let clients = rounds.connections.len() as u64;
+        let all = self.server_state.open.load(Ordering::Relaxed);
+        let workers = self.server_state.workers;
         clients.saturating_mul(workers) > all.saturating_add(workers)
     }
 
     // Tells the others how many clients it has.
     fn tell_of_clients(&self, rounds: &mut Rounds<'a, H>) {
-        let clients = rounds.crowd.len() as u64;
-        let open = &self.commons.open;
+        let clients = rounds.connections.len() as u64;
+        let open = &self.server_state.open;
         if clients > rounds.told {
             open.fetch_add(clients - rounds.told, Ordering::Relaxed);
         } else if clients < rounds.told {
@@ -442,7 +443,7 @@ impl<
 
     // Where some worker has found no thread, and this one began in an earlier second, that is said, once.
     fn tell_of_threads(&self, began: u64) {
-        if began > 0 && self.commons.lacks_threads() {
+        if began > 0 && self.server_state.lacks_threads() {
             self.say(
                 "tus-server: there are threads for some of the workers alone, and these serve",
             );
@@ -458,14 +459,14 @@ impl<
 impl<'a, H: Wait + time::Clock + Eprint> Rounds<'a, H> {
     // Notes that uploads that had expired were ended so often.
     fn note_sweeps(&mut self, sweeps: u64) {
-        if let Some(watch) = &mut self.crowd.watch {
+        if let Some(watch) = &mut self.connections.watch {
             watch.sweep(sweeps);
         }
     }
 
     // Tells what was seen in this round.
     fn publish(&mut self, rt: &H) {
-        if let Some(watch) = &mut self.crowd.watch {
+        if let Some(watch) = &mut self.connections.watch {
             watch.publish(rt, self.clock.moment());
         }
     }
@@ -481,28 +482,28 @@ impl<'a, H: Wait + time::Clock + Eprint> Rounds<'a, H> {
 
     // Takes a turn of each client that is ready, had more to do, or waited for another one. Once a stop was asked for each has
     // one more message at most.
-    fn turn_ready<S: HoldsBack>(&mut self, events: &Events, answerer: &mut S, second: u64) {
-        self.crowd.go_on(answerer, &mut self.clock, second);
+    fn turn_ready<S: Durability>(&mut self, events: &Events, answerer: &mut S, second: u64) {
+        self.connections.go_on(answerer, &mut self.clock, second);
         for event in events.iter() {
             if event.token() == LISTENER {
                 self.has_rung = true;
             } else {
                 if event.is_read_closed() || event.is_error() {
-                    self.crowd.close(event.token().0);
+                    self.connections.close(event.token().0);
                 }
-                self.crowd
+                self.connections
                     .turn_of_event(event.token().0, answerer, &mut self.clock, second);
             }
         }
-        self.crowd.give_way(answerer, &mut self.clock, second);
+        self.connections.give_way(answerer, &mut self.clock, second);
         if self.stopped.is_some() {
-            self.crowd.end_soon(answerer, &mut self.clock, second);
+            self.connections.end_soon(answerer, &mut self.clock, second);
         }
     }
 
     // Cuts off those that are too late at this second.
-    fn pass_second<S: HoldsBack>(&mut self, answerer: &mut S, second: u64) {
-        self.crowd.cut_late(answerer, &mut self.clock, second);
+    fn pass_second<S: Durability>(&mut self, answerer: &mut S, second: u64) {
+        self.connections.cut_late(answerer, &mut self.clock, second);
     }
 }
 

@@ -2,8 +2,8 @@
 
 use crate::seen::Seen;
 use connection_turns::{
-    AsTheyCome, Attended, Bounds, Busy, HoldsBack, Late, Observer, Outcome, Pace, Precedence,
-    Streams, Turned,
+    AsTheyCome, Bounds, Busy, ClientConnection, Durability, Late, Observer, Outcome, Pace,
+    Precedence, Streams, Turned,
 };
 use http_wire::{Buffers, Clock};
 use mio::net::TcpStream;
@@ -76,7 +76,7 @@ impl Write for Gone {
 #[derive(Drop)]
 pub(crate) struct Client {
     stream: TcpStream,
-    attended: Attended,
+    client_connection: ClientConnection,
     standing: Standing,
     // How fast its conversation goes, or, where that is over, since when.
     pace: Pace,
@@ -96,10 +96,15 @@ pub(crate) struct Client {
 
 impl Client {
     /// A client that came at this second.
-    pub fn new(stream: TcpStream, attended: Attended, second: u64, seen: Seen) -> Self {
+    pub fn new(
+        stream: TcpStream,
+        client_connection: ClientConnection,
+        second: u64,
+        seen: Seen,
+    ) -> Self {
         Client {
             stream,
-            attended,
+            client_connection,
             standing: Standing::Talks,
             pace: Pace::new(second),
             place: None,
@@ -126,21 +131,21 @@ impl Client {
 
     /// Has it end after one more message at most.
     pub fn end_soon(&mut self) {
-        self.attended.limit(1);
+        self.client_connection.limit(1);
     }
 
     /// Whether it is talked with, and neither a message of it nor a reply is under way.
     pub fn is_idle(&self) -> bool {
-        match self.attended() {
-            Some(attended) => attended.busy() == Busy::Idle,
+        match self.client_connection() {
+            Some(client_connection) => client_connection.busy() == Busy::Idle,
             None => false,
         }
     }
 
     /// What is held for it, while it is talked with.
-    pub fn attended(&self) -> Option<&Attended> {
+    pub fn client_connection(&self) -> Option<&ClientConnection> {
         match self.standing {
-            Standing::Talks | Standing::Waits(_) => Some(&self.attended),
+            Standing::Talks | Standing::Waits(_) => Some(&self.client_connection),
             Standing::Lingers(_) => None,
         }
     }
@@ -154,7 +159,7 @@ impl Client {
     }
 
     /// Takes a turn of its conversation at this second, or drops what it still sends.
-    pub fn turn<A: HoldsBack, K: Clock, P: Precedence>(
+    pub fn turn<A: Durability, K: Clock, P: Precedence>(
         &mut self,
         alloc: Global,
         free: &mut Vec<Buffers>,
@@ -188,7 +193,7 @@ impl Client {
         }
     }
 
-    fn talk<A: HoldsBack, K: Clock, P: Precedence>(
+    fn talk<A: Durability, K: Clock, P: Precedence>(
         &mut self,
         alloc: Global,
         free: &mut Vec<Buffers>,
@@ -201,8 +206,8 @@ impl Client {
             reader: &self.stream,
             writer: &self.stream,
         };
-        let (left, was_busy) = (self.attended.left(), self.attended.busy());
-        let Turned { outcome, moved, .. } = self.attended.attend(
+        let (left, was_busy) = (self.client_connection.left(), self.client_connection.busy());
+        let Turned { outcome, moved, .. } = self.client_connection.attend(
             alloc,
             free,
             streams,
@@ -212,8 +217,8 @@ impl Client {
             self.has_closed,
             &mut self.seen,
         );
-        let has_answered = self.attended.left() != left;
-        let busy = self.attended.busy();
+        let has_answered = self.client_connection.left() != left;
+        let busy = self.client_connection.busy();
         self.has_gone_on = has_answered || busy != was_busy;
         self.pace.note(second, moved as u64, busy, has_answered);
         outcome
@@ -221,11 +226,15 @@ impl Client {
 
     /// Sends at this second what was held back, as far as that goes.
     pub fn send(&mut self, free: &mut Vec<Buffers>, second: u64) -> Next {
-        let sent = self.attended.send(free, &self.stream);
+        let sent = self.client_connection.send(free, &self.stream);
         self.seen.has_sent(sent.moved);
         self.has_gone_on = false;
-        self.pace
-            .note(second, sent.moved as u64, self.attended.busy(), false);
+        self.pace.note(
+            second,
+            sent.moved as u64,
+            self.client_connection.busy(),
+            false,
+        );
         match sent.outcome {
             Outcome::AwaitsRoom => Next::Waits,
             Outcome::Failed => {
@@ -239,7 +248,7 @@ impl Client {
     // Its conversation is over. Where it may have sent what nobody read, it is told that nothing follows: a close with unread
     // bytes would take the last reply from it.
     fn end(&mut self, free: &mut Vec<Buffers>, second: u64) -> Next {
-        if !self.attended.leaves_unread(free) {
+        if !self.client_connection.leaves_unread(free) {
             return Next::Ends;
         }
         let _ = self.stream.shutdown(Shutdown::Write);
@@ -272,7 +281,7 @@ impl Client {
 
     /// Tells its connection that no more will come, nor can be sent. What came of a PATCH that is applied when it is cut is
     /// kept.
-    pub fn cut<A: HoldsBack, K: Clock>(
+    pub fn cut<A: Durability, K: Clock>(
         &mut self,
         alloc: Global,
         free: &mut Vec<Buffers>,
@@ -286,7 +295,7 @@ impl Client {
             reader: Gone,
             writer: Gone,
         };
-        let _ = self.attended.attend(
+        let _ = self.client_connection.attend(
             alloc,
             free,
             streams,
@@ -296,7 +305,7 @@ impl Client {
             true,
             &mut self.seen,
         );
-        let _ = self.attended.leaves_unread(free);
+        let _ = self.client_connection.leaves_unread(free);
     }
 
     /// Whether it is to be cut off at this second.
@@ -319,7 +328,7 @@ impl Client {
     /// How many bytes of the replies that were put are not sent yet.
     pub fn unsent(&self) -> u64 {
         match self.standing {
-            Standing::Talks | Standing::Waits(_) => self.attended.pending_len() as u64,
+            Standing::Talks | Standing::Waits(_) => self.client_connection.pending_len() as u64,
             Standing::Lingers(_) => 0,
         }
     }

@@ -50,7 +50,7 @@ impl<
             }
             Question::Health => reply_with(alloc, b"200 OK", b"", b"ok\n"),
             Question::Stop => {
-                self.commons.stop();
+                self.server_state.stop();
                 reply_with(alloc, b"202 Accepted", b"", b"stopping\n")
             }
             Question::StopFromElsewhere => {
@@ -97,7 +97,7 @@ impl<
             &Snapshot {
                 counts: &counts,
                 tenants: &tenants,
-                connections: self.commons.open.load(Ordering::Relaxed),
+                connections: self.server_state.open.load(Ordering::Relaxed),
                 blocks_free: blocks_free(settings, &totals.accounts),
                 blocks_charged: totals.accounts.charged,
                 blocks_released: totals.accounts.released,

@@ -2,9 +2,9 @@
 ghost use Rattle.std.specs.Prelude.{◌≡◌, ◌≤◌, false, All, IfSome, None};
 
 use crate::accept::Accept;
-use crate::commons::{Commons, waits_for_each};
 use crate::keeping::Keeping;
 use crate::machine_clock::MachineClock;
+use crate::server_state::{ServerState, waits_for_each};
 use crate::stream::{ServedStream, serve_stream};
 use crate::sweeping::sweep_expired;
 use crate::worker::Worker;
@@ -55,7 +55,7 @@ pub fn work_all<
     keeping: &K,
     workers: &mut [Worker<C, R, M, A>],
     options: WorkOptions,
-    commons: &Commons,
+    server_state: &ServerState,
 )
     requires alive { All (λ w. A.has_failed w.acceptor ≡ false) workers.old }
     requires unstopped { All (λ w. A.is_stopped w.acceptor ≡ false) workers.old }
@@ -72,7 +72,7 @@ pub fn work_all<
         shared,
         keeping,
         options,
-        commons,
+        server_state,
     };
     for_each_mut(
         rt,
@@ -80,7 +80,7 @@ pub fn work_all<
         threads,
         &|number, worker: &mut Worker<C, R, M, A>| { common.work(number, worker) },
     );
-    commons.finish_log(rt);
+    server_state.finish_log(rt);
 }
 
 /// What the workers of a server share.
@@ -99,7 +99,7 @@ pub(crate) struct Workers<
     pub(crate) shared: &'a Shared<C, R, M, B>,
     pub(crate) keeping: &'a K,
     pub(crate) options: WorkOptions,
-    pub(crate) commons: &'a Commons,
+    pub(crate) server_state: &'a ServerState,
 }
 
 impl<
@@ -121,9 +121,9 @@ impl<
         ensures most { A.accepted worker.new.acceptor ≤ self.now.options.connections }
         ensures unasked { self.now.options.grace ≡ None → A.is_stopped worker.new.acceptor ≡ false }
     {
-        self.commons.begin();
+        self.server_state.begin();
         self.work_begun(number, worker);
-        self.commons.finish();
+        self.server_state.finish();
     }
 
     // Accepts the connections in the way of its options.
@@ -148,7 +148,7 @@ impl<
         ensures { self.now.options.grace ≡ None → result ≡ false }
     {
         match self.options.grace {
-            Some(_) => self.commons.is_stopping(),
+            Some(_) => self.server_state.is_stopping(),
             None => false,
         }
     }
@@ -187,7 +187,7 @@ impl<
         clock: &mut MachineClock<'a, H>,
     ) -> (Desk<C, R, M>, Option<Buffers>)
         requires journal { C.journal ≡ None }
-        ensures { IfSome result.1 (λ buffers. buffers.inbox.room ≤ 2097152) }
+        ensures { IfSome result.1 (λ buffers. buffers.read_buffer.room ≤ 2097152) }
     {
         let buffers = match buffers {
             Some(buffers) => buffers,
@@ -197,8 +197,8 @@ impl<
             },
         };
         self.prepare(stream);
-        self.commons.open.fetch_add(1, Ordering::Relaxed);
-        let connection = YieldingStream::new(stream, &self.commons.open);
+        self.server_state.open.fetch_add(1, Ordering::Relaxed);
+        let connection = YieldingStream::new(stream, &self.server_state.open);
         let reader = Tapped::new(&connection);
         let writer = Tapped::new(&connection);
         let ServedStream {
@@ -217,7 +217,7 @@ impl<
             clock,
             &NoGate,
         );
-        self.commons.open.fetch_sub(1, Ordering::Relaxed);
+        self.server_state.open.fetch_sub(1, Ordering::Relaxed);
         if may_be_unread(&ended, &buffers) {
             self.linger(stream);
         }

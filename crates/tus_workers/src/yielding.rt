@@ -8,7 +8,7 @@ use std::sync::atomic::{AtomicU64, Ordering};
 use std::thread::yield_now;
 
 /// How many connections may be open before their workers let others run first.
-const CROWD: u64 = 3;
+const MANY: u64 = 3;
 
 /// How often a call is made again that a signal interrupted.
 const SIGNALS_MAX: u32 = 1_000_000;
@@ -39,7 +39,7 @@ impl<'s, 'o> YieldingStream<'s, 'o> {
 
 impl Read for &YieldingStream<'_, '_> {
     fn read(&mut self, buf: &mut [u8]) -> io::Result<usize> {
-        if self.between.replace(false) && self.open.load(Ordering::Relaxed) > CROWD {
+        if self.between.replace(false) && self.open.load(Ordering::Relaxed) > MANY {
             yield_now();
         }
         let mut stream = self.stream;

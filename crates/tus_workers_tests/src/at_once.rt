@@ -18,13 +18,13 @@ use std::time::Duration;
 use std::{io, time};
 use tus_shared::{Charges, Opened, Shared, settle};
 use tus_workers::{
-    Commons, Listener, NoJournal, SocketListener, any_failed, dismiss, hire, work_all,
+    Listener, NoJournal, ServerState, SocketListener, any_failed, dismiss, hire, work_all,
 };
 use upload_book::Settings;
 
 /// What clients there are, and how many of them may be served at once.
 #[derive(Clone, Copy)]
-struct Crowd {
+struct Connections {
     clients: u64,
     /// How many HEADs each sends.
     heads: usize,
@@ -60,29 +60,29 @@ fn client<N: Net<Stream = TcpStream>>(
     Ok(stream)
 }
 
-// The clients of a crowd, which have sent their HEADs to this port.
+// The clients of a connections, which have sent their HEADs to this port.
 fn connected<N: Net<Stream = TcpStream>>(
     net: &N,
     alloc: Global,
     port: u16,
-    crowd: Crowd,
+    connections: Connections,
 ) -> Result<Vec<TcpStream>, Fail> {
-    let sent = repeated(alloc, HEAD, crowd.heads)?;
-    let [even, odd] = crowd.pieces;
+    let sent = repeated(alloc, HEAD, connections.heads)?;
+    let [even, odd] = connections.pieces;
     let mut clients = Vec::new(alloc);
-    for number in 0..crowd.clients {
+    for number in 0..connections.clients {
         let piece = if number % 2 == 0 { even } else { odd };
         clients.push(client(net, port, &sent, piece)?)?;
     }
     Ok(clients)
 }
 
-// The work of one worker for a crowd.
-fn work_for(rt: &impl Abort, crowd: Crowd) -> WorkOptions {
+// The work of one worker for a connections.
+fn work_for(rt: &impl Abort, connections: Connections) -> WorkOptions {
     WorkOptions {
         moment: Some(moment(rt)),
-        connections: crowd.clients,
-        at_once: crowd.at_once,
+        connections: connections.clients,
+        at_once: connections.at_once,
         bounds: Bounds {
             idle: 0,
             message_seconds: 0,
@@ -131,7 +131,7 @@ fn serve_all<
     released: Blank,
     made: Blank,
     events: Opened,
-    crowd: Crowd,
+    connections: Connections,
 ) -> Result<(), Fail>
     requires settings { settings ≡ C.settings }
     requires desks { C.desks ≡ 1 }
@@ -142,10 +142,10 @@ fn serve_all<
     requires journal { C.journal ≡ None }
 {
     let listener = SocketListener::listen(rt, SocketAddr::from((Ipv4Addr::LOCALHOST, 0)))?;
-    let clients = connected(rt, alloc, listener.place().port(), crowd)?;
-    let work = work_for(rt, crowd);
-    let mut commons = Commons::new(alloc, 1, &work)?;
-    commons.watch(rt)?;
+    let clients = connected(rt, alloc, listener.place().port(), connections)?;
+    let work = work_for(rt, connections);
+    let mut server_state = ServerState::new(alloc, 1, &work)?;
+    server_state.watch(rt)?;
     let room = Vec::with_capacity(alloc, 1)?;
     let room_after = Vec::with_capacity(alloc, 1)?;
     let (shared, desks) = Shared::<C, R, M, &W>::open(
@@ -159,12 +159,12 @@ fn serve_all<
         &NoJournal,
         workers.as_mut_slice(),
         work,
-        &commons,
+        &server_state,
     );
     assert!(rt; !any_failed(workers.as_slice()));
     let (_, balance) = settle(shared, dismiss(workers, room_after));
     assert_balance(rt, balance, [0, 0, 0]);
-    assert_answered(rt, alloc, clients.as_slice(), crowd.heads)
+    assert_answered(rt, alloc, clients.as_slice(), connections.heads)
 }
 
 fn serve<
@@ -175,7 +175,7 @@ fn serve<
         + Eprint
         + time::Clock
         + Sync,
->(rt: &W, alloc: Global, crowd: Crowd) -> Result<(), Fail> {
+>(rt: &W, alloc: Global, connections: Connections) -> Result<(), Fail> {
     serve_all::<Brand, Brand, Brand, W>(
         rt,
         alloc,
@@ -184,12 +184,12 @@ fn serve<
         Blank::new(16),
         Blank::new(16),
         Opened::new(),
-        crowd,
+        connections,
     )
 }
 
 /// Every second one sends a byte at a time.
-const FIFTY: Crowd = Crowd {
+const FIFTY: Connections = Connections {
     clients: 50,
     heads: 1,
     pieces: [1, usize::MAX],
@@ -207,7 +207,7 @@ fn more_clients_than_places(rt: HostRuntime) -> Result<(), Fail> {
     serve(
         &rt,
         rt.alloc(),
-        Crowd {
+        Connections {
             at_once: 3,
             ..FIFTY
         },
@@ -220,7 +220,7 @@ fn bursts(rt: HostRuntime) -> Result<(), Fail> {
     serve(
         &rt,
         rt.alloc(),
-        Crowd {
+        Connections {
             clients: 2,
             heads: 833,
             pieces: [usize::MAX, 1000],

@@ -21,7 +21,7 @@ use std::time::Duration;
 use std::{io, time};
 use tus_shared::{Charges, Opened, Shared, settle};
 use tus_workers::{
-    Commons, Listener, NoJournal, SocketListener, any_failed, dismiss, hire, work_all,
+    Listener, NoJournal, ServerState, SocketListener, any_failed, dismiss, hire, work_all,
 };
 use upload_book::{Book, Name, Settings};
 
@@ -116,8 +116,8 @@ where
         by_readiness: false,
         grace: None,
     };
-    let mut commons = Commons::new(alloc, 2, &options)?;
-    commons.watch(rt)?;
+    let mut server_state = ServerState::new(alloc, 2, &options)?;
+    server_state.watch(rt)?;
     work_all(
         rt,
         alloc,
@@ -125,7 +125,7 @@ where
         &NoJournal,
         workers.as_mut_slice(),
         options,
-        &commons,
+        &server_state,
     );
     assert!(rt; any_failed(workers.as_slice()) == fails);
     assert_replies(rt, alloc, &acme, &[CREATED, PATCHED]);

@@ -3,10 +3,12 @@ ghost use Rattle.std.specs.Prelude.{true};
 ghost use Rattle.http_wire.specs.BookStep.{BookStep};
 ghost use Rattle.upload_book.specs.Book.{plain_of};
 
-use crate::attended::{Arriving, Leaving, text_of};
+use crate::client_connection::{Arriving, Leaving, text_of};
 use crate::opening::{moment, settings};
 use crate::texts::{CREATED, HEAD, LOOKED, PATCH, PATCHED, POST};
-use connection_turns::{AsTheyCome, Attended, HoldsBack, Outcome, Streams, Turned, Unwatched};
+use connection_turns::{
+    AsTheyCome, ClientConnection, Durability, Outcome, Streams, Turned, Unwatched,
+};
 use http_wire::Answer;
 use std::test::Fail;
 use tus_steps::{PlacedReply, Request, answer_in_place};
@@ -32,7 +34,7 @@ impl Answer for Withheld {
     }
 }
 
-impl HoldsBack for Withheld {
+impl Durability for Withheld {
     ghost holds_back = { λ w. true };
 
     fn holds_back(&self) -> bool {
@@ -51,7 +53,7 @@ fn replies_are_sent_when_they_may_be(rt: HostRuntime) -> Result<(), Fail> {
     };
     let mut clock = moment(&rt);
     let mut free = Vec::new(alloc);
-    let mut attended = Attended::new(64, 4096);
+    let mut client_connection = ClientConnection::new(64, 4096);
     let mut streams = Streams {
         reader: Arriving {
             rest: &sent,
@@ -69,7 +71,7 @@ fn replies_are_sent_when_they_may_be(rt: HostRuntime) -> Result<(), Fail> {
             outcome,
             streams: after,
             ..
-        } = attended.attend(
+        } = client_connection.attend(
             alloc,
             &mut free,
             streams,
@@ -83,9 +85,9 @@ fn replies_are_sent_when_they_may_be(rt: HostRuntime) -> Result<(), Fail> {
         assert!(rt; after.writer.written.is_empty() && after.reader.rest.is_empty());
         streams = after;
     }
-    let blocked = attended.send(&mut free, streams.writer);
+    let blocked = client_connection.send(&mut free, streams.writer);
     assert_eq!(rt; blocked.outcome, Outcome::AwaitsRoom);
-    let all = attended.send(&mut free, blocked.writer);
+    let all = client_connection.send(&mut free, blocked.writer);
     assert_eq!(rt; all.outcome, Outcome::HasMore);
     assert!(rt; all.writer.written.as_slice() == expected.as_slice());
     assert_eq!(rt; all.moved, expected.len());

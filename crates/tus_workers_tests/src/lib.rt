@@ -6,7 +6,7 @@
 #[cfg(test)]
 mod at_once;
 #[cfg(test)]
-mod attended;
+mod client_connection;
 #[cfg(test)]
 mod connections;
 #[cfg(test)]

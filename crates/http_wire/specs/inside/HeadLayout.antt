@@ -6,7 +6,7 @@ use Rattle.httparse.specs.declared.spans.HeaderSpan.{HeaderSpan}
 use Rattle.httparse.specs.declared.spans.RequestSpans.{RequestSpans}
 use Rattle.tus_steps.specs.TusFields.{map_fields}
 use Rattle.http_wire.specs.Layout.{field_at}
-use Rattle.http_wire.specs.Front.{Parses, method_in, tus_fields, framing_of, is_waiting, judged, closing, Begins, refused}
+use Rattle.http_wire.specs.NextMessage.{Parses, method_in, tus_fields, framing_of, is_waiting, judged, closing, Begins, refused}
 use Rattle.http_wire.specs.declared.read.layout.Layout.{Layout}
 use Rattle.http_wire.specs.HeadText.{whole, has_many_lines, head_text}
 use Rattle.http_wire.specs.declared.read.head.RefusedHead.{RefusedHead}

@@ -5,7 +5,7 @@ use Rattle.http_wire.specs.Layout.{framed_at}
 use Rattle.http_wire.specs.ReadOnWire.{TellsEnd}
 use Rattle.http_wire.specs.declared.phase.Phase.{Phase}
 use Rattle.http_wire.specs.declared.phase.Phase.TheVariants.{Looking, Waiting, Owing, Over}
-use Rattle.http_wire.specs.declared.read.inbox.TheConstants.{READ_SIZE}
+use Rattle.http_wire.specs.declared.read.read_buffer.TheConstants.{READ_SIZE}
 use Rattle.http_wire.specs.declared.read.layout.Layout.{Layout}
 use Rattle.http_wire.specs.declared.read.stage.Stage.TheVariants.{Head, Body}
 use Rattle.http_wire.specs.inside.Ahead.{Ahead}
@@ -19,7 +19,7 @@ map_phase f (Waiting s) = Waiting s
 map_phase f (Owing i) = Owing (map_incoming f i)
 map_phase f (Over r) = Over r
 
--- A reading that may stand so over this inbox; where it waits, there is room for a read; a message that came in is lent, and
+-- A reading that may stand so over this read_buffer; where it waits, there is room for a read; a message that came in is lent, and
 -- one that was cut by the end came at the end.
 abbrev pub IsPhase : Ahead → Phase Layout → Type 0
 IsPhase a (Looking s) = Fits a s

@@ -10,8 +10,8 @@ pub record OnOutbox : Type 0 where
   pub has_room : Bool
 
 -- where nothing is pending there is room
-abbrev pub empty_outbox : OnOutbox
-empty_outbox = record { pending = []; has_room = true }
+abbrev pub empty_write_buffer : OnOutbox
+empty_write_buffer = record { pending = []; has_room = true }
 
 -- the bytes of an upload that follow a page, where some do
 abbrev pub following : Option (List ℕ) → List ℕ
@@ -25,8 +25,8 @@ IsUnsent None = ⊤
 
 -- A page of which so many bytes were sent, and the bytes of an upload that follow it. One more reply may be put behind a
 -- page that nothing follows and that has at most 8,192 bytes.
-abbrev pub outbox_of : List ℕ → ℕ → Option (List ℕ) → OnOutbox
-outbox_of page sent tail = record {
+abbrev pub write_buffer_of : List ℕ → ℕ → Option (List ℕ) → OnOutbox
+write_buffer_of page sent tail = record {
   pending = drop sent page ++ following tail;
   has_room = is_none tail && nat_le (length page) 8192;
 }
@@ -37,7 +37,7 @@ pub record IsCleared (page : List ℕ) (sent : ℕ) (tail : Option (List ℕ)) :
   pub emptied : length page ≤ sent → sent ≡ 0
   pub unsent : IsUnsent tail
 
--- One write took a front of some bytes, and at least one of them; or it failed, and took none.
+-- One write took a prefix of some bytes, and at least one of them; or it failed, and took none.
 pub record TakesSome (before after : Option (List ℕ)) (has_failed : Bool) (bytes : List ℕ) (r : Result ℕ WireFault) : Type 0 where
   pub count : IfOk r (λ n. (0 < n) × (n ≤ length bytes))
   pub taken : IfOk r (λ n. Appends before after (take n bytes))

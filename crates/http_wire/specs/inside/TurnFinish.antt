@@ -41,7 +41,7 @@ module _ {A : Type 0} (steps : A → Request → ℕ → Reply → A → Type 0)
   FinishesIn max now x held (Err fault) = BreaksAnswer steps max now x fault
 
   -- What came in was answered at this moment, and this is pending now. Whatever that was read from: once all that is pending
-  -- is sent, it is a turn; and where a write fails after a front of it, a turn that was broken off. Only a PATCH that a failed
+  -- is sent, it is a turn; and where a write fails after a prefix of it, a turn that was broken off. Only a PATCH that a failed
   -- read cut makes it the reader's fault, and then nothing is pending.
   pub record AnswersTurn (now : ℕ) (a : Ahead) (incoming : Incoming FramedRequest) (pending : List ℕ) (before after : A) (r : Result (Option Ended) WireFault) : Type 0 where
     pub sent : (max : ℕ) (input said : List ℕ) → ComesIn max (record { input = input; text = said }) a.held incoming

@@ -10,7 +10,7 @@ use Rattle.http_wire.specs.OnConnection.{OnConnection, at_start, owed_in, passed
 use Rattle.http_wire.specs.declared.fault.WireFault.{WireFault}
 use Rattle.http_wire.specs.declared.incoming.Incoming.{Incoming}
 use Rattle.http_wire.specs.declared.incoming.Incoming.TheVariants.{End}
-use Rattle.http_wire.specs.inside.Sending.{empty_outbox}
+use Rattle.http_wire.specs.inside.Sending.{empty_write_buffer}
 
 module _ {R W : Type 0} where
   -- the wire of this reader and this writer, a connection, and a state
@@ -18,8 +18,8 @@ module _ {R W : Type 0} where
   wire_of reader writer c state = record {
     reader = reader;
     writer = writer;
-    held = c.inbox.held;
-    ended = c.inbox.ended;
+    held = c.read_buffer.held;
+    ended = c.read_buffer.ended;
     max_size = c.max_size;
     reads = is_open state;
     writes = is_alive state;
@@ -38,7 +38,7 @@ module _ {R W : Type 0} where
   -- left as it is.
   pub record IsWire (s : Streams R W) (reader : R) (writer : W) (c : OnConnection) (state : State) : Type 0 where
     pub sound : IsSound s (wire_of reader writer c state)
-    pub sent : c.outbox ≡ empty_outbox
+    pub sent : c.write_buffer ≡ empty_write_buffer
     pub starts : is_open state ≡ true → passed_over c.phase ≡ at_start
 
 -- what came in, or the end where nothing did

@@ -5,7 +5,7 @@ ghost use Rattle.http_wire.specs.Layout.{IsLayoutWithin};
 ghost use Rattle.http_wire.specs.inside.HeadFields.{AreInside, ShowFields};
 ghost use Rattle.http_wire.specs.inside.HeadLayout.{HasLine, IsLine, JudgesHead, ReadsLayout};
 ghost use Rattle.tus_steps.specs.Field.{text_of};
-ghost use Rattle.http_wire.specs.Front.{Parses, method_of, method_by, closing, unknown_framing};
+ghost use Rattle.http_wire.specs.NextMessage.{Parses, method_of, method_by, closing, unknown_framing};
 
 use crate::framing::Framing;
 use crate::read::connection_fields::asks_to_continue;

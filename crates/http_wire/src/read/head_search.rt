@@ -5,7 +5,7 @@ ghost use Rattle.http_wire.specs.HeadText.{blank_len};
 ghost use Rattle.http_wire.specs.inside.HeadSearch.{IsHeldBy, LooksFor, NeedsMore, Searching, search_start};
 
 use crate::read::head_text::{HEAD_LIMIT, Scan, count_blank};
-use crate::read::inbox::{Inbox, READ_SIZE};
+use crate::read::read_buffer::{READ_SIZE, ReadBuffer};
 
 /// The head that the input begins with.
 #[derive(Clone, Copy)]
@@ -16,7 +16,7 @@ pub enum HeadFound {
     Nothing,
 }
 
-/// A search for the head of the next message in what an inbox holds. It touches no reader: each look goes on where the
+/// A search for the head of the next message in what an read_buffer holds. It touches no reader: each look goes on where the
 /// last one stopped, and none looks at a byte that was seen before.
 #[derive(Clone, Copy, PartialEq, Eq)]
 pub struct Search {
@@ -50,21 +50,21 @@ impl Search {
 
     /// Looks for the head in what is held. After `None` more has to be read: all that is held was seen, it is a part of a
     /// head or nothing, and there is room for a read.
-    pub fn look(&mut self, inbox: &mut Inbox) -> Option<HeadFound>
-        requires seen { self.old.seen ≤ length inbox.old.held }
+    pub fn look(&mut self, read_buffer: &mut ReadBuffer) -> Option<HeadFound>
+        requires seen { self.old.seen ≤ length read_buffer.old.held }
         requires few { self.old.skipped < HEAD_LIMIT }
-        ensures finds { (bytes : List ℕ) → Searching bytes inbox.old.held self.old
-            → LooksFor bytes inbox.new self.new result }
-        ensures within { IfSome result (IsHeldBy inbox.new) }
-        ensures more { IfNone result (NeedsMore inbox.new self.new) }
-        ensures room { IfNone result (length inbox.new.held + READ_SIZE ≤ inbox.new.room) }
-        ensures kept { self.new.skipped + length inbox.new.held ≡ self.old.skipped + length inbox.old.held }
-        ensures ended { inbox.new.ended ≡ inbox.old.ended }
+        ensures finds { (bytes : List ℕ) → Searching bytes read_buffer.old.held self.old
+            → LooksFor bytes read_buffer.new self.new result }
+        ensures within { IfSome result (IsHeldBy read_buffer.new) }
+        ensures more { IfNone result (NeedsMore read_buffer.new self.new) }
+        ensures room { IfNone result (length read_buffer.new.held + READ_SIZE ≤ read_buffer.new.room) }
+        ensures kept { self.new.skipped + length read_buffer.new.held ≡ self.old.skipped + length read_buffer.old.held }
+        ensures ended { read_buffer.new.ended ≡ read_buffer.old.ended }
     {
-        let blank = self.blank_in(inbox.held());
-        inbox.skip(blank);
+        let blank = self.blank_in(read_buffer.held());
+        read_buffer.skip(blank);
         self.skipped += blank;
-        let held = inbox.held();
+        let held = read_buffer.held();
         let unseen = &held[self.seen..];
         if let Some(more) = self.scan.end_in(unseen) {
             let len = self.seen + more;
@@ -78,7 +78,7 @@ impl Search {
         if self.skipped + self.seen >= HEAD_LIMIT {
             return Some(HeadFound::TooLong);
         }
-        if !inbox.is_ended() {
+        if !read_buffer.is_ended() {
             return None;
         }
         Some(if self.seen == 0 {

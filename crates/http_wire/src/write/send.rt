@@ -1,10 +1,10 @@
 ghost use Rattle.std.specs.Prelude.{◌≡◌, ◌≢◌, [], false, drop, IfOk, OnErr};
 ghost use Rattle.http_wire.specs.Writes.{Writes};
-ghost use Rattle.http_wire.specs.inside.Sending.{empty_outbox, TakesSome};
+ghost use Rattle.http_wire.specs.inside.Sending.{empty_write_buffer, TakesSome};
 
 use crate::fault::WireFault;
 use crate::source::Sink;
-use crate::write::outbox::Outbox;
+use crate::write::write_buffer::WriteBuffer;
 
 /// Writes all of `bytes`. The error is `WireFault::Write`, and then only a prefix of them was written.
 pub fn put_all<W: Sink>(writer: &mut W, bytes: &[u8]) -> Result<(), WireFault>
@@ -22,40 +22,40 @@ pub fn put_all<W: Sink>(writer: &mut W, bytes: &[u8]) -> Result<(), WireFault>
 
 /// Writes all that is pending, piece by piece. The error is `WireFault::Write`, and then only a prefix of it was written.
 /// What was not sent then is dropped, since nothing more is written. Where nothing is pending there is no error.
-pub fn flush<W: Sink>(writer: &mut W, outbox: &mut Outbox) -> Result<(), WireFault>
+pub fn flush<W: Sink>(writer: &mut W, write_buffer: &mut WriteBuffer) -> Result<(), WireFault>
     requires { W.has_failed writer.old ≡ false }
     ensures writes { Writes (W.contents writer.old) (W.contents writer.new) (W.has_failed writer.new)
-        outbox.old.pending result }
-    ensures empty { outbox.new ≡ empty_outbox }
-    ensures some { OnErr result (outbox.old.pending ≢ []) }
+        write_buffer.old.pending result }
+    ensures empty { write_buffer.new ≡ empty_write_buffer }
+    ensures some { OnErr result (write_buffer.old.pending ≢ []) }
 {
-    let written = send_pending(writer, outbox);
-    outbox.clear();
+    let written = send_pending(writer, write_buffer);
+    write_buffer.clear();
     written
 }
 
 // The same, but what was not sent stays.
-fn send_pending<W: Sink>(writer: &mut W, outbox: &mut Outbox) -> Result<(), WireFault>
+fn send_pending<W: Sink>(writer: &mut W, write_buffer: &mut WriteBuffer) -> Result<(), WireFault>
     requires { W.has_failed writer.old ≡ false }
     ensures writes { Writes (W.contents writer.old) (W.contents writer.new) (W.has_failed writer.new)
-        outbox.old.pending result }
-    ensures some { OnErr result (outbox.old.pending ≢ []) }
+        write_buffer.old.pending result }
+    ensures some { OnErr result (write_buffer.old.pending ≢ []) }
 {
-    while !outbox.is_empty() {
-        send_some(writer, outbox)?;
+    while !write_buffer.is_empty() {
+        send_some(writer, write_buffer)?;
     }
     Ok(())
 }
 
 // Makes one write of what is pending, and gives how many bytes it took. The error is `WireFault::Write`.
-fn send_some<W: Sink>(writer: &mut W, outbox: &mut Outbox) -> Result<usize, WireFault>
+fn send_some<W: Sink>(writer: &mut W, write_buffer: &mut WriteBuffer) -> Result<usize, WireFault>
     requires alive { W.has_failed writer.old ≡ false }
-    requires some { outbox.old.pending ≢ [] }
+    requires some { write_buffer.old.pending ≢ [] }
     ensures takes { TakesSome (W.contents writer.old) (W.contents writer.new) (W.has_failed writer.new)
-        outbox.old.pending result }
-    ensures left { IfOk result (λ n. outbox.new.pending ≡ drop n outbox.old.pending) }
+        write_buffer.old.pending result }
+    ensures left { IfOk result (λ n. write_buffer.new.pending ≡ drop n write_buffer.old.pending) }
 {
-    match outbox.write_to(writer) {
+    match write_buffer.write_to(writer) {
         Ok(0) | Err(_) => Err(WireFault::Write),
         Ok(count) => Ok(count),
     }

@@ -26,14 +26,14 @@ pub(crate) fn has_all(file: &[u8], start: usize, count: usize, byte: u8) -> bool
         .all(|found| *found == byte)
 }
 
-// How many of these payloads are frames at the front of a file.
+// How many of these payloads are frames at the start of a file.
 fn count_whole(alloc: Global, file: &[u8], payloads: &[&[u8]]) -> Result<usize, Fail> {
-    let mut front = Vec::new(alloc);
+    let mut durable = Vec::new(alloc);
     for (count, payload) in payloads.iter().enumerate() {
         if payload.len() <= 16 {
-            push_frame(&mut front, KEY, payload)?;
+            push_frame(&mut durable, KEY, payload)?;
         }
-        if !file.starts_with(&front) {
+        if !file.starts_with(&durable) {
             return Ok(count);
         }
     }

@@ -4,7 +4,7 @@ ghost use Rattle.journal_file.specs.Journal.{key_of, IsJournal};
 
 use crate::KEY;
 use crate::keeper::requests::{Asked, large_settings, settings, turn};
-use crate::keeper::small::{Ends, Shelf, is_made_small};
+use crate::keeper::small::{Ends, Location, is_made_small};
 use crate::torn_disk::TornDisk;
 use journal_file::{Journal, JournalError};
 use journal_frames::{Frames, HEADER_LEN};
@@ -97,14 +97,14 @@ fn room_is_made<C: Journalled, R: Ledger, M: Ledger, W: Wait + Abort>(
     rt: &W,
     keeper: Keeper<Fuse<TornDisk>, C>,
     desk: &mut Desk<C, R, M>,
-    shelf: &Shelf,
+    location: &Location,
 ) {
     let keeper = SharedKeeper::new(keeper);
-    keeper.make_room(rt, desk, 100, shelf);
+    keeper.make_room(rt, desk, 100, location);
     assert!(rt; desk.room() == 100 + 65_536 + 4_194_304);
-    keeper.make_room(rt, desk, 4_194_304, shelf);
+    keeper.make_room(rt, desk, 4_194_304, location);
     assert!(rt; desk.room() == 100 + 65_536 + 4_194_304);
-    assert!(rt; !shelf.was_taken_away());
+    assert!(rt; !location.was_taken_away());
     let keeper = keeper.into_keeper();
     assert!(rt; keeper.disk().inner().bytes().len() > 4_259_940);
 }
@@ -116,12 +116,12 @@ fn disk_is_nearly_full<C: Journalled, R: Ledger, M: Ledger, W: Wait + Abort>(
     mut keeper: Keeper<Fuse<TornDisk>, C>,
     first: &mut Desk<C, R, M>,
     second: &mut Desk<C, R, M>,
-    shelf: &Shelf,
+    location: &Location,
     granted: u64,
 ) {
-    keeper.make_room(first, 200, shelf);
-    assert!(rt; first.room() == granted && shelf.was_taken_away());
-    keeper.make_room(second, 200, shelf);
+    keeper.make_room(first, 200, location);
+    assert!(rt; first.room() == granted && location.was_taken_away());
+    keeper.make_room(second, 200, location);
     assert!(rt; second.room() == 0);
 }
 
@@ -131,12 +131,12 @@ fn disk_is_full<C: Journalled, R: Ledger, M: Ledger, W: Wait + Abort + time::Clo
     shared: &Shared<C, R, M, &W>,
     mut keeper: Keeper<Fuse<TornDisk>, C>,
     desk: &mut Desk<C, R, M>,
-    shelf: &Shelf,
+    location: &Location,
 ) {
     desk.grant(65_536 + 100);
     assert!(rt; makes(rt, shared, desk, Asked::Create));
     let room = desk.room();
-    keeper.make_room(desk, 2_000, shelf);
+    keeper.make_room(desk, 2_000, location);
     assert!(rt; desk.room() == room);
     assert!(rt; !makes(rt, shared, desk, Asked::Create));
     assert!(rt; makes(rt, shared, desk, Asked::Delete(b"/files/acme/1")));
@@ -231,8 +231,8 @@ fn play<C: Journalled, R: Ledger, M: Ledger, W: Wait + Abort + time::Clock>(
     requires key { key_of journal ≡ 7 }
     requires empty { IsJournal journal [] [] }
 {
-    let front = events.seen.again();
-    let keeper = Keeper::<Fuse<TornDisk>, C>::new(alloc, journal, front);
+    let durable = events.seen.again();
+    let keeper = Keeper::<Fuse<TornDisk>, C>::new(alloc, journal, durable);
     let (shared, mut desks) = Shared::<C, R, M, &W>::open(
         rt,
         alloc,
@@ -246,16 +246,16 @@ fn play<C: Journalled, R: Ledger, M: Ledger, W: Wait + Abort + time::Clock>(
     )?;
     let mut second = desks.pop().ok_or("a desk")?;
     let mut first = desks.pop().ok_or("a desk")?;
-    let shelf = Shelf::new(alloc, Ends::Nowhere);
+    let location = Location::new(alloc, Ends::Nowhere);
     match scene {
         Scene::OneSyncServesBoth => {
             one_sync_serves_both(rt, &shared, keeper, &mut first, &mut second);
         }
-        Scene::RoomIsMade => room_is_made(rt, keeper, &mut first, &shelf),
+        Scene::RoomIsMade => room_is_made(rt, keeper, &mut first, &location),
         Scene::DiskIsNearlyFull { granted } => {
-            disk_is_nearly_full(rt, keeper, &mut first, &mut second, &shelf, granted);
+            disk_is_nearly_full(rt, keeper, &mut first, &mut second, &location, granted);
         }
-        Scene::DiskIsFull => disk_is_full(rt, &shared, keeper, &mut first, &shelf),
+        Scene::DiskIsFull => disk_is_full(rt, &shared, keeper, &mut first, &location),
         Scene::SyncFails => sync_fails(rt, &shared, keeper, &mut first),
         Scene::IsLeftAfterACrash => {
             is_left_after_a_crash(rt, alloc, &shared, keeper, &mut first)?;

@@ -38,7 +38,7 @@ pub(crate) enum Ends {
 /// Where the journal stands, whether what stood beside it was taken away, whether one that was large was let go, how many bytes
 /// one may have to be kept, and how many were marked.
 #[derive(Drop)]
-pub(crate) struct Shelf {
+pub(crate) struct Location {
     alloc: Global,
     ends: Ends,
     was_taken_away: AtomicBool,
@@ -47,10 +47,10 @@ pub(crate) struct Shelf {
     marked: AtomicU64,
 }
 
-impl Shelf {
+impl Location {
     /// One where a new journal ends so.
-    pub(crate) fn new(alloc: Global, ends: Ends) -> Shelf {
-        Shelf {
+    pub(crate) fn new(alloc: Global, ends: Ends) -> Location {
+        Location {
             alloc,
             ends,
             was_taken_away: AtomicBool::new(false),
@@ -66,7 +66,7 @@ impl Shelf {
     }
 }
 
-impl JournalPlace<Fuse<TornDisk>> for Shelf {
+impl JournalPlace<Fuse<TornDisk>> for Location {
     fn open_beside(&self) -> Option<Fuse<TornDisk>> {
         let (room, calls) = match self.ends {
             Ends::Nowhere => return None,
@@ -141,7 +141,7 @@ fn passing(alloc: Global) -> Result<Vec<u8>, AllocError> {
 fn make_large<C: Journalled, R: Ledger, M: Ledger, W: Wait + Abort + time::Clock>(
     rt: &W,
     shared: &Shared<C, R, M, &W>,
-    shelf: &Shelf,
+    location: &Location,
     keeper: &mut Keeper<Fuse<TornDisk>, C>,
     desk: &mut Desk<C, R, M>,
     body: &[u8],
@@ -154,8 +154,13 @@ fn make_large<C: Journalled, R: Ledger, M: Ledger, W: Wait + Abort + time::Clock
     assert!(rt; makes(rt, shared, desk, Asked::Patch(GOES_LATER, &[7; 65_537])));
     assert!(rt; keeper.keep(rt, shared, desk).is_ok());
     // How long the file is that a keeper begins with is not known.
-    assert!(rt; matches!(keeper.compact(rt, shared, shelf), Ok(Compacted::Shortened)));
-    assert!(rt; matches!(keeper.compact(rt, shared, shelf), Ok(Compacted::Rests)));
+    assert!(rt;
+        matches!(
+            keeper.compact(rt, shared, location),
+            Ok(Compacted::Shortened)
+        )
+    );
+    assert!(rt; matches!(keeper.compact(rt, shared, location), Ok(Compacted::Rests)));
     for path in GONE {
         assert!(rt; makes(rt, shared, desk, Asked::Delete(path)));
     }
@@ -188,19 +193,24 @@ fn are_told(ends: Ends, begun: &Looked, ended: &Looked) -> bool {
 fn is_shortened<C: Journalled, R: Ledger, M: Ledger, W: Wait + Abort + time::Clock>(
     rt: &W,
     shared: &Shared<C, R, M, &W>,
-    shelf: &Shelf,
+    location: &Location,
     keeper: &mut Keeper<Fuse<TornDisk>, C>,
     desk: &mut Desk<C, R, M>,
 ) {
     assert!(rt; keeper.disk().inner().bytes().len() == 67_502_080);
-    assert!(rt; shelf.kept_at_most.load(Ordering::Relaxed) == 135_004_160);
-    assert!(rt; matches!(keeper.compact(rt, shared, shelf), Ok(Compacted::Rests)));
+    assert!(rt; location.kept_at_most.load(Ordering::Relaxed) == 135_004_160);
+    assert!(rt; matches!(keeper.compact(rt, shared, location), Ok(Compacted::Rests)));
     assert!(rt; makes(rt, shared, desk, Asked::Delete(GOES_LATER)));
     assert!(rt; keeper.keep(rt, shared, desk).is_ok());
-    assert!(rt; matches!(keeper.compact(rt, shared, shelf), Ok(Compacted::Shortened)));
+    assert!(rt;
+        matches!(
+            keeper.compact(rt, shared, location),
+            Ok(Compacted::Shortened)
+        )
+    );
     assert!(rt; keeper.disk().inner().bytes().len() as u64 == keeper.numbers().file_bytes);
-    assert!(rt; shelf.kept_at_most.load(Ordering::Relaxed) == 134_610_944);
-    assert!(rt; matches!(keeper.compact(rt, shared, shelf), Ok(Compacted::Rests)));
+    assert!(rt; location.kept_at_most.load(Ordering::Relaxed) == 134_610_944);
+    assert!(rt; matches!(keeper.compact(rt, shared, location), Ok(Compacted::Rests)));
 }
 
 /// A journal of more than 48 MiB whose uploads are gone is made small, while one that comes meanwhile is kept; or the old one goes on.
@@ -212,33 +222,33 @@ pub(crate) fn is_made_small<C: Journalled, R: Ledger, M: Ledger, W: Wait + Abort
     desk: &mut Desk<C, R, M>,
     ends: Ends,
 ) -> Result<(), Fail> {
-    let shelf = Shelf::new(alloc, ends);
+    let location = Location::new(alloc, ends);
     let body = passing(alloc)?;
     desk.grant(1 << 30);
-    make_large(rt, shared, &shelf, &mut keeper, desk, &body);
-    let begun = keeper.compact(rt, shared, &shelf);
+    make_large(rt, shared, &location, &mut keeper, desk, &body);
+    let begun = keeper.compact(rt, shared, &location);
     assert!(rt; makes(rt, shared, desk, Asked::Begin));
     assert!(rt; makes(rt, shared, desk, Asked::Patch(STAYS, KEPT)));
     assert!(rt; keeper.keep(rt, shared, desk).is_ok());
-    let ended = keeper.compact(rt, shared, &shelf);
+    let ended = keeper.compact(rt, shared, &location);
     assert!(rt; are_told(ends, &begun, &ended));
     let is_given_up = is_given_up(&begun) || is_given_up(&ended);
-    assert!(rt; is_given_up == shelf.was_taken_away());
+    assert!(rt; is_given_up == location.was_taken_away());
     assert!(rt; keeper.has_failed() == matches!(ends, Ends::Unsure));
     let has_ended = matches!(ended, Ok(Compacted::Ended));
     assert!(rt; has_ended == (keeper.numbers().bytes < 67_000));
-    assert!(rt; has_ended == shelf.was_let_go.load(Ordering::Relaxed));
+    assert!(rt; has_ended == location.was_let_go.load(Ordering::Relaxed));
     let is_in_place = matches!(ends, Ends::InPlace);
     if is_in_place {
-        is_shortened(rt, shared, &shelf, &mut keeper, desk);
+        is_shortened(rt, shared, &location, &mut keeper, desk);
     }
-    keeper.mark(&shelf);
+    keeper.mark(&location);
     let marked = if keeper.has_failed() {
         0
     } else {
         keeper.numbers().bytes
     };
-    assert!(rt; shelf.marked.load(Ordering::Relaxed) == marked);
+    assert!(rt; location.marked.load(Ordering::Relaxed) == marked);
     is_left(rt, alloc, &keeper, if is_in_place { 1 } else { 2 })
 }
 

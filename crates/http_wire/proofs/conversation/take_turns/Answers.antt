@@ -23,7 +23,7 @@ loop-moment-init g c =
         subst (Reached g.A.Answer.steps c.args.connection.now.max_size [] (record { input = []; text = []; before = b; after = b })) (sym c.requires.fresh.held) (λ rest. (refl, refl, refl)),
       );
       end = λ seen. absurd (true≢false (sym seen ∙ c.requires.fresh.unended));
-      between = record { phase = ap passed_over c.requires.fresh.phase; outbox = c.requires.fresh.outbox };
+      between = record { phase = ap passed_over c.requires.fresh.phase; write_buffer = c.requires.fresh.write_buffer };
       size = refl;
     }
 
@@ -40,7 +40,7 @@ returns-in_err-turn-clause-breaks g c =
     let fault = c.in_err-turn.field-0.0 in
     let x : Exchange _ = record { input = reached.0; text = reached.1; before = c.args.answerer.now; after = c.loop-moment.answerer } in
     let b = c.take_turn.new.answerer in
-    let breaks = Breaks-after g.A.Answer.steps max (take i ms) (drop (i + 1) ms) m x c.loop-moment.connection.inbox.held turn.0 turn.1 b fault reached.4 turn.4 in
+    let breaks = Breaks-after g.A.Answer.steps max (take i ms) (drop (i + 1) ms) m x c.loop-moment.connection.read_buffer.held turn.0 turn.1 b fault reached.4 turn.4 in
     IfErr-from _ c.from_residual.result p.0 fault p.1 p.2 (
       reached.0 ++ turn.0,
       reached.1 ++ turn.1,
@@ -60,8 +60,8 @@ returns-in-Some-clause-converses g c =
     let turn = timed_at m (rw c.in-Some.is at c.in_ok-turn.ensures.turn) in
     let x : Exchange _ = record { input = reached.0; text = reached.1; before = c.args.answerer.now; after = c.loop-moment.answerer } in
     let b = c.take_turn.new.answerer in
-    let last = subst (λ (k : ℕ). TakesTurn g.A.Answer.steps k m (record { input = c.loop-moment.connection.inbox.held ++ turn.0; text = turn.1; before = c.loop-moment.answerer; after = b }) c.take_turn.new.connection.inbox.held (Ok (Some c.in-Some.ended))) c.loop-moment.invariant.size turn.4 in
-    let converses = Converses-last g.A.Answer.steps max (take i ms) (drop (i + 1) ms) m x c.loop-moment.connection.inbox.held turn.0 turn.1 b c.in-Some.ended reached.4 last in (
+    let last = subst (λ (k : ℕ). TakesTurn g.A.Answer.steps k m (record { input = c.loop-moment.connection.read_buffer.held ++ turn.0; text = turn.1; before = c.loop-moment.answerer; after = b }) c.take_turn.new.connection.read_buffer.held (Ok (Some c.in-Some.ended))) c.loop-moment.invariant.size turn.4 in
+    let converses = Converses-last g.A.Answer.steps max (take i ms) (drop (i + 1) ms) m x c.loop-moment.connection.read_buffer.held turn.0 turn.1 b c.in-Some.ended reached.4 last in (
       reached.0 ++ turn.0,
       reached.1 ++ turn.1,
       Consumes-more _ _ _ reached.0 turn.0 reached.2 turn.2,
@@ -80,8 +80,8 @@ loop-moment-preserved g c =
     let turn = timed_at m (rw c.loop-moment.invariant.size at (rw c.in_default.is at c.in_ok-turn.ensures.turn)) in
     let x : Exchange _ = record { input = reached.0; text = reached.1; before = c.args.answerer.now; after = c.loop-moment.answerer } in
     let b = c.take_turn.new.answerer in
-    let held = c.take_turn.new.connection.inbox.held in
-    let next = Reached-more g.A.Answer.steps max (take i ms) m x c.loop-moment.connection.inbox.held turn.0 turn.1 b held reached.4 turn.4 in
+    let held = c.take_turn.new.connection.read_buffer.held in
+    let next = Reached-more g.A.Answer.steps max (take i ms) m x c.loop-moment.connection.read_buffer.held turn.0 turn.1 b held reached.4 turn.4 in
     record {
       reader = c.in_ok-turn.ensures.reader;
       writer = c.in_ok-turn.ensures.writer;
@@ -93,7 +93,7 @@ loop-moment-preserved g c =
         subst (λ l. Reached g.A.Answer.steps max l (longer_by g.A.Answer.steps max x turn.0 turn.1 b) held) more next,
       );
       end = (rw c.in_default.is at c.in_ok-turn.ensures.end) c.loop-moment.invariant.end;
-      between = record { phase = ap passed_over ((rw c.in_default.is at c.in_ok-turn.ensures.starts) refl); outbox = c.take_turn.ensures.sent };
+      between = record { phase = ap passed_over ((rw c.in_default.is at c.in_ok-turn.ensures.starts) refl); write_buffer = c.take_turn.ensures.sent };
       size = c.take_turn.ensures.size ∙ c.loop-moment.invariant.size;
     }
 
@@ -102,7 +102,7 @@ returns-clause-converses g c =
     let max = c.args.connection.now.max_size in
     let ms = c.args.moments.now in
     let reached = c.loop-moment.invariant.reached in
-    let held = c.loop-moment.connection.inbox.held in
+    let held = c.loop-moment.connection.read_buffer.held in
     let x : Exchange _ = record { input = reached.0; text = reached.1; before = c.args.answerer.now; after = c.loop-moment.answerer } in
     let all = subst (λ l. Reached g.A.Answer.steps max l x held) (take_all c.loop-moment.moment-index ms c.loop-moment-test.false) reached.4 in
     (reached.0, reached.1, reached.2, reached.3, subst (λ m. Converses g.A.Answer.steps m ms x ended.Moments) c.requires.same (Converses-all g.A.Answer.steps max ms x held all))

@@ -2,33 +2,33 @@ use Rattle.std.proofs.Common.{◌++◌, [], ◌≡◌, ◌≢◌, ◌≤◌, ◌
 use Rattle.std.proofs.lemmas.Result.{err_from_is_err_and}
 use Rattle.std.specs.Io.KnownBytes.{Appends, IsAtEnd}
 use Rattle.http_wire.specs.OnConnection.{OnConnection, Stands, StandsIn, is_looking}
-use Rattle.http_wire.specs.ReadOnWire.{BreaksFront, read_limit}
+use Rattle.http_wire.specs.ReadOnWire.{BreaksMessage, read_limit}
 use Rattle.http_wire.specs.declared.fault.WireFault.TheVariants as fault
 use Rattle.http_wire.specs.inside.Sending.{OnOutbox}
 use Rattle.http_wire.proofs.AheadLemmas.{Appends-more, Appends-none, Consumes-kept, Consumes-more, Consumes-none, IfOk-known, OnErr-known, StopsAtEnd-open}
 use Rattle.http_wire.proofs.ConversationLemmas.{IfErr-from}
 use Rattle.http_wire.proofs.DrivingLemmas.{Breaks-continue, Breaks-over, CameIn-broken, CameIn-wanted, read-few, reads-other, settled-reads, writes-looking}
 use Rattle.http_wire.proofs.FindLemmas.{Searching-start}
-use Rattle.http_wire.proofs.PastLemmas.{StandsIn-kept}
+use Rattle.http_wire.proofs.HistoryLemmas.{StandsIn-kept}
 use Rattle.http_wire.proofs.driving.await_incoming.Goals as goal
 
 pub loop-connection-init : goal.loop-connection-init
 loop-connection-init g c =
     let start = c.args.connection.now in
     let passed = c.pass_over.ensures in
-    let ended = ap (λ (o : OnConnection). o.inbox.ended) passed in
+    let ended = ap (λ (o : OnConnection). o.read_buffer.ended) passed in
     record {
       reader = c.requires.reader;
       writer = c.requires.writer;
       looks = ap (λ (o : OnConnection). is_looking o.phase) passed ∙ ap is_looking c.requires.between.phase;
-      sent = ap (λ (o : OnConnection). o.outbox) passed ∙ c.requires.between.outbox;
+      sent = ap (λ (o : OnConnection). o.write_buffer) passed ∙ c.requires.between.write_buffer;
       size = ap (λ (o : OnConnection). o.max_size) passed;
       stands = (
         [],
         [],
         Consumes-none (g.R.Source.remaining c.args.reader.now),
         Appends-none (g.W.Sink.contents c.args.writer.now),
-        subst (Stands (start.inbox.held ++ []) []) (sym passed) (subst (StandsIn start.max_size (start.inbox.held ++ []) [] start.inbox) (sym c.requires.between.phase) (refl, Searching-start start.inbox.held)),
+        subst (Stands (start.read_buffer.held ++ []) []) (sym passed) (subst (StandsIn start.max_size (start.read_buffer.held ++ []) [] start.read_buffer) (sym c.requires.between.phase) (refl, Searching-start start.read_buffer.held)),
         omega arith,
       );
       stops = λ h. (refl, ended ∙ h);
@@ -39,19 +39,19 @@ pub returns-in_err-ended-in-Read-clause-breaks : goal.returns-in_err-ended-in-Re
 returns-in_err-ended-in-Read-clause-breaks g c =
     let loop = c.loop-connection.invariant in
     let s = loop.stands in
-    let bytes = c.args.connection.now.inbox.held ++ s.0 in
+    let bytes = c.args.connection.now.read_buffer.held ++ s.0 in
     let p = err_from_is_err_and c.from_residual.result c.from_residual.ensures.1 in
-    let stands = settled-reads c.loop-connection.connection.outbox c.wants.new.self bytes s.1 loop.sent c.wants.ensures.same (sym c.wants.ensures.wants ∙ c.in-Read.is) (c.wants.ensures.stands bytes s.1 s.4) in
+    let stands = settled-reads c.loop-connection.connection.write_buffer c.wants.new.self bytes s.1 loop.sent c.wants.ensures.same (sym c.wants.ensures.wants ∙ c.in-Read.is) (c.wants.ensures.stands bytes s.1 s.4) in
     let none = OnErr-known c.read_from.result (sym c.is_err.ensures.value ∙ c.if-is_err.true) c.read_from.ensures.none in
-    let kept = subst (Stands bytes s.1) (sym none.1) (StandsIn-kept c.wants.new.self.max_size bytes s.1 c.wants.new.self.inbox (record c.wants.new.self.inbox { lent = [] }) c.wants.new.self.phase stands refl) in
-    let broken = Breaks-over c.read_from.new.self.max_size bytes s.1 c.fail.new.self.inbox c.fail.new.self.phase c.in_err-ended-in-Read.field-0.0 (c.fail.ensures.breaks bytes s.1 kept) c.in_err-ended-in-Read.ensures in
+    let kept = subst (Stands bytes s.1) (sym none.1) (StandsIn-kept c.wants.new.self.max_size bytes s.1 c.wants.new.self.read_buffer (record c.wants.new.self.read_buffer { lent = [] }) c.wants.new.self.phase stands refl) in
+    let broken = Breaks-over c.read_from.new.self.max_size bytes s.1 c.fail.new.self.read_buffer c.fail.new.self.phase c.in_err-ended-in-Read.field-0.0 (c.fail.ensures.breaks bytes s.1 kept) c.in_err-ended-in-Read.ensures in
     let size = ap (λ (o : OnConnection). o.max_size) none.1 ∙ c.wants.ensures.size ∙ loop.size in
     IfErr-from _ c.from_residual.result p.0 c.in_err-ended-in-Read.field-0.0 p.1 p.2 (
       s.0,
       s.1,
       Consumes-kept _ _ _ s.0 s.2 none.0,
       s.3,
-      subst (λ m. BreaksFront m (record { input = bytes; text = s.1 }) c.in_err-ended-in-Read.field-0.0) size broken.0,
+      subst (λ m. BreaksMessage m (record { input = bytes; text = s.1 }) c.in_err-ended-in-Read.field-0.0) size broken.0,
       s.5,
     )
 
@@ -59,36 +59,36 @@ pub returns-in_err-ended-in-Read-clause-fault : goal.returns-in_err-ended-in-Rea
 returns-in_err-ended-in-Read-clause-fault g c =
     let loop = c.loop-connection.invariant in
     let s = loop.stands in
-    let bytes = c.args.connection.now.inbox.held ++ s.0 in
+    let bytes = c.args.connection.now.read_buffer.held ++ s.0 in
     let p = err_from_is_err_and c.from_residual.result c.from_residual.ensures.1 in
-    let stands = settled-reads c.loop-connection.connection.outbox c.wants.new.self bytes s.1 loop.sent c.wants.ensures.same (sym c.wants.ensures.wants ∙ c.in-Read.is) (c.wants.ensures.stands bytes s.1 s.4) in
+    let stands = settled-reads c.loop-connection.connection.write_buffer c.wants.new.self bytes s.1 loop.sent c.wants.ensures.same (sym c.wants.ensures.wants ∙ c.in-Read.is) (c.wants.ensures.stands bytes s.1 s.4) in
     let error = sym c.is_err.ensures.value ∙ c.if-is_err.true in
     let none = OnErr-known c.read_from.result error c.read_from.ensures.none in
-    let kept = subst (Stands bytes s.1) (sym none.1) (StandsIn-kept c.wants.new.self.max_size bytes s.1 c.wants.new.self.inbox (record c.wants.new.self.inbox { lent = [] }) c.wants.new.self.phase stands refl) in
-    let broken = Breaks-over c.read_from.new.self.max_size bytes s.1 c.fail.new.self.inbox c.fail.new.self.phase c.in_err-ended-in-Read.field-0.0 (c.fail.ensures.breaks bytes s.1 kept) c.in_err-ended-in-Read.ensures in
+    let kept = subst (Stands bytes s.1) (sym none.1) (StandsIn-kept c.wants.new.self.max_size bytes s.1 c.wants.new.self.read_buffer (record c.wants.new.self.read_buffer { lent = [] }) c.wants.new.self.phase stands refl) in
+    let broken = Breaks-over c.read_from.new.self.max_size bytes s.1 c.fail.new.self.read_buffer c.fail.new.self.phase c.in_err-ended-in-Read.field-0.0 (c.fail.ensures.breaks bytes s.1 kept) c.in_err-ended-in-Read.ensures in
     IfErr-from _ c.from_residual.result p.0 fault.Read p.1 (p.2 ∙ broken.1) (c.read_from.ensures.failed ∙ error, loop.writer)
 
 pub returns-in_err-ended-in-Read-clause-tells_end : goal.returns-in_err-ended-in-Read-clause-tells_end
 returns-in_err-ended-in-Read-clause-tells_end g c =
     let loop = c.loop-connection.invariant in
     let s = loop.stands in
-    let bytes = c.args.connection.now.inbox.held ++ s.0 in
+    let bytes = c.args.connection.now.read_buffer.held ++ s.0 in
     let p = err_from_is_err_and c.from_residual.result c.from_residual.ensures.1 in
-    let stands = settled-reads c.loop-connection.connection.outbox c.wants.new.self bytes s.1 loop.sent c.wants.ensures.same (sym c.wants.ensures.wants ∙ c.in-Read.is) (c.wants.ensures.stands bytes s.1 s.4) in
+    let stands = settled-reads c.loop-connection.connection.write_buffer c.wants.new.self bytes s.1 loop.sent c.wants.ensures.same (sym c.wants.ensures.wants ∙ c.in-Read.is) (c.wants.ensures.stands bytes s.1 s.4) in
     let none = OnErr-known c.read_from.result (sym c.is_err.ensures.value ∙ c.if-is_err.true) c.read_from.ensures.none in
-    let kept = subst (Stands bytes s.1) (sym none.1) (StandsIn-kept c.wants.new.self.max_size bytes s.1 c.wants.new.self.inbox (record c.wants.new.self.inbox { lent = [] }) c.wants.new.self.phase stands refl) in
-    let broken = Breaks-over c.read_from.new.self.max_size bytes s.1 c.fail.new.self.inbox c.fail.new.self.phase c.in_err-ended-in-Read.field-0.0 (c.fail.ensures.breaks bytes s.1 kept) c.in_err-ended-in-Read.ensures in
-    IfErr-from _ c.from_residual.result p.0 fault.Read p.1 (p.2 ∙ broken.1) (c.fail.ensures.ended ∙ ap (λ (o : OnConnection). o.inbox.ended) none.1 ∙ c.wants.ensures.unended c.in-Read.is)
+    let kept = subst (Stands bytes s.1) (sym none.1) (StandsIn-kept c.wants.new.self.max_size bytes s.1 c.wants.new.self.read_buffer (record c.wants.new.self.read_buffer { lent = [] }) c.wants.new.self.phase stands refl) in
+    let broken = Breaks-over c.read_from.new.self.max_size bytes s.1 c.fail.new.self.read_buffer c.fail.new.self.phase c.in_err-ended-in-Read.field-0.0 (c.fail.ensures.breaks bytes s.1 kept) c.in_err-ended-in-Read.ensures in
+    IfErr-from _ c.from_residual.result p.0 fault.Read p.1 (p.2 ∙ broken.1) (c.fail.ensures.ended ∙ ap (λ (o : OnConnection). o.read_buffer.ended) none.1 ∙ c.wants.ensures.unended c.in-Read.is)
 
 pub returns-then-is_err-clause-comes : goal.returns-then-is_err-clause-comes
 returns-then-is_err-clause-comes g c =
     let loop = c.loop-connection.invariant in
     let s = loop.stands in
-    let bytes = c.args.connection.now.inbox.held ++ s.0 in
-    let stands = settled-reads c.loop-connection.connection.outbox c.wants.new.self bytes s.1 loop.sent c.wants.ensures.same (sym c.wants.ensures.wants ∙ c.in-Read.is) (c.wants.ensures.stands bytes s.1 s.4) in
+    let bytes = c.args.connection.now.read_buffer.held ++ s.0 in
+    let stands = settled-reads c.loop-connection.connection.write_buffer c.wants.new.self bytes s.1 loop.sent c.wants.ensures.same (sym c.wants.ensures.wants ∙ c.in-Read.is) (c.wants.ensures.stands bytes s.1 s.4) in
     let error = sym c.is_err.ensures.value ∙ c.if-is_err.true in
     let none = OnErr-known c.read_from.result error c.read_from.ensures.none in
-    let kept = subst (Stands bytes s.1) (sym none.1) (StandsIn-kept c.wants.new.self.max_size bytes s.1 c.wants.new.self.inbox (record c.wants.new.self.inbox { lent = [] }) c.wants.new.self.phase stands refl) in (
+    let kept = subst (Stands bytes s.1) (sym none.1) (StandsIn-kept c.wants.new.self.max_size bytes s.1 c.wants.new.self.read_buffer (record c.wants.new.self.read_buffer { lent = [] }) c.wants.new.self.phase stands refl) in (
       s.0,
       s.1,
       Consumes-kept _ _ _ s.0 s.2 none.0,
@@ -99,12 +99,12 @@ returns-then-is_err-clause-comes g c =
 
 pub loop-connection-preserved-else-is_err : goal.loop-connection-preserved-else-is_err
 loop-connection-preserved-else-is_err g c =
-    let start = c.args.connection.now.inbox in
+    let start = c.args.connection.now.read_buffer in
     let loop = c.loop-connection.invariant in
     let s = loop.stands in
     let bytes = start.held ++ s.0 in
     let reads = sym c.wants.ensures.wants ∙ c.in-Read.is in
-    let stands = settled-reads c.loop-connection.connection.outbox c.wants.new.self bytes s.1 loop.sent c.wants.ensures.same reads (c.wants.ensures.stands bytes s.1 s.4) in
+    let stands = settled-reads c.loop-connection.connection.write_buffer c.wants.new.self bytes s.1 loop.sent c.wants.ensures.same reads (c.wants.ensures.stands bytes s.1 s.4) in
     let ok = sym c.is_err.ensures.value ∙ c.if-is_err.false in
     let read = IfOk-known _ c.read_from.result ok c.read_from.ensures.takes in
     let got = read.2.0 in
@@ -115,7 +115,7 @@ loop-connection-preserved-else-is_err g c =
       reader = c.read_from.ensures.failed ∙ ok;
       writer = loop.writer;
       looks = takes.looks;
-      sent = takes.outbox ∙ c.wants.ensures.same (reads-other c.wants.new.self.outbox c.wants.new.self.phase reads) ∙ loop.sent;
+      sent = takes.write_buffer ∙ c.wants.ensures.same (reads-other c.wants.new.self.write_buffer c.wants.new.self.phase reads) ∙ loop.sent;
       size = takes.size ∙ c.wants.ensures.size ∙ loop.size;
       stands = (
         s.0 ++ got,
@@ -125,7 +125,7 @@ loop-connection-preserved-else-is_err g c =
         subst (λ i. Stands i s.1 c.read_from.new.self) (append_assoc start.held s.0 got) (takes.stands bytes s.1 stands),
         read-few c.args.connection.now.max_size c.wants.new.self.max_size start.held s.0 got read.0 read.2.1 size (subst (λ r. IfOk r (λ n. (bytes said : List ℕ) → Stands bytes said c.wants.new.self → length bytes + n ≤ read_limit c.wants.new.self.max_size)) read.1 c.read_from.ensures.few bytes s.1 stands),
       );
-      stops = StopsAtEnd-open _ c.loop-connection.reader c.read_from.new.reader start c.loop-connection.connection.inbox c.read_from.new.self.inbox loop.stops (sym c.wants.ensures.ended ∙ c.wants.ensures.unended c.in-Read.is);
+      stops = StopsAtEnd-open _ c.loop-connection.reader c.read_from.new.reader start c.loop-connection.connection.read_buffer c.read_from.new.self.read_buffer loop.stops (sym c.wants.ensures.ended ∙ c.wants.ensures.unended c.in-Read.is);
       end = λ _ ended. end (sym read.2.1 ∙ ap length (takes.ended.1 ended));
     }
 
@@ -133,16 +133,16 @@ pub loop-connection-preserved : goal.loop-connection-preserved
 loop-connection-preserved g c =
     let loop = c.loop-connection.invariant in
     let s = loop.stands in
-    let bytes = c.args.connection.now.inbox.held ++ s.0 in
+    let bytes = c.args.connection.now.read_buffer.held ++ s.0 in
     let put = c.wants.ensures.stands bytes s.1 s.4 in
     let sent = c.flush.ensures.sent in
     let wrote = c.in_ok-flush-in-Write.ensures.writes in
-    let all : c.wants.new.self.outbox.pending ≡ put.0 = put.1 ∙ ap (λ (o : OnOutbox). o.pending ++ put.0) loop.sent in
+    let all : c.wants.new.self.write_buffer.pending ≡ put.0 = put.1 ∙ ap (λ (o : OnOutbox). o.pending ++ put.0) loop.sent in
     record {
       reader = loop.reader;
       writer = wrote.failed;
-      looks = ap (λ (o : OnConnection). is_looking o.phase) sent ∙ writes-looking c.loop-connection.connection.outbox c.wants.new.self loop.sent c.wants.ensures.same (sym c.wants.ensures.wants ∙ c.in-Write.is);
-      sent = ap (λ (o : OnConnection). o.outbox) sent;
+      looks = ap (λ (o : OnConnection). is_looking o.phase) sent ∙ writes-looking c.loop-connection.connection.write_buffer c.wants.new.self loop.sent c.wants.ensures.same (sym c.wants.ensures.wants ∙ c.in-Write.is);
+      sent = ap (λ (o : OnConnection). o.write_buffer) sent;
       size = ap (λ (o : OnConnection). o.max_size) sent ∙ c.wants.ensures.size ∙ loop.size;
       stands = (
         s.0,
@@ -154,29 +154,29 @@ loop-connection-preserved g c =
       );
       stops = λ h.
           let p = loop.stops h in
-          (p.0, ap (λ (o : OnConnection). o.inbox.ended) sent ∙ c.wants.ensures.ended ∙ p.1);
-      end = λ sees ended. loop.end sees (sym c.wants.ensures.ended ∙ sym (ap (λ (o : OnConnection). o.inbox.ended) sent) ∙ ended);
+          (p.0, ap (λ (o : OnConnection). o.read_buffer.ended) sent ∙ c.wants.ensures.ended ∙ p.1);
+      end = λ sees ended. loop.end sees (sym c.wants.ensures.ended ∙ sym (ap (λ (o : OnConnection). o.read_buffer.ended) sent) ∙ ended);
     }
 
 pub returns-in_err-flush-in-Write-clause-breaks : goal.returns-in_err-flush-in-Write-clause-breaks
 returns-in_err-flush-in-Write-clause-breaks g c =
     let loop = c.loop-connection.invariant in
     let s = loop.stands in
-    let bytes = c.args.connection.now.inbox.held ++ s.0 in
+    let bytes = c.args.connection.now.read_buffer.held ++ s.0 in
     let put = c.wants.ensures.stands bytes s.1 s.4 in
-    let looks = writes-looking c.loop-connection.connection.outbox c.wants.new.self loop.sent c.wants.ensures.same (sym c.wants.ensures.wants ∙ c.in-Write.is) in
-    let all : c.wants.new.self.outbox.pending ≡ put.0 = put.1 ∙ ap (λ (o : OnOutbox). o.pending ++ put.0) loop.sent in
+    let looks = writes-looking c.loop-connection.connection.write_buffer c.wants.new.self loop.sent c.wants.ensures.same (sym c.wants.ensures.wants ∙ c.in-Write.is) in
+    let all : c.wants.new.self.write_buffer.pending ≡ put.0 = put.1 ∙ ap (λ (o : OnOutbox). o.pending ++ put.0) loop.sent in
     let p = err_from_is_err_and c.from_residual-in_err-flush-in-Write.result c.from_residual-in_err-flush-in-Write.ensures.1 in
     let writes = c.in_err-flush-in-Write.ensures.writes in
     let n = writes.prefix.0 in
     let some = subst (λ l. l ≢ []) all (c.wants.ensures.some c.in-Write.is) in
-    let breaks = Breaks-continue c.wants.new.self.max_size bytes s.1 put.0 n c.wants.new.self.inbox c.wants.new.self.phase put.2 looks some in
+    let breaks = Breaks-continue c.wants.new.self.max_size bytes s.1 put.0 n c.wants.new.self.read_buffer c.wants.new.self.phase put.2 looks some in
     IfErr-from _ c.from_residual-in_err-flush-in-Write.result p.0 fault.Write p.1 (p.2 ∙ writes.fault) (
       s.0,
       s.1 ++ take n put.0,
       s.2,
       Appends-more _ _ _ s.1 (take n put.0) s.3 (subst (λ l. Appends (g.W.Sink.contents c.loop-connection.writer) (g.W.Sink.contents c.flush.new.writer) (take n l)) all writes.prefix.2),
-      subst (λ m. BreaksFront m (record { input = bytes; text = s.1 ++ take n put.0 }) fault.Write) (c.wants.ensures.size ∙ loop.size) breaks,
+      subst (λ m. BreaksMessage m (record { input = bytes; text = s.1 ++ take n put.0 }) fault.Write) (c.wants.ensures.size ∙ loop.size) breaks,
       s.5,
     )
 
@@ -184,12 +184,12 @@ pub returns-in-Answer-clause-comes : goal.returns-in-Answer-clause-comes
 returns-in-Answer-clause-comes g c =
     let loop = c.loop-connection.invariant in
     let s = loop.stands in
-    let bytes = c.args.connection.now.inbox.held ++ s.0 in (
+    let bytes = c.args.connection.now.read_buffer.held ++ s.0 in (
       s.0,
       s.1,
       s.2,
       s.3,
-      CameIn-wanted bytes s.1 _ c.loop-connection.connection.outbox c.wants.new.self c.wants.result loop.sent c.wants.ensures.same c.wants.ensures.wants c.in-Answer.is (c.wants.ensures.stands bytes s.1 s.4)
+      CameIn-wanted bytes s.1 _ c.loop-connection.connection.write_buffer c.wants.new.self c.wants.result loop.sent c.wants.ensures.same c.wants.ensures.wants c.in-Answer.is (c.wants.ensures.stands bytes s.1 s.4)
           c.wants.ensures.tells_end (c.wants.ensures.unbroken loop.looks) loop.reader,
       s.5,
     )

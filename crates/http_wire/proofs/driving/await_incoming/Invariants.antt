@@ -3,7 +3,7 @@ use Rattle.std.specs.Io.KnownBytes.{Appends, Consumes}
 use Rattle.http_wire.specs.OnConnection.{Stands, is_looking, left}
 use Rattle.http_wire.specs.ReadOnWire.{read_limit}
 use Rattle.http_wire.specs.inside.Ahead.{SeesEnd, StopsAtEnd}
-use Rattle.http_wire.specs.inside.Sending.{empty_outbox}
+use Rattle.http_wire.specs.inside.Sending.{empty_write_buffer}
 use Rattle.http_wire.proofs.driving.await_incoming.Given as goal
 
 -- the connection stands so far in all bytes that were read, with all that was written, and nothing is left to be sent
@@ -12,13 +12,13 @@ invariant-loop-connection g l = record {
   reader : g.R.Source.has_failed l.reader ≡ false;
   writer : g.W.Sink.has_failed l.writer ≡ false;
   looks : is_looking l.connection.phase ≡ true;
-  sent : l.connection.outbox ≡ empty_outbox;
+  sent : l.connection.write_buffer ≡ empty_write_buffer;
   size : l.connection.max_size ≡ l.fn.connection.max_size;
   stands : (got said : List ℕ) × Consumes (g.R.Source.remaining l.fn.reader) (g.R.Source.remaining l.reader) got
-      × Appends (g.W.Sink.contents l.fn.writer) (g.W.Sink.contents l.writer) said × Stands (l.fn.connection.inbox.held ++ got) said l.connection
+      × Appends (g.W.Sink.contents l.fn.writer) (g.W.Sink.contents l.writer) said × Stands (l.fn.connection.read_buffer.held ++ got) said l.connection
       × (length got ≤ read_limit l.fn.connection.max_size);
-  stops : StopsAtEnd l.fn.reader l.reader l.fn.connection.inbox l.connection.inbox;
-  end : SeesEnd (g.R.Source.remaining l.fn.reader) l.fn.connection.inbox → SeesEnd (g.R.Source.remaining l.reader) l.connection.inbox;
+  stops : StopsAtEnd l.fn.reader l.reader l.fn.connection.read_buffer l.connection.read_buffer;
+  end : SeesEnd (g.R.Source.remaining l.fn.reader) l.fn.connection.read_buffer → SeesEnd (g.R.Source.remaining l.reader) l.connection.read_buffer;
 }
 
 -- a read gives bytes, or the end, and `100 Continue` is due once

@@ -7,7 +7,7 @@ use Rattle.journal_frames.specs.Crash.{Leaves}
 use Rattle.journal_file.proofs.Losses.{AllByRecursion-append}
 use Rattle.journal_frames.specs.Frames.{frames, Fits}
 use Rattle.std.specs.List.{AllByRecursion}
-use Rattle.journal_keeper.proofs.WaitingLemmas.{each-at, each-length, leaves-front, more-split}
+use Rattle.journal_keeper.proofs.WaitingLemmas.{each-at, each-length, leaves-durable, more-split}
 use Rattle.journal_keeper.proofs.keeping.append_all.Goals as goal
 
 pub returns-in_err-append_frame-clause-crash : goal.returns-in_err-append_frame-clause-crash
@@ -20,7 +20,7 @@ returns-in_err-append_frame-clause-crash g c = λ payloads more is are left may.
     let at = each-at (λ frame. frame.items) waiting key more are i c.frame-item.result c.loop-frame-test.true c.frame-item.is in
     let frame_is : c.deref.result.now ≡ frames (key_of c.loop-frame.journal) (get_or more i [] ∷ []) = c.deref.ensures.value ∙ at ∙ ap (λ (k : ℕ). frames k (get_or more i [] ∷ [])) (sym so_far.key) in
     let crash = c.append_frame.ensures.crash payloads (take i more) (get_or more i []) (so_far.appended payloads more is are) frame_is left may in
-    subst (λ (k : ℕ). Leaves k payloads more left) so_far.key (leaves-front _ payloads (take i more ++ get_or more i [] ∷ []) (drop (i + 1) more) more left (more-split more i within) crash)
+    subst (λ (k : ℕ). Leaves k payloads more left) so_far.key (leaves-durable _ payloads (take i more ++ get_or more i [] ∷ []) (drop (i + 1) more) more left (more-split more i within) crash)
 
 pub loop-frame-preserved : goal.loop-frame-preserved
 loop-frame-preserved g c =

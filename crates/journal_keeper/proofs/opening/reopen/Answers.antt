@@ -13,7 +13,7 @@ new-keeper-requires-clause-journal g c = λ honest.
     let s = g.C.Charges.settings in
     let store = c.make_all_again.new.store in
     let found = recovered c.args.key c.args.opened.frames.items in
-    let events : c.seen_events-front.result.events ≡ store = ap (λ p. p.events) c.seen_events-front.ensures ∙ c.make_all_again.ensures.seen in
+    let events : c.seen_events-durable.result.events ≡ store = ap (λ p. p.events) c.seen_events-durable.ensures ∙ c.make_all_again.ensures.seen in
     let read : recovered c.new.result.key c.new.result.rest.now ≡ found = search rules in
     record {
       records = found;

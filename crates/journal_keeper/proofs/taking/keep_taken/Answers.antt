@@ -11,35 +11,35 @@ pub returns-in_err-keep_frames-clause-crash : goal.returns-in_err-keep_frames-cl
 returns-in_err-keep_frames-clause-crash g c = λ is left may.
     let s = g.C.Charges.settings in
     let taken = c.requires.taken in
-    let front = c.args.front.now.events in
+    let durable = c.args.durable.now.events in
     let key = key_of c.args.journal.now in
     let are : map {A = Vec ℕ Global} {B = List ℕ} (λ frame. frame.items) c.deref.result.now ≡ frames_each key (event_records taken.more) =
     ap (map {A = Vec ℕ Global} {B = List ℕ} (λ frame. frame.items)) c.deref.ensures.value ∙ frames-queued g.C.Charges.journal key _ taken.more c.requires.key taken.are in
-    left-more key s front taken.more is.records left (subst (HaveHappened s) taken.reaches taken.happened) is.make taken.again (c.keep_frames.ensures.crash is.records (event_records taken.more) is.holds are left may)
+    left-more key s durable taken.more is.records left (subst (HaveHappened s) taken.reaches taken.happened) is.make taken.again (c.keep_frames.ensures.crash is.records (event_records taken.more) is.holds are left may)
 
 pub returns-clause-kept : goal.returns-clause-kept
 returns-clause-kept g c = λ is.
     let s = g.C.Charges.settings in
     let taken = c.requires.taken in
-    let front = c.args.front.now.events in
+    let durable = c.args.durable.now.events in
     let key = key_of c.args.journal.now in
     let are : map {A = Vec ℕ Global} {B = List ℕ} (λ frame. frame.items) c.deref.result.now ≡ frames_each key (event_records taken.more) =
     ap (map {A = Vec ℕ Global} {B = List ℕ} (λ frame. frame.items)) c.deref.ensures.value ∙ frames-queued g.C.Charges.journal key _ taken.more c.requires.key taken.are in
     record {
       records = is.records ++ event_records taken.more;
       holds = c.in_ok-keep_frames.ensures.kept is.records (event_records taken.more) is.holds are;
-      make = subst (λ (events : List Event). MakeBook s events (is.records ++ event_records taken.more)) (sym taken.reaches) (make-more s front taken.more is.records is.make taken.again);
+      make = subst (λ (events : List Event). MakeBook s events (is.records ++ event_records taken.more)) (sym taken.reaches) (make-more s durable taken.more is.records is.make taken.again);
     }
 
 pub returns-clause-crash : goal.returns-clause-crash
 returns-clause-crash g c = λ is left may.
     let s = g.C.Charges.settings in
     let taken = c.requires.taken in
-    let front = c.args.front.now.events in
+    let durable = c.args.durable.now.events in
     let key = key_of c.args.journal.now in
     let are : map {A = Vec ℕ Global} {B = List ℕ} (λ frame. frame.items) c.deref.result.now ≡ frames_each key (event_records taken.more) =
     ap (map {A = Vec ℕ Global} {B = List ℕ} (λ frame. frame.items)) c.deref.ensures.value ∙ frames-queued g.C.Charges.journal key _ taken.more c.requires.key taken.are in
-    left-more key s front taken.more is.records left (subst (HaveHappened s) taken.reaches taken.happened) is.make taken.again (c.keep_frames.ensures.crash is.records (event_records taken.more) is.holds are left may)
+    left-more key s durable taken.more is.records left (subst (HaveHappened s) taken.reaches taken.happened) is.make taken.again (c.keep_frames.ensures.crash is.records (event_records taken.more) is.holds are left may)
 
 pub returns-clause-fit : goal.returns-clause-fit
 returns-clause-fit g c = λ records are. c.in_ok-keep_frames.ensures.fit records (ap (map {A = Vec ℕ Global} {B = List ℕ} (λ frame. frame.items)) c.deref.ensures.value ∙ are)
@@ -47,6 +47,6 @@ returns-clause-fit g c = λ records are. c.in_ok-keep_frames.ensures.fit records
 pub returns-clause-each : goal.returns-clause-each
 returns-clause-each g c =
     let taken = c.requires.taken in
-    let each : length c.args.taken.now.frames.items ≡ length c.args.taken.now.reached.events - length c.args.front.now.events =
-    taken-count {V = Vec ℕ Global} (λ frame. frame.items) g.C.Charges.journal c.args.front.now.events c.args.taken.now.reached.events taken.more c.args.taken.now.frames.items taken.reaches taken.are in
+    let each : length c.args.taken.now.frames.items ≡ length c.args.taken.now.reached.events - length c.args.durable.now.events =
+    taken-count {V = Vec ℕ Global} (λ frame. frame.items) g.C.Charges.journal c.args.durable.now.events c.args.taken.now.reached.events taken.more c.args.taken.now.frames.items taken.reaches taken.are in
     search rules

@@ -16,15 +16,15 @@ use Rattle.tus_program.specs.Sockets.{sockets}
 use Rattle.tus_program.proofs.ServeLemmas.{BreaksOff-before, HasFailed-some, HaveAccepted-whole, before-service, by_cause, unstopped-unasked}
 use Rattle.tus_program.proofs.serve.listen_and_serve.Goals as goal
 
-pub returns-in_err-commons-clause-fault : goal.returns-in_err-commons-clause-fault
-returns-in_err-commons-clause-fault g c =
+pub returns-in_err-server_state-clause-fault : goal.returns-in_err-server_state-clause-fault
+returns-in_err-server_state-clause-fault g c =
     let made = err_from_is_err_and c.from_residual.result c.from_residual.ensures.1 in
-    rw (made.1, made.2) (before-service _ c.in_err-commons.ensures)
+    rw (made.1, made.2) (before-service _ c.in_err-server_state.ensures)
 
-pub returns-in_err-commons-clause-wire : goal.returns-in_err-commons-clause-wire
-returns-in_err-commons-clause-wire g c =
+pub returns-in_err-server_state-clause-wire : goal.returns-in_err-server_state-clause-wire
+returns-in_err-server_state-clause-wire g c =
     let made = err_from_is_err_and c.from_residual.result c.from_residual.ensures.1 in
-    BreaksOff-before _ _ _ _ _ _ refl (made.1 ∙ ap Err made.2) c.in_err-commons.ensures
+    BreaksOff-before _ _ _ _ _ _ refl (made.1 ∙ ap Err made.2) c.in_err-server_state.ensures
 
 pub returns-in_err-at-clause-fault : goal.returns-in_err-at-clause-fault
 returns-in_err-at-clause-fault g c =

@@ -1,5 +1,5 @@
 use Rattle.std.proofs.Common.{refl}
-use Rattle.http_wire.proofs.PastLemmas.{Past-sent}
+use Rattle.http_wire.proofs.HistoryLemmas.{History-sent}
 use Rattle.http_wire.proofs.connection.Connection.sent.Goals as goal
 
 pub returns : goal.returns
@@ -7,6 +7,6 @@ returns c = rw (← c.self.view_is) (record {
   pending = c.sent.ensures.pending;
   empty = c.sent.ensures.empty;
   room = c.sent.ensures.room;
-  past = λ p h. Past-sent p c.args.count _ _ c.sent.ensures.pending refl h;
+  history = λ p h. History-sent p c.args.count _ _ c.sent.ensures.pending refl h;
   same = refl;
 })

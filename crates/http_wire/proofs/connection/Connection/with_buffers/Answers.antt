@@ -1,5 +1,5 @@
 use Rattle.std.proofs.Common.{rules}
-use Rattle.http_wire.proofs.PastLemmas.{Past-start}
+use Rattle.http_wire.proofs.HistoryLemmas.{History-start}
 use Rattle.http_wire.proofs.PhaseLemmas.{IsConnection-start}
 use Rattle.http_wire.proofs.connection.Connection.with_buffers.Goals as goal
 
@@ -7,4 +7,4 @@ pub invariant_of-result : goal.invariant_of-result
 invariant_of-result c = IsConnection-start _ _ _ c.requires c.start.ensures
 
 pub returns-clause-begins : goal.returns-clause-begins
-returns-clause-begins c = Past-start _ (search rules)
+returns-clause-begins c = History-start _ (search rules)

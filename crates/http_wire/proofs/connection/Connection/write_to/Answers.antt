@@ -1,6 +1,6 @@
 use Rattle.std.proofs.Common.{refl}
 use Rattle.http_wire.proofs.AheadLemmas.{IfOk-both}
-use Rattle.http_wire.proofs.PastLemmas.{Past-sent}
+use Rattle.http_wire.proofs.HistoryLemmas.{History-sent}
 use Rattle.http_wire.proofs.StageLemmas.{IfOk-from}
 use Rattle.http_wire.proofs.connection.Connection.write_to.Goals as goal
 
@@ -13,7 +13,7 @@ returns-clause-wrote g c =
         pending = h.1.0;
         empty = wrote.empty;
         room = wrote.room;
-        past = λ p past. Past-sent p n _ _ h.1.0 refl past;
+        history = λ p history. History-sent p n _ _ h.1.0 refl history;
         same = refl;
       },
       h.1.1,

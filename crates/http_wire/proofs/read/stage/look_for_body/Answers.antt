@@ -1,6 +1,6 @@
 use Rattle.std.proofs.Common.{length, refl, sym, ap, ◌∙◌, arith}
 use Rattle.http_wire.specs.inside.Ahead.{Ahead}
-use Rattle.http_wire.proofs.FrontLemmas.{IsFront-message, IsFront-cut_patch, IsFront-cut_other}
+use Rattle.http_wire.proofs.NextMessageLemmas.{IsNextMessage-message, IsNextMessage-cut_patch, IsNextMessage-cut_other}
 use Rattle.http_wire.proofs.read.stage.look_for_body.Goals as goal
 
 pub returns-then-held-total-clause-looks : goal.returns-then-held-total-clause-looks
@@ -8,7 +8,7 @@ returns-then-held-total-clause-looks c max bytes b =
     let p = c.args.layout.now in (
       p.is_waiting,
       refl,
-      IsFront-message max bytes p c.args.inbox.now.held b c.lend.new.self (omega (arith, c.if-held-total.true, ap length c.held.ensures.bytes))
+      IsNextMessage-message max bytes p c.args.read_buffer.now.held b c.lend.new.self (omega (arith, c.if-held-total.true, ap length c.held.ensures.bytes))
           (ap (λ (a : Ahead). a.lent) c.lend.ensures) (ap (λ (a : Ahead). a.held) c.lend.ensures),
     )
 
@@ -17,7 +17,7 @@ returns-then-not-is_applied_when_cut-clause-looks c max bytes b =
     let p = c.args.layout.now in (
       p.is_waiting,
       refl,
-      IsFront-cut_other max bytes p c.args.inbox.now.held b (omega (arith, c.if-held-total.false, ap length c.held.ensures.bytes))
+      IsNextMessage-cut_other max bytes p c.args.read_buffer.now.held b (omega (arith, c.if-held-total.false, ap length c.held.ensures.bytes))
           c.requires.held (λ head. sym (c.is_applied_when_cut.ensures head) ∙ c.if-not-is_applied_when_cut.true),
     )
 
@@ -26,6 +26,6 @@ returns-clause-looks c max bytes b =
     let p = c.args.layout.now in (
       p.is_waiting,
       refl,
-      IsFront-cut_patch max bytes p c.args.inbox.now.held b c.lend_all.new.inbox (omega (arith, c.if-held-total.false, ap length c.held.ensures.bytes))
+      IsNextMessage-cut_patch max bytes p c.args.read_buffer.now.held b c.lend_all.new.read_buffer (omega (arith, c.if-held-total.false, ap length c.held.ensures.bytes))
           c.requires.held (λ head. sym (c.is_applied_when_cut.ensures head) ∙ c.if-not-is_applied_when_cut.false) c.lend_all.ensures.lent,
     )

@@ -1,8 +1,8 @@
 use Rattle.std.proofs.Common.{◌<◌, ◌+◌, ◌++◌, arith, refl, sym, ◌∙◌, subst}
-use Rattle.http_wire.specs.Front.{IsFront, refused, sure_room}
+use Rattle.http_wire.specs.NextMessage.{IsNextMessage, refused, sure_room}
 use Rattle.http_wire.specs.declared.refusal.WireRefusal.TheVariants.{Memory}
 use Rattle.http_wire.proofs.AheadLemmas.{OnErr-known}
-use Rattle.http_wire.proofs.FrontLemmas.{IsFront-memory}
+use Rattle.http_wire.proofs.NextMessageLemmas.{IsNextMessage-memory}
 use Rattle.http_wire.proofs.read.stage.make_room.Goals as goal
 
 pub returns-then-is_err-clause-comes : goal.returns-then-is_err-clause-comes
@@ -10,5 +10,5 @@ returns-then-is_err-clause-comes c max bytes b =
     let large : sure_room < c.args.layout.head_len + c.args.layout.body_len = OnErr-known c.reserve.result (sym c.is_err.ensures.value ∙ c.if-is_err.true) c.reserve.ensures.sure in (
       refl,
       λ rest.
-          subst (λ x. IsFront max (bytes ++ rest) (refused Memory x)) (sym c.closing.ensures) (IsFront-memory max bytes c.args.layout c.args.inbox.now.held b rest c.requires.held (omega (arith, c.requires.head, large)) large),
+          subst (λ x. IsNextMessage max (bytes ++ rest) (refused Memory x)) (sym c.closing.ensures) (IsNextMessage-memory max bytes c.args.layout c.args.read_buffer.now.held b rest c.requires.held (omega (arith, c.requires.head, large)) large),
     )

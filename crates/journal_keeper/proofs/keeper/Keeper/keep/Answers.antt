@@ -12,9 +12,9 @@ use Rattle.journal_keeper.proofs.keeper.Keeper.keep.Goals as goal
 
 pub returns-then-begins-clause-kept : goal.returns-then-begins-clause-kept
 returns-then-begins-clause-kept g c =
-    let begins : IsPrefix c.args.desk.now.seen c.self.inside.front.events =
-    subst (λ (events : List Event). IsPrefix events c.self.inside.front.events) (ap (λ s. s.events) c.seen_events-seen.ensures) (c.begins.ensures.begins c.if-begins.true) in
-    on_ok c.tell-told.result _ (subst (λ (events : List Event). IsPrefix events c.self.inside.front.events) (sym c.tell-told.ensures.seen) begins)
+    let begins : IsPrefix c.args.desk.now.seen c.self.inside.durable.events =
+    subst (λ (events : List Event). IsPrefix events c.self.inside.durable.events) (ap (λ s. s.events) c.seen_events-seen.ensures) (c.begins.ensures.begins c.if-begins.true) in
+    on_ok c.tell-told.result _ (subst (λ (events : List Event). IsPrefix events c.self.inside.durable.events) (sym c.tell-told.ensures.seen) begins)
 
 pub invariant_of-self-2 : goal.invariant_of-self-2
 invariant_of-self-2 g c =
@@ -28,8 +28,8 @@ invariant_of-self-2 g c =
     let are : map {A = Vec ℕ Global} {B = List ℕ} (λ frame. frame.items) frames ≡ frames_each key (event_records taken.more) = frames-queued g.C.Charges.journal key _ taken.more is.key taken.are in
     let fit = told.fit (event_records taken.more) are in
     let was : c.take.result ≡ c.self.inside.compaction = search rules in
-    let keeps = subst (λ (it : Option (Compaction g.row.D.Denot g.D.Disk)). IfSome it (λ one. WillKeep s one key c.self.inside.front.events)) (sym was) c.self.invariant.1 in
-    let more = will-keep-more s key c.self.inside.front.events taken.more c.take.result c.with_kept.result taken.again keeps (λ records have. c.with_kept.ensures.more key records (event_records taken.more) have are fit) c.with_kept.ensures.none in
+    let keeps = subst (λ (it : Option (Compaction g.row.D.Denot g.D.Disk)). IfSome it (λ one. WillKeep s one key c.self.inside.durable.events)) (sym was) c.self.invariant.1 in
+    let more = will-keep-more s key c.self.inside.durable.events taken.more c.take.result c.with_kept.result taken.again keeps (λ records have. c.with_kept.ensures.more key records (event_records taken.more) have are fit) c.with_kept.ensures.none in
     let reached = subst (λ (events : List Event). IfSome c.with_kept.result (λ it. WillKeep s it key events)) (sym taken.reaches) more in (
       kept-more c.self.inside.journal c.keep_taken.new.journal _ _ _ _ _ _ _ _ _ c.self.inside.granted _ _ c.if-self.false is told.key found.log taken.happened told.kept told.covered,
       will-keep-under _ _ _ _ c.with_kept.result told.key reached,

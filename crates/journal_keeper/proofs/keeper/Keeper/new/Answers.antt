@@ -6,10 +6,10 @@ pub invariant_of-result : goal.invariant_of-result
 invariant_of-result g c = (
   record {
     key = c.requires.key;
-    front_log = c.requires.log;
+    durable_log = c.requires.log;
     happened = c.requires.happened;
     holds = λ well honest. c.requires.journal honest;
-    left = λ honest left may. left-all c.args.journal g.C.Charges.settings c.args.front.events c.requires.happened (c.requires.journal honest) left may;
+    left = λ honest left may. left-all c.args.journal g.C.Charges.settings c.args.durable.events c.requires.happened (c.requires.journal honest) left may;
     alone = λ well. refl;
     other_left = λ honest. tt;
     covered = λ well. omega arith;

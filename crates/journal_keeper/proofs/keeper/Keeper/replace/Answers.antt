@@ -16,8 +16,8 @@ invariant_of-self g c =
     let key : key_of c.replace-old.new.dest ≡ key_of c.self.inside.journal = ap (λ j. key_of j) there ∙ (c.requires.key ∙ sym (ap (λ k. k.key) view)) in
     let wide : c.self.inside.granted ≤ room_of c.args.journal = subst (λ (n : ℕ). n ≤ room_of c.args.journal) (sym (ap (λ k. k.promised) view)) c.requires.room in
     let room : c.self.inside.granted ≤ room_of c.replace-old.new.dest = subst (λ (j : Journal g.row.D.Denot g.D.Disk). c.self.inside.granted ≤ room_of j) (sym there) wide in
-    let keeps : KeepsBook s c.args.journal c.self.inside.front.events = subst (λ (events : List Event). KeepsBook s c.args.journal events) (sym (ap (λ k. k.kept) view)) c.requires.keeps in
-    let kept : KeepsBook s c.replace-old.new.dest c.self.inside.front.events = subst (λ (j : Journal g.row.D.Denot g.D.Disk). KeepsBook s j c.self.inside.front.events) (sym there) keeps in
+    let keeps : KeepsBook s c.args.journal c.self.inside.durable.events = subst (λ (events : List Event). KeepsBook s c.args.journal events) (sym (ap (λ k. k.kept) view)) c.requires.keeps in
+    let kept : KeepsBook s c.replace-old.new.dest c.self.inside.durable.events = subst (λ (j : Journal g.row.D.Denot g.D.Disk). KeepsBook s j c.self.inside.durable.events) (sym there) keeps in
     (kept-instead c.self.inside.journal c.replace-old.new.dest _ _ _ _ _ _ _ _ _ well c.self.invariant.0 key room kept, will-keep-under _ _ _ _ c.self.inside.compaction key c.self.invariant.1)
 
 pub invariant_of-self-in-Err-Unsure : goal.invariant_of-self-in-Err-Unsure
@@ -25,7 +25,7 @@ invariant_of-self-in-Err-Unsure g c =
     let s = g.C.Charges.settings in
     let view = c.self-in-Err-Unsure.view_is in
     let key : key_of c.args.journal ≡ key_of c.self-in-Err-Unsure.inside.journal = c.requires.key ∙ sym (ap (λ k. k.key) view) in
-    let keeps : KeepsBook s c.args.journal c.self-in-Err-Unsure.inside.front.events = subst (λ (events : List Event). KeepsBook s c.args.journal events) (sym (ap (λ k. k.kept) view)) c.requires.keeps in
+    let keeps : KeepsBook s c.args.journal c.self-in-Err-Unsure.inside.durable.events = subst (λ (events : List Event). KeepsBook s c.args.journal events) (sym (ap (λ k. k.kept) view)) c.requires.keeps in
     (kept-beside c.self-in-Err-Unsure.inside.journal c.args.journal _ _ _ _ _ _ _ _ _ c.self-in-Err-Unsure.invariant.0 key keeps, c.self-in-Err-Unsure.invariant.1)
 
 pub put_in_place-requires : goal.put_in_place-requires

@@ -1,4 +1,0 @@
-use Rattle.connection_turns.proofs.attended.put_away.Goals as goal
-
-pub returns : goal.returns
-returns c p h d fresh size = c.if-not-is_idle.ensures.renews p d h fresh size

@@ -1,9 +1,0 @@
-use Rattle.std.proofs.Common.{◌≤◌, ◌+◌}
-use Rattle.http_wire.proofs.RangeLemmas.{range_none, range_rest, range_inside}
-use Rattle.http_wire.proofs.read.inbox.Inbox.skip.Goals as goal
-
-pub returns : goal.returns
-returns c =
-    let at = c.self.inside.at in
-    let inside : at + c.args.count ≤ c.self.inside.end = range_inside c.self.inside.buffer.items at c.self.inside.end c.args.count (c.self.invariant.1) (rw (← c.self.view_is) at c.requires) in
-    rw (← c.self.view_is) (rw (range_none c.self.inside.buffer.items (at + c.args.count), range_rest c.self.inside.buffer.items at c.self.inside.end c.args.count inside))

@@ -1,0 +1,25 @@
+use Rattle.std.proofs.Common.{◌∙◌, ap, codes}
+use Rattle.std.proofs.lemmas.Result.{IfOk-weaker}
+use Rattle.clap.specs.Words.{App, Rule, with_rule}
+use Rattle.server_words.specs.CommandLine.{number_rule, option_between, option_rule}
+use Rattle.server_words.proofs.CommandLineLemmas.{added}
+use Rattle.server_words.proofs.command_line.many_clients.Goals as goal
+
+abbrev at_once : Rule
+at_once = number_rule (codes "at-once") 1 16384
+
+abbrev message_seconds : Rule
+message_seconds = option_between (codes "message-seconds") (codes "0") 0 86400
+
+abbrev least_rate : Rule
+least_rate = option_between (codes "least-rate") (codes "0") 0 1073741824
+
+abbrev body_memory : Rule
+body_memory = option_rule (codes "body-memory") (codes "268435456") 18446744073709551615
+
+pub returns : goal.returns
+returns c =
+    let one = added _ _ _ at_once c.in_ok-arg.ensures c.at_once.ensures.local c.at_once.ensures.rule in
+    let two = added _ _ _ message_seconds c.in_ok-arg-2.ensures c.message_seconds.ensures.local c.message_seconds.ensures.rule ∙ ap (λ (a : App). with_rule a message_seconds) one in
+    let three = added _ _ _ least_rate c.in_ok-arg-3.ensures c.least_rate.ensures.local c.least_rate.ensures.rule ∙ ap (λ (a : App). with_rule a least_rate) two in
+    IfOk-weaker c.arg-4.result _ _ (λ r h. added _ _ r body_memory h c.body_memory.ensures.local c.body_memory.ensures.rule ∙ ap (λ (a : App). with_rule a body_memory) three) c.arg-4.ensures

@@ -1,0 +1,482 @@
+//! The clients that one worker holds at once, each by the readiness of its stream.
+ghost use mathlib.Core.List.{IsPrefix};
+
+use crate::bodies::Bodies;
+use crate::client::{Client, Next};
+use crate::precedence::{NewestFirst, upload_of};
+use crate::seen::Seen;
+use crate::watch::Watch;
+use connection_turns::{Bounds, Busy, ClientConnection, Durability, Late};
+use http_wire::{Buffers, Clock};
+use mio::Registry;
+use mio::net::TcpStream;
+use service_watch::Cut;
+use slab::Slab;
+use std::alloc::{AllocError, Global};
+use std::sync::Wait;
+use std::sync::ledger::Ledger;
+use std::{mem, time};
+use tus_shared::{Charges, Desk};
+use unfinished_bodies::{Body, Holder, UploadName};
+use upload_book::Settings;
+
+/// The clients of one worker, under keys that are the tokens of their streams.
+#[derive(Drop)]
+pub(crate) struct Connections<'a, W: Wait> {
+    rt: &'a W,
+    alloc: Global,
+    bodies: &'a Bodies,
+    // Which worker it is.
+    number: usize,
+    bounds: Bounds,
+    settings: Settings,
+    clients: Slab<Client>,
+    free: Vec<Buffers>,
+    // The keys of those that have more to do, of which no event need tell, and a list to put such keys to while these are
+    // taken up.
+    again: Vec<usize>,
+    spare: Vec<usize>,
+    // The keys of those whose message waits for another one to end.
+    waiting: Vec<usize>,
+    // The keys of those whose reply is held back.
+    held: Vec<usize>,
+    // Each client ends after one more message at most, and who has none under way is let go.
+    is_ending: bool,
+    /// What was seen and is not told yet; none where nobody watches.
+    pub watch: Option<Watch<'a>>,
+}
+
+impl<'a, W: Wait + time::Clock> Connections<'a, W> {
+    /// No clients, at the worker with this number. The error is that there is no memory for so many.
+    pub fn new(
+        rt: &'a W,
+        alloc: Global,
+        bodies: &'a Bodies,
+        number: usize,
+        bounds: Bounds,
+        settings: Settings,
+        most: usize,
+        watch: Option<Watch<'a>>,
+    ) -> Result<Self, AllocError> {
+        Ok(Connections {
+            rt,
+            alloc,
+            bodies,
+            number,
+            bounds,
+            settings,
+            clients: Slab::with_capacity(alloc, most)?,
+            free: Vec::new(alloc),
+            again: Vec::new(alloc),
+            spare: Vec::new(alloc),
+            waiting: Vec::new(alloc),
+            held: Vec::new(alloc),
+            is_ending: false,
+            watch,
+        })
+    }
+
+    /// How many clients there are.
+    pub fn len(&self) -> usize {
+        self.clients.len()
+    }
+
+    /// Whether some client has more to do, of which no event need tell.
+    pub fn has_more(&self) -> bool {
+        !self.again.is_empty()
+    }
+
+    /// Takes in a client at this second, with at most so many messages, whose bodies have at most `max_size` bytes. Its stream
+    /// is told of by its key as the token. One that can't be registered, or has no place, is let go.
+    pub fn admit(
+        &mut self,
+        registry: &Registry,
+        stream: TcpStream,
+        client_connection: ClientConnection,
+        second: u64,
+    ) {
+        let seen = seen_at(&mut self.watch, &stream);
+        let Ok(key) = self
+            .clients
+            .insert(Client::new(stream, client_connection, second, seen))
+        else {
+            return;
+        };
+        let Some(client) = self.clients.get_mut(key) else {
+            return;
+        };
+        if client.register(registry, key).is_err() {
+            let _ = self.clients.try_remove(key);
+        }
+    }
+
+    /// Notes that the input of the client with this key has ended, or its stream failed, if there is one.
+    pub fn close(&mut self, key: usize) {
+        if let Some(client) = self.clients.get_mut(key) {
+            client.close();
+        }
+    }
+
+    /// Takes a turn of the client with this key, of which an event told, at this second; unless its turn comes by a list.
+    pub fn turn_of_event<A: Durability, K: Clock>(
+        &mut self,
+        key: usize,
+        answerer: &mut A,
+        clock: &mut K,
+        second: u64,
+    ) {
+        match self.clients.get(key) {
+            Some(client) if !client.is_listed => self.turn(key, answerer, clock, second),
+            _ => {}
+        }
+    }
+
+    // Takes a turn of the client with this key, if there is one, at this second.
+    fn turn<A: Durability, K: Clock>(
+        &mut self,
+        key: usize,
+        answerer: &mut A,
+        clock: &mut K,
+        second: u64,
+    ) {
+        let Some(client) = self.clients.get_mut(key) else {
+            return;
+        };
+        let holder = Holder {
+            worker: self.number,
+            client: key,
+        };
+        let precedence = NewestFirst {
+            rt: self.rt,
+            bodies: self.bodies,
+            settings: &self.settings,
+            holder,
+            has_waited: client.has_waited(second),
+        };
+        begin_turn(&self.watch, self.rt, client);
+        let next = client.turn(
+            self.alloc,
+            &mut self.free,
+            answerer,
+            clock,
+            &precedence,
+            second,
+        );
+        note_body(self.rt, self.bodies, &self.settings, client, holder);
+        let unsent = client.unsent();
+        gather(
+            &mut self.watch,
+            self.rt,
+            &self.settings,
+            client,
+            unsent,
+            next == Next::Ends,
+        );
+        self.go_after(key, next);
+    }
+
+    // Puts the client with this key, if there is one, to the list by which its next turn comes, or lets it go.
+    fn go_after(&mut self, key: usize, next: Next) {
+        let Some(client) = self.clients.get_mut(key) else {
+            return;
+        };
+        let is_listed = client.is_listed;
+        let stays = match next {
+            Next::Waits => !(self.is_ending && client.is_idle()),
+            Next::HasMore => is_listed || self.again.push(key).is_ok(),
+            Next::WaitsForTurn => is_listed || self.waiting.push(key).is_ok(),
+            Next::WaitsForKeeping => is_listed || self.held.push(key).is_ok(),
+            Next::Ends => false,
+        };
+        if !stays {
+            self.remove(key);
+        } else if next != Next::Waits {
+            self.set_listed(key, true);
+        }
+    }
+
+    // Notes whether the client with this key stands on a list, if there is one.
+    fn set_listed(&mut self, key: usize, is_listed: bool) {
+        if let Some(client) = self.clients.get_mut(key) {
+            client.is_listed = is_listed;
+        }
+    }
+
+    /// Takes one turn of each client that has more to do, at this second.
+    pub fn go_on<A: Durability, K: Clock>(&mut self, answerer: &mut A, clock: &mut K, second: u64) {
+        let spare = mem::replace(&mut self.spare, Vec::new(self.alloc));
+        let mut keys = mem::replace(&mut self.again, spare);
+        for key in keys.iter() {
+            self.set_listed(*key, false);
+            self.turn(*key, answerer, clock, second);
+        }
+        keys.clear();
+        self.spare = keys;
+    }
+
+    /// Sends at this second what was held back, now that all is kept that the desk has seen.
+    pub fn send_held<C: Charges, R: Ledger, M: Ledger>(&mut self, desk: &Desk<C, R, M>, second: u64)
+        requires kept { IsPrefix desk.now.seen desk.now.kept }
+    {
+        for key in mem::replace(&mut self.held, Vec::new(self.alloc)) {
+            self.set_listed(key, false);
+            self.send(desk, key, second);
+        }
+    }
+
+    /// The same for those that are too late at this second: they may have taken bytes, of which no event told yet.
+    pub fn send_late<C: Charges, R: Ledger, M: Ledger>(&mut self, desk: &Desk<C, R, M>, second: u64)
+        requires kept { IsPrefix desk.now.seen desk.now.kept }
+    {
+        for key in 0..self.clients.capacity() {
+            if self.is_late(key, second) {
+                self.send(desk, key, second);
+            }
+        }
+    }
+
+    // Sends what is pending of the client with this key, if there is one, at this second. All is kept that the desk has seen,
+    // so all that it tells.
+    fn send<C: Charges, R: Ledger, M: Ledger>(
+        &mut self,
+        _desk: &Desk<C, R, M>,
+        key: usize,
+        second: u64,
+    )
+        requires kept { IsPrefix _desk.now.seen _desk.now.kept }
+    {
+        let Some(client) = self.clients.get_mut(key) else {
+            return;
+        };
+        let holder = Holder {
+            worker: self.number,
+            client: key,
+        };
+        let next = client.send(&mut self.free, second);
+        note_body(self.rt, self.bodies, &self.settings, client, holder);
+        let unsent = client.unsent();
+        gather(
+            &mut self.watch,
+            self.rt,
+            &self.settings,
+            client,
+            unsent,
+            next == Next::Ends,
+        );
+        self.go_after(key, next);
+    }
+
+    /// Cuts off those that other workers, or requests of this one, asked to end, and then takes a turn of each client whose
+    /// message waits for another one to end.
+    pub fn give_way<A: Durability, K: Clock>(
+        &mut self,
+        answerer: &mut A,
+        clock: &mut K,
+        second: u64,
+    ) {
+        for place in self.bodies.take_asked(self.rt, self.number) {
+            if let Some(key) = self.bodies.client_to_cut(self.rt, self.number, place) {
+                let why = if self.bodies.is_greatest(self.rt, place) {
+                    Cut::Memory
+                } else {
+                    Cut::Newer
+                };
+                self.cut(key, why, answerer, clock);
+            }
+        }
+        for key in mem::replace(&mut self.waiting, Vec::new(self.alloc)) {
+            self.set_listed(key, false);
+            self.turn(key, answerer, clock, second);
+        }
+    }
+
+    /// Cuts off those that are too late at this second, each after one more turn: bytes may have come, or may have been taken,
+    /// of which no event told yet. What came of a PATCH that is applied when it is cut is kept.
+    pub fn cut_late<A: Durability, K: Clock>(
+        &mut self,
+        answerer: &mut A,
+        clock: &mut K,
+        second: u64,
+    ) {
+        for key in 0..self.clients.capacity() {
+            if self.is_late(key, second) {
+                self.turn(key, answerer, clock, second);
+                if self.is_late(key, second) {
+                    let why = self.lateness(key, second);
+                    self.cut(key, why, answerer, clock);
+                }
+            }
+            if let Some(client) = self.clients.get_mut(key) {
+                client.renew_pace(second);
+            }
+        }
+    }
+
+    /// Has each client end after one more message at most, from this second on, and lets go who has none under way. That is
+    /// seen in a turn, since bytes may have come of which no event told yet.
+    pub fn end_soon<A: Durability, K: Clock>(
+        &mut self,
+        answerer: &mut A,
+        clock: &mut K,
+        second: u64,
+    ) {
+        if self.is_ending {
+            return;
+        }
+        self.is_ending = true;
+        for key in 0..self.clients.capacity() {
+            if let Some(client) = self.clients.get_mut(key) {
+                client.end_soon();
+            }
+            self.turn_of_event(key, answerer, clock, second);
+        }
+    }
+
+    /// Cuts off all that are left, since the service is stopped. What came of a PATCH that is applied when it is cut is kept.
+    pub fn cut_all<A: Durability, K: Clock>(&mut self, answerer: &mut A, clock: &mut K) {
+        for key in 0..self.clients.capacity() {
+            self.cut(key, Cut::Stopped, answerer, clock);
+        }
+    }
+
+    // Whether there is a client with this key that is too late.
+    fn is_late(&self, key: usize, second: u64) -> bool {
+        match self.clients.get(key) {
+            Some(client) => client.is_late(second, self.bounds),
+            None => false,
+        }
+    }
+
+    // For what the client with this key is too late, as far as that is told.
+    fn lateness(&self, key: usize, second: u64) -> Cut {
+        let late = match self.clients.get(key) {
+            Some(client) => client.lateness(second, self.bounds),
+            None => None,
+        };
+        match late {
+            Some(Late::Message) => Cut::Message,
+            Some(Late::Rate) => Cut::Rate,
+            Some(Late::Idle) | None => Cut::Idle,
+        }
+    }
+
+    // Cuts a client off for this reason, if there is one with this key.
+    fn cut<A: Durability, K: Clock>(
+        &mut self,
+        key: usize,
+        why: Cut,
+        answerer: &mut A,
+        clock: &mut K,
+    ) {
+        if let Some(client) = self.clients.get_mut(key) {
+            note_cut(&mut self.watch, client, why);
+            let unsent = client.unsent();
+            client.cut(self.alloc, &mut self.free, answerer, clock);
+            gather(
+                &mut self.watch,
+                self.rt,
+                &self.settings,
+                client,
+                unsent,
+                true,
+            );
+            self.remove(key);
+        }
+    }
+
+    // Lets a client go.
+    fn remove(&mut self, key: usize) {
+        if let Some(client) = self.clients.try_remove(key)
+            && client.place.is_some()
+        {
+            let _ = self.bodies.note(self.rt, client.place, None);
+        }
+    }
+}
+
+// Notes that a client came, and gives what is to be seen of it.
+fn seen_at(watch: &mut Option<Watch>, stream: &TcpStream) -> Seen {
+    match watch {
+        Some(watch) => {
+            watch.accept();
+            watch.record(stream.peer_addr().ok())
+        }
+        None => Seen { record: None },
+    }
+}
+
+// Tells what is seen of a client that its turn begins.
+fn begin_turn<W: time::Clock>(watch: &Option<Watch>, rt: &W, client: &mut Client) {
+    if let Some(watch) = watch {
+        client.seen.begin_turn(watch.micros(rt));
+    }
+}
+
+// Takes what was seen of a client after its turn, of whose replies so many bytes are not sent yet.
+fn gather<W: time::Clock>(
+    watch: &mut Option<Watch>,
+    rt: &W,
+    settings: &Settings,
+    client: &mut Client,
+    unsent: u64,
+    has_ended: bool,
+) {
+    if let Some(watch) = watch {
+        if client.has_failed {
+            watch.cut(client, Cut::Failed);
+        }
+        let micros = watch.micros(rt);
+        watch.gather(settings, client, micros, unsent, has_ended);
+    }
+}
+
+// Notes for what a client is cut off, if it is still talked with.
+fn note_cut(watch: &mut Option<Watch>, client: &Client, why: Cut) {
+    if let Some(watch) = watch
+        && client.client_connection().is_some()
+    {
+        watch.cut(client, why);
+    }
+}
+
+// Tells all workers what this client holds of a body after its turn.
+fn note_body<W: Wait>(
+    rt: &W,
+    bodies: &Bodies,
+    settings: &Settings,
+    client: &mut Client,
+    holder: Holder,
+) {
+    if client.has_gone_on && client.place.is_some() {
+        client.place = bodies.note(rt, client.place, None);
+    }
+    let body = body_of(client, settings, holder);
+    if body.is_some() || client.place.is_some() {
+        client.place = bodies.note(rt, client.place, body);
+    }
+}
+
+// What a client holds of a body that it sends, of replies that it takes, or of room since a large body came.
+fn body_of(client: &Client, settings: &Settings, holder: Holder) -> Option<Body> {
+    let client_connection = client.client_connection()?;
+    let held = client_connection.held() as u64;
+    match client_connection.busy() {
+        Busy::Idle | Busy::Head if held == 0 => None,
+        _ => Some(Body {
+            holder,
+            upload: patched_by(client_connection, settings),
+            held,
+        }),
+    }
+}
+
+// The upload to which it sends the body of a PATCH.
+fn patched_by(client_connection: &ClientConnection, settings: &Settings) -> Option<UploadName> {
+    let message = client_connection.under_way()?;
+    let request = message.request();
+    if request.method.is_patch() {
+        upload_of(settings, &request)
+    } else {
+        None
+    }
+}
