@@ -1,7 +1,10 @@
 -- What is kept as events are, and what a crash leaves of it.
 use Rattle.logbook.specs.Pages.{Book}
-use Rattle.std.proofs.Common.{◌≡◌, ℕ, ◌+◌, ◌-◌, ◌≤◌, Bool, true, false, List, [], ◌∷◌, ◌++◌, length, map, take, drop, Option, Some, None, IfSome, Result, Ok, Err, OnOk, refl, sym, ap, subst, ◌∙◌, append_assoc, arith}
+use Rattle.std.specs.Prelude.{◌⊎◌, IsTrue, option_map}
+use Rattle.std.proofs.Common.{◌≡◌, All, ℕ, inl, inr, ◌+◌, ◌-◌, ◌≤◌, Bool, true, false, List, [], ◌∷◌, ◌++◌, length, map, take, drop, Option, Some, None, IfSome, Result, Ok, Err, OnOk, refl, sym, ap, subst, ◌∙◌, append_assoc, arith}
 use Rattle.std.proofs.lemmas.List.{append-nil, length-append, length-map, map-append, take-append-drop, take-map}
+use Rattle.std.proofs.lemmas.List.Elements.{All-take}
+use Rattle.std.proofs.Math.Seq.{take-append_seam}
 use mathlib.Core.List.{IsPrefix}
 use Rattle.sqlite_disk.specs.declared.Disk.{Ghosts}
 use Rattle.book_replay.specs.Replay.{AllHappen, after_record, goes_on, record_of, records_of, replayed}
@@ -16,10 +19,12 @@ use Rattle.upload_book.specs.Settings.{Settings}
 use Rattle.head_board.specs.Event.{Event}
 use Rattle.head_board.specs.Events.{HaveHappened, book_at, change_event}
 use Rattle.tus_shared.specs.Journal.{CanBeReplayed, event_frame, event_frames}
+use Rattle.tus_shared.specs.Restoring.{RestoreNothing, RestoresNothing}
 use Rattle.tus_shared.proofs.EventLemmas.{happened-first}
+use Rattle.tus_shared.proofs.FinalLemmas.{none-restored}
 use Rattle.tus_shared.proofs.LogLaws.{prefix-on}
 use Rattle.tus_shared.proofs.QueueLemmas.{after-more}
-use Rattle.journal_keeper.specs.Keeper.{event_records, IsKeeper, IsLeft, KeepsBook, MakeBook}
+use Rattle.journal_keeper.specs.Keeper.{event_records, IsKeeper, IsLeft, IsLeftBy, KeepsBook, MakeBook}
 use Rattle.journal_keeper.specs.Waiting.{frames_each}
 
 -- ---- records of events
@@ -61,8 +66,13 @@ replay-first : (b : PlainBook) (first more : List Event) → AllHappen b (map {A
 replay-first b [] more all = tt
 replay-first b (e ∷ first) more all = (all.0, replay-first (book_after_event b (change_event e)) first more all.1)
 
+plain-first : (first more : List Event) → RestoreNothing (first ++ more) → RestoreNothing first
+plain-first first more all =
+    let plain : Event → Type 0 = λ e. RestoresNothing e.change in
+    subst (All plain) (take-append_seam first more) (All-take plain (length first) (first ++ more) all)
+
 replay-durable : (s : Settings) (kept first more : List Event) → CanBeReplayed s kept (first ++ more) → CanBeReplayed s kept first
-replay-durable s kept first more all = replay-first (book_at s kept) first more all
+replay-durable s kept first more all = (replay-first (book_at s kept) first more all.0, plain-first first more all.1)
 
 -- the records behind some of which a book is made are made on that book
 goes-more : (number : ℕ) (first more : List (List ℕ)) (next : PlainBook) (made : Option PlainBook)
@@ -91,24 +101,27 @@ made-same x y is = cc
 pub make-more : (s : Settings) (kept more : List Event) (records : List (List ℕ)) → MakeBook s kept records → CanBeReplayed s kept more → MakeBook s (kept ++ more) (records ++ event_records more)
 make-more s kept more records make others =
     replayed-more 1 (opening_book s) (book_at s kept) records (event_records more) make
-    ∙ all-replayed (1 + length records) (book_at s kept) (map {A = Event} {B = ChangeEvent} change_event more) others
+    ∙ all-replayed (1 + length records) (book_at s kept) (map {A = Event} {B = ChangeEvent} change_event more) others.0
     ∙ made-same _ _ (sym (after-more (opening_book s) kept more))
 
 -- ---- a crash
 
 -- that leaves all that was synced, and the first so many of the records of events that come next
-pub left-more : (key : ℕ) (s : Settings) (kept more : List Event) (records : List (List ℕ)) (c : List ℕ) → HaveHappened s (kept ++ more) → MakeBook s kept records → CanBeReplayed s kept more → Leaves key records (event_records more) c → IsLeft key s kept c
+pub left-more : (key : ℕ) (s : Settings) (kept more : List Event) (records : List (List ℕ)) (c : List ℕ) → HaveHappened s (kept ++ more) → MakeBook s kept records → CanBeReplayed s kept more → Leaves key records (event_records more) c → IsLeftBy key s kept c
 left-more key s kept more records c happened make others left =
     let n = left.kept in
     let durable = replay-durable s kept (take n more) (drop n more) (subst (CanBeReplayed s kept) (sym (take-append-drop n more)) others) in
     let are = left.payloads ∙ ap (λ (rs : List (List ℕ)). records ++ rs) (records-take n more) in
     let all : (kept ++ take n more) ++ drop n more ≡ kept ++ more = append_assoc kept (take n more) (drop n more) ∙ ap (λ (events : List Event). kept ++ events) (take-append-drop n more) in
     record {
-      events = kept ++ take n more;
-      begins = (take n more, refl);
-      happened = happened-first s (kept ++ take n more) (drop n more) (subst (HaveHappened s) (sym all) happened);
-      torn = left.behind;
-      make = ap (replayed 1 (opening_book s)) are ∙ make-more s kept (take n more) records make durable;
+      left = record {
+        events = kept ++ take n more;
+        begins = (take n more, refl);
+        happened = happened-first s (kept ++ take n more) (drop n more) (subst (HaveHappened s) (sym all) happened);
+        torn = left.behind;
+        make = ap (replayed 1 (opening_book s)) are ∙ make-more s kept (take n more) records make durable;
+      };
+      plain = durable.1;
     }
 
 -- what is left of more is left of less
@@ -123,12 +136,12 @@ left-less key s less kept c begins left = record {
 
 module _ {D : Type 0} {g : Ghosts D} where
   -- a journal with records of which the book after these events is made, all synced
-  pub left-all : (journal : Journal D g) (s : Settings) (kept : List Event) → HaveHappened s kept → KeepsBook s journal kept → (c : List ℕ) → g.may_leave (disk_of journal) c → IsLeft (key_of journal) s kept c
+  pub left-all : (journal : Journal D g) (s : Settings) (kept : List Event) → HaveHappened s kept → KeepsBook s journal kept → (c : List ℕ) → g.may_leave (disk_of journal) c → IsLeftBy (key_of journal) s kept c
   left-all journal s kept happened keeps c may =
-      left-more _ s kept [] keeps.records c (subst (HaveHappened s) (sym (append-nil kept)) happened) keeps.make tt (journal_leaves journal keeps.records [] keeps.holds c may)
+      left-more _ s kept [] keeps.records c (subst (HaveHappened s) (sym (append-nil kept)) happened) keeps.make (tt, none-restored) (journal_leaves journal keeps.records [] keeps.holds c may)
 
   abbrev pub OtherLeaves : ℕ → Settings → List Event → Option (Journal D g) → Type 0
-  OtherLeaves key s kept other = IfSome other (λ (it : Journal D g). (c : List ℕ) → g.may_leave (disk_of it) c → IsLeft key s kept c)
+  OtherLeaves key s kept other = IfSome other (λ (it : Journal D g). (c : List ℕ) → g.may_leave (disk_of it) c → IsLeftBy key s kept c)
 
   -- where there is no other one
   pub no-other : (key : ℕ) (s : Settings) (kept : List Event) (other : Option (Journal D g)) → other ≡ None → OtherLeaves key s kept other
@@ -184,6 +197,22 @@ module _ {D : Type 0} {g : Ghosts D} where
     covered = λ _. room;
   }
 
+  -- a journal of which a crash leaves what was kept, where keeping more has failed
+  pub kept-lost : (old new : Journal D g) (other : Option (Journal D g)) (s : Settings) (log : Book) (own : Option ℕ) (honest : Bool) (durable : Book) (kept : List Event) (before now : ℕ) (failed : Bool)
+      → failed ≡ false → IsKeeper s log own honest old other durable kept before failed → key_of new ≡ key_of old
+      → (KeepsBook s old kept → (c : List ℕ) → g.may_leave (disk_of new) c → IsLeftBy (key_of old) s kept c)
+      → IsKeeper s log own honest new other durable kept now true
+  kept-lost old new other s log own honest durable kept before now failed well is key crash = record {
+    key = is.key ∙ ap (λ (k : ℕ). Some k) (sym key);
+    durable_log = is.durable_log;
+    happened = is.happened;
+    holds = λ well _. absurd (cc (well));
+    left = λ honest c may. subst (λ (k : ℕ). IsLeftBy k s kept c) (sym key) (crash (is.holds well honest) c may);
+    alone = λ well. absurd (cc (well));
+    other_left = λ honest. no-other _ s kept other (is.alone well);
+    covered = λ well. absurd (cc (well));
+  }
+
   -- another one that may have taken its place
   pub kept-beside : (old new : Journal D g) (other : Option (Journal D g)) (s : Settings) (log : Book) (own : Option ℕ) (honest : Bool) (durable : Book) (kept : List Event) (promised : ℕ) (failed : Bool)
       → IsKeeper s log own honest old other durable kept promised failed → key_of new ≡ key_of old → KeepsBook s new kept
@@ -195,6 +224,18 @@ module _ {D : Type 0} {g : Ghosts D} where
     holds = λ well _. absurd (cc (well));
     left = is.left;
     alone = λ well. absurd (cc (well));
-    other_left = λ _ c may. subst (λ (k : ℕ). IsLeft k s kept c) key (left-all new s kept is.happened keeps c may);
+    other_left = λ _ c may. subst (λ (k : ℕ). IsLeftBy k s kept c) key (left-all new s kept is.happened keeps c may);
     covered = λ well. absurd (cc (well));
   }
+
+  -- what a keeper's journal leaves, and the other one that may have taken its place
+  pub crash-leaves : (s : Settings) (log : Book) (own : Option ℕ) (honest : Bool) (journal : Journal D g) (other : Option (Journal D g)) (durable : Book) (kept : List Event) (promised : ℕ) (failed : Bool)
+      → IsKeeper s log own honest journal other durable kept promised failed → IsTrue honest → (c : List ℕ)
+      → g.may_leave (disk_of journal) c ⊎ ((new : D) × (option_map (λ (it : Journal D g). disk_of it) other ≡ Some new) × g.may_leave new c) → IsLeftBy (key_of journal) s kept c
+  crash-leaves s log own honest journal other durable kept promised failed is told c (inl may) = is.left told c may
+  crash-leaves s log own honest journal None durable kept promised failed is told c (inr may) = absurd (cc (may.1))
+  crash-leaves s log own honest journal (Some it) durable kept promised failed is told c (inr may) =
+      is.other_left told c (subst (λ (d : D). g.may_leave d c) (same (disk_of it) may.0 may.1) may.2)
+    where
+      same : (x y : D) → (let left : Option D = Some x in let right : Option D = Some y in left ≡ right) → y ≡ x
+      same x y is = cc

@@ -1,7 +1,8 @@
 -- What is read of a journal that was opened, and what a store is after its changes were made again.
 use Rattle.std.specs.Prelude.{option_and_then, option_map}
 use Rattle.std.proofs.lemmas.Bool.{and_from, cond-true}
-use Rattle.std.proofs.lemmas.List.Elements.{All-weaker}
+use Rattle.std.proofs.lemmas.List.{map-append}
+use Rattle.std.proofs.lemmas.List.Elements.{All-append, All-map, All-weaker}
 use mathlib.Core.List.{IsPrefix}
 use Rattle.upload_book.specs.Change.{CanBeMade, book_after_change}
 use Rattle.upload_book.specs.declared.change.Change.{Change}
@@ -13,24 +14,28 @@ use Rattle.book_replay.specs.Made.{can_be_made}
 use Rattle.book_replay.specs.Replay.{accepts, after_accepted, after_record, replayed}
 use Rattle.book_replay.proofs.ReplayLemmas.{after_accepted-refused, after_accepted-unasked}
 use Rattle.head_board.specs.Event.{Event}
-use Rattle.head_board.specs.Events.{book_at}
+use Rattle.head_board.specs.Events.{book_at, change_event}
 use Rattle.head_board.proofs.SettingsLemmas.{at-settings}
 use Rattle.tus_shared.specs.declared.again_fault.AgainFault.{AgainFault}
 use Rattle.tus_shared.specs.declared.again_fault.AgainFault.TheVariants as again
 use Rattle.tus_shared.specs.Steps.{IsMade, IsNextEvent, IsNotMade}
+use Rattle.tus_shared.specs.Finals.{AreOpenings, Opening, book_of}
+use Rattle.tus_shared.specs.Restoring.{RestoreNothing, RestoresNothing}
 use Rattle.tus_shared.proofs.EventLemmas.{at-one}
+use Rattle.tus_shared.proofs.FinalLemmas.{go-on}
 use Rattle.tus_shared.proofs.LogLaws.{prefix-on}
+use Rattle.tus_shared.proofs.QueueLemmas.{after-more}
 use Rattle.journal_keeper.specs.declared.fault.ReopenFault.{ReopenFault}
 use Rattle.journal_keeper.specs.declared.fault.ReopenFault.TheVariants.{Record, Memory as NoMemory, Waiting}
-use Rattle.journal_keeper.specs.Opening.{IsFinal, IsMadeAgain, IsOutsideRecords, IsRecovered, IsReopenFault}
+use Rattle.journal_keeper.specs.Opening.{IsFinal, IsMadeAgain, IsOutsideRecords, IsRecovered, IsReopenFault, RecoveredGoOn, opening_with}
 use Rattle.journal_file.specs.JournalError.{IsDamagedAt, IsReason, Reasons, TellsDamage}
 use Rattle.journal_file.specs.declared.error.Damage.{Damage}
 use Rattle.journal_file.specs.declared.error.JournalError.{JournalError}
 use Rattle.journal_file.specs.declared.error.JournalError.TheVariants.{NoRoom, Unusable, NotMixing, Damaged, Memory, Disk}
-use Rattle.std.proofs.Common.{◌≡◌, ℕ, Bool, true, false, IsTrue, List, [], ◌∷◌, ◌++◌, length, All, Option, Some, None, Result, Ok, Err, OnOk, refl, sym, ap, subst, ◌∙◌, append_assoc, arith}
+use Rattle.std.proofs.Common.{◌≡◌, ℕ, Bool, true, false, IsTrue, List, [], ◌∷◌, ◌++◌, length, map, All, Option, Some, None, Result, Ok, Err, OnOk, refl, sym, ap, subst, ◌∙◌, append_assoc, arith}
 use Rattle.journal_records.specs.Records.{record_bytes}
 use Rattle.tus_shared.specs.Desk.{Desk, Moves}
-use Rattle.journal_keeper.specs.Keeper.{event_records, IsLeft}
+use Rattle.journal_keeper.specs.Keeper.{event_records, IsLeft, IsLeftBy}
 use Rattle.journal_keeper.proofs.KeeperLemmas.{records-append}
 use Rattle.journal_frames.specs.Frames.{recovered}
 
@@ -124,16 +129,18 @@ book-left key s kept file records book left are made = ok_is book (book_at s lef
     ok_is x y is = cc
 
 -- these begin with all that any desk was told to be kept, where the keeper kept that
-pub all-recovered : {A E : Type 0} (made : Result A E) (key : ℕ) (s : Settings) (kept : List Event) (desks : List Desk) (file : List ℕ) (book : PlainBook) (left : IsLeft key s kept file)
-    → All (λ (d : Desk). IsPrefix d.kept kept) desks → OnOk made (book ≡ book_at s left.events) → OnOk made (IsRecovered key file s desks book)
-all-recovered (Ok it) key s kept desks file book left told is = record {
-  events = left.events;
-  begins = All-weaker _ _ (λ (d : Desk) (begins : IsPrefix d.kept kept). prefix-on d.kept kept left.events begins left.begins) desks told;
-  happened = left.happened;
+pub all-recovered : {A E : Type 0} (made : Result A E) (key : ℕ) (s : Settings) (kept : List Event) (desks : List Desk) (file : List ℕ) (book : PlainBook) (by : IsLeftBy key s kept file)
+    → All (λ (d : Desk). IsPrefix d.kept kept) desks → OnOk made (book ≡ book_at s by.left.events) → OnOk made (IsRecovered key file s kept desks book)
+all-recovered (Ok it) key s kept desks file book by told is = record {
+  events = by.left.events;
+  begins = All-weaker _ _ (λ (d : Desk) (begins : IsPrefix d.kept kept). prefix-on d.kept kept by.left.events begins by.left.begins) desks told;
+  behind = by.left.begins;
+  plain = by.plain;
+  happened = by.left.happened;
   is = is;
-  made = left.make ∙ ap Ok (sym is);
+  made = by.left.make ∙ ap Ok (sym is);
 }
-all-recovered (Err why) key s kept desks file book left told is = tt
+all-recovered (Err why) key s kept desks file book by told is = tt
 
 -- and none of them is refused
 pub records-accepted : (key : ℕ) (s : Settings) (told : List Event) (file : List ℕ) (records : List (List ℕ)) (why : ReopenFault) → IsLeft key s told file → records ≡ recovered key file
@@ -145,3 +152,28 @@ records-accepted key s told file records (Record number) left are told_so = clas
     clash (Err m) n b is other = absurd (cc (other))
 records-accepted key s told file records NoMemory left are told_so = tt
 records-accepted key s told file records Waiting left are told_so = tt
+
+-- ---- openings
+
+-- what happened behind events that were kept is more of the same opening
+more-since : (s : Settings) (before since more : List Event) (earlier : List Opening) → RestoreNothing more → AreOpenings (opening_with s before since ∷ earlier) → AreOpenings (opening_with s before (since ++ more) ∷ earlier)
+more-since s before since more earlier plain are = (
+  record {
+    stood = are.0.stood;
+    plain = subst (All (λ (e : ChangeEvent). RestoresNothing e.change)) (sym (map-append {A = Event} {B = ChangeEvent} change_event since more))
+        (All-append (λ (e : ChangeEvent). RestoresNothing e.change) _ _ are.0.plain (All-map (λ (e : ChangeEvent). RestoresNothing e.change) change_event more plain));
+  },
+  are.1,
+)
+
+-- the book of an opening is the plain book after all of its events
+book-of : (s : Settings) (before since : List Event) → book_of (opening_with s before since) ≡ book_at s (before ++ since)
+book-of s before since = sym (after-more (opening_book s) before since)
+
+pub recovered-go-on : RecoveredGoOn
+recovered-go-on key file s kept again before since desks earlier recovered is are =
+    let more = recovered.behind.0 in
+    let all : recovered.events ≡ before ++ (since ++ more) = sym recovered.behind.1 ∙ ap (λ (l : List Event). l ++ more) is ∙ append_assoc before since more in
+    let book : book_at s again ≡ book_of (opening_with s before (since ++ more)) = recovered.is ∙ ap (book_at s) all ∙ sym (book-of s before (since ++ more)) in
+    go-on.reopened (opening_with s before (since ++ more)) earlier s (map {A = Event} {B = ChangeEvent} change_event again)
+    (more-since s before since more earlier recovered.plain are) (ap (λ (b : PlainBook). b.tenants) book)

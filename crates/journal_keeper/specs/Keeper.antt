@@ -13,6 +13,7 @@ use Rattle.upload_book.specs.PlainBook.{opening_book}
 use Rattle.upload_book.specs.Settings.{Settings}
 use Rattle.head_board.specs.Event.{Event}
 use Rattle.head_board.specs.Events.{HaveHappened, book_at, change_event}
+use Rattle.tus_shared.specs.Restoring.{RestoreNothing}
 use Rattle.journal_keeper.specs.Numbers.{more}
 use Rattle.journal_keeper.specs.declared.numbers.SyncCounts.{SyncCounts}
 
@@ -58,6 +59,11 @@ pub record IsLeft (key : ℕ) (s : Settings) (kept : List Event) (file : List �
   pub torn : tail_of key file ≡ Torn
   pub make : MakeBook s events (recovered key file)
 
+-- so does a keeper of these events leave it: what comes behind them was under way, and restores nothing
+pub record IsLeftBy (key : ℕ) (s : Settings) (kept : List Event) (file : List ℕ) : Type 0 where
+  pub left : IsLeft key s kept file
+  pub plain : RestoreNothing left.begins.0
+
 -- One sync more was made, which kept the events that are kept since; and no time is lost.
 pub record CountsSync {D : Type 0} (before after : KeeperView D) : Type 0 where
   pub once : after.synced.syncs ≡ more 1 before.synced.syncs
@@ -73,7 +79,7 @@ pub record IsKeeper {D : Type 0} {g : Ghosts D} (s : Settings) (log : Book) (own
   pub durable_log : durable ≡ log
   pub happened : HaveHappened s kept
   pub holds : failed ≡ false → IsTrue honest → KeepsBook s journal kept
-  pub left : IsTrue honest → (c : List ℕ) → g.may_leave (disk_of journal) c → IsLeft (key_of journal) s kept c
+  pub left : IsTrue honest → (c : List ℕ) → g.may_leave (disk_of journal) c → IsLeftBy (key_of journal) s kept c
   pub alone : failed ≡ false → other ≡ None
-  pub other_left : IsTrue honest → IfSome other (λ it. (c : List ℕ) → g.may_leave (disk_of it) c → IsLeft (key_of journal) s kept c)
+  pub other_left : IsTrue honest → IfSome other (λ it. (c : List ℕ) → g.may_leave (disk_of it) c → IsLeftBy (key_of journal) s kept c)
   pub covered : failed ≡ false → promised ≤ room_of journal

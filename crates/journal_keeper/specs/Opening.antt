@@ -1,5 +1,5 @@
 -- A store whose changes are made again of the records that a journal has.
-use Rattle.std.specs.Prelude.{◌≡◌, ◌≢◌, ℕ, List, [], ◌∷◌, ◌++◌, All, Result, Ok, Err, ⊤}
+use Rattle.std.specs.Prelude.{◌≡◌, ◌≢◌, ℕ, List, [], ◌∷◌, ◌++◌, All, map, Result, Ok, Err, ⊤}
 use mathlib.Core.List.{IsPrefix}
 use Rattle.book_replay.specs.Replay.{replayed}
 use Rattle.journal_frames.specs.Frames.{recovered}
@@ -8,8 +8,11 @@ use Rattle.upload_book.specs.declared.refusal.Refusal.TheVariants as refusal
 use Rattle.upload_book.specs.PlainBook.{PlainBook, opening_book}
 use Rattle.upload_book.specs.Settings.{Settings}
 use Rattle.head_board.specs.Event.{Event}
-use Rattle.head_board.specs.Events.{HaveHappened, book_at}
+use Rattle.upload_book.specs.Events.{ChangeEvent}
+use Rattle.head_board.specs.Events.{HaveHappened, book_at, change_event}
 use Rattle.tus_shared.specs.Desk.{Desk}
+use Rattle.tus_shared.specs.Finals.{AreOpenings, Opening}
+use Rattle.tus_shared.specs.Restoring.{RestoreNothing}
 use Rattle.tus_shared.specs.declared.again_fault.AgainFault.{AgainFault}
 use Rattle.tus_shared.specs.declared.again_fault.AgainFault.TheVariants as again
 use Rattle.journal_keeper.specs.declared.fault.ReopenFault.{ReopenFault}
@@ -36,11 +39,13 @@ IsOutsideRecords Memory = ⊤
 IsOutsideRecords Waiting = ⊤
 
 -- The book is the plain book after a list of events, which happened to a book of these settings since its opening, one after
--- another. The list begins with all that any of the desks was told to be kept. Nothing happened to the book but what the
--- records of the file make.
-pub record IsRecovered (key : ℕ) (file : List ℕ) (s : Settings) (desks : List Desk) (book : PlainBook) : Type 0 where
+-- another. The list begins with all that any of the desks was told to be kept, and with these events, which were kept; what
+-- comes behind them restores nothing. Nothing happened to the book but what the records of the file make.
+pub record IsRecovered (key : ℕ) (file : List ℕ) (s : Settings) (kept : List Event) (desks : List Desk) (book : PlainBook) : Type 0 where
   pub events : List Event
   pub begins : All (λ (d : Desk). IsPrefix d.kept events) desks
+  pub behind : IsPrefix kept events
+  pub plain : RestoreNothing behind.0
   pub happened : HaveHappened s events
   pub is : book ≡ book_at s events
   pub made : replayed 1 (opening_book s) (recovered key file) ≡ Ok book
@@ -50,3 +55,21 @@ abbrev pub IsFinal : AgainFault → Type 0
 IsFinal again.Waiting = ⊥
 IsFinal again.Change = ⊤
 IsFinal (again.Refused why) = why.refusal ≢ refusal.Memory
+
+-- an opening of a store with these settings: the events by which its book was made again, and those since
+abbrev pub opening_with : Settings → List Event → List Event → Opening
+opening_with s again since = record {
+  settings = s;
+  again = map {A = Event} {B = ChangeEvent} change_event again;
+  since = map {A = Event} {B = ChangeEvent} change_event since;
+}
+
+-- Where a crash ended an opening that goes on from earlier ones, and the book that was recovered is made again by events: the
+-- opening with these goes on from that one, in which all happened that was recovered. So each final upload that a store ever
+-- has was joined by an event of one of its openings (`FinalsOfOpenings` of `tus_shared`).
+abbrev pub RecoveredGoOn : Type 0
+RecoveredGoOn =
+    (key : ℕ) (file : List ℕ) (s : Settings) (kept again before since : List Event) (desks : List Desk) (earlier : List Opening)
+    → (recovered : IsRecovered key file s kept desks (book_at s again)) → kept ≡ before ++ since
+    → AreOpenings (opening_with s before since ∷ earlier)
+    → AreOpenings (opening_with s again [] ∷ opening_with s before (since ++ recovered.behind.0) ∷ earlier)

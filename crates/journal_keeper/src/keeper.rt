@@ -4,7 +4,7 @@ ghost use Rattle.head_board.specs.Events.{HaveHappened};
 ghost use Rattle.tus_shared.specs.Journal.{journal_len};
 ghost use Rattle.journal_file.specs.Journal.{disk_of, end_of, key_of, room_of};
 ghost use Rattle.journal_frames.specs.Frames.{frames};
-ghost use Rattle.journal_keeper.specs.Keeper.{CountsSync, IsLeft, KeepsBook, MakeBook, MayBeLeft};
+ghost use Rattle.journal_keeper.specs.Keeper.{CountsSync, IsLeftBy, KeepsBook, MakeBook, MayBeLeft};
 ghost use Rattle.journal_keeper.specs.Numbers.{no_syncs};
 ghost use Rattle.journal_keeper.specs.Granting.{Grants, HasRoom, IsNeeded, MayGrant};
 
@@ -176,7 +176,7 @@ impl<D: Disk + Drop, C: Journalled> Keeper<D, C> {
     pub fn tell_crash(&self)
         ensures happened { HaveHappened C.settings self.now.kept }
         ensures left { IsTrue C.honest
-            → (c : List ℕ) → MayBeLeft D.may_leave self.now c → IsLeft self.now.key C.settings self.now.kept c }
+            → (c : List ℕ) → MayBeLeft D.may_leave self.now c → IsLeftBy self.now.key C.settings self.now.kept c }
     {
         let _kept = &self.durable;
     }

@@ -5,7 +5,7 @@ ghost use Rattle.head_board.specs.Events.{book_at};
 ghost use Rattle.journal_file.specs.Journal.{key_of, IsJournal};
 ghost use Rattle.journal_frames.specs.Frames.{recovered};
 ghost use Rattle.journal_keeper.specs.Keeper.{IsLeft, MayBeLeft};
-ghost use Rattle.journal_keeper.specs.Opening.{IsOutsideRecords, IsRecovered};
+ghost use Rattle.journal_keeper.specs.Opening.{IsOutsideRecords, IsRecovered, RecoveredGoOn};
 ghost use Rattle.tus_shared.specs.Desk as spec;
 
 use crate::fault::ReopenFault;
@@ -82,7 +82,7 @@ pub fn what_was_told_is_recovered<
     ensures recovered { IsTrue C.honest → (file : List ℕ)
         → MayBeLeft D.may_leave keeper.now file
         → recovered key opened.frames.items ≡ recovered key file
-        → OnOk result (IsRecovered key file C.settings desks.now (book_at C.settings store.new)) }
+        → OnOk result (IsRecovered key file C.settings keeper.now.kept desks.now (book_at C.settings store.new)) }
     ensures accepts { IsTrue C.honest → (file : List ℕ)
         → MayBeLeft D.may_leave keeper.now file
         → recovered key opened.frames.items ≡ recovered key file
@@ -91,3 +91,10 @@ pub fn what_was_told_is_recovered<
     keeper.tell_crash();
     reopen(alloc, store, first, opened, key, progress)
 }
+
+/// Each final upload of a store that outlives its process is the concatenation that it was created from: the opening whose book
+/// was recovered goes on from the one that a crash ended, and so on. What a final was joined of stood in the book of the opening
+/// that joined it ([`tus_shared::laws::finals_of_openings`]).
+pub fn recovered_openings_go_on()
+    ensures { RecoveredGoOn }
+{}

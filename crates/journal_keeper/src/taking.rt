@@ -5,7 +5,7 @@ ghost use mathlib.Core.List.{IsPrefix};
 ghost use Rattle.head_board.specs.Events.{HaveHappened};
 ghost use Rattle.journal_file.specs.Journal.{disk_of, key_of, room_of};
 ghost use Rattle.journal_frames.specs.Frames.{Fits};
-ghost use Rattle.journal_keeper.specs.Keeper.{IsLeft, KeepsBook};
+ghost use Rattle.journal_keeper.specs.Keeper.{IsLeftBy, KeepsBook};
 ghost use Rattle.journal_keeper.specs.Numbers.{more};
 ghost use Rattle.journal_keeper.specs.Waiting.{frames_each};
 ghost use Rattle.tus_shared.specs.Journal.{journal_len, AreTaken};
@@ -40,7 +40,7 @@ pub(crate) fn keep_taken<D: Disk, C: Charges, W: time::Clock>(
         → OnOk result (KeepsBook C.settings journal.new taken.now.reached.events) }
     // Whatever it answers, a crash leaves all that was kept.
     ensures crash { KeepsBook C.settings journal.old durable.now.events
-        → (c : List ℕ) → D.may_leave (disk_of journal.new) c → IsLeft (key_of journal.old) C.settings durable.now.events c }
+        → (c : List ℕ) → D.may_leave (disk_of journal.new) c → IsLeftBy (key_of journal.old) C.settings durable.now.events c }
     ensures key { key_of journal.new ≡ key_of journal.old }
     // A frame can hold each of the records.
     ensures fit { (records : List (List ℕ))

@@ -15,7 +15,7 @@ use Rattle.head_board.specs.Events.{HaveHappened, book_at, change_event}
 use Rattle.tus_shared.specs.declared.unqueued.Unqueued.{Unqueued}
 use Rattle.tus_shared.specs.declared.unqueued.Unqueued.TheVariants.{NoFrame, NoPlace, NoRoom}
 use Rattle.tus_shared.specs.Journal.{AreTaken, CanBeReplayed, IsUnqueued, change_frame, event_frame, event_frames, journal_len, spare_of}
-use Rattle.tus_shared.specs.Finals.{RestoreNothing, RestoresNothing}
+use Rattle.tus_shared.specs.Restoring.{RestoreNothing, RestoresNothing}
 use Rattle.tus_shared.specs.inside.QueueRule.{IsFramed, IsLacking, IsQueued, QueueView, Takes, Waits, new_queue, passed}
 use Rattle.tus_shared.proofs.ChangeLemmas.{event_by}
 use Rattle.tus_shared.proofs.FinalLemmas.{none-restored, restored-on}
@@ -52,20 +52,22 @@ replay-one : (b : PlainBook) (events : List Event) (e : Event) → AllHappen b (
 replay-one b [] e all here = (here, tt)
 replay-one b (first ∷ events) e all here = (all.0, replay-one (book_after_event b (change_event first)) events e all.1 here)
 
-pub replayed-on : (s : Settings) (before more events : List Event) (e : Event) → events ≡ before ++ more → CanBeReplayed s before more → Happens (book_at s events) (change_event e) → CanBeReplayed s before (more ++ e ∷ [])
-replayed-on s before more events e is again here =
-    replay-one (book_at s before) more e again (subst (λ (b : PlainBook). Happens b (change_event e)) (ap (book_at s) is ∙ after-more (opening_book s) before more) here)
+pub replayed-on : (s : Settings) (before more events : List Event) (e : Event) → events ≡ before ++ more → CanBeReplayed s before more → Happens (book_at s events) (change_event e) → RestoresNothing e.change → CanBeReplayed s before (more ++ e ∷ [])
+replayed-on s before more events e is again here plain = (
+  replay-one (book_at s before) more e again.0 (subst (λ (b : PlainBook). Happens b (change_event e)) (ap (book_at s) is ∙ after-more (opening_book s) before more) here),
+  restored-on more (more ++ e ∷ []) e refl again.1 plain,
+)
 
 -- without a journal nothing is restored by one event more
-joined-on : (journal : Option ℕ) (events after : List Event) (e : Event) → after ≡ events ++ e ∷ [] → (journal ≡ None → RestoresNothing e.change) → (journal ≡ None → RestoreNothing events) → journal ≡ None → RestoreNothing after
-joined-on journal events after e next joins before none = restored-on events after e next (before none) (joins none)
+joined-on : (journal : Option ℕ) (events after : List Event) (e : Event) → after ≡ events ++ e ∷ [] → RestoresNothing e.change → (journal ≡ None → RestoreNothing events) → journal ≡ None → RestoreNothing after
+joined-on journal events after e next plain before none = restored-on events after e next (before none) plain
 
 -- the queue of a store after one event more
 pub queue-on : (s : Settings) (journal : Option ℕ) (log : Book) (events after : List Event) (e : Event) (frame : Option (List ℕ)) (old new : Option QueueView) (room spare left : ℕ)
-    → IsFramed (Ok tt) old frame room spare new left → IsFrameOf journal e frame → after ≡ events ++ e ∷ [] → Happens (book_at s events) (change_event e) → (journal ≡ None → RestoresNothing e.change)
+    → IsFramed (Ok tt) old frame room spare new left → IsFrameOf journal e frame → after ≡ events ++ e ∷ [] → Happens (book_at s events) (change_event e) → RestoresNothing e.change
     → IsQueued s journal log events old → IsQueued s journal log after new
-queue-on s journal log events after e frame None new room spare left framed is next here joins queued = subst (IsQueued s journal log after) (sym framed.0) (record { there = queued.there; waits = tt; joined = joined-on journal events after e next joins queued.joined })
-queue-on s journal log events after e frame (Some waiting) new room spare left framed is next here joins queued =
+queue-on s journal log events after e frame None new room spare left framed is next here plain queued = subst (IsQueued s journal log after) (sym framed.0) (record { there = queued.there; waits = tt; joined = joined-on journal events after e next plain queued.joined })
+queue-on s journal log events after e frame (Some waiting) new room spare left framed is next here plain queued =
     let w : Waits s journal log events waiting = queued.waits in
     let frames : waiting.frames ++ framed.bytes ∷ [] ≡ event_frames journal w.more ++ event_frame journal e ∷ [] = ap₂ (λ (fs : List (List ℕ)) (b : List ℕ). fs ++ b ∷ []) w.frames_are (frame-is journal e frame framed.bytes framed.is is) in
     subst (IsQueued s journal log after) (sym framed.queued) (record {
@@ -75,9 +77,9 @@ queue-on s journal log events after e frame (Some waiting) new room spare left f
         more = w.more ++ e ∷ [];
         reaches = next ∙ ap (λ (l : List Event). l ++ e ∷ []) w.reaches ∙ append_assoc waiting.behind w.more (e ∷ []);
         frames_are = frames ∙ sym (map-append (event_frame journal) w.more (e ∷ []));
-        again = replayed-on s waiting.behind w.more events e w.reaches w.again here;
+        again = replayed-on s waiting.behind w.more events e w.reaches w.again here plain;
       };
-      joined = joined-on journal events after e next joins queued.joined;
+      joined = joined-on journal events after e next plain queued.joined;
     })
 
 -- where no frame is queued, there is a queue, and it stays
@@ -140,13 +142,13 @@ queue-passed s journal log events all None journalled idle queued = record { the
 queue-passed s journal log events all (Some waiting) journalled idle queued = record {
   joined = none-there journal all journalled;
   there = queued.there;
-  waits = record { log_is = refl; more = []; reaches = sym (append-nil all); frames_are = idle; again = tt };
+  waits = record { log_is = refl; more = []; reaches = sym (append-nil all); frames_are = idle; again = (tt, none-restored) };
 }
 
 -- that of a new store
 pub queue-new : (s : Settings) (journal : Option ℕ) (log : Book) → IsQueued s journal log [] (new_queue journal log [])
 queue-new s None log = record { there = refl; waits = tt; joined = λ _. none-restored }
-queue-new s (Some key) log = record { there = refl; waits = record { log_is = refl; more = []; reaches = refl; frames_are = refl; again = tt }; joined = λ _. none-restored }
+queue-new s (Some key) log = record { there = refl; waits = record { log_is = refl; more = []; reaches = refl; frames_are = refl; again = (tt, none-restored) }; joined = λ _. none-restored }
 
 -- frames that are taken out of the queue
 pub frames-taken : (s : Settings) (journal : Option ℕ) (log : Book) (events from : List Event) (waiting : List (List ℕ)) (old new : Option QueueView) → HaveHappened s events → Takes old from waiting log events new → IsQueued s journal log events old
@@ -167,7 +169,7 @@ queue-taken s journal log events from waiting old new takes queued =
     subst (IsQueued s journal log events) (sym takes.empty) (record {
       joined = queued.joined;
       there = there;
-      waits = record { log_is = refl; more = []; reaches = sym (append-nil events); frames_are = refl; again = tt };
+      waits = record { log_is = refl; more = []; reaches = sym (append-nil events); frames_are = refl; again = (tt, none-restored) };
     })
 
 -- a queue is there where there is a journal

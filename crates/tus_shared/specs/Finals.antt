@@ -1,27 +1,26 @@
--- Where the final uploads of a store come from (tus 1.0.0, Concatenation). A piece of a snapshot comes out of a journal alone:
--- without one each final was joined, by one of the events, of the parts that were there then. With one it was joined so in this
--- opening or in an earlier one, whose book the snapshot was taken of.
+-- Where the final uploads of a store come from (tus 1.0.0, Concatenation). Each was joined, by one of the events, of the parts that
+-- were there then. With a journal it was joined so in this opening or in an earlier one, whose book the journal makes again.
 use Rattle.std.specs.Prelude.{◌≡◌, ◌≢◌, ◌⊎◌, ⊤, ℕ, List, [], ◌∷◌, ◌++◌, All, map, Option, Some, None}
-use Rattle.upload_book.specs.declared.change.Change.{Change}
-use Rattle.upload_book.specs.declared.change.Change.TheVariants.{Restore}
 use Rattle.upload_book.specs.declared.head_row.Kind.TheVariants.{Final}
 use Rattle.upload_book.specs.declared.head_row.Name.{Name}
-use Rattle.upload_book.specs.declared.restored.Restored.{Restored}
 use Rattle.upload_book.specs.Events.{ChangeEvent, HasUpload, IsJoinedBy, book_after_all}
-use Rattle.upload_book.specs.FinalLaws.{IsMadeIn, IsPutBackBy}
 use Rattle.upload_book.specs.PlainBook.{PlainBook, opening_book}
 use Rattle.upload_book.specs.Settings.{Settings}
 use Rattle.upload_book.specs.Upload.{Upload}
 use Rattle.head_board.specs.Event.{Event}
 use Rattle.head_board.specs.Events.{change_event}
+use Rattle.tus_steps.specs.declared.reply.Reply.{Reply}
+use Rattle.tus_steps.specs.Request.{Request}
+use Rattle.upload_book.specs.declared.sweep.Swept.{Swept}
+use Rattle.tus_shared.specs.Journal.{Queueing}
+use Rattle.tus_shared.specs.Restoring.{RestoreNothing, RestoresNothing}
+use Rattle.tus_shared.specs.Steps.{AddsChange, IsSweepAt}
 
--- the change restores no piece of a snapshot
-abbrev pub RestoresNothing : Change → Type 0
-RestoresNothing change = (restored : Restored) → change ≢ Restore restored
-
--- none of the events does
-abbrev pub RestoreNothing : List Event → Type 0
-RestoreNothing events = All (λ (e : Event). RestoresNothing e.change) events
+-- some events were added, which restore nothing
+pub record AddsPlain (before after : List Event) : Type 0 where
+  pub more : List Event
+  pub are : after ≡ before ++ more
+  pub plain : RestoreNothing more
 
 -- among the events is the concatenation that made this upload, of the parts that were there then
 pub record IsJoinedIn (b : PlainBook) (events : List ChangeEvent) (name : Name) (u : Upload) : Type 0 where
@@ -31,14 +30,20 @@ pub record IsJoinedIn (b : PlainBook) (events : List ChangeEvent) (name : Name) 
   pub all : events ≡ before ++ event ∷ after
   pub joined : IsJoinedBy (book_after_all b before) event name u
 
--- an opening of a store: its settings, and the events since
+-- An opening of a store: its settings; the events by which its book was made again of the journal that an earlier one left; and
+-- those since.
 pub record Opening : Type 0 where
   pub settings : Settings
-  pub events : List ChangeEvent
+  pub again : List ChangeEvent
+  pub since : List ChangeEvent
 
--- the book after them
+-- the book with which it begins
+abbrev pub book_begun : Opening → PlainBook
+book_begun opening = book_after_all (opening_book opening.settings) opening.again
+
+-- the book after what happened since
 abbrev pub book_of : Opening → PlainBook
-book_of opening = book_after_all (opening_book opening.settings) opening.events
+book_of opening = book_after_all (book_begun opening) opening.since
 
 -- the upload stood in the book of one of these openings
 abbrev pub StoodIn : List Opening → Name → Upload → Type 0
@@ -48,29 +53,28 @@ StoodIn (opening ∷ earlier) name u = HasUpload (book_of opening) name u ⊎ St
 -- an event of one of these openings joined it, of the parts that were there then
 abbrev pub WasJoinedIn : List Opening → Name → Upload → Type 0
 WasJoinedIn [] name u = ⊥
-WasJoinedIn (opening ∷ earlier) name u = IsJoinedIn (opening_book opening.settings) opening.events name u ⊎ WasJoinedIn earlier name u
+WasJoinedIn (opening ∷ earlier) name u = IsJoinedIn (book_begun opening) opening.since name u ⊎ WasJoinedIn earlier name u
 
--- each final that an event of this opening restores stood in the book of an earlier one, of which the snapshot was taken
-abbrev pub RestoresEarlier : Opening → List Opening → Type 0
-RestoresEarlier opening earlier =
-    (before after : List ChangeEvent) (event : ChangeEvent) (name : Name) (u : Upload)
-    → opening.events ≡ before ++ event ∷ after → u.kind ≡ Final
-    → IsPutBackBy (book_after_all (opening_book opening.settings) before) event name u
-    → StoodIn earlier name u
+-- The opening goes on from earlier ones: each final with which it begins stood in the book of one of them, and nothing was
+-- restored since.
+pub record GoesOn (opening : Opening) (earlier : List Opening) : Type 0 where
+  pub stood : (name : Name) (u : Upload) → u.kind ≡ Final → HasUpload (book_begun opening) name u → StoodIn earlier name u
+  pub plain : All (λ (e : ChangeEvent). RestoresNothing e.change) opening.since
 
--- These are the openings of a journal, the last one first: each restores finals of earlier ones alone.
+-- these are the openings of a journal, the last one first
 abbrev pub AreOpenings : List Opening → Type 0
 AreOpenings [] = ⊤
-AreOpenings (opening ∷ earlier) = RestoresEarlier opening earlier × AreOpenings earlier
+AreOpenings (opening ∷ earlier) = GoesOn opening earlier × AreOpenings earlier
 
--- How an upload came to be among the finals at an opening with these settings: an event joined it. With a journal an event
--- joined it or restored it; and whichever openings came before, one of their events or of this one's joined it.
+-- How an upload came to be among the finals at an opening with these settings: one of the events joined it. With a journal one
+-- of them did, or one of an earlier opening, whichever openings came before.
 abbrev pub ComesBy : Option ℕ → Settings → List ChangeEvent → Name → Upload → Type 0
 ComesBy None s events name u = IsJoinedIn (opening_book s) events name u
 ComesBy (Some key) s events name u =
-    let opening : Opening = record { settings = s; events = events } in
-    IsMadeIn (opening_book s) events name u
-    × ((earlier : List Opening) → AreOpenings (opening ∷ earlier) → WasJoinedIn (opening ∷ earlier) name u)
+    (again since : List ChangeEvent) (earlier : List Opening)
+    → events ≡ again ++ since
+    → (let opening : Opening = record { settings = s; again = again; since = since } in
+    AreOpenings (opening ∷ earlier) → WasJoinedIn (opening ∷ earlier) name u)
 
 -- where no event restores anything, each final was joined by one of them
 abbrev pub FinalsAreJoined : Type 0
@@ -84,3 +88,26 @@ abbrev pub FinalsOfOpenings : Type 0
 FinalsOfOpenings =
     (openings : List Opening) (name : Name) (u : Upload)
     → AreOpenings openings → u.kind ≡ Final → StoodIn openings name u → WasJoinedIn openings name u
+
+-- So are the openings of a journal: the first one, which makes nothing again; one in which an event happened that restores
+-- nothing, as the event of a request or of a sweep; and one whose book is made again as the last one left it, with the same
+-- tenants, whatever their uploads.
+pub record OpeningsGoOn : Type 0 where
+  pub first : (s : Settings) → AreOpenings (record { settings = s; again = []; since = [] } ∷ [])
+  pub happens :
+      (opening : Opening) (earlier : List Opening) (event : ChangeEvent)
+      → AreOpenings (opening ∷ earlier) → RestoresNothing event.change
+      → AreOpenings (record opening { since = opening.since ++ event ∷ [] } ∷ earlier)
+  pub reopened :
+      (opening : Opening) (earlier : List Opening) (s : Settings) (again : List ChangeEvent)
+      → AreOpenings (opening ∷ earlier) → (book_after_all (opening_book s) again).tenants ≡ (book_of opening).tenants
+      → AreOpenings (record { settings = s; again = again; since = [] } ∷ opening ∷ earlier)
+
+-- what a request or a sweep adds to what happened restores nothing
+pub record StepsRestoreNothing : Type 0 where
+  pub step :
+      (q : Queueing) (s : Settings) (before : List Event) (desk : ℕ) (r : Request) (now : ℕ) (reply : Reply) (after : List Event)
+      → AddsChange q s before desk r now reply after → AddsPlain before after
+  pub sweep :
+      (q : Queueing) (s : Settings) (before : List Event) (desk now : ℕ) (swept : Option Swept) (after : List Event)
+      → IsSweepAt q s before desk now swept after → AddsPlain before after

@@ -12,6 +12,7 @@ use Rattle.upload_book.specs.PlainBook.{PlainBook}
 use Rattle.upload_book.specs.Settings.{Settings}
 use Rattle.head_board.specs.Event.{Event}
 use Rattle.head_board.specs.Events.{HaveHappened, book_at, change_event}
+use Rattle.tus_shared.specs.Restoring.{RestoreNothing}
 use Rattle.tus_shared.specs.declared.unqueued.Unqueued.{Unqueued}
 use Rattle.tus_shared.specs.declared.unqueued.Unqueued.TheVariants.{NoFrame, NoPlace, NoRoom}
 
@@ -61,9 +62,10 @@ IsUnqueued q change now NoRoom = q.room < wanted_room q.journal change now
 IsUnqueued q change now NoPlace = IsSome q.frame × (wanted_room q.journal change now ≤ q.room)
 
 -- The events happened, one after another, to the book after those before them, and each can be made again of its record: a
--- book may be asked for its change and accepts it, and a record holds its numbers (`book_replay/specs/Replay`, `Happens`).
+-- book may be asked for its change and accepts it, and a record holds its numbers (`book_replay/specs/Replay`, `Happens`). None
+-- of them restores a piece of a snapshot.
 abbrev pub CanBeReplayed : Settings → List Event → List Event → Type 0
-CanBeReplayed s before events = AllHappen (book_at s before) (map {A = Event} {B = ChangeEvent} change_event events)
+CanBeReplayed s before events = AllHappen (book_at s before) (map {A = Event} {B = ChangeEvent} change_event events) × RestoreNothing events
 
 -- Frames that were taken out of a queue which began behind some events: they are those of the records of all events after
 -- these, up to the last that happened, one each, in their order. Of these records the events can be made again.

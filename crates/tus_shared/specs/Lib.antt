@@ -6,6 +6,7 @@ pub mod Steps
 pub mod Store
 pub mod Desk
 pub mod Journal
+pub mod Restoring
 pub mod Turn
 pub mod Fault
 pub mod inside

@@ -1,5 +1,5 @@
 //! Laws of the definitions that the contracts cite: each is the contract of a function that does nothing.
-ghost use Rattle.tus_shared.specs.Finals.{FinalsAreJoined, FinalsOfOpenings};
+ghost use Rattle.tus_shared.specs.Finals.{FinalsAreJoined, FinalsOfOpenings, OpeningsGoOn, StepsRestoreNothing};
 ghost use Rattle.tus_shared.specs.Laws.{LaterAnswers, OneLog, WithoutAJournal};
 
 /// All desks answer in one list of events: there the replies of every desk are the plain book's, in its own order, and each
@@ -26,8 +26,19 @@ pub fn finals_are_joined()
     ensures { FinalsAreJoined }
 {}
 
-/// However many openings of a journal there were, where each restored final uploads of earlier ones alone, each final upload is
-/// the concatenation that it was created from: an event of one of them joined it of the parts that were there then.
+/// However many openings of a journal there were, where each goes on from earlier ones, each final upload is the concatenation
+/// that it was created from: an event of one of them joined it of the parts that were there then.
 pub fn finals_of_openings()
     ensures { FinalsOfOpenings }
+{}
+
+/// The first opening of a journal goes on from none; with one event more that restores nothing an opening goes on as before; and
+/// one whose book is made again as another left it goes on from that one. Which book a crash leaves, `journal_keeper` says.
+pub fn openings_go_on()
+    ensures { OpeningsGoOn }
+{}
+
+/// What a request or a sweep adds to what happened restores nothing.
+pub fn steps_restore_nothing()
+    ensures { StepsRestoreNothing }
 {}

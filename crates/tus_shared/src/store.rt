@@ -8,7 +8,7 @@ ghost use Rattle.tus_steps.specs.declared.asked.Asked.TheVariants as asks;
 ghost use Rattle.tus_steps.specs.PlacedReply.{reply_in};
 ghost use Rattle.tus_steps.specs.Step.{IsContentReply};
 ghost use Rattle.tus_shared.specs.Desk.{Moves, Spends, next_count, queueing};
-ghost use Rattle.tus_shared.specs.Finals.{RestoresNothing};
+ghost use Rattle.tus_shared.specs.Restoring.{RestoresNothing};
 ghost use Rattle.tus_shared.specs.Headline.{Headline};
 ghost use Rattle.tus_shared.specs.Journal.{AreTaken, change_frame, held_bytes, spare_of};
 ghost use Rattle.tus_shared.specs.Steps.{AddsChange, IsDone, IsDoneAgain, IsStepAt, IsSweepAt};
@@ -265,7 +265,7 @@ impl<C: Charges, R: Ledger, M: Ledger, B: Wait + Drop> Store<C, R, M, B> {
         now: Moment,
     ) -> Result<Outcome, Refused>
         requires change { CanBeMade (length C.settings.tenants) change }
-        requires joined { C.journal ≡ None → RestoresNothing change }
+        requires plain { RestoresNothing change }
         requires frame { IfSome frame (λ f. f.items ≡ change_frame C.journal change now) }
         requires seen { desk.old.seen ≡ self.old }
         ensures happened { HaveHappened C.settings self.old }

@@ -26,13 +26,16 @@ pub record IsMadeIn (b : PlainBook) (events : List ChangeEvent) (name : Name) (u
   pub all : events ≡ before ++ event ∷ after
   pub made : IsJoinedBy (book_after_all b before) event name u ⊎ IsPutBackBy (book_after_all b before) event name u
 
--- A final upload stays whole, whatever happens to its parts or to others, until it is ended itself. And each final upload
--- of a book was made by a concatenation that happened to it, or was put back.
+-- A final upload stays whole, whatever happens to its parts or to others, until it is ended itself. Each final upload of a book
+-- after events stood before them, or was made by a concatenation among them, or was put back. At an opening none stood before.
 pub record FinalsStay : Type 0 where
   pub stays :
       (b : PlainBook) (events : List ChangeEvent) (name : Name) (u : Upload)
       → u.kind ≡ Final → u.expires ≡ None → StandsAs b name u → All (λ e. e.change ≢ Terminate name) events
       → StandsAs (book_after_all b events) name u
+  pub since :
+      (b : PlainBook) (events : List ChangeEvent) (name : Name) (u : Upload)
+      → u.kind ≡ Final → HasUpload (book_after_all b events) name u → HasUpload b name u ⊎ IsMadeIn b events name u
   pub comes :
       (s : Settings) (events : List ChangeEvent) (name : Name) (u : Upload)
       → u.kind ≡ Final → HasUpload (book_after_all (opening_book s) events) name u

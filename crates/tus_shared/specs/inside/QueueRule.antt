@@ -3,7 +3,7 @@ use Rattle.std.specs.Prelude.{◌≡◌, ℕ, ◌+◌, ◌<◌, ◌≤◌, List,
 use Rattle.logbook.specs.Pages.{Book}
 use Rattle.upload_book.specs.Settings.{Settings}
 use Rattle.head_board.specs.Event.{Event}
-use Rattle.tus_shared.specs.Finals.{RestoreNothing}
+use Rattle.tus_shared.specs.Restoring.{RestoreNothing}
 use Rattle.tus_shared.specs.declared.unqueued.Unqueued.{Unqueued}
 use Rattle.tus_shared.specs.declared.unqueued.Unqueued.TheVariants.{NoFrame, NoPlace, NoRoom}
 use Rattle.tus_shared.specs.Journal.{event_frames, CanBeReplayed}

@@ -259,6 +259,7 @@ opening-none s name u c =
 pub finals_stay : FinalsStay
 finals_stay = record {
   stays = stays-all;
+  since = comes-all;
   comes = λ s events name u final c. elim (comes-all (opening_book s) events name u final c) [
     | inl opening ↦ absurd (opening-none s name u opening)
     | inr made ↦ made

@@ -7,7 +7,7 @@ use Rattle.journal_keeper.specs.Compaction.{WillKeep}
 use Rattle.journal_keeper.specs.Keeper.{event_records}
 use Rattle.journal_keeper.specs.Waiting.{frames_each}
 use Rattle.journal_keeper.proofs.CompactionLemmas.{will-keep-more, will-keep-under}
-use Rattle.journal_keeper.proofs.KeeperLemmas.{frames-queued, kept-more, on_ok}
+use Rattle.journal_keeper.proofs.KeeperLemmas.{frames-queued, kept-lost, kept-more, on_ok}
 use Rattle.journal_keeper.proofs.keeper.Keeper.keep.Goals as goal
 
 pub returns-then-begins-clause-kept : goal.returns-then-begins-clause-kept
@@ -15,6 +15,20 @@ returns-then-begins-clause-kept g c =
     let begins : IsPrefix c.args.desk.now.seen c.self.inside.durable.events =
     subst (λ (events : List Event). IsPrefix events c.self.inside.durable.events) (ap (λ s. s.events) c.seen_events-seen.ensures) (c.begins.ensures.begins c.if-begins.true) in
     on_ok c.tell-told.result _ (subst (λ (events : List Event). IsPrefix events c.self.inside.durable.events) (sym c.tell-told.ensures.seen) begins)
+
+pub invariant_of-self-in_err-keep_taken : goal.invariant_of-self-in_err-keep_taken
+invariant_of-self-in_err-keep_taken g c =
+    let told = c.in_err-keep_taken.ensures in (
+      kept-lost c.self.inside.journal c.keep_taken.new.journal _ _ _ _ _ _ _ c.self.inside.granted _ _ c.if-self.false c.self.invariant.0 told.key told.crash,
+      will-keep-under _ _ _ _ c.self.inside.compaction told.key c.self.invariant.1,
+    )
+
+pub invariant_of-self-in_err-tell : goal.invariant_of-self-in_err-tell
+invariant_of-self-in_err-tell g c =
+    let told = c.in_ok-keep_taken.ensures in (
+      kept-lost c.self.inside.journal c.keep_taken.new.journal _ _ _ _ _ _ _ c.self.inside.granted _ _ c.if-self.false c.self.invariant.0 told.key told.crash,
+      will-keep-under _ _ _ _ c.self.inside.compaction told.key c.self.invariant.1,
+    )
 
 pub invariant_of-self-2 : goal.invariant_of-self-2
 invariant_of-self-2 g c =

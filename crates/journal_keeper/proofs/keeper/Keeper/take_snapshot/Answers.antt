@@ -9,8 +9,14 @@ use Rattle.head_board.proofs.SettingsLemmas.{at-settings}
 use Rattle.upload_book.specs.PlainBook.{opening_book}
 use Rattle.upload_book.specs.Settings.{Settings}
 use Rattle.journal_keeper.specs.Compaction.{WillHave}
-use Rattle.journal_keeper.proofs.KeeperLemmas.{kept-more}
+use Rattle.journal_keeper.proofs.KeeperLemmas.{kept-lost, kept-more}
 use Rattle.journal_keeper.proofs.keeper.Keeper.take_snapshot.Goals as goal
+
+pub invariant_of-self-in_err-keep_taken : goal.invariant_of-self-in_err-keep_taken
+invariant_of-self-in_err-keep_taken g c =
+    let well : c.self.inside.has_failed ≡ false = ap (λ k. k.failed) c.self.view_is ∙ c.requires.well in
+    let told = c.in_err-keep_taken.ensures in
+    (kept-lost c.self.inside.journal c.keep_taken.new.journal _ _ _ _ _ _ _ c.self.inside.granted _ _ well c.self.invariant.0 told.key told.crash, tt)
 
 pub invariant_of-self-in_default-snapshot : goal.invariant_of-self-in_default-snapshot
 invariant_of-self-in_default-snapshot g c =

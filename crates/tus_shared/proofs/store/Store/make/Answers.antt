@@ -142,7 +142,7 @@ invariant_of-self-2 g c =
     let accepted = accepted-as b c.prepare.new.self c.in-Ok.ready c.args.change c.args.now (c.prepare.ensures.plain ∙ c.self.invariant.0.at.is) c.in-Ok.ensures.change c.in-Ok.ensures.now c.in-Ok.ensures.ready in
     let here : Happens b (record { change = c.args.change; now = c.args.now }) = record { asked = asked; accepted = accepted; moment = moment; fits = c.tell_fits.ensures } in (
       c.make_ready.ensures.store,
-      queue-on g.C.Charges.settings journal g.C.Charges.log events after (event_by number c.args.change c.args.now) _ c.self.inside.queue c.queue_frame.new.queue c.desk.inside.room c.spare_for-spare.result c.queue_frame.new.room framed given next here c.requires.joined c.self.invariant.1,
+      queue-on g.C.Charges.settings journal g.C.Charges.log events after (event_by number c.args.change c.args.now) _ c.self.inside.queue c.queue_frame.new.queue c.desk.inside.room c.spare_for-spare.result c.queue_frame.new.room framed given next here c.requires.plain c.self.invariant.1,
     )
 
 pub returns-clause-happened : goal.returns-clause-happened

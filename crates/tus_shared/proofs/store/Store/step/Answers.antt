@@ -34,5 +34,5 @@ answer_asked-requires-clause-found g c =
     let settings = ap (λ (b : PlainBook). b.settings) c.headline.ensures.stands ∙ at-settings s c.args.self.now in
     subst (λ (s : Settings). c.args.asked ≡ asked_in s c.args.request.now) (sym settings) c.requires.found.is
 
-pub make-outcome-requires-clause-joined : goal.make-outcome-requires-clause-joined
-make-outcome-requires-clause-joined g c = λ _. request-restores-nothing g.C.Charges.settings c.args.request.now c.in-Change.asked (ap change_in (sym c.requires.found.is ∙ c.in-Change.is))
+pub make-outcome-requires-clause-plain : goal.make-outcome-requires-clause-plain
+make-outcome-requires-clause-plain g c = request-restores-nothing g.C.Charges.settings c.args.request.now c.in-Change.asked (ap change_in (sym c.requires.found.is ∙ c.in-Change.is))
