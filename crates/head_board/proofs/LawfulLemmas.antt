@@ -1,7 +1,7 @@
 -- A lawful book stays lawful, whatever happens to it.
-use Rattle.std.proofs.Common.{◌≡◌, ℕ, ◌<◌, List, [], ◌∷◌, length, map, Option, Some, None, Result, Ok, Err, refl, sym, ap, subst, ◌∙◌}
+use Rattle.std.proofs.Common.{◌≡◌, ℕ, ◌<◌, List, [], ◌∷◌, length, map, Option, Some, None, Result, Ok, Err, refl, sym, subst}
 use Rattle.upload_book.specs.Account.{account_in}
-use Rattle.upload_book.specs.Append.{append_answer, append_refusal, part_after_append}
+use Rattle.upload_book.specs.Append.{append_answer, append_refusal}
 use Rattle.upload_book.specs.Change.{CanBeMade, book_after_change}
 use Rattle.upload_book.specs.Chunk.{Chunk}
 use Rattle.upload_book.specs.Concat.{concat_refusal, part_after_concat}

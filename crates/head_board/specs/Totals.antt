@@ -1,5 +1,5 @@
 -- The numbers of a book by its tenants, without a row of any upload.
-use Rattle.std.specs.Prelude.{ℕ, List, length, map}
+use Rattle.std.specs.Prelude.{ℕ, length, map}
 use Rattle.std.specs.List.{range_with_len}
 use Rattle.upload_book.specs.Heads.{Heads, head_part_at}
 use Rattle.head_board.specs.declared.totals.Totals.{Totals}

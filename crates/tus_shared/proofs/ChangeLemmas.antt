@@ -1,6 +1,6 @@
 -- What a change does at a store, and which step of a request that is.
 use Rattle.std.specs.Prelude.{◌⊎◌, is_err, ⊤}
-use Rattle.std.proofs.Common.{◌≡◌, ℕ, ◌+◌, ◌≤◌, false, List, [], ◌∷◌, ◌++◌, Option, Some, None, IsSome, Result, Ok, Err, IsOk, IsErr, inl, inr, length, length-append, refl, sym, ap, subst, ◌∙◌}
+use Rattle.std.proofs.Common.{◌≡◌, ℕ, ◌+◌, ◌≤◌, false, List, [], ◌∷◌, ◌++◌, Option, Some, Result, Ok, Err, IsOk, IsErr, inl, inr, length, length-append, refl, sym, ap, subst, ◌∙◌}
 use Rattle.upload_book.specs.Change.{CanBeMade, MayLackFor, book_after_change, change_answer, change_lacking}
 use Rattle.upload_book.specs.declared.append.Refused.{Refused}
 use Rattle.upload_book.specs.declared.board_line.BoardLine.{BoardLine}

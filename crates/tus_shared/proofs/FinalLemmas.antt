@@ -1,7 +1,7 @@
 -- That no event restores anything without a journal, and that each final upload was joined then.
-use Rattle.std.specs.Prelude.{◌≢◌, Contains, IfSome, get_or, ⊤}
-use Rattle.std.proofs.Common.{◌≡◌, ◌∷◌, [], ◌++◌, ℕ, length, List, All, map, Bool, true, false, Option, Some, None, IsSome, Result, Ok, Err, inl, inr, refl, ap, sym, subst, ◌∙◌}
-use Rattle.std.proofs.lemmas.List.Elements.{All-append, All-drop, All-head, All-map, All-nil, All-push, All-same}
+use Rattle.std.specs.Prelude.{Contains, IfSome, get_or}
+use Rattle.std.proofs.Common.{◌≡◌, ◌∷◌, [], ◌++◌, ℕ, length, List, All, map, Bool, true, false, Option, Some, None, Result, Ok, Err, inl, inr, refl, ap, sym, subst, ◌∙◌}
+use Rattle.std.proofs.lemmas.List.Elements.{All-drop, All-head, All-map, All-nil, All-push, All-same}
 use Rattle.std.proofs.Math.Seq.{drop-append_seam}
 use Rattle.upload_book.specs.declared.change.Change.{Change}
 use Rattle.upload_book.specs.declared.change.Change.TheVariants as change
@@ -10,7 +10,6 @@ use Rattle.upload_book.specs.declared.head_row.Name.{Name}
 use Rattle.upload_book.specs.declared.operation.Operation.{Operation}
 use Rattle.upload_book.specs.declared.operation.Operation.TheVariants as operation
 use Rattle.upload_book.specs.declared.refusal.Refusal.{Refusal}
-use Rattle.upload_book.specs.declared.restored.Restored.{Restored}
 use Rattle.std.proofs.lemmas.List.{append-nil}
 use Rattle.upload_book.specs.declared.append.Refused.{Refused}
 use Rattle.upload_book.specs.declared.change.Outcome.{Outcome}
@@ -31,7 +30,7 @@ use Rattle.head_board.specs.Events.{change_event}
 use Rattle.head_board.specs.Events.{book_at}
 use Rattle.tus_steps.specs.Changing.{change_found}
 use Rattle.tus_steps.specs.declared.reply.Reply.{Reply}
-use Rattle.tus_shared.specs.Finals.{AddsPlain, ComesBy, FinalsAreJoined, FinalsOfOpenings, IsJoinedIn, OpeningsGoOn, StepsRestoreNothing, book_begun}
+use Rattle.tus_shared.specs.Finals.{AddsPlain, ComesBy, FinalsAreJoined, FinalsOfOpenings, OpeningsGoOn, StepsRestoreNothing, book_begun}
 use Rattle.tus_shared.specs.Journal.{Queueing}
 use Rattle.tus_shared.specs.Restoring.{RestoreNothing, RestoresNothing}
 use Rattle.tus_shared.specs.Steps.{AddsBy, IsDone, IsSweepAt}

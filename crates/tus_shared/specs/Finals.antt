@@ -1,6 +1,6 @@
 -- Where the final uploads of a store come from (tus 1.0.0, Concatenation). Each was joined, by one of the events, of the parts that
 -- were there then. With a journal it was joined so in this opening or in an earlier one, whose book the journal makes again.
-use Rattle.std.specs.Prelude.{◌≡◌, ◌≢◌, ◌⊎◌, ⊤, ℕ, List, [], ◌∷◌, ◌++◌, All, map, Option, Some, None}
+use Rattle.std.specs.Prelude.{◌≡◌, ◌⊎◌, ⊤, ℕ, List, [], ◌∷◌, ◌++◌, All, map, Option, Some, None}
 use Rattle.upload_book.specs.declared.head_row.Kind.TheVariants.{Final}
 use Rattle.upload_book.specs.declared.head_row.Name.{Name}
 use Rattle.upload_book.specs.Events.{ChangeEvent, HasUpload, IsJoinedBy, book_after_all}

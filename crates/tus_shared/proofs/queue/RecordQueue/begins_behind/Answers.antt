@@ -1,4 +1,3 @@
-use Rattle.std.proofs.Common.{rules}
 use Rattle.tus_shared.proofs.QueueLemmas.{prefix-both}
 use Rattle.tus_shared.proofs.queue.RecordQueue.begins_behind.Goals as goal
 

@@ -3,7 +3,6 @@ use Rattle.upload_book.specs.BlockBook.{HoldsBook, blocks_of}
 use Rattle.upload_book.specs.Charge.{charge_in}
 use Rattle.upload_book.specs.Lawful.{IsLawful}
 use Rattle.upload_book.specs.Settings.{Settings}
-use Rattle.head_board.specs.Event.{Event}
 use Rattle.head_board.specs.Events.{book_at}
 use Rattle.head_board.proofs.SettingsLemmas.{at-settings}
 use Rattle.tus_shared.proofs.FinalLemmas.{comes-by}

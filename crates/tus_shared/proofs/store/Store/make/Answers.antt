@@ -1,4 +1,4 @@
-use Rattle.std.proofs.Common.{◌≡◌, ◌≤◌, ◌++◌, ◌∷◌, [], List, length, ℕ, ◌+◌, Option, option_map, IsSome, Err, ap, refl, sym, subst, inl, ◌∙◌}
+use Rattle.std.proofs.Common.{◌≡◌, ◌≤◌, length, ℕ, ◌+◌, Option, option_map, IsSome, Err, ap, refl, sym, subst, inl, ◌∙◌}
 use Rattle.book_replay.specs.Replay.{Happens}
 use Rattle.upload_book.specs.Change.{CanBeMade, change_lacking}
 use Rattle.upload_book.specs.Lawful.{IsLawful}

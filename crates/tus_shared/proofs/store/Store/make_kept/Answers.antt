@@ -1,4 +1,4 @@
-use Rattle.std.proofs.Common.{◌≡◌, ◌++◌, ◌∷◌, [], List, ℕ, Bool, true, false, Option, length, ap, ap₂, refl, rules, sym, subst, ◌∙◌}
+use Rattle.std.proofs.Common.{◌≡◌, List, ℕ, true, false, Option, length, ap, ap₂, refl, rules, sym, subst, ◌∙◌}
 use Rattle.logbook.specs.Pages.{Book}
 use Rattle.upload_book.specs.Change.{CanBeMade}
 use Rattle.upload_book.specs.Lawful.{IsLawful}

@@ -1,4 +1,4 @@
-use Rattle.std.proofs.Common.{◌≡◌, [], List, ℕ, Option, ap, ap₂, rules, sym, subst, ◌∙◌}
+use Rattle.std.proofs.Common.{[], List, ℕ, Option, ap, ap₂, rules, sym, subst, ◌∙◌}
 use Rattle.logbook.specs.Pages.{Book}
 use Rattle.head_board.specs.Board.{BoardView}
 use Rattle.head_board.specs.Event.{Event}
