@@ -20,7 +20,7 @@ use Rattle.http_wire.specs.inside.Sending.{OnOutbox}
 use Rattle.http_wire.proofs.HistoryLemmas.{History-kept, History-took}
 use Rattle.http_wire.proofs.StageLemmas.{Standing-few, Standing-more, Standing-unfinished, Wants-unended}
 
--- the start of a message may stand over any read_buffer
+-- the start of a message may stand over any read buffer
 pub IsConnection-start : (a : Ahead) (p : Phase Layout) (max : ℕ) → max < 2 ^ 31 → p ≡ at_start → IsConnection a p max
 IsConnection-start a p max size is = record {
   size = size;

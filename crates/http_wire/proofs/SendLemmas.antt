@@ -26,7 +26,7 @@ pub nil-left : (first rest : List ℕ) → first ++ rest ≡ [] → first ≡ []
 nil-left [] rest h = refl
 nil-left (b ∷ first) rest h = absurd cc
 
--- where nothing is pending, there is nothing in an write_buffer
+-- where nothing is pending, there is nothing in a write buffer
 pub cleared-empty : (page : List ℕ) (sent : ℕ) (tail : Option (List ℕ)) → IsCleared page sent tail → drop sent page ++ following tail ≡ [] → write_buffer_of page sent tail ≡ empty_write_buffer
 cleared-empty page sent (Some bytes) c none = absurd (c.unsent (nil-right (drop sent page) bytes none))
 cleared-empty page sent None c none =

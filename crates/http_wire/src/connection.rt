@@ -491,7 +491,7 @@ fn broken(stage: Stage, read_buffer: &mut ReadBuffer) -> Phase<Layout>
     }
 }
 
-// What came in, with the bytes of a message as the read_buffer lends them.
+// What came in, with the bytes of a message as the read buffer lends them.
 fn lend_message<'i>(
     incoming: &Incoming<Layout>,
     read_buffer: &'i ReadBuffer,

@@ -1,4 +1,4 @@
--- What came in, as its layout in the bytes that the read_buffer lends.
+-- What came in, as its layout in the bytes that the read buffer lends.
 use Rattle.std.specs.Prelude.{ℕ, List, Result, ⊤}
 use Rattle.http_wire.specs.Incoming.{map_read}
 use Rattle.http_wire.specs.Layout.{IsMessage, framed_at}
@@ -17,6 +17,6 @@ IsLent text CutOther = ⊤
 IsLent text (Refused why framing) = ⊤
 IsLent text End = ⊤
 
--- what a reading gave, whose message the read_buffer lends
+-- what a reading gave, whose message the read buffer lends
 abbrev pub ReadsIncoming : ℕ → Intake → Ahead → Result (Incoming Layout) WireFault → Type 0
 ReadsIncoming max i a r = ReadsNext max i a.held (map_read (framed_at a.lent) r)

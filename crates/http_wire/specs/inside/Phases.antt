@@ -19,7 +19,7 @@ map_phase f (Waiting s) = Waiting s
 map_phase f (Owing i) = Owing (map_incoming f i)
 map_phase f (Over r) = Over r
 
--- A reading that may stand so over this read_buffer; where it waits, there is room for a read; a message that came in is lent, and
+-- A reading that may stand so over this read buffer; where it waits, there is room for a read; a message that came in is lent, and
 -- one that was cut by the end came at the end.
 abbrev pub IsPhase : Ahead → Phase Layout → Type 0
 IsPhase a (Looking s) = Fits a s

@@ -24,7 +24,7 @@ abbrev pub Standing : ℕ → List ℕ → List ℕ → Ahead → Stage → Type
 Standing max bytes said a (Head s) = (said ≡ []) × Searching bytes a.held s
 Standing max bytes said a (Body p) = (said ≡ continue_text p.is_waiting) × BeginsHead max bytes p a.held
 
--- with these bytes, and with this said meanwhile, this came in, which the read_buffer lends
+-- with these bytes, and with this said meanwhile, this came in, which the read buffer lends
 abbrev pub Comes : ℕ → List ℕ → List ℕ → Ahead → Incoming Layout → Type 0
 Comes max bytes said a i = ComesIn max (record { input = bytes; text = said }) a.held (map_incoming (framed_at a.lent) i)
 
@@ -42,7 +42,7 @@ pub record HasRoom (a : Ahead) (p : Layout) : Type 0 where
   pub room : p.head_len + p.body_len + READ_SIZE ≤ a.room
   pub within : IsLayoutWithin p.head_len p
 
--- a reading may stand so over this read_buffer
+-- a reading may stand so over this read buffer
 abbrev pub Fits : Ahead → Stage → Type 0
 Fits a (Head s) = (s.skipped < head_limit) × (s.seen ≤ length a.held)
 Fits a (Body p) = HasRoom a p

@@ -16,7 +16,7 @@ pub enum HeadFound {
     Nothing,
 }
 
-/// A search for the head of the next message in what an read_buffer holds. It touches no reader: each look goes on where the
+/// A search for the head of the next message in what a read buffer holds. It touches no reader: each look goes on where the
 /// last one stopped, and none looks at a byte that was seen before.
 #[derive(Clone, Copy, PartialEq, Eq)]
 pub struct Search {

@@ -11,7 +11,7 @@ use std::marker::Model;
 /// The fewest bytes that a read asks for.
 pub const READ_SIZE: usize = 16_384;
 
-/// The bytes that a new read_buffer has room for.
+/// The bytes that a new read buffer has room for.
 pub const FIRST_ROOM: usize = 65_536;
 
 /// The one buffer between a reader and the messages that are read from it. It is read into in large
@@ -50,7 +50,7 @@ impl Model for ReadBuffer {
 }
 
 impl ReadBuffer {
-    /// An read_buffer that holds nothing. The error is that memory is lacking.
+    /// A read buffer that holds nothing. The error is that memory is lacking.
     pub fn new(alloc: Global) -> Result<Self, AllocError>
         ensures held { IfOk result (λ b. b.held ≡ []) }
         ensures lent { IfOk result (λ b. b.lent ≡ []) }

@@ -1,4 +1,4 @@
-//! The reading of a message as steps over what an read_buffer holds: no reader and no writer is touched here.
+//! The reading of a message as steps over what a read buffer holds: no reader and no writer is touched here.
 ghost use Rattle.std.specs.Prelude.{◌≡◌, ◌≤◌, ◌<◌, ◌+◌, ◌^◌, ℕ, List, [], true, false, length, IfOk, IfErr};
 ghost use Rattle.http_wire.specs.Conversation.{continue_text};
 ghost use Rattle.http_wire.specs.HeadText.{head_limit};

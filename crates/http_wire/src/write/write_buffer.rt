@@ -47,7 +47,7 @@ impl Model for WriteBuffer {
 }
 
 impl WriteBuffer {
-    /// An write_buffer with nothing in it. The error is that memory is lacking.
+    /// A write buffer with nothing in it. The error is that memory is lacking.
     pub fn new(alloc: Global) -> Result<Self, AllocError>
         ensures { IfOk result (λ o. o ≡ empty_write_buffer) }
     {
