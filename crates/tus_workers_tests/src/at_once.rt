@@ -60,7 +60,7 @@ fn client<N: Net<Stream = TcpStream>>(
     Ok(stream)
 }
 
-// The clients of a connections, which have sent their HEADs to this port.
+// The clients, which have sent their HEADs to this port.
 fn connected<N: Net<Stream = TcpStream>>(
     net: &N,
     alloc: Global,
@@ -77,7 +77,7 @@ fn connected<N: Net<Stream = TcpStream>>(
     Ok(clients)
 }
 
-// The work of one worker for a connections.
+// The work of one worker for these clients.
 fn work_for(rt: &impl Abort, connections: Connections) -> WorkOptions {
     WorkOptions {
         moment: Some(moment(rt)),
