@@ -220,6 +220,7 @@ impl<D: Disk> KeptBook<D> {
         ensures stays { book_in self.new ≡ book_in self.old }
         ensures disk { disk_in self.new ≡ disk_in self.old }
         ensures key { key_in self.new ≡ key_in self.old }
+        ensures failed { has_failed self.new ≡ has_failed self.old }
     {
         let mut ids = PartIds::new();
         match asked_of(self.book.settings(), request, &mut ids) {
