@@ -131,7 +131,7 @@ fn tell_upload(new: &NewUpload)
 fn tell_chunk(chunk: &Chunk)
     ensures { FitsChunk chunk.now }
 {
-    let _offset = chunk.offset;
+    let (_offset, _more) = (chunk.offset, chunk.more);
     tell_number(chunk.length);
     tell_check(&chunk.check);
 }

@@ -21,3 +21,4 @@ pub mod SendLemmas
 pub mod StageLemmas
 pub mod TurnLemmas
 pub mod WireLemmas
+pub mod InPiecesLemmas

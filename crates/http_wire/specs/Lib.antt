@@ -9,6 +9,7 @@ pub mod Fault
 pub mod Fields
 pub mod NextMessage
 pub mod HeadText
+pub mod InPieces
 pub mod Incoming
 pub mod Judge
 pub mod Laws

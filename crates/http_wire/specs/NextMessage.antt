@@ -62,6 +62,8 @@ request_of h body = record {
   path = path_of h.target;
   fields = tus_fields h;
   body = body;
+  given = 0;
+  more = 0;
 }
 
 -- the reply to a HEAD, by the request's own method, is bare; the connection closes after a request of

@@ -1,5 +1,6 @@
 //! Laws of the definitions that the contracts cite: each is the contract of a function that does
 //! nothing, and holds of every input.
+ghost use Rattle.http_wire.specs.InPieces.{PiecesAreATurn};
 ghost use Rattle.http_wire.specs.Laws.{BodiesComeFirst, InputsJoin, MessagesAreShort, OneMessage, TurnsJoin, WireFollowsOrder};
 
 use crate::answer::Answer;
@@ -34,4 +35,10 @@ pub fn messages_are_short()
 /// in the one order of refusals.
 pub fn refusals_follow_the_order()
     ensures { WireFollowsOrder }
+{}
+
+/// A message whose body was taken in pieces, the last of which got the reply, is a turn of a conversation in which requests
+/// are answered in pieces.
+pub fn pieces_are_a_turn()
+    ensures { PiecesAreATurn }
 {}

@@ -229,6 +229,8 @@ fn with_head<'a>(head: &Head<'_, 'a>, rest: &'a [u8], max_size: u64) -> NextMess
                 path: read_path(head.path.unwrap_or("").as_bytes()),
                 fields: tus_fields(headers),
                 body,
+                given: 0,
+                more: 0,
             };
             NextMessage::Request(request, Framing { bare, close }, is_waiting, after)
         }

@@ -1,9 +1,10 @@
 -- Each field that was written is read again, whatever stands behind it; and so are changes.
-use Rattle.std.proofs.Common.{◌≡◌, ℕ, suc, ◌≤◌, Bool, true, false, ltb, List, [], ◌∷◌, ◌++◌, length, Option, Some, None, refl, sym, ap, ◌∙◌, append_assoc, arith, length-append}
+use Rattle.std.proofs.Common.{◌≡◌, ℕ, suc, ◌≤◌, Bool, true, false, eqb, ltb, if◌then◌else◌, List, [], ◌∷◌, ◌++◌, length, Option, Some, None, refl, inl, inr, sym, ap, ◌∙◌, append_assoc, arith, length-append}
 use Rattle.std.specs.Prelude.{IfSome}
 use Rattle.std.specs.Int.{w64, from_be_bytes}
 use Rattle.std.specs.List.{flat_map, AllByRecursion}
 use Rattle.std.proofs.lemmas.Bool.{le-ltb}
+use Rattle.std.proofs.lemmas.Bool.Decides.{eqb_tells}
 use Rattle.std.proofs.lemmas.List.{append-nil, take_at, drop_at}
 use Rattle.std.proofs.lemmas.List.Concat.{flat_map-cons}
 use Rattle.std.proofs.lemmas.Nat.{from_be_bytes-to_be_bytes_8}
@@ -22,8 +23,8 @@ use Rattle.upload_book.specs.declared.restored.Restored.{Restored}
 use Rattle.upload_book.specs.declared.restored.Restored.TheVariants as piece
 use Rattle.upload_book.specs.snapshot.Restored.{RestoredSegment, RestoredUpload}
 use Rattle.journal_records.specs.Laws.{RecordsAreReadAgain}
-use Rattle.journal_records.specs.Reading.{number_at, bytes_at, flag_at, optional_at, text_at, check_at, name_at, many_at, parts_at, expires_at, kind_at, optional_text_at, segment_at, segments_at, upload_at, first_at, chunk_at, final_at, fields_at, back_at, create_at, append_at, concat_at, terminate_at, restore_at, next_at, totals_at, change_at, moment_at, record_at}
-use Rattle.journal_records.specs.Records.{number, flag, optional, text, check, name_bytes, parts, kind_byte, optional_text, segment_bytes, segments_bytes, upload_bytes, first_bytes, chunk_bytes, final_bytes, back_bytes, piece_bytes, change_bytes, IsNumber, FitsCheck, FitsUpload, FitsChunk, FitsFinal, FitsSegment, FitsBack, FitsPiece, FitsChange}
+use Rattle.journal_records.specs.Reading.{number_at, bytes_at, flag_at, flag_more_at, some_at, optional_at, text_at, check_at, name_at, many_at, parts_at, expires_at, kind_at, optional_text_at, segment_at, segments_at, upload_at, first_at, chunk_at, final_at, fields_at, back_at, create_at, append_at, concat_at, terminate_at, restore_at, next_at, totals_at, change_at, moment_at, record_at}
+use Rattle.journal_records.specs.Records.{number, flag, flag_more, optional, text, check, name_bytes, parts, kind_byte, optional_text, segment_bytes, segments_bytes, upload_bytes, first_bytes, chunk_bytes, final_bytes, back_bytes, piece_bytes, change_bytes, IsNumber, FitsCheck, FitsUpload, FitsChunk, FitsFinal, FitsSegment, FitsBack, FitsPiece, FitsChange}
 
 -- ---- fields
 
@@ -48,6 +49,25 @@ flag_again : (b : Bool) (rest : List ℕ) → flag_at (flag b ++ rest) ≡ Some 
 unfolding flag_at
 flag_again false rest = refl
 flag_again true rest = refl
+
+some_again : (n : ℕ) (rest : List ℕ) → IsNumber n → eqb n 0 ≡ false → some_at (number n ++ rest) ≡ Some (n, rest)
+unfolding some_at
+some_again n rest fits some = rw (number_again n rest fits) (rw some refl)
+
+flag_more_again : (b : Bool) (more : ℕ) (rest : List ℕ) → IsNumber more → flag_more_at (flag_more b more ++ rest) ≡ Some ((b, more), rest)
+unfolding flag_more_at
+flag_more_again b more rest fits = elim (eqb_tells more 0) [
+  | inl none ↦ rw none.1 (by_none b)
+  | inr some ↦ rw some.0 (by_some b some.0)
+]
+  where
+    by_none : (b : Bool) → flag_more_at (flag_more b 0 ++ rest) ≡ Some ((b, 0), rest)
+    by_none false = refl
+    by_none true = refl
+
+    by_some : (b : Bool) → eqb more 0 ≡ false → flag_more_at ((if b then 3 else 2) ∷ (number more ++ rest)) ≡ Some ((b, more), rest)
+    by_some false some = rw (some_again more rest fits some) refl
+    by_some true some = rw (some_again more rest fits some) refl
 
 optional_again : (o : Option ℕ) (rest : List ℕ) → IfSome o IsNumber → optional_at (optional o ++ rest) ≡ Some (o, rest)
 unfolding optional_at
@@ -140,11 +160,11 @@ unfolding chunk_at chunk_bytes
 chunk_again chunk fits =
     let a = number chunk.offset in
     let b = optional chunk.length in
-    let d = flag chunk.typed in
+    let d = flag_more chunk.typed chunk.more in
     let e = check chunk.check in
     let regrouped : a ++ b ++ d ++ e ++ chunk.bytes ≡ a ++ (b ++ (d ++ (e ++ chunk.bytes))) = append_assoc (a ++ b ++ d) e chunk.bytes ∙ append_assoc (a ++ b) d (e ++ chunk.bytes) ∙ append_assoc a b (d ++ (e ++ chunk.bytes)) in
     ap chunk_at regrouped
-    ∙ rw (number_again chunk.offset (b ++ (d ++ (e ++ chunk.bytes))) fits.offset, optional_again chunk.length (d ++ (e ++ chunk.bytes)) fits.told, flag_again chunk.typed (e ++ chunk.bytes), check_again chunk.check chunk.bytes fits.check) refl
+    ∙ rw (number_again chunk.offset (b ++ (d ++ (e ++ chunk.bytes))) fits.offset, optional_again chunk.length (d ++ (e ++ chunk.bytes)) fits.told, flag_more_again chunk.typed chunk.more (e ++ chunk.bytes) fits.more, check_again chunk.check chunk.bytes fits.check) refl
 
 final_again : (new : NewFinal) → FitsFinal new → final_at (final_bytes new) ≡ Some new
 unfolding final_at final_bytes

@@ -21,8 +21,8 @@ use Rattle.upload_book.specs.declared.head_row.Name.{Name}
 use Rattle.upload_book.specs.declared.restored.Restored.TheVariants as piece
 use Rattle.upload_book.specs.snapshot.Restored.{RestoredSegment, RestoredUpload}
 use Rattle.journal_records.specs.Laws.{RecordsAreSpelledSo}
-use Rattle.journal_records.specs.Reading.{◌>>=◌, byte_at, number_at, bytes_at, flag_at, optional_at, text_at, check_at, name_at, many_at, parts_at, expires_at, kind_at, optional_text_at, segment_at, segments_at, upload_at, first_at, chunk_at, final_at, fields_at, back_at, at_end, create_at, append_at, concat_at, terminate_at, sweep_at, restore_at, next_at, totals_at, other_at, change_at, moment_at, record_at}
-use Rattle.journal_records.specs.Records.{AreBytes, number, flag, optional, text, check, name_bytes, parts, kind_byte, optional_text, segment_bytes, segments_bytes, upload_bytes, first_bytes, chunk_bytes, final_bytes, back_bytes, change_bytes, record_bytes, IsNumber, FitsCheck, FitsUpload, FitsChunk, FitsFinal, FitsSegment, FitsBack, FitsChange}
+use Rattle.journal_records.specs.Reading.{◌>>=◌, byte_at, number_at, bytes_at, flag_at, flag_more_at, some_at, optional_at, text_at, check_at, name_at, many_at, parts_at, expires_at, kind_at, optional_text_at, segment_at, segments_at, upload_at, first_at, chunk_at, final_at, fields_at, back_at, at_end, create_at, append_at, concat_at, terminate_at, sweep_at, restore_at, next_at, totals_at, other_at, change_at, moment_at, record_at}
+use Rattle.journal_records.specs.Records.{AreBytes, number, flag, flag_more, optional, text, check, name_bytes, parts, kind_byte, optional_text, segment_bytes, segments_bytes, upload_bytes, first_bytes, chunk_bytes, final_bytes, back_bytes, change_bytes, record_bytes, IsNumber, FitsCheck, FitsUpload, FitsChunk, FitsFinal, FitsSegment, FitsBack, FitsChange}
 
 AreBytes-drop : (n : ℕ) (bytes : List ℕ) → AreBytes bytes → AreBytes (drop n bytes)
 AreBytes-drop n bytes are i = rw get_or-drop (are (n + i))
@@ -94,6 +94,32 @@ flag_takes [] x are is = absurd cc
 flag_takes (zero ∷ rest) x are is = subst (λ (y : Bool × List ℕ). Takes (0 ∷ rest) (flag y.0) y.1) (some_is (false, rest) x is) (record { parts = refl; rest_are = AreBytes-rest 0 rest are })
 flag_takes (suc zero ∷ rest) x are is = subst (λ (y : Bool × List ℕ). Takes (1 ∷ rest) (flag y.0) y.1) (some_is (true, rest) x is) (record { parts = refl; rest_are = AreBytes-rest 1 rest are })
 flag_takes (suc (suc b) ∷ rest) x are is = absurd cc
+
+some_takes : (bytes : List ℕ) (x : ℕ × List ℕ) → AreBytes bytes → some_at bytes ≡ Some x → Takes bytes (number x.0) x.1 × IsNumber x.0 × (eqb x.0 0 ≡ false)
+unfolding some_at
+some_takes bytes x are is =
+    let a = bind_some (number_at bytes) (λ n. cond (eqb n.0 0) None (Some (n.0, n.1))) x is in
+    let b = not_none (eqb a.0.0 0) (Some (a.0.0, a.0.1)) x a.2 in
+    let t = number_takes bytes a.0 are a.1 in
+    subst (λ (y : ℕ × List ℕ). Takes bytes (number y.0) y.1 × IsNumber y.0 × (eqb y.0 0 ≡ false)) (some_is (a.0.0, a.0.1) x b.1) (t.0, t.1, b.0)
+
+behind_takes : (b : ℕ) (rest front left : List ℕ) → AreBytes (b ∷ rest) → Takes rest front left → Takes (b ∷ rest) (b ∷ front) left
+behind_takes b rest front left are t = record { parts = ap (λ l. b ∷ l) t.parts; rest_are = t.rest_are }
+
+flag_more_takes : (bytes : List ℕ) (x : (Bool × ℕ) × List ℕ) → AreBytes bytes → flag_more_at bytes ≡ Some x → Takes bytes (flag_more x.0.0 x.0.1) x.1 × IsNumber x.0.1
+unfolding flag_more_at
+flag_more_takes [] x are is = absurd cc
+flag_more_takes (zero ∷ rest) x are is = subst (λ (y : (Bool × ℕ) × List ℕ). Takes (0 ∷ rest) (flag_more y.0.0 y.0.1) y.1 × IsNumber y.0.1) (some_is ((false, 0), rest) x is) (record { parts = refl; rest_are = AreBytes-rest 0 rest are }, omega arith)
+flag_more_takes (suc zero ∷ rest) x are is = subst (λ (y : (Bool × ℕ) × List ℕ). Takes (1 ∷ rest) (flag_more y.0.0 y.0.1) y.1 × IsNumber y.0.1) (some_is ((true, 0), rest) x is) (record { parts = refl; rest_are = AreBytes-rest 1 rest are }, omega arith)
+flag_more_takes (suc (suc zero) ∷ rest) x are is =
+    let a = bind_some (some_at rest) (λ n. Some ((false, n.0), n.1)) x is in
+    let t = some_takes rest a.0 (AreBytes-rest 2 rest are) a.1 in
+    subst (λ (y : (Bool × ℕ) × List ℕ). Takes (2 ∷ rest) (flag_more y.0.0 y.0.1) y.1 × IsNumber y.0.1) (some_is ((false, a.0.0), a.0.1) x a.2) (rw t.2 (behind_takes 2 rest (number a.0.0) a.0.1 are t.0), t.1)
+flag_more_takes (suc (suc (suc zero)) ∷ rest) x are is =
+    let a = bind_some (some_at rest) (λ n. Some ((true, n.0), n.1)) x is in
+    let t = some_takes rest a.0 (AreBytes-rest 3 rest are) a.1 in
+    subst (λ (y : (Bool × ℕ) × List ℕ). Takes (3 ∷ rest) (flag_more y.0.0 y.0.1) y.1 × IsNumber y.0.1) (some_is ((true, a.0.0), a.0.1) x a.2) (rw t.2 (behind_takes 3 rest (number a.0.0) a.0.1 are t.0), t.1)
+flag_more_takes (suc (suc (suc (suc b))) ∷ rest) x are is = absurd cc
 
 optional_takes : (bytes : List ℕ) (x : Option ℕ × List ℕ) → AreBytes bytes → optional_at bytes ≡ Some x → Takes bytes (optional x.0) x.1 × IfSome x.0 IsNumber
 unfolding optional_at
@@ -247,19 +273,19 @@ first_spelled bytes x are is =
 chunk_spelled : (bytes : List ℕ) (x : Chunk) → AreBytes bytes → chunk_at bytes ≡ Some x → (bytes ≡ chunk_bytes x) × FitsChunk x
 unfolding chunk_at chunk_bytes
 chunk_spelled bytes x are is =
-    let a = bind_some (number_at bytes) (λ offset. optional_at offset.1 >>= λ told. flag_at told.1 >>= λ typed. check_at typed.1 >>= λ sum. Some (record { offset = offset.0; length = told.0; typed = typed.0; check = sum.0; bytes = sum.1 })) x is in
-    let b = bind_some (optional_at a.0.1) (λ told. flag_at told.1 >>= λ typed. check_at typed.1 >>= λ sum. Some (record { offset = a.0.0; length = told.0; typed = typed.0; check = sum.0; bytes = sum.1 })) x a.2 in
-    let d = bind_some (flag_at b.0.1) (λ typed. check_at typed.1 >>= λ sum. Some (record { offset = a.0.0; length = b.0.0; typed = typed.0; check = sum.0; bytes = sum.1 })) x b.2 in
-    let e = bind_some (check_at d.0.1) (λ sum. Some (record { offset = a.0.0; length = b.0.0; typed = d.0.0; check = sum.0; bytes = sum.1 })) x d.2 in
+    let a = bind_some (number_at bytes) (λ offset. optional_at offset.1 >>= λ told. flag_more_at told.1 >>= λ typed. check_at typed.1 >>= λ sum. Some (record { offset = offset.0; length = told.0; typed = typed.0.0; check = sum.0; bytes = sum.1; more = typed.0.1 })) x is in
+    let b = bind_some (optional_at a.0.1) (λ told. flag_more_at told.1 >>= λ typed. check_at typed.1 >>= λ sum. Some (record { offset = a.0.0; length = told.0; typed = typed.0.0; check = sum.0; bytes = sum.1; more = typed.0.1 })) x a.2 in
+    let d = bind_some (flag_more_at b.0.1) (λ typed. check_at typed.1 >>= λ sum. Some (record { offset = a.0.0; length = b.0.0; typed = typed.0.0; check = sum.0; bytes = sum.1; more = typed.0.1 })) x b.2 in
+    let e = bind_some (check_at d.0.1) (λ sum. Some (record { offset = a.0.0; length = b.0.0; typed = d.0.0.0; check = sum.0; bytes = sum.1; more = d.0.0.1 })) x d.2 in
     let t0 = number_takes bytes a.0 are a.1 in
     let t1 = optional_takes a.0.1 b.0 t0.0.rest_are b.1 in
-    let t2 = flag_takes b.0.1 d.0 t1.0.rest_are d.1 in
-    let t3 = check_takes d.0.1 e.0 t2.rest_are e.1 in
+    let t2 = flag_more_takes b.0.1 d.0 t1.0.rest_are d.1 in
+    let t3 = check_takes d.0.1 e.0 t2.0.rest_are e.1 in
     let u1 = then_takes bytes (number a.0.0) a.0.1 (optional b.0.0) b.0.1 t0.0 t1.0 in
-    let u2 = then_takes bytes (number a.0.0 ++ optional b.0.0) b.0.1 (flag d.0.0) d.0.1 u1 t2 in
-    let u3 = then_takes bytes (number a.0.0 ++ optional b.0.0 ++ flag d.0.0) d.0.1 (check e.0.0) e.0.1 u2 t3.0 in
-    let made : Chunk = record { offset = a.0.0; length = b.0.0; typed = d.0.0; check = e.0.0; bytes = e.0.1 } in
-    subst (λ (y : Chunk). (bytes ≡ chunk_bytes y) × FitsChunk y) (some_is made x e.2) (u3.parts, record { offset = t0.1; told = t1.1; check = t3.1 })
+    let u2 = then_takes bytes (number a.0.0 ++ optional b.0.0) b.0.1 (flag_more d.0.0.0 d.0.0.1) d.0.1 u1 t2.0 in
+    let u3 = then_takes bytes (number a.0.0 ++ optional b.0.0 ++ flag_more d.0.0.0 d.0.0.1) d.0.1 (check e.0.0) e.0.1 u2 t3.0 in
+    let made : Chunk = record { offset = a.0.0; length = b.0.0; typed = d.0.0.0; check = e.0.0; bytes = e.0.1; more = d.0.0.1 } in
+    subst (λ (y : Chunk). (bytes ≡ chunk_bytes y) × FitsChunk y) (some_is made x e.2) (u3.parts, record { offset = t0.1; told = t1.1; more = t2.1; check = t3.1 })
 
 final_spelled : (bytes : List ℕ) (x : NewFinal) → AreBytes bytes → final_at bytes ≡ Some x → (bytes ≡ final_bytes x) × FitsFinal x
 unfolding final_at final_bytes

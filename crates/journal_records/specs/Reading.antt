@@ -44,6 +44,25 @@ flag_at (zero ∷ rest) = Some (false, rest)
 flag_at (suc zero ∷ rest) = Some (true, rest)
 flag_at (suc (suc b) ∷ rest) = None
 
+-- a number that is not 0
+unfoldable pub some_at : List ℕ → Option (ℕ × List ℕ)
+some_at bytes = do
+  n ← number_at bytes
+  if n.0 == 0 then None else Some (n.0, n.1)
+
+-- a flag, and how many bytes are to come
+unfoldable pub flag_more_at : List ℕ → Option ((Bool × ℕ) × List ℕ)
+flag_more_at [] = None
+flag_more_at (zero ∷ rest) = Some ((false, 0), rest)
+flag_more_at (suc zero ∷ rest) = Some ((true, 0), rest)
+flag_more_at (suc (suc zero) ∷ rest) = do
+  n ← some_at rest
+  Some ((false, n.0), n.1)
+flag_more_at (suc (suc (suc zero)) ∷ rest) = do
+  n ← some_at rest
+  Some ((true, n.0), n.1)
+flag_more_at (suc (suc (suc (suc b))) ∷ rest) = None
+
 unfoldable pub optional_at : List ℕ → Option (Option ℕ × List ℕ)
 optional_at [] = None
 optional_at (zero ∷ rest) = Some (None, rest)
@@ -154,9 +173,9 @@ unfoldable pub chunk_at : List ℕ → Option Chunk
 chunk_at bytes = do
   offset ← number_at bytes
   told ← optional_at offset.1
-  typed ← flag_at told.1
+  typed ← flag_more_at told.1
   check ← check_at typed.1
-  Some (record { offset = offset.0; length = told.0; typed = typed.0; check = check.0; bytes = check.1 })
+  Some (record { offset = offset.0; length = told.0; typed = typed.0.0; check = check.0; bytes = check.1; more = typed.0.1 })
 
 -- a final upload, to the end
 unfoldable pub final_at : List ℕ → Option NewFinal

@@ -1,5 +1,5 @@
 -- A change of the book and its moment, as bytes.
-use Rattle.std.specs.Prelude.{◌≡◌, ℕ, ◌<◌, ◌≤◌, ◌^◌, Bool, true, false, List, [], ◌∷◌, ◌++◌, length, slice_index, Option, Some, None, IfSome, ⊤}
+use Rattle.std.specs.Prelude.{◌≡◌, ℕ, ◌<◌, ◌≤◌, ◌^◌, ◌==◌, Bool, true, false, if◌then◌else◌, List, [], ◌∷◌, ◌++◌, length, slice_index, Option, Some, None, IfSome, ⊤}
 use Rattle.std.specs.Int.{w64, to_be_bytes}
 use Rattle.std.specs.List.{flat_map, AllByRecursion}
 use Rattle.tus_text.specs.declared.checksum.Checksum.{Checksum}
@@ -35,6 +35,10 @@ optional (Some n) = 1 ∷ number n
 -- how many bytes, and these
 abbrev pub text : List ℕ → List ℕ
 text bytes = number (length bytes) ++ bytes
+
+-- a flag; and where so many bytes are to come behind those of a piece another one, and how many
+abbrev pub flag_more : Bool → ℕ → List ℕ
+flag_more set more = if more == 0 then flag set else (if set then 3 else 2) ∷ number more
 
 -- none, or SHA-1 with its 20 bytes, or another algorithm
 abbrev pub check : Option Checksum → List ℕ
@@ -77,7 +81,7 @@ unfoldable pub first_bytes : FirstChunk → List ℕ
 first_bytes first = flag first.typed ++ check first.check ++ first.bytes
 
 unfoldable pub chunk_bytes : Chunk → List ℕ
-chunk_bytes chunk = number chunk.offset ++ optional chunk.length ++ flag chunk.typed ++ check chunk.check ++ chunk.bytes
+chunk_bytes chunk = number chunk.offset ++ optional chunk.length ++ flag_more chunk.typed chunk.more ++ check chunk.check ++ chunk.bytes
 
 unfoldable pub final_bytes : NewFinal → List ℕ
 final_bytes new = parts new.parts ++ text new.metadata ++ new.concat
@@ -127,6 +131,7 @@ pub record FitsUpload (new : NewUpload) : Type 0 where
 pub record FitsChunk (chunk : Chunk) : Type 0 where
   pub offset : IsNumber chunk.offset
   pub told : IfSome chunk.length IsNumber
+  pub more : IsNumber chunk.more
   pub check : FitsCheck chunk.check
 
 pub record FitsFinal (new : NewFinal) : Type 0 where

@@ -1,7 +1,9 @@
 ghost use Rattle.std.specs.Prelude.{◌≡◌, ◌≤◌, ℕ, Some, None, MatchOption};
 ghost use Rattle.journal_records.specs.Reading.{Gives, append_at, change_at, chunk_at, concat_at, create_at, final_at, first_at, many_at, optional_at, other_at, parts_at, record_at, terminate_at, upload_at};
 
-use crate::fields::{byte_of, check_of, flag_of, name_of, number_of, optional_of, text_of};
+use crate::fields::{
+    byte_of, check_of, flag_more_of, flag_of, name_of, number_of, optional_of, text_of,
+};
 use crate::kinds::{APPEND, CONCAT, CREATE, NEXT, SWEEP, TERMINATE, TOTALS, UPLOAD};
 use crate::piece_reader::{Segments, next_of, restore_of, totals_of};
 use arrayvec::ArrayVec;
@@ -154,7 +156,7 @@ fn chunk_of(bytes: &[u8]) -> Option<Chunk<'_>>
 {
     let (offset, rest) = number_of(bytes)?;
     let (length, rest) = optional_of(rest)?;
-    let (typed, rest) = flag_of(rest)?;
+    let (typed, more, rest) = flag_more_of(rest)?;
     let (check, rest) = check_of(rest)?;
     Some(Chunk {
         offset,
@@ -162,6 +164,7 @@ fn chunk_of(bytes: &[u8]) -> Option<Chunk<'_>>
         typed,
         check,
         bytes: Payload::new(rest),
+        more,
     })
 }
 

@@ -1,5 +1,5 @@
 ghost use Rattle.std.specs.Prelude.{◌≡◌, ◌++◌, OnOk, IfOk};
-ghost use Rattle.journal_records.specs.Records.{change_bytes, check, chunk_bytes, final_bytes, first_bytes, flag, name_bytes, number, optional, parts, record_bytes, text, upload_bytes};
+ghost use Rattle.journal_records.specs.Records.{change_bytes, check, chunk_bytes, final_bytes, first_bytes, flag, flag_more, name_bytes, number, optional, parts, record_bytes, text, upload_bytes};
 
 use crate::kinds::{APPEND, CONCAT, CREATE, SWEEP, TERMINATE};
 use crate::piece_writer::put_piece;
@@ -71,7 +71,7 @@ fn put_chunk(out: &mut Vec<u8>, chunk: &Chunk) -> Result<(), AllocError>
 {
     put_number(out, chunk.offset)?;
     put_optional(out, chunk.length)?;
-    put_flag(out, chunk.typed)?;
+    put_flag_more(out, chunk.typed, chunk.more)?;
     put_check(out, &chunk.check)?;
     out.extend_from_slice(chunk.bytes.as_slice())
 }
@@ -139,6 +139,17 @@ fn put_flag(out: &mut Vec<u8>, is_set: bool) -> Result<(), AllocError>
 {
     let byte = if is_set { 1 } else { 0 };
     out.extend_from_slice(&[byte])
+}
+
+fn put_flag_more(out: &mut Vec<u8>, is_set: bool, more: u64) -> Result<(), AllocError>
+    ensures { OnOk result (out.new.items ≡ out.old.items ++ flag_more is_set more) }
+{
+    if more == 0 {
+        return put_flag(out, is_set);
+    }
+    let byte = if is_set { 3 } else { 2 };
+    out.extend_from_slice(&[byte])?;
+    put_number(out, more)
 }
 
 pub(crate) fn put_number(out: &mut Vec<u8>, n: u64) -> Result<(), AllocError>

@@ -91,6 +91,7 @@ fn copied_chunk<'a>(chunk: &Chunk<'a>) -> Chunk<'a>
         typed: chunk.typed,
         check: chunk.check,
         bytes: Payload::new(chunk.bytes.as_slice()),
+        more: chunk.more,
     }
 }
 

@@ -200,6 +200,7 @@ impl Stands {
                     typed: true,
                     check: None,
                     bytes: Payload::new(b"hello"),
+                    more: 0,
                 },
             },
         }

@@ -101,6 +101,8 @@ fn creation(length: Field<'static>, concat: Field<'static>) -> Request<'static> 
             ..fields()
         },
         body: b"",
+        given: 0,
+        more: 0,
     }
 }
 
@@ -114,6 +116,8 @@ fn described(length: &'static [u8], metadata: &'static [u8]) -> Request<'static>
             ..fields()
         },
         body: b"",
+        given: 0,
+        more: 0,
     }
 }
 
@@ -127,6 +131,8 @@ fn upload(length: &'static [u8], body: &'static [u8]) -> Request<'static> {
             ..fields()
         },
         body,
+        given: 0,
+        more: 0,
     }
 }
 
@@ -146,6 +152,8 @@ fn patch(
             ..fields()
         },
         body,
+        given: 0,
+        more: 0,
     }
 }
 
@@ -155,6 +163,8 @@ fn bare(method: Method, target: &[u8]) -> Request<'static> {
         path: read_path(target),
         fields: fields(),
         body: b"",
+        given: 0,
+        more: 0,
     }
 }
 

@@ -9,3 +9,4 @@ pub mod HistoryLemmas
 pub mod LawsLemmas
 pub mod ChangeLemmas
 pub mod AskedLemmas
+pub mod PiecesLemmas

@@ -8,7 +8,7 @@ use Rattle.std.proofs.lemmas.List.{get_or-set_same, length-set}
 use Rattle.std.proofs.lemmas.Slice.Eq.{bytes_eq-Decides}
 use Rattle.upload_book.specs.Account.{account_in, account_with, blocks_added}
 use Rattle.upload_book.specs.Append.{append_answer, append_refusal, append_tests, part_after_append}
-use Rattle.upload_book.specs.Chunk.{Chunk}
+use Rattle.upload_book.specs.Chunk.{Chunk, count_all}
 use Rattle.upload_book.specs.Concat.{concat_answer, concat_refusal, part_after_concat}
 use Rattle.upload_book.specs.Content.{content_answer}
 use Rattle.upload_book.specs.Create.{create_answer, create_empty_answer, created_upload, creation_refusal, creation_tests, part_after_create, part_after_create_empty}
@@ -114,7 +114,7 @@ same-unspent ((false, why) ∷ first) spent also_spent later apart also = same-u
 -- the blocks are spent that a PATCH of an upload adds
 abbrev is_spent : Numbers → TenantBook → ℕ → Upload → Chunk → Bool
 is_spent n part charged u chunk =
-    nat_lt n.last_total (account_with (account_in n part charged) (blocks_added n (head_row_of u).offset (length chunk.bytes))).charged
+    nat_lt n.last_total (account_with (account_in n part charged) (blocks_added n (head_row_of u).offset (count_all chunk))).charged
 
 -- a PATCH is refused for the same reason, however many blocks were charged, unless they are spent
 same-refusal : (n : Numbers) (part : TenantBook) (c d : ℕ) (u : Upload) (chunk : Chunk) → append_refusal n (account_in n part c) (head_row_of u) chunk ≢ Some refusal.Spent → append_refusal n (account_in n part d) (head_row_of u) chunk ≢ Some refusal.Spent

@@ -9,6 +9,7 @@ pub mod Operation
 pub mod Reply
 pub mod PlacedReply
 pub mod Step
+pub mod InPieces
 pub mod Asked
 pub mod Changing
 pub mod Head

@@ -1,5 +1,5 @@
 -- What a request asks of the book, or why it is refused before the book is asked (tus 1.0.0, Core Protocol).
-use Rattle.std.specs.Prelude.{ℕ, Bool, ◌||◌, length, Option, Some, None, option_map, option_and_then, Result, Err, ok_or, codes, IsTrue, ◌<◌, ◌≤◌, ⊤, if◌then◌else◌}
+use Rattle.std.specs.Prelude.{ℕ, ◌+◌, ◌-◌, ◌^◌, min, Bool, ◌||◌, length, Option, Some, None, option_map, option_and_then, Result, Err, ok_or, codes, IsTrue, ◌<◌, ◌≤◌, ⊤, if◌then◌else◌}
 use Rattle.tus_text.specs.declared.checksum.Checksum.{Checksum}
 use Rattle.upload_book.specs.Chunk.{Chunk}
 use Rattle.upload_book.specs.declared.operation.Operation.{Operation}
@@ -23,9 +23,17 @@ use Rattle.tus_steps.specs.Route.{route, tenant_name}
 abbrev pub has_version : Request → Bool
 has_version r = is_get r.method || is_just (codes "1.0.0") r.fields.version
 
--- the chunk at an offset that may tell the upload's length, and with which a checksum may have come
+-- the chunk at an offset that may tell the upload's length, and with which a checksum may have come; a piece goes behind the
+-- bytes that were given before it
 abbrev pub chunk_at : Request → ℕ → Option ℕ → Option Checksum → Chunk
-chunk_at r offset told check = record { offset = offset; length = told; typed = has_patch_type r.fields.media; check = check; bytes = r.body }
+chunk_at r offset told check = record {
+  offset = min (offset + r.given) (2 ^ 64 - 1);
+  length = told;
+  typed = has_patch_type r.fields.media;
+  check = check;
+  bytes = r.body;
+  more = r.more;
+}
 
 -- the chunk of a PATCH, which tells its offset, and the upload's length as a number and a checksum if at all
 abbrev pub chunk_in : Request → Option Chunk

@@ -5,9 +5,12 @@ use Rattle.tus_steps.specs.declared.method.Method.{Method}
 use Rattle.tus_steps.specs.declared.tus_fields.TusFields.{TusFields}
 use Rattle.tus_steps.specs.Field.{FieldText}
 
--- its method, what its target names, the texts of the fields that count, and its body
+-- Its method, what its target names, the texts of the fields that count, and its body. Where the body comes in pieces these
+-- are the bytes of one: so many were given before them, and so many are to come behind them.
 pub record Request : Type 0 where
   pub method : Method
   pub path : Path
   pub fields : TusFields FieldText
   pub body : List ℕ
+  pub given : ℕ
+  pub more : ℕ

@@ -1,4 +1,5 @@
 //! Laws of the definitions that the contracts cite: each is the contract of a function that does nothing.
+ghost use Rattle.tus_steps.specs.InPieces.{PiecesAreTheRequest};
 ghost use Rattle.tus_steps.specs.Isolation.{OtherNeighbours, OwnEvents, StepsSeeOneTenant};
 ghost use Rattle.tus_steps.specs.Laws.{RequestsFollowOrder};
 
@@ -36,4 +37,11 @@ pub fn own_events()
 /// these is a refusal for what all tenants share.
 pub fn other_neighbours()
     ensures { OtherNeighbours }
+{}
+
+/// A PATCH without a checksum may be taken in pieces. However it is cut, with nothing between, its pieces are its whole step:
+/// where it is accepted as one at the moment of the last, each is accepted, and the last reply and the book are those of the
+/// whole.
+pub fn pieces_are_the_request()
+    ensures { PiecesAreTheRequest }
 {}

@@ -23,6 +23,10 @@ pub struct Request<'a> {
     pub path: Path,
     pub fields: TusFields<Field<'a>>,
     pub body: &'a [u8],
+    /// How many bytes of the body were given before these, where it comes in pieces; else 0.
+    pub given: u64,
+    /// How many are to come behind these.
+    pub more: u64,
 }
 
 impl<'a> Model for Request<'a> {
@@ -37,6 +41,8 @@ impl<'a> Model for Request<'a> {
       path = r.path;
       fields = map_fields text_of r.fields;
       body = r.body.now;
+      given = r.given;
+      more = r.more;
     } };
 }
 
@@ -130,11 +136,12 @@ impl<'a> Request<'a> {
         let length = self.fields.length.optional_number()?;
         let check = self.fields.checksum.optional_checksum()?;
         Some(Chunk {
-            offset,
+            offset: offset.saturating_add(self.given),
             length,
             typed: self.fields.media.has_patch_type(),
             check,
             bytes: Payload::new(self.body),
+            more: self.more,
         })
     }
 }

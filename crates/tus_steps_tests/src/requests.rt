@@ -18,6 +18,8 @@ impl<'a> Sent<'a> {
             path: read_path(self.target),
             fields: self.fields,
             body: self.body,
+            given: 0,
+            more: 0,
         }
     }
 }

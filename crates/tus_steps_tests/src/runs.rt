@@ -152,6 +152,8 @@ fn creation_for(
         path: read_path(creations(tenant)),
         fields,
         body,
+        given: 0,
+        more: 0,
     }
 }
 
@@ -211,6 +213,8 @@ fn request_at(kind: u64, path: Path) -> Request<'static> {
         path,
         fields,
         body,
+        given: 0,
+        more: 0,
     }
 }
 

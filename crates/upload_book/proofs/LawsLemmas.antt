@@ -3,11 +3,11 @@ use Rattle.std.proofs.Common.{◌≡◌, ℕ, ◌+◌, ◌-◌, ◌≤◌, nat_l
 use Rattle.std.specs.Option.{option_map_or}
 use Rattle.std.specs.Result.{IsOk}
 use Rattle.std.proofs.lemmas.Bool.Decides.{nat_tests}
-use Rattle.upload_book.specs.Account.{account_in, account_with, blocks_added, blocks_between}
+use Rattle.upload_book.specs.Account.{account_in, account_with, blocks_added}
 use Rattle.upload_book.specs.Charge.{charge_in}
 use Rattle.upload_book.specs.declared.board_line.Account.{Account}
 use Rattle.upload_book.specs.Append.{is_final, or_else, differ, is_too_long, append_refusal, append_answer, appended_upload, part_after_append, row_with, telling, told, upload_with}
-use Rattle.upload_book.specs.Chunk.{Chunk}
+use Rattle.upload_book.specs.Chunk.{Chunk, count_all}
 use Rattle.upload_book.specs.declared.append.Appended.{Appended}
 use Rattle.upload_book.specs.declared.append.Refused.{Refused}
 use Rattle.upload_book.specs.declared.head_row.HeadRow.{HeadRow}
@@ -25,9 +25,9 @@ use Rattle.upload_book.specs.Upload.{Upload, content_of, offset_of, is_reached, 
 use Rattle.upload_book.proofs.Lawful.Entries.{kept_in-All, visible_in-changed, visible_in-fresh, visible_in-Ok, with_kept-twice}
 use Rattle.upload_book.proofs.Charge.ChargeLemmas.{charge-append}
 use Rattle.upload_book.proofs.Charge.PriceLemmas.{blocks_between-two}
-use Rattle.upload_book.proofs.Lawful.LawfulAppend.{IsAppendable, IsAppendable-from_none, append_refusal-none, content_of-append, offset_of-append, complete_tells}
+use Rattle.upload_book.proofs.Lawful.LawfulAppend.{IsAppendable, IsAppendable-from_none, append_refusal-none, content_of-append, fewer_blocks, fewer_fit, offset_of-append, complete_tells}
 
-or_else-twice : (known told : Option ℕ) → or_else (or_else known told) told ≡ or_else known told
+pub or_else-twice : (known told : Option ℕ) → or_else (or_else known told) told ≡ or_else known told
 or_else-twice None None = refl
 or_else-twice None (Some most) = refl
 or_else-twice (Some most) told = refl
@@ -37,20 +37,16 @@ differ-told None None same = refl
 differ-told None (Some most) same = grind (arith, nat_tests)
 differ-told (Some most) told same = same
 
-fewer_fit : (n : Numbers) (most less end : ℕ) → less ≤ end → is_too_long n most end ≡ false → is_too_long n most less ≡ false
-fewer_fit n most less end few fits = grind (arith, nat_tests)
-
 moved : (offset start more : ℕ) → not (eqb offset start) ≡ false → not (eqb (offset + more) (start + more)) ≡ false
 moved offset start more same = grind (arith, nat_tests)
 
--- the first bytes take no more blocks than all
-fewer_blocks : (size offset first later : ℕ) → blocks_between size offset first ≤ blocks_between size offset (first + later)
-fewer_blocks size offset first later = omega (arith, blocks_between-two size offset first later)
-
 -- the first part is accepted
-IsAppendable-first : (n : Numbers) (account : Account) (u : Upload) (chunk : Chunk) (first later : List ℕ) → chunk.bytes ≡ first ++ later → IsAppendable n account u chunk → IsAppendable n account u (first_part chunk first)
+pub IsAppendable-first : (n : Numbers) (account : Account) (u : Upload) (chunk : Chunk) (first later : List ℕ) → chunk.bytes ≡ first ++ later → IsAppendable n account u chunk → IsAppendable n account u (first_part chunk first)
 IsAppendable-first n account u chunk first later whole can =
     let count = ap length whole ∙ length-append first later in
+    let all : count_all chunk ≡ length first + chunk.more + length later = omega (arith, count) in
+    let fewer_all : blocks_added n (offset_of u) (length first + chunk.more) ≤ blocks_added n (offset_of u) (count_all chunk) =
+    rw all (fewer_blocks n.block_size (offset_of u) (length first + chunk.more) (length later)) in
     let added : blocks_added n (offset_of u) (length chunk.bytes) ≡ blocks_added n (offset_of u) (length first + length later) = ap (blocks_added n (offset_of u)) count in
     record {
       own = can.own;
@@ -62,10 +58,13 @@ IsAppendable-first n account u chunk first later whole can =
       same = refl;
       unspent = omega (arith, fewer_blocks n.block_size (offset_of u) (length first) (length later), added, can.unspent);
       paid = omega (arith, fewer_blocks n.block_size (offset_of u) (length first) (length later), added, can.paid);
+      all_fit = fewer_fit n (unwrap_or (or_else u.declared chunk.length) n.max_size) (offset_of u + (length first + chunk.more)) (offset_of u + count_all chunk) (omega (arith, count)) can.all_fit;
+      all_unspent = omega (arith, fewer_all, can.all_unspent);
+      all_paid = omega (arith, fewer_all, can.all_paid);
     }
 
 -- then the later part is
-IsAppendable-later : (n : Numbers) (account : Account) (u : Upload) (chunk : Chunk) (first later : List ℕ) (now : ℕ) → chunk.bytes ≡ first ++ later → IsAppendable n account u chunk
+pub IsAppendable-later : (n : Numbers) (account : Account) (u : Upload) (chunk : Chunk) (first later : List ℕ) (now : ℕ) → chunk.bytes ≡ first ++ later → IsAppendable n account u chunk
     → IsAppendable n (account_with account (blocks_added n (offset_of u) (length first))) (upload_with n u (first_part chunk first) now) (later_part chunk first later)
 IsAppendable-later n account u chunk first later now whole can =
     let count = ap length whole ∙ length-append first later in
@@ -75,6 +74,11 @@ IsAppendable-later n account u chunk first later now whole can =
     let added : blocks_added n (offset_of u) (length chunk.bytes) ≡ blocks_added n (offset_of u) (length first + length later) = ap (blocks_added n (offset_of u)) count in
     let more : blocks_added n (offset_of u) (length first) + blocks_added n (offset_of after) (length later) ≡ blocks_added n (offset_of u) (length first + length later) =
     ap (λ offset. blocks_added n (offset_of u) (length first) + blocks_added n offset (length later)) start ∙ blocks_between-two n.block_size (offset_of u) (length first) (length later) in
+    let all : count_all chunk ≡ length first + (length later + chunk.more) = omega (arith, count) in
+    let all_end : offset_of after + (length later + chunk.more) ≡ offset_of u + count_all chunk = omega (arith, count, start) in
+    let all_added : blocks_added n (offset_of u) (count_all chunk) ≡ blocks_added n (offset_of u) (length first + (length later + chunk.more)) = ap (blocks_added n (offset_of u)) all in
+    let all_more : blocks_added n (offset_of u) (length first) + blocks_added n (offset_of after) (length later + chunk.more) ≡ blocks_added n (offset_of u) (length first + (length later + chunk.more)) =
+    ap (λ offset. blocks_added n (offset_of u) (length first) + blocks_added n offset (length later + chunk.more)) start ∙ blocks_between-two n.block_size (offset_of u) (length first) (length later + chunk.more) in
     record {
       own = can.own;
       typed = can.typed;
@@ -85,13 +89,16 @@ IsAppendable-later n account u chunk first later now whole can =
       same = refl;
       unspent = both _ _ _ _ _ _ added more can.unspent;
       paid = both _ _ _ _ _ _ added more can.paid;
+      all_fit = rw (or_else-twice u.declared chunk.length, all_end) can.all_fit;
+      all_unspent = both _ _ _ _ _ _ all_added all_more can.all_unspent;
+      all_paid = both _ _ _ _ _ _ all_added all_more can.all_paid;
     }
   where
     both : (before first second all one limit : ℕ) → all ≡ one → first + second ≡ one → before + all ≤ limit → before + first + second ≤ limit
     both before first second all one limit same two fits = omega arith
 
 -- an upload that is complete already takes no more
-complete_later : (n : Numbers) (declared : Option ℕ) (start end : ℕ) → start ≤ end → is_too_long n (unwrap_or declared n.max_size) end ≡ false
+pub complete_later : (n : Numbers) (declared : Option ℕ) (start end : ℕ) → start ≤ end → is_too_long n (unwrap_or declared n.max_size) end ≡ false
     → option_map_or (λ n. eqb n start) declared false ≡ true → option_map_or (λ n. eqb n end) declared false ≡ true
 complete_later n None start end le fits is = absurd (true≢false (sym is))
 complete_later n (Some most) start end le fits is = grind (arith, nat_tests)
@@ -135,7 +142,7 @@ upload_with-two n account u chunk first later now whole can =
         (complete_later n declared (offset_of u + length first) (offset_of u + length chunk.bytes) (omega (arith, count)) can.fits)
 
 -- an upload that is renewed has not expired
-fresh_after : (now : ℕ) (kind : Kind) (complete : Bool) (before : Option ℕ) (end : ℕ) → option_map_or (λ e. nat_le e now) before false ≡ false
+pub fresh_after : (now : ℕ) (kind : Kind) (complete : Bool) (before : Option ℕ) (end : ℕ) → option_map_or (λ e. nat_le e now) before false ≡ false
     → (before ≡ None → renewed kind complete before end ≡ None) → option_map_or (λ e. nat_le e now) (renewed kind complete before end) false ≡ false
 fresh_after now kind complete None end fresh never = rw (never refl) refl
 fresh_after now Plain true (Some e) end fresh never = refl
@@ -151,7 +158,7 @@ expires_none : (expires : Option ℕ) → expires ≡ None → IsSome expires �
 expires_none expires none some = true≢false (sym some ∙ ap (is_some {T = ℕ}) none)
 
 -- one that does not expire is complete, and stays so
-never_after : (n : Numbers) (account : Account) (part : TenantBook) (u : Upload) (chunk : Chunk) (now : ℕ) (kind : Kind) → IsAppendable n account u chunk → is_final kind ≡ false → IsOfKind part u kind
+pub never_after : (n : Numbers) (account : Account) (part : TenantBook) (u : Upload) (chunk : Chunk) (now : ℕ) (kind : Kind) → IsAppendable n account u chunk → is_final kind ≡ false → IsOfKind part u kind
     → u.expires ≡ None → renewed kind (is_reached (or_else u.declared chunk.length) (offset_of u + length chunk.bytes)) u.expires (lifetime_end n now) ≡ None
 never_after n account part u chunk now Plain can own sound none =
     elim (complete_tells u) [
@@ -172,7 +179,7 @@ fresh_append n account part u chunk now can sound fresh =
     (never_after n account part u chunk now u.kind can can.own sound.kind)
 
 -- the end of an upload that is visible
-abbrev end_of : Upload → Option ℕ
+abbrev pub end_of : Upload → Option ℕ
 end_of u = u.expires
 
 -- the row of an upload with bytes at its end is its row with the bytes
@@ -214,17 +221,17 @@ unrefused_answer None u expires accepted = refl
 unrefused_answer (Some why) u expires accepted = absurd (true≢false (sym accepted))
 
 -- what is told of a PATCH that sees this, and none is refused
-record Accepts (n : Numbers) (part : TenantBook) (id : ℕ) (chunk : Chunk) (now charged : ℕ) : Type 0 where
-  u : Upload
-  visible : visible_upload part id now ≡ Ok u
-  none : append_refusal n (account_in n part charged) (head_row_of u) chunk ≡ None
+pub record Accepts (n : Numbers) (part : TenantBook) (id : ℕ) (chunk : Chunk) (now charged : ℕ) : Type 0 where
+  pub u : Upload
+  pub visible : visible_upload part id now ≡ Ok u
+  pub none : append_refusal n (account_in n part charged) (head_row_of u) chunk ≡ None
 
 -- the answer, by what is visible
-answer_where : Numbers → Account → Chunk → ℕ → Result Upload Refusal → Result Appended Refused
+unfoldable pub answer_where : Numbers → Account → Chunk → ℕ → Result Upload Refusal → Result Appended Refused
 answer_where n account chunk now (Ok u) = told (telling u.expires (appended_upload n account u chunk now))
 answer_where n account chunk now (Err why) = Err (record { refusal = why; expires = None })
 
-append_answer-where : (n : Numbers) (part : TenantBook) (id : ℕ) (chunk : Chunk) (now charged : ℕ) (seen : Result Upload Refusal) → visible_upload part id now ≡ seen → append_answer id chunk now charged n part ≡ answer_where n (account_in n part charged) chunk now seen
+pub append_answer-where : (n : Numbers) (part : TenantBook) (id : ℕ) (chunk : Chunk) (now charged : ℕ) (seen : Result Upload Refusal) → visible_upload part id now ≡ seen → append_answer id chunk now charged n part ≡ answer_where n (account_in n part charged) chunk now seen
 unfolding answer_where
 append_answer-where n part id chunk now charged (Ok u) is = rw is refl
 append_answer-where n part id chunk now charged (Err why) is = rw is refl
@@ -235,19 +242,19 @@ accepted_where n part id chunk now charged (Ok u) is accepted =
     record { u = u; visible = is; none = unrefused_answer (append_refusal n (account_in n part charged) (head_row_of u) chunk) _ u.expires accepted }
 accepted_where n part id chunk now charged (Err why) is accepted = absurd (true≢false (sym accepted))
 
-Accepts-from_ok : (n : Numbers) (part : TenantBook) (id : ℕ) (chunk : Chunk) (now charged : ℕ) → IsOk (append_answer id chunk now charged n part) → Accepts n part id chunk now charged
+pub Accepts-from_ok : (n : Numbers) (part : TenantBook) (id : ℕ) (chunk : Chunk) (now charged : ℕ) → IsOk (append_answer id chunk now charged n part) → Accepts n part id chunk now charged
 Accepts-from_ok n part id chunk now charged accepted =
     accepted_where n part id chunk now charged (visible_upload part id now) refl (rw (append_answer-where n part id chunk now charged (visible_upload part id now) refl) at accepted)
 
 -- the answer and the part then
-answer_of_upload : Upload → Result Appended Refused
+unfoldable pub answer_of_upload : Upload → Result Appended Refused
 answer_of_upload u = Ok (record { offset = offset_of u; expires = u.expires })
 
-answer_accepted : (n : Numbers) (part : TenantBook) (id : ℕ) (chunk : Chunk) (now charged : ℕ) (u : Upload) → visible_upload part id now ≡ Ok u → IsAppendable n (account_in n part charged) u chunk → append_answer id chunk now charged n part ≡ answer_of_upload (upload_with n u chunk now)
+pub answer_accepted : (n : Numbers) (part : TenantBook) (id : ℕ) (chunk : Chunk) (now charged : ℕ) (u : Upload) → visible_upload part id now ≡ Ok u → IsAppendable n (account_in n part charged) u chunk → append_answer id chunk now charged n part ≡ answer_of_upload (upload_with n u chunk now)
 unfolding answer_of_upload
 answer_accepted n part id chunk now charged u is can = rw (is, append_refusal-none n (account_in n part charged) u chunk can) refl
 
-part_accepted : (n : Numbers) (part : TenantBook) (id : ℕ) (chunk : Chunk) (now charged : ℕ) (u : Upload) → visible_upload part id now ≡ Ok u → IsAppendable n (account_in n part charged) u chunk → part_after_append id chunk now charged n part ≡ with_changed part id (upload_with n u chunk now)
+pub part_accepted : (n : Numbers) (part : TenantBook) (id : ℕ) (chunk : Chunk) (now charged : ℕ) (u : Upload) → visible_upload part id now ≡ Ok u → IsAppendable n (account_in n part charged) u chunk → part_after_append id chunk now charged n part ≡ with_changed part id (upload_with n u chunk now)
 part_accepted n part id chunk now charged u is can = rw (is, append_refusal-none n (account_in n part charged) u chunk can) refl
 
 -- a PATCH that is accepted may be sent in two

@@ -6,3 +6,6 @@ pub mod Restoring
 pub mod Store
 pub mod Steps
 pub mod LawsLemmas
+pub mod PiecesLemmas
+pub mod PiecesOfBookLemmas
+pub mod ContentsStayLemmas

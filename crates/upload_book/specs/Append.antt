@@ -3,7 +3,7 @@ use Rattle.std.specs.Prelude.{ℕ, ◌+◌, Bool, true, false, not, ◌||◌, Li
 use Rattle.std.specs.Option.{option_map_or}
 use Rattle.upload_book.specs.declared.append.Appended.{Appended}
 use Rattle.upload_book.specs.Checksum.{is_mismatch, is_of_other_algorithm}
-use Rattle.upload_book.specs.Chunk.{Chunk}
+use Rattle.upload_book.specs.Chunk.{Chunk, count_all}
 use Rattle.upload_book.specs.declared.append.Refused.{Refused}
 use Rattle.upload_book.specs.declared.head_row.HeadRow.{HeadRow}
 use Rattle.upload_book.specs.declared.head_row.Kind.{Kind}
@@ -45,7 +45,7 @@ tests_by_row n row chunk =
     ∷ (not chunk.typed, Media)
     ∷ (not (chunk.offset == row.offset), Offset)
     ∷ (differ row.declared chunk.length, LengthFixed)
-    ∷ (is_too_long n (unwrap_or (or_else row.declared chunk.length) n.max_size) (row.offset + length chunk.bytes), TooLong)
+    ∷ (is_too_long n (unwrap_or (or_else row.declared chunk.length) n.max_size) (row.offset + count_all chunk), TooLong)
     ∷ (is_of_other_algorithm chunk.check, Algorithm)
     ∷ []
 
@@ -56,7 +56,7 @@ refusal_by_row n row chunk = first_that_holds (tests_by_row n row chunk)
 -- the tests that come after them, on this account
 abbrev pub tests_by_bytes : Numbers → Account → HeadRow → Chunk → List (Bool × Refusal)
 tests_by_bytes n account row chunk =
-    let after = account_with account (blocks_added n row.offset (length chunk.bytes)) in
+    let after = account_with account (blocks_added n row.offset (count_all chunk)) in
     (is_mismatch chunk.check chunk.bytes, Mismatch)
     ∷ (nat_lt n.last_total after.charged, Spent)
     ∷ (nat_lt after.quota after.charge, Quota)

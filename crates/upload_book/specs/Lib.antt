@@ -9,6 +9,7 @@ pub mod Checksum
 pub mod Chunk
 pub mod Concat
 pub mod Content
+pub mod ContentsStay
 pub mod Create
 pub mod Events
 pub mod Expiries
@@ -26,6 +27,8 @@ pub mod NewFinal
 pub mod NewUpload
 pub mod Operation
 pub mod Order
+pub mod Pieces
+pub mod PiecesOfBook
 pub mod PlainBook
 pub mod Ready
 pub mod Refusal

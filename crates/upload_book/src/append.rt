@@ -32,6 +32,8 @@ pub struct Chunk<'a> {
     /// `Upload-Checksum`, which came with the bytes.
     pub check: Option<Checksum>,
     pub bytes: Payload<'a>,
+    /// How many bytes of the PATCH are to come behind these: it is refused for what all of them would be.
+    pub more: u64,
 }
 
 impl<'a> Model for Chunk<'a> {
@@ -45,6 +47,7 @@ impl<'a> Model for Chunk<'a> {
       typed = chunk.typed;
       check = chunk.check;
       bytes = chunk.bytes;
+      more = chunk.more;
     } };
 }
 

@@ -1,5 +1,8 @@
 //! Laws of the definitions that the contracts cite: each is the contract of a function that does nothing.
+ghost use Rattle.upload_book.specs.ContentsStay.{ContentsStay};
 ghost use Rattle.upload_book.specs.FinalLaws.{FinalsStay};
+ghost use Rattle.upload_book.specs.Pieces.{PiecedPatch};
+ghost use Rattle.upload_book.specs.PiecesOfBook.{PiecedPatchOfBook};
 ghost use Rattle.upload_book.specs.Laws.{AccountsFollow, FollowOrder, HeadsFollow, ResumedPatch, RowsFollow};
 ghost use Rattle.upload_book.specs.snapshot.RestoreLaws.{PiecesLeave};
 ghost use Rattle.upload_book.specs.snapshot.Snapshot.{SnapshotsRestore};
@@ -15,6 +18,17 @@ pub fn refusals_follow_the_order()
 /// accepted, and the last answer and the tenant's part after it are those of the whole.
 pub fn resumed_patch()
     ensures { ResumedPatch }
+{}
+
+/// A PATCH may come in pieces, however it is cut. With nothing between them they come to what it comes to as one at the
+/// moment of the last, if it is accepted then; and what is refused as one is refused at the first piece.
+pub fn pieced_patch()
+    ensures { PiecedPatch }
+{}
+
+/// So it is with a book: the pieces are PATCHes of it, one after another, and leave the book that the whole leaves.
+pub fn pieced_patch_of_a_book()
+    ensures { PiecedPatchOfBook }
 {}
 
 /// What a HEAD shows after a PATCH of an upload that was found, or why that is refused, is determined without the
@@ -52,4 +66,10 @@ pub fn snapshots_restore()
 /// the one that was put back, with the bytes that came with it or that stand.
 pub fn pieces_leave()
     ensures { PiecesLeave }
+{}
+
+/// The bytes of an upload that is complete never change while it stands, whatever requests and sweeps do, and its name is
+/// given to no other: so they may be read piece by piece.
+pub fn contents_stay()
+    ensures { ContentsStay }
 {}

@@ -77,7 +77,7 @@ pub(crate) fn refusal_by_row(
         Some(Refusal::Offset)
     } else if differ(progress.declared, chunk.length) {
         Some(Refusal::LengthFixed)
-    } else if most > max_size || ends_past(progress.offset, len, most) {
+    } else if most > max_size || ends_past(progress.offset, len, chunk.more, most) {
         Some(Refusal::TooLong)
     } else if is_of_other_algorithm(chunk.check) {
         Some(Refusal::Algorithm)
@@ -93,19 +93,20 @@ pub(crate) fn append_refusal(
     progress: &Progress,
     chunk: &Chunk,
 ) -> Option<Refusal>
-    requires short { progress.now.offset + length chunk.now.bytes < 2 ^ 64 }
+    requires max_size { numbers.now.max_size < 2 ^ 64 }
     requires blocks { 0 < numbers.now.block_size }
     requires quota { account.now.charge ≤ account.now.quota }
     requires charged { account.now.charged ≤ numbers.now.last_total }
     ensures { result ≡ append_refusal numbers.now account.now (row_at progress.now) chunk.now }
 {
+    if let Some(refusal) = refusal_by_row(numbers, progress, chunk) {
+        return Some(refusal);
+    }
     let last_total = numbers.last_total;
-    let end = progress.offset + chunk.bytes.len() as u64;
+    let end = progress.offset + (chunk.bytes.len() as u64 + chunk.more);
     let size = numbers.block_size;
     let added = end.div_ceil(size) - progress.offset.div_ceil(size);
-    if let Some(refusal) = refusal_by_row(numbers, progress, chunk) {
-        Some(refusal)
-    } else if is_mismatch(chunk.check, &chunk.bytes) {
+    if is_mismatch(chunk.check, &chunk.bytes) {
         Some(Refusal::Mismatch)
     } else if added > last_total - account.charged {
         Some(Refusal::Spent)
@@ -116,11 +117,14 @@ pub(crate) fn append_refusal(
     }
 }
 
-// Whether so many bytes after an offset end past a length.
-fn ends_past(offset: u64, len: u64, most: u64) -> bool
-    ensures { result ≡ nat_lt most (offset + len) }
+// Whether so many bytes after an offset, and more behind them, end past a length.
+fn ends_past(offset: u64, len: u64, more: u64, most: u64) -> bool
+    ensures { result ≡ nat_lt most (offset + (len + more)) }
 {
-    match offset.checked_add(len) {
+    match len
+        .checked_add(more)
+        .and_then(|all| offset.checked_add(all))
+    {
         Some(end) => end > most,
         None => true,
     }

@@ -91,6 +91,7 @@ pub fn patch(
         typed: true,
         check: None,
         bytes: Payload::new(bytes),
+        more: 0,
     };
     book.append(&acme(id), chunk, moment(rt, 1000))
 }

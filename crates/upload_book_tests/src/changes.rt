@@ -83,6 +83,7 @@ fn hello<'a>() -> Chunk<'a> {
         typed: true,
         check: None,
         bytes: Payload::new(b"hello"),
+        more: 0,
     }
 }
 

@@ -22,6 +22,7 @@ fn sent<'a>(offset: u64, length: Option<u64>, typed: bool, check: Option<Checksu
         typed,
         check,
         bytes: Payload::new(b"hello"),
+        more: 0,
     }
 }
 

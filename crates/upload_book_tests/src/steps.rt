@@ -317,6 +317,7 @@ fn typed<'a>(offset: u64, length: Option<u64>, bytes: &'a [u8]) -> Chunk<'a> {
         typed: true,
         check: None,
         bytes: Payload::new(bytes),
+        more: 0,
     }
 }
 
@@ -328,6 +329,7 @@ fn checked<'a>(offset: u64, check: Checksum, bytes: &'a [u8]) -> Chunk<'a> {
         typed: true,
         check: Some(check),
         bytes: Payload::new(bytes),
+        more: 0,
     }
 }
 
@@ -339,6 +341,7 @@ fn untyped<'a>(bytes: &'a [u8]) -> Chunk<'a> {
         typed: false,
         check: None,
         bytes: Payload::new(bytes),
+        more: 0,
     }
 }
 

@@ -80,6 +80,7 @@ fn assert_no_append(rt: &impl Abort, book: &mut Book, name: &Name) {
         typed: true,
         check: None,
         bytes: Payload::new(b"x"),
+        more: 0,
     };
     let refused = Refused {
         refusal: Refusal::Unknown,

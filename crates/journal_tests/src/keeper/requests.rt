@@ -66,6 +66,8 @@ fn request(asked: Asked<'_>) -> Request<'_> {
                 ..FIELDS
             },
             body: b"",
+            given: 0,
+            more: 0,
         },
         Asked::Begin => Request {
             method: Method::Post,
@@ -75,6 +77,8 @@ fn request(asked: Asked<'_>) -> Request<'_> {
                 ..FIELDS
             },
             body: b"",
+            given: 0,
+            more: 0,
         },
         Asked::Patch(path, body) => Request {
             method: Method::Patch,
@@ -85,12 +89,16 @@ fn request(asked: Asked<'_>) -> Request<'_> {
                 ..FIELDS
             },
             body,
+            given: 0,
+            more: 0,
         },
         Asked::Delete(path) => Request {
             method: Method::Delete,
             path: read_path(path),
             fields: FIELDS,
             body: b"",
+            given: 0,
+            more: 0,
         },
     }
 }

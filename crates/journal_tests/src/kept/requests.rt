@@ -65,6 +65,8 @@ pub(crate) fn request(number: u64, path: &[u8]) -> Request<'static> {
         path: read_path(path),
         fields,
         body,
+        given: 0,
+        more: 0,
     }
 }
 
@@ -75,6 +77,8 @@ pub(crate) fn head(path: &[u8]) -> Request<'static> {
         path: read_path(path),
         fields: FIELDS,
         body: b"",
+        given: 0,
+        more: 0,
     }
 }
 

@@ -40,6 +40,7 @@ fn create(rt: &impl Abort, book: &mut Book, now: Moment) {
         typed: true,
         check: None,
         bytes: Payload::new(b"hello"),
+        more: 0,
     };
     assert!(rt; book.append(&Name { tenant: 0, id: 1 }, chunk, now).is_ok());
 }

@@ -101,6 +101,7 @@ fn a_patch(rt: HostRuntime) -> Result<(), Fail> {
             typed: false,
             check: Some(Checksum::Sha1(DIGEST)),
             bytes: Payload::new(b"x"),
+            more: 0,
         },
     };
     assert_written(&rt, rt.alloc(), &change, &bytes)?;

@@ -94,6 +94,7 @@ pub(crate) fn patch<'a>(
             typed: true,
             check,
             bytes: Payload::new(bytes),
+            more: 0,
         },
     }
 }

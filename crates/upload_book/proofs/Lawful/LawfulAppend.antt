@@ -6,10 +6,10 @@ use Rattle.std.proofs.lemmas.Bool.Decides.{eqb_tells, nat_tests}
 use Rattle.std.proofs.lemmas.Bool.{false≢true}
 use Rattle.std.proofs.lemmas.List.{append-nil, nil_from_length}
 use Rattle.std.proofs.lemmas.List.Elements.{All-map, All-nil, All-weaker}
-use Rattle.upload_book.specs.Account.{blocks_added}
+use Rattle.upload_book.specs.Account.{blocks_added, blocks_between}
 use Rattle.upload_book.specs.Append.{is_final, or_else, differ, is_too_long, append_refusal, upload_with}
 use Rattle.upload_book.specs.Checksum.{is_mismatch, is_of_other_algorithm}
-use Rattle.upload_book.specs.Chunk.{Chunk}
+use Rattle.upload_book.specs.Chunk.{Chunk, count_all}
 use Rattle.upload_book.specs.declared.board_line.Account.{Account}
 use Rattle.upload_book.specs.declared.head_row.Kind.{Kind}
 use Rattle.upload_book.specs.declared.head_row.Kind.TheVariants.{Plain, Partial, Final}
@@ -18,6 +18,7 @@ use Rattle.upload_book.specs.Expiry.{lifetime_end, renewed}
 use Rattle.upload_book.specs.Lawful.{IsTenantOf, IsUploadOf, IsOfKind, IsWhole, IsGivenIn, IsSegmentOf}
 use Rattle.upload_book.specs.TenantBook.{Entry, TenantBook, kept_in, with_changed}
 use Rattle.upload_book.specs.Upload.{Upload, content_of, offset_of, is_reached, is_complete, IsComplete, head_row_of}
+use Rattle.upload_book.proofs.Charge.PriceLemmas.{blocks_between-two}
 use Rattle.upload_book.proofs.Lawful.Entries.{ids_of-with_kept, kept_in-All, kept_in-place, kept_in-with_other, kept_in-with_same}
 use Rattle.upload_book.proofs.Lawful.FirstRefusal.{test-passed}
 use Rattle.upload_book.proofs.Lawful.LawfulSteps.{IsUploadOf-beside}
@@ -34,16 +35,27 @@ pub record IsAppendable (n : Numbers) (account : Account) (u : Upload) (chunk : 
   pub same : is_mismatch chunk.check chunk.bytes ≡ false
   pub unspent : account.charged + blocks_added n (offset_of u) (length chunk.bytes) ≤ n.last_total
   pub paid : account.charge + blocks_added n (offset_of u) (length chunk.bytes) ≤ account.quota
+  pub all_fit : is_too_long n (unwrap_or (or_else u.declared chunk.length) n.max_size) (offset_of u + count_all chunk) ≡ false
+  pub all_unspent : account.charged + blocks_added n (offset_of u) (count_all chunk) ≤ n.last_total
+  pub all_paid : account.charge + blocks_added n (offset_of u) (count_all chunk) ≤ account.quota
+
+-- fewer bytes fit, and take no more blocks
+pub fewer_fit : (n : Numbers) (most less end : ℕ) → less ≤ end → is_too_long n most end ≡ false → is_too_long n most less ≡ false
+fewer_fit n most less end few fits = grind (arith, nat_tests)
+
+pub fewer_blocks : (size offset first later : ℕ) → blocks_between size offset first ≤ blocks_between size offset (first + later)
+fewer_blocks size offset first later = omega (arith, blocks_between-two size offset first later)
 
 -- it is known where no refusal applies
 pub IsAppendable-from_none : (n : Numbers) (account : Account) (u : Upload) (chunk : Chunk) → append_refusal n account (head_row_of u) chunk ≡ None → IsAppendable n account u chunk
 IsAppendable-from_none n account u chunk none =
-    let added = blocks_added n (offset_of u) (length chunk.bytes) in
+    let added = blocks_added n (offset_of u) (count_all chunk) in
+    let fewer = fewer_blocks n.block_size (offset_of u) (length chunk.bytes) chunk.more in
     let own = test-passed (is_final u.kind) _ _ none in
     let typed = test-passed (not chunk.typed) _ _ own.1 in
     let offset = test-passed (not (eqb chunk.offset (offset_of u))) _ _ typed.1 in
     let fixed = test-passed (differ u.declared chunk.length) _ _ offset.1 in
-    let fits = test-passed (is_too_long n (unwrap_or (or_else u.declared chunk.length) n.max_size) (offset_of u + length chunk.bytes)) _ _ fixed.1 in
+    let fits = test-passed (is_too_long n (unwrap_or (or_else u.declared chunk.length) n.max_size) (offset_of u + count_all chunk)) _ _ fixed.1 in
     let known = test-passed (is_of_other_algorithm chunk.check) _ _ fits.1 in
     let same = test-passed (is_mismatch chunk.check chunk.bytes) _ _ known.1 in
     let unspent = test-passed (ltb n.last_total (account.charged + added)) _ _ same.1 in
@@ -53,11 +65,14 @@ IsAppendable-from_none n account u chunk none =
       typed = typed.0;
       offset = offset.0;
       fixed = fixed.0;
-      fits = fits.0;
+      fits = fewer_fit n (unwrap_or (or_else u.declared chunk.length) n.max_size) (offset_of u + length chunk.bytes) (offset_of u + count_all chunk) (omega arith) fits.0;
       known = known.0;
       same = same.0;
-      unspent = at_most n.last_total (account.charged + added) unspent.0;
-      paid = at_most account.quota (account.charge + added) paid.0;
+      unspent = omega (arith, fewer, at_most n.last_total (account.charged + added) unspent.0);
+      paid = omega (arith, fewer, at_most account.quota (account.charge + added) paid.0);
+      all_fit = fits.0;
+      all_unspent = at_most n.last_total (account.charged + added) unspent.0;
+      all_paid = at_most account.quota (account.charge + added) paid.0;
     }
   where
     at_most : (most k : ℕ) → ltb most k ≡ false → k ≤ most
@@ -70,8 +85,8 @@ not_above most k less = grind (arith, nat_tests)
 -- and no refusal applies where it is known
 pub append_refusal-none : (n : Numbers) (account : Account) (u : Upload) (chunk : Chunk) → IsAppendable n account u chunk → append_refusal n account (head_row_of u) chunk ≡ None
 append_refusal-none n account u chunk can =
-    let added = blocks_added n (offset_of u) (length chunk.bytes) in
-    rw (can.own, can.typed, can.offset, can.fixed, can.fits, can.known, can.same, not_above n.last_total (account.charged + added) can.unspent, not_above account.quota (account.charge + added) can.paid) refl
+    let added = blocks_added n (offset_of u) (count_all chunk) in
+    rw (can.own, can.typed, can.offset, can.fixed, can.all_fit, can.known, can.same, not_above n.last_total (account.charged + added) can.all_unspent, not_above account.quota (account.charge + added) can.all_paid) refl
 
 -- the bytes stand at the end
 pub content_of-append : (n : Numbers) (u : Upload) (chunk : Chunk) (now : ℕ) → content_of (upload_with n u chunk now) ≡ content_of u ++ chunk.bytes

@@ -16,15 +16,6 @@ use Rattle.upload_book.proofs.Steps.ReadyLemmas.{ready-later}
 use Rattle.upload_book.proofs.book.Book.ready_at.Goals.{else-more-gt0-via-then-more-gt0+else-is_err, else-more-gt0-via-else-more-gt0}
 use Rattle.upload_book.proofs.book.Book.ready_at.Goals as goal
 
-pub append_refusal-requires-clause-short : goal.append_refusal-requires-clause-short
-append_refusal-requires-clause-short c =
-    let b = the_view c.self.inside in
-    let name = c.args.name in
-    let r : IsRead b c.args.self.now name.tenant name.id c.args.place c.args.now c.args.chunk c.from-tenant.result c.numbers-numbers.result.now c.account-account.result c.progress-progress.result =
-    record { kept = c.self.invariant; is = c.self.view_is; there = c.requires.tenant; seen = c.requires.visible; at = c.from-tenant.ensures; numbers_read = c.numbers-numbers.ensures.value; account_read = c.account-account.ensures; progress_read = c.progress-progress.ensures } in
-    let count : c.len-more.result ≡ length c.args.chunk.bytes = c.len-more.ensures.value ∙ ap (λ (chunk : Chunk). length chunk.bytes) c.chunk.view_is in
-    omega (arith, read-small r, count, c.len-more.ensures)
-
 pub with-after-requires : goal.with-after-requires
 with-after-requires c =
     let b = the_view c.self.inside in
@@ -113,3 +104,17 @@ returns-clause-ready c =
           subst (λ (b : StoredBook). IsReadyForChunk b ready) (c.self.view_is ∙ sym w.self-is)
           (ready-later b b ready refl there (read-seen r) none after (λ some. absurd (omega (arith, some, w.if-more-gt0.false, count))))
     ]
+
+-- the lists of an upload's blocks alone have more room
+pub invariant_of-self-else-is_err : goal.invariant_of-self-else-is_err
+invariant_of-self-else-is_err c =
+    let plain = of_ok c.reserve.result c.is_err.result c.is_err.ensures.value c.if-is_err.false c.reserve.ensures.plain in
+    let kept = c.self.invariant in
+    record {
+      lawful = rw plain kept.lawful;
+      size = rw c.reserve.ensures.pool kept.size;
+      blocks = rw c.reserve.ensures.pool kept.blocks;
+      room = c.reserve.ensures.room_stays ∙ kept.room;
+      expiries = rw plain kept.expiries;
+      entries = kept.entries;
+    }

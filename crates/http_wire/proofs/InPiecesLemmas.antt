@@ -1,0 +1,123 @@
+-- A body that comes in pieces.
+use Rattle.std.proofs.Common.{◌≡◌, ◌≤◌, ◌+◌, ◌-◌, ℕ, true, false, List, [], ◌∷◌, ◌++◌, length, take, drop, refl, ap, sym, subst, ◌∙◌, arith, append-nil, append_assoc, length-append}
+use Rattle.std.proofs.lemmas.List.{take_at, drop_at, take_all, drop_all}
+use Rattle.tus_steps.specs.Request.{Request}
+use Rattle.tus_steps.specs.declared.reply.Reply.{Reply}
+use Rattle.tus_steps.specs.InPieces.{InPieces, PieceAt, Takes, first_of, is_patched, rest_of}
+use Rattle.http_wire.specs.InPieces.{AreGiven, PiecesAreATurn, piece_of}
+use Rattle.http_wire.specs.Layout.{request_at}
+use Rattle.http_wire.specs.History.{Answering, Notes}
+use Rattle.http_wire.specs.declared.read.layout.Layout.{Layout}
+use Rattle.http_wire.specs.inside.Ahead.{Ahead}
+use Rattle.http_wire.specs.inside.HeadLayout.{BeginsHead}
+use Rattle.http_wire.proofs.NextMessageLemmas.{IsNextMessage-message}
+
+-- the whole of a request under a head, from a place of its body on
+abbrev from_place : Request → ℕ → List ℕ → Request
+from_place r given bytes = record r { body = bytes; given = given; more = 0 }
+
+-- a request by its numbers
+abbrev with_numbers : Request → List ℕ → ℕ → ℕ → Request
+with_numbers r body given more = record r { body = body; given = given; more = more }
+
+same_numbers : (r : Request) (body body' : List ℕ) (given given' more more' : ℕ) → body ≡ body' → given ≡ given' → more ≡ more' → with_numbers r body given more ≡ with_numbers r body' given' more'
+same_numbers r body body' given given' more more' b g m = rw (b, g, m) refl
+
+-- the first piece of it
+first_of-piece : (r : Request) (n given : ℕ) (piece later last : List ℕ) → given + (length piece + length later + length last) ≡ n
+    → first_of (from_place r given (piece ++ (later ++ last))) (length piece) ≡ piece_of r n given piece
+first_of-piece r n given piece later last all =
+    same_numbers r _ piece given given _ _ (take_at piece (later ++ last) (length piece) refl) refl
+    (omega (arith, length-append piece (later ++ last), length-append later last, all))
+
+-- and what is left
+rest_of-piece : (r : Request) (given : ℕ) (piece rest : List ℕ) → rest_of (from_place r given (piece ++ rest)) (length piece) ≡ from_place r (given + length piece) rest
+rest_of-piece r given piece rest = same_numbers r _ rest _ _ 0 0 (drop_at piece rest (length piece) refl) refl refl
+
+-- an answer by its parts
+abbrev answering : Request → ℕ → Reply → Answering
+answering request now reply = record { request = request; now = now; reply = reply }
+
+-- the lengths and moments of pieces that were taken
+pieces_in : (r : Request) (n given : ℕ) (answered : List Answering) (bytes : List ℕ) → AreGiven r n given answered bytes → List PieceAt
+pieces_in r n given [] bytes is = []
+pieces_in r n given (q ∷ answered) bytes is = record { len = length is.0; now = q.now } ∷ pieces_in r n (given + length is.0) answered is.1 is.5
+
+-- they are taken of the request that they begin
+given-taken : (r : Request) (n given : ℕ) (before answered : List Answering) (bytes last : List ℕ) (is : AreGiven r n given answered bytes) → given + (length bytes + length last) ≡ n
+    → Takes Notes before (from_place r given (bytes ++ last)) (pieces_in r n given answered bytes is) (before ++ answered) (from_place r (given + length bytes) last)
+unfolding pieces_in
+given-taken r n given before [] bytes last is all =
+    (append-nil before, same_numbers r last (bytes ++ last) (given + length bytes) given 0 0 (ap (λ l. l ++ last) (sym is)) (rw is (omega arith)) refl)
+given-taken r n given before (q ∷ answered) bytes last is all =
+    let piece = is.0 in
+    let later = is.1 in
+    let whole : bytes ++ last ≡ piece ++ (later ++ last) = ap (λ l. l ++ last) is.4 ∙ append_assoc piece later last in
+    let count : length bytes ≡ length piece + length later = ap length is.4 ∙ length-append piece later in
+    let first : first_of (from_place r given (bytes ++ last)) (length piece) ≡ q.request =
+    ap (λ l. first_of (from_place r given l) (length piece)) whole ∙ first_of-piece r n given piece later last (omega (arith, all, count)) ∙ sym is.2 in
+    let rest : rest_of (from_place r given (bytes ++ last)) (length piece) ≡ from_place r (given + length piece) (later ++ last) =
+    ap (λ l. rest_of (from_place r given l) (length piece)) whole ∙ rest_of-piece r given piece (later ++ last) in
+    let others = given-taken r n (given + length piece) (before ++ q ∷ []) answered later last is.5 (omega (arith, all, count)) in
+    let ends : from_place r (given + length piece + length later) last ≡ from_place r (given + length bytes) last = same_numbers r last last _ _ 0 0 refl (omega (arith, count)) refl in (
+      before ++ q ∷ [],
+      q.reply,
+      omega (arith, ap length whole, length-append piece (later ++ last)),
+      ap (λ request. before ++ answering request q.now q.reply ∷ []) (sym first),
+      is.3,
+      subst (λ request. Takes Notes (before ++ q ∷ []) request (pieces_in r n (given + length piece) answered later is.5) (before ++ (q ∷ answered)) (from_place r (given + length bytes) last)) (sym rest)
+          (subst (λ left. Takes Notes (before ++ q ∷ []) (from_place r (given + length piece) (later ++ last)) (pieces_in r n (given + length piece) answered later is.5) (before ++ (q ∷ answered)) left) ends
+          (subst (λ after. Takes Notes (before ++ q ∷ []) (from_place r (given + length piece) (later ++ last)) (pieces_in r n (given + length piece) answered later is.5) after (from_place r (given + length piece + length later) last)) (append_assoc before (q ∷ []) answered) others)),
+    )
+
+-- a body that came in pieces is answered in pieces
+answered-in_pieces : (r : Request) (n now : ℕ) (before answered : List Answering) (gone last : List ℕ) (reply : Reply) → AreGiven r n 0 answered gone → length gone + length last ≡ n
+    → InPieces Notes before (from_place r 0 (gone ++ last)) now reply ((before ++ answered) ++ answering (piece_of r n (length gone) last) now reply ∷ [])
+answered-in_pieces r n now before answered gone last reply is all =
+    let left : from_place r (0 + length gone) last ≡ piece_of r n (length gone) last = same_numbers r last last _ _ _ _ refl (omega arith) (omega (arith, all)) in
+    record {
+      pieces = pieces_in r n 0 answered gone is;
+      between = before ++ answered;
+      left = from_place r (0 + length gone) last;
+      taken = given-taken r n 0 before answered gone last is (omega (arith, all));
+      last = ap (λ request. (before ++ answered) ++ answering request now reply ∷ []) (sym left);
+    }
+
+-- the request of a whole message, by that of its head alone
+request-whole : (p : Layout) (head body : List ℕ) → length head ≡ p.head_len → request_at p (head ++ body) ≡ from_place (request_at p head) 0 body
+request-whole p head body long =
+    let front : take p.head_len (head ++ body) ≡ take p.head_len head = take_at head body p.head_len long ∙ sym (take_all p.head_len head (omega (arith, long))) in
+    let rest : drop p.head_len (head ++ body) ≡ body = drop_at head body p.head_len long in
+    rw (front, rest) refl
+
+pub pieces_are_a_turn : PiecesAreATurn
+pieces_are_a_turn max now bytes p head gone last left before answered reply begins long all stays given rest = record {
+  request = request_at p lent;
+  framing = p.framing;
+  waiting = p.is_waiting;
+  reply = reply;
+  next_message = IsNextMessage-message max bytes p held begins ahead inside (sym (take_at lent left (p.head_len + p.body_len) count) ∙ ap (take (p.head_len + p.body_len)) joined)
+      (sym (drop_at lent left (p.head_len + p.body_len) count) ∙ ap (drop (p.head_len + p.body_len)) joined) rest;
+  stays = stays;
+  step = subst (λ request. InPieces Notes before request now reply ((before ++ answered) ++ answering (piece_of (request_at p head) p.body_len (length gone) last) now reply ∷ [])) (sym (request-whole p head (gone ++ last) long))
+      (answered-in_pieces (request_at p head) p.body_len now before answered gone last reply given all);
+  wrote = refl;
+}
+  where
+    held : List ℕ
+    held = head ++ ((gone ++ last) ++ left)
+
+    lent : List ℕ
+    lent = head ++ (gone ++ last)
+
+    ahead : Ahead
+    ahead = record { lent = lent; held = left; ended = false; room = 0 }
+
+    joined : lent ++ left ≡ held
+    joined = append_assoc head (gone ++ last) left
+
+    count : length lent ≡ p.head_len + p.body_len
+    count = omega (arith, length-append head (gone ++ last), length-append gone last, long, all)
+
+    inside : p.head_len + p.body_len ≤ length held
+    inside = omega (arith, sym (ap length joined), length-append lent left, count)

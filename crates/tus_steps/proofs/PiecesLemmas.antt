@@ -1,0 +1,272 @@
+-- The pieces of a PATCH, with nothing between, are its whole step.
+use Rattle.std.proofs.Common.{◌≡◌, ℕ, ◌+◌, ◌-◌, ◌^◌, ◌<◌, ◌≤◌, ◌⊎◌, Bool, true, false, List, [], ◌∷◌, length, min, take, drop, Option, Some, None, Result, Ok, Err, refl, inl, inr, sym, ap, ◌∙◌, subst, arith}
+use Rattle.std.specs.List.{All}
+use Rattle.std.specs.Option.{option_and_then, option_map}
+use Rattle.std.specs.Result.{IsOk}
+use Rattle.std.proofs.lemmas.List.{length-drop, length-map, length-take-le, take-append-drop}
+use Rattle.std.proofs.lemmas.List.Elements.{All-head, All-tail}
+use Rattle.tus_text.specs.declared.path.Path.{Path}
+use Rattle.tus_text.specs.declared.path.Path.TheVariants as path
+use Rattle.upload_book.specs.Append.{append_answer, part_after_append}
+use Rattle.upload_book.specs.Chunk.{Chunk}
+use Rattle.upload_book.specs.declared.append.Appended.{Appended}
+use Rattle.upload_book.specs.declared.append.Refused.{Refused}
+use Rattle.upload_book.specs.declared.head_row.Name.{Name}
+use Rattle.upload_book.specs.declared.operation.Operation.{Operation}
+use Rattle.upload_book.specs.declared.operation.Operation.TheVariants as operation
+use Rattle.upload_book.specs.Laws.{later_part}
+use Rattle.upload_book.specs.Lawful.{IsLawful}
+use Rattle.upload_book.specs.Operation.{MayLackMemory}
+use Rattle.upload_book.specs.Pieces.{first_piece}
+use Rattle.upload_book.specs.PlainBook.{PlainBook, answer_of, book_after}
+use Rattle.upload_book.specs.declared.refusal.Refusal.{Refusal}
+use Rattle.upload_book.specs.declared.settings.TenantQuota.{TenantQuota}
+use Rattle.upload_book.specs.Settings.{Settings, tenant_place}
+use Rattle.upload_book.specs.TenantBook.{TenantBook}
+use Rattle.upload_book.proofs.PiecesOfBookLemmas.{BookGoesOn, BookGoesOn-first}
+use Rattle.tus_steps.specs.declared.method.Method.{Method}
+use Rattle.tus_steps.specs.declared.method.Method.TheVariants as method
+use Rattle.tus_steps.specs.declared.reply.Reply.{Reply}
+use Rattle.tus_steps.specs.declared.route.Route.{Route}
+use Rattle.tus_steps.specs.declared.route.Route.TheVariants.{Append}
+use Rattle.tus_steps.specs.Field.{number_in, optional_number_in}
+use Rattle.tus_steps.specs.InPieces.{IsPlainPatch, PieceAt, PiecesAreTheRequest, Takes, count_pieces, first_of, is_patched, rest_of}
+use Rattle.tus_steps.specs.Isolation.{HasEachPart}
+use Rattle.tus_steps.specs.Method.{is_options, is_patch}
+use Rattle.tus_steps.specs.Operation.{chunk_at, chunk_in, operation_of, operation_on}
+use Rattle.tus_steps.specs.Reply.{append_reply}
+use Rattle.tus_steps.specs.Request.{Request}
+use Rattle.tus_steps.specs.Route.{route}
+use Rattle.tus_steps.specs.Step.{IsOperationStep, IsStep, IsStepBy}
+use Rattle.tus_steps.proofs.AskLemmas.{Asks, asks}
+use Rattle.tus_steps.proofs.PlaceLemmas.{place-within}
+use Rattle.tus_steps.proofs.StepLemmas.{step-by}
+
+-- ---- what a PATCH asks for
+
+-- a request with other bytes of its body
+abbrev with_body : Request → List ℕ → ℕ → ℕ → Request
+with_body r body given more = record r { body = body; given = given; more = more }
+
+-- a PATCH that reaches the book, by its head: it is one of this upload with any bytes of its body
+record Patches (s : Settings) (r : Request) : Type 0 where
+  name : Name
+  offset : ℕ
+  told : Option ℕ
+  tenant : List ℕ
+  place : tenant_place s tenant ≡ Some name.tenant
+  other : is_options r.method ≡ false
+  appends : (body : List ℕ) (given more : ℕ) → operation_of s (with_body r body given more) ≡ Ok (operation.Append name (chunk_at (with_body r body given more) offset told None))
+
+not_options : (m : Method) → is_patch m ≡ true → is_options m ≡ false
+not_options method.Patch is = refl
+not_options method.Post is = refl
+not_options method.Head is = refl
+not_options method.Get is = refl
+not_options method.Delete is = refl
+not_options method.Options is = absurd cc
+not_options method.Other is = refl
+
+route-patch : (p : Path) (m : Method) (on : Route) → is_patch m ≡ true → route p m ≡ Some on → (id : ℕ) × (on ≡ Append id)
+route-patch (path.Upload tenant id) method.Patch on patch is = (id, cc)
+route-patch (path.Create tenant) method.Patch on patch is = absurd cc
+route-patch path.Other method.Patch on patch is = absurd cc
+route-patch p method.Post on patch is = absurd cc
+route-patch p method.Head on patch is = absurd cc
+route-patch p method.Get on patch is = absurd cc
+route-patch p method.Delete on patch is = absurd cc
+route-patch p method.Options on patch is = absurd cc
+route-patch p method.Other on patch is = absurd cc
+
+map-Some : {A B : Type 0} (f : A → B) (found : Option A) (y : B) → option_map f found ≡ Some y → (x : A) × (found ≡ Some x)
+map-Some f None y is = absurd cc
+map-Some f (Some x) y is = (x, refl)
+
+and_then-Some : {A B : Type 0} (f : A → Option B) (found : Option A) (y : B) → option_and_then f found ≡ Some y → (x : A) × (found ≡ Some x) × (f x ≡ Some y)
+and_then-Some f None y is = absurd cc
+and_then-Some f (Some x) y is = (x, refl, is)
+
+patches : (s : Settings) (r : Request) (op : Operation) → IsPlainPatch r → operation_of s r ≡ Ok op → Patches s r
+patches s r op plain is =
+    let a = asks s r op is in
+    let on = route-patch r.path r.method a.on plain.method a.route in
+    let there : option_map (λ chunk. operation.Append (record { tenant = a.tenant; id = on.0 }) chunk) (chunk_in r) ≡ Some op = subst (λ route. operation_on r a.tenant route ≡ Some op) on.1 a.operation in
+    let chunk = map-Some (λ chunk. operation.Append (record { tenant = a.tenant; id = on.0 }) chunk) (chunk_in r) op there in
+    let offset = and_then-Some _ (number_in r.fields.offset) chunk.0 chunk.1 in
+    let told = and_then-Some _ (optional_number_in r.fields.length) chunk.0 offset.2 in
+    record {
+      name = record { tenant = a.tenant; id = on.0 };
+      offset = offset.0;
+      told = told.0;
+      tenant = a.name;
+      place = a.place;
+      other = not_options r.method plain.method;
+      appends = λ body given more. rw (a.version, a.named, a.place, a.route, on.1, offset.1, told.1, plain.unchecked) refl;
+    }
+
+-- ---- a PATCH that is accepted
+
+-- the bytes of its body, whichever, were accepted, and this is the book then
+record Accepted (b : PlainBook) (name : Name) (chunk : Chunk) (r : Request) (now : ℕ) (reply : Reply) (after : PlainBook) : Type 0 where
+  made : IsOk (answer_of b name.tenant (append_answer name.id chunk now b.charged))
+  told : reply ≡ append_reply r (answer_of b name.tenant (append_answer name.id chunk now b.charged))
+  after : after ≡ book_after b name.tenant (part_after_append name.id chunk now b.charged)
+
+answer-Ok : (r : Request) (answer : Result Appended Refused) → is_patched (append_reply r answer) ≡ true → IsOk answer
+answer-Ok r (Ok appended) is = refl
+answer-Ok r (Err why) is = absurd cc
+
+patched-Ok : (r : Request) (answer : Result Appended Refused) → IsOk answer → is_patched (append_reply r answer) ≡ true
+patched-Ok r (Ok appended) is = refl
+patched-Ok r (Err why) is = absurd cc
+
+-- the reply is that to any bytes of the body
+same-reply : (r : Request) (body : List ℕ) (given more : ℕ) (answer : Result Appended Refused) → append_reply (with_body r body given more) answer ≡ append_reply r answer
+same-reply r body given more (Ok appended) = refl
+same-reply r body given more (Err why) = refl
+
+by-step : (b : PlainBook) (name : Name) (chunk : Chunk) (r : Request) (now : ℕ) (reply : Reply) (after : PlainBook) → IsOperationStep b r now (operation.Append name chunk) reply after → is_patched reply ≡ true → Accepted b name chunk r now reply after
+by-step b name chunk r now reply after (inl step) is = record {
+  made = answer-Ok r (answer_of b name.tenant (append_answer name.id chunk now b.charged)) (rw step.0 at is);
+  told = step.0;
+  after = step.1;
+}
+by-step b name chunk r now reply after (inr lacks) is = absurd (refused (rw lacks.1 at is))
+  where
+    refused : false ≡ true → ⊥
+    refused same = absurd cc
+
+accepted : (b : PlainBook) (r : Request) (patch : Patches b.settings r) (body : List ℕ) (given more now : ℕ) (reply : Reply) (after : PlainBook) → IsStep b (with_body r body given more) now reply after → is_patched reply ≡ true
+    → Accepted b patch.name (chunk_at (with_body r body given more) patch.offset patch.told None) (with_body r body given more) now reply after
+accepted b r patch body given more now reply after step is =
+    by-step b patch.name (chunk_at (with_body r body given more) patch.offset patch.told None) (with_body r body given more) now reply after (rw (patch.other, patch.appends body given more) at step) is
+
+-- a step that is accepted reaches the book
+reaches : (b : PlainBook) (r : Request) (now : ℕ) (reply : Reply) (after : PlainBook) → IsPlainPatch r → IsStep b r now reply after → is_patched reply ≡ true → Patches b.settings r
+reaches b r now reply after plain step is =
+    by-result (operation_of b.settings r) refl (rw (not_options r.method plain.method) at step)
+  where
+    by-result : (asked : Result Operation Refusal) → operation_of b.settings r ≡ asked → IsStepBy b r now asked reply after → Patches b.settings r
+    by-result (Ok op) asks by = patches b.settings r op plain asks
+    by-result (Err why) asks by = absurd (refused (rw by.0 at is))
+
+    refused : false ≡ true → ⊥
+    refused same = absurd cc
+
+-- ---- its first piece, and what is left
+
+-- a chunk by what a piece changes
+abbrev with_part : Chunk → ℕ → List ℕ → ℕ → Chunk
+with_part chunk offset bytes more = record chunk { offset = offset; bytes = bytes; more = more }
+
+same-part : (chunk : Chunk) (bytes : List ℕ) (offset offset' more more' : ℕ) → offset ≡ offset' → more ≡ more' → with_part chunk offset bytes more ≡ with_part chunk offset' bytes more'
+same-part chunk bytes offset offset' more more' is ends = rw (is, ends) refl
+
+first-chunk : (r : Request) (k offset : ℕ) (told : Option ℕ) → chunk_at (first_of r k) offset told None ≡ first_piece (chunk_at r offset told None) (take k r.body) (drop k r.body)
+first-chunk r k offset told =
+    same-part (chunk_at r offset told None) (take k r.body) _ _ (r.more + (length r.body - k)) (length (drop k r.body) + r.more) refl (omega (arith, length-drop k r.body))
+
+-- a place within a file is no greater than the greatest number
+place_of-min : (place count k : ℕ) → k ≤ count → min place (2 ^ 64 - 1) + count < 2 ^ 64 → min (place + k) (2 ^ 64 - 1) ≡ min place (2 ^ 64 - 1) + k
+place_of-min place count k le small = omega arith
+
+rest-chunk : (r : Request) (k offset : ℕ) (told : Option ℕ) → k ≤ length r.body → min (offset + r.given) (2 ^ 64 - 1) + length r.body < 2 ^ 64
+    → chunk_at (rest_of r k) offset told None ≡ later_part (chunk_at r offset told None) (take k r.body) (drop k r.body)
+rest-chunk r k offset told le small =
+    let place : min (offset + (r.given + k)) (2 ^ 64 - 1) ≡ min (offset + r.given) (2 ^ 64 - 1) + k =
+    ap (λ n. min n (2 ^ 64 - 1)) (omega arith) ∙ place_of-min (offset + r.given) (length r.body) k le small in
+    same-part (chunk_at r offset told None) (drop k r.body) _ _ r.more r.more (place ∙ ap (λ n. min (offset + r.given) (2 ^ 64 - 1) + n) (sym (length-take-le k r.body le))) refl
+
+-- what is known after the first piece
+record Goes (b : PlainBook) (r : Request) (k early now : ℕ) (reply : Reply) (after : PlainBook) : Type 0 where
+  middle : PlainBook
+  first : Reply
+  step : IsStep b (first_of r k) early first middle
+  taken : is_patched first ≡ true
+  lawful : IsLawful middle
+  rest : IsStep middle (rest_of r k) now reply after
+  only : (c : PlainBook) (other : Reply) → IsStep b (first_of r k) early other c → is_patched other ≡ true → c ≡ middle
+
+goes : (b : PlainBook) (r : Request) (k early now : ℕ) (reply : Reply) (after : PlainBook) → IsLawful b → IsPlainPatch r → k ≤ length r.body → early ≤ now
+    → IsStep b r now reply after → is_patched reply ≡ true → Goes b r k early now reply after
+goes b r k early now reply after lawful plain le earlier step is = record {
+  middle = middle;
+  first = append_reply (first_of r k) (answer_of b name.tenant (append_answer name.id one early b.charged));
+  step =
+      step-by b (first_of r k) early (operation.Append name one) _ middle patch.other (patch.appends (take k r.body) r.given (r.more + (length r.body - k)) ∙ ap (λ chunk. Ok (operation.Append name chunk)) (first-chunk r k patch.offset patch.told))
+      (inl (refl, refl));
+  taken = patched-Ok (first_of r k) (answer_of b name.tenant (append_answer name.id one early b.charged)) on.accepted;
+  lawful = on.lawful;
+  rest =
+      step-by middle (rest_of r k) now (operation.Append name two) reply after patch.other (patch.appends (drop k r.body) (r.given + k) r.more ∙ ap (λ chunk. Ok (operation.Append name chunk)) (rest-chunk r k patch.offset patch.told le on.ends))
+      (inl (whole.told ∙ ap (append_reply r) (sym on.answer) ∙ sym (same-reply r (drop k r.body) (r.given + k) r.more (answer_of middle name.tenant (append_answer name.id two now middle.charged))), whole.after ∙ sym on.last));
+  only = λ c other at taken.
+      (accepted b r patch (take k r.body) r.given (r.more + (length r.body - k)) early other c at taken).after
+      ∙ ap (λ chunk. book_after b name.tenant (part_after_append name.id chunk early b.charged)) (first-chunk r k patch.offset patch.told);
+}
+  where
+    patch : Patches b.settings r
+    patch = reaches b r now reply after plain step is
+
+    name : Name
+    name = patch.name
+
+    chunk : Chunk
+    chunk = chunk_at r patch.offset patch.told None
+
+    whole : Accepted b name chunk r now reply after
+    whole = accepted b r patch r.body r.given r.more now reply after step is
+
+    one : Chunk
+    one = first_piece chunk (take k r.body) (drop k r.body)
+
+    two : Chunk
+    two = later_part chunk (take k r.body) (drop k r.body)
+
+    middle : PlainBook
+    middle = book_after b name.tenant (part_after_append name.id one early b.charged)
+
+    within : name.tenant < length b.tenants
+    within = place-within b patch.tenant name.tenant each patch.place
+
+    each : HasEachPart b
+    each = sym (length-map b.tenants (λ (part : TenantBook). part.quota)) ∙ ap length lawful.quotas ∙ length-map b.settings.tenants (λ (t : TenantQuota). t.quota)
+
+    on : BookGoesOn b name chunk (take k r.body) (drop k r.body) early now
+    on = BookGoesOn-first b name chunk (take k r.body) (drop k r.body) early now lawful within earlier (sym (take-append-drop k r.body)) whole.made
+
+-- ---- all pieces
+
+-- what is left of a PATCH is one
+plain-rest : (r : Request) (k : ℕ) → IsPlainPatch r → IsPlainPatch (rest_of r k)
+plain-rest r k plain = record { method = plain.method; unchecked = plain.unchecked }
+
+taken : (b : PlainBook) (r : Request) (pieces : List PieceAt) (now : ℕ) (reply : Reply) (after : PlainBook) → IsLawful b → IsPlainPatch r
+    → count_pieces pieces ≤ length r.body → All (λ (q : PieceAt). q.now ≤ now) pieces
+    → IsStep b r now reply after → is_patched reply ≡ true
+    → (between : PlainBook) × (left : Request) × Takes IsStep b r pieces between left × IsStep between left now reply after
+taken b r [] now reply after lawful plain few moments step is = (b, r, (refl, refl), step)
+taken b r (q ∷ pieces) now reply after lawful plain few moments step is =
+    let le : q.len ≤ length r.body = omega (arith, few) in
+    let g = goes b r q.len q.now now reply after lawful plain le (All-head (λ (q : PieceAt). q.now ≤ now) q pieces moments) step is in
+    let count : count_pieces pieces ≤ length (drop q.len r.body) = omega (arith, few, length-drop q.len r.body) in
+    let others = taken g.middle (rest_of r q.len) pieces now reply after g.lawful (plain-rest r q.len plain) count (All-tail (λ (q : PieceAt). q.now ≤ now) q pieces moments) g.rest is in
+    (others.0, others.1, (g.middle, g.first, le, g.step, g.taken, others.2), others.3)
+
+same : (b : PlainBook) (r : Request) (pieces : List PieceAt) (now : ℕ) (reply : Reply) (after : PlainBook) → IsLawful b → IsPlainPatch r
+    → All (λ (q : PieceAt). q.now ≤ now) pieces
+    → IsStep b r now reply after → is_patched reply ≡ true
+    → (between : PlainBook) (left : Request) (last : Reply) (end : PlainBook) → Takes IsStep b r pieces between left → IsStep between left now last end
+    → is_patched last ≡ true → (last ≡ reply) × (end ≡ after)
+same b r [] now reply after lawful plain moments step is between left last end takes ends also =
+    let patch = reaches b r now reply after plain step is in
+    let whole = accepted b r patch r.body r.given r.more now reply after step is in
+    let again = accepted b r patch r.body r.given r.more now last end (subst (λ book. IsStep book r now last end) takes.0 (subst (λ request. IsStep between request now last end) takes.1 ends)) also in
+    (again.told ∙ sym whole.told, again.after ∙ sym whole.after)
+same b r (q ∷ pieces) now reply after lawful plain moments step is between left last end (c, other, le, at, other_taken, takes) ends also =
+    let g = goes b r q.len q.now now reply after lawful plain le (All-head (λ (q : PieceAt). q.now ≤ now) q pieces moments) step is in
+    same g.middle (rest_of r q.len) pieces now reply after g.lawful (plain-rest r q.len plain) (All-tail (λ (q : PieceAt). q.now ≤ now) q pieces moments) g.rest is between left last end
+    (subst (λ book. Takes IsStep book (rest_of r q.len) pieces between left) (g.only c other at other_taken) takes) ends also
+
+pub pieces_are_the_request : PiecesAreTheRequest
+pieces_are_the_request = record { taken = taken; same = same }

@@ -1,0 +1,5 @@
+use Rattle.tus_steps.proofs.PiecesLemmas.{pieces_are_the_request}
+use Rattle.tus_steps.proofs.laws.pieces_are_the_request.Goals as goal
+
+pub returns : goal.returns
+returns c = pieces_are_the_request
