@@ -1,5 +1,5 @@
 -- The pieces of a PATCH, with nothing between, are its whole step.
-use Rattle.std.proofs.Common.{◌≡◌, ℕ, ◌+◌, ◌-◌, ◌^◌, ◌<◌, ◌≤◌, ◌⊎◌, Bool, true, false, List, [], ◌∷◌, length, min, take, drop, Option, Some, None, Result, Ok, Err, refl, inl, inr, sym, ap, ◌∙◌, subst, arith}
+use Rattle.std.proofs.Common.{◌≡◌, ℕ, ◌+◌, ◌-◌, ◌^◌, ◌<◌, ◌≤◌, true, false, List, [], ◌∷◌, length, min, take, drop, Option, Some, None, Result, Ok, Err, refl, inl, inr, sym, ap, ◌∙◌, subst, arith}
 use Rattle.std.specs.List.{All}
 use Rattle.std.specs.Option.{option_and_then, option_map}
 use Rattle.std.specs.Result.{IsOk}
@@ -16,7 +16,6 @@ use Rattle.upload_book.specs.declared.operation.Operation.{Operation}
 use Rattle.upload_book.specs.declared.operation.Operation.TheVariants as operation
 use Rattle.upload_book.specs.Laws.{later_part}
 use Rattle.upload_book.specs.Lawful.{IsLawful}
-use Rattle.upload_book.specs.Operation.{MayLackMemory}
 use Rattle.upload_book.specs.Pieces.{first_piece}
 use Rattle.upload_book.specs.PlainBook.{PlainBook, answer_of, book_after}
 use Rattle.upload_book.specs.declared.refusal.Refusal.{Refusal}
@@ -29,16 +28,16 @@ use Rattle.tus_steps.specs.declared.method.Method.TheVariants as method
 use Rattle.tus_steps.specs.declared.reply.Reply.{Reply}
 use Rattle.tus_steps.specs.declared.route.Route.{Route}
 use Rattle.tus_steps.specs.declared.route.Route.TheVariants.{Append}
-use Rattle.tus_steps.specs.Field.{number_in, optional_number_in}
+use Rattle.tus_steps.specs.Field.{absent, number_in, optional_number_in}
 use Rattle.tus_steps.specs.InPieces.{IsPlainPatch, PieceAt, PiecesAreTheRequest, Takes, count_pieces, first_of, is_patched, rest_of}
 use Rattle.tus_steps.specs.Isolation.{HasEachPart}
 use Rattle.tus_steps.specs.Method.{is_options, is_patch}
-use Rattle.tus_steps.specs.Operation.{chunk_at, chunk_in, operation_of, operation_on}
+use Rattle.tus_steps.specs.Operation.{chunk_at, chunk_in, has_version, operation_of, operation_on}
 use Rattle.tus_steps.specs.Reply.{append_reply}
 use Rattle.tus_steps.specs.Request.{Request}
-use Rattle.tus_steps.specs.Route.{route}
+use Rattle.tus_steps.specs.Route.{route, tenant_name}
 use Rattle.tus_steps.specs.Step.{IsOperationStep, IsStep, IsStepBy}
-use Rattle.tus_steps.proofs.AskLemmas.{Asks, asks}
+use Rattle.tus_steps.proofs.AskLemmas.{asks}
 use Rattle.tus_steps.proofs.PlaceLemmas.{place-within}
 use Rattle.tus_steps.proofs.StepLemmas.{step-by}
 
@@ -86,6 +85,12 @@ and_then-Some : {A B : Type 0} (f : A → Option B) (found : Option A) (y : B) �
 and_then-Some f None y is = absurd cc
 and_then-Some f (Some x) y is = (x, refl, is)
 
+-- what its head tells is what it asks for, with any bytes of its body
+appends-any : (s : Settings) (r : Request) (tenant : List ℕ) (t id offset : ℕ) (told : Option ℕ) → has_version r ≡ true → tenant_name r.path ≡ Some tenant → tenant_place s tenant ≡ Some t
+    → route r.path r.method ≡ Some (Append id) → number_in r.fields.offset ≡ Some offset → optional_number_in r.fields.length ≡ Some told → r.fields.checksum ≡ absent
+    → (body : List ℕ) (given more : ℕ) → operation_of s (with_body r body given more) ≡ Ok (operation.Append (record { tenant = t; id = id }) (chunk_at (with_body r body given more) offset told None))
+appends-any s r tenant t id offset told version named place on at length unchecked body given more = rw (version, named, place, on, at, length, unchecked) refl
+
 patches : (s : Settings) (r : Request) (op : Operation) → IsPlainPatch r → operation_of s r ≡ Ok op → Patches s r
 patches s r op plain is =
     let a = asks s r op is in
@@ -101,7 +106,7 @@ patches s r op plain is =
       tenant = a.name;
       place = a.place;
       other = not_options r.method plain.method;
-      appends = λ body given more. rw (a.version, a.named, a.place, a.route, on.1, offset.1, told.1, plain.unchecked) refl;
+      appends = appends-any s r a.name a.tenant on.0 offset.0 told.0 a.version a.named a.place (a.route ∙ ap Some on.1) offset.1 told.1 plain.unchecked;
     }
 
 -- ---- a PATCH that is accepted
@@ -110,7 +115,7 @@ patches s r op plain is =
 record Accepted (b : PlainBook) (name : Name) (chunk : Chunk) (r : Request) (now : ℕ) (reply : Reply) (after : PlainBook) : Type 0 where
   made : IsOk (answer_of b name.tenant (append_answer name.id chunk now b.charged))
   told : reply ≡ append_reply r (answer_of b name.tenant (append_answer name.id chunk now b.charged))
-  after : after ≡ book_after b name.tenant (part_after_append name.id chunk now b.charged)
+  leaves : after ≡ book_after b name.tenant (part_after_append name.id chunk now b.charged)
 
 answer-Ok : (r : Request) (answer : Result Appended Refused) → is_patched (append_reply r answer) ≡ true → IsOk answer
 answer-Ok r (Ok appended) is = refl
@@ -129,7 +134,7 @@ by-step : (b : PlainBook) (name : Name) (chunk : Chunk) (r : Request) (now : ℕ
 by-step b name chunk r now reply after (inl step) is = record {
   made = answer-Ok r (answer_of b name.tenant (append_answer name.id chunk now b.charged)) (rw step.0 at is);
   told = step.0;
-  after = step.1;
+  leaves = step.1;
 }
 by-step b name chunk r now reply after (inr lacks) is = absurd (refused (rw lacks.1 at is))
   where
@@ -146,12 +151,12 @@ reaches : (b : PlainBook) (r : Request) (now : ℕ) (reply : Reply) (after : Pla
 reaches b r now reply after plain step is =
     by-result (operation_of b.settings r) refl (rw (not_options r.method plain.method) at step)
   where
+    refused : false ≡ true → ⊥
+    refused same = absurd cc
+
     by-result : (asked : Result Operation Refusal) → operation_of b.settings r ≡ asked → IsStepBy b r now asked reply after → Patches b.settings r
     by-result (Ok op) asks by = patches b.settings r op plain asks
     by-result (Err why) asks by = absurd (refused (rw by.0 at is))
-
-    refused : false ≡ true → ⊥
-    refused same = absurd cc
 
 -- ---- its first piece, and what is left
 
@@ -199,9 +204,9 @@ goes b r k early now reply after lawful plain le earlier step is = record {
   lawful = on.lawful;
   rest =
       step-by middle (rest_of r k) now (operation.Append name two) reply after patch.other (patch.appends (drop k r.body) (r.given + k) r.more ∙ ap (λ chunk. Ok (operation.Append name chunk)) (rest-chunk r k patch.offset patch.told le on.ends))
-      (inl (whole.told ∙ ap (append_reply r) (sym on.answer) ∙ sym (same-reply r (drop k r.body) (r.given + k) r.more (answer_of middle name.tenant (append_answer name.id two now middle.charged))), whole.after ∙ sym on.last));
+      (inl (whole.told ∙ ap (append_reply r) (sym on.answer) ∙ sym (same-reply r (drop k r.body) (r.given + k) r.more (answer_of middle name.tenant (append_answer name.id two now middle.charged))), whole.leaves ∙ sym on.last));
   only = λ c other at taken.
-      (accepted b r patch (take k r.body) r.given (r.more + (length r.body - k)) early other c at taken).after
+      (accepted b r patch (take k r.body) r.given (r.more + (length r.body - k)) early other c at taken).leaves
       ∙ ap (λ chunk. book_after b name.tenant (part_after_append name.id chunk early b.charged)) (first-chunk r k patch.offset patch.told);
 }
   where
@@ -226,11 +231,11 @@ goes b r k early now reply after lawful plain le earlier step is = record {
     middle : PlainBook
     middle = book_after b name.tenant (part_after_append name.id one early b.charged)
 
-    within : name.tenant < length b.tenants
-    within = place-within b patch.tenant name.tenant each patch.place
-
     each : HasEachPart b
     each = sym (length-map b.tenants (λ (part : TenantBook). part.quota)) ∙ ap length lawful.quotas ∙ length-map b.settings.tenants (λ (t : TenantQuota). t.quota)
+
+    within : name.tenant < length b.tenants
+    within = place-within b patch.tenant name.tenant each patch.place
 
     on : BookGoesOn b name chunk (take k r.body) (drop k r.body) early now
     on = BookGoesOn-first b name chunk (take k r.body) (drop k r.body) early now lawful within earlier (sym (take-append-drop k r.body)) whole.made
@@ -262,7 +267,7 @@ same b r [] now reply after lawful plain moments step is between left last end t
     let patch = reaches b r now reply after plain step is in
     let whole = accepted b r patch r.body r.given r.more now reply after step is in
     let again = accepted b r patch r.body r.given r.more now last end (subst (λ book. IsStep book r now last end) takes.0 (subst (λ request. IsStep between request now last end) takes.1 ends)) also in
-    (again.told ∙ sym whole.told, again.after ∙ sym whole.after)
+    (again.told ∙ sym whole.told, again.leaves ∙ sym whole.leaves)
 same b r (q ∷ pieces) now reply after lawful plain moments step is between left last end (c, other, le, at, other_taken, takes) ends also =
     let g = goes b r q.len q.now now reply after lawful plain le (All-head (λ (q : PieceAt). q.now ≤ now) q pieces moments) step is in
     same g.middle (rest_of r q.len) pieces now reply after g.lawful (plain-rest r q.len plain) (All-tail (λ (q : PieceAt). q.now ≤ now) q pieces moments) g.rest is between left last end
