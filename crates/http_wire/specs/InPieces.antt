@@ -11,19 +11,19 @@ use Rattle.http_wire.specs.Turns.{Answered}
 use Rattle.http_wire.specs.declared.read.layout.Layout.{Layout}
 use Rattle.http_wire.specs.inside.HeadLayout.{BeginsHead}
 
--- a piece of a body of n bytes, under the head of a request, behind so many that were given
+-- the piece of a body of n bytes that has these, behind so many that were given before
 abbrev pub piece_of : Request → ℕ → ℕ → List ℕ → Request
 piece_of r n given bytes = record r { body = bytes; given = given; more = n - (given + length bytes) }
 
--- pieces of it were taken, one after another, from a place on, which together are these bytes
+-- pieces of it were taken, one after another, from a place on; together they are these bytes
 abbrev pub AreGiven : Request → ℕ → ℕ → List Answering → List ℕ → Type 0
 AreGiven r n given [] bytes = bytes ≡ []
 AreGiven r n given (q ∷ answered) bytes =
     (piece later : List ℕ) × (q.request ≡ piece_of r n given piece) × (is_patched q.reply ≡ true) × (bytes ≡ piece ++ later)
     × AreGiven r n (given + length piece) answered later
 
--- The bytes that came are a message of this layout, and what is behind it. All but the last bytes of its body were taken in
--- pieces, and the last ones got a reply: then the message is answered in pieces, and the connection stays open.
+-- The bytes that came are a message of this layout, and what is behind it. Its body was taken in pieces but for its last
+-- bytes, and these got a reply. Then the message is answered in pieces, and the connection stays open.
 abbrev pub PiecesAreATurn : Type 0
 PiecesAreATurn =
     (max now : ℕ) (bytes : List ℕ) (p : Layout) (head gone last left : List ℕ) (before answered : List Answering) (reply : Reply)

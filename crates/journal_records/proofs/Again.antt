@@ -23,7 +23,7 @@ use Rattle.upload_book.specs.declared.restored.Restored.{Restored}
 use Rattle.upload_book.specs.declared.restored.Restored.TheVariants as piece
 use Rattle.upload_book.specs.snapshot.Restored.{RestoredSegment, RestoredUpload}
 use Rattle.journal_records.specs.Laws.{RecordsAreReadAgain}
-use Rattle.journal_records.specs.Reading.{number_at, bytes_at, flag_at, flag_more_at, some_at, optional_at, text_at, check_at, name_at, many_at, parts_at, expires_at, kind_at, optional_text_at, segment_at, segments_at, upload_at, first_at, chunk_at, final_at, fields_at, back_at, create_at, append_at, concat_at, terminate_at, restore_at, next_at, totals_at, change_at, moment_at, record_at}
+use Rattle.journal_records.specs.Reading.{number_at, bytes_at, flag_at, flag_more_at, nonzero_at, optional_at, text_at, check_at, name_at, many_at, parts_at, expires_at, kind_at, optional_text_at, segment_at, segments_at, upload_at, first_at, chunk_at, final_at, fields_at, back_at, create_at, append_at, concat_at, terminate_at, restore_at, next_at, totals_at, change_at, moment_at, record_at}
 use Rattle.journal_records.specs.Records.{number, flag, flag_more, optional, text, check, name_bytes, parts, kind_byte, optional_text, segment_bytes, segments_bytes, upload_bytes, first_bytes, chunk_bytes, final_bytes, back_bytes, piece_bytes, change_bytes, IsNumber, FitsCheck, FitsUpload, FitsChunk, FitsFinal, FitsSegment, FitsBack, FitsPiece, FitsChange}
 
 -- ---- fields
@@ -50,9 +50,9 @@ unfolding flag_at
 flag_again false rest = refl
 flag_again true rest = refl
 
-some_again : (n : ℕ) (rest : List ℕ) → IsNumber n → eqb n 0 ≡ false → some_at (number n ++ rest) ≡ Some (n, rest)
-unfolding some_at
-some_again n rest fits some = rw (number_again n rest fits) (rw some refl)
+nonzero_again : (n : ℕ) (rest : List ℕ) → IsNumber n → eqb n 0 ≡ false → nonzero_at (number n ++ rest) ≡ Some (n, rest)
+unfolding nonzero_at
+nonzero_again n rest fits some = rw (number_again n rest fits) (rw some refl)
 
 flag_more_again : (b : Bool) (more : ℕ) (rest : List ℕ) → IsNumber more → flag_more_at (flag_more b more ++ rest) ≡ Some ((b, more), rest)
 unfolding flag_more_at
@@ -66,8 +66,8 @@ flag_more_again b more rest fits = elim (eqb_tells more 0) [
     by_none true = refl
 
     by_some : (b : Bool) → eqb more 0 ≡ false → flag_more_at ((if b then 3 else 2) ∷ (number more ++ rest)) ≡ Some ((b, more), rest)
-    by_some false some = rw (some_again more rest fits some) refl
-    by_some true some = rw (some_again more rest fits some) refl
+    by_some false some = rw (nonzero_again more rest fits some) refl
+    by_some true some = rw (nonzero_again more rest fits some) refl
 
 optional_again : (o : Option ℕ) (rest : List ℕ) → IfSome o IsNumber → optional_at (optional o ++ rest) ≡ Some (o, rest)
 unfolding optional_at

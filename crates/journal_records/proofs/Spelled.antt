@@ -21,7 +21,7 @@ use Rattle.upload_book.specs.declared.head_row.Name.{Name}
 use Rattle.upload_book.specs.declared.restored.Restored.TheVariants as piece
 use Rattle.upload_book.specs.snapshot.Restored.{RestoredSegment, RestoredUpload}
 use Rattle.journal_records.specs.Laws.{RecordsAreSpelledSo}
-use Rattle.journal_records.specs.Reading.{◌>>=◌, byte_at, number_at, bytes_at, flag_at, flag_more_at, some_at, optional_at, text_at, check_at, name_at, many_at, parts_at, expires_at, kind_at, optional_text_at, segment_at, segments_at, upload_at, first_at, chunk_at, final_at, fields_at, back_at, at_end, create_at, append_at, concat_at, terminate_at, sweep_at, restore_at, next_at, totals_at, other_at, change_at, moment_at, record_at}
+use Rattle.journal_records.specs.Reading.{◌>>=◌, byte_at, number_at, bytes_at, flag_at, flag_more_at, nonzero_at, optional_at, text_at, check_at, name_at, many_at, parts_at, expires_at, kind_at, optional_text_at, segment_at, segments_at, upload_at, first_at, chunk_at, final_at, fields_at, back_at, at_end, create_at, append_at, concat_at, terminate_at, sweep_at, restore_at, next_at, totals_at, other_at, change_at, moment_at, record_at}
 use Rattle.journal_records.specs.Records.{AreBytes, number, flag, flag_more, optional, text, check, name_bytes, parts, kind_byte, optional_text, segment_bytes, segments_bytes, upload_bytes, first_bytes, chunk_bytes, final_bytes, back_bytes, change_bytes, record_bytes, IsNumber, FitsCheck, FitsUpload, FitsChunk, FitsFinal, FitsSegment, FitsBack, FitsChange}
 
 AreBytes-drop : (n : ℕ) (bytes : List ℕ) → AreBytes bytes → AreBytes (drop n bytes)
@@ -95,9 +95,9 @@ flag_takes (zero ∷ rest) x are is = subst (λ (y : Bool × List ℕ). Takes (0
 flag_takes (suc zero ∷ rest) x are is = subst (λ (y : Bool × List ℕ). Takes (1 ∷ rest) (flag y.0) y.1) (some_is (true, rest) x is) (record { parts = refl; rest_are = AreBytes-rest 1 rest are })
 flag_takes (suc (suc b) ∷ rest) x are is = absurd cc
 
-some_takes : (bytes : List ℕ) (x : ℕ × List ℕ) → AreBytes bytes → some_at bytes ≡ Some x → Takes bytes (number x.0) x.1 × IsNumber x.0 × (eqb x.0 0 ≡ false)
-unfolding some_at
-some_takes bytes x are is =
+nonzero_takes : (bytes : List ℕ) (x : ℕ × List ℕ) → AreBytes bytes → nonzero_at bytes ≡ Some x → Takes bytes (number x.0) x.1 × IsNumber x.0 × (eqb x.0 0 ≡ false)
+unfolding nonzero_at
+nonzero_takes bytes x are is =
     let a = bind_some (number_at bytes) (λ n. cond (eqb n.0 0) None (Some (n.0, n.1))) x is in
     let b = not_none (eqb a.0.0 0) (Some (a.0.0, a.0.1)) x a.2 in
     let t = number_takes bytes a.0 are a.1 in
@@ -112,12 +112,12 @@ flag_more_takes [] x are is = absurd cc
 flag_more_takes (zero ∷ rest) x are is = subst (λ (y : (Bool × ℕ) × List ℕ). Takes (0 ∷ rest) (flag_more y.0.0 y.0.1) y.1 × IsNumber y.0.1) (some_is ((false, 0), rest) x is) (record { parts = refl; rest_are = AreBytes-rest 0 rest are }, omega arith)
 flag_more_takes (suc zero ∷ rest) x are is = subst (λ (y : (Bool × ℕ) × List ℕ). Takes (1 ∷ rest) (flag_more y.0.0 y.0.1) y.1 × IsNumber y.0.1) (some_is ((true, 0), rest) x is) (record { parts = refl; rest_are = AreBytes-rest 1 rest are }, omega arith)
 flag_more_takes (suc (suc zero) ∷ rest) x are is =
-    let a = bind_some (some_at rest) (λ n. Some ((false, n.0), n.1)) x is in
-    let t = some_takes rest a.0 (AreBytes-rest 2 rest are) a.1 in
+    let a = bind_some (nonzero_at rest) (λ n. Some ((false, n.0), n.1)) x is in
+    let t = nonzero_takes rest a.0 (AreBytes-rest 2 rest are) a.1 in
     subst (λ (y : (Bool × ℕ) × List ℕ). Takes (2 ∷ rest) (flag_more y.0.0 y.0.1) y.1 × IsNumber y.0.1) (some_is ((false, a.0.0), a.0.1) x a.2) (rw t.2 (behind_takes 2 rest (number a.0.0) a.0.1 are t.0), t.1)
 flag_more_takes (suc (suc (suc zero)) ∷ rest) x are is =
-    let a = bind_some (some_at rest) (λ n. Some ((true, n.0), n.1)) x is in
-    let t = some_takes rest a.0 (AreBytes-rest 3 rest are) a.1 in
+    let a = bind_some (nonzero_at rest) (λ n. Some ((true, n.0), n.1)) x is in
+    let t = nonzero_takes rest a.0 (AreBytes-rest 3 rest are) a.1 in
     subst (λ (y : (Bool × ℕ) × List ℕ). Takes (3 ∷ rest) (flag_more y.0.0 y.0.1) y.1 × IsNumber y.0.1) (some_is ((true, a.0.0), a.0.1) x a.2) (rw t.2 (behind_takes 3 rest (number a.0.0) a.0.1 are t.0), t.1)
 flag_more_takes (suc (suc (suc (suc b))) ∷ rest) x are is = absurd cc
 

@@ -45,21 +45,21 @@ flag_at (suc zero ∷ rest) = Some (true, rest)
 flag_at (suc (suc b) ∷ rest) = None
 
 -- a number that is not 0
-unfoldable pub some_at : List ℕ → Option (ℕ × List ℕ)
-some_at bytes = do
+unfoldable pub nonzero_at : List ℕ → Option (ℕ × List ℕ)
+nonzero_at bytes = do
   n ← number_at bytes
   if n.0 == 0 then None else Some (n.0, n.1)
 
--- a flag, and how many bytes are to come
+-- a flag, and how many bytes are still to come: none behind a whole PATCH
 unfoldable pub flag_more_at : List ℕ → Option ((Bool × ℕ) × List ℕ)
 flag_more_at [] = None
 flag_more_at (zero ∷ rest) = Some ((false, 0), rest)
 flag_more_at (suc zero ∷ rest) = Some ((true, 0), rest)
 flag_more_at (suc (suc zero) ∷ rest) = do
-  n ← some_at rest
+  n ← nonzero_at rest
   Some ((false, n.0), n.1)
 flag_more_at (suc (suc (suc zero)) ∷ rest) = do
-  n ← some_at rest
+  n ← nonzero_at rest
   Some ((true, n.0), n.1)
 flag_more_at (suc (suc (suc (suc b))) ∷ rest) = None
 

@@ -36,7 +36,7 @@ optional (Some n) = 1 ∷ number n
 abbrev pub text : List ℕ → List ℕ
 text bytes = number (length bytes) ++ bytes
 
--- a flag; and where so many bytes are to come behind those of a piece another one, and how many
+-- a flag, where a whole PATCH came; and of a piece another flag, and how many bytes are still to come behind its own
 abbrev pub flag_more : Bool → ℕ → List ℕ
 flag_more set more = if more == 0 then flag set else (if set then 3 else 2) ∷ number more
 

@@ -1,7 +1,7 @@
 //! The fields of a record, each read from the front of some bytes: its value and the bytes behind it, or none where it is
 //! not there.
 ghost use Rattle.std.specs.Prelude.{◌≡◌, Some, None, IfSome, length, option_map};
-ghost use Rattle.journal_records.specs.Reading.{Gives, byte_at, bytes_at, check_at, expires_at, flag_at, flag_more_at, some_at, kind_at, name_at, number_at, optional_at, optional_text_at, text_at};
+ghost use Rattle.journal_records.specs.Reading.{Gives, byte_at, bytes_at, check_at, expires_at, flag_at, flag_more_at, nonzero_at, kind_at, name_at, number_at, optional_at, optional_text_at, text_at};
 
 use tus_text::{Checksum, DIGEST_LEN};
 use upload_book::{Kind, Moment, Name};
@@ -54,9 +54,9 @@ pub(crate) fn flag_of(bytes: &[u8]) -> Option<(bool, &[u8])>
     }
 }
 
-#[tactic(auto, unfolding(crate::specs::Reading::some_at))]
-fn some_of(bytes: &[u8]) -> Option<(u64, &[u8])>
-    ensures { Gives (λ x. (x.0, x.1.now)) result (some_at bytes.now) }
+#[tactic(auto, unfolding(crate::specs::Reading::nonzero_at))]
+fn nonzero_of(bytes: &[u8]) -> Option<(u64, &[u8])>
+    ensures { Gives (λ x. (x.0, x.1.now)) result (nonzero_at bytes.now) }
 {
     let (n, rest) = number_of(bytes)?;
     if n == 0 {
@@ -74,11 +74,11 @@ pub(crate) fn flag_more_of(bytes: &[u8]) -> Option<(bool, u64, &[u8])>
         [0, rest @ ..] => Some((false, 0, rest)),
         [1, rest @ ..] => Some((true, 0, rest)),
         [2, rest @ ..] => {
-            let (more, rest) = some_of(rest)?;
+            let (more, rest) = nonzero_of(rest)?;
             Some((false, more, rest))
         }
         [3, rest @ ..] => {
-            let (more, rest) = some_of(rest)?;
+            let (more, rest) = nonzero_of(rest)?;
             Some((true, more, rest))
         }
         [_, ..] => None,
