@@ -16,6 +16,10 @@ module _ {D : Type 0} {g : Ghosts D} where
   abbrev pub book_in : KeptBook D g → PlainBook
   book_in kept = plain_of kept.book
 
+  -- the journal, its key, and whether it has failed
+  abbrev pub log_in : KeptBook D g → Log D g
+  log_in kept = kept.log
+
   abbrev pub disk_in : KeptBook D g → D
   disk_in kept = disk_of kept.log.journal
 

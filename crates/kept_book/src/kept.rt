@@ -1,4 +1,4 @@
-ghost use Rattle.std.specs.Prelude.{◌≡◌, ◌++◌, [], ℕ, List, true, length, IsTrue, IfErr, IfOk, IsErrOf, OnErr, OnOk};
+ghost use Rattle.std.specs.Prelude.{◌≡◌, ◌++◌, [], ℕ, List, true, false, length, IsTrue, IfErr, IfOk, IsErrOf, OnErr, OnOk};
 ghost use Rattle.journal_file.specs.Journal.{disk_of};
 ghost use Rattle.journal_file.specs.JournalError.{IsDamagedAt};
 ghost use Rattle.journal_file.specs.declared.error.Damage.{Damage};
@@ -39,7 +39,7 @@ impl<D: Disk> KeptBook<D> {
     ghost use Rattle.book_replay.specs.Replay.{AllHappen, records_of};
     ghost use Rattle.kept_book.specs.Answer.{GoesOn, IsKeptStep, IsUnkeptAnswer};
     ghost use Rattle.kept_book.specs.Done.{added, IsDone, IsRefused};
-    ghost use Rattle.kept_book.specs.Kept.{book_in, disk_in, has_failed, key_in, IsKept, IsLeft};
+    ghost use Rattle.kept_book.specs.Kept.{book_in, disk_in, has_failed, key_in, log_in, IsKept, IsLeft};
 
     /// Makes a book of these settings without an upload, over an empty journal under this key with so much room, over
     /// whatever the file held. A crash before it is `Ok` may leave any file.
@@ -57,6 +57,7 @@ impl<D: Disk> KeptBook<D> {
         ensures kept { IfOk result (λ kept. IsKept kept settings []) }
         ensures key { IfOk result (λ kept. key_in kept ≡ key) }
         ensures clean { IfOk result (λ kept. D.is_clean (disk_in kept) ≡ D.is_clean disk) }
+        ensures works { IfOk result (λ kept. has_failed kept ≡ false) }
         ensures outside { IfErr result IsOutsideFile }
     {
         let book = Book::new(alloc, settings)?;
@@ -90,6 +91,7 @@ impl<D: Disk> KeptBook<D> {
         ensures damaged { IfErr result (λ not. (damage : Damage) → not.why ≡ OpenFault.Journal (JournalError.Damaged damage)
             → IsTrue (D.is_clean not.disk) → IsDamagedAt key (D.seen disk) damage) }
         ensures key { IfOk result (λ kept. key_in kept ≡ key) }
+        ensures works { IfOk result (λ kept. has_failed kept ≡ false) }
     {
         let opened = match Journal::open(alloc, disk, key) {
             Ok(opened) => opened,
@@ -158,7 +160,9 @@ impl<D: Disk> KeptBook<D> {
             → (c : List ℕ) → D.may_leave (disk_in self.new) c → IsLeft (key_in self.old) s events c }
         ensures key { key_in self.new ≡ key_in self.old }
         ensures failed { OnErr result (has_failed self.new ≡ true) }
+        ensures works { OnOk result (has_failed self.new ≡ false) }
         ensures stays { OnErr result (book_in self.new ≡ book_in self.old) }
+        ensures due { IsErrOf result KeepFault.Ended → has_failed self.old ≡ true }
         ensures ended { has_failed self.old ≡ true → IsErrOf result KeepFault.Ended × (self.new ≡ self.old) }
     {
         if self.log.has_failed {
@@ -193,6 +197,9 @@ impl<D: Disk> KeptBook<D> {
             → (c : List ℕ) → D.may_leave (disk_in self.new) c → IsLeft (key_in self.old) s events c }
         ensures key { key_in self.new ≡ key_in self.old }
         ensures failed { OnErr result (has_failed self.new ≡ true) }
+        ensures works { OnOk result (has_failed self.new ≡ false) }
+        ensures stays { OnErr result (book_in self.new ≡ book_in self.old) }
+        ensures due { IsErrOf result KeepFault.Ended → has_failed self.old ≡ true }
         ensures ended { has_failed self.old ≡ true → IsErrOf result KeepFault.Ended × (self.new ≡ self.old) }
     {
         if self.log.has_failed {
@@ -218,9 +225,7 @@ impl<D: Disk> KeptBook<D> {
     pub fn answer_unkept(&mut self, request: &Request, now: Moment, reply: &mut PlacedReply)
         ensures answer { IsUnkeptAnswer (book_in self.old) request.now now (reply_in reply.new) }
         ensures stays { book_in self.new ≡ book_in self.old }
-        ensures disk { disk_in self.new ≡ disk_in self.old }
-        ensures key { key_in self.new ≡ key_in self.old }
-        ensures failed { has_failed self.new ≡ has_failed self.old }
+        ensures log { log_in self.new ≡ log_in self.old }
     {
         let mut ids = PartIds::new();
         match asked_of(self.book.settings(), request, &mut ids) {
@@ -263,7 +268,9 @@ impl<D: Disk> KeptBook<D> {
             → (c : List ℕ) → D.may_leave (disk_in self.new) c → IsLeft (key_in self.old) s events c }
         ensures key { key_in self.new ≡ key_in self.old }
         ensures failed { OnErr result (has_failed self.new ≡ true) }
+        ensures works { OnOk result (has_failed self.old ≡ false → has_failed self.new ≡ false) }
         ensures stays { OnErr result (book_in self.new ≡ book_in self.old) }
+        ensures fault { IsErrOf result KeepFault.Ended → ⊥ }
     {
         let _in_range = now.secs();
         tell_fits(self.book.settings().tenant_count(), &change);

@@ -1,5 +1,5 @@
 //! A journal of records, each framed in one place.
-ghost use Rattle.std.specs.Prelude.{◌≡◌, ◌≤◌, ℕ, List, [], ◌∷◌, ◌++◌, true, false, if◌then◌else◌, IsTrue, IfOk, OnOk, OnErr};
+ghost use Rattle.std.specs.Prelude.{◌≡◌, ◌≤◌, ℕ, List, [], ◌∷◌, ◌++◌, true, false, if◌then◌else◌, IsTrue, IfOk, IsErrOf, OnOk, OnErr};
 ghost use Rattle.journal_file.specs.Journal.{disk_of, key_of};
 ghost use Rattle.journal_frames.specs.Crash.{Leaves};
 ghost use Rattle.journal_records.specs.Records.{record_bytes};
@@ -29,6 +29,7 @@ impl<D: Disk> Log<D> {
     pub(crate) fn new(alloc: Global, journal: Journal<D>, key: u64) -> Log<D>
         ensures journal { result.journal ≡ journal }
         ensures key { result.key ≡ key }
+        ensures works { result.has_failed ≡ false }
     {
         Log {
             journal,
@@ -59,6 +60,8 @@ impl<D: Disk> Log<D> {
             → Leaves (key_of self.old.journal) payloads (record_bytes now change.now ∷ []) c }
         ensures key { key_of self.new.journal ≡ key_of self.old.journal }
         ensures failed { OnErr result (self.new.has_failed ≡ true) }
+        ensures works { OnOk result (self.old.has_failed ≡ false → self.new.has_failed ≡ false) }
+        ensures fault { IsErrOf result KeepFault.Ended → ⊥ }
     {
         let room = replace(&mut self.frame, Vec::new(self.alloc));
         let Some(frame) = frame_of(room, self.key, now, change) else {

@@ -1,5 +1,5 @@
-ghost use Rattle.std.specs.Prelude.{◌≡◌, ℕ, List, IfErr, IfOk};
-ghost use Rattle.kept_book.specs.Kept.{key_in, IsOpened};
+ghost use Rattle.std.specs.Prelude.{◌≡◌, ℕ, false, List, IfErr, IfOk};
+ghost use Rattle.kept_book.specs.Kept.{has_failed, key_in, IsOpened};
 ghost use Rattle.kept_book.specs.OpenFault.{TellsPlace};
 
 use crate::fault::{NotKept, OpenFault};
@@ -27,6 +27,7 @@ where
     D: Drop,
     ensures opened { IfOk result (IsOpened settings key disk) }
     ensures key { IfOk result (λ kept. key_in kept ≡ key) }
+    ensures works { IfOk result (λ kept. has_failed kept ≡ false) }
     ensures damaged { IfErr result (TellsPlace D.seen D.is_clean key disk) }
 {
     if !disk.may_be_used() {

@@ -1,5 +1,5 @@
-ghost use Rattle.std.specs.Prelude.{◌≡◌, List, length, vec_len, IfOk, None, OnErr};
-ghost use Rattle.kept_book.specs.Kept.{IsKept};
+ghost use Rattle.std.specs.Prelude.{◌≡◌, true, List, length, vec_len, IfOk, IfSome, None, OnErr};
+ghost use Rattle.kept_book.specs.Kept.{has_failed, IsKept};
 ghost use Rattle.kept_book.specs.Session.{IsSession};
 ghost use Rattle.upload_book.specs.Events.{ChangeEvent};
 ghost use Rattle.upload_book.specs.Settings.{Settings};
@@ -33,6 +33,7 @@ pub fn answer_all<D: Disk>(
     ensures session { (s : Settings) (events : List ChangeEvent)
         → IsKept kept.old s events
         → IfOk result (λ it. IsSession kept.old kept.new s events turns.now it.replies.items) }
+    ensures due { IfOk result (λ it. IfSome it.fault (λ _. has_failed kept.new ≡ true)) }
     ensures all { IfOk result (λ it. it.fault ≡ None → vec_len it.replies ≡ length turns.now) }
     ensures lacking { OnErr result (kept.new ≡ kept.old) }
 {

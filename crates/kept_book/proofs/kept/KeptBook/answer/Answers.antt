@@ -21,6 +21,8 @@ returns-in_default g c = record {
   crash = λ s events is left may. kept-leaves c.args.self.now s events is left may;
   key = search rules;
   failed = search rules;
+  works = search rules;
   stays = search rules;
+  due = search rules;
   ended = search rules;
 }
