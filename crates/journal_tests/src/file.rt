@@ -4,3 +4,4 @@ mod crashes;
 mod drafts;
 mod payloads;
 mod refusals;
+mod steps;

@@ -1,5 +1,5 @@
-//! A disk in memory with room for so many bytes. A crash leaves each byte as it reads, or as it was when the file was last
-//! synced.
+//! A disk in memory with room for so many bytes, which fails each call after so many. A crash leaves each byte as it reads, or
+//! as it was when the file was last synced.
 ghost use Rattle.std.specs.Prelude.{◌≡◌, ◌+◌, ◌<◌, length, true, false, refl, is_ok, IsTrue, OnOk, OnErr, IfOk};
 ghost use Rattle.sqlite_disk.specs.Disk.{Holds, Torn, Cut, CountsFault};
 ghost use Rattle.sqlite_disk.specs.Refusal.{finds_no_room};
@@ -15,23 +15,31 @@ pub(crate) struct TornDisk {
     bytes: Vec<u8>,
     synced: Vec<u8>,
     room: usize,
+    // how many calls are answered yet
+    calls: u64,
     usable: bool,
     faults: u64,
     caught: u64,
 }
 
 impl TornDisk {
-    /// An empty file, on a disk with room for so many bytes.
-    pub(crate) fn new(alloc: Global, room: usize) -> TornDisk {
+    /// An empty file, on a disk with room for so many bytes that fails each call after so many.
+    pub(crate) fn new(alloc: Global, room: usize, calls: u64) -> TornDisk {
         TornDisk {
             alloc,
             bytes: Vec::new(alloc),
             synced: Vec::new(alloc),
             room,
+            calls,
             usable: true,
             faults: 0,
             caught: 0,
         }
+    }
+
+    /// An empty file, on a disk that neither fills up nor fails.
+    pub(crate) fn sound(alloc: Global) -> TornDisk {
+        TornDisk::new(alloc, usize::MAX, u64::MAX)
     }
 
     /// The bytes of the file.
@@ -62,18 +70,24 @@ impl TornDisk {
         self.left(bytes)
     }
 
-    // The disk on which a crash left these bytes. There is no bound to the room then.
+    // The disk on which a crash left these bytes. There is no bound to the room and to the calls then.
     fn left(&self, bytes: Vec<u8>) -> Result<TornDisk, AllocError> {
         let synced = bytes.to_vec(self.alloc)?;
         Ok(TornDisk {
             alloc: self.alloc,
             room: usize::MAX,
+            calls: u64::MAX,
             bytes,
             synced,
             usable: true,
             faults: 0,
             caught: 0,
         })
+    }
+
+    /// Writes bytes at a place. Gives whether it could.
+    pub(crate) fn put(&mut self, at: usize, bytes: &[u8]) -> bool {
+        self.usable && self.write_at(at, bytes).is_ok()
     }
 
     /// Raises the byte at a place of the file by one, unless it is 255.
@@ -154,10 +168,12 @@ impl Disk for TornDisk {
     }
 
     fn len(&mut self) -> io::Result<usize> {
+        count(spend(&mut self.calls), &mut self.faults)?;
         Ok(self.bytes.len())
     }
 
     fn read_at(&mut self, at: usize, buf: &mut [u8]) -> io::Result<()> {
+        count(spend(&mut self.calls), &mut self.faults)?;
         if at > self.bytes.len() || buf.len() > self.bytes.len() - at {
             return Err(io::ErrorKind::UnexpectedEof.into());
         }
@@ -177,21 +193,33 @@ impl Disk for TornDisk {
 
     fn write_at(&mut self, at: usize, bytes: &[u8]) -> io::Result<()> {
         count(
-            overwrite(&mut self.bytes, self.room, at, bytes),
+            overwrite(&mut self.bytes, &mut self.calls, self.room, at, bytes),
             &mut self.faults,
         )
     }
 
     fn set_len(&mut self, len: usize) -> io::Result<()> {
-        count(resize(&mut self.bytes, len), &mut self.faults)
+        count(
+            resize(&mut self.bytes, &mut self.calls, len),
+            &mut self.faults,
+        )
     }
 
     fn sync(&mut self) -> io::Result<()> {
         self.usable = false;
-        count(replace(&mut self.synced, &self.bytes), &mut self.faults)?;
+        count(
+            replace(&mut self.synced, &mut self.calls, &self.bytes),
+            &mut self.faults,
+        )?;
         self.usable = true;
         Ok(())
     }
+}
+
+// Counts a call off those that are answered yet.
+fn spend(calls: &mut u64) -> Result<(), AllocError> {
+    *calls = calls.checked_sub(1).ok_or(AllocError)?;
+    Ok(())
 }
 
 fn count(outcome: Result<(), AllocError>, faults: &mut u64) -> io::Result<()>
@@ -206,35 +234,44 @@ fn count(outcome: Result<(), AllocError>, faults: &mut u64) -> io::Result<()>
     Ok(())
 }
 
-fn replace(file: &mut Vec<u8>, bytes: &[u8]) -> Result<(), AllocError>
+fn replace(file: &mut Vec<u8>, calls: &mut u64, bytes: &[u8]) -> Result<(), AllocError>
     ensures ok { OnOk result (file.new.items ≡ bytes.now) }
     ensures err { OnErr result (file.new.items ≡ file.old.items) }
 {
+    spend(calls)?;
     let mut copy = Vec::new(*file.allocator());
     copy.extend_from_slice(bytes)?;
     *file = copy;
     Ok(())
 }
 
-fn resize(file: &mut Vec<u8>, len: usize) -> Result<(), AllocError>
+fn resize(file: &mut Vec<u8>, calls: &mut u64, len: usize) -> Result<(), AllocError>
     ensures len { OnOk result (length file.new.items ≡ len) }
     ensures others { Cut len file.old.items file.new.items }
     ensures err { OnErr result (file.new.items ≡ file.old.items) }
 {
+    spend(calls)?;
     file.resize(len, 0)
 }
 
-fn overwrite(file: &mut Vec<u8>, room: usize, at: usize, bytes: &[u8]) -> Result<(), AllocError>
+fn overwrite(
+    file: &mut Vec<u8>,
+    calls: &mut u64,
+    room: usize,
+    at: usize,
+    bytes: &[u8],
+) -> Result<(), AllocError>
     ensures written { OnOk result (Holds file.new.items at bytes.now) }
     ensures others { Torn at (length bytes.now) file.old.items file.new.items }
     ensures err { OnErr result (file.new.items ≡ file.old.items) }
 {
+    spend(calls)?;
     let end = at.checked_add(bytes.len()).ok_or(AllocError)?;
     if end > room {
         return Err(AllocError);
     }
     if end > file.len() {
-        resize(file, end)?;
+        file.resize(end, 0)?;
     }
     file[at..end].copy_from_slice(bytes);
     Ok(())

@@ -5,17 +5,20 @@ use journal_file::{Journal, Opened};
 use journal_frames::{Frames, push_frame};
 use std::alloc::Global;
 use std::process::Abort;
-use std::test::Fail;
+
+// Puts the frame of a payload behind others.
+fn push(rt: &impl Abort, frames: &mut Vec<u8>, payload: &[u8]) {
+    assert!(rt; payload.len() <= 16);
+    assert!(rt; push_frame(frames, KEY, payload).is_ok());
+}
 
 /// The frames of some payloads.
-pub(crate) fn frames_of(alloc: Global, payloads: &[&[u8]]) -> Result<Vec<u8>, Fail> {
+pub(crate) fn frames_of(rt: &impl Abort, alloc: Global, payloads: &[&[u8]]) -> Vec<u8> {
     let mut frames = Vec::new(alloc);
     for payload in payloads {
-        if payload.len() <= 16 {
-            push_frame(&mut frames, KEY, payload)?;
-        }
+        push(rt, &mut frames, payload);
     }
-    Ok(frames)
+    frames
 }
 
 /// Whether a file has this byte everywhere from a place on, so many times.
@@ -27,29 +30,29 @@ pub(crate) fn has_all(file: &[u8], start: usize, count: usize, byte: u8) -> bool
 }
 
 // How many of these payloads are frames at the start of a file.
-fn count_whole(alloc: Global, file: &[u8], payloads: &[&[u8]]) -> Result<usize, Fail> {
-    let mut durable = Vec::new(alloc);
+fn count_whole(rt: &impl Abort, alloc: Global, file: &[u8], payloads: &[&[u8]]) -> usize {
+    let mut whole = Vec::new(alloc);
     for (count, payload) in payloads.iter().enumerate() {
-        if payload.len() <= 16 {
-            push_frame(&mut durable, KEY, payload)?;
-        }
-        if !file.starts_with(&durable) {
-            return Ok(count);
+        push(rt, &mut whole, payload);
+        if !file.starts_with(&whole) {
+            return count;
         }
     }
-    Ok(payloads.len())
+    payloads.len()
 }
 
-// These frames are the first so many of the payloads, and no others.
-fn assert_payloads(rt: &impl Abort, frames: &[u8], payloads: &[&[u8]], count: usize) {
+// Whether these frames are the first so many of the payloads, and no others.
+fn are_first(frames: &[u8], payloads: &[&[u8]], count: usize) -> bool {
     let mut read = Frames::new(KEY, frames);
     for payload in payloads.iter().take(count) {
         let Ok(found) = read.next() else {
-            panic!(rt; "fewer than {count} payloads");
+            return false;
         };
-        assert!(rt; found == *payload);
+        if found != *payload {
+            return false;
+        }
     }
-    assert!(rt; read.next().is_err(), "more than {count} payloads");
+    read.next().is_err()
 }
 
 // The journal of a disk that was left by a crash.
@@ -68,39 +71,39 @@ pub(crate) fn assert_opens(
     payloads: &[&[u8]],
 ) -> Journal<TornDisk> {
     let opened = open(rt, alloc, disk);
-    assert_payloads(rt, &opened.frames, payloads, payloads.len());
+    assert!(rt; are_first(&opened.frames, payloads, payloads.len()));
     opened.journal
 }
 
-// After a crash that loses what was not synced of one range, a journal is opened that has the payloads whose frames are
-// whole, and at least so many.
-fn assert_crash(
+// Whether a journal is opened of what a crash left that has the payloads whose frames are whole, and at least so many.
+fn survives(
     rt: &impl Abort,
     alloc: Global,
-    disk: TornDisk,
+    left: TornDisk,
     payloads: &[&[u8]],
     synced: usize,
-) -> Result<(), Fail> {
-    let count = count_whole(alloc, disk.bytes(), payloads)?;
-    assert!(rt; count >= synced, "{count} payloads, not {synced}");
-    let opened = open(rt, alloc, disk);
-    assert_payloads(rt, &opened.frames, payloads, count);
-    Ok(())
+) -> bool {
+    let count = count_whole(rt, alloc, left.bytes(), payloads);
+    let opened = open(rt, alloc, left);
+    count >= synced && are_first(&opened.frames, payloads, count)
 }
 
-/// The same for each range.
+/// A journal survives each crash that loses what was not synced of one range.
 pub(crate) fn assert_crashes(
     rt: &impl Abort,
     alloc: Global,
     disk: &TornDisk,
     payloads: &[&[u8]],
     synced: usize,
-) -> Result<(), Fail> {
+) {
     let len = disk.bytes().len();
     for start in 0..=len {
         for end in start..=len {
-            assert_crash(rt, alloc, disk.after_loss(start, end)?, payloads, synced)?;
+            let left = disk.after_loss(start, end).expect(rt, "memory");
+            assert!(rt;
+                survives(rt, alloc, left, payloads, synced),
+                "{start} to {end}"
+            );
         }
     }
-    Ok(())
 }

@@ -1,127 +1,160 @@
 //! Why calls of a journal fail, each reason once.
 use crate::KEY;
 use crate::file::payloads::frames_of;
+use crate::file::steps::Outcome::{Damaged, DiskFails, Done, NoRoom, NotMixing, Unusable};
+use crate::file::steps::{Outcome, Step, new_journal, outcome_of, play, reason};
 use crate::torn_disk::TornDisk;
-use journal_file::{
-    Damage, Draft, Journal, JournalError, Recovered, WholeFrames, recover, whole_frames,
-};
-use sqlite_disk::{Disk, Fuse, Memory};
-use std::test::Fail;
+use journal_file::{Damage, Draft, Journal, WholeFrames, recover, whole_frames};
+use sqlite_disk::{Disk, Memory};
+use std::alloc::Global;
+use std::process::Abort;
+
+static LACKS_ROOM: [Step; 3] = [
+    Step::Append(&[b"x"], NoRoom),
+    Step::HasRoom(24),
+    Step::Extend(usize::MAX, NoRoom),
+];
 
 #[test]
-fn no_room(rt: HostRuntime) -> Result<(), Fail> {
-    let alloc = rt.alloc();
-    let mut journal = Journal::create(TornDisk::new(alloc, usize::MAX), KEY, 24)?;
-    let frames = frames_of(alloc, &[b"x"])?;
-    assert!(rt; matches!(journal.append(&frames), Err(JournalError::NoRoom)));
-    assert!(rt; journal.room() == 24);
-    assert!(rt; matches!(journal.extend(usize::MAX), Err(JournalError::NoRoom)));
-    assert!(rt;
-        matches!(
-            Journal::create(TornDisk::new(alloc, usize::MAX), KEY, usize::MAX),
-            Err(JournalError::NoRoom)
-        )
-    );
-    Ok(())
+fn no_room(rt: HostRuntime) {
+    let mut journal = new_journal(&rt, TornDisk::sound(rt.alloc()), 24);
+    play(&rt, rt.alloc(), &mut journal, &LACKS_ROOM);
+}
+
+#[test]
+fn no_room_for_a_new_journal(rt: HostRuntime) {
+    let created = Journal::create(TornDisk::sound(rt.alloc()), KEY, usize::MAX);
+    assert!(rt; outcome_of(created) == NoRoom);
 }
 
 // What the kit's file in memory leaves after a crash may be any bytes.
 #[test]
 fn not_mixing(rt: HostRuntime) {
-    let alloc = rt.alloc();
-    assert!(rt;
-        matches!(
-            Journal::create(Memory::new(alloc), KEY, 10),
-            Err(JournalError::NotMixing)
-        )
-    );
+    let created = Journal::create(Memory::new(rt.alloc()), KEY, 10);
+    assert!(rt; outcome_of(created) == NotMixing);
 }
 
+static FROZEN: [Step; 5] = [
+    Step::Sync(DiskFails),
+    Step::Sync(Unusable),
+    Step::Append(&[], Unusable),
+    Step::Extend(1, Unusable),
+    Step::Shorten(Unusable),
+];
+
 #[test]
-fn unusable(rt: HostRuntime) -> Result<(), Fail> {
-    let alloc = rt.alloc();
-    let disk = Fuse::new(TornDisk::new(alloc, usize::MAX), 3);
-    let mut journal = Journal::create(disk, KEY, 30)?;
-    assert!(rt; matches!(journal.sync(), Err(JournalError::Disk(_))));
-    assert!(rt; matches!(journal.sync(), Err(JournalError::Unusable)));
-    assert!(rt; matches!(journal.append(b""), Err(JournalError::Unusable)));
-    assert!(rt; matches!(journal.extend(1), Err(JournalError::Unusable)));
-    assert!(rt; matches!(journal.shorten(), Err(JournalError::Unusable)));
+fn unusable(rt: HostRuntime) {
+    let disk = TornDisk::new(rt.alloc(), usize::MAX, 3);
+    let mut journal = new_journal(&rt, disk, 30);
+    play(&rt, rt.alloc(), &mut journal, &FROZEN);
     let mut disk = journal.into_disk();
-    assert!(rt; matches!(recover(alloc, &mut disk, KEY), Err(JournalError::Unusable)));
-    Ok(())
+    assert!(rt; outcome_of(recover(rt.alloc(), &mut disk, KEY)) == Unusable);
 }
 
 // A draft fails for the same reasons, where they apply.
 #[test]
-fn draft_refused(rt: HostRuntime) -> Result<(), Fail> {
-    let alloc = rt.alloc();
-    let draft = Draft::new(TornDisk::new(alloc, usize::MAX), KEY, 4_096)?;
-    assert!(rt; matches!(draft.finish(usize::MAX), Err(JournalError::NoRoom)));
-    assert!(rt;
-        matches!(
-            Draft::new(Memory::new(alloc), KEY, 4_096),
-            Err(JournalError::NotMixing)
-        )
-    );
-    let mut draft = Draft::new(Fuse::new(TornDisk::new(alloc, usize::MAX), 1), KEY, 4_096)?;
-    assert!(rt; matches!(draft.sync(), Err(JournalError::Disk(_))));
-    assert!(rt; matches!(draft.sync(), Err(JournalError::Unusable)));
-    assert!(rt; matches!(draft.append(b""), Err(JournalError::Unusable)));
-    assert!(rt; matches!(draft.finish(1), Err(JournalError::Unusable)));
-    Ok(())
+fn draft_without_room(rt: HostRuntime) {
+    let Ok(draft) = Draft::new(TornDisk::sound(rt.alloc()), KEY, 4_096) else {
+        panic!(&rt; "not begun");
+    };
+    assert!(rt; outcome_of(draft.finish(usize::MAX)) == NoRoom);
+}
+
+#[test]
+fn draft_not_mixing(rt: HostRuntime) {
+    let begun = Draft::new(Memory::new(rt.alloc()), KEY, 4_096);
+    assert!(rt; outcome_of(begun) == NotMixing);
+}
+
+// Whether a draft whose disk is frozen fails so.
+fn is_frozen(draft: &mut Draft<TornDisk>) -> bool {
+    outcome_of(draft.sync()) == DiskFails
+        && outcome_of(draft.sync()) == Unusable
+        && outcome_of(draft.append(b"")) == Unusable
+}
+
+#[test]
+fn draft_unusable(rt: HostRuntime) {
+    let disk = TornDisk::new(rt.alloc(), usize::MAX, 1);
+    let Ok(mut draft) = Draft::new(disk, KEY, 4_096) else {
+        panic!(&rt; "not begun");
+    };
+    assert!(rt; is_frozen(&mut draft));
+    assert!(rt; outcome_of(draft.finish(1)) == Unusable);
+}
+
+// What becomes of the file of a journal, and what it is recovered to.
+enum Change {
+    Stays,
+    // These bytes are written at a place.
+    Put(usize, &'static [u8]),
+    // It ends here.
+    End(usize),
 }
 
 // A file of another key, one that was changed where its second frame lies, one that ends behind its frames, and one without a
-// byte: each is told with the place of the first frame that is none.
-#[test]
-fn damaged(rt: HostRuntime) -> Result<(), Fail> {
-    let alloc = rt.alloc();
-    let mut journal = Journal::create(TornDisk::new(alloc, usize::MAX), KEY, 60)?;
-    journal.append(&frames_of(alloc, &[b"ab", b"cd"])?)?;
-    journal.sync()?;
-    let mut disk = journal.into_disk();
-    assert!(rt; is_damaged_at(recover(alloc, &mut disk, KEY + 1), 0, 76));
-    assert!(rt; recover(alloc, &mut disk, KEY).is_ok());
-    assert!(rt; disk.may_be_used());
-    disk.write_at(50, b"dc")?;
-    assert!(rt; is_damaged_at(recover(alloc, &mut disk, KEY), 26, 76));
-    assert!(rt; disk.may_be_used());
-    disk.write_at(50, b"cd")?;
-    disk.set_len(52)?;
-    assert!(rt; is_damaged_at(recover(alloc, &mut disk, KEY), 52, 52));
-    assert!(rt; disk.may_be_used());
-    disk.set_len(0)?;
-    assert!(rt; is_damaged_at(recover(alloc, &mut disk, KEY), 0, 0));
-    Ok(())
-}
+// byte: each is told with the place of the first frame that is none. Each change with the key that the file is recovered under.
+static ROWS: [(Change, u64, Outcome); 6] = [
+    (Change::Stays, KEY + 1, Damaged(Damage { at: 0, len: 76 })),
+    (Change::Stays, KEY, Done),
+    (
+        Change::Put(50, b"dc"),
+        KEY,
+        Damaged(Damage { at: 26, len: 76 }),
+    ),
+    (Change::Put(50, b"cd"), KEY, Done),
+    (Change::End(52), KEY, Damaged(Damage { at: 52, len: 52 })),
+    (Change::End(0), KEY, Damaged(Damage { at: 0, len: 0 })),
+];
 
-fn is_damaged_at(recovered: Result<Recovered, JournalError>, at: usize, len: usize) -> bool {
-    match recovered {
-        Err(JournalError::Damaged(damage)) => damage == Damage { at, len },
-        _ => false,
+// Whether a file can be changed so.
+fn changes(disk: &mut TornDisk, change: &Change) -> bool {
+    match change {
+        Change::Stays => true,
+        Change::Put(at, bytes) => disk.put(*at, bytes),
+        Change::End(len) => disk.may_be_used() && disk.set_len(*len).is_ok(),
     }
 }
 
+static TWO: [Step; 2] = [Step::Append(&[b"ab", b"cd"], Done), Step::Sync(Done)];
+
+// The file of a journal of two frames.
+fn two_frames(rt: &impl Abort, alloc: Global) -> TornDisk {
+    let mut journal = new_journal(rt, TornDisk::sound(alloc), 60);
+    play(rt, alloc, &mut journal, &TWO);
+    journal.into_disk()
+}
+
+#[test]
+fn changed(rt: HostRuntime) {
+    let mut disk = two_frames(&rt, rt.alloc());
+    for (place, (change, key, outcome)) in ROWS.iter().enumerate() {
+        assert!(rt; changes(&mut disk, change), "row {place}");
+        let recovered = recover(rt.alloc(), &mut disk, *key);
+        assert!(rt; outcome_of(recovered) == *outcome, "row {place}");
+    }
+}
+
+// A length and part of a header, and then zeros.
+const TORN: [u8; 32] = [
+    0, 0, 0, 0, 0, 0, 0, 9, 0, 0, 0, 0, 0, 0, 0, 0, 0, 0, 0, 0, 0, 0, 0, 0, 0, 0, 0, 0, 0, 0, 0, 0,
+];
+
 // The whole frames of a file are counted, and a torn tail behind them is no damage.
 #[test]
-fn counted(rt: HostRuntime) -> Result<(), Fail> {
-    let alloc = rt.alloc();
-    let mut file = frames_of(alloc, &[b"ab", b"cde"])?;
-    file.extend_from_slice(&[0, 0, 0, 0, 0, 0, 0, 9, 0, 0, 0, 0, 0, 0, 0, 0])?;
-    file.extend_from_slice(&[0; 16])?;
+fn counted(rt: HostRuntime) {
+    let mut file = frames_of(&rt, rt.alloc(), &[b"ab", b"cde"]);
+    assert!(rt; file.extend_from_slice(&TORN).is_ok());
     let found = whole_frames(KEY, &file);
     assert!(rt; found == Ok(WholeFrames { count: 2, end: 53 }));
-    Ok(())
 }
 
 // A disk of which no journal is opened is given back.
 #[test]
 fn not_opened(rt: HostRuntime) {
-    let alloc = rt.alloc();
-    let Err(not) = Journal::open(alloc, TornDisk::new(alloc, usize::MAX), KEY) else {
+    let Err(not) = Journal::open(rt.alloc(), TornDisk::sound(rt.alloc()), KEY) else {
         panic!(&rt; "an empty file was opened");
     };
-    assert!(rt; matches!(not.why, JournalError::Damaged(Damage { at: 0, len: 0 })));
+    assert!(rt; reason(&not.why) == Damaged(Damage { at: 0, len: 0 }));
     assert!(rt; not.disk.bytes().is_empty());
 }

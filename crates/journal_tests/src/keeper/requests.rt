@@ -1,6 +1,5 @@
 //! What desks are asked here.
 use std::process::Abort;
-use std::test::Fail;
 use tus_shared::Turn;
 use tus_steps::{Field, Method, Request, TusFields};
 use tus_text::read_path;
@@ -17,19 +16,26 @@ const NUMBERS: Numbers = Numbers {
 };
 
 /// The settings of acme with all blocks.
-pub(crate) fn settings() -> Result<Settings, Fail> {
-    Ok(Settings::new(NUMBERS, &[(b"acme", 64)])?)
+pub(crate) fn settings(rt: &impl Abort) -> Settings {
+    let Ok(settings) = Settings::new(NUMBERS, &[(b"acme", 64)]) else {
+        panic!(rt; "no settings");
+    };
+    settings
 }
 
+const LARGE: Numbers = Numbers {
+    blocks: 1_000,
+    block_size: 65_536,
+    max_size: 12 << 20,
+    ..NUMBERS
+};
+
 /// The settings of acme with 50 MiB, and uploads of at most 12 MiB.
-pub(crate) fn large_settings() -> Result<Settings, Fail> {
-    let numbers = Numbers {
-        blocks: 1_000,
-        block_size: 65_536,
-        max_size: 12 << 20,
-        ..NUMBERS
+pub(crate) fn large_settings(rt: &impl Abort) -> Settings {
+    let Ok(settings) = Settings::new(LARGE, &[(b"acme", 1_000)]) else {
+        panic!(rt; "no settings");
     };
-    Ok(Settings::new(numbers, &[(b"acme", 1_000)])?)
+    settings
 }
 
 /// What is asked of acme.

@@ -3,23 +3,22 @@ ghost use Rattle.std.specs.Prelude.{◌≡◌, [], Some};
 ghost use Rattle.journal_file.specs.Journal.{key_of, IsJournal};
 
 use crate::KEY;
-use crate::keeper::requests::{Asked, large_settings, settings, turn};
-use crate::keeper::small::{Ends, Location, is_made_small};
+use crate::keeper::location::{Ends, Location};
+use crate::keeper::requests::{Asked, large_settings, settings};
+use crate::keeper::small::is_made_small;
+use crate::keeper::steps::{Kept, Step, makes, play};
 use crate::torn_disk::TornDisk;
 use journal_file::{Journal, JournalError};
 use journal_frames::{Frames, HEADER_LEN};
-use journal_keeper::{Journalled, KeepFault, Keeper, SharedKeeper, open_journal};
-use sqlite_disk::Fuse;
+use journal_keeper::{Journalled, Keeper, KeeperNumbers, SharedKeeper, open_journal};
 use std::alloc::Global;
 use std::marker::Brand;
 use std::process::Abort;
 use std::sync::Wait;
 use std::sync::ledger::{Blank, Ledger};
-use std::test::Fail;
 use std::time;
-use tus_shared::{Desk, NoGate, Opened, Shared};
-use tus_steps::Reply;
-use upload_book::{Refusal, Settings};
+use tus_shared::{Desk, Opened, Shared};
+use upload_book::Settings;
 
 // The room of a new journal, which is enough for what is kept here.
 const ROOM: usize = 1000;
@@ -30,44 +29,61 @@ enum Scene {
     OneSyncServesBoth,
     RoomIsMade,
     DiskIsNearlyFull { granted: u64 },
-    DiskIsFull,
-    SyncFails,
+    // These steps at the first desk.
+    Steps(&'static [Step]),
     IsLeftAfterACrash,
     IsMadeSmall { ends: Ends },
 }
 
 impl Scene {
-    fn settings(self) -> Result<Settings, Fail> {
+    fn settings(self, rt: &impl Abort) -> Settings {
         match self {
-            Scene::IsMadeSmall { .. } => large_settings(),
-            _ => settings(),
+            Scene::IsMadeSmall { .. } => large_settings(rt),
+            _ => settings(rt),
         }
     }
 }
 
-// Whether a desk makes the change that it is asked for; else it was refused as Memory.
-pub(crate) fn makes<C: Journalled, R: Ledger, M: Ledger, W: Wait + Abort>(
+// Whether what one desk has kept is kept of the other too, which is only told so.
+fn serves_both<C: Journalled, R: Ledger, M: Ledger, W: Wait + Abort + time::Clock>(
     rt: &W,
     shared: &Shared<C, R, M, &W>,
-    desk: &mut Desk<C, R, M>,
-    asked: Asked<'_>,
+    keeper: &SharedKeeper<TornDisk, C>,
+    first: &mut Desk<C, R, M>,
+    second: &mut Desk<C, R, M>,
 ) -> bool {
-    let turn = turn(rt, asked);
-    match desk.answer(rt, shared, &turn.request, turn.now, 0, &NoGate) {
-        Reply::Created { .. } | Reply::Patched { .. } | Reply::Deleted => true,
-        Reply::Refused { refusal, .. } => {
-            assert!(rt; refusal == Refusal::Memory);
-            false
-        }
-        _ => panic!(rt; "another reply"),
+    if first.is_kept() || second.is_kept() || keeper.keep(rt, shared, first).is_err() {
+        return false;
     }
+    if !first.is_kept() || second.is_kept() || keeper.keep(rt, shared, second).is_err() {
+        return false;
+    }
+    second.is_kept()
 }
 
-// What one desk has kept is kept of the other too, which is only told so.
-fn one_sync_serves_both<C: Journalled, R: Ledger, M: Ledger, W: Wait + Abort + time::Clock>(
+// Whether a keeper told of one sync of two records, and of what its file has.
+fn are_of_two(numbers: &KeeperNumbers, file: &[u8]) -> bool {
+    numbers.synced.syncs == 1
+        && numbers.synced.records == 2
+        && count(file) == 2
+        && numbers.file_bytes == file.len() as u64
+        && numbers.bytes == len_of_frames(file)
+}
+
+// Whether a keeper keeps what a desk has seen, and nothing else.
+fn keeps_seen<C: Journalled, R: Ledger, M: Ledger>(
+    keeper: &Keeper<TornDisk, C>,
+    desk: &Desk<C, R, M>,
+) -> bool {
+    let seen = desk.seen_events();
+    let kept = keeper.kept();
+    seen.begins(&kept) && kept.begins(&seen)
+}
+
+// Each of two desks creates an upload.
+fn create_two<C: Journalled, R: Ledger, M: Ledger, W: Wait + Abort>(
     rt: &W,
     shared: &Shared<C, R, M, &W>,
-    keeper: Keeper<Fuse<TornDisk>, C>,
     first: &mut Desk<C, R, M>,
     second: &mut Desk<C, R, M>,
 ) {
@@ -75,94 +91,104 @@ fn one_sync_serves_both<C: Journalled, R: Ledger, M: Ledger, W: Wait + Abort + t
     second.grant(1 << 20);
     assert!(rt; makes(rt, shared, first, Asked::Create));
     assert!(rt; makes(rt, shared, second, Asked::Create));
-    assert!(rt; !first.is_kept() && !second.is_kept());
+}
+
+fn one_sync_serves_both<C: Journalled, R: Ledger, M: Ledger, W: Wait + Abort + time::Clock>(
+    rt: &W,
+    shared: &Shared<C, R, M, &W>,
+    keeper: Keeper<TornDisk, C>,
+    first: &mut Desk<C, R, M>,
+    second: &mut Desk<C, R, M>,
+) {
+    create_two(rt, shared, first, second);
     let keeper = SharedKeeper::new(keeper);
-    assert!(rt; keeper.keep(rt, shared, first).is_ok());
-    assert!(rt; first.is_kept() && !second.is_kept());
-    assert!(rt; keeper.keep(rt, shared, second).is_ok());
-    assert!(rt; second.is_kept());
+    assert!(rt; serves_both(rt, shared, &keeper, first, second));
     let numbers = keeper.numbers(rt);
-    assert!(rt; numbers.synced.syncs == 1 && numbers.synced.records == 2);
     let keeper = keeper.into_keeper();
-    let seen = second.seen_events();
-    assert!(rt; seen.begins(&keeper.kept()) && keeper.kept().begins(&seen));
-    let file = keeper.disk().inner().bytes();
-    assert!(rt; count(file) == 2);
-    assert!(rt; numbers.file_bytes == file.len() as u64);
-    assert!(rt; numbers.bytes == len_of_frames(file));
+    assert!(rt; keeps_seen(&keeper, second));
+    assert!(rt; are_of_two(&numbers, keeper.disk().bytes()));
+}
+
+// How much room a desk of a new journal has, where it asks for so many bytes.
+fn room_for<C: Journalled, R: Ledger, M: Ledger, W: Wait + Abort>(
+    rt: &W,
+    keeper: &SharedKeeper<TornDisk, C>,
+    desk: &mut Desk<C, R, M>,
+    location: &Location,
+    bytes: u64,
+) -> u64 {
+    keeper.make_room(rt, desk, bytes, location);
+    desk.room()
 }
 
 // A desk is granted 65,536 bytes and 4 MiB beyond what it asks for, and nothing where it has enough.
 fn room_is_made<C: Journalled, R: Ledger, M: Ledger, W: Wait + Abort>(
     rt: &W,
-    keeper: Keeper<Fuse<TornDisk>, C>,
+    alloc: Global,
+    keeper: Keeper<TornDisk, C>,
     desk: &mut Desk<C, R, M>,
-    location: &Location,
 ) {
     let keeper = SharedKeeper::new(keeper);
-    keeper.make_room(rt, desk, 100, location);
-    assert!(rt; desk.room() == 100 + 65_536 + 4_194_304);
-    keeper.make_room(rt, desk, 4_194_304, location);
-    assert!(rt; desk.room() == 100 + 65_536 + 4_194_304);
+    let location = Location::new(alloc, Ends::Nowhere);
+    assert!(rt; room_for(rt, &keeper, desk, &location, 100) == 100 + 65_536 + 4_194_304);
+    assert!(rt; room_for(rt, &keeper, desk, &location, 4_194_304) == 100 + 65_536 + 4_194_304);
     assert!(rt; !location.was_taken_away());
-    let keeper = keeper.into_keeper();
-    assert!(rt; keeper.disk().inner().bytes().len() > 4_259_940);
+    assert!(rt; keeper.into_keeper().disk().bytes().len() > 4_259_940);
 }
 
 // On a disk without room for 4 MiB ahead a desk is granted this room for 200 bytes of records, and the next one nothing. What
 // stands beside the journal is given up first.
 fn disk_is_nearly_full<C: Journalled, R: Ledger, M: Ledger, W: Wait + Abort>(
     rt: &W,
-    mut keeper: Keeper<Fuse<TornDisk>, C>,
+    alloc: Global,
+    mut keeper: Keeper<TornDisk, C>,
     first: &mut Desk<C, R, M>,
     second: &mut Desk<C, R, M>,
-    location: &Location,
     granted: u64,
 ) {
-    keeper.make_room(first, 200, location);
+    let location = Location::new(alloc, Ends::Nowhere);
+    keeper.make_room(first, 200, &location);
     assert!(rt; first.room() == granted && location.was_taken_away());
-    keeper.make_room(second, 200, location);
+    keeper.make_room(second, 200, &location);
     assert!(rt; second.room() == 0);
 }
 
 // On a full disk no room is granted, and a change is refused. An upload can still be ended, and all is kept.
-fn disk_is_full<C: Journalled, R: Ledger, M: Ledger, W: Wait + Abort + time::Clock>(
-    rt: &W,
-    shared: &Shared<C, R, M, &W>,
-    mut keeper: Keeper<Fuse<TornDisk>, C>,
-    desk: &mut Desk<C, R, M>,
-    location: &Location,
-) {
-    desk.grant(65_536 + 100);
-    assert!(rt; makes(rt, shared, desk, Asked::Create));
-    let room = desk.room();
-    keeper.make_room(desk, 2_000, location);
-    assert!(rt; desk.room() == room);
-    assert!(rt; !makes(rt, shared, desk, Asked::Create));
-    assert!(rt; makes(rt, shared, desk, Asked::Delete(b"/files/acme/1")));
-    assert!(rt; keeper.keep(rt, shared, desk).is_ok());
-    assert!(rt; desk.is_kept() && !keeper.has_failed());
-}
+static FULL_DISK: [Step; 8] = [
+    Step::Grant(65_536 + 100),
+    Step::Makes(Asked::Create),
+    Step::HasNoMoreRoom(2_000),
+    Step::Refuses(Asked::Create),
+    Step::Makes(Asked::Delete(b"/files/acme/1")),
+    Step::Keeps(Kept::Done),
+    Step::IsKept(true),
+    Step::HasFailed(false, 1),
+];
 
 // After a sync that failed the desk is told nothing, and nothing more is kept.
-fn sync_fails<C: Journalled, R: Ledger, M: Ledger, W: Wait + Abort + time::Clock>(
+static SYNC_FAILS: [Step; 6] = [
+    Step::Grant(1 << 20),
+    Step::Makes(Asked::Create),
+    Step::Keeps(Kept::DiskFails),
+    Step::IsKept(false),
+    Step::Keeps(Kept::HasEnded),
+    Step::HasFailed(true, 0),
+];
+
+fn take_steps<C: Journalled, R: Ledger, M: Ledger, W: Wait + Abort + time::Clock>(
     rt: &W,
+    alloc: Global,
     shared: &Shared<C, R, M, &W>,
-    mut keeper: Keeper<Fuse<TornDisk>, C>,
+    mut keeper: Keeper<TornDisk, C>,
     desk: &mut Desk<C, R, M>,
+    steps: &[Step],
 ) {
-    desk.grant(1 << 20);
-    assert!(rt; makes(rt, shared, desk, Asked::Create));
-    let kept = keeper.keep(rt, shared, desk);
-    assert!(rt; matches!(kept, Err(KeepFault::Journal(JournalError::Disk(_)))));
-    assert!(rt; !desk.is_kept() && keeper.has_failed());
-    let again = keeper.keep(rt, shared, desk);
-    assert!(rt; matches!(again, Err(KeepFault::Ended)));
-    assert!(rt; keeper.numbers().synced.syncs == 0);
+    let location = Location::new(alloc, Ends::Nowhere);
+    play(rt, shared, &mut keeper, desk, &location, steps);
 }
 
 // How many records stand in frames under the key, up to ten.
-pub(crate) fn count(frames: &[u8]) -> u64 {
+fn count(frames: &[u8]) -> u64 {
     let mut frames = Frames::new(KEY, frames);
     let mut found: u64 = 0;
     for _ in 0..10 {
@@ -185,32 +211,91 @@ fn len_of_frames(file: &[u8]) -> u64 {
     len
 }
 
+// Two changes that are kept, and one that is not.
+static TWO_OF_THREE: [Step; 5] = [
+    Step::Grant(1 << 20),
+    Step::Makes(Asked::Create),
+    Step::Makes(Asked::Delete(b"/files/acme/1")),
+    Step::Keeps(Kept::Done),
+    Step::Makes(Asked::Create),
+];
+
+// How many records are found after a crash that lost what this seed says.
+fn left_by(rt: &impl Abort, alloc: Global, disk: &TornDisk, seed: u64) -> u64 {
+    let left = disk.after_crash(seed).expect(rt, "memory");
+    let Ok(opened) = open_journal(alloc, left, KEY) else {
+        panic!(rt; "not opened");
+    };
+    count(&opened.frames)
+}
+
+// Whether what a crash leaves is damaged under another key.
+fn is_damaged(rt: &impl Abort, alloc: Global, disk: &TornDisk) -> bool {
+    let left = disk.after_crash(0).expect(rt, "memory");
+    matches!(
+        open_journal(alloc, left, KEY + 1),
+        Err(JournalError::Damaged(_))
+    )
+}
+
+fn assert_two_left(rt: &impl Abort, alloc: Global, disk: &TornDisk) {
+    for seed in 0..3 {
+        assert!(rt; left_by(rt, alloc, disk, seed) == 2);
+    }
+    assert!(rt; is_damaged(rt, alloc, disk));
+}
+
 // After a crash all that was kept is found, whatever else was lost; and nothing under another key.
 fn is_left_after_a_crash<C: Journalled, R: Ledger, M: Ledger, W: Wait + Abort + time::Clock>(
     rt: &W,
     alloc: Global,
     shared: &Shared<C, R, M, &W>,
-    mut keeper: Keeper<Fuse<TornDisk>, C>,
+    mut keeper: Keeper<TornDisk, C>,
     desk: &mut Desk<C, R, M>,
-) -> Result<(), Fail> {
-    desk.grant(1 << 20);
-    assert!(rt; makes(rt, shared, desk, Asked::Create));
-    assert!(rt; makes(rt, shared, desk, Asked::Delete(b"/files/acme/1")));
-    assert!(rt; keeper.keep(rt, shared, desk).is_ok());
-    assert!(rt; makes(rt, shared, desk, Asked::Create));
-    for seed in 0..3 {
-        let left = keeper.disk().inner().after_crash(seed)?;
-        let opened = open_journal(alloc, left, KEY)?;
-        assert!(rt; count(&opened.frames) == 2);
+) {
+    let location = Location::new(alloc, Ends::Nowhere);
+    play(rt, shared, &mut keeper, desk, &location, &TWO_OF_THREE);
+    assert_two_left(rt, alloc, keeper.disk());
+}
+
+// Plays a scene at two desks.
+fn perform<C: Journalled, R: Ledger, M: Ledger, W: Wait + Abort + time::Clock>(
+    rt: &W,
+    alloc: Global,
+    shared: &Shared<C, R, M, &W>,
+    keeper: Keeper<TornDisk, C>,
+    first: &mut Desk<C, R, M>,
+    second: &mut Desk<C, R, M>,
+    scene: Scene,
+) {
+    match scene {
+        Scene::OneSyncServesBoth => one_sync_serves_both(rt, shared, keeper, first, second),
+        Scene::RoomIsMade => room_is_made(rt, alloc, keeper, first),
+        Scene::DiskIsNearlyFull { granted } => {
+            disk_is_nearly_full(rt, alloc, keeper, first, second, granted);
+        }
+        Scene::Steps(steps) => take_steps(rt, alloc, shared, keeper, first, steps),
+        Scene::IsLeftAfterACrash => is_left_after_a_crash(rt, alloc, shared, keeper, first),
+        Scene::IsMadeSmall { ends } => is_made_small(rt, alloc, shared, keeper, first, ends),
     }
-    let left = keeper.disk().inner().after_crash(0)?;
-    let other = open_journal(alloc, left, KEY + 1);
-    assert!(rt; matches!(other, Err(JournalError::Damaged(_))));
-    Ok(())
+}
+
+// The same where the desks stand in a list.
+fn perform_at<C: Journalled, R: Ledger, M: Ledger, W: Wait + Abort + time::Clock>(
+    rt: &W,
+    alloc: Global,
+    shared: &Shared<C, R, M, &W>,
+    keeper: Keeper<TornDisk, C>,
+    mut desks: Vec<Desk<C, R, M>>,
+    scene: Scene,
+) {
+    let mut second = desks.pop().expect(rt, "two desks");
+    let mut first = desks.pop().expect(rt, "two desks");
+    perform(rt, alloc, shared, keeper, &mut first, &mut second, scene);
 }
 
 // Plays a scene at two desks of a new store, over an empty journal.
-fn play<C: Journalled, R: Ledger, M: Ledger, W: Wait + Abort + time::Clock>(
+fn play_scene<C: Journalled, R: Ledger, M: Ledger, W: Wait + Abort + time::Clock>(
     rt: &W,
     alloc: Global,
     settings: Settings,
@@ -218,9 +303,9 @@ fn play<C: Journalled, R: Ledger, M: Ledger, W: Wait + Abort + time::Clock>(
     released: Blank,
     made: Blank,
     events: Opened,
-    journal: Journal<Fuse<TornDisk>>,
+    journal: Journal<TornDisk>,
     scene: Scene,
-) -> Result<(), Fail>
+)
     requires settings { settings ≡ C.settings }
     requires desks { C.desks ≡ 2 }
     requires charged { (charged.name ≡ C.name) × (charged.parts ≡ C.parts) × (C.parts ≡ 16) }
@@ -232,8 +317,8 @@ fn play<C: Journalled, R: Ledger, M: Ledger, W: Wait + Abort + time::Clock>(
     requires empty { IsJournal journal [] [] }
 {
     let durable = events.seen.again();
-    let keeper = Keeper::<Fuse<TornDisk>, C>::new(alloc, journal, durable);
-    let (shared, mut desks) = Shared::<C, R, M, &W>::open(
+    let keeper = Keeper::<TornDisk, C>::new(alloc, journal, durable);
+    let opened = Shared::<C, R, M, &W>::open(
         rt,
         alloc,
         settings,
@@ -243,28 +328,11 @@ fn play<C: Journalled, R: Ledger, M: Ledger, W: Wait + Abort + time::Clock>(
         made,
         events,
         Some(KEY),
-    )?;
-    let mut second = desks.pop().ok_or("a desk")?;
-    let mut first = desks.pop().ok_or("a desk")?;
-    let location = Location::new(alloc, Ends::Nowhere);
-    match scene {
-        Scene::OneSyncServesBoth => {
-            one_sync_serves_both(rt, &shared, keeper, &mut first, &mut second);
-        }
-        Scene::RoomIsMade => room_is_made(rt, keeper, &mut first, &location),
-        Scene::DiskIsNearlyFull { granted } => {
-            disk_is_nearly_full(rt, keeper, &mut first, &mut second, &location, granted);
-        }
-        Scene::DiskIsFull => disk_is_full(rt, &shared, keeper, &mut first, &location),
-        Scene::SyncFails => sync_fails(rt, &shared, keeper, &mut first),
-        Scene::IsLeftAfterACrash => {
-            is_left_after_a_crash(rt, alloc, &shared, keeper, &mut first)?;
-        }
-        Scene::IsMadeSmall { ends } => {
-            is_made_small(rt, alloc, &shared, keeper, &mut first, ends)?;
-        }
-    }
-    Ok(())
+    );
+    let Ok((shared, desks)) = opened else {
+        panic!(rt; "no store");
+    };
+    perform_at(rt, alloc, &shared, keeper, desks, scene);
 }
 
 // The scene over a disk with room for so many bytes, that is frozen after so many calls.
@@ -274,91 +342,78 @@ fn play_at<W: Wait + Abort + time::Clock>(
     all: usize,
     calls: u64,
     scene: Scene,
-) -> Result<(), Fail> {
-    let disk = Fuse::new(TornDisk::new(alloc, all), calls);
-    let journal = Journal::create(disk, KEY, ROOM)?;
-    play::<Brand, Brand, Brand, W>(
+) {
+    let Ok(journal) = Journal::create(TornDisk::new(alloc, all, calls), KEY, ROOM) else {
+        panic!(rt; "no journal");
+    };
+    play_scene::<Brand, Brand, Brand, W>(
         rt,
         alloc,
-        scene.settings()?,
+        scene.settings(rt),
         Blank::new(16),
         Blank::new(16),
         Blank::new(16),
         Opened::new(),
         journal,
         scene,
-    )
+    );
+}
+
+// The scene over a disk that neither fills up nor fails.
+fn play_sound<W: Wait + Abort + time::Clock>(rt: &W, alloc: Global, scene: Scene) {
+    play_at(rt, alloc, usize::MAX, u64::MAX, scene);
 }
 
 #[test]
-fn one_sync_serves_two_desks(rt: HostRuntime) -> Result<(), Fail> {
-    play_at(
-        &rt,
-        rt.alloc(),
-        usize::MAX,
-        u64::MAX,
-        Scene::OneSyncServesBoth,
-    )
+fn one_sync_serves_two_desks(rt: HostRuntime) {
+    play_sound(&rt, rt.alloc(), Scene::OneSyncServesBoth);
 }
 
 #[test]
-fn room_is_granted(rt: HostRuntime) -> Result<(), Fail> {
-    play_at(&rt, rt.alloc(), usize::MAX, u64::MAX, Scene::RoomIsMade)
+fn room_is_granted(rt: HostRuntime) {
+    play_sound(&rt, rt.alloc(), Scene::RoomIsMade);
 }
 
 // So many bytes are left for records, and the room that a desk is granted then.
+static LEFT: [(usize, u64); 4] = [
+    (65_736, 65_736),
+    (65_735, 65_536),
+    (65_536, 65_536),
+    (65_535, 0),
+];
+
 #[test]
-fn a_nearly_full_disk(rt: HostRuntime) -> Result<(), Fail> {
-    for (left, granted) in [
-        (65_736, 65_736),
-        (65_735, 65_536),
-        (65_536, 65_536),
-        (65_535, 0),
-    ] {
-        play_at(
-            &rt,
-            rt.alloc(),
-            left + 16,
-            u64::MAX,
-            Scene::DiskIsNearlyFull { granted },
-        )?;
+fn a_nearly_full_disk(rt: HostRuntime) {
+    for (left, granted) in &LEFT {
+        let scene = Scene::DiskIsNearlyFull { granted: *granted };
+        play_at(&rt, rt.alloc(), left + 16, u64::MAX, scene);
     }
-    Ok(())
-}
-
-// A journal that is made small, on a disk that never fails.
-fn play_small<W: Wait + Abort + time::Clock>(
-    rt: &W,
-    alloc: Global,
-    ends: Ends,
-) -> Result<(), Fail> {
-    play_at(rt, alloc, usize::MAX, u64::MAX, Scene::IsMadeSmall { ends })
 }
 
 #[test]
-fn a_full_disk(rt: HostRuntime) -> Result<(), Fail> {
-    play_at(&rt, rt.alloc(), ROOM + 16, u64::MAX, Scene::DiskIsFull)
+fn a_full_disk(rt: HostRuntime) {
+    play_at(
+        &rt,
+        rt.alloc(),
+        ROOM + 16,
+        u64::MAX,
+        Scene::Steps(&FULL_DISK),
+    );
 }
 
 // Making the journal takes three calls, and keeping what waits a write and a sync.
 #[test]
-fn a_sync_that_fails(rt: HostRuntime) -> Result<(), Fail> {
-    play_at(&rt, rt.alloc(), usize::MAX, 4, Scene::SyncFails)
+fn a_sync_that_fails(rt: HostRuntime) {
+    play_at(&rt, rt.alloc(), usize::MAX, 4, Scene::Steps(&SYNC_FAILS));
 }
 
 #[test]
-fn what_was_kept_is_left(rt: HostRuntime) -> Result<(), Fail> {
-    play_at(
-        &rt,
-        rt.alloc(),
-        usize::MAX,
-        u64::MAX,
-        Scene::IsLeftAfterACrash,
-    )
+fn what_was_kept_is_left(rt: HostRuntime) {
+    play_sound(&rt, rt.alloc(), Scene::IsLeftAfterACrash);
 }
 
 #[test]
-fn a_journal_is_made_small(rt: HostRuntime) -> Result<(), Fail> {
+fn a_journal_is_made_small(rt: HostRuntime) {
     for ends in [
         Ends::InPlace,
         Ends::Beside,
@@ -366,16 +421,15 @@ fn a_journal_is_made_small(rt: HostRuntime) -> Result<(), Fail> {
         Ends::Nowhere,
         Ends::Full,
     ] {
-        play_small(&rt, rt.alloc(), ends)?;
+        play_sound(&rt, rt.alloc(), Scene::IsMadeSmall { ends });
     }
-    Ok(())
 }
 
 // A new journal asks for the length of its file, writes and syncs a slice, and then writes zeros and syncs them.
 #[test]
-fn a_new_journal_whose_disk_fails(rt: HostRuntime) -> Result<(), Fail> {
+fn a_new_journal_whose_disk_fails(rt: HostRuntime) {
     for calls in 0..14 {
-        play_small(&rt, rt.alloc(), Ends::FailsAfter(calls))?;
+        let ends = Ends::FailsAfter(calls);
+        play_sound(&rt, rt.alloc(), Scene::IsMadeSmall { ends });
     }
-    Ok(())
 }

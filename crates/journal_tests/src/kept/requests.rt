@@ -1,12 +1,9 @@
 //! A script of forty changes, five times eight: an upload of acme, created with two bytes and patched twice; a partial one, a
 //! final one of it, and the end of the partial one; one whose length is told later; and the end of the first.
-use kept_book::{KeepFault, KeptBook};
-use sqlite_disk::Disk;
-use std::alloc::{AllocError, Global};
 use std::process::Abort;
-use tus_steps::{Field, Method, PlacedReply, Reply, Request, TusFields};
+use tus_steps::{Field, Method, Request, TusFields};
 use tus_text::read_path;
-use upload_book::{Book, Moment, Numbers, Settings};
+use upload_book::{Moment, Numbers, Settings};
 
 /// How many changes the script has.
 pub(crate) const CHANGES: u64 = 40;
@@ -131,37 +128,48 @@ fn final_of(time: u64) -> TusFields<Field<'static>> {
     }
 }
 
-/// Answers the change of this number on a book that is not kept.
-pub(crate) fn answer_plain(
-    rt: &impl Abort,
-    alloc: Global,
-    book: &mut Book,
-    number: u64,
-) -> Result<(), AllocError> {
-    let path = path_of(alloc, number)?;
-    let reply = tus_steps::answer(book, &request(number, path.as_bytes()), moment(rt));
-    assert!(rt; !matches!(reply, Reply::Refused { .. }));
-    Ok(())
-}
+// The uploads of acme, by their ids from 1.
+static UPLOADS: [&[u8]; 20] = [
+    b"/files/acme/1",
+    b"/files/acme/2",
+    b"/files/acme/3",
+    b"/files/acme/4",
+    b"/files/acme/5",
+    b"/files/acme/6",
+    b"/files/acme/7",
+    b"/files/acme/8",
+    b"/files/acme/9",
+    b"/files/acme/10",
+    b"/files/acme/11",
+    b"/files/acme/12",
+    b"/files/acme/13",
+    b"/files/acme/14",
+    b"/files/acme/15",
+    b"/files/acme/16",
+    b"/files/acme/17",
+    b"/files/acme/18",
+    b"/files/acme/19",
+    b"/files/acme/20",
+];
 
-/// Answers the change of this number.
-pub(crate) fn answer<D: Disk>(
-    rt: &impl Abort,
-    alloc: Global,
-    kept: &mut KeptBook<D>,
-    number: u64,
-    reply: &mut PlacedReply,
-) -> Result<Result<(), KeepFault>, AllocError> {
-    let path = path_of(alloc, number)?;
-    Ok(kept.answer(&request(number, path.as_bytes()), moment(rt), reply))
-}
-
-// The path of the change of this number.
-fn path_of(alloc: Global, number: u64) -> Result<String, AllocError> {
-    let first = number / 8 * 4 + 1;
-    match number % 8 {
-        0 | 3 | 4 | 6 => String::from_str(alloc, "/files/acme"),
-        5 => format!(in alloc; "/files/acme/{}", first + 1),
-        _ => format!(in alloc; "/files/acme/{first}"),
+fn upload(place: u64) -> &'static [u8] {
+    match UPLOADS.get(place as usize) {
+        Some(path) => path,
+        None => b"",
     }
+}
+
+// The path of the change of this number. Each eight changes make four uploads.
+fn path_of(number: u64) -> &'static [u8] {
+    let first = number / 8 * 4;
+    match number % 8 {
+        0 | 3 | 4 | 6 => b"/files/acme",
+        5 => upload(first + 1),
+        _ => upload(first),
+    }
+}
+
+/// The change of this number.
+pub(crate) fn change(number: u64) -> Request<'static> {
+    request(number, path_of(number))
 }

@@ -1,8 +1,8 @@
 //! What is seen of a book, and of a plain one after the first changes of the script.
-use crate::kept::requests::{CHANGES, answer_plain, moment, settings};
+use crate::kept::requests::{CHANGES, change, moment, settings};
 use std::alloc::Global;
 use std::process::Abort;
-use std::test::Fail;
+use tus_steps::{Reply, answer};
 use upload_book::{Book, Name};
 
 /// What was charged and released, and how far each of the twenty uploads is, if it is there.
@@ -30,14 +30,37 @@ pub(crate) fn seen_of(rt: &impl Abort, book: &Book) -> Seen {
     }
 }
 
-/// What is seen after none, one, two and so on of the changes.
-pub(crate) fn all_seen(rt: &impl Abort, alloc: Global) -> Result<Vec<Seen>, Fail> {
-    let mut book = Book::new(alloc, settings(rt))?;
-    let mut all = Vec::new(alloc);
-    all.push(seen_of(rt, &book))?;
-    for number in 0..CHANGES {
-        answer_plain(rt, alloc, &mut book, number)?;
-        all.push(seen_of(rt, &book))?;
+// Makes the change of this number in a plain book.
+fn make(rt: &impl Abort, book: &mut Book, number: u64) {
+    let reply = answer(book, &change(number), moment(rt));
+    assert!(rt; !matches!(reply, Reply::Refused { .. }));
+}
+
+fn new_book(rt: &impl Abort, alloc: Global) -> Book {
+    Book::new(alloc, settings(rt)).expect(rt, "memory")
+}
+
+/// What is seen of a plain book after the first so many changes.
+pub(crate) fn seen_after(rt: &impl Abort, alloc: Global, changes: u64) -> Seen {
+    let mut book = new_book(rt, alloc);
+    for number in 0..changes {
+        make(rt, &mut book, number);
     }
-    Ok(all)
+    seen_of(rt, &book)
+}
+
+// Makes the changes, and puts what is seen behind each.
+fn put_seen(rt: &impl Abort, book: &mut Book, all: &mut Vec<Seen>) {
+    for number in 0..CHANGES {
+        make(rt, book, number);
+        assert!(rt; all.push(seen_of(rt, book)).is_ok());
+    }
+}
+
+/// What is seen after none, one, two and so on of the changes.
+pub(crate) fn all_seen(rt: &impl Abort, alloc: Global) -> Vec<Seen> {
+    let mut book = new_book(rt, alloc);
+    let mut all = vec![in alloc; seen_of(rt, &book)].expect(rt, "memory");
+    put_seen(rt, &mut book, &mut all);
+    all
 }

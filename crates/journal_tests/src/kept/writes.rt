@@ -1,94 +1,67 @@
 //! What is written: a record of each change, and nothing for what changes nothing.
-use crate::KEY;
-use crate::kept::requests::{CHANGES, answer, request, settings};
-use crate::kept::seen::{all_seen, seen_of};
+use crate::kept::books::{Answer, new_book, open_book};
+use crate::kept::requests::{moment, request};
+use crate::kept::seen::{seen_after, seen_of};
+use crate::kept::steps::{Step, play};
 use crate::torn_disk::TornDisk;
 use kept_book::{KeptBook, answer_all};
 use std::alloc::Global;
 use std::process::Abort;
-use std::test::Fail;
-use tus_steps::{Method, PlacedReply, Reply, ReplyKind, Request};
-use upload_book::Moment;
+use tus_steps::Reply;
+use upload_book::Refusal;
 
-fn book(rt: &impl Abort, alloc: Global) -> KeptBook<TornDisk> {
-    let disk = TornDisk::new(alloc, usize::MAX);
-    let Ok(kept) = KeptBook::create(alloc, settings(rt), disk, KEY, 4000) else {
-        panic!(rt; "not made");
-    };
+// A book with the first change of the script.
+fn with_upload(rt: &impl Abort, alloc: Global) -> KeptBook<TornDisk> {
+    let mut kept = new_book(rt, alloc, TornDisk::sound(alloc), 4000);
+    play(rt, alloc, &mut kept, &[Step::Change(0, Answer::Created)]);
     kept
 }
 
-fn at(rt: &impl Abort, secs: u64) -> Moment {
-    let Some(moment) = Moment::new(secs) else {
-        panic!(rt; "no moment");
-    };
-    moment
-}
+// A change that is refused, a HEAD, and a sweep that ends nothing.
+static NOTHING: [Step; 3] = [
+    Step::Change(2, Answer::Refused(Refusal::Offset, Some(4600))),
+    Step::Head(b"/files/acme/1", Answer::Head(2)),
+    Step::Sweeps(4599, 0),
+];
 
-// The bytes of the file now.
-fn file(alloc: Global, kept: &KeptBook<TornDisk>) -> Result<Vec<u8>, Fail> {
-    Ok(kept.disk().bytes().to_vec(alloc)?)
-}
-
-// A change that is refused, a HEAD and a sweep that ends nothing.
 #[test]
-fn nothing_is_written(rt: HostRuntime) -> Result<(), Fail> {
-    let mut kept = book(&rt, rt.alloc());
-    let mut reply = PlacedReply::new();
-    assert!(rt; answer(&rt, rt.alloc(), &mut kept, 0, &mut reply)?.is_ok());
-    let before = file(rt.alloc(), &kept)?;
-    assert!(rt; answer(&rt, rt.alloc(), &mut kept, 2, &mut reply)?.is_ok());
-    assert!(rt; matches!(reply.kind, ReplyKind::Refused { .. }));
-    let head = Request {
-        method: Method::Head,
-        ..request(1, b"/files/acme/1")
-    };
-    assert!(rt; kept.answer(&head, at(&rt, 1000), &mut reply).is_ok());
-    assert!(rt; matches!(reply.kind, ReplyKind::Head));
-    let Ok(Some(swept)) = kept.sweep(at(&rt, 4599)) else {
-        panic!(&rt; "not swept");
-    };
-    assert!(rt; swept.uploads == 0);
+fn nothing_is_written(rt: HostRuntime) {
+    let mut kept = with_upload(&rt, rt.alloc());
+    let before = kept.disk().bytes().to_vec(rt.alloc()).expect(&rt, "memory");
+    play(&rt, rt.alloc(), &mut kept, &NOTHING);
     assert!(rt; kept.disk().bytes() == before.as_slice());
-    Ok(())
 }
+
+static SWEEP: [Step; 1] = [Step::Sweeps(4600, 1)];
 
 // A sweep that ends an upload is kept.
 #[test]
-fn a_sweep_is_written(rt: HostRuntime) -> Result<(), Fail> {
-    let mut kept = book(&rt, rt.alloc());
-    let mut reply = PlacedReply::new();
-    assert!(rt; answer(&rt, rt.alloc(), &mut kept, 0, &mut reply)?.is_ok());
-    let Ok(Some(swept)) = kept.sweep(at(&rt, 4600)) else {
-        panic!(&rt; "not swept");
-    };
-    assert!(rt; swept.uploads == 1);
+fn a_sweep_is_written(rt: HostRuntime) {
+    let mut kept = with_upload(&rt, rt.alloc());
+    play(&rt, rt.alloc(), &mut kept, &SWEEP);
     let now = seen_of(&rt, kept.book());
-    let Ok(kept) = KeptBook::open(rt.alloc(), settings(&rt), kept.into_disk(), KEY) else {
-        panic!(&rt; "not opened");
-    };
-    assert!(rt; seen_of(&rt, kept.book()) == now);
-    Ok(())
+    let opened = open_book(&rt, rt.alloc(), kept.into_disk());
+    assert!(rt; seen_of(&rt, opened.book()) == now);
+}
+
+// Whether two requests are answered in a row, the second with four bytes.
+fn answers_two(rt: &impl Abort, alloc: Global, kept: &mut KeptBook<TornDisk>) -> bool {
+    let turns = [
+        (request(0, b"/files/acme"), moment(rt)),
+        (request(1, b"/files/acme/1"), moment(rt)),
+    ];
+    let answered = answer_all(alloc, kept, &turns).expect(rt, "memory");
+    answered.fault.is_none()
+        && matches!(
+            answered.replies.get(1),
+            Some(Reply::Patched { offset: 4, .. })
+        )
 }
 
 // Some requests in a row.
 #[test]
-fn a_session(rt: HostRuntime) -> Result<(), Fail> {
-    let all = all_seen(&rt, rt.alloc())?;
-    assert!(rt; all.len() as u64 == CHANGES + 1);
-    let mut kept = book(&rt, rt.alloc());
-    let turns = [
-        (request(0, b"/files/acme"), at(&rt, 1000)),
-        (request(1, b"/files/acme/1"), at(&rt, 1000)),
-    ];
-    let answered = answer_all(rt.alloc(), &mut kept, &turns)?;
-    assert!(rt; answered.fault.is_none());
-    assert!(rt;
-        matches!(
-            answered.replies.get(1),
-            Some(Reply::Patched { offset: 4, .. })
-        )
-    );
-    assert!(rt; all.get(2) == Some(&seen_of(&rt, kept.book())));
-    Ok(())
+fn a_session(rt: HostRuntime) {
+    let mut kept = new_book(&rt, rt.alloc(), TornDisk::sound(rt.alloc()), 4000);
+    assert!(rt; answers_two(&rt, rt.alloc(), &mut kept));
+    assert!(rt; seen_of(&rt, kept.book()) == seen_after(&rt, rt.alloc(), 2));
 }

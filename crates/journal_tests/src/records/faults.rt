@@ -2,7 +2,6 @@
 use journal_records::{PARTS_MAX, PartIds, Segments, read_record};
 use std::alloc::Global;
 use std::process::Abort;
-use std::test::Fail;
 
 // Whether the bytes are a record.
 fn is_record(bytes: &[u8]) -> bool {
@@ -11,117 +10,146 @@ fn is_record(bytes: &[u8]) -> bool {
     read_record(bytes, &mut parts, &mut segments).is_some()
 }
 
-fn assert_none(rt: &impl Abort, bytes: &[u8]) {
-    assert!(rt; !is_record(bytes), "{bytes:?}");
+// Bytes that are a record, each beside some that are not.
+static RECORDS: [&[u8]; 4] = [
+    // the last second of the year 9999
+    &[0, 0, 0, 58, 255, 244, 65, 127, 4],
+    // a DELETE, a next id and totals
+    &[0, 0, 0, 0, 0, 0, 0, 0, 3, 0, 0, 0, 0, 0, 0, 0, 0, 1],
+    &[0, 0, 0, 0, 0, 0, 0, 0, 6, 0, 0, 0, 0, 0, 0, 0, 0, 1],
+    &[0, 0, 0, 0, 0, 0, 0, 0, 7, 0, 0, 0, 0, 0, 0, 0, 0],
+];
+
+static NO_RECORDS: [&[u8]; 9] = [
+    // the next second, one of seven bytes, and none
+    &[0, 0, 0, 58, 255, 244, 65, 128, 4],
+    &[0, 0, 0, 0, 0, 0, 1],
+    &[],
+    // no kind, and one past the greatest
+    &[0, 0, 0, 0, 0, 0, 0, 0],
+    &[0, 0, 0, 0, 0, 0, 0, 0, 8],
+    // a byte behind a sweep, a DELETE, a next id and totals
+    &[0, 0, 0, 0, 0, 0, 0, 0, 4, 0],
+    &[0, 0, 0, 0, 0, 0, 0, 0, 3, 0, 0, 0, 0, 0, 0, 0, 0, 1, 0],
+    &[0, 0, 0, 0, 0, 0, 0, 0, 6, 0, 0, 0, 0, 0, 0, 0, 0, 1, 0],
+    &[0, 0, 0, 0, 0, 0, 0, 0, 7, 0, 0, 0, 0, 0, 0, 0, 0, 0],
+];
+
+#[test]
+fn records(rt: HostRuntime) {
+    for (place, bytes) in RECORDS.iter().enumerate() {
+        assert!(rt; is_record(bytes), "row {place}");
+    }
 }
 
 #[test]
-fn moments(rt: HostRuntime) {
-    // the last second of the year 9999, and the next
-    assert!(rt; is_record(&[0, 0, 0, 58, 255, 244, 65, 127, 4]));
-    assert_none(&rt, &[0, 0, 0, 58, 255, 244, 65, 128, 4]);
-    assert_none(&rt, &[0, 0, 0, 0, 0, 0, 1]);
-    assert_none(&rt, b"");
+fn no_records(rt: HostRuntime) {
+    for (place, bytes) in NO_RECORDS.iter().enumerate() {
+        assert!(rt; !is_record(bytes), "row {place}");
+    }
 }
 
-#[test]
-fn kinds(rt: HostRuntime) {
-    assert_none(&rt, &[0, 0, 0, 0, 0, 0, 0, 0]);
-    assert_none(&rt, &[0, 0, 0, 0, 0, 0, 0, 0, 8]);
-    // a byte behind a sweep, and behind a DELETE
-    assert_none(&rt, &[0, 0, 0, 0, 0, 0, 0, 0, 4, 0]);
-    assert!(rt; is_record(&[0, 0, 0, 0, 0, 0, 0, 0, 3, 0, 0, 0, 0, 0, 0, 0, 0, 1]));
-    assert_none(
-        &rt,
-        &[0, 0, 0, 0, 0, 0, 0, 0, 3, 0, 0, 0, 0, 0, 0, 0, 0, 1, 0],
-    );
+// Puts bytes behind others.
+fn put(rt: &impl Abort, out: &mut Vec<u8>, bytes: &[u8]) {
+    assert!(rt; out.extend_from_slice(bytes).is_ok());
 }
 
 // A PATCH of the upload 0/0 at 0 with these fields behind its offset.
-fn is_patch(alloc: Global, fields: &[u8]) -> Result<bool, Fail> {
-    let mut bytes = Vec::from_slice(alloc, &[0; 8])?;
-    bytes.push(1)?;
-    bytes.extend_from_slice(&[0; 17])?;
-    bytes.extend_from_slice(fields)?;
-    Ok(is_record(&bytes))
+fn is_patch(rt: &impl Abort, alloc: Global, fields: &[u8]) -> bool {
+    let mut bytes = Vec::new(alloc);
+    put(rt, &mut bytes, &[0; 8]);
+    put(rt, &mut bytes, &[1]);
+    put(rt, &mut bytes, &[0; 17]);
+    put(rt, &mut bytes, fields);
+    is_record(&bytes)
 }
 
-#[test]
-fn fields_of_a_patch(rt: HostRuntime) -> Result<(), Fail> {
-    assert!(rt; is_patch(rt.alloc(), &[0, 0, 0])?);
+static NO_PATCHES: [&[u8]; 8] = [
     // no length, no type, no checksum
-    assert!(rt; !is_patch(rt.alloc(), &[])?);
-    assert!(rt; !is_patch(rt.alloc(), &[0])?);
-    assert!(rt; !is_patch(rt.alloc(), &[0, 0])?);
+    &[],
+    &[0],
+    &[0, 0],
     // no such length, no such type, no such checksum
-    assert!(rt; !is_patch(rt.alloc(), &[2, 0, 0])?);
-    assert!(rt; !is_patch(rt.alloc(), &[0, 2, 0])?);
-    assert!(rt; !is_patch(rt.alloc(), &[0, 0, 3])?);
+    &[2, 0, 0],
+    &[0, 2, 0],
+    &[0, 0, 3],
     // a length of seven bytes, a digest of nineteen
-    assert!(rt; !is_patch(rt.alloc(), &[1, 0, 0, 0, 0, 0, 0, 0])?);
-    assert!(rt;
-        !is_patch(
-            rt.alloc(),
-            &[
-                0, 0, 1, 0, 0, 0, 0, 0, 0, 0, 0, 0, 0, 0, 0, 0, 0, 0, 0, 0, 0, 0
-            ]
-        )?
-    );
-    Ok(())
+    &[1, 0, 0, 0, 0, 0, 0, 0],
+    &[
+        0, 0, 1, 0, 0, 0, 0, 0, 0, 0, 0, 0, 0, 0, 0, 0, 0, 0, 0, 0, 0, 0,
+    ],
+];
+
+#[test]
+fn fields_of_a_patch(rt: HostRuntime) {
+    assert!(rt; is_patch(&rt, rt.alloc(), &[0, 0, 0]));
+    for (place, fields) in NO_PATCHES.iter().enumerate() {
+        assert!(rt; !is_patch(&rt, rt.alloc(), fields), "row {place}");
+    }
 }
 
 // A concatenation of so many parts of other tenants, without texts.
-fn is_concatenation(alloc: Global, parts: u8) -> Result<bool, Fail> {
-    let mut bytes = Vec::from_slice(alloc, &[0; 8])?;
-    bytes.extend_from_slice(&[2, 0, 0, 0, 0, 0, 0, 0, 0, parts])?;
+fn is_concatenation(rt: &impl Abort, alloc: Global, parts: u8) -> bool {
+    let mut bytes = Vec::new(alloc);
+    put(rt, &mut bytes, &[0; 8]);
+    put(rt, &mut bytes, &[2, 0, 0, 0, 0, 0, 0, 0, 0, parts]);
     for _ in 0..parts {
-        bytes.push(0)?;
+        put(rt, &mut bytes, &[0]);
     }
-    bytes.extend_from_slice(&[0; 8])?;
-    Ok(is_record(&bytes))
+    put(rt, &mut bytes, &[0; 8]);
+    is_record(&bytes)
 }
 
 #[test]
-fn parts(rt: HostRuntime) -> Result<(), Fail> {
+fn parts(rt: HostRuntime) {
     assert!(rt; PARTS_MAX == 32);
-    assert!(rt; is_concatenation(rt.alloc(), 0)?);
-    assert!(rt; is_concatenation(rt.alloc(), 32)?);
-    assert!(rt; !is_concatenation(rt.alloc(), 33)?);
-    Ok(())
+    assert!(rt; is_concatenation(&rt, rt.alloc(), 0));
+    assert!(rt; is_concatenation(&rt, rt.alloc(), 32));
+    assert!(rt; !is_concatenation(&rt, rt.alloc(), 33));
 }
 
 // An upload of the first tenant that is put back with so many segments, each of the origin 0 and without bytes, and with
 // these fields behind its id. Of its texts only `Upload-Metadata` stands behind them, which is empty.
-fn is_back(alloc: Global, segments: u8, fields: &[u8]) -> Result<bool, Fail> {
-    let mut bytes = Vec::from_slice(alloc, &[0; 8])?;
-    bytes.extend_from_slice(&[5, 0, 0, 0, 0, 0, 0, 0, 0, segments])?;
+fn is_back(rt: &impl Abort, alloc: Global, segments: u8, fields: &[u8]) -> bool {
+    let mut bytes = Vec::new(alloc);
+    put(rt, &mut bytes, &[0; 8]);
+    put(rt, &mut bytes, &[5, 0, 0, 0, 0, 0, 0, 0, 0, segments]);
     for _ in 0..segments {
-        bytes.extend_from_slice(&[0; 9])?;
+        put(rt, &mut bytes, &[0; 9]);
     }
-    bytes.extend_from_slice(&[0; 8])?;
-    bytes.extend_from_slice(fields)?;
-    bytes.extend_from_slice(&[0; 8])?;
-    Ok(is_record(&bytes))
+    put(rt, &mut bytes, &[0; 8]);
+    put(rt, &mut bytes, fields);
+    put(rt, &mut bytes, &[0; 8]);
+    is_record(&bytes)
 }
 
 #[test]
-fn pieces(rt: HostRuntime) -> Result<(), Fail> {
-    assert!(rt; is_back(rt.alloc(), 32, &[2, 0, 0])?);
-    assert!(rt; !is_back(rt.alloc(), 33, &[2, 0, 0])?);
+fn segments(rt: HostRuntime) {
+    assert!(rt; is_back(&rt, rt.alloc(), 32, &[2, 0, 0]));
+    assert!(rt; !is_back(&rt, rt.alloc(), 33, &[2, 0, 0]));
+}
+
+static NOT_BACK: [&[u8]; 4] = [
     // no such kind, length or end
-    assert!(rt; !is_back(rt.alloc(), 1, &[3, 0, 0])?);
-    assert!(rt; !is_back(rt.alloc(), 1, &[0, 2, 0])?);
-    assert!(rt; !is_back(rt.alloc(), 1, &[0, 0, 2])?);
-    // an end at the last second of the year 9999, and at the next
-    assert!(rt; is_back(rt.alloc(), 1, &[0, 0, 1, 0, 0, 0, 58, 255, 244, 65, 127])?);
-    assert!(rt; !is_back(rt.alloc(), 1, &[0, 0, 1, 0, 0, 0, 58, 255, 244, 65, 128])?);
-    // a byte behind a next id, and behind totals
-    assert!(rt; is_record(&[0, 0, 0, 0, 0, 0, 0, 0, 6, 0, 0, 0, 0, 0, 0, 0, 0, 1]));
-    assert_none(
-        &rt,
-        &[0, 0, 0, 0, 0, 0, 0, 0, 6, 0, 0, 0, 0, 0, 0, 0, 0, 1, 0],
+    &[3, 0, 0],
+    &[0, 2, 0],
+    &[0, 0, 2],
+    // an end at the second after the last of the year 9999
+    &[0, 0, 1, 0, 0, 0, 58, 255, 244, 65, 128],
+];
+
+#[test]
+fn fields_of_an_upload(rt: HostRuntime) {
+    // an end at the last second of the year 9999
+    assert!(rt;
+        is_back(
+            &rt,
+            rt.alloc(),
+            1,
+            &[0, 0, 1, 0, 0, 0, 58, 255, 244, 65, 127]
+        )
     );
-    assert!(rt; is_record(&[0, 0, 0, 0, 0, 0, 0, 0, 7, 0, 0, 0, 0, 0, 0, 0, 0]));
-    assert_none(&rt, &[0, 0, 0, 0, 0, 0, 0, 0, 7, 0, 0, 0, 0, 0, 0, 0, 0, 0]);
-    Ok(())
+    for (place, fields) in NOT_BACK.iter().enumerate() {
+        assert!(rt; !is_back(&rt, rt.alloc(), 1, fields), "row {place}");
+    }
 }

@@ -2,8 +2,8 @@
 ghost use Rattle.std.specs.Prelude.{◌≡◌, [], false};
 
 use journal_records::with_kept;
+use std::alloc::Global;
 use std::process::Abort;
-use std::test::Fail;
 use upload_book::{Book, Chunk, Moment, Name, NewUpload, Numbers, Payload, Settings};
 
 const NUMBERS: Numbers = Numbers {
@@ -61,16 +61,26 @@ const BYTES: [u8; 77] = [
     0, 0, 0, 0, 0, 0, 0, 0,
 ];
 
+// A book with that upload.
+fn some_book(rt: &impl Abort, alloc: Global, now: Moment) -> Book {
+    let settings = Settings::new(NUMBERS, &[(b"acme", 8)]).expect(rt, "settings");
+    let mut book = Book::new(alloc, settings).expect(rt, "memory");
+    create(rt, &mut book, now);
+    book
+}
+
+// Whether the upload makes these bytes.
+fn is_written(rt: &impl Abort, alloc: Global, book: &Book, now: Moment, bytes: &[u8]) -> bool {
+    let acme = book.settings().tenant(b"acme").expect(rt, "acme");
+    let kept = book.kept_upload(acme, 0).expect(rt, "an upload");
+    let out = Vec::from_slice(alloc, b"..").expect(rt, "memory");
+    let written = with_kept(out, now, acme, &kept).expect(rt, "memory");
+    written.as_slice() == bytes
+}
+
 #[test]
-fn an_upload_of_a_book(rt: HostRuntime) -> Result<(), Fail> {
+fn an_upload_of_a_book(rt: HostRuntime) {
     let now = Moment::new(258).expect(&rt, "a moment");
-    let settings = Settings::new(NUMBERS, &[(b"acme", 8)]).expect(&rt, "settings");
-    let mut book = Book::new(rt.alloc(), settings)?;
-    create(&rt, &mut book, now);
-    let acme = book.settings().tenant(b"acme").expect(&rt, "acme");
-    let kept = book.kept_upload(acme, 0).expect(&rt, "an upload");
-    let out = Vec::from_slice(rt.alloc(), b"..")?;
-    let written = with_kept(out, now, acme, &kept)?;
-    assert!(&rt; written.as_slice() == BYTES.as_slice());
-    Ok(())
+    let book = some_book(&rt, rt.alloc(), now);
+    assert!(rt; is_written(&rt, rt.alloc(), &book, now, &BYTES));
 }

@@ -1,13 +1,13 @@
 //! Books, changes, and their records as frames.
 use crate::KEY;
+use book_replay::replay;
 use journal_frames::{Frames, push_frame};
 use journal_records::with_record;
 use std::alloc::Global;
 use std::process::Abort;
-use std::test::Fail;
 use tus_text::Checksum;
 use upload_book::{
-    Change, Chunk, FirstChunk, Moment, Name, NewFinal, NewUpload, Numbers, Payload, Settings,
+    Book, Change, Chunk, FirstChunk, Moment, Name, NewFinal, NewUpload, Numbers, Payload, Settings,
 };
 
 /// The settings of acme with 8 blocks and beta with 4, of 4 bytes each.
@@ -116,6 +116,14 @@ pub(crate) fn joined<'a>(
     }
 }
 
+/// A moment, by its second.
+pub(crate) fn at(rt: &impl Abort, secs: u64) -> Moment {
+    let Some(moment) = Moment::new(secs) else {
+        panic!(rt; "no moment");
+    };
+    moment
+}
+
 /// Puts the record of a change at this second behind others.
 pub(crate) fn put(
     rt: &impl Abort,
@@ -123,15 +131,28 @@ pub(crate) fn put(
     frames: &mut Vec<u8>,
     secs: u64,
     change: &Change,
-) -> Result<(), Fail> {
-    let Some(now) = Moment::new(secs) else {
-        panic!(rt; "no moment");
+) {
+    let record = with_record(Vec::new(alloc), at(rt, secs), change).expect(rt, "memory");
+    assert!(rt; record.len() <= 1000);
+    assert!(rt; push_frame(frames, KEY, &record).is_ok());
+}
+
+/// The book that is made of the records in these frames.
+pub(crate) fn replayed(rt: &impl Abort, alloc: Global, frames: &[u8]) -> Book {
+    replayed_in(rt, alloc, settings(rt), frames)
+}
+
+/// The same with other settings.
+pub(crate) fn replayed_in(
+    rt: &impl Abort,
+    alloc: Global,
+    settings: Settings,
+    frames: &[u8],
+) -> Book {
+    let Ok(book) = replay(alloc, settings, records(frames)) else {
+        panic!(rt; "no book");
     };
-    let record = with_record(Vec::new(alloc), now, change)?;
-    if record.len() <= 1000 {
-        push_frame(frames, KEY, &record)?;
-    }
-    Ok(())
+    book
 }
 
 /// The records of these bytes.

@@ -1,79 +1,69 @@
 //! The records of a book's snapshot, and the book that is made again of them.
 use crate::KEY;
 use crate::replay::changes::{
-    acme, creation, deferred, joined, patch, put, records, settings, settings_of,
+    acme, at, creation, deferred, joined, patch, put, replayed, replayed_in, settings, settings_of,
 };
-use book_replay::{replay, snapshot_records};
+use book_replay::snapshot_records;
 use journal_frames::close_frame;
 use std::alloc::Global;
 use std::process::Abort;
-use std::test::Fail;
 use upload_book::{Book, Change, Kind, Moment, Name, Refusal};
 
 // acme has an upload with two of its five bytes, a part, and a final upload of this and of one that has ended since. beta has
 // an upload, behind which one has ended.
-fn put_changes(rt: &impl Abort, alloc: Global, out: &mut Vec<u8>) -> Result<(), Fail> {
+fn put_changes(rt: &impl Abort, alloc: Global, out: &mut Vec<u8>) {
     let plain = creation(0, false, b"name YQ==", b"", b"he");
-    put(rt, alloc, out, 1000, &plain)?;
+    put(rt, alloc, out, 1000, &plain);
     let part = creation(0, true, b"", b"partial", b"hello");
-    put(rt, alloc, out, 1001, &part)?;
+    put(rt, alloc, out, 1001, &part);
     let part = creation(0, true, b"", b"partial", b"world");
-    put(rt, alloc, out, 1002, &part)?;
+    put(rt, alloc, out, 1002, &part);
     let whole = joined(0, &[Some(2), Some(3)], b"", CONCAT);
-    put(rt, alloc, out, 1003, &whole)?;
-    put(rt, alloc, out, 1004, &Change::Terminate(acme(3)))?;
+    put(rt, alloc, out, 1003, &whole);
+    put(rt, alloc, out, 1004, &Change::Terminate(acme(3)));
     let plain = creation(1, false, b"", b"", b"x");
-    put(rt, alloc, out, 1005, &plain)?;
+    put(rt, alloc, out, 1005, &plain);
     let plain = creation(1, false, b"", b"", b"y");
-    put(rt, alloc, out, 1006, &plain)?;
+    put(rt, alloc, out, 1006, &plain);
     let last = Name { tenant: 1, id: 2 };
-    put(rt, alloc, out, 1007, &Change::Terminate(last))
+    put(rt, alloc, out, 1007, &Change::Terminate(last));
 }
 
 const CONCAT: &[u8] = b"final;/files/acme/2 /files/acme/3";
 
-fn some_book(rt: &impl Abort, alloc: Global) -> Result<Book, Fail> {
+fn some_book(rt: &impl Abort, alloc: Global) -> Book {
     let mut frames = Vec::new(alloc);
-    put_changes(rt, alloc, &mut frames)?;
-    Ok(replay(alloc, settings(rt), records(&frames))?)
-}
-
-fn at(rt: &impl Abort, secs: u64) -> Moment {
-    let Some(moment) = Moment::new(secs) else {
-        panic!(rt; "no moment");
-    };
-    moment
+    put_changes(rt, alloc, &mut frames);
+    replayed(rt, alloc, &frames)
 }
 
 fn moment(rt: &impl Abort) -> Moment {
     at(rt, 1008)
 }
 
-fn snapshot(rt: &impl Abort, alloc: Global, book: &Book, count: usize) -> Result<Vec<u8>, Fail> {
+fn snapshot(rt: &impl Abort, alloc: Global, book: &Book, count: usize) -> Vec<u8> {
     snapshot_at(rt, alloc, book, moment(rt), count)
 }
 
-// The records of a book's snapshot at a moment, of which there are so many, as frames. None has taken more memory than it
-// needs, but for a few bytes.
-fn snapshot_at(
-    rt: &impl Abort,
-    alloc: Global,
-    book: &Book,
-    now: Moment,
-    count: usize,
-) -> Result<Vec<u8>, Fail> {
-    let rooms = snapshot_records(alloc, book, now)?;
+// Puts the frame of a record, which has taken no more memory than it needs but for a few bytes, behind others.
+fn put_frame(rt: &impl Abort, frames: &mut Vec<u8>, room: Vec<u8>) {
+    let mut frame = room;
+    assert!(rt; frame.len() >= 24);
+    assert!(rt; frame.len() <= 1000);
+    assert!(rt; frame.capacity() < frame.len() + 8);
+    close_frame(&mut frame, 0, KEY);
+    assert!(rt; frames.extend_from_slice(&frame).is_ok());
+}
+
+// The records of a book's snapshot at a moment, of which there are so many, as frames.
+fn snapshot_at(rt: &impl Abort, alloc: Global, book: &Book, now: Moment, count: usize) -> Vec<u8> {
+    let rooms = snapshot_records(alloc, book, now).expect(rt, "memory");
     assert!(rt; rooms.len() == count);
     let mut frames = Vec::new(alloc);
     for room in rooms {
-        let mut frame = room;
-        assert!(rt; frame.len() >= 24);
-        assert!(rt; frame.len() <= 1000);
-        assert!(rt; frame.capacity() < frame.len() + 8);
-        close_frame(&mut frame, 0, KEY);
-        frames.extend_from_slice(&frame)?;
+        put_frame(rt, &mut frames, room);
     }
-    Ok(frames)
+    frames
 }
 
 /// What a HEAD tells of an upload: what it is for, how many bytes it has, how many it will have, and the second at which it
@@ -134,22 +124,30 @@ fn assert_totals(rt: &impl Abort, book: &Book) {
     assert!(rt; book.free_blocks() == 6);
 }
 
-// An id before each of the four uploads that stand, the next id of both tenants, and the totals.
+// The book that is made of the snapshot of another: an id before each of the four uploads that stand, the next id of both
+// tenants, and the totals.
+fn again(rt: &impl Abort, alloc: Global, was: &Book) -> Book {
+    replayed(rt, alloc, &snapshot(rt, alloc, was, 11))
+}
+
 #[test]
-fn a_book_is_made_again(rt: HostRuntime) -> Result<(), Fail> {
-    let was = some_book(&rt, rt.alloc())?;
+fn a_book_is_made_again(rt: HostRuntime) {
+    let was = some_book(&rt, rt.alloc());
     assert_rows(&rt, &was);
     assert_totals(&rt, &was);
-    let frames = snapshot(&rt, rt.alloc(), &was, 11)?;
-    let book = replay(rt.alloc(), settings(&rt), records(&frames))?;
+    let book = again(&rt, rt.alloc(), &was);
     assert_rows(&rt, &book);
     assert_totals(&rt, &book);
     assert_texts(&rt, &book, &acme(1), b"name YQ==", b"");
     assert_texts(&rt, &book, &acme(4), b"", CONCAT);
     assert_content(&rt, &book, &acme(4), b"helloworld");
-    assert!(&rt; book.accounts() == was.accounts());
-    assert!(&rt; book.expiries() == was.expiries());
-    Ok(())
+    assert_same(&rt, &book, &was);
+}
+
+// Tenants pay the same in two books, and their uploads expire at the same seconds.
+fn assert_same(rt: &impl Abort, book: &Book, was: &Book) {
+    assert!(rt; book.accounts() == was.accounts());
+    assert!(rt; book.expiries() == was.expiries());
 }
 
 // The bytes that acme's first upload has so far.
@@ -170,53 +168,60 @@ fn assert_paid_in_twos(rt: &impl Abort, book: &Book) {
     assert!(rt; book.free_blocks() == 4);
 }
 
+// The frames of a snapshot of the book, which is let go.
+fn some_snapshot(rt: &impl Abort, alloc: Global) -> Vec<u8> {
+    snapshot(rt, alloc, &some_book(rt, alloc), 11)
+}
+
 // What was released stays, and what is paid is charged.
 #[test]
-fn a_book_is_made_again_in_blocks_of_another_size(rt: HostRuntime) -> Result<(), Fail> {
-    let was = some_book(&rt, rt.alloc())?;
-    let frames = snapshot(&rt, rt.alloc(), &was, 11)?;
-    let book = replay(rt.alloc(), settings_of(&rt, 2), records(&frames))?;
+fn a_book_is_made_again_in_blocks_of_another_size(rt: HostRuntime) {
+    let frames = some_snapshot(&rt, rt.alloc());
+    let book = replayed_in(&rt, rt.alloc(), settings_of(&rt, 2), &frames);
     assert_rows(&rt, &book);
     assert_so_far(&rt, &book, b"he");
     assert_content(&rt, &book, &acme(4), b"helloworld");
     assert_paid_in_twos(&rt, &book);
-    Ok(())
 }
 
 // A change behind them finds the bytes where they were.
 #[test]
-fn an_upload_goes_on(rt: HostRuntime) -> Result<(), Fail> {
-    let was = some_book(&rt, rt.alloc())?;
-    let mut frames = snapshot(&rt, rt.alloc(), &was, 11)?;
+fn an_upload_goes_on(rt: HostRuntime) {
+    let mut frames = some_snapshot(&rt, rt.alloc());
     let rest = patch(1, 2, None, b"llo");
-    put(&rt, rt.alloc(), &mut frames, 1008, &rest)?;
-    let book = replay(rt.alloc(), settings(&rt), records(&frames))?;
+    put(&rt, rt.alloc(), &mut frames, 1008, &rest);
+    let book = replayed(&rt, rt.alloc(), &frames);
     assert_content(&rt, &book, &acme(1), b"hello");
     assert!(&rt; book.charged_total() == 8);
-    Ok(())
 }
 
-// An upload whose length is told later, and which has expired before the snapshot, without a sweep: it is there still.
+// A book of an upload whose length is told later.
+fn deferred_book(rt: &impl Abort, alloc: Global) -> Book {
+    let mut changes = Vec::new(alloc);
+    put(rt, alloc, &mut changes, 1000, &deferred(b"z"));
+    replayed(rt, alloc, &changes)
+}
+
+// One that has expired before the snapshot, without a sweep, is there still.
 #[test]
-fn an_upload_that_has_expired(rt: HostRuntime) -> Result<(), Fail> {
-    let mut changes = Vec::new(rt.alloc());
-    put(&rt, rt.alloc(), &mut changes, 1000, &deferred(b"z"))?;
-    let was = replay(rt.alloc(), settings(&rt), records(&changes))?;
-    let frames = snapshot_at(&rt, rt.alloc(), &was, at(&rt, 5000), 5)?;
-    let book = replay(rt.alloc(), settings(&rt), records(&frames))?;
-    let row = row_of(&rt, &book, &acme(1));
-    assert!(&rt; row == Ok((Kind::Plain, 1, None, Some(4600))));
-    assert!(&rt; matches!(book.look(&acme(1), at(&rt, 5000)), Err(Refusal::Gone)));
-    assert!(&rt; book.expiries() == was.expiries());
-    Ok(())
+fn an_upload_that_has_expired(rt: HostRuntime) {
+    let was = deferred_book(&rt, rt.alloc());
+    let frames = snapshot_at(&rt, rt.alloc(), &was, at(&rt, 5000), 5);
+    let book = replayed(&rt, rt.alloc(), &frames);
+    assert!(rt; row_of(&rt, &book, &acme(1)) == Ok((Kind::Plain, 1, None, Some(4600))));
+    assert!(rt; matches!(book.look(&acme(1), at(&rt, 5000)), Err(Refusal::Gone)));
+    assert!(rt; book.expiries() == was.expiries());
+}
+
+// The frames of a snapshot of a new book.
+fn empty_snapshot(rt: &impl Abort, alloc: Global) -> Vec<u8> {
+    let was = Book::new(alloc, settings(rt)).expect(rt, "memory");
+    snapshot(rt, alloc, &was, 3)
 }
 
 #[test]
-fn a_book_without_uploads(rt: HostRuntime) -> Result<(), Fail> {
-    let was = Book::new(rt.alloc(), settings(&rt))?;
-    let frames = snapshot(&rt, rt.alloc(), &was, 3)?;
-    let book = replay(rt.alloc(), settings(&rt), records(&frames))?;
-    assert!(&rt; book.charged_total() == 0);
-    assert!(&rt; matches!(book.look(&acme(1), moment(&rt)), Err(Refusal::Unknown)));
-    Ok(())
+fn a_book_without_uploads(rt: HostRuntime) {
+    let book = replayed(&rt, rt.alloc(), &empty_snapshot(&rt, rt.alloc()));
+    assert!(rt; book.charged_total() == 0);
+    assert!(rt; matches!(book.look(&acme(1), moment(&rt)), Err(Refusal::Unknown)));
 }
