@@ -14,7 +14,6 @@ use std::marker::Brand;
 use std::process::Abort;
 use std::sync::Wait;
 use std::sync::ledger::{Blank, Ledger};
-use std::test::Fail;
 use tus_shared::{Charges, Desk, NoGate, Opened, Shared, settle};
 use tus_workers::{ServedStream, serve_stream};
 use upload_book::{Moment, Settings};
@@ -124,8 +123,8 @@ static EXPIRED: [Row; 1] = [Row {
     written: &[CREATED, PATCHED, GONE],
 }];
 
-// Asserts that these texts were written, one after another, and nothing else.
-fn assert_written(rt: &impl Abort, written: &[u8], texts: &[&[u8]]) {
+/// Asserts that these texts were written, one after another, and nothing else.
+pub(crate) fn assert_written(rt: &impl Abort, written: &[u8], texts: &[&[u8]]) {
     let mut rest = written;
     for text in texts {
         rest = rest.strip_prefix(*text).expect(rt, "the next reply");
@@ -180,7 +179,7 @@ fn serve_rows<C: Charges, R: Ledger, M: Ledger, W: Wait + Abort>(
     events: Opened,
     rows: &[Row],
     balance: [u64; 3],
-) -> Result<(), Fail>
+)
     requires settings { settings ≡ C.settings }
     requires desks { C.desks ≡ 1 }
     requires charged { (charged.name ≡ C.name) × (charged.parts ≡ C.parts) × (C.parts ≡ 16) }
@@ -189,49 +188,47 @@ fn serve_rows<C: Charges, R: Ledger, M: Ledger, W: Wait + Abort>(
     requires log { events.seen.book ≡ C.log }
     requires journal { C.journal ≡ None }
 {
-    let (shared, mut desks) = Shared::<C, R, M, &W>::open(
+    let opened = Shared::<C, R, M, &W>::open(
         rt, alloc, settings, 1, charged, released, made, events, None,
-    )?;
-    let mut served = (desks.pop().ok_or("a desk")?, Buffers::new(alloc)?);
+    );
+    let Ok((shared, mut desks)) = opened else {
+        panic!(rt; "no store");
+    };
+    let desk = desks.pop().expect(rt, "a desk");
+    let mut served = (desk, Buffers::new(alloc).expect(rt, "memory"));
     for row in rows {
         served = serve_row(rt, alloc, &shared, served.0, served.1, row);
     }
-    desks.push(served.0)?;
+    assert!(rt; desks.push(served.0).is_ok());
     let (_, settled) = settle(shared, desks);
     assert_balance(rt, settled, balance);
-    Ok(())
 }
 
-fn serve<W: Wait + Abort>(
-    rt: &W,
-    alloc: Global,
-    rows: &[Row],
-    balance: [u64; 3],
-) -> Result<(), Fail> {
+fn serve<W: Wait + Abort>(rt: &W, alloc: Global, rows: &[Row], balance: [u64; 3]) {
     serve_rows::<Brand, Brand, Brand, W>(
         rt,
         alloc,
-        settings()?,
+        settings(rt),
         Blank::new(16),
         Blank::new(16),
         Blank::new(16),
         Opened::new(),
         rows,
         balance,
-    )
+    );
 }
 
 #[test]
-fn the_first_upload(rt: HostRuntime) -> Result<(), Fail> {
-    serve(&rt, rt.alloc(), &FIRST_UPLOAD, [2, 0, 2])
+fn the_first_upload(rt: HostRuntime) {
+    serve(&rt, rt.alloc(), &FIRST_UPLOAD, [2, 0, 2]);
 }
 
 #[test]
-fn a_read_that_fails_in_a_body_keeps_what_came(rt: HostRuntime) -> Result<(), Fail> {
-    serve(&rt, rt.alloc(), &READ_FAULT, [1, 0, 1])
+fn a_read_that_fails_in_a_body_keeps_what_came(rt: HostRuntime) {
+    serve(&rt, rt.alloc(), &READ_FAULT, [1, 0, 1]);
 }
 
 #[test]
-fn an_upload_that_expires_while_a_connection_lasts(rt: HostRuntime) -> Result<(), Fail> {
-    serve(&rt, rt.alloc(), &EXPIRED, [2, 2, 0])
+fn an_upload_that_expires_while_a_connection_lasts(rt: HostRuntime) {
+    serve(&rt, rt.alloc(), &EXPIRED, [2, 2, 0]);
 }

@@ -83,7 +83,7 @@ fn draft_unusable(rt: HostRuntime) {
     assert!(rt; outcome_of(draft.finish(1)) == Unusable);
 }
 
-// What becomes of the file of a journal, and what it is recovered to.
+// What becomes of the file of a journal.
 enum Change {
     Stays,
     // These bytes are written at a place.

@@ -88,7 +88,7 @@ pub(crate) fn play(
     }
 }
 
-/// A new journal on a disk with room for so many bytes.
+/// A new journal with room for so many bytes.
 pub(crate) fn new_journal(rt: &impl Abort, disk: TornDisk, room: usize) -> Journal<TornDisk> {
     let Ok(journal) = Journal::create(disk, KEY, room) else {
         panic!(rt; "no journal");

@@ -26,8 +26,15 @@ const ROOM: usize = 1000;
 // What a test does.
 #[derive(Clone, Copy)]
 enum Scene {
+    // These two have the keeper behind its lock.
     OneSyncServesBoth,
     RoomIsMade,
+    Lent(Lent),
+}
+
+// What is done with a keeper that is lent.
+#[derive(Clone, Copy)]
+enum Lent {
     DiskIsNearlyFull { granted: u64 },
     // These steps at the first desk.
     Steps(&'static [Step]),
@@ -35,10 +42,27 @@ enum Scene {
     IsMadeSmall { ends: Ends },
 }
 
+impl Lent {
+    fn settings(self, rt: &impl Abort) -> Settings {
+        match self {
+            Lent::IsMadeSmall { .. } => large_settings(rt),
+            _ => settings(rt),
+        }
+    }
+
+    // What becomes of a new journal.
+    fn ends(self) -> Ends {
+        match self {
+            Lent::IsMadeSmall { ends } => ends,
+            _ => Ends::Nowhere,
+        }
+    }
+}
+
 impl Scene {
     fn settings(self, rt: &impl Abort) -> Settings {
         match self {
-            Scene::IsMadeSmall { .. } => large_settings(rt),
+            Scene::Lent(lent) => lent.settings(rt),
             _ => settings(rt),
         }
     }
@@ -105,8 +129,7 @@ fn one_sync_serves_both<C: Journalled, R: Ledger, M: Ledger, W: Wait + Abort + t
     assert!(rt; serves_both(rt, shared, &keeper, first, second));
     let numbers = keeper.numbers(rt);
     let keeper = keeper.into_keeper();
-    assert!(rt; keeps_seen(&keeper, second));
-    assert!(rt; are_of_two(&numbers, keeper.disk().bytes()));
+    assert!(rt; keeps_seen(&keeper, second) && are_of_two(&numbers, keeper.disk().bytes()));
 }
 
 // How much room a desk of a new journal has, where it asks for so many bytes.
@@ -121,7 +144,19 @@ fn room_for<C: Journalled, R: Ledger, M: Ledger, W: Wait + Abort>(
     desk.room()
 }
 
-// A desk is granted 65,536 bytes and 4 MiB beyond what it asks for, and nothing where it has enough.
+// Whether a desk is granted 65,536 bytes and 4 MiB beyond what it asks for, and nothing where it has enough. What stands
+// beside the journal stays.
+fn has_enough<C: Journalled, R: Ledger, M: Ledger, W: Wait + Abort>(
+    rt: &W,
+    keeper: &SharedKeeper<TornDisk, C>,
+    desk: &mut Desk<C, R, M>,
+    location: &Location,
+) -> bool {
+    room_for(rt, keeper, desk, location, 100) == 100 + 65_536 + 4_194_304
+        && room_for(rt, keeper, desk, location, 4_194_304) == 100 + 65_536 + 4_194_304
+        && !location.was_taken_away()
+}
+
 fn room_is_made<C: Journalled, R: Ledger, M: Ledger, W: Wait + Abort>(
     rt: &W,
     alloc: Global,
@@ -129,28 +164,33 @@ fn room_is_made<C: Journalled, R: Ledger, M: Ledger, W: Wait + Abort>(
     desk: &mut Desk<C, R, M>,
 ) {
     let keeper = SharedKeeper::new(keeper);
-    let location = Location::new(alloc, Ends::Nowhere);
-    assert!(rt; room_for(rt, &keeper, desk, &location, 100) == 100 + 65_536 + 4_194_304);
-    assert!(rt; room_for(rt, &keeper, desk, &location, 4_194_304) == 100 + 65_536 + 4_194_304);
-    assert!(rt; !location.was_taken_away());
+    assert!(rt; has_enough(rt, &keeper, desk, &Location::new(alloc, Ends::Nowhere)));
     assert!(rt; keeper.into_keeper().disk().bytes().len() > 4_259_940);
+}
+
+// How much room a desk has, where it is to have room for 200 bytes of records.
+fn granted_for_records<C: Journalled, R: Ledger, M: Ledger>(
+    keeper: &mut Keeper<TornDisk, C>,
+    desk: &mut Desk<C, R, M>,
+    location: &Location,
+) -> u64 {
+    keeper.make_room(desk, 200, location);
+    desk.room()
 }
 
 // On a disk without room for 4 MiB ahead a desk is granted this room for 200 bytes of records, and the next one nothing. What
 // stands beside the journal is given up first.
-fn disk_is_nearly_full<C: Journalled, R: Ledger, M: Ledger, W: Wait + Abort>(
+fn disk_is_nearly_full<C: Journalled, R: Ledger, M: Ledger, W: Abort>(
     rt: &W,
-    alloc: Global,
-    mut keeper: Keeper<TornDisk, C>,
+    keeper: &mut Keeper<TornDisk, C>,
     first: &mut Desk<C, R, M>,
     second: &mut Desk<C, R, M>,
+    location: &Location,
     granted: u64,
 ) {
-    let location = Location::new(alloc, Ends::Nowhere);
-    keeper.make_room(first, 200, &location);
-    assert!(rt; first.room() == granted && location.was_taken_away());
-    keeper.make_room(second, 200, &location);
-    assert!(rt; second.room() == 0);
+    assert!(rt; granted_for_records(keeper, first, location) == granted);
+    assert!(rt; location.was_taken_away());
+    assert!(rt; granted_for_records(keeper, second, location) == 0);
 }
 
 // On a full disk no room is granted, and a change is refused. An upload can still be ended, and all is kept.
@@ -174,18 +214,6 @@ static SYNC_FAILS: [Step; 6] = [
     Step::Keeps(Kept::HasEnded),
     Step::HasFailed(true, 0),
 ];
-
-fn take_steps<C: Journalled, R: Ledger, M: Ledger, W: Wait + Abort + time::Clock>(
-    rt: &W,
-    alloc: Global,
-    shared: &Shared<C, R, M, &W>,
-    mut keeper: Keeper<TornDisk, C>,
-    desk: &mut Desk<C, R, M>,
-    steps: &[Step],
-) {
-    let location = Location::new(alloc, Ends::Nowhere);
-    play(rt, shared, &mut keeper, desk, &location, steps);
-}
 
 // How many records stand in frames under the key, up to ten.
 fn count(frames: &[u8]) -> u64 {
@@ -250,12 +278,60 @@ fn is_left_after_a_crash<C: Journalled, R: Ledger, M: Ledger, W: Wait + Abort + 
     rt: &W,
     alloc: Global,
     shared: &Shared<C, R, M, &W>,
-    mut keeper: Keeper<TornDisk, C>,
+    keeper: &mut Keeper<TornDisk, C>,
     desk: &mut Desk<C, R, M>,
+    location: &Location,
 ) {
-    let location = Location::new(alloc, Ends::Nowhere);
-    play(rt, shared, &mut keeper, desk, &location, &TWO_OF_THREE);
+    play(rt, shared, keeper, desk, location, &TWO_OF_THREE);
     assert_two_left(rt, alloc, keeper.disk());
+}
+
+// Plays a scene with a keeper that is lent.
+fn perform_lent<C: Journalled, R: Ledger, M: Ledger, W: Wait + Abort + time::Clock>(
+    rt: &W,
+    alloc: Global,
+    shared: &Shared<C, R, M, &W>,
+    keeper: &mut Keeper<TornDisk, C>,
+    first: &mut Desk<C, R, M>,
+    second: &mut Desk<C, R, M>,
+    location: &Location,
+    scene: Lent,
+) {
+    match scene {
+        Lent::DiskIsNearlyFull { granted } => {
+            disk_is_nearly_full(rt, keeper, first, second, location, granted);
+        }
+        Lent::Steps(steps) => play(rt, shared, keeper, first, location, steps),
+        Lent::IsLeftAfterACrash => {
+            is_left_after_a_crash(rt, alloc, shared, keeper, first, location);
+        }
+        Lent::IsMadeSmall { ends } => {
+            is_made_small(rt, alloc, shared, keeper, first, location, ends);
+        }
+    }
+}
+
+// The same with a keeper that is let go then.
+fn perform_owned<C: Journalled, R: Ledger, M: Ledger, W: Wait + Abort + time::Clock>(
+    rt: &W,
+    alloc: Global,
+    shared: &Shared<C, R, M, &W>,
+    mut keeper: Keeper<TornDisk, C>,
+    first: &mut Desk<C, R, M>,
+    second: &mut Desk<C, R, M>,
+    scene: Lent,
+) {
+    let location = Location::new(alloc, scene.ends());
+    perform_lent(
+        rt,
+        alloc,
+        shared,
+        &mut keeper,
+        first,
+        second,
+        &location,
+        scene,
+    );
 }
 
 // Plays a scene at two desks.
@@ -271,12 +347,7 @@ fn perform<C: Journalled, R: Ledger, M: Ledger, W: Wait + Abort + time::Clock>(
     match scene {
         Scene::OneSyncServesBoth => one_sync_serves_both(rt, shared, keeper, first, second),
         Scene::RoomIsMade => room_is_made(rt, alloc, keeper, first),
-        Scene::DiskIsNearlyFull { granted } => {
-            disk_is_nearly_full(rt, alloc, keeper, first, second, granted);
-        }
-        Scene::Steps(steps) => take_steps(rt, alloc, shared, keeper, first, steps),
-        Scene::IsLeftAfterACrash => is_left_after_a_crash(rt, alloc, shared, keeper, first),
-        Scene::IsMadeSmall { ends } => is_made_small(rt, alloc, shared, keeper, first, ends),
+        Scene::Lent(lent) => perform_owned(rt, alloc, shared, keeper, first, second, lent),
     }
 }
 
@@ -385,31 +456,27 @@ static LEFT: [(usize, u64); 4] = [
 #[test]
 fn a_nearly_full_disk(rt: HostRuntime) {
     for (left, granted) in &LEFT {
-        let scene = Scene::DiskIsNearlyFull { granted: *granted };
-        play_at(&rt, rt.alloc(), left + 16, u64::MAX, scene);
+        let scene = Lent::DiskIsNearlyFull { granted: *granted };
+        play_at(&rt, rt.alloc(), left + 16, u64::MAX, Scene::Lent(scene));
     }
 }
 
 #[test]
 fn a_full_disk(rt: HostRuntime) {
-    play_at(
-        &rt,
-        rt.alloc(),
-        ROOM + 16,
-        u64::MAX,
-        Scene::Steps(&FULL_DISK),
-    );
+    let scene = Scene::Lent(Lent::Steps(&FULL_DISK));
+    play_at(&rt, rt.alloc(), ROOM + 16, u64::MAX, scene);
 }
 
 // Making the journal takes three calls, and keeping what waits a write and a sync.
 #[test]
 fn a_sync_that_fails(rt: HostRuntime) {
-    play_at(&rt, rt.alloc(), usize::MAX, 4, Scene::Steps(&SYNC_FAILS));
+    let scene = Scene::Lent(Lent::Steps(&SYNC_FAILS));
+    play_at(&rt, rt.alloc(), usize::MAX, 4, scene);
 }
 
 #[test]
 fn what_was_kept_is_left(rt: HostRuntime) {
-    play_sound(&rt, rt.alloc(), Scene::IsLeftAfterACrash);
+    play_sound(&rt, rt.alloc(), Scene::Lent(Lent::IsLeftAfterACrash));
 }
 
 #[test]
@@ -421,7 +488,7 @@ fn a_journal_is_made_small(rt: HostRuntime) {
         Ends::Nowhere,
         Ends::Full,
     ] {
-        play_sound(&rt, rt.alloc(), Scene::IsMadeSmall { ends });
+        play_sound(&rt, rt.alloc(), Scene::Lent(Lent::IsMadeSmall { ends }));
     }
 }
 
@@ -430,6 +497,6 @@ fn a_journal_is_made_small(rt: HostRuntime) {
 fn a_new_journal_whose_disk_fails(rt: HostRuntime) {
     for calls in 0..14 {
         let ends = Ends::FailsAfter(calls);
-        play_sound(&rt, rt.alloc(), Scene::IsMadeSmall { ends });
+        play_sound(&rt, rt.alloc(), Scene::Lent(Lent::IsMadeSmall { ends }));
     }
 }

@@ -88,6 +88,12 @@ fn uploads<C: Journalled, R: Ledger, M: Ledger, W: Wait + Abort>(
     makes(rt, shared, desk, Asked::Begin) && makes(rt, shared, desk, Asked::Patch(path, bytes))
 }
 
+// The first bytes of a long body, for two blocks.
+fn two_blocks<'a>(rt: &impl Abort, body: &'a [u8]) -> &'a [u8] {
+    assert!(rt; body.len() > TWO_BLOCKS);
+    &body[..TWO_BLOCKS]
+}
+
 // Uploads all that goes, with these bytes.
 fn upload_all<C: Journalled, R: Ledger, M: Ledger, W: Wait + Abort>(
     rt: &W,
@@ -95,11 +101,10 @@ fn upload_all<C: Journalled, R: Ledger, M: Ledger, W: Wait + Abort>(
     desk: &mut Desk<C, R, M>,
     body: &[u8],
 ) {
-    assert!(rt; body.len() > TWO_BLOCKS);
     for path in GONE {
         assert!(rt; uploads(rt, shared, desk, path, body));
     }
-    assert!(rt; uploads(rt, shared, desk, GOES_LATER, &body[..TWO_BLOCKS]));
+    assert!(rt; uploads(rt, shared, desk, GOES_LATER, two_blocks(rt, body)));
 }
 
 // Makes the journal 60 MiB long and somewhat longer, by uploads that come and go.
@@ -174,18 +179,18 @@ pub(crate) fn is_made_small<C: Journalled, R: Ledger, M: Ledger, W: Wait + Abort
     rt: &W,
     alloc: Global,
     shared: &Shared<C, R, M, &W>,
-    mut keeper: Keeper<TornDisk, C>,
+    keeper: &mut Keeper<TornDisk, C>,
     desk: &mut Desk<C, R, M>,
+    location: &Location,
     ends: Ends,
 ) {
-    let location = Location::new(alloc, ends);
-    make_large(rt, alloc, shared, &mut keeper, desk, &location);
-    let begun = look(rt, shared, &mut keeper, &location);
-    play(rt, shared, &mut keeper, desk, &location, &COMES_MEANWHILE);
-    let ended = look(rt, shared, &mut keeper, &location);
-    assert!(rt; is_as_told(&keeper, &location, ends, begun, ended));
-    play(rt, shared, &mut keeper, desk, &location, steps_after(ends));
-    assert!(rt; marks(&keeper, &location));
+    make_large(rt, alloc, shared, keeper, desk, location);
+    let begun = look(rt, shared, keeper, location);
+    play(rt, shared, keeper, desk, location, &COMES_MEANWHILE);
+    let ended = look(rt, shared, keeper, location);
+    assert!(rt; is_as_told(keeper, location, ends, begun, ended));
+    play(rt, shared, keeper, desk, location, steps_after(ends));
+    assert!(rt; marks(keeper, location));
     assert!(rt; is_left(rt, alloc, keeper.disk(), uploads_after(ends)));
 }
 

@@ -1,17 +1,17 @@
 use Rattle.std.proofs.Common.{Some, true}
 use Rattle.journal_tests.proofs.keeper.scenes.play_at.Given as goal
 
-abbrev pub ghosts-play-C-Journalled : goal.ghosts-play-C-Journalled
-ghosts-play-C-Journalled g a = record { honest = true }
+abbrev pub ghosts-play_scene-C-Journalled : goal.ghosts-play_scene-C-Journalled
+ghosts-play_scene-C-Journalled g a = record { honest = true }
 
-abbrev pub ghosts-play-C-Charges : goal.ghosts-play-C-Charges
-ghosts-play-C-Charges g a = record { settings = a.settings; desks = 2; log = a.events.seen.book; journal = Some 7 }
+abbrev pub ghosts-play_scene-C-Charges : goal.ghosts-play_scene-C-Charges
+ghosts-play_scene-C-Charges g a = record { settings = a.settings; desks = 2; log = a.events.seen.book; journal = Some 7 }
 
-abbrev pub ghosts-play-C-Ledger : goal.ghosts-play-C-Ledger
-ghosts-play-C-Ledger g a = record { name = a.charged.name; parts = a.charged.parts }
+abbrev pub ghosts-play_scene-C-Ledger : goal.ghosts-play_scene-C-Ledger
+ghosts-play_scene-C-Ledger g a = record { name = a.charged.name; parts = a.charged.parts }
 
-abbrev pub ghosts-play-R-Ledger : goal.ghosts-play-R-Ledger
-ghosts-play-R-Ledger g a = record { name = a.released.name; parts = a.released.parts }
+abbrev pub ghosts-play_scene-R-Ledger : goal.ghosts-play_scene-R-Ledger
+ghosts-play_scene-R-Ledger g a = record { name = a.released.name; parts = a.released.parts }
 
-abbrev pub ghosts-play-M-Ledger : goal.ghosts-play-M-Ledger
-ghosts-play-M-Ledger g a = record { name = a.made.name; parts = a.made.parts }
+abbrev pub ghosts-play_scene-M-Ledger : goal.ghosts-play_scene-M-Ledger
+ghosts-play_scene-M-Ledger g a = record { name = a.made.name; parts = a.made.parts }
