@@ -1,36 +1,25 @@
 //! Bodies in blocks of small pools.
-ghost use Rattle.std.specs.Prelude.{◌≡◌, ◌+◌, IfOk, OnOk, length};
+ghost use Rattle.std.specs.Prelude.{◌≡◌, ◌+◌, OnOk, length};
 ghost use Rattle.block_pool.specs.Blocks.{IsWithinLimits};
 ghost use Rattle.block_bodies.specs.Bodies.{HasRoom, IsBodyOf, IsLastOwn};
 ghost use Rattle.block_tests.specs.Sole.{AreSole, IsSole};
 
 use block_bodies::{Body, BodyFault};
 use block_pool::Pool;
-use std::alloc::{AllocError, Global};
+use std::alloc::Global;
 use std::process::Abort;
 
 // A new pool of so many blocks with so many bytes each, and an empty body in it.
-fn try_empty_body(alloc: Global, blocks: u32, block_size: u32) -> Result<(Pool, Body), AllocError>
-    requires { IsWithinLimits blocks block_size }
-    ensures sole { IfOk result (λ r. IsSole r.0 r.1) }
-    ensures last { IfOk result (λ r. IsLastOwn r.0 r.1) }
-    ensures len { IfOk result (λ r. r.1.len ≡ 0) }
-{
-    let pool = Pool::new(alloc, blocks, block_size)?;
-    Ok((pool, Body::empty(alloc)))
-}
-
-// The same, where there is memory for the pool.
 fn empty_body(rt: &impl Abort, alloc: Global, blocks: u32, block_size: u32) -> (Pool, Body)
     requires { IsWithinLimits blocks block_size }
     ensures sole { IsSole result.0 result.1 }
     ensures last { IsLastOwn result.0 result.1 }
     ensures len { result.1.len ≡ 0 }
 {
-    let Ok(made) = try_empty_body(alloc, blocks, block_size) else {
+    let Ok(pool) = Pool::new(alloc, blocks, block_size) else {
         panic!(rt; "no memory for a pool");
     };
-    made
+    (pool, Body::empty(alloc))
 }
 
 // Appends bytes, and gives how many blocks were taken for them.
@@ -408,47 +397,4 @@ fn like_a_plain_list(rt: HostRuntime) {
         assert_like(&rt, alloc, &pool, &body, &plain);
     }
     give_back(&rt, &mut pool, body, plain.len().div_ceil(7) as u64);
-}
-
-// A body of "hello" is read, unless memory is lacking for its bytes.
-fn assert_read_or_refused(rt: &impl Abort, alloc: Global, pool: &Pool, body: &Body)
-    requires { IsBodyOf pool.now body.now }
-{
-    if let Ok(bytes) = body.read(alloc, pool) {
-        assert!(rt; bytes.as_slice() == b"hello".as_slice());
-    }
-}
-
-// A body of "hello" is shared, or is as it was where memory is lacking for the copy.
-fn assert_shared_or_refused(rt: &impl Abort, alloc: Global, pool: &mut Pool, body: Body)
-    requires { IsSole pool.old body }
-{
-    if let Ok(copy) = body.share(pool) {
-        assert_read_or_refused(rt, alloc, pool, &copy);
-        give_back_both(rt, pool, body, copy, 2);
-    } else {
-        assert!(rt; body.len() == 5);
-        give_back(rt, pool, body, 2);
-    }
-}
-
-// "hello" is appended to an empty body of a pool of two blocks, or these are as they were where memory is lacking.
-fn assert_appended_or_refused(rt: &impl Abort, alloc: Global, pool: &mut Pool, mut body: Body)
-    requires sole { IsSole pool.old body }
-    requires last { IsLastOwn pool.old body }
-{
-    if try_append(pool, &mut body, b"hello").is_ok() {
-        assert_shared_or_refused(rt, alloc, pool, body);
-    } else {
-        assert!(rt; body.len() == 0 && pool.free() == 2);
-    }
-}
-
-// For N from 1 on, `rt try --test --fail-alloc N -- refused` runs this with the Nth allocation refused.
-#[test]
-fn refused_memory_changes_nothing(rt: HostRuntime) {
-    let alloc = rt.alloc();
-    if let Ok((mut pool, body)) = try_empty_body(alloc, 2, 4) {
-        assert_appended_or_refused(&rt, alloc, &mut pool, body);
-    }
 }

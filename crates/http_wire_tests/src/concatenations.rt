@@ -17,7 +17,7 @@ pub const ABCDE: &[u8] = b"PATCH /files/acme/1 HTTP/1.1\r\nHost: x\r\nTus-Resuma
 Content-Type: application/offset+octet-stream\r\nUpload-Offset: 0\r\nContent-Length: 5\r\n\r\n\
 abcde";
 
-pub const PART_OF_2: &[u8] = b"POST /files/acme HTTP/1.1\r\nHost: x\r\nTus-Resumable: 1.0.0\r\n\
+const PART_OF_2: &[u8] = b"POST /files/acme HTTP/1.1\r\nHost: x\r\nTus-Resumable: 1.0.0\r\n\
 Upload-Length: 2\r\nUpload-Concat: partial\r\n\r\n";
 
 pub const CREATED_2: &[u8] = b"HTTP/1.1 201 Created\r\nDate: Thu, 01 Jan 1970 00:16:40 GMT\r\n\
@@ -27,8 +27,7 @@ Upload-Expires: Thu, 01 Jan 1970 01:16:40 GMT\r\nContent-Length: 0\r\n\r\n";
 pub const FG: &[u8] = b"PATCH /files/acme/2 HTTP/1.1\r\nHost: x\r\nTus-Resumable: 1.0.0\r\n\
 Content-Type: application/offset+octet-stream\r\nUpload-Offset: 0\r\nContent-Length: 2\r\n\r\nfg";
 
-pub const PATCHED_TO_2: &[u8] =
-    b"HTTP/1.1 204 No Content\r\nDate: Thu, 01 Jan 1970 00:16:40 GMT\r\n\
+const PATCHED_TO_2: &[u8] = b"HTTP/1.1 204 No Content\r\nDate: Thu, 01 Jan 1970 00:16:40 GMT\r\n\
 Tus-Resumable: 1.0.0\r\nUpload-Offset: 2\r\n\
 Upload-Expires: Thu, 01 Jan 1970 01:16:40 GMT\r\n\r\n";
 
@@ -55,7 +54,7 @@ pub const DELETE_2: &[u8] =
 
 pub const GET_3: &[u8] = b"GET /files/acme/3 HTTP/1.1\r\nHost: x\r\n\r\n";
 
-pub const CONTENT_OF_BOTH: &[u8] = b"HTTP/1.1 200 OK\r\nDate: Thu, 01 Jan 1970 00:16:40 GMT\r\n\
+const CONTENT_OF_BOTH: &[u8] = b"HTTP/1.1 200 OK\r\nDate: Thu, 01 Jan 1970 00:16:40 GMT\r\n\
 Tus-Resumable: 1.0.0\r\nContent-Type: application/octet-stream\r\nContent-Length: 7\r\n\r\nabcdefg";
 
 const DELETE_3: &[u8] = b"DELETE /files/acme/3 HTTP/1.1\r\nHost: x\r\nTus-Resumable: 1.0.0\r\n\r\n";

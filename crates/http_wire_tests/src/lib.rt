@@ -30,10 +30,6 @@ mod methods;
 #[cfg(test)]
 mod plain;
 #[cfg(test)]
-mod refused_bodies;
-#[cfg(test)]
-mod refused_memory;
-#[cfg(test)]
 mod replies;
 #[cfg(test)]
 mod spoken;

@@ -57,7 +57,7 @@ pub fn written_on(wire: MemoryWire<'_>) -> Vec<u8> {
 }
 
 /// What a book answers to a request at moment 1000.
-pub fn reply_to(book: &mut Book, request: &Request) -> PlacedReply {
+fn reply_to(book: &mut Book, request: &Request) -> PlacedReply {
     PlacedReply::of(answer(book, request, at(1000)))
 }
 

@@ -50,6 +50,8 @@ impl Sent {
             path: read_path(self.target),
             fields: self.fields,
             body: self.body,
+            given: 0,
+            more: 0,
         }
     }
 }

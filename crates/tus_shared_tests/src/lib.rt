@@ -7,11 +7,7 @@ mod batches;
 #[cfg(test)]
 mod journal;
 #[cfg(test)]
-mod memory;
-#[cfg(test)]
 mod openings;
-#[cfg(test)]
-mod refused_memory;
 #[cfg(test)]
 mod requests;
 #[cfg(test)]

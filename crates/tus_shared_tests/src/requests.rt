@@ -37,8 +37,6 @@ pub fn moment(rt: &impl Abort, secs: u64) -> Moment {
 pub enum Asked {
     /// A creation of an upload of its own for acme, of this length.
     Post(&'static [u8]),
-    /// The same with this `Upload-Metadata`.
-    Described(&'static [u8], &'static [u8]),
     /// A creation of an upload of its own for acme, of this length, with these first bytes.
     Upload(&'static [u8], &'static [u8]),
     /// A creation of a partial upload for acme, of this length.
@@ -62,7 +60,6 @@ impl Asked {
     pub fn request(self) -> Request<'static> {
         match self {
             Asked::Post(length) => creation(Field::One(length), Field::Absent),
-            Asked::Described(length, metadata) => described(length, metadata),
             Asked::Upload(length, body) => upload(length, body),
             Asked::Partial(length) => creation(Field::One(length), Field::One(b"partial")),
             Asked::Join(concat) => creation(Field::Absent, Field::One(concat)),
@@ -98,21 +95,6 @@ fn creation(length: Field<'static>, concat: Field<'static>) -> Request<'static> 
         fields: TusFields {
             length,
             concat,
-            ..fields()
-        },
-        body: b"",
-        given: 0,
-        more: 0,
-    }
-}
-
-fn described(length: &'static [u8], metadata: &'static [u8]) -> Request<'static> {
-    Request {
-        method: Method::Post,
-        path: read_path(b"/files/acme"),
-        fields: TusFields {
-            length: Field::One(length),
-            metadata: Field::One(metadata),
             ..fields()
         },
         body: b"",

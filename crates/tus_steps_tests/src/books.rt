@@ -3,7 +3,7 @@ use std::alloc::Global;
 use std::test::Fail;
 use upload_book::{Book, Moment, Numbers, Settings};
 
-pub(crate) const NUMBERS: Numbers = Numbers {
+const NUMBERS: Numbers = Numbers {
     blocks: 12,
     block_size: 4,
     lifetime: 3600,

@@ -1,11 +1,10 @@
 //! Runs: worked rows, and random events of three tenants.
-use crate::books::{NUMBERS, at, book};
-use crate::requests::{CREATION, FIELDS, HEAD, Sent, TYPED};
+use crate::books::{at, book};
+use crate::requests::{FIELDS, Sent, TYPED};
 use crate::rows::{Row, rows};
 use crate::told::Told::{Created, Patched, Refused, Row as Shown};
 use crate::told::{Told, told_by};
 use std::alloc::Global;
-use std::io::Print;
 use std::process::Abort;
 use std::test::Fail;
 use tus_steps::{Field, Method, Reply, Request, RunFault, TusFields, run};
@@ -44,40 +43,6 @@ fn a_run_answers_in_order(rt: HostRuntime) -> Result<(), Fail> {
     let mut book = book(rt.alloc())?;
     check_run(&rt, rt.alloc(), &mut book, &[])?;
     check_run(&rt, rt.alloc(), &mut book, &IN_ORDER)
-}
-
-static CREATED_AND_SHOWN: [Row; 2] = rows! {
-    1000 Post b"/files/acme" [length: Field::One(b"10")] b"" => Created(1, None, Some(4600));
-    1000 Head b"/files/acme/1" [] b"" => Shown(0, Some(10), b"", b"");
-};
-
-// Runs a creation and a HEAD, and once more where the first run was refused; says on the output whether it was.
-fn run_again<W: Abort + Print>(rt: &W, alloc: Global, book: &mut Book) -> Result<(), Fail> {
-    let now = at(1000)?;
-    let turns = [(CREATION.request(), now), (HEAD.request(), now)];
-    let mut replies = run(alloc, book, &turns);
-    if let Err(RunFault::Memory) = replies {
-        rt.println("the room for the replies was refused")?;
-        replies = run(alloc, book, &turns);
-    }
-    assert_told(rt, replies?.as_slice(), &CREATED_AND_SHOWN);
-    Ok(())
-}
-
-/// `rt try --test --fail-alloc 9 -- lacking_memory_runs_nothing` refuses the first allocation after those of the book:
-/// that of the room for replies, since a run of no requests takes none. It prints that, and the book is as it was.
-#[test]
-fn lacking_memory_runs_nothing(rt: HostRuntime) -> Result<(), Fail> {
-    let one_upload = Numbers {
-        uploads: 1,
-        ..NUMBERS
-    };
-    let settings = Settings::new(one_upload, &[(b"acme", 8)])?;
-    let Ok(mut book) = Book::new(rt.alloc(), settings) else {
-        return Ok(());
-    };
-    check_run(&rt, rt.alloc(), &mut book, &[])?;
-    run_again(&rt, rt.alloc(), &mut book)
 }
 
 static FULL: [Row; 6] = rows! {

@@ -78,7 +78,7 @@ pub fn create(rt: &impl Abort, book: &mut Book, tenant: &[u8], length: Option<u6
 }
 
 /// A PATCH of an upload of acme at second 1000, which tells no length.
-pub fn patch(
+fn patch(
     rt: &impl Abort,
     book: &mut Book,
     id: u64,

@@ -13,8 +13,6 @@ mod holders;
 #[cfg(test)]
 mod joins;
 #[cfg(test)]
-mod memory;
-#[cfg(test)]
 mod payloads;
 #[cfg(test)]
 mod plain;

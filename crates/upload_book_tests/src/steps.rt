@@ -92,7 +92,7 @@ fn secs(expires: Option<Moment>) -> Option<u64> {
     expires.map(|end| end.secs())
 }
 
-pub fn created<'a>(answer: Result<Created, Refusal>) -> Told<'a> {
+fn created<'a>(answer: Result<Created, Refusal>) -> Told<'a> {
     match answer {
         Ok(created) => Told::Created(created.name.id, secs(created.expires)),
         Err(refusal) => Told::Refused(refusal),
@@ -120,7 +120,7 @@ fn plain_row<'a>(answer: Result<PlainRow, Refusal>) -> Told<'a> {
     }
 }
 
-pub fn bytes<'a>(answer: &'a Result<Content, Refusal>) -> Told<'a> {
+fn bytes<'a>(answer: &'a Result<Content, Refusal>) -> Told<'a> {
     match answer {
         Ok(content) => Told::Bytes(content.as_slice()),
         Err(refusal) => Told::Refused(*refusal),
@@ -134,7 +134,7 @@ fn plain_bytes<'a>(answer: &'a Result<Vec<u8>, Refusal>) -> Told<'a> {
     }
 }
 
-pub fn removed<'a>(answer: Result<Removed, Refusal>) -> Told<'a> {
+fn removed<'a>(answer: Result<Removed, Refusal>) -> Told<'a> {
     match answer {
         Ok(removed) => Told::Removed(removed.blocks, removed.released),
         Err(refusal) => Told::Refused(refusal),
