@@ -2,21 +2,24 @@
 
 ghost use Rattle.std.specs.Prelude.{◌≡◌};
 
-use crate::opening::{assert_balance, moment, settings, watched_state};
+use crate::opening::{assert_balance, moment, settings};
 use crate::texts::{HEAD, MISSED};
 use connection_turns::{Bounds, WorkOptions};
-use std::alloc::Global;
+use std::alloc::{AllocError, Global};
 use std::io::{Eprint, Read, Write};
 use std::marker::Brand;
 use std::net::{Ipv4Addr, Net, Shutdown, SocketAddr, TcpListener, TcpStream};
 use std::process::Abort;
 use std::sync::Wait;
 use std::sync::ledger::{Blank, Ledger};
+use std::test::Fail;
 use std::thread::Threads;
 use std::time::Duration;
 use std::{io, time};
 use tus_shared::{Charges, Opened, Shared, settle};
-use tus_workers::{Listener, NoJournal, SocketListener, any_failed, dismiss, hire, work_all};
+use tus_workers::{
+    Listener, NoJournal, ServerState, SocketListener, any_failed, dismiss, hire, work_all,
+};
 use upload_book::Settings;
 
 /// What clients there are, and how many of them may be served at once.
@@ -31,53 +34,47 @@ struct Connections {
 }
 
 // So many times these bytes.
-fn repeated(rt: &impl Abort, alloc: Global, bytes: &[u8], times: usize) -> Vec<u8> {
+fn repeated(alloc: Global, bytes: &[u8], times: usize) -> Result<Vec<u8>, AllocError> {
     let mut all = Vec::new(alloc);
     for _ in 0..times {
-        assert!(rt; all.extend_from_slice(bytes).is_ok());
+        all.extend_from_slice(bytes)?;
     }
-    all
+    Ok(all)
 }
 
-// Sends these bytes in pieces of so many, and says that nothing follows.
-fn send(stream: &TcpStream, sent: &[u8], piece: usize) -> io::Result<()> {
-    stream.set_nodelay(true)?;
-    stream.set_read_timeout(Some(Duration::from_secs(30)))?;
-    let mut writer = stream;
-    for part in sent.chunks(piece.max(1)) {
-        writer.write_all(part)?;
-    }
-    stream.shutdown(Shutdown::Write)
-}
-
-// A client at this port that has sent these bytes in pieces of so many.
-fn client<W: Net<Stream = TcpStream> + Abort>(
-    rt: &W,
+// A client at this port that has sent these bytes in pieces of so many, and says that nothing follows.
+fn client<N: Net<Stream = TcpStream>>(
+    net: &N,
     port: u16,
     sent: &[u8],
     piece: usize,
-) -> TcpStream {
-    let stream = TcpStream::connect(rt, ("127.0.0.1", port)).expect(rt, "a connection");
-    assert!(rt; send(&stream, sent, piece).is_ok());
-    stream
+) -> io::Result<TcpStream> {
+    let stream = TcpStream::connect(net, ("127.0.0.1", port))?;
+    stream.set_nodelay(true)?;
+    stream.set_read_timeout(Some(Duration::from_secs(30)))?;
+    let mut writer = &stream;
+    for part in sent.chunks(piece.max(1)) {
+        writer.write_all(part)?;
+    }
+    stream.shutdown(Shutdown::Write)?;
+    Ok(stream)
 }
 
 // The clients, which have sent their HEADs to this port.
-fn connected<W: Net<Stream = TcpStream> + Abort>(
-    rt: &W,
+fn connected<N: Net<Stream = TcpStream>>(
+    net: &N,
     alloc: Global,
     port: u16,
     connections: Connections,
-) -> Vec<TcpStream> {
-    let sent = repeated(rt, alloc, HEAD, connections.heads);
+) -> Result<Vec<TcpStream>, Fail> {
+    let sent = repeated(alloc, HEAD, connections.heads)?;
     let [even, odd] = connections.pieces;
     let mut clients = Vec::new(alloc);
     for number in 0..connections.clients {
         let piece = if number % 2 == 0 { even } else { odd };
-        let client = client(rt, port, &sent, piece);
-        assert!(rt; clients.push(client).is_ok());
+        clients.push(client(net, port, &sent, piece)?)?;
     }
-    clients
+    Ok(clients)
 }
 
 // The work of one worker for these clients.
@@ -97,19 +94,21 @@ fn work_for(rt: &impl Abort, connections: Connections) -> WorkOptions {
     }
 }
 
-// Whether a client gets this text, and no more.
-fn gets(alloc: Global, client: &TcpStream, expected: &[u8]) -> bool {
-    let mut text = Vec::new(alloc);
-    let mut reader = client;
-    reader.read_to_end(&mut text).is_ok() && text.as_slice() == expected
-}
-
 // Each client was answered so many HEADs, and no more.
-fn assert_answered(rt: &impl Abort, alloc: Global, clients: &[TcpStream], heads: usize) {
-    let expected = repeated(rt, alloc, MISSED, heads);
+fn assert_answered(
+    rt: &impl Abort,
+    alloc: Global,
+    clients: &[TcpStream],
+    heads: usize,
+) -> Result<(), Fail> {
+    let expected = repeated(alloc, MISSED, heads)?;
     for client in clients {
-        assert!(rt; gets(alloc, client, &expected));
+        let mut text = Vec::new(alloc);
+        let mut reader = client;
+        let _ = reader.read_to_end(&mut text)?;
+        assert!(rt; text.as_slice() == expected.as_slice());
     }
+    Ok(())
 }
 
 // One worker serves all clients, at most so many at once.
@@ -133,7 +132,7 @@ fn serve_all<
     made: Blank,
     events: Opened,
     connections: Connections,
-)
+) -> Result<(), Fail>
     requires settings { settings ≡ C.settings }
     requires desks { C.desks ≡ 1 }
     requires charged { (charged.name ≡ C.name) × (charged.parts ≡ C.parts) × (C.parts ≡ 16) }
@@ -142,20 +141,17 @@ fn serve_all<
     requires log { events.seen.book ≡ C.log }
     requires journal { C.journal ≡ None }
 {
-    let address = SocketAddr::from((Ipv4Addr::LOCALHOST, 0));
-    let listener = SocketListener::listen(rt, address).expect(rt, "a listener");
-    let clients = connected(rt, alloc, listener.place().port(), connections);
+    let listener = SocketListener::listen(rt, SocketAddr::from((Ipv4Addr::LOCALHOST, 0)))?;
+    let clients = connected(rt, alloc, listener.place().port(), connections)?;
     let work = work_for(rt, connections);
-    let server_state = watched_state(rt, alloc, 1, &work);
-    let room = Vec::with_capacity(alloc, 1).expect(rt, "memory");
-    let room_after = Vec::with_capacity(alloc, 1).expect(rt, "memory");
-    let opened = Shared::<C, R, M, &W>::open(
+    let mut server_state = ServerState::new(alloc, 1, &work)?;
+    server_state.watch(rt)?;
+    let room = Vec::with_capacity(alloc, 1)?;
+    let room_after = Vec::with_capacity(alloc, 1)?;
+    let (shared, desks) = Shared::<C, R, M, &W>::open(
         rt, alloc, settings, 1, charged, released, made, events, None,
-    );
-    let Ok((shared, desks)) = opened else {
-        panic!(rt; "no store");
-    };
-    let mut workers = hire(&listener, desks, room).expect(rt, "workers");
+    )?;
+    let mut workers = hire(&listener, desks, room)?;
     work_all(
         rt,
         alloc,
@@ -168,7 +164,7 @@ fn serve_all<
     assert!(rt; !any_failed(workers.as_slice()));
     let (_, balance) = settle(shared, dismiss(workers, room_after));
     assert_balance(rt, balance, [0, 0, 0]);
-    assert_answered(rt, alloc, clients.as_slice(), connections.heads);
+    assert_answered(rt, alloc, clients.as_slice(), connections.heads)
 }
 
 fn serve<
@@ -179,17 +175,17 @@ fn serve<
         + Eprint
         + time::Clock
         + Sync,
->(rt: &W, alloc: Global, connections: Connections) {
+>(rt: &W, alloc: Global, connections: Connections) -> Result<(), Fail> {
     serve_all::<Brand, Brand, Brand, W>(
         rt,
         alloc,
-        settings(rt),
+        settings()?,
         Blank::new(16),
         Blank::new(16),
         Blank::new(16),
         Opened::new(),
         connections,
-    );
+    )
 }
 
 /// Every second one sends a byte at a time.
@@ -201,30 +197,34 @@ const FIFTY: Connections = Connections {
 };
 
 #[test]
-fn fifty_clients_at_once(rt: HostRuntime) {
-    serve(&rt, rt.alloc(), FIFTY);
+fn fifty_clients_at_once(rt: HostRuntime) -> Result<(), Fail> {
+    serve(&rt, rt.alloc(), FIFTY)
 }
 
 /// The others wait until a place is free.
-const FEW_PLACES: Connections = Connections {
-    at_once: 3,
-    ..FIFTY
-};
-
 #[test]
-fn more_clients_than_places(rt: HostRuntime) {
-    serve(&rt, rt.alloc(), FEW_PLACES);
+fn more_clients_than_places(rt: HostRuntime) -> Result<(), Fail> {
+    serve(
+        &rt,
+        rt.alloc(),
+        Connections {
+            at_once: 3,
+            ..FIFTY
+        },
+    )
 }
 
 /// More messages than a turn answers come in one write, and no byte after them: no event tells of those that are left.
-const BURSTS: Connections = Connections {
-    clients: 2,
-    heads: 833,
-    pieces: [usize::MAX, 1000],
-    at_once: 2,
-};
-
 #[test]
-fn bursts(rt: HostRuntime) {
-    serve(&rt, rt.alloc(), BURSTS);
+fn bursts(rt: HostRuntime) -> Result<(), Fail> {
+    serve(
+        &rt,
+        rt.alloc(),
+        Connections {
+            clients: 2,
+            heads: 833,
+            pieces: [usize::MAX, 1000],
+            at_once: 2,
+        },
+    )
 }

@@ -1,6 +1,6 @@
 //! Clients that a worker holds, over streams in memory that would block.
 
-use crate::opening::{moment, new_book};
+use crate::opening::{moment, settings};
 use crate::texts::{CREATED, CUT_PATCH, HEAD, LOOKED, PATCH, PATCHED, POST};
 use connection_turns::{
     AsTheyCome, Busy, ClientConnection, Outcome, Precedence, Streams, Turned, Unwatched,
@@ -11,6 +11,7 @@ use std::cell::Cell;
 use std::io;
 use std::io::{ErrorKind, Read, Write};
 use std::process::Abort;
+use std::test::Fail;
 use tus_steps::Request;
 use upload_book::Book;
 
@@ -148,37 +149,19 @@ impl<'a> Client<'a> {
 
 /// One text of the first parts and then of so many of the last.
 pub(crate) fn text_of(
-    rt: &impl Abort,
     alloc: Global,
     parts: &[&[u8]],
     last: &[u8],
     times: usize,
-) -> Vec<u8> {
+) -> Result<Vec<u8>, Fail> {
     let mut text = Vec::new(alloc);
     for part in parts {
-        assert!(rt; text.extend_from_slice(part).is_ok());
+        text.extend_from_slice(part)?;
     }
     for _ in 0..times {
-        assert!(rt; text.extend_from_slice(last).is_ok());
+        text.extend_from_slice(last)?;
     }
-    text
-}
-
-// Whether a client that sends this and is silent then is told that, in so many turns, where a number is given.
-fn is_told(
-    rt: &impl Abort,
-    alloc: Global,
-    sent: &[u8],
-    told: &[u8],
-    pieces: [usize; 2],
-    rounds: Option<u64>,
-) -> bool {
-    let mut book = new_book(rt, alloc);
-    let client = Client::new(alloc, sent, pieces, 4096).run(rt, alloc, &mut book);
-    client.outcome == Outcome::AwaitsBytes
-        && client.streams.writer.written.as_slice() == told
-        && client.free.len() == 1
-        && client.rounds == rounds.unwrap_or(client.rounds)
+    Ok(text)
 }
 
 /// An upload is created, and its first bytes come; then so many HEADs. All come and leave in pieces.
@@ -188,35 +171,54 @@ fn assert_looks(
     heads: usize,
     pieces: [usize; 2],
     rounds: Option<u64>,
-) {
-    let sent = text_of(rt, alloc, &[POST, PATCH], HEAD, heads);
-    let expected = text_of(rt, alloc, &[CREATED, PATCHED], LOOKED, heads);
-    assert!(rt;
-        is_told(rt, alloc, &sent, &expected, pieces, rounds),
-        "{heads} HEADs"
-    );
+) -> Result<(), Fail> {
+    let sent = text_of(alloc, &[POST, PATCH], HEAD, heads)?;
+    let expected = text_of(alloc, &[CREATED, PATCHED], LOOKED, heads)?;
+    let mut book = Book::new(alloc, settings()?)?;
+    let client = Client::new(alloc, &sent, pieces, 4096).run(rt, alloc, &mut book);
+    assert_eq!(rt; client.outcome, Outcome::AwaitsBytes);
+    assert!(rt; client.streams.writer.written.as_slice() == expected.as_slice());
+    assert_eq!(rt; client.free.len(), 1, "the buffers of a silent client");
+    if let Some(rounds) = rounds {
+        assert_eq!(rt; client.rounds, rounds, "{heads} HEADs");
+    }
+    Ok(())
 }
 
 #[test]
-fn pieces_that_would_block(rt: HostRuntime) {
+fn pieces_that_would_block(rt: HostRuntime) -> Result<(), Fail> {
     for piece in [1, 7, 4096] {
-        assert_looks(&rt, rt.alloc(), 3, [piece, piece], None);
+        assert_looks(&rt, rt.alloc(), 3, [piece, piece], None)?;
     }
+    Ok(())
 }
-
-const WHOLE: [usize; 2] = [usize::MAX, usize::MAX];
 
 /// A turn answers 16 messages, and has more to do then, though no byte may come any more. These are 16, 17, 32 and 42
 /// messages.
 #[test]
-fn a_burst_is_answered_in_turns(rt: HostRuntime) {
+fn a_burst_is_answered_in_turns(rt: HostRuntime) -> Result<(), Fail> {
     for (heads, rounds) in [(14, 1), (15, 1), (30, 2), (40, 2)] {
-        assert_looks(&rt, rt.alloc(), heads, WHOLE, Some(rounds));
+        assert_looks(
+            &rt,
+            rt.alloc(),
+            heads,
+            [usize::MAX, usize::MAX],
+            Some(rounds),
+        )?;
     }
+    Ok(())
 }
 
-// Whether a client that is over, and is owed nothing but that, may have sent more, and gives its buffers back.
-fn may_have_sent_more(client: Client, told: &[u8]) -> bool {
+#[test]
+fn the_last_message_ends_it(rt: HostRuntime) -> Result<(), Fail> {
+    let sent = text_of(rt.alloc(), &[POST, PATCH], HEAD, 1)?;
+    let expected = text_of(rt.alloc(), &[CREATED, PATCHED], HEAD, 0)?;
+    let mut book = Book::new(rt.alloc(), settings()?)?;
+    let client = Client::new(rt.alloc(), &sent, [usize::MAX, 50], 2).run(
+        &rt,
+        rt.alloc(),
+        &mut book,
+    );
     let Client {
         mut client_connection,
         mut free,
@@ -224,19 +226,11 @@ fn may_have_sent_more(client: Client, told: &[u8]) -> bool {
         outcome,
         ..
     } = client;
-    outcome == Outcome::Over
-        && streams.writer.written.as_slice() == told
-        && client_connection.leaves_unread(&mut free)
-        && free.len() == 1
-}
-
-#[test]
-fn the_last_message_ends_it(rt: HostRuntime) {
-    let sent = text_of(&rt, rt.alloc(), &[POST, PATCH], HEAD, 1);
-    let expected = text_of(&rt, rt.alloc(), &[CREATED, PATCHED], HEAD, 0);
-    let mut book = new_book(&rt, rt.alloc());
-    let client = Client::new(rt.alloc(), &sent, [usize::MAX, 50], 2);
-    assert!(rt; may_have_sent_more(client.run(&rt, rt.alloc(), &mut book), &expected));
+    assert_eq!(rt; outcome, Outcome::Over);
+    assert!(rt; streams.writer.written.as_slice() == expected.as_slice());
+    assert!(rt; client_connection.leaves_unread(&mut free));
+    assert_eq!(rt; free.len(), 1);
+    Ok(())
 }
 
 /// What lets no HEAD pass, until it was asked so often.
@@ -255,10 +249,10 @@ impl Precedence for After {
 
 /// The HEAD behind a creation waits, once; it is answered then, with no byte more.
 #[test]
-fn a_message_waits_for_its_turn(rt: HostRuntime) {
-    let sent = text_of(&rt, rt.alloc(), &[POST, HEAD], HEAD, 0);
-    let mut book = new_book(&rt, rt.alloc());
-    let client = Client::new(rt.alloc(), &sent, WHOLE, 4096);
+fn a_message_waits_for_its_turn(rt: HostRuntime) -> Result<(), Fail> {
+    let sent = text_of(rt.alloc(), &[POST, HEAD], HEAD, 0)?;
+    let mut book = Book::new(rt.alloc(), settings()?)?;
+    let client = Client::new(rt.alloc(), &sent, [usize::MAX, usize::MAX], 4096);
     let Client {
         mut client_connection,
         mut free,
@@ -269,13 +263,8 @@ fn a_message_waits_for_its_turn(rt: HostRuntime) {
         asked: Cell::new(2),
     };
     let mut clock = moment(&rt);
-    for outcome in [
-        Outcome::AwaitsBytes,
-        Outcome::AwaitsTurn,
-        Outcome::AwaitsRoom,
-        Outcome::AwaitsBytes,
-        Outcome::AwaitsBytes,
-    ] {
+    let mut outcomes = Vec::new(rt.alloc());
+    for _ in 0..5 {
         let turned = client_connection.attend(
             rt.alloc(),
             &mut free,
@@ -286,23 +275,23 @@ fn a_message_waits_for_its_turn(rt: HostRuntime) {
             false,
             &mut Unwatched,
         );
-        assert!(rt; turned.outcome == outcome);
+        outcomes.push(turned.outcome)?;
         streams = turned.streams;
     }
+    let expected = [
+        Outcome::AwaitsBytes,
+        Outcome::AwaitsTurn,
+        Outcome::AwaitsRoom,
+        Outcome::AwaitsBytes,
+        Outcome::AwaitsBytes,
+    ];
+    assert!(&rt; outcomes.as_slice() == expected.as_slice());
+    Ok(())
 }
 
-// Whether a client is at this after these bytes, which it sends in one piece and whose replies it takes as soon, and so many
-// bytes are held for it.
-fn is_at(rt: &impl Abort, alloc: Global, sent: &[u8], busy: Busy, held: usize) -> bool {
-    let mut book = new_book(rt, alloc);
-    let client = Client::new(alloc, sent, WHOLE, 4096).run(rt, alloc, &mut book);
-    client.client_connection.busy() == busy
-        && client.client_connection.held() == held
-        && client.client_connection.under_way().is_some() == (held > 0)
-}
-
+/// What a client is at, after these bytes, which it sends in one piece and whose replies it takes as soon.
 #[test]
-fn what_a_client_is_at(rt: HostRuntime) {
+fn what_a_client_is_at(rt: HostRuntime) -> Result<(), Fail> {
     let rows: [(&[u8], Busy, usize); 4] = [
         (b"", Busy::Idle, 0),
         (HEAD, Busy::Idle, 0),
@@ -310,28 +299,47 @@ fn what_a_client_is_at(rt: HostRuntime) {
         (CUT_PATCH, Busy::Body, 2),
     ];
     for (sent, busy, held) in rows {
-        assert!(rt; is_at(&rt, rt.alloc(), sent, busy, held));
+        let mut book = Book::new(rt.alloc(), settings()?)?;
+        let client = Client::new(rt.alloc(), sent, [usize::MAX, usize::MAX], 4096).run(
+            &rt,
+            rt.alloc(),
+            &mut book,
+        );
+        assert_eq!(&rt; client.client_connection.busy(), busy);
+        assert_eq!(&rt; client.client_connection.held(), held);
+        assert_eq!(&rt; client.client_connection.under_way().is_some(), held > 0);
     }
+    Ok(())
 }
 
 /// A client that was answered all of its messages, and of which nothing is held, may have sent more.
 #[test]
-fn the_last_message_of_all_ends_it(rt: HostRuntime) {
-    let mut book = new_book(&rt, rt.alloc());
-    let client = Client::new(rt.alloc(), HEAD, WHOLE, 1).run(&rt, rt.alloc(), &mut book);
+fn the_last_message_of_all_ends_it(rt: HostRuntime) -> Result<(), Fail> {
+    let mut book = Book::new(rt.alloc(), settings()?)?;
+    let client = Client::new(rt.alloc(), HEAD, [usize::MAX, usize::MAX], 1).run(
+        &rt,
+        rt.alloc(),
+        &mut book,
+    );
     let Client {
         mut client_connection,
         mut free,
         outcome,
         ..
     } = client;
-    assert!(rt; outcome == Outcome::Over);
-    assert!(rt; client_connection.leaves_unread(&mut free));
+    assert_eq!(&rt; outcome, Outcome::Over);
+    assert!(&rt; client_connection.leaves_unread(&mut free));
+    Ok(())
 }
 
 #[test]
-fn a_write_that_takes_nothing_ends_it(rt: HostRuntime) {
-    let mut book = new_book(&rt, rt.alloc());
-    let client = Client::new(rt.alloc(), POST, [usize::MAX, 0], 4096);
-    assert!(rt; client.run(&rt, rt.alloc(), &mut book).outcome == Outcome::Failed);
+fn a_write_that_takes_nothing_ends_it(rt: HostRuntime) -> Result<(), Fail> {
+    let mut book = Book::new(rt.alloc(), settings()?)?;
+    let client = Client::new(rt.alloc(), POST, [usize::MAX, 0], 4096).run(
+        &rt,
+        rt.alloc(),
+        &mut book,
+    );
+    assert_eq!(rt; client.outcome, Outcome::Failed);
+    Ok(())
 }

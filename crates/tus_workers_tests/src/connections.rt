@@ -2,9 +2,8 @@
 
 ghost use Rattle.std.specs.Prelude.{◌≡◌};
 
-use crate::opening::{assert_balance, moment, settings, watched_state};
+use crate::opening::{assert_balance, moment, settings};
 use crate::script::Script;
-use crate::streams::assert_written;
 use crate::texts::{
     BETA_CREATED, BETA_PATCH, BETA_PATCHED, BETA_POST, CREATED, PATCH, PATCHED, POST,
 };
@@ -16,53 +15,42 @@ use std::net::{Ipv4Addr, Net, Shutdown, SocketAddr, TcpListener, TcpStream};
 use std::process::Abort;
 use std::sync::Wait;
 use std::sync::ledger::{Blank, Ledger};
+use std::test::Fail;
 use std::thread::Threads;
 use std::time::Duration;
 use std::{io, time};
 use tus_shared::{Charges, Opened, Shared, settle};
-use tus_workers::{Listener, NoJournal, SocketListener, any_failed, dismiss, hire, work_all};
+use tus_workers::{
+    Listener, NoJournal, ServerState, SocketListener, any_failed, dismiss, hire, work_all,
+};
 use upload_book::{Book, Name, Settings};
 
-// Sends these messages, and says that nothing follows.
-fn send(stream: &TcpStream, messages: &[&[u8]]) -> io::Result<()> {
+// A client at this port that has sent these messages, and says that nothing follows.
+fn client<N: Net<Stream = TcpStream>>(
+    net: &N,
+    port: u16,
+    messages: &[&[u8]],
+) -> io::Result<TcpStream> {
+    let stream = TcpStream::connect(net, ("127.0.0.1", port))?;
     stream.set_read_timeout(Some(Duration::from_secs(30)))?;
-    let mut writer = stream;
+    let mut writer = &stream;
     for message in messages {
         writer.write_all(message)?;
     }
-    stream.shutdown(Shutdown::Write)
-}
-
-// A client at this port that has sent these messages.
-fn client<W: Net<Stream = TcpStream> + Abort>(rt: &W, port: u16, messages: &[&[u8]]) -> TcpStream {
-    let stream = TcpStream::connect(rt, ("127.0.0.1", port)).expect(rt, "a connection");
-    assert!(rt; send(&stream, messages).is_ok());
-    stream
+    stream.shutdown(Shutdown::Write)?;
+    Ok(stream)
 }
 
 // Asserts that a client gets these replies, and nothing else.
 fn assert_replies(rt: &impl Abort, alloc: Global, stream: &TcpStream, replies: &[&[u8]]) {
     let mut text = Vec::new(alloc);
     let mut reader = stream;
-    assert!(rt; reader.read_to_end(&mut text).is_ok());
-    assert_written(rt, &text, replies);
-}
-
-// The work of workers that accept so many connections each.
-fn work_for(rt: &impl Abort, connections: u64) -> WorkOptions {
-    WorkOptions {
-        moment: Some(moment(rt)),
-        connections,
-        at_once: 1,
-        bounds: Bounds {
-            idle: 30,
-            message_seconds: 0,
-            least_rate: 0,
-        },
-        body_memory: 268_435_456,
-        by_readiness: false,
-        grace: None,
+    let _ = reader.read_to_end(&mut text).expect(rt, "the replies");
+    let mut rest = text.as_slice();
+    for reply in replies {
+        rest = rest.strip_prefix(*reply).expect(rt, "the next reply");
     }
+    assert!(rt; rest.is_empty());
 }
 
 // The first upload of beta is complete.
@@ -97,7 +85,7 @@ fn serve_both<
     events: Opened,
     connections: u64,
     fails: bool,
-)
+) -> Result<(), Fail>
 where
     L::Acceptor: Send + Drop,
     requires settings { settings ≡ C.settings }
@@ -108,65 +96,74 @@ where
     requires log { events.seen.book ≡ C.log }
     requires journal { C.journal ≡ None }
 {
-    let opened = Shared::<C, R, M, &W>::open(
+    let (shared, desks) = Shared::<C, R, M, &W>::open(
         rt, alloc, settings, 2, charged, released, made, events, None,
-    );
-    let Ok((shared, desks)) = opened else {
-        panic!(rt; "no store");
+    )?;
+    let listener = L::listen(rt, SocketAddr::from((Ipv4Addr::LOCALHOST, 0)))?;
+    let acme = client(rt, listener.place().port(), &[POST, PATCH])?;
+    let beta = client(rt, listener.place().port(), &[BETA_POST, BETA_PATCH])?;
+    let mut workers = hire(&listener, desks, Vec::with_capacity(alloc, 2)?)?;
+    let options = WorkOptions {
+        moment: Some(moment(rt)),
+        connections,
+        at_once: 1,
+        bounds: Bounds {
+            idle: 30,
+            message_seconds: 0,
+            least_rate: 0,
+        },
+        body_memory: 268_435_456,
+        by_readiness: false,
+        grace: None,
     };
-    let address = SocketAddr::from((Ipv4Addr::LOCALHOST, 0));
-    let listener = L::listen(rt, address).expect(rt, "a listener");
-    let acme = client(rt, listener.place().port(), &[POST, PATCH]);
-    let beta = client(rt, listener.place().port(), &[BETA_POST, BETA_PATCH]);
-    let room = Vec::with_capacity(alloc, 2).expect(rt, "memory");
-    let room_after = Vec::with_capacity(alloc, 2).expect(rt, "memory");
-    let mut workers = hire(&listener, desks, room).expect(rt, "workers");
-    let work = work_for(rt, connections);
-    let server_state = watched_state(rt, alloc, 2, &work);
+    let mut server_state = ServerState::new(alloc, 2, &options)?;
+    server_state.watch(rt)?;
     work_all(
         rt,
         alloc,
         &shared,
         &NoJournal,
         workers.as_mut_slice(),
-        work,
+        options,
         &server_state,
     );
     assert!(rt; any_failed(workers.as_slice()) == fails);
     assert_replies(rt, alloc, &acme, &[CREATED, PATCHED]);
     assert_replies(rt, alloc, &beta, &[BETA_CREATED, BETA_PATCHED]);
-    let (book, balance) = settle(shared, dismiss(workers, room_after));
+    let desks = dismiss(workers, Vec::with_capacity(alloc, 2)?);
+    let (book, balance) = settle(shared, desks);
     assert_content(rt, &book);
     assert_balance(rt, balance, [3, 0, 3]);
+    Ok(())
 }
 
 #[test]
-fn two_workers_serve_two_clients(rt: HostRuntime) {
+fn two_workers_serve_two_clients(rt: HostRuntime) -> Result<(), Fail> {
     serve_both::<SocketListener, Brand, Brand, Brand, HostRuntime>(
         &rt,
         rt.alloc(),
-        settings(&rt),
+        settings()?,
         Blank::new(16),
         Blank::new(16),
         Blank::new(16),
         Opened::new(),
         1,
         false,
-    );
+    )
 }
 
 // Each worker is to accept three connections, and the second accept fails. What it served before is settled.
 #[test]
-fn a_worker_ends_where_an_accept_fails(rt: HostRuntime) {
+fn a_worker_ends_where_an_accept_fails(rt: HostRuntime) -> Result<(), Fail> {
     serve_both::<Script, Brand, Brand, Brand, HostRuntime>(
         &rt,
         rt.alloc(),
-        settings(&rt),
+        settings()?,
         Blank::new(16),
         Blank::new(16),
         Blank::new(16),
         Opened::new(),
         3,
         true,
-    );
+    )
 }

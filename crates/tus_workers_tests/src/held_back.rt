@@ -4,12 +4,13 @@ ghost use Rattle.http_wire.specs.BookStep.{BookStep};
 ghost use Rattle.upload_book.specs.Book.{plain_of};
 
 use crate::client_connection::{Arriving, Leaving, text_of};
-use crate::opening::{moment, new_book};
+use crate::opening::{moment, settings};
 use crate::texts::{CREATED, HEAD, LOOKED, PATCH, PATCHED, POST};
 use connection_turns::{
     AsTheyCome, ClientConnection, Durability, Outcome, Streams, Turned, Unwatched,
 };
 use http_wire::Answer;
+use std::test::Fail;
 use tus_steps::{PlacedReply, Request, answer_in_place};
 use upload_book::{Book, Moment};
 
@@ -43,12 +44,12 @@ impl Durability for Withheld {
 
 /// Three messages are answered in one turn, and nothing is written; then their replies are sent, once there is room.
 #[test]
-fn replies_are_sent_when_they_may_be(rt: HostRuntime) {
+fn replies_are_sent_when_they_may_be(rt: HostRuntime) -> Result<(), Fail> {
     let alloc = rt.alloc();
-    let sent = text_of(&rt, alloc, &[POST, PATCH], HEAD, 1);
-    let expected = text_of(&rt, alloc, &[CREATED, PATCHED], LOOKED, 1);
+    let sent = text_of(alloc, &[POST, PATCH], HEAD, 1)?;
+    let expected = text_of(alloc, &[CREATED, PATCHED], LOOKED, 1)?;
     let mut answerer = Withheld {
-        book: new_book(&rt, alloc),
+        book: Book::new(alloc, settings()?)?,
     };
     let mut clock = moment(&rt);
     let mut free = Vec::new(alloc);
@@ -80,16 +81,16 @@ fn replies_are_sent_when_they_may_be(rt: HostRuntime) {
             false,
             &mut Unwatched,
         );
-        assert!(rt; outcome == Outcome::AwaitsKeeping);
+        assert_eq!(rt; outcome, Outcome::AwaitsKeeping);
         assert!(rt; after.writer.written.is_empty() && after.reader.rest.is_empty());
         streams = after;
     }
     let blocked = client_connection.send(&mut free, streams.writer);
-    assert!(rt; blocked.outcome == Outcome::AwaitsRoom);
+    assert_eq!(rt; blocked.outcome, Outcome::AwaitsRoom);
     let all = client_connection.send(&mut free, blocked.writer);
-    assert!(rt; all.outcome == Outcome::HasMore);
+    assert_eq!(rt; all.outcome, Outcome::HasMore);
     assert!(rt; all.writer.written.as_slice() == expected.as_slice());
-    assert!(rt; all.moved == expected.len());
-    // the buffers of a silent client
-    assert!(rt; free.len() == 1);
+    assert_eq!(rt; all.moved, expected.len());
+    assert_eq!(rt; free.len(), 1, "the buffers of a silent client");
+    Ok(())
 }

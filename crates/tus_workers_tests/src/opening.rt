@@ -1,12 +1,9 @@
 //! The store of the tests: 12 blocks of 4 bytes, acme with 8 of them and beta with 4.
 
-use connection_turns::WorkOptions;
-use std::alloc::Global;
-use std::net::{Net, TcpListener, TcpStream};
 use std::process::Abort;
+use std::test::Fail;
 use tus_shared::Balance;
-use tus_workers::ServerState;
-use upload_book::{Book, Moment, Numbers, Settings};
+use upload_book::{Moment, Numbers, Settings};
 
 const NUMBERS: Numbers = Numbers {
     blocks: 12,
@@ -18,29 +15,13 @@ const NUMBERS: Numbers = Numbers {
     last_total: u64::MAX,
 };
 
-pub fn settings(rt: &impl Abort) -> Settings {
-    Settings::new(NUMBERS, &[(b"acme", 8), (b"beta", 4)]).expect(rt, "settings")
-}
-
-pub fn new_book(rt: &impl Abort, alloc: Global) -> Book {
-    Book::new(alloc, settings(rt)).expect(rt, "memory")
+pub fn settings() -> Result<Settings, Fail> {
+    Ok(Settings::new(NUMBERS, &[(b"acme", 8), (b"beta", 4)])?)
 }
 
 /// The moment of every message.
 pub fn moment(rt: &impl Abort) -> Moment {
     Moment::new(1000).expect(rt, "a moment")
-}
-
-/// What so many workers share who work so, told of events.
-pub fn watched_state<W: Net<Stream = TcpStream, Listener = TcpListener> + Abort>(
-    rt: &W,
-    alloc: Global,
-    workers: usize,
-    work: &WorkOptions,
-) -> ServerState {
-    let mut server_state = ServerState::new(alloc, workers, work).expect(rt, "memory");
-    assert!(rt; server_state.watch(rt).is_ok());
-    server_state
 }
 
 /// Asserts how many blocks were charged, were released, and are held.

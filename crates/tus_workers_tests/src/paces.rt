@@ -24,7 +24,7 @@ fn assert_lateness(
     for (second, bytes, busy, has_answered) in turns {
         pace.note(*second, *bytes, *busy, *has_answered);
     }
-    assert!(rt; pace.lateness(second, bounds) == expected);
+    assert_eq!(rt; pace.lateness(second, bounds), expected);
 }
 
 #[test]
@@ -74,9 +74,9 @@ fn a_rate_is_counted_anew(rt: HostRuntime) {
     pace.note(1000, 5000, Busy::Body, false);
     pace.renew(1010);
     pace.note(1010, 1, Busy::Body, false);
-    assert!(rt; pace.lateness(1011, BOUNDS).is_none());
+    assert_eq!(&rt; pace.lateness(1011, BOUNDS), None);
     pace.renew(1011);
     pace.note(1021, 999, Busy::Body, false);
-    assert!(rt; pace.lateness(1021, BOUNDS).is_none());
-    assert!(rt; pace.lateness(1022, BOUNDS) == Some(Late::Rate));
+    assert_eq!(&rt; pace.lateness(1021, BOUNDS), None);
+    assert_eq!(&rt; pace.lateness(1022, BOUNDS), Some(Late::Rate));
 }

@@ -14,6 +14,7 @@ use std::marker::Brand;
 use std::process::Abort;
 use std::sync::Wait;
 use std::sync::ledger::{Blank, Ledger};
+use std::test::Fail;
 use tus_shared::{Charges, Desk, NoGate, Opened, Shared, settle};
 use tus_workers::{ServedStream, serve_stream};
 use upload_book::{Moment, Settings};
@@ -123,8 +124,8 @@ static EXPIRED: [Row; 1] = [Row {
     written: &[CREATED, PATCHED, GONE],
 }];
 
-/// Asserts that these texts were written, one after another, and nothing else.
-pub(crate) fn assert_written(rt: &impl Abort, written: &[u8], texts: &[&[u8]]) {
+// Asserts that these texts were written, one after another, and nothing else.
+fn assert_written(rt: &impl Abort, written: &[u8], texts: &[&[u8]]) {
     let mut rest = written;
     for text in texts {
         rest = rest.strip_prefix(*text).expect(rt, "the next reply");
@@ -179,7 +180,7 @@ fn serve_rows<C: Charges, R: Ledger, M: Ledger, W: Wait + Abort>(
     events: Opened,
     rows: &[Row],
     balance: [u64; 3],
-)
+) -> Result<(), Fail>
     requires settings { settings ≡ C.settings }
     requires desks { C.desks ≡ 1 }
     requires charged { (charged.name ≡ C.name) × (charged.parts ≡ C.parts) × (C.parts ≡ 16) }
@@ -188,47 +189,49 @@ fn serve_rows<C: Charges, R: Ledger, M: Ledger, W: Wait + Abort>(
     requires log { events.seen.book ≡ C.log }
     requires journal { C.journal ≡ None }
 {
-    let opened = Shared::<C, R, M, &W>::open(
+    let (shared, mut desks) = Shared::<C, R, M, &W>::open(
         rt, alloc, settings, 1, charged, released, made, events, None,
-    );
-    let Ok((shared, mut desks)) = opened else {
-        panic!(rt; "no store");
-    };
-    let desk = desks.pop().expect(rt, "a desk");
-    let mut served = (desk, Buffers::new(alloc).expect(rt, "memory"));
+    )?;
+    let mut served = (desks.pop().ok_or("a desk")?, Buffers::new(alloc)?);
     for row in rows {
         served = serve_row(rt, alloc, &shared, served.0, served.1, row);
     }
-    assert!(rt; desks.push(served.0).is_ok());
+    desks.push(served.0)?;
     let (_, settled) = settle(shared, desks);
     assert_balance(rt, settled, balance);
+    Ok(())
 }
 
-fn serve<W: Wait + Abort>(rt: &W, alloc: Global, rows: &[Row], balance: [u64; 3]) {
+fn serve<W: Wait + Abort>(
+    rt: &W,
+    alloc: Global,
+    rows: &[Row],
+    balance: [u64; 3],
+) -> Result<(), Fail> {
     serve_rows::<Brand, Brand, Brand, W>(
         rt,
         alloc,
-        settings(rt),
+        settings()?,
         Blank::new(16),
         Blank::new(16),
         Blank::new(16),
         Opened::new(),
         rows,
         balance,
-    );
+    )
 }
 
 #[test]
-fn the_first_upload(rt: HostRuntime) {
-    serve(&rt, rt.alloc(), &FIRST_UPLOAD, [2, 0, 2]);
+fn the_first_upload(rt: HostRuntime) -> Result<(), Fail> {
+    serve(&rt, rt.alloc(), &FIRST_UPLOAD, [2, 0, 2])
 }
 
 #[test]
-fn a_read_that_fails_in_a_body_keeps_what_came(rt: HostRuntime) {
-    serve(&rt, rt.alloc(), &READ_FAULT, [1, 0, 1]);
+fn a_read_that_fails_in_a_body_keeps_what_came(rt: HostRuntime) -> Result<(), Fail> {
+    serve(&rt, rt.alloc(), &READ_FAULT, [1, 0, 1])
 }
 
 #[test]
-fn an_upload_that_expires_while_a_connection_lasts(rt: HostRuntime) {
-    serve(&rt, rt.alloc(), &EXPIRED, [2, 2, 0]);
+fn an_upload_that_expires_while_a_connection_lasts(rt: HostRuntime) -> Result<(), Fail> {
+    serve(&rt, rt.alloc(), &EXPIRED, [2, 2, 0])
 }
