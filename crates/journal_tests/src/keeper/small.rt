@@ -26,7 +26,7 @@ static GONE: [&[u8]; 5] = [
     b"/files/acme/5",
 ];
 
-// The bytes of such an upload.
+// How many bytes such an upload has.
 const PASSING: usize = 12 << 20;
 
 // One of two blocks, which is there while the journal is made small.
@@ -88,23 +88,23 @@ fn uploads<C: Journalled, R: Ledger, M: Ledger, W: Wait + Abort>(
     makes(rt, shared, desk, Asked::Begin) && makes(rt, shared, desk, Asked::Patch(path, bytes))
 }
 
-// The first bytes of a long body, for two blocks.
-fn two_blocks<'a>(rt: &impl Abort, body: &'a [u8]) -> &'a [u8] {
-    assert!(rt; body.len() > TWO_BLOCKS);
-    &body[..TWO_BLOCKS]
-}
-
-// Uploads all that goes, with these bytes.
+// Uploads all that goes: these bytes five times, and those of two blocks.
 fn upload_all<C: Journalled, R: Ledger, M: Ledger, W: Wait + Abort>(
     rt: &W,
     shared: &Shared<C, R, M, &W>,
     desk: &mut Desk<C, R, M>,
     body: &[u8],
+    two_blocks: &[u8],
 ) {
     for path in GONE {
         assert!(rt; uploads(rt, shared, desk, path, body));
     }
-    assert!(rt; uploads(rt, shared, desk, GOES_LATER, two_blocks(rt, body)));
+    assert!(rt; uploads(rt, shared, desk, GOES_LATER, two_blocks));
+}
+
+// The bytes of an upload that goes.
+fn bytes(rt: &impl Abort, alloc: Global, count: usize) -> Vec<u8> {
+    vec![in alloc; 7u8; count].expect(rt, "memory")
 }
 
 // Makes the journal 60 MiB long and somewhat longer, by uploads that come and go.
@@ -116,9 +116,10 @@ fn make_large<C: Journalled, R: Ledger, M: Ledger, W: Wait + Abort + time::Clock
     desk: &mut Desk<C, R, M>,
     location: &Location,
 ) {
-    let body = vec![in alloc; 7u8; PASSING].expect(rt, "memory");
+    let body = bytes(rt, alloc, PASSING);
+    let two_blocks = bytes(rt, alloc, TWO_BLOCKS);
     desk.grant(1 << 30);
-    upload_all(rt, shared, desk, &body);
+    upload_all(rt, shared, desk, &body, &two_blocks);
     play(rt, shared, keeper, desk, location, &BECOMES_LARGE);
 }
 
