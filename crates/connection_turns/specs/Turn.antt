@@ -1,5 +1,5 @@
 -- What a turn of a connection does: whatever has passed on it is carried on.
-use Rattle.std.specs.Prelude.{◌≡◌, ℕ, List, ◌++◌, length, Option, Some, None}
+use Rattle.std.specs.Prelude.{◌≡◌, ◌⊎◌, ⊤, ℕ, List, [], ◌∷◌, ◌++◌, length, Option, Some, None}
 use Rattle.std.specs.Io.KnownBytes.{Appends, Consumes}
 use Rattle.tus_steps.specs.Request.{Request}
 use Rattle.tus_steps.specs.declared.reply.Reply.{Reply}
@@ -32,34 +32,47 @@ and_then p more = record {
   taken = p.taken ++ more.taken;
   handed = p.handed ++ more.handed;
   moments = p.moments ++ more.moments;
+  all_moments = p.all_moments ++ more.all_moments;
   answered = p.answered ++ more.answered;
 }
 
+-- these moments are among others, in their order
+abbrev pub AreAmong : List ℕ → List ℕ → Type 0
+AreAmong [] others = ⊤
+AreAmong (m ∷ moments) [] = ⊥
+AreAmong (m ∷ moments) (t ∷ others) = ((m ≡ t) × AreAmong moments others) ⊎ AreAmong (m ∷ moments) others
+
+-- The moments of messages are among all that were told: where bodies are taken in pieces, others are those of pieces.
+abbrev pub AreTimed : Option ℕ → List ℕ → List ℕ → Type 0
+AreTimed None moments told = moments ≡ told
+AreTimed (Some n) moments told = AreAmong moments told
+
 module _ {A K : Type 0} (steps : A → Request → ℕ → Reply → A → Type 0) (tells : K → ℕ → K → Type 0) where
-  -- This passed meanwhile: the bytes came from the reader and went to the writer, the clock told the moments, which are so many,
-  -- and the answers are steps.
-  pub record Passes (count : ℕ) (old new : Around A K) (more : History) : Type 0 where
+  -- This passed meanwhile: the bytes came from the reader and went to the writer, the clock told all moments, those of messages
+  -- are so many, and the answers are steps.
+  pub record Passes (piece : Option ℕ) (count : ℕ) (old new : Around A K) (more : History) : Type 0 where
     pub taken : Consumes old.unread new.unread more.taken
     pub handed : Appends old.written new.written more.handed
-    pub told : Tells tells old.clock more.moments new.clock
+    pub told : Tells tells old.clock more.all_moments new.clock
+    pub timed : AreTimed piece more.moments more.all_moments
     pub counted : length more.moments ≡ count
     pub answered : Follows steps old.answerer more.answered new.answerer
 
-  -- Whatever had passed on the connection, it has passed still, and then what passed meanwhile, with so many moments.
-  abbrev pub CarriesOn : ℕ → OnTurn A K → OnTurn A K → Type 0
-  CarriesOn count old new = (p : History) → HasHistory p old.connection → (more : History) × Passes count old.around new.around more × HasHistory (and_then p more) new.connection
+  -- Whatever had passed on the connection, it has passed still, and then what passed meanwhile, with so many messages.
+  abbrev pub CarriesOn : Option ℕ → ℕ → OnTurn A K → OnTurn A K → Type 0
+  CarriesOn piece count old new = (p : History) → HasHistory p old.connection → (more : History) × Passes piece count old.around new.around more × HasHistory (and_then p more) new.connection
 
 -- Some of what was pending went to the writer, and nothing else passed.
 abbrev pub SendsOn : OnConnection → OnConnection → Option (List ℕ) → Option (List ℕ) → Type 0
 SendsOn old new before after = (p : History) → HasHistory p old → (given : List ℕ) × Appends before after given × HasHistory (gave p given) new
 
--- A history of a client whose bodies have at most so many bytes, and whose connection may be put away while it is silent: then
--- each new one has that history.
-abbrev pub HasHistoryWithin : ℕ → History → Option OnConnection → Type 0
-HasHistoryWithin max p None = (c : OnConnection) → IsFresh c → c.max_size ≡ max → HasHistory p c
-HasHistoryWithin max p (Some c) = HasHistory p c × (c.max_size ≡ max)
+-- A history of a client whose bodies have at most so many bytes, and are taken in pieces of this size, where there are pieces.
+-- Its connection may be put away while it is silent: then each new one has that history.
+abbrev pub HasHistoryWithin : ℕ → Option ℕ → History → Option OnConnection → Type 0
+HasHistoryWithin max piece p None = (c : OnConnection) → IsFresh c → c.max_size ≡ max → c.piece ≡ piece → HasHistory p c
+HasHistoryWithin max piece p (Some c) = HasHistory p c × (c.max_size ≡ max) × (c.piece ≡ piece)
 
 -- the same of a client whose connection may be put away
-abbrev pub SendsOnWithin : ℕ → Option OnConnection → Option OnConnection → Option (List ℕ) → Option (List ℕ) → Type 0
-SendsOnWithin max old new before after =
-    (p : History) → HasHistoryWithin max p old → (given : List ℕ) × Appends before after given × HasHistoryWithin max (gave p given) new
+abbrev pub SendsOnWithin : ℕ → Option ℕ → Option OnConnection → Option OnConnection → Option (List ℕ) → Option (List ℕ) → Type 0
+SendsOnWithin max piece old new before after =
+    (p : History) → HasHistoryWithin max piece p old → (given : List ℕ) × Appends before after given × HasHistoryWithin max piece (gave p given) new

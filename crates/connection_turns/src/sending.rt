@@ -25,6 +25,7 @@ pub fn send_pending<W: Write + Drop>(connection: &mut Connection, writer: W) -> 
     ensures sends { SendsOn connection.old connection.new (W.contents writer) (W.contents result.writer) }
     ensures outcome { IsAfterSending result.outcome }
     ensures size { connection.new.max_size ≡ connection.old.max_size }
+    ensures piece { connection.new.piece ≡ connection.old.piece }
 {
     let mut writer = writer;
     let mut moved: usize = 0;

@@ -1,10 +1,10 @@
 //! A turn of a connection over streams that would block: it does what the connection wants as far as that goes.
 ghost use Rattle.std.specs.Prelude.{◌≡◌, ◌≢◌, ◌≤◌, ◌-◌, ◌⊎◌, [], List, ℕ, false, true, OnErr};
 ghost use Rattle.std.specs.Io.KnownBytes.{Consumes};
-ghost use Rattle.http_wire.specs.OnConnection.{wanted};
+ghost use Rattle.http_wire.specs.OnConnection.{body_in, wanted};
 ghost use Rattle.http_wire.specs.History.{HasHistory, History, took};
 ghost use Rattle.connection_turns.specs.Turn.{CarriesOn, SendsOn, on_turn};
-ghost use Rattle.connection_turns.specs.inside.Steps.{messages_of};
+ghost use Rattle.connection_turns.specs.inside.Steps.{answer_step, messages_of};
 
 use crate::holding::Durability;
 use crate::observer::Observer;
@@ -97,6 +97,8 @@ pub(crate) enum Step {
     // A call that a signal interrupted, or a read that failed, of which the connection knows.
     Again,
     Answered,
+    // A piece of a body was answered, and more of the body is to come.
+    Took,
     Stops(Outcome),
 }
 
@@ -115,7 +117,7 @@ struct Allowed {
 /// back, 262,144 bytes were moved, 16 messages were answered, its share was taken or all is over. The observer is told of
 /// each. A call that a signal interrupted is made again. A read that fails is told to the connection, which may still owe an
 /// answer. It answers the messages of its share, each at the moment that the clock tells then; refusals and the end of the
-/// input count as messages. Where all are had, it reads no more, and is over once all was sent. The connection and the
+/// input count as messages, and pieces of a body with more to come do not. Where all are had, it reads no more, and is over once all was sent. The connection and the
 /// streams are as the next turn needs them. Where the answerer holds back its replies, nothing is written: see
 /// [`crate::send_pending`].
 pub fn take_turn<
@@ -134,7 +136,7 @@ pub fn take_turn<
     share: Share,
     observer: &mut O,
 ) -> Turned<R, W>
-    ensures carries { CarriesOn A.steps K.tells (share.messages - result.left)
+    ensures carries { CarriesOn A.steps K.tells connection.old.piece (share.messages - result.left)
         (on_turn connection.old answerer.old clock.old (R.remaining streams.reader) (W.contents streams.writer))
         (on_turn connection.new answerer.new clock.new (R.remaining result.streams.reader) (W.contents result.streams.writer)) }
     ensures held { A.holds_back answerer.old ≡ true → W.contents result.streams.writer ≡ W.contents streams.writer }
@@ -144,6 +146,7 @@ pub fn take_turn<
     ensures turn { result.outcome ≡ Outcome.AwaitsTurn → wanted connection.new ≡ Wants.Answer }
     ensures left { result.left ≤ share.messages }
     ensures size { connection.new.max_size ≡ connection.old.max_size }
+    ensures piece { connection.new.piece ≡ connection.old.piece }
 {
     let mut streams = streams;
     let mut moved: usize = 0;
@@ -239,7 +242,7 @@ fn take_step<R: Read + Drop, W: Write + Drop, A: Durability, K: Clock, P: Preced
     allowed: Allowed,
     observer: &mut O,
 ) -> (Streams<R, W>, Step)
-    ensures carries { CarriesOn A.steps K.tells (messages_of result.1)
+    ensures carries { CarriesOn A.steps K.tells connection.old.piece (messages_of result.1)
         (on_turn connection.old answerer.old clock.old (R.remaining streams.reader) (W.contents streams.writer))
         (on_turn connection.new answerer.new clock.new (R.remaining result.0.reader) (W.contents result.0.writer)) }
     ensures held { allowed.send ≡ false → W.contents result.0.writer ≡ W.contents streams.writer }
@@ -250,6 +253,7 @@ fn take_step<R: Read + Drop, W: Write + Drop, A: Durability, K: Clock, P: Preced
     ensures more { result.1 ≢ Step.Stops Outcome.HasMore }
     ensures allowed { result.1 ≡ Step.Answered → allowed.answer ≡ true }
     ensures size { connection.new.max_size ≡ connection.old.max_size }
+    ensures piece { connection.new.piece ≡ connection.old.piece }
 {
     let Streams { reader, writer } = streams;
     match wants_now(connection, allowed.answer) {
@@ -277,14 +281,28 @@ fn take_step<R: Read + Drop, W: Write + Drop, A: Durability, K: Clock, P: Preced
             observer.asks(connection);
             connection.answer(answerer, now);
             observer.has_answered(connection);
-            (Streams { reader, writer }, Step::Answered)
+            (Streams { reader, writer }, step_of_answer(connection))
         }
         Wants::Nothing => (Streams { reader, writer }, Step::Stops(Outcome::Over)),
     }
 }
 
+// What an answer came to that left the connection so.
+fn step_of_answer(connection: &Connection) -> Step
+    ensures { result ≡ answer_step (body_in connection.now.phase) }
+{
+    if connection.is_in_pieces() {
+        Step::Took
+    } else {
+        Step::Answered
+    }
+}
+
 // Whether what came in may be answered now.
 fn may_pass<P: Precedence>(connection: &Connection, precedence: &P) -> bool {
+    if let Some(piece) = connection.piece() {
+        return precedence.may_pass(&piece.request());
+    }
     match connection.incoming() {
         Some(Incoming::Message(message)) => precedence.may_pass(&message.request()),
         _ => true,
@@ -301,6 +319,7 @@ fn wants_now(connection: &mut Connection, may_answer: bool) -> Wants
     ensures allowed { result ≡ Wants.Answer → may_answer ≡ true }
     ensures nothing { result ≡ Wants.Nothing → connection.new.write_buffer.pending ≡ [] }
     ensures size { connection.new.max_size ≡ connection.old.max_size }
+    ensures piece { connection.new.piece ≡ connection.old.piece }
 {
     if may_answer {
         return connection.wants();
@@ -321,6 +340,7 @@ fn receive<R: Read + Drop>(connection: &mut Connection, reader: R) -> (R, Step)
     ensures other { (outcome : Outcome) → result.1 ≡ Step.Stops outcome → outcome ≡ Outcome.AwaitsBytes }
     ensures moves { result.1 ≢ Step.Answered }
     ensures size { connection.new.max_size ≡ connection.old.max_size }
+    ensures piece { connection.new.piece ≡ connection.old.piece }
 {
     let mut tapped = Tapped::new(reader);
     let read = connection.read_from(&mut tapped);
@@ -336,6 +356,7 @@ fn step_of_read(connection: &mut Connection, read: io::Result<usize>) -> Step
     ensures other { (outcome : Outcome) → result ≡ Step.Stops outcome → outcome ≡ Outcome.AwaitsBytes }
     ensures moves { result ≢ Step.Answered }
     ensures size { connection.new.max_size ≡ connection.old.max_size }
+    ensures piece { connection.new.piece ≡ connection.old.piece }
 {
     match read {
         Ok(count) => Step::Read(count),
@@ -358,6 +379,7 @@ pub(crate) fn send<W: Write + Drop>(connection: &mut Connection, writer: W) -> (
     ensures other { (outcome : Outcome) → result.1 ≡ Step.Stops outcome → (outcome ≡ Outcome.AwaitsRoom) ⊎ (outcome ≡ Outcome.Failed) }
     ensures moves { result.1 ≢ Step.Answered }
     ensures size { connection.new.max_size ≡ connection.old.max_size }
+    ensures piece { connection.new.piece ≡ connection.old.piece }
 {
     let mut tapped = Tapped::new(writer);
     let written = connection.write_to(&mut tapped);

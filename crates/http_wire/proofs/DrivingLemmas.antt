@@ -1,11 +1,11 @@
 -- A connection that is driven over a reader and a writer that wait.
-use Rattle.std.proofs.Common.{◌≡◌, ◌≢◌, ◌⊎◌, ◌≤◌, arith, length-append, inl, inr, ◌+◌, ◌∷◌, ◌++◌, ℕ, Bool, true, false, List, [], length, take, Option, Ok, Err, IfSome, refl, ap, sym, subst, ◌∙◌, append-nil}
+use Rattle.std.proofs.Common.{◌≡◌, ◌≢◌, ◌⊎◌, ◌≤◌, arith, length-append, inl, inr, ◌+◌, ◌∷◌, ◌++◌, ℕ, Bool, true, false, List, [], length, take, Option, None, Ok, Err, IfSome, refl, ap, sym, subst, ◌∙◌, append-nil}
 use Rattle.std.proofs.Math.Seq.{take-append-add}
 use Rattle.std.specs.Prelude.{if◌then◌else◌}
 use Rattle.http_wire.specs.ConnectionCalls.{BreaksTo}
 use Rattle.http_wire.specs.Conversation.{continue_text}
 use Rattle.http_wire.specs.Incoming.{FramedRequest, is_cut_by_fault}
-use Rattle.http_wire.specs.OnConnection.{OnConnection, Stands, StandsIn, ended_in, is_looking, owed_in, unless_pending, wanted, wanted_in}
+use Rattle.http_wire.specs.OnConnection.{OnConnection, Stands, StandsIn, body_in, ended_in, is_looking, owed_in, unless_pending, wanted, wanted_in}
 use Rattle.http_wire.specs.ReadOnWire.{BreaksMessage, TellsEnd, read_limit}
 use Rattle.http_wire.specs.declared.connection.Wants.{Wants}
 use Rattle.http_wire.specs.declared.connection.Wants.TheVariants as wants
@@ -14,13 +14,14 @@ use Rattle.http_wire.specs.declared.fault.WireFault.{WireFault}
 use Rattle.http_wire.specs.declared.fault.WireFault.TheVariants as fault
 use Rattle.http_wire.specs.declared.incoming.Incoming.{Incoming}
 use Rattle.http_wire.specs.declared.phase.Phase.{Phase}
-use Rattle.http_wire.specs.declared.phase.Phase.TheVariants.{Looking, Waiting, Owing, Over}
-use Rattle.http_wire.specs.declared.read.stage.Stage.TheVariants.{Head, Body}
+use Rattle.http_wire.specs.declared.phase.Phase.TheVariants.{Looking, Waiting, Owing, Piece, Over, Stopped}
+use Rattle.http_wire.specs.declared.read.stage.Stage.TheVariants.{Head, Body, Pieces}
 use Rattle.http_wire.specs.inside.Ahead.{Ahead}
 use Rattle.http_wire.specs.inside.Driving.{CameIn}
 use Rattle.http_wire.specs.inside.Sending.{OnOutbox, empty_write_buffer}
 use Rattle.http_wire.proofs.NextMessageLemmas.{IsNextMessage-waits}
 use Rattle.http_wire.proofs.PhaseLemmas.{reads-waiting}
+use Rattle.http_wire.proofs.PieceLemmas.{IsTaken-waits}
 
 -- it does not look at a message where it wants to read
 pub reads-other : (o : OnOutbox) (p : Phase FramedRequest) → wanted_in o p ≡ wants.Read → is_looking p ≡ false
@@ -31,20 +32,28 @@ pub read-few : (max seen : ℕ) (held read got : List ℕ) (n : ℕ) → length 
 read-few max seen held read got n count size few =
     omega (arith, count, size, few, length-append held read, length-append read got)
 
--- it owes an answer where it wants one
-answers-owing : (o : OnOutbox) (p : Phase FramedRequest) → wanted_in o p ≡ wants.Answer → (i : Incoming FramedRequest) × (p ≡ Owing i)
-answers-owing o (Looking s) h = absurd cc
-answers-owing o (Waiting s) h = absurd (reads o.pending h)
+-- no answer is wanted once all is over
+answers-over : (pending : List ℕ) → unless_pending pending wants.Nothing ≡ wants.Answer → ⊥
+answers-over [] is = absurd cc
+answers-over (b ∷ rest) is = absurd cc
+
+-- it owes an answer where it wants one, and takes no body in pieces
+answers-owing : (o : OnOutbox) (p : Phase FramedRequest) → body_in p ≡ None → wanted_in o p ≡ wants.Answer → (i : Incoming FramedRequest) × (p ≡ Owing i)
+answers-owing o (Looking s) none h = absurd cc
+answers-owing o (Waiting s) none h = absurd (reads o.pending h)
   where
     reads : (pending : List ℕ) → unless_pending pending wants.Read ≡ wants.Answer → ⊥
     reads [] is = absurd cc
     reads (b ∷ rest) is = absurd cc
-answers-owing o (Owing i) h = (i, refl)
-answers-owing o (Over r) h = absurd (over o.pending h)
-  where
-    over : (pending : List ℕ) → unless_pending pending wants.Nothing ≡ wants.Answer → ⊥
-    over [] is = absurd cc
-    over (b ∷ rest) is = absurd cc
+answers-owing o (Owing i) none h = (i, refl)
+answers-owing o (Piece b part) none h = absurd cc
+answers-owing o (Over r) none h = absurd (answers-over o.pending h)
+answers-owing o (Stopped r) none h = absurd (answers-over o.pending h)
+
+-- something is wanted where an answer is owed
+owes-some : (room : Bool) → (if room then wants.Answer else wants.Write) ≡ wants.Nothing → ⊥
+owes-some true is = absurd cc
+owes-some false is = absurd cc
 
 -- nothing stands over the bytes of a conversation that is over
 stands-unended : (max : ℕ) (bytes said : List ℕ) (a : Ahead) (o : OnOutbox) (p : Phase FramedRequest) → StandsIn max bytes said a p → wanted_in o p ≡ wants.Nothing → ⊥
@@ -54,19 +63,19 @@ stands-unended max bytes said a o (Waiting s) h is = reads o.pending is
     reads : (pending : List ℕ) → unless_pending pending wants.Read ≡ wants.Nothing → ⊥
     reads [] is = absurd cc
     reads (b ∷ rest) is = absurd cc
-stands-unended max bytes said a o (Owing i) h is = owes o.has_room is
-  where
-    owes : (room : Bool) → (if room then wants.Answer else wants.Write) ≡ wants.Nothing → ⊥
-    owes true is = absurd cc
-    owes false is = absurd cc
+stands-unended max bytes said a o (Owing i) h is = owes-some o.has_room is
+stands-unended max bytes said a o (Piece b part) h is = owes-some o.has_room is
 stands-unended max bytes said a o (Over r) h is = absurd h
+stands-unended max bytes said a o (Stopped r) h is = absurd h
 
 -- with nothing pending, it wants to write only where it looks
 empty-writes : (p : Phase FramedRequest) → wanted_in empty_write_buffer p ≡ wants.Write → is_looking p ≡ true
 empty-writes (Looking s) h = refl
 empty-writes (Waiting s) h = absurd cc
 empty-writes (Owing i) h = absurd cc
+empty-writes (Piece b part) h = absurd cc
 empty-writes (Over r) h = absurd cc
+empty-writes (Stopped r) h = absurd cc
 
 -- where nothing was pending, it wants to write only what was put by a look
 pub writes-looking : (o : OnOutbox) (c : OnConnection) → o ≡ empty_write_buffer → (is_looking c.phase ≡ false → c.write_buffer ≡ o) → wanted c ≡ wants.Write → is_looking c.phase ≡ true
@@ -102,27 +111,29 @@ CameIn-owing bytes said broke c i is stands tells why = record {
 }
 
 -- what is wanted an answer for came in, and no failed read cut it
-pub CameIn-wanted : (bytes said : List ℕ) (broke : Bool) (o : OnOutbox) (c : OnConnection) (w : Wants) → o ≡ empty_write_buffer → (is_looking c.phase ≡ false → c.write_buffer ≡ o) → w ≡ wanted c → (w ≡ wants.Answer) ⊎ (w ≡ wants.Nothing)
+pub CameIn-wanted : (bytes said : List ℕ) (broke : Bool) (o : OnOutbox) (c : OnConnection) (w : Wants) → o ≡ empty_write_buffer → (is_looking c.phase ≡ false → c.write_buffer ≡ o) → w ≡ wanted c → (w ≡ wants.Answer) ⊎ (w ≡ wants.Nothing) → body_in c.phase ≡ None
     → (put : List ℕ) × (c.write_buffer.pending ≡ o.pending ++ put) × Stands bytes (said ++ put) c → IfSome (owed_in c.phase) (λ i. TellsEnd c.read_buffer.ended (Ok i))
     → IfSome (owed_in c.phase) (λ i. is_cut_by_fault i ≡ false) → broke ≡ false → CameIn bytes said broke c
-CameIn-wanted bytes said broke o c w empty same is (inr over) put tells whole alive = absurd (stands-unended c.max_size bytes (said ++ put.0) c.read_buffer c.write_buffer c.phase put.2 (sym is ∙ over))
-CameIn-wanted bytes said broke o c w empty same is (inl answers) put tells whole alive =
-    let owing = answers-owing c.write_buffer c.phase (sym is ∙ answers) in
+CameIn-wanted bytes said broke o c w empty same is (inr over) none put tells whole alive = absurd (stands-unended c.max_size bytes (said ++ put.0) c.read_buffer c.write_buffer c.phase put.2 (sym is ∙ over))
+CameIn-wanted bytes said broke o c w empty same is (inl answers) none put tells whole alive =
+    let owing = answers-owing c.write_buffer c.phase none (sym is ∙ answers) in
     let other : is_looking c.phase ≡ false = ap is_looking owing.1 in
     let unbroken = subst (λ p. IfSome (owed_in p) (λ i. is_cut_by_fault i ≡ false)) owing.1 whole in
     CameIn-owing bytes said broke c owing.0 owing.1 (settled o c bytes said empty same other put) tells (alive ∙ sym unbroken)
 
 -- after a read that failed, what is owed an answer is what that cut
-pub CameIn-broken : (max : ℕ) (bytes said : List ℕ) (broke : Bool) (c : OnConnection) (x : Option Ended) → BreaksTo max bytes said c.read_buffer c.phase → max ≡ c.max_size → ended_in c.phase ≡ Ok x
+pub CameIn-broken : (max : ℕ) (bytes said : List ℕ) (broke : Bool) (c : OnConnection) (x : Option Ended) → BreaksTo max bytes said c.read_buffer c.phase → max ≡ c.max_size → ended_in c.phase ≡ Ok x → body_in c.phase ≡ None
     → IfSome (owed_in c.phase) (λ i. TellsEnd c.read_buffer.ended (Ok i)) → broke ≡ true → CameIn bytes said broke c
-CameIn-broken max bytes said broke c x breaks size ok tells broken = go c.phase refl breaks ok
+CameIn-broken max bytes said broke c x breaks size ok gathered tells broken = go c.phase refl gathered breaks ok
   where
-    go : (p : Phase FramedRequest) → c.phase ≡ p → BreaksTo max bytes said c.read_buffer p → ended_in p ≡ Ok x → CameIn bytes said broke c
-    go (Looking s) is h ok = absurd h
-    go (Waiting s) is h ok = absurd h
-    go (Owing i) is h ok = CameIn-owing bytes said broke c i is (subst (StandsIn c.max_size bytes said c.read_buffer) (sym is) (subst (λ m. StandsIn m bytes said c.read_buffer (Owing i)) size h.0)) tells (broken ∙ sym h.1)
-    go (Over (Ok e)) is h ok = absurd h
-    go (Over (Err f)) is h ok = absurd cc
+    go : (p : Phase FramedRequest) → c.phase ≡ p → body_in p ≡ None → BreaksTo max bytes said c.read_buffer p → ended_in p ≡ Ok x → CameIn bytes said broke c
+    go (Looking s) is none h ok = absurd h
+    go (Waiting s) is none h ok = absurd h
+    go (Owing i) is none h ok = CameIn-owing bytes said broke c i is (subst (StandsIn c.max_size bytes said c.read_buffer) (sym is) (subst (λ m. StandsIn m bytes said c.read_buffer (Owing i)) size h.0)) tells (broken ∙ sym h.1)
+    go (Piece b part) is none h ok = absurd cc
+    go (Over (Ok e)) is none h ok = absurd h
+    go (Over (Err f)) is none h ok = absurd cc
+    go (Stopped r) is none h ok = absurd h
 
 -- and where nothing is, it breaks the reading off
 pub Breaks-over : (max : ℕ) (bytes said : List ℕ) (a : Ahead) (p : Phase FramedRequest) (f : WireFault) → BreaksTo max bytes said a p → Err f ≡ ended_in p
@@ -130,10 +141,22 @@ pub Breaks-over : (max : ℕ) (bytes said : List ℕ) (a : Ahead) (p : Phase Fra
 Breaks-over max bytes said a (Looking s) f h is = absurd h
 Breaks-over max bytes said a (Waiting s) f h is = absurd h
 Breaks-over max bytes said a (Owing i) f h is = absurd cc
+Breaks-over max bytes said a (Piece b part) f h is = absurd cc
 Breaks-over max bytes said a (Over (Ok e)) f h is = absurd h
 Breaks-over max bytes said a (Over (Err g)) f h is =
     let same : f ≡ g = cc in
     subst (λ f. BreaksMessage max (record { input = bytes; text = said }) f × (f ≡ fault.Read)) (sym same) h
+Breaks-over max bytes said a (Stopped r) f h is = absurd h
+
+-- something was put only where the client waits for `100 Continue`
+waits-told : (said put : List ℕ) (w : Bool) → put ≢ [] → said ++ put ≡ continue_text w → w ≡ true
+waits-told said put true some e = refl
+waits-told [] put false some e = absurd (some e)
+waits-told (x ∷ said) put false some e = absurd cc
+
+-- and a prefix of that was written, where its write failed
+told-in-part : (said put : List ℕ) (n : ℕ) (w : Bool) → w ≡ true → said ++ put ≡ continue_text w → (k : ℕ) × (said ++ take n put ≡ take k (continue_text true))
+told-in-part said put n w waits whole = (length said + n, sym (take-append-add said put n) ∙ ap (take (length said + n)) (whole ∙ ap continue_text waits))
 
 -- `100 Continue` was put, and its write failed after a prefix of it
 pub Breaks-continue : (max : ℕ) (bytes said put : List ℕ) (n : ℕ) (a : Ahead) (p : Phase FramedRequest) → StandsIn max bytes (said ++ put) a p → is_looking p ≡ true → put ≢ []
@@ -144,15 +167,15 @@ Breaks-continue max bytes said put n a (Looking (Head s)) h looks some = absurd 
     nil-right [] ys e = e
     nil-right (x ∷ xs) ys e = absurd cc
 Breaks-continue max bytes said put n a (Looking (Body p)) h looks some =
-    let waits : p.is_waiting ≡ true = is_waiting said put p.is_waiting some h.0 in
+    let waits = waits-told said put p.is_waiting some h.0 in
     let next_message = IsNextMessage-waits max bytes p a.held h.1 waits in
-    let whole : said ++ put ≡ continue_text true = h.0 ∙ ap continue_text waits in
-    (next_message.0, next_message.1, next_message.2, (length said + n, sym (take-append-add said put n) ∙ ap (take (length said + n)) whole))
-  where
-    is_waiting : (said put : List ℕ) (w : Bool) → put ≢ [] → said ++ put ≡ continue_text w → w ≡ true
-    is_waiting said put true some e = refl
-    is_waiting [] put false some e = absurd (some e)
-    is_waiting (x ∷ said) put false some e = absurd cc
+    (next_message.0, next_message.1, next_message.2, told-in-part said put n p.is_waiting waits h.0)
+Breaks-continue max bytes said put n a (Looking (Pieces b)) h looks some =
+    let waits = waits-told said put b.layout.is_waiting some h.1.waits in
+    let next_message = IsTaken-waits max bytes (said ++ put) h.0 b a.held h.1 waits in
+    (next_message.0, next_message.1, next_message.2, told-in-part said put n b.layout.is_waiting waits h.1.waits)
 Breaks-continue max bytes said put n a (Waiting s) h looks some = absurd cc
 Breaks-continue max bytes said put n a (Owing i) h looks some = absurd cc
+Breaks-continue max bytes said put n a (Piece b part) h looks some = absurd cc
 Breaks-continue max bytes said put n a (Over r) h looks some = absurd cc
+Breaks-continue max bytes said put n a (Stopped r) h looks some = absurd cc

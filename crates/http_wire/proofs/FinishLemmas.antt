@@ -1,5 +1,5 @@
 -- The second half of a turn: what is pending for each thing that came in, and what was sent of it.
-use Rattle.std.proofs.Common.{◌≡◌, ◌≢◌, ℕ, Bool, true, false, List, [], ◌++◌, Option, Some, None, IfSome, ap, Result, Ok, Err, IfOk, IfErr, take, refl, sym, subst, ◌∙◌, append-nil}
+use Rattle.std.proofs.Common.{◌≡◌, ◌≢◌, ℕ, Bool, true, false, List, [], ◌∷◌, ◌++◌, Option, Some, None, IfSome, inl, ap, Result, Ok, Err, IfOk, IfErr, take, refl, sym, subst, ◌∙◌, append-nil}
 use Rattle.std.specs.Io.KnownBytes.{Appends}
 use Rattle.tus_steps.specs.Request.{Request}
 use Rattle.tus_steps.specs.declared.reply.Reply.{Reply}
@@ -10,7 +10,7 @@ use Rattle.http_wire.specs.Fault.{NamesStream}
 use Rattle.http_wire.specs.Incoming.{FramedRequest, is_cut_by_fault}
 use Rattle.http_wire.specs.Layout.{framed_at, request_at}
 use Rattle.http_wire.specs.OnConnection.{ended_in, phase_after, turn_end}
-use Rattle.http_wire.specs.History.{Answering, Notes}
+use Rattle.http_wire.specs.History.{Answering, NotesBy}
 use Rattle.http_wire.specs.ReadOnWire.{ComesIn}
 use Rattle.http_wire.specs.ReplyText.{reply_text, refusal_text}
 use Rattle.http_wire.specs.inside.TurnFinish.{AnswersTurn, FinishesTurn, ended_after, turn_cut}
@@ -215,6 +215,11 @@ module _ {A : Type 0} (steps : A → Request → ℕ → Reply → A → Type 0)
       (t.0, t.1, asked now told t.2)
 
 -- where nothing was answered, the notes are as they were
-pub Notes-none : (now : ℕ) (a : Ahead) (i : Incoming FramedRequest) (put : List ℕ) (before : List Answering) (r : Result (Option Ended) WireFault) → AnswersTurn Notes now a i put before before r
-    → AnswersTurn Notes now a i put before (before ++ []) r
-Notes-none now a i put before r h = subst (λ after. AnswersTurn Notes now a i put before after r) (sym (append-nil before)) h
+pub Answers-unnoted : (steps : List Answering → Request → ℕ → Reply → List Answering → Type 0) (now : ℕ) (a : Ahead) (i : Incoming FramedRequest) (put : List ℕ) (before : List Answering) (r : Result (Option Ended) WireFault)
+    → AnswersTurn steps now a i put before before r → AnswersTurn steps now a i put before (before ++ []) r
+Answers-unnoted steps now a i put before r h = subst (λ after. AnswersTurn steps now a i put before after r) (sym (append-nil before)) h
+
+-- a request that is answered as one is noted, whether bodies are taken in pieces or not
+pub NotesBy-one : (piece : Option ℕ) (before : List Answering) (q : Answering) → NotesBy piece before q.request q.now q.reply (before ++ q ∷ [])
+NotesBy-one None before q = refl
+NotesBy-one (Some n) before q = inl refl

@@ -1,39 +1,53 @@
 -- What each call of a connection adds to its history.
 use Rattle.std.proofs.Common.{◌≡◌, ℕ, List, [], ◌∷◌, ◌++◌, take, drop, Option, Some, None, Result, Ok, Err, refl, ap, sym, subst, subst₂, ◌∙◌, append-nil, append_assoc}
-use Rattle.std.proofs.lemmas.List.{take-append-drop}
+use Rattle.std.proofs.lemmas.List.{take-append-drop, nil_from_length}
 use Rattle.http_wire.specs.ConnectionCalls.{BreaksTo}
 use Rattle.http_wire.specs.Exchange.{Exchange, followed}
 use Rattle.http_wire.specs.Incoming.{FramedRequest}
-use Rattle.http_wire.specs.OnConnection.{IsFresh, OnConnection, Stands, StandsIn, owed_in, phase_after, turn_end}
-use Rattle.http_wire.specs.History.{Answering, HasHistory, Notes, History, StandsAfter, Stood, gave, noted, nothing_yet, told, took}
+use Rattle.http_wire.specs.Layout.{request_at}
+use Rattle.http_wire.specs.OnConnection.{IsFresh, OnConnection, StandsIn, body_in, owed_in, phase_after, turn_end}
+use Rattle.http_wire.specs.History.{Answering, AreGiven, HasHistory, NotesBy, History, StandsAfter, StandsAt, Stood, StoodInPieces, gave, noted, noted_before, nothing_yet, told, told_with, took}
+use Rattle.http_wire.specs.PiecedBody.{IsTaken}
 use Rattle.http_wire.specs.Turns.{Answered, Breaks, BreaksTurn, Converses, LastTurn, MayRemain, TakesTurn, Turns}
 use Rattle.http_wire.specs.declared.conversation.Ended.{Ended}
 use Rattle.http_wire.specs.declared.fault.WireFault.{WireFault}
 use Rattle.http_wire.specs.declared.incoming.Incoming.{Incoming}
 use Rattle.http_wire.specs.declared.phase.Phase.{Phase}
-use Rattle.http_wire.specs.declared.phase.Phase.TheVariants.{Looking, Waiting, Owing, Over}
+use Rattle.http_wire.specs.declared.phase.Phase.TheVariants.{Looking, Waiting, Owing, Piece, Over, Stopped}
+use Rattle.http_wire.specs.declared.read.pieces.PiecedBody.{PiecedBody}
+use Rattle.http_wire.specs.declared.read.stage.Stage.{Stage}
+use Rattle.http_wire.specs.declared.read.stage.Stage.TheVariants.{Head, Body, Pieces}
 use Rattle.http_wire.specs.inside.Ahead.{Ahead}
 use Rattle.http_wire.specs.inside.HeadSearch.{Searching, search_start}
 use Rattle.http_wire.specs.inside.Sending.{OnOutbox}
+use Rattle.http_wire.specs.inside.Standing.{Fits, Keeps, Standing, pieced}
 use Rattle.http_wire.specs.inside.TurnFinish.{AnswersTurn}
 use Rattle.http_wire.proofs.ConversationLemmas.{Breaks-after, Converses-last, Reached-more}
 use Rattle.http_wire.proofs.FindLemmas.{Searching-start}
-use Rattle.http_wire.proofs.StageLemmas.{Standing-kept}
+use Rattle.http_wire.proofs.PieceLemmas.{IsTaken-kept, IsTaken-more, IsTaken-same}
+use Rattle.http_wire.proofs.StageLemmas.{Standing-kept, Standing-more}
 use Rattle.http_wire.proofs.TurnLemmas.{BreaksTurn-next_message, TakesTurn-finished}
 
--- what stood is its history, while the conversation is not over
-pub Stood-history : (p : History) (c : OnConnection) → Stood p c → HasHistory p c
-Stood-history p c h = go c.phase (λ stands. h) h.stands
+-- what stood is its history, while the conversation is not over and no body is taken in pieces
+pub Stood-history : (p : History) (c : OnConnection) → body_in c.phase ≡ None → Stood p c → HasHistory p c
+Stood-history p c none h = go c.phase none (λ stands. h) h.stands
   where
-    go : (q : Phase FramedRequest) → (StandsIn c.max_size h.start h.said c.read_buffer q → Stood p c) → StandsIn c.max_size h.start h.said c.read_buffer q → StandsAfter p c q
-    go (Looking s) stood stands = stood stands
-    go (Waiting s) stood stands = stood stands
-    go (Owing i) stood stands = stood stands
-    go (Over r) stood stands = absurd stands
+    at_stage : (s : Stage) → pieced s ≡ None → Stood p c → StandsAt p c s
+    at_stage (Head s) none h = h
+    at_stage (Body l) none h = h
+    at_stage (Pieces b) none h = absurd cc
+
+    go : (q : Phase FramedRequest) → body_in q ≡ None → (StandsIn c.max_size h.start h.said c.read_buffer q → Stood p c) → StandsIn c.max_size h.start h.said c.read_buffer q → StandsAfter p c q
+    go (Looking s) none stood stands = at_stage s none (stood stands)
+    go (Waiting s) none stood stands = at_stage s none (stood stands)
+    go (Owing i) none stood stands = stood stands
+    go (Piece b part) none stood stands = absurd cc
+    go (Over r) none stood stands = absurd stands
+    go (Stopped r) none stood stands = absurd stands
 
 -- a connection on which nothing was read, and nothing is to be sent, has no history
 pub History-start : (c : OnConnection) → IsFresh c → HasHistory nothing_yet c
-History-start c h = Stood-history nothing_yet c (record {
+History-start c h = Stood-history nothing_yet c (ap body_in h.phase) (record {
   start = [];
   said = [];
   text = [];
@@ -42,142 +56,318 @@ History-start c h = Stood-history nothing_yet c (record {
   stands = subst (StandsIn c.max_size [] [] c.read_buffer) (sym h.phase) (refl, subst (λ held. Searching [] held search_start) (sym h.held) (Searching-start []));
 })
 
--- the same bytes are held
-pub StandsIn-kept : (max : ℕ) (bytes said : List ℕ) (old new : Ahead) (p : Phase FramedRequest) → StandsIn max bytes said old p → new.held ≡ old.held → StandsIn max bytes said new p
-StandsIn-kept max bytes said old new (Looking s) h e = Standing-kept max bytes said old new s h e
-StandsIn-kept max bytes said old new (Waiting s) h e = Standing-kept max bytes said old new s h e
-StandsIn-kept max bytes said old new (Owing i) h e = rw e h
-StandsIn-kept max bytes said old new (Over r) h e = h
+-- a connection with the same limits that holds this, has come so far, and is to send this
+abbrev pub onto : OnConnection → Ahead → Phase FramedRequest → OnOutbox → OnConnection
+onto c a q o = record c { read_buffer = a; phase = q; write_buffer = o }
 
-pub History-kept : (p : History) (c : OnConnection) (a : Ahead) → a.held ≡ c.read_buffer.held → HasHistory p c → HasHistory p (record c { read_buffer = a })
-History-kept p c a held history = go c.phase history
+-- the bytes that are here of a message whose body is taken in pieces
+abbrev here_in : Ahead → Phase FramedRequest → List ℕ
+here_in a (Looking s) = a.held
+here_in a (Waiting s) = a.held
+here_in a (Owing i) = []
+here_in a (Piece b part) = a.lent ++ a.held
+here_in a (Over r) = []
+here_in a (Stopped r) = []
+
+-- its history, by what stands of it
+pieces-history : (p : History) (c : OnConnection) (b : PiecedBody) → body_in c.phase ≡ Some b → StoodInPieces p c b (here_in c.read_buffer c.phase) → HasHistory p c
+pieces-history p c b is h = go c.phase is h
   where
-    stood : Stood p c → Stood p (record c { read_buffer = a })
-    stood h = record { start = h.start; said = h.said; text = h.text; reached = h.reached; sent = h.sent; stands = StandsIn-kept c.max_size h.start h.said c.read_buffer a c.phase h.stands held }
+    at_stage : (s : Stage) → pieced s ≡ Some b → StoodInPieces p c b c.read_buffer.held → StandsAt p c s
+    at_stage (Head s) is h = absurd cc
+    at_stage (Body l) is h = absurd cc
+    at_stage (Pieces d) is h =
+        let same : b ≡ d = cc in
+        subst (λ d. StoodInPieces p c d c.read_buffer.held) same h
 
-    go : (q : Phase FramedRequest) → StandsAfter p c q → StandsAfter p (record c { read_buffer = a }) q
-    go (Looking s) h = stood h
-    go (Waiting s) h = stood h
-    go (Owing i) h = stood h
-    go (Over (Ok e)) h = h
-    go (Over (Err f)) h = h
+    go : (q : Phase FramedRequest) → body_in q ≡ Some b → StoodInPieces p c b (here_in c.read_buffer q) → StandsAfter p c q
+    go (Looking s) is h = at_stage s is h
+    go (Waiting s) is h = at_stage s is h
+    go (Owing i) is h = absurd cc
+    go (Piece d part) is h =
+        let same : b ≡ d = cc in
+        subst (λ d. StoodInPieces p c d (c.read_buffer.lent ++ c.read_buffer.held)) same h
+    go (Over r) is h = absurd cc
+    go (Stopped r) is h = absurd cc
+
+-- what stands of it, where a phase has a body that is taken in pieces
+taken-in : (max : ℕ) (bytes said : List ℕ) (a : Ahead) (q : Phase FramedRequest) (b : PiecedBody) → body_in q ≡ Some b → StandsIn max bytes said a q → (gone : List ℕ) × IsTaken max bytes said gone b (here_in a q)
+taken-in max bytes said a q b is stands = go q is stands
+  where
+    at_stage : (s : Stage) → pieced s ≡ Some b → Standing max bytes said a s → (gone : List ℕ) × IsTaken max bytes said gone b a.held
+    at_stage (Head s) is h = absurd cc
+    at_stage (Body l) is h = absurd cc
+    at_stage (Pieces d) is h =
+        let same : d ≡ b = cc in
+        subst (λ d. (gone : List ℕ) × IsTaken max bytes said gone d a.held) same h
+
+    go : (q : Phase FramedRequest) → body_in q ≡ Some b → StandsIn max bytes said a q → (gone : List ℕ) × IsTaken max bytes said gone b (here_in a q)
+    go (Looking s) is h = at_stage s is h
+    go (Waiting s) is h = at_stage s is h
+    go (Owing i) is h = absurd cc
+    go (Piece d part) is h =
+        let same : d ≡ b = cc in
+        subst (λ d. (gone : List ℕ) × IsTaken max bytes said gone d (a.lent ++ a.held)) same h
+    go (Over r) is h = absurd cc
+    go (Stopped r) is h = absurd cc
+
+-- more came of a body that is taken in pieces, or was said meanwhile, and nothing more was taken
+Stood-on : (p : History) (got put : List ℕ) (c new : OnConnection) (b : PiecedBody) (here there went : List ℕ) → new.max_size ≡ c.max_size → new.piece ≡ c.piece → new.write_buffer.pending ≡ c.write_buffer.pending ++ put
+    → (h : StoodInPieces p c b here) → IsTaken c.max_size (h.start ++ got) (h.said ++ put) went b there → StoodInPieces (took p got) new b there
+Stood-on p got put c new b here there went size piece pending h k =
+    let same = IsTaken-same c.max_size h.start got h.said (h.said ++ put) h.gone went b here there h.taken k in
+    record {
+      start = h.start ++ got;
+      said = h.said ++ put;
+      text = h.text;
+      gone = went;
+      before = h.before;
+      pieces = h.pieces;
+      answered = h.answered;
+      reached = λ rest. subst₂ (λ m s. Turns (NotesBy s) m p.moments (followed (told_with (took p got) h.text h.before) rest) ((h.start ++ got) ++ rest)) (sym size) (sym piece)
+          (subst₂ (λ i left. Turns (NotesBy c.piece) c.max_size p.moments (record (told_with p h.text h.before) { input = i }) left) (sym (append_assoc p.taken got rest)) (sym (append_assoc h.start got rest)) (h.reached (got ++ rest)));
+      sent = ap (λ l. p.handed ++ l) pending ∙ sym (append_assoc p.handed c.write_buffer.pending put) ∙ ap (λ l. l ++ put) h.sent ∙ append_assoc h.text h.said put;
+      taken = subst (λ m. IsTaken m (h.start ++ got) (h.said ++ put) went b there) (sym size) k;
+      given = subst₂ (λ head gone. AreGiven (request_at b.layout head) b.layout.body_len 0 h.pieces gone) (sym same.1) (sym same.0) h.given;
+    }
+
+-- nothing was taken in pieces of a body that begins
+Stood-begins : (p : History) (put : List ℕ) (c new : OnConnection) (b : PiecedBody) (there went : List ℕ) → new.max_size ≡ c.max_size → new.piece ≡ c.piece → new.write_buffer.pending ≡ c.write_buffer.pending ++ put
+    → b.given ≡ 0 → (h : Stood p c) → IsTaken c.max_size h.start (h.said ++ put) went b there → StoodInPieces p new b there
+Stood-begins p put c new b there went size piece pending none h k = record {
+  start = h.start;
+  said = h.said ++ put;
+  text = h.text;
+  gone = went;
+  before = p.answered;
+  pieces = [];
+  answered = sym (append-nil p.answered);
+  reached = λ rest. subst₂ (λ m s. Turns (NotesBy s) m p.moments (followed (told p h.text) rest) (h.start ++ rest)) (sym size) (sym piece) (h.reached rest);
+  sent = ap (λ l. p.handed ++ l) pending ∙ sym (append_assoc p.handed c.write_buffer.pending put) ∙ ap (λ l. l ++ put) h.sent ∙ append_assoc h.text h.said put;
+  taken = subst (λ m. IsTaken m h.start (h.said ++ put) went b there) (sym size) k;
+  given = nil_from_length went (k.given ∙ none);
+}
+
+-- nothing was taken
+took-nothing : (p : History) (c : OnConnection) (b : PiecedBody) (here : List ℕ) → StoodInPieces (took p []) c b here → StoodInPieces p c b here
+took-nothing p c b here h = subst (λ taken. StoodInPieces (record p { taken = taken }) c b here) (append-nil p.taken) h
+
+Stood-looked : (p : History) (put : List ℕ) (c new : OnConnection) (b : PiecedBody) (here there went : List ℕ) → new.max_size ≡ c.max_size → new.piece ≡ c.piece → new.write_buffer.pending ≡ c.write_buffer.pending ++ put
+    → (h : StoodInPieces p c b here) → IsTaken c.max_size h.start (h.said ++ put) went b there → StoodInPieces p new b there
+Stood-looked p put c new b here there went size piece pending h k =
+    took-nothing p new b there (Stood-on p [] put c new b here there went size piece pending h (subst (λ i. IsTaken c.max_size i (h.said ++ put) went b there) (sym (append-nil h.start)) k))
 
 -- a look put some text
-pub History-looked : (p : History) (old new : OnConnection) → ((bytes said : List ℕ) → Stands bytes said old → (put : List ℕ) × (new.write_buffer.pending ≡ old.write_buffer.pending ++ put) × Stands bytes (said ++ put) new)
-    → new.max_size ≡ old.max_size → Stood p old → HasHistory p new
-History-looked p old new looks size h =
-    let put = looks h.start h.said h.stands in
-    Stood-history p new (record {
-      start = h.start;
-      said = h.said ++ put.0;
-      text = h.text;
-      reached = λ rest. subst (λ m. Turns Notes m p.moments (followed (told p h.text) rest) (h.start ++ rest)) (sym size) (h.reached rest);
-      sent = ap (λ l. p.handed ++ l) put.1 ∙ sym (append_assoc p.handed old.write_buffer.pending put.0) ∙ ap (λ l. l ++ put.0) h.sent ∙ append_assoc h.text h.said put.0;
-      stands = put.2;
-    })
+pub History-looked : (p : History) (c : OnConnection) (s : Stage) (a : Ahead) (q : Phase FramedRequest) (o : OnOutbox)
+    → ((bytes said : List ℕ) → Standing c.max_size bytes said c.read_buffer s → (put : List ℕ) × (o.pending ≡ c.write_buffer.pending ++ put) × StandsIn c.max_size bytes (said ++ put) a q)
+    → Keeps c.piece (pieced s) (body_in q) → StandsAt p (record c { phase = Looking s }) s → StandsAfter p (onto c a q o) q
+History-looked p c s a q o looks keeps h = go s looks keeps h (body_in q) refl
+  where
+    old : Stage → OnConnection
+    old s = record c { phase = Looking s }
+
+    new : OnConnection
+    new = onto c a q o
+
+    begins : (s : Stage) → ((bytes said : List ℕ) → Standing c.max_size bytes said c.read_buffer s → (put : List ℕ) × (o.pending ≡ c.write_buffer.pending ++ put) × StandsIn c.max_size bytes (said ++ put) a q)
+        → Stood p (record c { phase = Looking s }) → (body : Option PiecedBody) → body_in q ≡ body → Keeps c.piece None body → StandsAfter p (onto c a q o) q
+    begins s looks h None is keeps =
+        let put = looks h.start h.said h.stands in
+        Stood-history p (onto c a q o) is (record {
+          start = h.start;
+          said = h.said ++ put.0;
+          text = h.text;
+          reached = h.reached;
+          sent = ap (λ l. p.handed ++ l) put.1 ∙ sym (append_assoc p.handed c.write_buffer.pending put.0) ∙ ap (λ l. l ++ put.0) h.sent ∙ append_assoc h.text h.said put.0;
+          stands = put.2;
+        })
+    begins s looks h (Some b) is keeps =
+        let put = looks h.start h.said h.stands in
+        let taken = taken-in c.max_size h.start (h.said ++ put.0) a q b is put.2 in
+        pieces-history p (onto c a q o) b is (Stood-begins p put.0 (record c { phase = Looking s }) (onto c a q o) b (here_in a q) taken.0 refl refl put.1 keeps.0 h taken.1)
+
+    go : (s : Stage) → ((bytes said : List ℕ) → Standing c.max_size bytes said c.read_buffer s → (put : List ℕ) × (o.pending ≡ c.write_buffer.pending ++ put) × StandsIn c.max_size bytes (said ++ put) a q)
+        → Keeps c.piece (pieced s) (body_in q) → StandsAt p (record c { phase = Looking s }) s → (body : Option PiecedBody) → body_in q ≡ body → StandsAfter p (onto c a q o) q
+    go (Head t) looks keeps h body is = begins (Head t) looks h body is (subst (Keeps c.piece None) is keeps)
+    go (Body l) looks keeps h body is = begins (Body l) looks h body is (subst (Keeps c.piece None) is keeps)
+    go (Pieces b) looks keeps h None is = absurd (subst (Keeps c.piece (Some b)) is keeps)
+    go (Pieces b) looks keeps h (Some d) is =
+        let same : d ≡ b = subst (Keeps c.piece (Some b)) is keeps in
+        let put = looks h.start h.said (h.gone, h.taken) in
+        let body = is ∙ ap Some same in
+        let taken = taken-in c.max_size h.start (h.said ++ put.0) a q b body put.2 in
+        pieces-history p (onto c a q o) b body (Stood-looked p put.0 (record c { phase = Looking (Pieces b) }) (onto c a q o) b c.read_buffer.held (here_in a q) taken.0 refl refl put.1 h taken.1)
 
 -- some bytes were taken
-pub History-took : (p : History) (got : List ℕ) (old new : OnConnection) → ((bytes said : List ℕ) → Stands bytes said old → Stands (bytes ++ got) said new)
-    → new.write_buffer ≡ old.write_buffer → new.max_size ≡ old.max_size → Stood p old → HasHistory (took p got) new
-History-took p got old new takes write_buffer size h =
-    Stood-history (took p got) new (record {
+pub History-took : (p : History) (got : List ℕ) (c : OnConnection) (s : Stage) (a : Ahead) → a.held ≡ c.read_buffer.held ++ got → Fits c.read_buffer s
+    → StandsAt p (record c { phase = Waiting s }) s → StandsAt (took p got) (record c { phase = Looking s; read_buffer = a }) s
+History-took p got c s a held fits h = go s fits h
+  where
+    stood : (s : Stage) → Fits c.read_buffer s → Stood p (record c { phase = Waiting s }) → Stood (took p got) (record c { phase = Looking s; read_buffer = a })
+    stood s fits h = record {
       start = h.start ++ got;
       said = h.said;
       text = h.text;
-      reached = λ rest. subst (λ m. Turns Notes m p.moments (followed (told (took p got) h.text) rest) ((h.start ++ got) ++ rest)) (sym size)
-          (subst₂ (λ i left. Turns Notes old.max_size p.moments (record (told p h.text) { input = i }) left) (sym (append_assoc p.taken got rest)) (sym (append_assoc h.start got rest)) (h.reached (got ++ rest)));
-      sent = ap (λ (o : OnOutbox). p.handed ++ o.pending) write_buffer ∙ h.sent;
-      stands = takes h.start h.said h.stands;
-    })
+      reached = λ rest. subst₂ (λ i left. Turns (NotesBy c.piece) c.max_size p.moments (record (told p h.text) { input = i }) left) (sym (append_assoc p.taken got rest)) (sym (append_assoc h.start got rest)) (h.reached (got ++ rest));
+      sent = h.sent;
+      stands = Standing-more c.max_size [] h.start got h.said c.read_buffer a s h.stands fits held;
+    }
 
--- a read failed
-pub History-broke : (p : History) (old new : OnConnection) → ((bytes said : List ℕ) → Stands bytes said old → BreaksTo old.max_size bytes said new.read_buffer new.phase)
-    → new.write_buffer ≡ old.write_buffer → new.max_size ≡ old.max_size → Stood p old → HasHistory p new
-History-broke p old new breaks write_buffer size h = go new.phase refl (breaks h.start h.said h.stands)
+    go : (s : Stage) → Fits c.read_buffer s → StandsAt p (record c { phase = Waiting s }) s → StandsAt (took p got) (record c { phase = Looking s; read_buffer = a }) s
+    go (Head t) fits h = stood (Head t) fits h
+    go (Body l) fits h = stood (Body l) fits h
+    go (Pieces b) fits h =
+        Stood-on p got [] (record c { phase = Waiting (Pieces b) }) (record c { phase = Looking (Pieces b); read_buffer = a }) b c.read_buffer.held a.held h.gone refl refl (sym (append-nil c.write_buffer.pending)) h
+        (subst (λ said. IsTaken c.max_size (h.start ++ got) said h.gone b a.held) (sym (append-nil h.said)) (IsTaken-more c.max_size h.start got h.said h.gone b c.read_buffer.held a.held h.taken held))
+
+-- what is held is the same
+pub History-kept : (p : History) (c : OnConnection) (s : Stage) (a : Ahead) → a.held ≡ c.read_buffer.held → StandsAt p (record c { phase = Waiting s }) s → StandsAt p (record c { phase = Waiting s; read_buffer = a }) s
+History-kept p c s a held h = go s h
   where
-    sent : p.handed ++ new.write_buffer.pending ≡ h.text ++ h.said
-    sent = ap (λ (o : OnOutbox). p.handed ++ o.pending) write_buffer ∙ h.sent
+    stood : (s : Stage) → Stood p (record c { phase = Waiting s }) → Stood p (record c { phase = Waiting s; read_buffer = a })
+    stood s h = record { start = h.start; said = h.said; text = h.text; reached = h.reached; sent = h.sent; stands = Standing-kept c.max_size h.start h.said c.read_buffer a s h.stands held }
 
-    go : (q : Phase FramedRequest) → new.phase ≡ q → BreaksTo old.max_size h.start h.said new.read_buffer q → StandsAfter p new new.phase
-    go (Looking s) is b = absurd b
-    go (Waiting s) is b = absurd b
-    go (Owing i) is b = Stood-history p new (record {
+    go : (s : Stage) → StandsAt p (record c { phase = Waiting s }) s → StandsAt p (record c { phase = Waiting s; read_buffer = a }) s
+    go (Head t) h = stood (Head t) h
+    go (Body l) h = stood (Body l) h
+    go (Pieces b) h = record {
       start = h.start;
       said = h.said;
       text = h.text;
-      reached = λ rest. subst (λ m. Turns Notes m p.moments (followed (told p h.text) rest) (h.start ++ rest)) (sym size) (h.reached rest);
-      sent = sent;
-      stands = subst (StandsIn new.max_size h.start h.said new.read_buffer) (sym is) (subst (λ m. StandsIn m h.start h.said new.read_buffer (Owing i)) (sym size) b.0);
-    })
-    go (Over (Ok e)) is b = absurd b
-    go (Over (Err f)) is b =
+      gone = h.gone;
+      before = h.before;
+      pieces = h.pieces;
+      answered = h.answered;
+      reached = h.reached;
+      sent = h.sent;
+      taken = IsTaken-kept c.max_size h.start h.said h.gone b c.read_buffer.held a.held h.taken held;
+      given = subst (λ l. AreGiven (request_at b.layout (take b.layout.head_len l)) b.layout.body_len 0 h.pieces h.gone) (sym held) h.given;
+    }
+
+-- it looks again, at what is held
+pub History-again : (p : History) (c : OnConnection) (s : Stage) (a : Ahead) → a.held ≡ c.read_buffer.held → StandsAt p (record c { phase = Waiting s }) s → StandsAt p (record c { phase = Looking s; read_buffer = a }) s
+History-again p c s a held h = go s (History-kept p c s a held h)
+  where
+    stood : (s : Stage) → Stood p (record c { phase = Waiting s; read_buffer = a }) → Stood p (record c { phase = Looking s; read_buffer = a })
+    stood s h = record { start = h.start; said = h.said; text = h.text; reached = h.reached; sent = h.sent; stands = h.stands }
+
+    go : (s : Stage) → StandsAt p (record c { phase = Waiting s; read_buffer = a }) s → StandsAt p (record c { phase = Looking s; read_buffer = a }) s
+    go (Head t) h = stood (Head t) h
+    go (Body l) h = stood (Body l) h
+    go (Pieces b) h = record { start = h.start; said = h.said; text = h.text; gone = h.gone; before = h.before; pieces = h.pieces; answered = h.answered; reached = h.reached; sent = h.sent; taken = h.taken; given = h.given }
+
+-- a read failed
+pub History-broke : (p : History) (c : OnConnection) (s : Stage) (a : Ahead) (q : Phase FramedRequest) → ((bytes said : List ℕ) → Standing c.max_size bytes said c.read_buffer s → BreaksTo c.max_size bytes said a q)
+    → body_in q ≡ pieced s → StandsAt p (record c { phase = Waiting s }) s → StandsAfter p (onto c a q c.write_buffer) q
+History-broke p c s a q breaks body h = by s breaks body h
+  where
+    went : (s : Stage) (q : Phase FramedRequest) → body_in q ≡ None → (h : Stood p (record c { phase = Waiting s })) → BreaksTo c.max_size h.start h.said a q → StandsAfter p (onto c a q c.write_buffer) q
+    went s (Looking t) none h b = absurd b
+    went s (Waiting t) none h b = absurd b
+    went s (Owing i) none h b = record { start = h.start; said = h.said; text = h.text; reached = h.reached; sent = h.sent; stands = b.0 }
+    went s (Piece d part) none h b = absurd cc
+    went s (Over (Ok e)) none h b = absurd b
+    went s (Over (Err f)) none h b =
         let first : Exchange (List Answering) = record { input = h.start; text = h.said; before = p.answered; after = p.answered } in
-        let turn = BreaksTurn-next_message Notes old.max_size 0 first f b.0 refl in
-        let next = subst (λ i. BreaksTurn Notes old.max_size 0 (record first { input = i }) f) (sym (append-nil h.start)) turn in
-        let whole = Breaks-after Notes old.max_size p.moments [] 0 (told p h.text) h.start [] h.said p.answered f h.reached next in
-        subst (StandsAfter p new) (sym is) (
+        let turn = BreaksTurn-next_message (NotesBy c.piece) c.max_size 0 first f b.0 refl in
+        let next = subst (λ i. BreaksTurn (NotesBy c.piece) c.max_size 0 (record first { input = i }) f) (sym (append-nil h.start)) turn in
+        let whole = Breaks-after (NotesBy c.piece) c.max_size p.moments [] 0 (told p h.text) h.start [] h.said p.answered f h.reached next in (
           0 ∷ [],
-          subst (λ m. Breaks Notes m (p.moments ++ 0 ∷ []) (told p (p.handed ++ new.write_buffer.pending)) f) (sym size)
-              (subst₂ (λ i t. Breaks Notes old.max_size (p.moments ++ 0 ∷ []) (record (told p t) { input = i }) f) (append-nil p.taken) (sym sent) whole),
+          subst₂ (λ i t. Breaks (NotesBy c.piece) c.max_size (p.moments ++ 0 ∷ []) (record (told p t) { input = i }) f) (append-nil p.taken) (sym h.sent) whole,
         )
+    went s (Stopped r) none h b = absurd b
+
+    owed : (b : PiecedBody) (q : Phase FramedRequest) → body_in q ≡ Some b → (h : StoodInPieces p (record c { phase = Waiting (Pieces b) }) b c.read_buffer.held) → BreaksTo c.max_size h.start h.said a q
+        → StandsIn c.max_size h.start h.said a q
+    owed b (Looking t) is h breaks = absurd breaks
+    owed b (Waiting t) is h breaks = absurd breaks
+    owed b (Owing i) is h breaks = absurd cc
+    owed b (Piece d part) is h breaks = breaks.0
+    owed b (Over r) is h breaks = absurd cc
+    owed b (Stopped r) is h breaks = absurd breaks
+
+    by : (s : Stage) → ((bytes said : List ℕ) → Standing c.max_size bytes said c.read_buffer s → BreaksTo c.max_size bytes said a q) → body_in q ≡ pieced s → StandsAt p (record c { phase = Waiting s }) s
+        → StandsAfter p (onto c a q c.write_buffer) q
+    by (Head t) breaks body h = went (Head t) q body h (breaks h.start h.said h.stands)
+    by (Body l) breaks body h = went (Body l) q body h (breaks h.start h.said h.stands)
+    by (Pieces b) breaks body h =
+        let taken = taken-in c.max_size h.start h.said a q b body (owed b q body h (breaks h.start h.said (h.gone, h.taken))) in
+        pieces-history p (onto c a q c.write_buffer) b body
+        (Stood-looked p [] (record c { phase = Waiting (Pieces b) }) (onto c a q c.write_buffer) b c.read_buffer.held (here_in a q) taken.0 refl refl (sym (append-nil c.write_buffer.pending)) h
+        (subst (λ said. IsTaken c.max_size h.start said taken.0 b (here_in a q)) (sym (append-nil h.said)) taken.1))
 
 -- what is owed came in
 owing-of : (q : Phase FramedRequest) (i : Incoming FramedRequest) → owed_in q ≡ Some i → q ≡ Owing i
 owing-of (Looking s) i is = absurd cc
 owing-of (Waiting s) i is = absurd cc
 owing-of (Owing j) i is = ap Owing cc
+owing-of (Piece b part) i is = absurd cc
 owing-of (Over r) i is = absurd cc
+owing-of (Stopped r) i is = absurd cc
 
--- what came in was answered
-pub History-answered : (p : History) (now : ℕ) (i : Incoming FramedRequest) (put : List ℕ) (answered : List Answering) (old new : OnConnection) → owed_in old.phase ≡ Some i
-    → AnswersTurn Notes now old.read_buffer i put p.answered (p.answered ++ answered) (turn_end i) → new.write_buffer.pending ≡ old.write_buffer.pending ++ put → new.phase ≡ phase_after (turn_end i) → new.read_buffer ≡ old.read_buffer
-    → new.max_size ≡ old.max_size → HasHistory p old → HasHistory (noted p now answered) new
-History-answered p now i put answered old new owed turn pending phase read_buffer size history =
-    let owing = owing-of old.phase i owed in
-    let h = subst (StandsAfter p old) owing history in
-    let comes = subst (StandsIn old.max_size h.start h.said old.read_buffer) owing h.stands in
-    go h (turn_end i) phase (TakesTurn-finished Notes old.max_size now (first h) old.read_buffer.held (turn_end i) (turn.sent old.max_size h.start h.said comes))
+-- the next message begins behind what was answered
+starts-again : (a : Ahead) → Searching a.held a.held search_start
+starts-again a = subst (λ b. Searching b a.held search_start) (append-nil a.held) (Searching-start a.held)
+
+-- What came was answered, and makes a turn: the connection goes on behind it, or ends with it.
+pub History-turned : (p : History) (now : ℕ) (answered : List Answering) (c : OnConnection) (a : Ahead) (o : OnOutbox) (r : Result (Option Ended) WireFault) (start said text : List ℕ) (before : List Answering)
+    → ((rest : List ℕ) → Turns (NotesBy c.piece) c.max_size p.moments (followed (told_with p text before) rest) (start ++ rest)) → p.handed ++ o.pending ≡ text ++ said
+    → TakesTurn (NotesBy c.piece) c.max_size now (record { input = start; text = said; before = before; after = p.answered ++ answered }) a.held r
+    → StandsAfter (noted p now answered) (onto c a (phase_after r) o) (phase_after r)
+History-turned p now answered c a o r start said text before reached sent turn = go r turn
   where
-    max : ℕ
-    max = old.max_size
-
-    after : List Answering
-    after = p.answered ++ answered
-
-    first : Stood p old → Exchange (List Answering)
-    first h = record { input = h.start; text = h.said ++ put; before = p.answered; after = after }
-
-    sent : (h : Stood p old) → p.handed ++ new.write_buffer.pending ≡ h.text ++ (h.said ++ put)
-    sent h = ap (λ l. p.handed ++ l) pending ∙ sym (append_assoc p.handed old.write_buffer.pending put) ∙ ap (λ l. l ++ put) h.sent ∙ append_assoc h.text h.said put
-
-    go : (h : Stood p old) (r : Result (Option Ended) WireFault) → new.phase ≡ phase_after r → TakesTurn Notes max now (first h) old.read_buffer.held r → HasHistory (noted p now answered) new
-    go h (Ok None) is t =
-        let next = subst (λ i. (rest : List ℕ) → Answered Notes max now (followed (record (first h) { input = i }) rest) (old.read_buffer.held ++ rest)) (sym (append-nil h.start)) t in
-        let reached = Reached-more Notes max p.moments now (told p h.text) h.start [] (h.said ++ put) after old.read_buffer.held h.reached next in
-        Stood-history (noted p now answered) new (record {
-          start = old.read_buffer.held;
+    go : (r : Result (Option Ended) WireFault) → TakesTurn (NotesBy c.piece) c.max_size now (record { input = start; text = said; before = before; after = p.answered ++ answered }) a.held r
+        → StandsAfter (noted p now answered) (onto c a (phase_after r) o) (phase_after r)
+    go (Ok None) t =
+        let next = subst (λ i. (rest : List ℕ) → Answered (NotesBy c.piece) c.max_size now (followed (record { input = i; text = said; before = before; after = p.answered ++ answered }) rest) (a.held ++ rest)) (sym (append-nil start)) t in
+        let reached = Reached-more (NotesBy c.piece) c.max_size p.moments now (told_with p text before) start [] said (p.answered ++ answered) a.held reached next in
+        record {
+          start = a.held;
           said = [];
-          text = h.text ++ (h.said ++ put);
-          reached = λ rest. subst (λ m. Turns Notes m (p.moments ++ now ∷ []) (followed (told (noted p now answered) (h.text ++ (h.said ++ put))) rest) (old.read_buffer.held ++ rest)) (sym size)
-              (subst (λ i. Turns Notes max (p.moments ++ now ∷ []) (followed (record (told (noted p now answered) (h.text ++ (h.said ++ put))) { input = i }) rest) (old.read_buffer.held ++ rest)) (append-nil p.taken) (reached rest));
-          sent = sent h ∙ sym (append-nil (h.text ++ (h.said ++ put)));
-          stands = subst (StandsIn new.max_size old.read_buffer.held [] new.read_buffer) (sym is) (refl, subst (λ (a : Ahead). Searching old.read_buffer.held a.held search_start) (sym read_buffer) (subst (λ b. Searching b old.read_buffer.held search_start) (append-nil old.read_buffer.held) (Searching-start old.read_buffer.held)));
-        })
-    go h (Ok (Some e)) is t =
-        let next = subst (λ i. (rest : List ℕ) → MayRemain e rest → LastTurn Notes max now (followed (record (first h) { input = i }) rest) e) (sym (append-nil h.start)) t in
-        let whole = Converses-last Notes max p.moments [] now (told p h.text) h.start [] (h.said ++ put) after e h.reached next in
-        subst (StandsAfter (noted p now answered) new) (sym is)
-        (subst (λ m. Converses Notes m (p.moments ++ now ∷ []) (told (noted p now answered) (p.handed ++ new.write_buffer.pending)) e) (sym size)
-        (subst₂ (λ i t. Converses Notes max (p.moments ++ now ∷ []) (record (told (noted p now answered) t) { input = i }) e) (append-nil p.taken) (sym (sent h)) whole))
-    go h (Err f) is t =
-        let next = subst (λ i. BreaksTurn Notes max now (record (first h) { input = i }) f) (sym (append-nil h.start)) t in
-        let whole = Breaks-after Notes max p.moments [] now (told p h.text) h.start [] (h.said ++ put) after f h.reached next in
-        subst (StandsAfter (noted p now answered) new) (sym is) (
+          text = text ++ said;
+          reached = λ rest. subst (λ i. Turns (NotesBy c.piece) c.max_size (p.moments ++ now ∷ []) (followed (record (told (noted p now answered) (text ++ said)) { input = i }) rest) (a.held ++ rest)) (append-nil p.taken) (reached rest);
+          sent = sent ∙ sym (append-nil (text ++ said));
+          stands = (refl, starts-again a);
+        }
+    go (Ok (Some e)) t =
+        let next = subst (λ i. (rest : List ℕ) → MayRemain e rest → LastTurn (NotesBy c.piece) c.max_size now (followed (record { input = i; text = said; before = before; after = p.answered ++ answered }) rest) e) (sym (append-nil start)) t in
+        let whole = Converses-last (NotesBy c.piece) c.max_size p.moments [] now (told_with p text before) start [] said (p.answered ++ answered) e reached next in
+        subst₂ (λ i t. Converses (NotesBy c.piece) c.max_size (p.moments ++ now ∷ []) (record (told (noted p now answered) t) { input = i }) e) (append-nil p.taken) (sym sent) whole
+    go (Err f) t =
+        let next = subst (λ i. BreaksTurn (NotesBy c.piece) c.max_size now (record { input = i; text = said; before = before; after = p.answered ++ answered }) f) (sym (append-nil start)) t in
+        let whole = Breaks-after (NotesBy c.piece) c.max_size p.moments [] now (told_with p text before) start [] said (p.answered ++ answered) f reached next in (
           [],
-          subst (λ l. Breaks Notes new.max_size l (told (noted p now answered) (p.handed ++ new.write_buffer.pending)) f) (sym (append-nil (p.moments ++ now ∷ [])))
-              (subst (λ m. Breaks Notes m (p.moments ++ now ∷ []) (told (noted p now answered) (p.handed ++ new.write_buffer.pending)) f) (sym size)
-              (subst₂ (λ i t. Breaks Notes max (p.moments ++ now ∷ []) (record (told (noted p now answered) t) { input = i }) f) (append-nil p.taken) (sym (sent h)) whole)),
+          subst (λ l. Breaks (NotesBy c.piece) c.max_size l (told (noted p now answered) (p.handed ++ o.pending)) f) (sym (append-nil (p.moments ++ now ∷ [])))
+              (subst₂ (λ i t. Breaks (NotesBy c.piece) c.max_size (p.moments ++ now ∷ []) (record (told (noted p now answered) t) { input = i }) f) (append-nil p.taken) (sym sent) whole),
         )
+
+-- what is said behind what was said, once that is put behind what is pending
+pub sent-more : (p : History) (c : OnConnection) (o : OnOutbox) (text said put : List ℕ) → p.handed ++ c.write_buffer.pending ≡ text ++ said → o.pending ≡ c.write_buffer.pending ++ put → p.handed ++ o.pending ≡ text ++ (said ++ put)
+sent-more p c o text said put sent pending =
+    ap (λ l. p.handed ++ l) pending ∙ sym (append_assoc p.handed c.write_buffer.pending put) ∙ ap (λ l. l ++ put) sent ∙ append_assoc text said put
+
+-- a message that came in, or what came in its place, was answered
+pub History-answered : (p : History) (now : ℕ) (i : Incoming FramedRequest) (put : List ℕ) (answered : List Answering) (c : OnConnection) (o : OnOutbox)
+    → AnswersTurn (NotesBy c.piece) now c.read_buffer i put p.answered (p.answered ++ answered) (turn_end i) → o.pending ≡ c.write_buffer.pending ++ put → Stood p (record c { phase = Owing i })
+    → StandsAfter (noted p now answered) (onto c c.read_buffer (phase_after (turn_end i)) o) (phase_after (turn_end i))
+History-answered p now i put answered c o turn pending h =
+    History-turned p now answered c c.read_buffer o (turn_end i) h.start (h.said ++ put) h.text p.answered h.reached (sent-more p c o h.text h.said put h.sent pending)
+    (TakesTurn-finished (NotesBy c.piece) c.max_size now (record { input = h.start; text = h.said ++ put; before = p.answered; after = p.answered ++ answered }) c.read_buffer.held (turn_end i) (turn.sent c.max_size h.start h.said h.stands))
+
+-- behind a turn no body is taken in pieces
+pub body-after : (r : Result (Option Ended) WireFault) → body_in {M = FramedRequest} (phase_after r) ≡ None
+body-after (Ok None) = refl
+body-after (Ok (Some e)) = refl
+body-after (Err f) = refl
+
+-- the same of the connection as the answer left it
+pub History-owing : (p : History) (now : ℕ) (i : Incoming FramedRequest) (put : List ℕ) (answered : List Answering) (c : OnConnection) (a : Ahead) (o : OnOutbox) (q : Phase FramedRequest)
+    → AnswersTurn (NotesBy c.piece) now c.read_buffer i put p.answered (p.answered ++ answered) (turn_end i) → o.pending ≡ c.write_buffer.pending ++ put → a ≡ c.read_buffer → q ≡ phase_after (turn_end i)
+    → Stood p (record c { phase = Owing i }) → StandsAfter (noted_before (body_in q) p now answered) (onto c a q o) q
+History-owing p now i put answered c a o q turn pending same is h =
+    subst₂ (λ a q. StandsAfter (noted_before (body_in q) p now answered) (onto c a q o) q) (sym same) (sym is)
+    (subst (λ b. StandsAfter (noted_before b p now answered) (onto c c.read_buffer (phase_after (turn_end i)) o) (phase_after (turn_end i))) (sym (body-after (turn_end i)))
+    (History-answered p now i put answered c o turn pending h))
 
 -- some of what was pending was sent
 pub History-sent : (p : History) (n : ℕ) (old new : OnConnection) → new.write_buffer.pending ≡ drop n old.write_buffer.pending → new ≡ record old { write_buffer = new.write_buffer } → HasHistory p old → HasHistory (gave p (take n old.write_buffer.pending)) new
@@ -189,9 +379,41 @@ History-sent p n old new pending same history = subst (HasHistory (gave p (take 
     stood : Stood p old → Stood (gave p (take n old.write_buffer.pending)) (record old { write_buffer = new.write_buffer })
     stood h = record { start = h.start; said = h.said; text = h.text; reached = h.reached; sent = whole ∙ h.sent; stands = h.stands }
 
+    in_pieces : (b : PiecedBody) (here : List ℕ) → StoodInPieces p old b here → StoodInPieces (gave p (take n old.write_buffer.pending)) (record old { write_buffer = new.write_buffer }) b here
+    in_pieces b here h = record { start = h.start; said = h.said; text = h.text; gone = h.gone; before = h.before; pieces = h.pieces; answered = h.answered; reached = h.reached; sent = whole ∙ h.sent; taken = h.taken; given = h.given }
+
+    at_stage : (s : Stage) → StandsAt p old s → StandsAt (gave p (take n old.write_buffer.pending)) (record old { write_buffer = new.write_buffer }) s
+    at_stage (Head s) h = stood h
+    at_stage (Body l) h = stood h
+    at_stage (Pieces b) h = in_pieces b old.read_buffer.held h
+
     go : (q : Phase FramedRequest) → StandsAfter p old q → StandsAfter (gave p (take n old.write_buffer.pending)) (record old { write_buffer = new.write_buffer }) q
-    go (Looking s) h = stood h
-    go (Waiting s) h = stood h
+    go (Looking s) h = at_stage s h
+    go (Waiting s) h = at_stage s h
     go (Owing i) h = stood h
-    go (Over (Ok e)) h = subst (λ t. Converses Notes old.max_size p.moments (told p t) e) (sym whole) h
-    go (Over (Err f)) h = (h.0, subst (λ t. Breaks Notes old.max_size (p.moments ++ h.0) (told p t) f) (sym whole) h.1)
+    go (Piece b part) h = in_pieces b (old.read_buffer.lent ++ old.read_buffer.held) h
+    go (Over (Ok e)) h = subst (λ t. Converses (NotesBy old.piece) old.max_size p.moments (told p t) e) (sym whole) h
+    go (Over (Err f)) h = (h.0, subst (λ t. Breaks (NotesBy old.piece) old.max_size (p.moments ++ h.0) (told p t) f) (sym whole) h.1)
+    go (Stopped r) h = record {
+      start = h.start;
+      text = h.text;
+      said = h.said;
+      layout = h.layout;
+      head = h.head;
+      gone = h.gone;
+      behind = h.behind;
+      before = h.before;
+      pieces = h.pieces;
+      last = h.last;
+      moments = h.moments;
+      timed = h.timed;
+      answered = h.answered;
+      reached = h.reached;
+      sent = whole ∙ h.sent;
+      long = h.long;
+      begins = h.begins;
+      plain = h.plain;
+      given = h.given;
+      piece = h.piece;
+      stops = h.stops;
+    }

@@ -1,15 +1,16 @@
 -- A body that comes in pieces.
-use Rattle.std.proofs.Common.{◌≡◌, ◌≤◌, ◌+◌, ◌-◌, ℕ, true, false, List, [], ◌∷◌, ◌++◌, length, take, drop, refl, ap, sym, subst, ◌∙◌, arith, append-nil, append_assoc, length-append}
-use Rattle.std.proofs.lemmas.List.{take_at, drop_at, take_all, drop_all}
+use Rattle.std.proofs.Common.{◌≡◌, ◌≤◌, ◌+◌, ℕ, false, List, [], ◌∷◌, ◌++◌, length, take, drop, refl, ap, sym, subst, ◌∙◌, arith, append-nil, append_assoc, length-append}
+use Rattle.std.proofs.lemmas.List.{take_at, drop_at, take_all}
 use Rattle.tus_steps.specs.Request.{Request}
 use Rattle.tus_steps.specs.declared.reply.Reply.{Reply}
-use Rattle.tus_steps.specs.InPieces.{InPieces, PieceAt, Takes, first_of, is_patched, rest_of}
-use Rattle.http_wire.specs.InPieces.{AreGiven, PiecesAreATurn, piece_of}
+use Rattle.tus_steps.specs.InPieces.{InPieces, PieceAt, Takes, first_of, rest_of}
+use Rattle.http_wire.specs.InPieces.{PiecesAreATurn}
 use Rattle.http_wire.specs.Layout.{request_at}
-use Rattle.http_wire.specs.History.{Answering, Notes}
+use Rattle.http_wire.specs.History.{Answering, AreGiven, Notes, piece_of}
 use Rattle.http_wire.specs.declared.read.layout.Layout.{Layout}
 use Rattle.http_wire.specs.inside.Ahead.{Ahead}
 use Rattle.http_wire.specs.inside.HeadLayout.{BeginsHead}
+use Rattle.http_wire.specs.NextMessage.{IsNextMessage, message}
 use Rattle.http_wire.proofs.NextMessageLemmas.{IsNextMessage-message}
 
 -- the whole of a request under a head, from a place of its body on
@@ -84,25 +85,27 @@ answered-in_pieces r n now before answered gone last reply is all =
     }
 
 -- the request of a whole message, by that of its head alone
-request-whole : (p : Layout) (head body : List ℕ) → length head ≡ p.head_len → request_at p (head ++ body) ≡ from_place (request_at p head) 0 body
-request-whole p head body long =
+request-whole : (p : Layout) (head body : List ℕ) → length head ≡ p.head_len → p.given ≡ 0 → p.more ≡ 0 → request_at p (head ++ body) ≡ from_place (request_at p head) 0 body
+request-whole p head body long none no_more =
     let front : take p.head_len (head ++ body) ≡ take p.head_len head = take_at head body p.head_len long ∙ sym (take_all p.head_len head (omega (arith, long))) in
     let rest : drop p.head_len (head ++ body) ≡ body = drop_at head body p.head_len long in
-    rw (front, rest) refl
+    rw (front, rest, none, no_more) refl
 
-pub pieces_are_a_turn : PiecesAreATurn
-pieces_are_a_turn max now bytes p head gone last left before answered reply begins long all stays given rest = record {
-  request = request_at p lent;
-  framing = p.framing;
-  waiting = p.is_waiting;
-  reply = reply;
-  next_message = IsNextMessage-message max bytes p held begins ahead inside (sym (take_at lent left (p.head_len + p.body_len) count) ∙ ap (take (p.head_len + p.body_len)) joined)
-      (sym (drop_at lent left (p.head_len + p.body_len) count) ∙ ap (drop (p.head_len + p.body_len)) joined) rest;
-  stays = stays;
-  step = subst (λ request. InPieces Notes before request now reply ((before ++ answered) ++ answering (piece_of (request_at p head) p.body_len (length gone) last) now reply ∷ [])) (sym (request-whole p head (gone ++ last) long))
-      (answered-in_pieces (request_at p head) p.body_len now before answered gone last reply given all);
-  wrote = refl;
-}
+-- Some bytes are a message whose body came in pieces, all of which were taken but the last; that is answered. Then its request
+-- is answered in pieces.
+pub whole-step : (max : ℕ) (bytes : List ℕ) (p : Layout) (head gone last left : List ℕ) (before answered : List Answering) (now : ℕ) (reply : Reply)
+    → BeginsHead max bytes p (head ++ ((gone ++ last) ++ left)) → length head ≡ p.head_len → length gone + length last ≡ p.body_len → AreGiven (request_at p head) p.body_len 0 answered gone
+    → InPieces Notes before (request_at p (head ++ (gone ++ last))) now reply ((before ++ answered) ++ answering (piece_of (request_at p head) p.body_len (length gone) last) now reply ∷ [])
+whole-step max bytes p head gone last left before answered now reply begins long all given =
+    subst (λ request. InPieces Notes before request now reply ((before ++ answered) ++ answering (piece_of (request_at p head) p.body_len (length gone) last) now reply ∷ []))
+    (sym (request-whole p head (gone ++ last) long begins.shows.given begins.shows.more)) (answered-in_pieces (request_at p head) p.body_len now before answered gone last reply given all)
+
+-- and it is what the bytes begin with, whatever follows them
+pub whole-message : (max : ℕ) (bytes : List ℕ) (p : Layout) (head gone last left : List ℕ) → BeginsHead max bytes p (head ++ ((gone ++ last) ++ left)) → length head ≡ p.head_len → length gone + length last ≡ p.body_len
+    → (rest : List ℕ) → IsNextMessage max (bytes ++ rest) (message (request_at p (head ++ (gone ++ last))) p.framing p.is_waiting (left ++ rest))
+whole-message max bytes p head gone last left begins long all =
+    IsNextMessage-message max bytes p held begins ahead inside (sym (take_at lent left (p.head_len + p.body_len) count) ∙ ap (take (p.head_len + p.body_len)) joined)
+    (sym (drop_at lent left (p.head_len + p.body_len) count) ∙ ap (drop (p.head_len + p.body_len)) joined)
   where
     held : List ℕ
     held = head ++ ((gone ++ last) ++ left)
@@ -121,3 +124,15 @@ pieces_are_a_turn max now bytes p head gone last left before answered reply begi
 
     inside : p.head_len + p.body_len ≤ length held
     inside = omega (arith, sym (ap length joined), length-append lent left, count)
+
+pub pieces_are_a_turn : PiecesAreATurn
+pieces_are_a_turn max now bytes p head gone last left before answered reply begins long all stays given rest = record {
+  request = request_at p (head ++ (gone ++ last));
+  framing = p.framing;
+  waiting = p.is_waiting;
+  reply = reply;
+  next_message = whole-message max bytes p head gone last left begins long all rest;
+  stays = stays;
+  step = whole-step max bytes p head gone last left before answered now reply begins long all given;
+  wrote = refl;
+}

@@ -14,6 +14,8 @@ pub mod OrderLemmas
 pub mod PageLemmas
 pub mod HistoryLemmas
 pub mod PhaseLemmas
+pub mod PieceHistoryLemmas
+pub mod PieceLemmas
 pub mod RangeLemmas
 pub mod ReplyLemmas
 pub mod ScanLemmas

@@ -101,7 +101,7 @@ IsNextMessage-memory max bytes p held b rest within some large =
 pub request_at-shows : (max : ℕ) (text head body : List ℕ) (h : RequestHead) (p : Layout) → ShowsHead max head h p → take p.head_len text ≡ head → drop p.head_len text ≡ body
     → request_at p text ≡ request_of h body
 request_at-shows max text head body h p s next_message rest =
-    rw (next_message, rest, s.method, s.target, s.fields) refl
+    rw (next_message, rest, s.method, s.target, s.fields, s.given, s.more) refl
 
 -- all of the body is held
 pub IsNextMessage-message : (max : ℕ) (bytes : List ℕ) (p : Layout) (held : List ℕ) (b : BeginsHead max bytes p held) (a : Ahead) → p.head_len + p.body_len ≤ length held

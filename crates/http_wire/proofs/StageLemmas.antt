@@ -16,8 +16,10 @@ use Rattle.http_wire.specs.declared.phase.Phase.TheVariants.{Waiting}
 use Rattle.http_wire.specs.inside.Phases.{lacking}
 use Rattle.http_wire.specs.inside.Standing.{Fits, Standing, Wants}
 use Rattle.http_wire.specs.declared.read.stage.Stage.{Stage}
-use Rattle.http_wire.specs.declared.read.stage.Stage.TheVariants.{Head, Body}
+use Rattle.http_wire.specs.declared.read.stage.Stage.TheVariants.{Head, Body, Pieces}
 use Rattle.http_wire.proofs.FindLemmas.{Searching-more, Searching-unfinished, unfinished_short}
+use Rattle.http_wire.specs.PiecedBody.{IsTaken}
+use Rattle.http_wire.proofs.PieceLemmas.{IsTaken-more, IsTaken-short, IsTaken-unfinished, IsTaken-waits}
 use Rattle.http_wire.proofs.NextMessageLemmas.{BeginsHead-more, BeginsHead-short, BreaksMessage-unfinished, IsNextMessage-cut_other, IsNextMessage-cut_patch, IsNextMessage-waits}
 
 -- more bytes came
@@ -26,11 +28,14 @@ pub Standing-more : (max : ℕ) (start read got said : List ℕ) (old new : Ahea
 Standing-more max start read got said old new (Head s) h fits e = (h.0, Searching-more start read old.held got new.held s h.1 e)
 Standing-more max start read got said old new (Body p) h fits e =
     (h.0, subst (λ i. BeginsHead max i p new.held) (append_assoc start read got) (BeginsHead-more max (start ++ read) p old.held got new.held h.1 fits.held e))
+Standing-more max start read got said old new (Pieces b) h fits e =
+    (h.0, subst (λ i. IsTaken max i said h.0 b new.held) (append_assoc start read got) (IsTaken-more max (start ++ read) got said h.0 b old.held new.held h.1 e))
 
 -- the same bytes are held
 pub Standing-kept : (max : ℕ) (bytes said : List ℕ) (old new : Ahead) (s : Stage) → Standing max bytes said old s → new.held ≡ old.held → Standing max bytes said new s
 Standing-kept max bytes said old new (Head s) h e = rw e h
 Standing-kept max bytes said old new (Body p) h e = rw e h
+Standing-kept max bytes said old new (Pieces b) h e = rw e h
 
 pub Fits-more : (got : List ℕ) (old new : Ahead) (s : Stage) → Fits old s → new.held ≡ old.held ++ got → new.room ≡ old.room → Fits new s
 Fits-more got old new (Head s) fits e room = (fits.0, rw e (omega (arith, length-append old.held got, fits.1)))
@@ -41,10 +46,20 @@ Fits-more got old new (Body p) fits e room = record {
   room = rw room fits.room;
   within = fits.within;
 }
+Fits-more got old new (Pieces b) fits e room = record {
+  body = rw room fits.body;
+  held = rw e (omega (arith, length-append old.held got, fits.held));
+}
 
 pub Wants-unended : (a : Ahead) (s : Stage) → Wants a s → a.ended ≡ false
 Wants-unended a (Head s) w = w.unended
 Wants-unended a (Body p) w = w.1
+Wants-unended a (Pieces b) w = w.1
+
+-- `100 Continue` is due where a client waits
+continue-due : (w : Bool) → continue_text true ≡ continue_text w → w ≡ true
+continue-due true e = refl
+continue-due false e = absurd cc
 
 -- a client that waits is told to go on, and what came is a message that waits
 pub Standing-waits : (max : ℕ) (bytes : List ℕ) (a : Ahead) (s : Stage) → Standing max bytes (continue_text true) a s → (f : NextMessage) × IsNextMessage max bytes f × (waits f ≡ true)
@@ -52,11 +67,8 @@ Standing-waits max bytes a (Head s) h = absurd (said h.0)
   where
     said : continue_text true ≡ [] → ⊥
     said e = absurd cc
-Standing-waits max bytes a (Body p) h = IsNextMessage-waits max bytes p a.held h.1 (is_waiting p.is_waiting h.0)
-  where
-    is_waiting : (w : Bool) → continue_text true ≡ continue_text w → w ≡ true
-    is_waiting true e = refl
-    is_waiting false e = absurd cc
+Standing-waits max bytes a (Body p) h = IsNextMessage-waits max bytes p a.held h.1 (continue-due p.is_waiting h.0)
+Standing-waits max bytes a (Pieces b) h = IsTaken-waits max bytes (continue_text true) h.0 b a.held h.1 (continue-due b.layout.is_waiting h.1.waits)
 
 -- whether a message with this method and this field is applied when it is cut
 applied : (m : Method) (f : FieldSpan) → (b : Bool) × ((head : List ℕ) → is_applied_when_cut m (field_at head f) ≡ b)
@@ -75,6 +87,8 @@ Standing-unfinished max bytes said a (Body p) h fits wants = by (applied p.metho
     by : (b : Bool) × ((head : List ℕ) → is_applied_when_cut p.method (field_at head p.fields.checksum) ≡ b) → HasNoMessage max bytes
     by (true, is) = (_, IsNextMessage-cut_patch max bytes p a.held h.1 (record a { lent = a.held }) wants.0 fits.held is refl, tt)
     by (false, is) = (_, IsNextMessage-cut_other max bytes p a.held h.1 wants.0 fits.held is, tt)
+Standing-unfinished max bytes said a (Pieces b) h fits wants =
+    IsTaken-unfinished max bytes said h.0 b a.held h.1 fits.body.plain fits.body.given (omega (arith, wants.0))
 
 -- what holds of what was given, from what held of it
 pub IfOk-from : {T E : Type 0} {P Q : T → Type 0} (r : Result T E) → IfOk r P → ((x : T) → P x → Q x) → IfOk r Q
@@ -89,3 +103,5 @@ IfErr-from (Err e) p all = all e p
 pub Standing-few : (max : ℕ) (bytes said : List ℕ) (a : Ahead) (s : Stage) → Standing max bytes said a s → Fits a s → Wants a s → length bytes + lacking a (Waiting s) ≤ head_limit + max
 Standing-few max bytes said a (Head s) h fits wants = omega (arith, unfinished_short bytes (Searching-unfinished bytes a s h.1 wants))
 Standing-few max bytes said a (Body p) h fits wants = BeginsHead-short max bytes p a.held h.1 fits.held wants.0
+Standing-few max bytes said a (Pieces b) h fits wants =
+    omega (arith, IsTaken-short max bytes said h.0 b a.held h.1 fits.body.given (omega (arith, wants.0)), fits.body.given)

@@ -1,12 +1,14 @@
 -- What calls do to a connection.
 use Rattle.std.specs.Prelude.{◌≡◌, ◌↔◌, ◌++◌, ℕ, true, List, [], take, drop, Ok, Err}
 use Rattle.http_wire.specs.Incoming.{FramedRequest, is_cut_by_fault}
-use Rattle.http_wire.specs.OnConnection.{OnConnection, Stands, is_looking}
+use Rattle.http_wire.specs.OnConnection.{OnConnection, Stands, StandsIn, is_looking}
 use Rattle.http_wire.specs.History.{HasHistory, History, gave, took}
 use Rattle.http_wire.specs.ReadOnWire.{BreaksMessage, ComesIn}
 use Rattle.http_wire.specs.declared.fault.WireFault.TheVariants.{Read}
 use Rattle.http_wire.specs.declared.phase.Phase.{Phase}
-use Rattle.http_wire.specs.declared.phase.Phase.TheVariants.{Looking, Waiting, Owing, Over}
+use Rattle.http_wire.specs.declared.phase.Phase.TheVariants.{Looking, Waiting, Owing, Piece, Over, Stopped}
+use Rattle.http_wire.specs.declared.incoming.Cut.TheVariants.{Fault}
+use Rattle.http_wire.specs.declared.read.pieces.Part.TheVariants.{Cut}
 use Rattle.http_wire.specs.inside.Ahead.{Ahead}
 use Rattle.http_wire.specs.inside.Sending.{empty_write_buffer}
 
@@ -19,14 +21,17 @@ pub record Takes (got : List ℕ) (old new : OnConnection) : Type 0 where
   pub history : (p : History) → HasHistory p old → HasHistory (took p got) new
   pub write_buffer : new.write_buffer ≡ old.write_buffer
   pub size : new.max_size ≡ old.max_size
+  pub piece : new.piece ≡ old.piece
 
 -- a read failed: a PATCH that is applied when it is cut is owed its step, and else the conversation is over
 abbrev pub BreaksTo : ℕ → List ℕ → List ℕ → Ahead → Phase FramedRequest → Type 0
 BreaksTo max bytes said a (Looking s) = ⊥
 BreaksTo max bytes said a (Waiting s) = ⊥
 BreaksTo max bytes said a (Owing i) = ComesIn max (record { input = bytes; text = said }) a.held i × (is_cut_by_fault i ≡ true)
+BreaksTo max bytes said a (Piece b part) = StandsIn max bytes said a (Piece b part) × (part ≡ Cut Fault)
 BreaksTo max bytes said a (Over (Ok e)) = ⊥
 BreaksTo max bytes said a (Over (Err fault)) = BreaksMessage max (record { input = bytes; text = said }) fault × (fault ≡ Read)
+BreaksTo max bytes said a (Stopped r) = ⊥
 
 -- this text was put behind what is pending, and nothing else changed
 pub record Puts (text : List ℕ) (old new : OnConnection) : Type 0 where

@@ -1,13 +1,28 @@
 -- The history of a connection: what was taken from its client and handed out to it, and what was answered.
-use Rattle.std.specs.Prelude.{◌≡◌, ℕ, List, [], ◌∷◌, ◌++◌, Ok, Err}
+use Rattle.std.specs.Prelude.{◌≡◌, ◌⊎◌, ◌+◌, ◌-◌, ℕ, true, false, List, [], ◌∷◌, ◌++◌, length, take, Option, Some, None, Result, Ok, Err}
+use Rattle.tus_steps.specs.InPieces.{InPieces, IsPlainPatch, is_patched}
 use Rattle.tus_steps.specs.Request.{Request}
 use Rattle.tus_steps.specs.declared.reply.Reply.{Reply}
+use Rattle.http_wire.specs.Conversation.{continue_text}
 use Rattle.http_wire.specs.Exchange.{Exchange, followed}
 use Rattle.http_wire.specs.Incoming.{FramedRequest}
+use Rattle.http_wire.specs.Layout.{request_at}
+use Rattle.http_wire.specs.NextMessage.{closing}
 use Rattle.http_wire.specs.OnConnection.{OnConnection, Stands}
+use Rattle.http_wire.specs.PiecedBody.{IsTaken}
+use Rattle.http_wire.specs.ReplyText.{reply_text}
 use Rattle.http_wire.specs.Turns.{Breaks, Converses, Turns}
+use Rattle.http_wire.specs.declared.conversation.Ended.{Ended}
+use Rattle.http_wire.specs.declared.conversation.Ended.TheVariants as ended
+use Rattle.http_wire.specs.declared.fault.WireFault.{WireFault}
+use Rattle.http_wire.specs.declared.fault.WireFault.TheVariants as fault
+use Rattle.http_wire.specs.declared.read.layout.Layout.{Layout}
+use Rattle.http_wire.specs.declared.read.pieces.PiecedBody.{PiecedBody}
+use Rattle.http_wire.specs.declared.read.stage.Stage.{Stage}
+use Rattle.http_wire.specs.declared.read.stage.Stage.TheVariants.{Head, Body, Pieces}
+use Rattle.http_wire.specs.inside.HeadLayout.{BeginsHead}
 use Rattle.http_wire.specs.declared.phase.Phase.{Phase}
-use Rattle.http_wire.specs.declared.phase.Phase.TheVariants.{Looking, Waiting, Owing, Over}
+use Rattle.http_wire.specs.declared.phase.Phase.TheVariants.{Looking, Waiting, Owing, Piece, Over, Stopped}
 
 -- a request, its moment, and the reply to it
 pub record Answering : Type 0 where
@@ -19,37 +34,69 @@ pub record Answering : Type 0 where
 abbrev pub Notes : List Answering → Request → ℕ → Reply → List Answering → Type 0
 Notes before request now reply after = after ≡ before ++ record { request = request; now = now; reply = reply } ∷ []
 
+-- The same where bodies are taken in pieces of some size: a request is noted as one, or, of a PATCH without a checksum, piece by
+-- piece.
+abbrev pub NotesBy : Option ℕ → List Answering → Request → ℕ → Reply → List Answering → Type 0
+NotesBy None before request now reply after = Notes before request now reply after
+NotesBy (Some n) before request now reply after =
+    Notes before request now reply after ⊎ (IsPlainPatch request × InPieces Notes before request now reply after)
+
+-- the piece of a body of n bytes that has these, behind so many that were given before
+abbrev pub piece_of : Request → ℕ → ℕ → List ℕ → Request
+piece_of r n given bytes = record r { body = bytes; given = given; more = n - (given + length bytes) }
+
+-- pieces of it were taken, one after another, from a place on; together they are these bytes
+abbrev pub AreGiven : Request → ℕ → ℕ → List Answering → List ℕ → Type 0
+AreGiven r n given [] bytes = bytes ≡ []
+AreGiven r n given (q ∷ answered) bytes =
+    (piece later : List ℕ) × (q.request ≡ piece_of r n given piece) × (is_patched q.reply ≡ true) × (bytes ≡ piece ++ later)
+    × AreGiven r n (given + length piece) answered later
+
 module _ {A : Type 0} (steps : A → Request → ℕ → Reply → A → Type 0) where
   -- these answers are steps, one after another, from one state to another
   abbrev pub Follows : A → List Answering → A → Type 0
   Follows a [] b = b ≡ a
   Follows a (q ∷ answered) b = (c : A) × steps a q.request q.now q.reply c × Follows c answered b
 
--- all bytes that reads brought, all that were sent, the moments of what came in, and what was answered, a PATCH that was cut
--- included
+-- all bytes that reads brought, all that were sent, the moments at which messages and refusals were answered, a PATCH that was
+-- cut included, all moments that were told, those of pieces among them, and what was answered
 pub record History : Type 0 where
   pub taken : List ℕ
   pub handed : List ℕ
   pub moments : List ℕ
+  pub all_moments : List ℕ
   pub answered : List Answering
 
 -- nothing has passed
 abbrev pub nothing_yet : History
-nothing_yet = record { taken = []; handed = []; moments = []; answered = [] }
+nothing_yet = record { taken = []; handed = []; moments = []; all_moments = []; answered = [] }
 
--- the same, after these bytes were taken, or were sent, or after this was answered at a moment
+-- the same, after these bytes were taken, or were sent
 abbrev pub took : History → List ℕ → History
 took p got = record p { taken = p.taken ++ got }
 
 abbrev pub gave : History → List ℕ → History
 gave p bytes = record p { handed = p.handed ++ bytes }
 
+-- the same, after this was answered at a moment, which ended a message, or was a piece with more to come
 abbrev pub noted : History → ℕ → List Answering → History
-noted p now answered = record p { moments = p.moments ++ now ∷ []; answered = p.answered ++ answered }
+noted p now answered = record p { moments = p.moments ++ now ∷ []; all_moments = p.all_moments ++ now ∷ []; answered = p.answered ++ answered }
+
+abbrev pub noted_piece : History → ℕ → List Answering → History
+noted_piece p now answered = record p { all_moments = p.all_moments ++ now ∷ []; answered = p.answered ++ answered }
+
+-- the same, by the body under way behind the answer
+abbrev pub noted_before : Option PiecedBody → History → ℕ → List Answering → History
+noted_before None p now answered = noted p now answered
+noted_before (Some b) p now answered = noted_piece p now answered
+
+-- an exchange of what was taken, with this text and these notes of answers
+abbrev pub told_with : History → List ℕ → List Answering → Exchange (List Answering)
+told_with p text after = record { input = p.taken; text = text; before = []; after = after }
 
 -- a history with the text that goes with it, as what passed between a client and notes of its answers
 abbrev pub told : History → List ℕ → Exchange (List Answering)
-told p text = record { input = p.taken; text = text; before = []; after = p.answered }
+told p text = told_with p text p.answered
 
 -- Whole messages were taken and answered, and then some bytes of the next. Their text, and what was said for the next, is what
 -- was sent and then what is pending.
@@ -57,19 +104,75 @@ pub record Stood (p : History) (c : OnConnection) : Type 0 where
   pub start : List ℕ
   pub said : List ℕ
   pub text : List ℕ
-  pub reached : (rest : List ℕ) → Turns Notes c.max_size p.moments (followed (told p text) rest) (start ++ rest)
+  pub reached : (rest : List ℕ) → Turns (NotesBy c.piece) c.max_size p.moments (followed (told p text) rest) (start ++ rest)
   pub sent : p.handed ++ c.write_buffer.pending ≡ text ++ said
   pub stands : Stands start said c
 
+-- Whole messages were taken and answered, and then pieces of the next, which is a PATCH without a checksum: all of them were
+-- accepted, and each had the bytes behind those before it. The rest of what came is here, behind the head.
+pub record StoodInPieces (p : History) (c : OnConnection) (b : PiecedBody) (here : List ℕ) : Type 0 where
+  pub start : List ℕ
+  pub said : List ℕ
+  pub text : List ℕ
+  pub gone : List ℕ
+  pub before : List Answering
+  pub pieces : List Answering
+  pub answered : p.answered ≡ before ++ pieces
+  pub reached : (rest : List ℕ) → Turns (NotesBy c.piece) c.max_size p.moments (followed (told_with p text before) rest) (start ++ rest)
+  pub sent : p.handed ++ c.write_buffer.pending ≡ text ++ said
+  pub taken : IsTaken c.max_size start said gone b here
+  pub given : AreGiven (request_at b.layout (take b.layout.head_len here)) b.layout.body_len 0 pieces gone
+
+-- How a connection ends with a piece, by the reply to it and the text that goes with that: the piece was refused, and the reply
+-- closes the connection; or the body was cut behind it, and it gets no reply.
+abbrev pub StopsWith : Result Ended WireFault → Layout → Answering → List ℕ → Type 0
+StopsWith (Ok ended.Closed) p last text =
+    (is_patched last.reply ≡ false) × (text ≡ continue_text p.is_waiting ++ reply_text last.reply last.now (closing p.framing))
+StopsWith (Ok ended.Cut) p last text = text ≡ continue_text p.is_waiting
+StopsWith (Err fault.Read) p last text = text ≡ continue_text p.is_waiting
+StopsWith other p last text = ⊥
+
+-- Whole messages were taken and answered, and then pieces of the next, which is a PATCH without a checksum. All but the last were
+-- accepted, and with the last the connection ends so, at its moment.
+pub record StoppedInPieces (p : History) (c : OnConnection) (r : Result Ended WireFault) : Type 0 where
+  pub start : List ℕ
+  pub text : List ℕ
+  pub said : List ℕ
+  pub layout : Layout
+  pub head : List ℕ
+  pub gone : List ℕ
+  pub behind : List ℕ
+  pub before : List Answering
+  pub pieces : List Answering
+  pub last : Answering
+  pub moments : List ℕ
+  pub timed : p.moments ≡ moments ++ last.now ∷ []
+  pub answered : p.answered ≡ (before ++ pieces) ++ last ∷ []
+  pub reached : (rest : List ℕ) → Turns (NotesBy c.piece) c.max_size moments (followed (told_with p text before) rest) (start ++ rest)
+  pub sent : p.handed ++ c.write_buffer.pending ≡ text ++ said
+  pub long : length head ≡ layout.head_len
+  pub begins : BeginsHead c.max_size start layout (head ++ (gone ++ (last.request.body ++ behind)))
+  pub plain : IsPlainPatch last.request
+  pub given : AreGiven (request_at layout head) layout.body_len 0 pieces gone
+  pub piece : last.request ≡ piece_of (request_at layout head) layout.body_len (length gone) last.request.body
+  pub stops : StopsWith r layout last said
+
 -- What was sent, and then what is pending, is the text of the conversation of the bytes that were taken: so far, and as a whole
 -- once it is over. Where a read failed, it is broken off; the message that was cut takes one moment more, whichever.
+abbrev pub StandsAt : History → OnConnection → Stage → Type 0
+StandsAt p c (Head s) = Stood p c
+StandsAt p c (Body l) = Stood p c
+StandsAt p c (Pieces b) = StoodInPieces p c b c.read_buffer.held
+
 abbrev pub StandsAfter : History → OnConnection → Phase FramedRequest → Type 0
-StandsAfter p c (Looking s) = Stood p c
-StandsAfter p c (Waiting s) = Stood p c
+StandsAfter p c (Looking s) = StandsAt p c s
+StandsAfter p c (Waiting s) = StandsAt p c s
 StandsAfter p c (Owing i) = Stood p c
-StandsAfter p c (Over (Ok e)) = Converses Notes c.max_size p.moments (told p (p.handed ++ c.write_buffer.pending)) e
+StandsAfter p c (Piece b part) = StoodInPieces p c b (c.read_buffer.lent ++ c.read_buffer.held)
+StandsAfter p c (Over (Ok e)) = Converses (NotesBy c.piece) c.max_size p.moments (told p (p.handed ++ c.write_buffer.pending)) e
 StandsAfter p c (Over (Err fault)) =
-    (last : List ℕ) × Breaks Notes c.max_size (p.moments ++ last) (told p (p.handed ++ c.write_buffer.pending)) fault
+    (last : List ℕ) × Breaks (NotesBy c.piece) c.max_size (p.moments ++ last) (told p (p.handed ++ c.write_buffer.pending)) fault
+StandsAfter p c (Stopped r) = StoppedInPieces p c r
 
 abbrev pub HasHistory : History → OnConnection → Type 0
 HasHistory p c = StandsAfter p c c.phase

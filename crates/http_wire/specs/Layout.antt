@@ -42,8 +42,8 @@ request_at p text =
       path = path_of (span_bytes head p.target);
       fields = map_fields (field_at head) p.fields;
       body = drop p.head_len text;
-      given = 0;
-      more = 0;
+      given = p.given;
+      more = p.more;
     }
 
 -- the target of that request, as it was sent

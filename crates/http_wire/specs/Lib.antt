@@ -17,6 +17,7 @@ pub mod Layout
 pub mod Message
 pub mod OnConnection
 pub mod OnWire
+pub mod PiecedBody
 pub mod History
 pub mod Questions
 pub mod ReadOnWire

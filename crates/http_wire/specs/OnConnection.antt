@@ -1,9 +1,10 @@
 -- A connection as its callers see it: what it holds of what was read, how far it has come, and what is to be sent.
-use Rattle.std.specs.Prelude.{◌≡◌, ℕ, Bool, true, false, List, [], ◌∷◌, ◌+◌, ◌-◌, ◌⊎◌, length, Option, Some, None, Result, Ok, Err}
+use Rattle.std.specs.Prelude.{◌≡◌, ℕ, Bool, true, false, List, [], ◌∷◌, ◌++◌, ◌+◌, ◌-◌, ◌⊎◌, length, Option, Some, None, Result, Ok, Err}
 use Rattle.std.specs.Prelude.{if◌then◌else◌}
 use Rattle.http_wire.specs.NextMessage.{NextMessage, IsNextMessage}
 use Rattle.http_wire.specs.Incoming.{FramedRequest}
 use Rattle.http_wire.specs.Layout.{framed_at}
+use Rattle.http_wire.specs.PiecedBody.{IsTaken, piece_in}
 use Rattle.http_wire.specs.ReadOnWire.{ComesIn, IsCut}
 use Rattle.http_wire.specs.declared.connection.Wants.{Wants}
 use Rattle.http_wire.specs.declared.connection.Wants.TheVariants as wants
@@ -13,21 +14,23 @@ use Rattle.http_wire.specs.declared.fault.WireFault.{WireFault}
 use Rattle.http_wire.specs.declared.incoming.Incoming.{Incoming}
 use Rattle.http_wire.specs.declared.incoming.Incoming.TheVariants.{Message, CutPatch, CutOther, Refused, End}
 use Rattle.http_wire.specs.declared.phase.Phase.{Phase}
-use Rattle.http_wire.specs.declared.phase.Phase.TheVariants.{Looking, Waiting, Owing, Over}
-use Rattle.http_wire.specs.declared.read.stage.Stage.TheVariants.{Body, Head}
+use Rattle.http_wire.specs.declared.phase.Phase.TheVariants.{Looking, Waiting, Owing, Piece, Over, Stopped}
+use Rattle.http_wire.specs.declared.read.pieces.PiecedBody.{PiecedBody}
+use Rattle.http_wire.specs.declared.read.stage.Stage.TheVariants.{Body, Head, Pieces}
 use Rattle.http_wire.specs.inside.Ahead.{Ahead}
 use Rattle.http_wire.specs.inside.HeadSearch.{search_start}
 use Rattle.http_wire.specs.inside.Sending.{OnOutbox, empty_write_buffer}
-use Rattle.http_wire.specs.inside.Standing.{Standing, still}
+use Rattle.http_wire.specs.inside.Standing.{Standing, pieced, still}
 use Rattle.http_wire.specs.inside.TurnFinish.{ended_after, turn_cut}
 
--- what was read and belongs to no message that was answered, how far it has come with it, what is to be sent, and the most
--- bytes of a body
+-- what was read and belongs to no message that was answered, how far it has come with it, what is to be sent, the most bytes of
+-- a body, and how many bytes of a body are taken as a piece, where it takes bodies in pieces
 pub record OnConnection : Type 0 where
   pub read_buffer : Ahead
   pub phase : Phase FramedRequest
   pub write_buffer : OnOutbox
   pub max_size : ℕ
+  pub piece : Option ℕ
 
 -- this, unless something is to be sent first
 abbrev pub unless_pending : List ℕ → Wants → Wants
@@ -41,7 +44,9 @@ abbrev pub wanted_in : OnOutbox → Phase FramedRequest → Wants
 wanted_in o (Looking s) = wants.Write
 wanted_in o (Waiting s) = unless_pending o.pending wants.Read
 wanted_in o (Owing i) = if o.has_room then wants.Answer else wants.Write
+wanted_in o (Piece b part) = if o.has_room then wants.Answer else wants.Write
 wanted_in o (Over r) = unless_pending o.pending wants.Nothing
+wanted_in o (Stopped r) = unless_pending o.pending wants.Nothing
 
 abbrev pub wanted : OnConnection → Wants
 wanted c = wanted_in c.write_buffer c.phase
@@ -83,15 +88,38 @@ abbrev pub ended_in : Phase FramedRequest → Result (Option Ended) WireFault
 ended_in (Looking s) = Ok None
 ended_in (Waiting s) = Ok None
 ended_in (Owing i) = Ok None
+ended_in (Piece b part) = Ok None
 ended_in (Over (Ok e)) = Ok (Some e)
 ended_in (Over (Err fault)) = Err fault
+ended_in (Stopped (Ok e)) = Ok (Some e)
+ended_in (Stopped (Err fault)) = Err fault
 
--- what is owed an answer
+-- what is owed an answer, but for a piece
 abbrev pub owed_in : Phase FramedRequest → Option (Incoming FramedRequest)
 owed_in (Looking s) = None
 owed_in (Waiting s) = None
 owed_in (Owing i) = Some i
+owed_in (Piece b part) = None
 owed_in (Over r) = None
+owed_in (Stopped r) = None
+
+-- the body under way that is taken in pieces
+abbrev pub body_in : {M : Type 0} → Phase M → Option PiecedBody
+body_in (Looking s) = pieced s
+body_in (Waiting s) = pieced s
+body_in (Owing i) = None
+body_in (Piece b part) = Some b
+body_in (Over r) = None
+body_in (Stopped r) = None
+
+-- the piece that is owed an answer
+abbrev pub piece_owed : Ahead → Phase FramedRequest → Option FramedRequest
+piece_owed a (Looking s) = None
+piece_owed a (Waiting s) = None
+piece_owed a (Owing i) = None
+piece_owed a (Piece b part) = Some (piece_in b a.lent)
+piece_owed a (Over r) = None
+piece_owed a (Stopped r) = None
 
 -- These bytes came since the last message that was answered, and this was said meanwhile; where a message came in, it is what
 -- they begin with.
@@ -99,7 +127,9 @@ abbrev pub StandsIn : ℕ → List ℕ → List ℕ → Ahead → Phase FramedRe
 StandsIn max bytes said a (Looking s) = Standing max bytes said a s
 StandsIn max bytes said a (Waiting s) = Standing max bytes said a s
 StandsIn max bytes said a (Owing i) = ComesIn max (record { input = bytes; text = said }) a.held i
+StandsIn max bytes said a (Piece b part) = (gone : List ℕ) × IsTaken max bytes said gone b (a.lent ++ a.held)
 StandsIn max bytes said a (Over r) = ⊥
+StandsIn max bytes said a (Stopped r) = ⊥
 
 abbrev pub Stands : List ℕ → List ℕ → OnConnection → Type 0
 Stands bytes said c = StandsIn c.max_size bytes said c.read_buffer c.phase
@@ -109,14 +139,18 @@ abbrev pub is_looking : {M : Type 0} → Phase M → Bool
 is_looking (Looking s) = true
 is_looking (Waiting s) = false
 is_looking (Owing i) = false
+is_looking (Piece b part) = false
 is_looking (Over r) = false
+is_looking (Stopped r) = false
 
 -- it looks again, where it waited for more
 abbrev pub looking_again : {M : Type 0} → Phase M → Phase M
 looking_again (Looking s) = Looking s
 looking_again (Waiting s) = Looking s
 looking_again (Owing i) = Owing i
+looking_again (Piece b part) = Piece b part
 looking_again (Over r) = Over r
+looking_again (Stopped r) = Stopped r
 
 -- the next message, in place of one that came in
 abbrev pub passed_over : Phase FramedRequest → Phase FramedRequest
@@ -127,32 +161,44 @@ passed_over (Owing (CutPatch m why)) = Owing (CutPatch m why)
 passed_over (Owing CutOther) = Owing CutOther
 passed_over (Owing (Refused why framing)) = Owing (Refused why framing)
 passed_over (Owing End) = Owing End
+passed_over (Piece b part) = Piece b part
 passed_over (Over r) = Over r
+passed_over (Stopped r) = Stopped r
 
 -- how many bytes may still come of a message, and the end
 abbrev pub coming : Ahead → Phase FramedRequest → ℕ
 coming a (Looking s) = still a s
 coming a (Waiting s) = still a s
 coming a (Owing i) = 0
+coming a (Piece b part) = 0
 coming a (Over r) = 0
+coming a (Stopped r) = 0
 
 -- how many bytes are held of a body that has not come whole
 abbrev pub body_held : Ahead → Phase FramedRequest → ℕ
 body_held a (Looking (Head s)) = 0
 body_held a (Looking (Body p)) = length a.held - p.head_len
+body_held a (Looking (Pieces b)) = length a.held - b.layout.head_len
 body_held a (Waiting (Head s)) = 0
 body_held a (Waiting (Body p)) = length a.held - p.head_len
+body_held a (Waiting (Pieces b)) = length a.held - b.layout.head_len
 body_held a (Owing i) = 0
+body_held a (Piece b part) = 0
 body_held a (Over r) = 0
+body_held a (Stopped r) = 0
 
--- the message whose head was read and whose body has not come whole, with what came of it
+-- the message whose head was read and whose body has not come whole, with what came of it and was not taken
 abbrev pub under_way : Ahead → Phase FramedRequest → Option FramedRequest
 under_way a (Looking (Head s)) = None
 under_way a (Looking (Body p)) = Some (framed_at a.held p)
+under_way a (Looking (Pieces b)) = Some (piece_in b a.held)
 under_way a (Waiting (Head s)) = None
 under_way a (Waiting (Body p)) = Some (framed_at a.held p)
+under_way a (Waiting (Pieces b)) = Some (piece_in b a.held)
 under_way a (Owing i) = None
+under_way a (Piece b part) = None
 under_way a (Over r) = None
+under_way a (Stopped r) = None
 
 -- something is pending
 abbrev pub one_if_pending : List ℕ → ℕ

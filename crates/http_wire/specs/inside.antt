@@ -6,6 +6,7 @@ pub mod HeadLayout
 pub mod HeadSearch
 pub mod IncomingLayout
 pub mod Phases
+pub mod PieceAnswer
 pub mod ReplyPage
 pub mod Scan
 pub mod Sending

@@ -1,13 +1,14 @@
 //! A connection that holds no stream: what its client sends is put in, and what it is to be sent is taken out.
-ghost use Rattle.std.specs.Prelude.{◌≡◌, ◌≢◌, ◌⊎◌, ◌≤◌, ◌<◌, ◌+◌, ◌^◌, ◌++◌, ℕ, List, [], Ok, true, false, length, drop, take, IfOk, OnOk, OnErr, IfSome, is_err, option_map};
+ghost use Rattle.std.specs.Prelude.{◌≡◌, ◌≢◌, ◌⊎◌, ◌≤◌, ◌<◌, ◌+◌, ◌-◌, ◌^◌, ◌++◌, ℕ, List, [], Ok, None, Some, true, false, length, drop, take, IfOk, OnOk, OnErr, IfSome, is_err, is_some, option_map};
 ghost use Rattle.std.specs.Bool.{OnFalse, OnTrue};
 ghost use Rattle.std.specs.Io.KnownBytes.{Appends, Consumes, IsAtEnd, Keeps};
 ghost use Rattle.http_wire.specs.ConnectionCalls.{BreaksTo, Puts, Sends, Takes};
 ghost use Rattle.http_wire.specs.Incoming.{map_incoming, is_cut_by_fault};
 ghost use Rattle.http_wire.specs.Layout.{framed_at};
 ghost use Rattle.http_wire.specs.Message.{framed};
-ghost use Rattle.http_wire.specs.OnConnection.{HasNoMessage, IsFresh, IsIdle, OnConnection, Stands, StandsIn, at_start, body_held, ended_in, is_looking, left, left_in, looking_again, owed_in, passed_over, phase_after, turn_end, under_way, unless_pending, wanted, wanted_in};
-ghost use Rattle.http_wire.specs.History.{Answering, Follows, HasHistory, History, noted, nothing_yet};
+ghost use Rattle.http_wire.specs.OnConnection.{HasNoMessage, IsFresh, IsIdle, OnConnection, Stands, StandsIn, at_start, body_held, body_in, ended_in, is_looking, left, left_in, looking_again, owed_in, passed_over, phase_after, piece_owed, turn_end, under_way, unless_pending, wanted, wanted_in};
+ghost use Rattle.http_wire.specs.PiecedBody.{piece_in};
+ghost use Rattle.http_wire.specs.History.{Answering, Follows, HasHistory, History, noted_before, nothing_yet};
 ghost use Rattle.http_wire.specs.ReadOnWire.{TellsEnd, read_limit};
 ghost use Rattle.http_wire.specs.ReplyText.{refusal_text, reply_text};
 ghost use Rattle.http_wire.specs.Streams.{took_nothing};
@@ -15,7 +16,7 @@ ghost use Rattle.http_wire.specs.Writes.{Writes};
 ghost use Rattle.http_wire.specs.inside.IncomingLayout.{IsLent};
 ghost use Rattle.http_wire.specs.inside.Phases.{map_phase, IsPhase, lacking};
 ghost use Rattle.http_wire.specs.inside.Sending.{empty_write_buffer};
-ghost use Rattle.http_wire.specs.inside.Standing.{Fits, HasRoom, Standing, Wants as WantsMore};
+ghost use Rattle.http_wire.specs.inside.Standing.{Fits, HasRoom, HasRoomForPiece, IsPieced, Keeps as KeepsBody, Standing, Wants as WantsMore, pieced};
 ghost use Rattle.http_wire.specs.inside.TurnFinish.{AnswersTurn};
 ghost use Rattle.http_wire.specs.declared.phase.Phase.TheVariants.{Looking, Waiting};
 ghost use Rattle.http_wire.specs.declared.read.stage.Stage.TheVariants.{Head};
@@ -28,12 +29,14 @@ use crate::buffers::Buffers;
 use crate::conversation::Ended;
 use crate::fault::WireFault;
 use crate::framing::Framing;
-use crate::incoming::Incoming;
+use crate::incoming::{Cut, Incoming};
 use crate::message::Message;
 use crate::phase::Phase;
+use crate::piece_answer::answer_piece;
 use crate::read::layout::Layout;
+use crate::read::pieces::{Part, PiecedBody};
 use crate::read::read_buffer::{READ_SIZE, ReadBuffer};
-use crate::read::stage::{Looked, Stage};
+use crate::read::stage::{Looked, Stage, lend_all};
 use crate::refusal::WireRefusal;
 use crate::replying::answer_incoming;
 use crate::source::{Sink, Source};
@@ -62,12 +65,17 @@ pub enum Wants {
 /// and does that: a read into it, a write of what is pending, or an answer to what came in. Each call makes at most one read
 /// or one write, and waits only where the stream or the answerer does. After a write that failed it is let go.
 ///
-/// A contract sees what it holds, how far it has come, what is to be sent, and the most bytes of a body.
+/// It gathers each body, or takes those of PATCHes without a checksum in pieces. Then a piece is owed an answer as a message is,
+/// and may be answered once it has come.
+///
+/// A contract sees what it holds, how far it has come, what is to be sent, the most bytes of a body, and how many bytes a piece
+/// has, where there are pieces.
 #[derive(Drop)]
 pub struct Connection {
     buffers: Buffers,
     phase: Phase<Layout>,
     max_size: u64,
+    piece: Option<usize>,
 }
 
 impl Model for Connection {
@@ -82,19 +90,21 @@ impl Model for Connection {
       phase = map_phase (framed_at c.buffers.read_buffer.lent) c.phase;
       write_buffer = c.buffers.write_buffer;
       max_size = c.max_size;
+      piece = c.piece;
     } };
 
-    ghost invariant = { λ c. IsConnection c.buffers.read_buffer c.phase c.max_size };
+    ghost invariant = { λ c. IsConnection c.buffers.read_buffer c.phase c.max_size c.piece };
 }
 
 impl Connection {
-    /// A connection of which nothing was read. A body has at most `max_size` bytes, below 2^31. The error is that memory is
-    /// lacking.
+    /// A connection of which nothing was read, and which gathers each body. A body has at most `max_size` bytes, below 2^31. The
+    /// error is that memory is lacking.
     pub fn new(alloc: Global, max_size: u64) -> Result<Self, AllocError>
         requires { max_size < 2 ^ 31 }
         ensures fresh { IfOk result IsFresh }
         ensures begins { IfOk result (HasHistory nothing_yet) }
         ensures size { IfOk result (λ c. c.max_size ≡ max_size) }
+        ensures gathers { IfOk result (λ c. c.piece ≡ None) }
     {
         let buffers = Buffers::new(alloc)?;
         Ok(Connection::with_buffers(buffers, max_size))
@@ -107,6 +117,21 @@ impl Connection {
         ensures fresh { IsFresh result }
         ensures begins { HasHistory nothing_yet result }
         ensures size { result.max_size ≡ max_size }
+        ensures gathers { result.piece ≡ None }
+    {
+        Connection::by_pieces(buffers, max_size, None)
+    }
+
+    /// The same, but the body of a PATCH without a checksum is taken in pieces where it has more bytes than `piece`, above 0: each
+    /// piece once so many bytes have come, with at most 16,384 more, and what is left once the rest has. Where there is none,
+    /// each body is gathered.
+    pub fn by_pieces(buffers: Buffers, max_size: u64, piece: Option<usize>) -> Self
+        requires size { max_size < 2 ^ 31 }
+        requires some { IfSome piece (λ n. 0 < n) }
+        ensures fresh { IsFresh result }
+        ensures begins { HasHistory nothing_yet result }
+        ensures size { result.max_size ≡ max_size }
+        ensures piece { result.piece ≡ piece }
     {
         let mut buffers = buffers;
         buffers.renew();
@@ -114,6 +139,7 @@ impl Connection {
             buffers,
             phase: Phase::start(),
             max_size,
+            piece,
         }
     }
 
@@ -124,33 +150,45 @@ impl Connection {
         ensures idle { OnTrue result (IsIdle self.now) }
         ensures busy { OnFalse result (IsIdle self.now → ⊥) }
         ensures renews { OnTrue result ((p : History) (c : OnConnection) → HasHistory p self.now → IsFresh c
-            → c.max_size ≡ self.now.max_size → HasHistory p c) }
+            → c.max_size ≡ self.now.max_size → c.piece ≡ self.now.piece → HasHistory p c) }
     {
         is_at_start(&self.phase) && is_empty(&self.buffers)
     }
 
     /// How many bytes it holds of a body that has not come whole, as far as `wants` has looked: 0 for a head, and once a
-    /// message came in.
+    /// message or a piece came in.
     pub fn body_held(&self) -> usize
         ensures { result ≡ body_held self.now.read_buffer self.now.phase }
     {
         match &self.phase {
-            Phase::Looking(Stage::Body(layout)) | Phase::Waiting(Stage::Body(layout)) => {
-                let held = self.buffers.read_buffer.held().len();
-                held.saturating_sub(layout.head_len)
-            }
+            Phase::Looking(Stage::Body(layout)) | Phase::Waiting(Stage::Body(layout)) =>
+                self.held_behind(layout.head_len),
+            Phase::Looking(Stage::Pieces(body)) | Phase::Waiting(Stage::Pieces(body)) =>
+                self.held_behind(body.layout.head_len),
             _ => 0,
         }
     }
 
+    // How many bytes are held behind a head of this length.
+    fn held_behind(&self, head_len: usize) -> usize
+        ensures { result ≡ length self.now.read_buffer.held - head_len }
+    {
+        let held = self.buffers.read_buffer.held().len();
+        held.saturating_sub(head_len)
+    }
+
     /// A message whose head was read and whose body has not come whole, as far as `wants` has looked. It is lent with the
-    /// bytes of its body that came so far. None while a head is read, and once a message came in.
+    /// bytes of its body that came so far and were not taken as pieces. None while a head is read, and once a message or a piece
+    /// came in.
     pub fn under_way(&self) -> Option<Message<'_>>
         ensures { option_map framed result ≡ under_way self.now.read_buffer self.now.phase }
     {
         match &self.phase {
             Phase::Looking(Stage::Body(layout)) | Phase::Waiting(Stage::Body(layout)) => Some(
                 lend_held(layout, &self.buffers.read_buffer),
+            ),
+            Phase::Looking(Stage::Pieces(body)) | Phase::Waiting(Stage::Pieces(body)) => Some(
+                lend_held_piece(body, &self.buffers.read_buffer),
             ),
             _ => None,
         }
@@ -196,10 +234,12 @@ impl Connection {
         ensures tells_end { IfSome (owed_in self.new.phase) (λ i. TellsEnd self.new.read_buffer.ended (Ok i)) }
         ensures unbroken { is_looking self.old.phase ≡ true
             → IfSome (owed_in self.new.phase) (λ i. is_cut_by_fault i ≡ false) }
+        ensures gathers { self.new.piece ≡ None → body_in self.new.phase ≡ None }
         ensures size { self.new.max_size ≡ self.old.max_size }
+        ensures piece { self.new.piece ≡ self.old.piece }
     {
         if let Phase::Looking(stage) = &self.phase {
-            self.phase = look_on(*stage, &mut self.buffers, self.max_size);
+            self.phase = look_on(*stage, &mut self.buffers, self.max_size, self.piece);
             return wants_at(&self.phase, &self.buffers.write_buffer);
         }
         wants_at(&self.phase, &self.buffers.write_buffer)
@@ -208,7 +248,7 @@ impl Connection {
     /// Reads once, where it wants to read. `Ok` gives how many bytes came; 0 tells that the input ended. An error is the
     /// reader's, and then nothing came and it still wants to read. Where the error tells that nothing had come yet, it may
     /// read again, by a [`Tapped`](crate::Tapped) made anew, since one remembers any error; else [`Connection::fail`] tells
-    /// the connection. It asks for what the message lacks of its body, and at most 16,384 bytes beyond.
+    /// the connection. It asks for what the message lacks of its body, or of the next piece, and at most 16,384 bytes beyond.
     pub fn read_from<R: Source>(&mut self, reader: &mut R) -> io::Result<usize>
         requires alive { R.has_failed reader.old ≡ false }
         requires wants { wanted self.old ≡ Wants.Read }
@@ -243,6 +283,7 @@ impl Connection {
         ensures nearer { left self.new < left self.old }
         ensures write_buffer { self.new.write_buffer ≡ self.old.write_buffer }
         ensures size { self.new.max_size ≡ self.old.max_size }
+        ensures piece { self.new.piece ≡ self.old.piece }
     {
         if let Phase::Waiting(stage) = &self.phase {
             let stage = *stage;
@@ -261,7 +302,9 @@ impl Connection {
         ensures tells_end { IfSome (owed_in self.new.phase) (λ i. TellsEnd self.new.read_buffer.ended (Ok i)) }
         ensures write_buffer { self.new.write_buffer ≡ self.old.write_buffer }
         ensures ended { self.new.read_buffer.ended ≡ self.old.read_buffer.ended }
+        ensures gathers { self.new.piece ≡ None → body_in self.new.phase ≡ None }
         ensures size { self.new.max_size ≡ self.old.max_size }
+        ensures piece { self.new.piece ≡ self.old.piece }
     {
         if let Phase::Waiting(stage) = &self.phase {
             self.phase = broken(*stage, &mut self.buffers.read_buffer);
@@ -278,23 +321,59 @@ impl Connection {
         }
     }
 
+    /// The piece of a body that came and is owed an answer; it is lent. Its request has the bytes of the piece, and tells how many
+    /// came before them and how many are to come behind them.
+    pub fn piece(&self) -> Option<Message<'_>>
+        ensures { option_map framed result ≡ piece_owed self.now.read_buffer self.now.phase }
+    {
+        match &self.phase {
+            Phase::Piece(body, _) => Some(lend_piece(body, &self.buffers.read_buffer)),
+            _ => None,
+        }
+    }
+
+    /// Whether a body is under way that is taken in pieces, as far as `wants` has looked. After an answer it tells that this was the
+    /// answer to a piece with more to come.
+    pub fn is_in_pieces(&self) -> bool
+        ensures { result ≡ is_some (body_in self.now.phase) }
+    {
+        match &self.phase {
+            Phase::Looking(Stage::Pieces(_))
+            | Phase::Waiting(Stage::Pieces(_))
+            | Phase::Piece(_, _) => true,
+            _ => false,
+        }
+    }
+
     /// Lets what came in be answered at its moment, and puts the answer behind what is pending; then it may look for the next
     /// message, or the conversation is over. A refusal is put, and closes. A PATCH that was cut is applied with the bytes that
     /// came, and gets no reply, as the end and any other message that was cut. Each takes a moment.
+    ///
+    /// A piece with more to come gets no reply where it is accepted; the reply that refuses it closes the connection. The last
+    /// piece gets the reply to its message. What came of a piece before its body was cut is applied and gets none.
     pub fn answer<A: Answer>(&mut self, answerer: &mut A, now: Moment)
         requires { wanted self.old ≡ Wants.Answer }
         ensures answers { IfSome (owed_in self.old.phase) (λ i. (put : List ℕ)
             × (self.new.write_buffer.pending ≡ self.old.write_buffer.pending ++ put)
             × AnswersTurn A.steps now self.old.read_buffer i put answerer.old answerer.new (turn_end i)) }
         ensures history { (p : History) → HasHistory p self.old → (answered : List Answering)
-            × Follows A.steps answerer.old answered answerer.new × HasHistory (noted p now answered) self.new }
+            × Follows A.steps answerer.old answered answerer.new
+            × HasHistory (noted_before (body_in self.new.phase) p now answered) self.new }
         ensures phase { IfSome (owed_in self.old.phase) (λ i. self.new.phase ≡ phase_after (turn_end i)) }
-        ensures read_buffer { self.new.read_buffer ≡ self.old.read_buffer }
+        ensures read_buffer { IfSome (owed_in self.old.phase) (λ i. self.new.read_buffer ≡ self.old.read_buffer) }
+        ensures gathers { self.new.piece ≡ None → body_in self.new.phase ≡ None }
         ensures size { self.new.max_size ≡ self.old.max_size }
+        ensures piece { self.new.piece ≡ self.old.piece }
     {
-        if let Phase::Owing(incoming) = &self.phase {
-            let turn = answer_incoming(&mut self.buffers, answerer, incoming, now);
-            self.phase = Phase::after(turn);
+        match &self.phase {
+            Phase::Owing(incoming) => {
+                let turn = answer_incoming(&mut self.buffers, answerer, incoming, now);
+                self.phase = Phase::after(turn);
+            }
+            Phase::Piece(body, part) => {
+                self.phase = answer_piece(&mut self.buffers, answerer, body, *part, now);
+            }
+            _ => {}
         }
     }
 
@@ -313,8 +392,8 @@ impl Connection {
         ensures { result ≡ ended_in self.now.phase }
     {
         match &self.phase {
-            Phase::Over(Ok(ended)) => Ok(Some(*ended)),
-            Phase::Over(Err(fault)) => Err(*fault),
+            Phase::Over(Ok(ended)) | Phase::Stopped(Ok(ended)) => Ok(Some(*ended)),
+            Phase::Over(Err(fault)) | Phase::Stopped(Err(fault)) => Err(*fault),
             _ => Ok(None),
         }
     }
@@ -394,8 +473,14 @@ impl Connection {
 }
 
 // Looks at what came of a message, and puts `100 Continue` where it is due. Where there is no room for that, it looks later.
-fn look_on(stage: Stage, buffers: &mut Buffers, max_size: u64) -> Phase<Layout>
+fn look_on(
+    stage: Stage,
+    buffers: &mut Buffers,
+    max_size: u64,
+    piece: Option<usize>,
+) -> Phase<Layout>
     requires size { max_size < 2 ^ 31 }
+    requires piece { IfSome piece (λ n. 0 < n) }
     requires fits { Fits buffers.old.read_buffer stage }
     ensures stands { (bytes said : List ℕ) → Standing max_size bytes said buffers.old.read_buffer stage
         → (put : List ℕ) × (buffers.new.write_buffer.pending ≡ buffers.old.write_buffer.pending ++ put)
@@ -409,6 +494,7 @@ fn look_on(stage: Stage, buffers: &mut Buffers, max_size: u64) -> Phase<Layout>
         ≤ left_in buffers.old.read_buffer (Looking stage) buffers.old.write_buffer.pending }
     ensures unbroken { IfSome (owed_in (map_phase (framed_at buffers.new.read_buffer.lent) result))
         (λ i. is_cut_by_fault i ≡ false) }
+    ensures body { KeepsBody piece (pieced stage) (body_in result) }
     ensures ended { buffers.new.read_buffer.ended ≡ buffers.old.read_buffer.ended }
 {
     if !buffers.write_buffer.has_room() {
@@ -420,6 +506,7 @@ fn look_on(stage: Stage, buffers: &mut Buffers, max_size: u64) -> Phase<Layout>
         &mut buffers.spans,
         &mut buffers.fields,
         max_size,
+        piece,
     ) {
         Looked::More => Phase::Waiting(stage),
         Looked::Continue => {
@@ -427,10 +514,11 @@ fn look_on(stage: Stage, buffers: &mut Buffers, max_size: u64) -> Phase<Layout>
             Phase::Looking(stage)
         }
         Looked::Came(incoming) => Phase::Owing(incoming),
+        Looked::Piece(body, part) => Phase::Piece(body, part),
     }
 }
 
-// How many bytes the body lacks of a message for which the connection waits.
+// How many bytes the body lacks of a message for which the connection waits, or its next piece.
 fn lacking(phase: &Phase<Layout>, read_buffer: &ReadBuffer) -> usize
     requires { IsPhase read_buffer.now phase.now }
     ensures lacks { result ≡ lacking read_buffer.now phase.now }
@@ -439,6 +527,11 @@ fn lacking(phase: &Phase<Layout>, read_buffer: &ReadBuffer) -> usize
     match phase {
         Phase::Waiting(Stage::Body(layout)) => {
             let total = layout.head_len + layout.body_len;
+            total.saturating_sub(read_buffer.held().len())
+        }
+        Phase::Waiting(Stage::Pieces(body)) => {
+            let left = body.layout.body_len - body.given;
+            let total = body.layout.head_len + body.piece.min(left);
             total.saturating_sub(read_buffer.held().len())
         }
         _ => 0,
@@ -454,14 +547,14 @@ fn wants_at(phase: &Phase<Layout>, write_buffer: &WriteBuffer) -> Wants
     match phase {
         Phase::Looking(_) => Wants::Write,
         Phase::Waiting(_) => unless_pending(write_buffer, Wants::Read),
-        Phase::Owing(_) => {
+        Phase::Owing(_) | Phase::Piece(_, _) => {
             if write_buffer.has_room() {
                 Wants::Answer
             } else {
                 Wants::Write
             }
         }
-        Phase::Over(_) => unless_pending(write_buffer, Wants::Nothing),
+        Phase::Over(_) | Phase::Stopped(_) => unless_pending(write_buffer, Wants::Nothing),
     }
 }
 
@@ -483,11 +576,22 @@ fn broken(stage: Stage, read_buffer: &mut ReadBuffer) -> Phase<Layout>
     ensures breaks { (max : ℕ) (bytes said : List ℕ) → Standing max bytes said read_buffer.old stage
         → BreaksTo max bytes said read_buffer.new (map_phase (framed_at read_buffer.new.lent) result) }
     ensures phase { IsPhase read_buffer.new result }
+    ensures body { body_in result ≡ pieced stage }
     ensures ended { read_buffer.new.ended ≡ read_buffer.old.ended }
 {
-    match stage.break_off(read_buffer) {
-        Ok(incoming) => Phase::Owing(incoming),
-        Err(fault) => Phase::Over(Err(fault)),
+    match stage {
+        Stage::Head(_) => Phase::Over(Err(WireFault::Read)),
+        Stage::Body(layout) => {
+            if !layout.is_applied_when_cut() {
+                return Phase::Over(Err(WireFault::Read));
+            }
+            lend_all(read_buffer);
+            Phase::Owing(Incoming::CutPatch(layout, Cut::Fault))
+        }
+        Stage::Pieces(body) => {
+            lend_all(read_buffer);
+            Phase::Piece(body, Part::Cut(Cut::Fault))
+        }
     }
 }
 
@@ -525,6 +629,31 @@ fn lend_held<'i>(layout: &Layout, read_buffer: &'i ReadBuffer) -> Message<'i>
     Message {
         layout: *layout,
         text: read_buffer.held(),
+    }
+}
+
+// The same of a body that is taken in pieces.
+fn lend_held_piece<'i>(body: &PiecedBody, read_buffer: &'i ReadBuffer) -> Message<'i>
+    requires { HasRoomForPiece read_buffer.now body.now }
+    ensures { framed result ≡ piece_in body.now read_buffer.now.held }
+{
+    let text = read_buffer.held();
+    Message {
+        layout: body.piece_at(text.len() - body.layout.head_len),
+        text,
+    }
+}
+
+// A piece that came.
+fn lend_piece<'i>(body: &PiecedBody, read_buffer: &'i ReadBuffer) -> Message<'i>
+    requires body { IsPieced read_buffer.now.room body.now }
+    requires lent { body.now.layout.head_len ≤ length read_buffer.now.lent }
+    ensures { framed result ≡ piece_in body.now read_buffer.now.lent }
+{
+    let text = read_buffer.lent();
+    Message {
+        layout: body.piece_at(text.len() - body.layout.head_len),
+        text,
     }
 }
 

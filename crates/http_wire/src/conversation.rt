@@ -4,9 +4,11 @@ ghost use Rattle.http_wire.specs.Asking.{BreaksAsked};
 ghost use Rattle.http_wire.specs.Clock.{IsTimed};
 ghost use Rattle.http_wire.specs.Conversation.{Conversation};
 ghost use Rattle.http_wire.specs.Fault.{NamesStream, NamesOrMemory};
+ghost use Rattle.http_wire.specs.Incoming.{FramedRequest};
 ghost use Rattle.http_wire.specs.OnConnection.{IsFresh, at_start, owed_in, wanted};
 ghost use Rattle.http_wire.specs.Turns.{Breaks, Converses, EndsByTurn, IsReadWhen, TakesTurn};
 ghost use Rattle.http_wire.specs.declared.connection.Wants.TheVariants as Wants;
+ghost use Rattle.http_wire.specs.declared.incoming.Incoming.{Incoming};
 ghost use Rattle.http_wire.specs.inside.Ahead.{SeesEnd, StopsAtEnd};
 ghost use Rattle.http_wire.specs.inside.Driving.{IsBetween};
 ghost use Rattle.http_wire.specs.inside.Sending.{empty_write_buffer};
@@ -83,6 +85,7 @@ fn take_turns<R: Source, W: Sink, A: Answer>(
     requires reader { R.has_failed reader.old ≡ false }
     requires writer { W.has_failed writer.old ≡ false }
     requires fresh { IsFresh connection.old }
+    requires gathers { connection.old.piece ≡ None }
     requires same { connection.old.max_size ≡ A.max_size answerer.old }
     ensures known { (input before : List ℕ) → R.remaining reader.old ≡ Some input
         → W.contents writer.old ≡ Some before
@@ -148,6 +151,7 @@ pub fn take_turn<R: Source, W: Sink, A: Answer, C: Clock>(
     ensures starts { IfOk result (λ r. r ≡ None → connection.new.phase ≡ at_start) }
     ensures sent { connection.new.write_buffer ≡ empty_write_buffer }
     ensures size { connection.new.max_size ≡ connection.old.max_size }
+    ensures piece { connection.new.piece ≡ connection.old.piece }
 {
     await_incoming(reader, writer, connection)?;
     let now = clock.moment();
@@ -163,6 +167,7 @@ fn finish_turn<W: Sink, A: Answer>(
 ) -> Result<Option<Ended>, WireFault>
     requires writer { W.has_failed writer.old ≡ false }
     requires owed { wanted connection.old ≡ Wants.Answer }
+    requires came { (i : Incoming FramedRequest) × (owed_in connection.old.phase ≡ Some i) }
     requires sent { connection.old.write_buffer ≡ empty_write_buffer }
     ensures read_buffer { connection.new.read_buffer ≡ connection.old.read_buffer }
     ensures finishes { IfSome (owed_in connection.old.phase) (λ i. FinishesTurn A.steps now connection.old.read_buffer i
@@ -171,6 +176,7 @@ fn finish_turn<W: Sink, A: Answer>(
     ensures starts { IfOk result (λ r. r ≡ None → connection.new.phase ≡ at_start) }
     ensures sent { connection.new.write_buffer ≡ empty_write_buffer }
     ensures size { connection.new.max_size ≡ connection.old.max_size }
+    ensures piece { connection.new.piece ≡ connection.old.piece }
 {
     connection.answer(answerer, now);
     connection.flush(writer)?;

@@ -38,6 +38,7 @@ pub fn await_incoming<R: Source, W: Sink>(
     ensures stops { StopsAtEnd reader.old reader.new connection.old.read_buffer connection.new.read_buffer }
     ensures sent { connection.new.write_buffer ≡ empty_write_buffer }
     ensures size { connection.new.max_size ≡ connection.old.max_size }
+    ensures piece { connection.new.piece ≡ connection.old.piece }
     ensures writer { OnOk result (W.has_failed writer.new ≡ false) }
     ensures fault { IfErr result (λ e. NamesStream (R.has_failed reader.new) (W.has_failed writer.new) e) }
 {

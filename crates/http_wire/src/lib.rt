@@ -15,6 +15,7 @@ mod incoming;
 pub mod laws;
 mod message;
 mod phase;
+mod piece_answer;
 mod read;
 mod refusal;
 mod replying;

@@ -6,6 +6,7 @@ use crate::conversation::Ended;
 use crate::fault::WireFault;
 use crate::incoming::Incoming;
 use crate::read::layout::Layout;
+use crate::read::pieces::{Part, PiecedBody};
 use crate::read::stage::Stage;
 
 /// How far a connection has come. `M` is what tells of a message.
@@ -17,8 +18,12 @@ pub enum Phase<M: Drop> {
     Waiting(Stage),
     /// This came in, and is owed an answer.
     Owing(Incoming<M>),
+    /// This piece of a body came, and is owed an answer.
+    Piece(PiecedBody, Part),
     /// Nothing more is read: so the conversation ended, or a read failed.
     Over(Result<Ended, WireFault>),
+    /// Nothing more is read: so it ended within a body that was taken in pieces. A piece was refused, or the body was cut.
+    Stopped(Result<Ended, WireFault>),
 }
 
 impl Phase<Layout> {

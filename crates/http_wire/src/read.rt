@@ -6,6 +6,7 @@ pub mod head_search;
 pub mod head_text;
 pub mod judge;
 pub mod layout;
+pub mod pieces;
 pub mod read_buffer;
 pub mod request;
 pub mod stage;

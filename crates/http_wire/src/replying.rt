@@ -1,9 +1,9 @@
 //! The answer to what came in: the step of a message, and what is to be sent of it.
-ghost use Rattle.std.specs.Prelude.{◌≡◌, ◌++◌, List, ℕ, true};
+ghost use Rattle.std.specs.Prelude.{◌≡◌, ◌++◌, List, ℕ, Option, true};
 ghost use Rattle.http_wire.specs.Incoming.{map_incoming};
 ghost use Rattle.http_wire.specs.Layout.{IsMessage, framed_at, request_at};
 ghost use Rattle.http_wire.specs.OnConnection.{turn_end};
-ghost use Rattle.http_wire.specs.History.{Answering, Follows, Notes};
+ghost use Rattle.http_wire.specs.History.{Answering, Follows, NotesBy};
 ghost use Rattle.http_wire.specs.ReplyText.{reply_text};
 ghost use Rattle.http_wire.specs.inside.IncomingLayout.{IsLent};
 ghost use Rattle.http_wire.specs.inside.TurnFinish.{AnswersTurn, ended_after, turn_cut};
@@ -36,7 +36,7 @@ pub fn answer_incoming<A: Answer>(
         × AnswersTurn A.steps now buffers.old.read_buffer (map_incoming (framed_at buffers.old.read_buffer.lent) incoming.now)
         put answerer.old answerer.new result
         × (answered : List Answering) × Follows A.steps answerer.old answered answerer.new
-        × ((before : List Answering) → AnswersTurn Notes now buffers.old.read_buffer
+        × ((piece : Option ℕ) (before : List Answering) → AnswersTurn (NotesBy piece) now buffers.old.read_buffer
         (map_incoming (framed_at buffers.old.read_buffer.lent) incoming.now) put before (before ++ answered) result) }
     ensures end { result ≡ turn_end (map_incoming (framed_at buffers.old.read_buffer.lent) incoming.now) }
 {
@@ -59,8 +59,8 @@ pub fn answer_incoming<A: Answer>(
     }
 }
 
-// How a turn ends once its reply is sent: with the connection, where that closes.
-fn ended_after(close: bool) -> Option<Ended>
+/// How a turn ends once its reply is sent: with the connection, where that closes.
+pub fn ended_after(close: bool) -> Option<Ended>
     ensures { result ≡ ended_after close }
 {
     if close { Some(Ended::Closed) } else { None }
@@ -76,8 +76,13 @@ fn turn_cut(why: Cut) -> Result<Option<Ended>, WireFault>
     }
 }
 
-// Makes the step of a message that the buffers lend, and puts its reply. The step stays where the reply can't be written.
-fn answer_message<A: Answer>(buffers: &mut Buffers, answerer: &mut A, layout: &Layout, now: Moment)
+/// Makes the step of a message that the buffers lend, and puts its reply. The step stays where the reply can't be written.
+pub fn answer_message<A: Answer>(
+    buffers: &mut Buffers,
+    answerer: &mut A,
+    layout: &Layout,
+    now: Moment,
+)
     requires message { IsMessage layout.now buffers.old.read_buffer.lent }
     requires room { buffers.old.write_buffer.has_room ≡ true }
     ensures read_buffer { buffers.new.read_buffer ≡ buffers.old.read_buffer }
@@ -94,9 +99,9 @@ fn answer_message<A: Answer>(buffers: &mut Buffers, answerer: &mut A, layout: &L
         .put_reply(&mut buffers.reply, now, layout.framing);
 }
 
-// Makes the step of a PATCH whose body was cut, with the bytes that came. It gets no reply: what was put in its place is let
-// go.
-fn apply_cut<A: Answer>(buffers: &mut Buffers, answerer: &mut A, layout: &Layout, now: Moment)
+/// Makes the step of a PATCH whose body was cut, with the bytes that came. It gets no reply: what was put in its place is let
+/// go.
+pub fn apply_cut<A: Answer>(buffers: &mut Buffers, answerer: &mut A, layout: &Layout, now: Moment)
     requires { IsMessage layout.now buffers.old.read_buffer.lent }
     ensures read_buffer { buffers.new.read_buffer ≡ buffers.old.read_buffer }
     ensures write_buffer { buffers.new.write_buffer ≡ buffers.old.write_buffer }

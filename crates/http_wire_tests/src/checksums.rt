@@ -6,7 +6,8 @@ use crate::conversations::{
 use crate::creations::{FIELD, LOOKED_NEW};
 use http_wire::Ended;
 
-const PATCH_CHECKED: &[u8] = b"PATCH /files/acme/1 HTTP/1.1\r\nHost: x\r\nTus-Resumable: 1.0.0\r\n\
+pub const PATCH_CHECKED: &[u8] =
+    b"PATCH /files/acme/1 HTTP/1.1\r\nHost: x\r\nTus-Resumable: 1.0.0\r\n\
 Content-Type: application/offset+octet-stream\r\nUpload-Offset: 0\r\n\
 Upload-Checksum: sha1 qvTGHdzF6KLavt4PO0gs2a6pQ00=\r\n\
 Content-Length: 5\r\n\r\nhello";

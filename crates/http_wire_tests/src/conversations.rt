@@ -36,15 +36,17 @@ pub const PATCH_WAITING: &[u8] =
 Content-Type: application/offset+octet-stream\r\nUpload-Offset: 0\r\nExpect: 100-Continue\r\n\
 Content-Length: 5\r\n\r\nhello";
 
-const PATCH_OLD: &[u8] = b"PATCH /files/acme/1 HTTP/1.0\r\nTus-Resumable: 1.0.0\r\n\
+pub const PATCH_OLD: &[u8] = b"PATCH /files/acme/1 HTTP/1.0\r\nTus-Resumable: 1.0.0\r\n\
 Content-Type: application/offset+octet-stream\r\nUpload-Offset: 0\r\nExpect: 100-continue\r\n\
 Content-Length: 5\r\n\r\nhello";
 
-const PATCHED_CLOSE: &[u8] = b"HTTP/1.1 204 No Content\r\nDate: Thu, 01 Jan 1970 00:16:40 GMT\r\n\
+pub const PATCHED_CLOSE: &[u8] =
+    b"HTTP/1.1 204 No Content\r\nDate: Thu, 01 Jan 1970 00:16:40 GMT\r\n\
 Tus-Resumable: 1.0.0\r\nUpload-Offset: 5\r\n\
 Upload-Expires: Thu, 01 Jan 1970 01:16:40 GMT\r\nConnection: close\r\n\r\n";
 
-const WRONG_OFFSET: &[u8] = b"PATCH /files/acme/1 HTTP/1.1\r\nHost: x\r\nTus-Resumable: 1.0.0\r\n\
+pub const WRONG_OFFSET: &[u8] =
+    b"PATCH /files/acme/1 HTTP/1.1\r\nHost: x\r\nTus-Resumable: 1.0.0\r\n\
 Content-Type: application/offset+octet-stream\r\nUpload-Offset: 3\r\nContent-Length: 1\r\n\r\nx";
 
 pub const OFFSET: &[u8] = b"HTTP/1.1 409 Conflict\r\nDate: Thu, 01 Jan 1970 00:16:40 GMT\r\n\
@@ -81,17 +83,17 @@ pub const MALFORMED: &[u8] = b"HTTP/1.1 400 Bad Request\r\n\
 Date: Thu, 01 Jan 1970 00:16:40 GMT\r\nTus-Resumable: 1.0.0\r\nContent-Type: text/plain\r\n\
 Content-Length: 5\r\nConnection: close\r\n\r\nhead\n";
 
-const PATCH_PAST: &[u8] = b"PATCH /files/acme/1 HTTP/1.1\r\nHost: x\r\nTus-Resumable: 1.0.0\r\n\
+pub const PATCH_PAST: &[u8] = b"PATCH /files/acme/1 HTTP/1.1\r\nHost: x\r\nTus-Resumable: 1.0.0\r\n\
 Content-Type: application/offset+octet-stream\r\nUpload-Offset: 5\r\nContent-Length: 6\r\n\r\nworlds";
 
-const PATCH_REST: &[u8] = b"PATCH /files/acme/1 HTTP/1.1\r\nHost: x\r\nTus-Resumable: 1.0.0\r\n\
+pub const PATCH_REST: &[u8] = b"PATCH /files/acme/1 HTTP/1.1\r\nHost: x\r\nTus-Resumable: 1.0.0\r\n\
 Content-Type: application/offset+octet-stream\r\nUpload-Offset: 5\r\nContent-Length: 5\r\n\r\nworld";
 
 const TOO_LONG: &[u8] = b"HTTP/1.1 413 Content Too Large\r\nDate: Thu, 01 Jan 1970 00:16:40 GMT\r\n\
 Tus-Resumable: 1.0.0\r\nUpload-Expires: Thu, 01 Jan 1970 01:16:40 GMT\r\n\
 Content-Type: text/plain\r\nContent-Length: 9\r\n\r\ntoo-long\n";
 
-const COMPLETED: &[u8] = b"HTTP/1.1 204 No Content\r\nDate: Thu, 01 Jan 1970 00:16:40 GMT\r\n\
+pub const COMPLETED: &[u8] = b"HTTP/1.1 204 No Content\r\nDate: Thu, 01 Jan 1970 00:16:40 GMT\r\n\
 Tus-Resumable: 1.0.0\r\nUpload-Offset: 10\r\n\r\n";
 
 const POST_TOO_LONG: &[u8] = b"POST /files/acme HTTP/1.1\r\nHost: x\r\nTus-Resumable: 1.0.0\r\n\

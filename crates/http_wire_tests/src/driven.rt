@@ -106,8 +106,8 @@ impl Write for Leaving {
 /// More steps than any conversation of the tests takes between two answers.
 const STEPS_MAX: usize = 100_000;
 
-/// Drives a connection over these streams, does what it wants, and answers the k-th message at the k-th moment; once
-/// no moment is left it writes what is pending. The reader's and the writer's errors are that they would block.
+/// Drives a connection over these streams, does what it wants, and answers the k-th message at the k-th moment, all its pieces
+/// included; once no moment is left it writes what is pending. The reader's and the writer's errors are that they would block.
 pub fn drive(
     rt: &impl Abort,
     connection: &mut Connection,
@@ -125,7 +125,8 @@ pub fn drive(
     end_of(connection)
 }
 
-/// Does what a connection wants until it wants an answer, and answers. Says whether it came to that.
+/// Does what a connection wants until it wants an answer, and answers, and so on until a message was answered. Says whether it
+/// came to that.
 fn answers_one(
     rt: &impl Abort,
     connection: &mut Connection,
@@ -134,11 +135,16 @@ fn answers_one(
     book: &mut Book,
     now: Moment,
 ) -> bool {
-    let answers = comes_to_an_answer(rt, connection, reader, writer);
-    if answers {
+    for _ in 0..STEPS_MAX {
+        if !comes_to_an_answer(rt, connection, reader, writer) {
+            return false;
+        }
         connection.answer(book, now);
+        if !connection.is_in_pieces() {
+            return true;
+        }
     }
-    answers
+    panic!(rt; "a body comes to no end")
 }
 
 /// How a conversation ended, which has not ended by itself where no moment is left.

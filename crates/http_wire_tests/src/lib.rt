@@ -4,6 +4,8 @@
 #![tactic(auto)]
 
 #[cfg(test)]
+mod bodies_in_pieces;
+#[cfg(test)]
 mod checksums;
 #[cfg(test)]
 mod concatenations;

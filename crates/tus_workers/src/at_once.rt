@@ -391,7 +391,7 @@ impl<
         match door.accept(&mut worker.acceptor) {
             Entry::Came(stream) => {
                 let max_size = worker.desk.settings().numbers().max_size;
-                let client_connection = ClientConnection::new(max_size, MESSAGES_MAX);
+                let client_connection = ClientConnection::new(max_size, None, MESSAGES_MAX);
                 let second = rounds.second;
                 rounds
                     .connections

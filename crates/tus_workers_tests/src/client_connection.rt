@@ -90,7 +90,7 @@ impl<'a> Client<'a> {
             has_blocked: false,
         };
         Client {
-            client_connection: ClientConnection::new(64, left),
+            client_connection: ClientConnection::new(64, None, left),
             free: Vec::new(alloc),
             streams: Streams { reader, writer },
             rounds: 0,

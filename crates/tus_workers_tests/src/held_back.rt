@@ -53,7 +53,7 @@ fn replies_are_sent_when_they_may_be(rt: HostRuntime) -> Result<(), Fail> {
     };
     let mut clock = moment(&rt);
     let mut free = Vec::new(alloc);
-    let mut client_connection = ClientConnection::new(64, 4096);
+    let mut client_connection = ClientConnection::new(64, None, 4096);
     let mut streams = Streams {
         reader: Arriving {
             rest: &sent,

@@ -30,6 +30,8 @@ pub record ShowsHead (max : ℕ) (head : List ℕ) (h : RequestHead) (p : Layout
   pub framing : p.framing ≡ framing_of h
   pub is_waiting : p.is_waiting ≡ is_waiting h p.body_len
   pub body_len : judged max h ≡ Ok p.body_len
+  pub given : p.given ≡ 0
+  pub more : p.more ≡ 0
   pub target : span_bytes head p.target ≡ h.target
   pub fields : map_fields (field_at head) p.fields ≡ tus_fields h
 

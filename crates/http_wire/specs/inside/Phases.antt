@@ -1,23 +1,26 @@
 -- What holds of every connection at each phase.
-use Rattle.std.specs.Prelude.{⊤, ◌≤◌, ◌<◌, ◌+◌, ◌-◌, ◌^◌, ℕ, length, Ok}
+use Rattle.std.specs.Prelude.{⊤, ◌≡◌, ◌≤◌, ◌<◌, ◌+◌, ◌-◌, ◌^◌, ℕ, length, min, Option, Some, Ok, IfSome}
 use Rattle.http_wire.specs.Incoming.{map_incoming}
 use Rattle.http_wire.specs.Layout.{framed_at}
 use Rattle.http_wire.specs.ReadOnWire.{TellsEnd}
 use Rattle.http_wire.specs.declared.phase.Phase.{Phase}
-use Rattle.http_wire.specs.declared.phase.Phase.TheVariants.{Looking, Waiting, Owing, Over}
+use Rattle.http_wire.specs.declared.phase.Phase.TheVariants.{Looking, Waiting, Owing, Piece, Over, Stopped}
 use Rattle.http_wire.specs.declared.read.read_buffer.TheConstants.{READ_SIZE}
 use Rattle.http_wire.specs.declared.read.layout.Layout.{Layout}
-use Rattle.http_wire.specs.declared.read.stage.Stage.TheVariants.{Head, Body}
+use Rattle.http_wire.specs.declared.read.stage.Stage.TheVariants.{Head, Body, Pieces}
 use Rattle.http_wire.specs.inside.Ahead.{Ahead}
 use Rattle.http_wire.specs.inside.IncomingLayout.{IsLent}
-use Rattle.http_wire.specs.inside.Standing.{Fits, Wants}
+use Rattle.http_wire.specs.OnConnection.{body_in}
+use Rattle.http_wire.specs.inside.Standing.{Fits, HasPiece, Wants}
 
 -- the same with what f gives of the message that came in
 abbrev pub map_phase : {M N : Type 0} → (M → N) → Phase M → Phase N
 map_phase f (Looking s) = Looking s
 map_phase f (Waiting s) = Waiting s
 map_phase f (Owing i) = Owing (map_incoming f i)
+map_phase f (Piece b part) = Piece b part
 map_phase f (Over r) = Over r
+map_phase f (Stopped r) = Stopped r
 
 -- A reading that may stand so over this read buffer; where it waits, there is room for a read; a message that came in is lent, and
 -- one that was cut by the end came at the end.
@@ -25,16 +28,24 @@ abbrev pub IsPhase : Ahead → Phase Layout → Type 0
 IsPhase a (Looking s) = Fits a s
 IsPhase a (Waiting s) = Fits a s × Wants a s × (length a.held + READ_SIZE ≤ a.room)
 IsPhase a (Owing i) = IsLent a.lent i × TellsEnd a.ended (Ok (map_incoming (framed_at a.lent) i))
+IsPhase a (Piece b part) = HasPiece a b part
 IsPhase a (Over r) = ⊤
+IsPhase a (Stopped r) = ⊤
 
--- how many bytes are missing of a body that is waited for
+-- how many bytes are missing of a body that is waited for, or of its next piece
 abbrev pub lacking : Ahead → Phase Layout → ℕ
 lacking a (Looking s) = 0
 lacking a (Waiting (Head s)) = 0
 lacking a (Waiting (Body p)) = (p.head_len + p.body_len) - length a.held
+lacking a (Waiting (Pieces b)) = (b.layout.head_len + min b.piece (b.layout.body_len - b.given)) - length a.held
 lacking a (Owing i) = 0
+lacking a (Piece b part) = 0
 lacking a (Over r) = 0
+lacking a (Stopped r) = 0
 
-pub record IsConnection (a : Ahead) (p : Phase Layout) (max : ℕ) : Type 0 where
+-- A connection whose bodies have at most so many bytes, and are taken in pieces of this size, where there are pieces.
+pub record IsConnection (a : Ahead) (p : Phase Layout) (max : ℕ) (piece : Option ℕ) : Type 0 where
   pub size : max < 2 ^ 31
+  pub some : IfSome piece (λ n. 0 < n)
   pub phase : IsPhase a p
+  pub body : IfSome (body_in p) (λ b. piece ≡ Some b.piece)

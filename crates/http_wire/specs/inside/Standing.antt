@@ -1,38 +1,46 @@
 -- How far the reading of a message has come, and what a look at the bytes that came tells.
-use Rattle.std.specs.Prelude.{◌≡◌, ◌≤◌, ◌<◌, ◌+◌, ◌-◌, ◌^◌, ℕ, true, false, List, [], length, Ok, ⊤}
+use Rattle.std.specs.Prelude.{◌≡◌, ◌≤◌, ◌<◌, ◌+◌, ◌-◌, ◌^◌, ℕ, true, false, List, [], ◌++◌, length, min, Option, Some, None, Ok, ⊤}
 use Rattle.std.specs.Prelude.{if◌then◌else◌}
 use Rattle.http_wire.specs.Conversation.{continue_text}
 use Rattle.http_wire.specs.HeadText.{head_limit}
 use Rattle.http_wire.specs.Incoming.{is_cut_by_fault, map_incoming}
 use Rattle.http_wire.specs.Layout.{IsLayoutWithin, framed_at}
+use Rattle.http_wire.specs.PiecedBody.{IsPlain, IsTaken}
 use Rattle.http_wire.specs.ReadOnWire.{ComesIn, TellsEnd}
 use Rattle.http_wire.specs.inside.Ahead.{Ahead}
 use Rattle.http_wire.specs.inside.HeadLayout.{BeginsHead}
 use Rattle.http_wire.specs.inside.HeadSearch.{NeedsMore, Searching}
 use Rattle.http_wire.specs.inside.IncomingLayout.{IsLent}
+use Rattle.http_wire.specs.declared.incoming.Cut.TheVariants as cut
 use Rattle.http_wire.specs.declared.incoming.Incoming.{Incoming}
 use Rattle.http_wire.specs.declared.read.read_buffer.TheConstants.{READ_SIZE}
 use Rattle.http_wire.specs.declared.read.layout.Layout.{Layout}
+use Rattle.http_wire.specs.declared.read.pieces.Part.{Part}
+use Rattle.http_wire.specs.declared.read.pieces.Part.TheVariants.{Middle, Last, Cut}
+use Rattle.http_wire.specs.declared.read.pieces.PiecedBody.{PiecedBody}
 use Rattle.http_wire.specs.declared.read.stage.Looked.{Looked}
-use Rattle.http_wire.specs.declared.read.stage.Looked.TheVariants.{More, Continue, Came}
+use Rattle.http_wire.specs.declared.read.stage.Looked.TheVariants.{More, Continue, Came, Piece}
 use Rattle.http_wire.specs.declared.read.stage.Stage.{Stage}
-use Rattle.http_wire.specs.declared.read.stage.Stage.TheVariants.{Head, Body}
+use Rattle.http_wire.specs.declared.read.stage.Stage.TheVariants.{Head, Body, Pieces}
 
 -- Some bytes came, of which these are held, and this was said meanwhile: nothing while the head is searched, and
--- `100 Continue` before the body, where the client waits for it.
+-- `100 Continue` before the body, where the client waits for it. Of a body that is taken in pieces some may be gone.
 abbrev pub Standing : ℕ → List ℕ → List ℕ → Ahead → Stage → Type 0
 Standing max bytes said a (Head s) = (said ≡ []) × Searching bytes a.held s
 Standing max bytes said a (Body p) = (said ≡ continue_text p.is_waiting) × BeginsHead max bytes p a.held
+Standing max bytes said a (Pieces b) = (gone : List ℕ) × IsTaken max bytes said gone b a.held
 
 -- with these bytes, and with this said meanwhile, this came in, which the read buffer lends
 abbrev pub Comes : ℕ → List ℕ → List ℕ → Ahead → Incoming Layout → Type 0
 Comes max bytes said a i = ComesIn max (record { input = bytes; text = said }) a.held (map_incoming (framed_at a.lent) i)
 
--- what a look came to: more is needed; `100 Continue` is due, before which nothing was said; or something came in
+-- what a look came to: more is needed; `100 Continue` is due, before which nothing was said; something came in; or a piece is
+-- lent
 abbrev pub LooksOn : ℕ → List ℕ → List ℕ → Ahead → Stage → Looked → Type 0
 LooksOn max bytes said a stage More = Standing max bytes said a stage
 LooksOn max bytes said a stage Continue = (said ≡ []) × Standing max bytes (continue_text true) a stage
 LooksOn max bytes said a stage (Came i) = Comes max bytes said a i
+LooksOn max bytes said a stage (Piece b part) = (gone : List ℕ) × IsTaken max bytes said gone b (a.lent ++ a.held)
 
 -- the head of this layout is held, and there is room for its message and for a read after it
 pub record HasRoom (a : Ahead) (p : Layout) : Type 0 where
@@ -42,15 +50,49 @@ pub record HasRoom (a : Ahead) (p : Layout) : Type 0 where
   pub room : p.head_len + p.body_len + READ_SIZE ≤ a.room
   pub within : IsLayoutWithin p.head_len p
 
+-- a body that is taken in pieces, where there is room for so many bytes: for its head, a piece and a read after it
+pub record IsPieced (space : ℕ) (b : PiecedBody) : Type 0 where
+  pub head : b.layout.head_len ≤ head_limit
+  pub body : b.layout.body_len < 2 ^ 31
+  pub given : b.given < b.layout.body_len
+  pub some : 0 < b.piece
+  pub room : b.layout.head_len + b.piece + READ_SIZE ≤ space
+  pub within : IsLayoutWithin b.layout.head_len b.layout
+  pub plain : IsPlain b.layout
+
+-- and its head is held
+pub record HasRoomForPiece (a : Ahead) (b : PiecedBody) : Type 0 where
+  pub body : IsPieced a.room b
+  pub held : b.layout.head_len ≤ length a.held
+
+-- how many bytes of the body are lent, behind those that were taken
+abbrev pub lent_to : Ahead → PiecedBody → ℕ
+lent_to a b = b.given + (length a.lent - b.layout.head_len)
+
+-- Which piece of a body is lent. Nothing is held behind one that is not the last.
+abbrev pub IsPart : Ahead → PiecedBody → Part → Type 0
+IsPart a b Middle = (lent_to a b < b.layout.body_len) × (a.held ≡ [])
+IsPart a b Last = lent_to a b ≡ b.layout.body_len
+IsPart a b (Cut cut.Ended) = (lent_to a b < b.layout.body_len) × (a.held ≡ []) × (a.ended ≡ true)
+IsPart a b (Cut cut.Fault) = (lent_to a b < b.layout.body_len) × (a.held ≡ []) × (a.ended ≡ false)
+
+-- a piece of a body is lent behind its head
+pub record HasPiece (a : Ahead) (b : PiecedBody) (which : Part) : Type 0 where
+  pub body : IsPieced a.room b
+  pub lent : b.layout.head_len ≤ length a.lent
+  pub part : IsPart a b which
+
 -- a reading may stand so over this read buffer
 abbrev pub Fits : Ahead → Stage → Type 0
 Fits a (Head s) = (s.skipped < head_limit) × (s.seen ≤ length a.held)
 Fits a (Body p) = HasRoom a p
+Fits a (Pieces b) = HasRoomForPiece a b
 
 -- it needs more bytes, and there may be some
 abbrev pub Wants : Ahead → Stage → Type 0
 Wants a (Head s) = NeedsMore a s
 Wants a (Body p) = (length a.held < p.head_len + p.body_len) × (a.ended ≡ false)
+Wants a (Pieces b) = (length a.held < b.layout.head_len + min b.piece (b.layout.body_len - b.given)) × (a.ended ≡ false)
 
 -- A message and a cut PATCH are lent. A cut one, and a clean end, come only at the reader's end; no look tells of a failed
 -- read.
@@ -64,17 +106,40 @@ abbrev pub Leaves : Ahead → Stage → Looked → Type 0
 Leaves a stage More = Fits a stage × Wants a stage × (length a.held + READ_SIZE ≤ a.room)
 Leaves a stage Continue = Fits a stage
 Leaves a stage (Came i) = Arrives a i
+Leaves a stage (Piece b part) = HasPiece a b part
+
+-- the body that is taken in pieces at a stage
+abbrev pub pieced : Stage → Option PiecedBody
+pieced (Head s) = None
+pieced (Body p) = None
+pieced (Pieces b) = Some b
+
+-- the same after a look
+abbrev pub pieced_after : Stage → Looked → Option PiecedBody
+pieced_after stage More = pieced stage
+pieced_after stage Continue = pieced stage
+pieced_after stage (Came i) = None
+pieced_after stage (Piece b part) = Some b
+
+-- A body that is taken in pieces stays the same. One begins only where bodies are taken in pieces of this size, with nothing taken.
+abbrev pub Keeps : Option ℕ → Option PiecedBody → Option PiecedBody → Type 0
+Keeps piece None None = ⊤
+Keeps piece None (Some b) = (b.given ≡ 0) × (piece ≡ Some b.piece)
+Keeps piece (Some b) None = ⊥
+Keeps piece (Some b) (Some c) = c ≡ b
 
 -- how many bytes may still come; a head counts for more than any body
 abbrev pub missing : Ahead → Stage → ℕ
 missing a (Head s) = 2 ^ 32 + (head_limit - (s.skipped + length a.held))
 missing a (Body p) = (p.head_len + p.body_len) - length a.held
+missing a (Pieces b) = (b.layout.head_len + (b.layout.body_len - b.given)) - length a.held
 
 -- a look brings the reading no further from its end, and `100 Continue` brings it nearer
 abbrev pub IsNearer : ℕ → Ahead → Stage → Looked → Type 0
 IsNearer before a stage More = missing a stage ≤ before
 IsNearer before a stage Continue = missing a stage < before
 IsNearer before a stage (Came i) = ⊤
+IsNearer before a stage (Piece b part) = ⊤
 
 -- the bytes that may still come, and the end
 abbrev pub still : Ahead → Stage → ℕ

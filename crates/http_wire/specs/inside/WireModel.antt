@@ -34,10 +34,11 @@ module _ {R W : Type 0} where
     pub writer_alive : w.writes ≡ true → s.write_failed w.writer ≡ false
     pub end : w.reads ≡ true → w.ended ≡ true → IsAtEnd (s.remaining w.reader)
 
-  -- The same of its parts; nothing is left to be sent, and while it reads, the next message begins, unless one that came in is
-  -- left as it is.
+  -- The same of its parts; each body is gathered, nothing is left to be sent, and while it reads, the next message begins, unless
+  -- one that came in is left as it is.
   pub record IsWire (s : Streams R W) (reader : R) (writer : W) (c : OnConnection) (state : State) : Type 0 where
     pub sound : IsSound s (wire_of reader writer c state)
+    pub gathers : c.piece ≡ None
     pub sent : c.write_buffer ≡ empty_write_buffer
     pub starts : is_open state ≡ true → passed_over c.phase ≡ at_start
 

@@ -109,6 +109,8 @@ fn layout_of(
                 is_waiting: line.version == 1 && asks_to_continue(expect) && body_len > 0,
                 head_len: head.len(),
                 body_len: body_len as usize,
+                given: 0,
+                more: 0,
                 target: line.path,
                 fields: fields.tus,
             })

@@ -14,6 +14,9 @@ pub struct Layout {
     pub is_waiting: bool,
     pub head_len: usize,
     pub body_len: usize,
+    /// How many bytes of the body were answered before these, and how many are to come behind them: none but for a piece.
+    pub given: usize,
+    pub more: usize,
     pub target: Span,
     /// Where the fields that count for the steps stand in the head.
     pub fields: TusFields<FieldSpan>,

@@ -136,6 +136,16 @@ impl ReadBuffer {
         self.at += count;
     }
 
+    /// Holds the first `count` bytes that are lent again, where nothing else is held, and lets go of the others. No byte is moved.
+    pub fn take_back(&mut self, count: usize)
+        requires none { self.old.held ≡ [] }
+        requires lent { count ≤ length self.old.lent }
+        ensures { self.new ≡ record self.old { lent = []; held = take count self.old.lent } }
+    {
+        self.at = self.start;
+        self.end = self.start + count;
+    }
+
     /// Makes room for `total` bytes held at once and one more read after them: the least power of two that suffices,
     /// so that a message which is a little longer than the last moves nothing. Where there is room enough, it stays.
     /// The error is that there is no memory, which comes only where there was not room enough, so never for 49,152

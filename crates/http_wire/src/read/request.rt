@@ -27,7 +27,7 @@ pub fn request_in<'a>(layout: &Layout, text: &'a [u8]) -> Request<'a>
             media: layout.fields.media.of(head),
         },
         body,
-        given: 0,
-        more: 0,
+        given: layout.given as u64,
+        more: layout.more as u64,
     }
 }

@@ -1,22 +1,20 @@
 //! The reading of a message as steps over what a read buffer holds: no reader and no writer is touched here.
-ghost use Rattle.std.specs.Prelude.{◌≡◌, ◌≤◌, ◌<◌, ◌+◌, ◌^◌, ℕ, List, [], true, false, length, IfOk, IfErr};
+ghost use Rattle.std.specs.Prelude.{◌≡◌, ◌≤◌, ◌<◌, ◌+◌, ◌^◌, ℕ, List, [], true, false, length, None, IfOk, IfErr, IfSome, OnOk};
 ghost use Rattle.http_wire.specs.Conversation.{continue_text};
 ghost use Rattle.http_wire.specs.HeadText.{head_limit};
-ghost use Rattle.http_wire.specs.Incoming.{is_cut_by_fault, map_incoming, map_read};
-ghost use Rattle.http_wire.specs.Layout.{IsLayoutWithin, framed_at};
-ghost use Rattle.http_wire.specs.ReadOnWire.{TellsEnd};
+ghost use Rattle.http_wire.specs.Layout.{IsLayoutWithin};
 ghost use Rattle.http_wire.specs.inside.HeadLayout.{BeginsHead};
 ghost use Rattle.http_wire.specs.inside.HeadSearch.{IsHeadFound, IsHeldBy, search_start};
-ghost use Rattle.http_wire.specs.inside.IncomingLayout.{IsLent, ReadsIncoming};
-ghost use Rattle.http_wire.specs.inside.Standing.{Arrives, Comes, Fits, HasRoom, IsNearer, Leaves, LooksOn, Standing, Wants, missing};
+ghost use Rattle.http_wire.specs.inside.Standing.{Arrives, Comes, Fits, HasRoom, IsNearer, Keeps, Leaves, LooksOn, Standing, missing, pieced, pieced_after};
+ghost use Rattle.http_wire.specs.declared.read.read_buffer.TheConstants.{READ_SIZE};
 ghost use Rattle.http_wire.specs.declared.read.stage.Stage.TheVariants as variants;
 
-use crate::fault::WireFault;
 use crate::incoming::{Cut, Incoming};
 use crate::read::fields::FieldMap;
 use crate::read::head::{FIELD_LIMIT, UNKNOWN_FRAMING, closing, read_layout};
 use crate::read::head_search::{HeadFound, Search};
 use crate::read::layout::Layout;
+use crate::read::pieces::{Part, PiecedBody, look_for_piece};
 use crate::read::read_buffer::ReadBuffer;
 use crate::refusal::WireRefusal;
 use httparse::spans::HeaderSpan;
@@ -28,6 +26,8 @@ pub enum Stage {
     Head(Search),
     /// Its head was read, there is room for all of it, and its body is under way.
     Body(Layout),
+    /// Its head was read, there is room for a piece, and its body is taken in pieces.
+    Pieces(PiecedBody),
 }
 
 /// What a look at the bytes that came tells.
@@ -39,6 +39,8 @@ pub enum Looked {
     Continue,
     /// What came in.
     Came(Incoming<Layout>),
+    /// A piece of a body came, and is lent behind its head.
+    Piece(PiecedBody, Part),
 }
 
 impl Stage {
@@ -49,22 +51,26 @@ impl Stage {
         Stage::Head(Search::new())
     }
 
-    /// Looks at what is held; for the end of a head no byte is searched twice. A body has at most `max_size` bytes. `spans`
-    /// and `map` are where the fields of a head are written. `Looked::Continue` comes at most once, between the head and the body.
-    /// After `Looked::More` there is room for a read, and the input has not ended.
+    /// Looks at what is held; for the end of a head no byte is searched twice. A body has at most `max_size` bytes. `piece` tells
+    /// how many bytes of a body are taken as a piece; where it is none, each body is gathered. `spans` and `map` are where the
+    /// fields of a head are written. `Looked::Continue` comes at most once, between the head and the body. After `Looked::More`
+    /// there is room for a read, and the input has not ended.
     pub fn look(
         &mut self,
         read_buffer: &mut ReadBuffer,
         spans: &mut [HeaderSpan; FIELD_LIMIT],
         map: &mut FieldMap,
         max_size: u64,
+        piece: Option<usize>,
     ) -> Looked
         requires max_size { max_size < 2 ^ 31 }
+        requires piece { IfSome piece (λ n. 0 < n) }
         requires fits { Fits read_buffer.old self.old }
         ensures looks { (bytes said : List ℕ) → Standing max_size bytes said read_buffer.old self.old
             → LooksOn max_size bytes said read_buffer.new self.new result }
         ensures leaves { Leaves read_buffer.new self.new result }
         ensures nearer { IsNearer (missing read_buffer.old self.old) read_buffer.new self.new result }
+        ensures body { Keeps piece (pieced self.old) (pieced_after self.new result) }
         ensures ended { read_buffer.new.ended ≡ read_buffer.old.ended }
     {
         match self {
@@ -73,65 +79,80 @@ impl Stage {
                     return Looked::More;
                 };
                 match judge_head(found, read_buffer, spans, map, max_size) {
-                    Ok(layout) => {
-                        *self = Stage::Body(layout);
-                        if layout.is_waiting {
-                            Looked::Continue
-                        } else {
-                            look_for_body(read_buffer, &layout)
-                        }
-                    }
+                    Ok(layout) => self.begin_body(read_buffer, layout, piece),
                     Err(incoming) => Looked::Came(incoming),
                 }
             }
             Stage::Body(layout) => look_for_body(read_buffer, layout),
+            Stage::Pieces(body) => look_for_piece(read_buffer, body),
         }
     }
 
-    /// What a read that failed, where more bytes were needed, makes of the message: a PATCH that was cut, or, where nothing
-    /// is applied, the error `WireFault::Read`.
-    pub fn break_off(&self, read_buffer: &mut ReadBuffer) -> Result<Incoming<Layout>, WireFault>
-        requires fits { Fits read_buffer.old self.now }
-        requires wants { Wants read_buffer.old self.now }
-        ensures breaks { (max : ℕ) (bytes said : List ℕ) → Standing max bytes said read_buffer.old self.now
-            → ReadsIncoming max (record { input = bytes; text = said }) read_buffer.new result }
-        ensures lent { IfOk result (IsLent read_buffer.new.lent) }
-        ensures tells_end { TellsEnd read_buffer.new.ended (map_read (framed_at read_buffer.new.lent) result) }
-        ensures cut { IfOk result (λ i. is_cut_by_fault (map_incoming (framed_at read_buffer.new.lent) i) ≡ true) }
+    // Begins with the body of a message whose head is held: makes room for it, or for a piece of it, and looks for it where its
+    // client need not be told to go on. Where there is no room, its message is refused.
+    fn begin_body(
+        &mut self,
+        read_buffer: &mut ReadBuffer,
+        layout: Layout,
+        piece: Option<usize>,
+    ) -> Looked
+        requires head { layout.head_len ≤ head_limit }
+        requires body { layout.body_len < 2 ^ 31 }
+        requires piece { IfSome piece (λ n. 0 < n) }
+        requires held { layout.head_len ≤ length read_buffer.old.held }
+        requires within { IsLayoutWithin layout.head_len layout }
+        ensures looks { (max : ℕ) (bytes : List ℕ) → BeginsHead max bytes layout read_buffer.old.held
+            → LooksOn max bytes [] read_buffer.new self.new result }
+        ensures leaves { Leaves read_buffer.new self.new result }
+        ensures nearer { (before : ℕ) → 2 ^ 32 ≤ before → IsNearer before read_buffer.new self.new result }
+        ensures body { Keeps piece None (pieced_after self.new result) }
         ensures ended { read_buffer.new.ended ≡ read_buffer.old.ended }
-        ensures fault { IfErr result (λ e. e ≡ WireFault.Read) }
     {
-        match self {
-            Stage::Head(_) => Err(WireFault::Read),
-            Stage::Body(layout) => {
-                if layout.is_applied_when_cut() {
-                    lend_all(read_buffer);
-                    Ok(Incoming::CutPatch(*layout, Cut::Fault))
-                } else {
-                    Err(WireFault::Read)
+        let pieced = PiecedBody::of(&layout, piece);
+        let gathered = match &pieced {
+            Some(body) => body.piece,
+            None => layout.body_len,
+        };
+        if let Err(refused) = make_room(read_buffer, &layout, gathered) {
+            return Looked::Came(refused);
+        }
+        match pieced {
+            Some(body) => {
+                *self = Stage::Pieces(body);
+                if layout.is_waiting {
+                    return Looked::Continue;
                 }
+                look_for_piece(read_buffer, &body)
+            }
+            None => {
+                *self = Stage::Body(layout);
+                if layout.is_waiting {
+                    return Looked::Continue;
+                }
+                look_for_body(read_buffer, &layout)
             }
         }
     }
 }
 
-// The layout of the head that was found, for whose message there is room then; or what came in place of one.
+// The layout of the head that was found, or what came in place of one.
 fn judge_head(
     found: HeadFound,
-    read_buffer: &mut ReadBuffer,
+    read_buffer: &ReadBuffer,
     spans: &mut [HeaderSpan; FIELD_LIMIT],
     map: &mut FieldMap,
     max_size: u64,
 ) -> Result<Layout, Incoming<Layout>>
     requires max_size { max_size < 2 ^ 31 }
-    requires held { IsHeldBy read_buffer.old found }
-    ensures head { IfOk result (λ p. (bytes : List ℕ) → IsHeadFound bytes read_buffer.old found
-        → BeginsHead max_size bytes p read_buffer.new.held) }
-    ensures room { IfOk result (HasRoom read_buffer.new) }
-    ensures comes { IfErr result (λ i. (bytes : List ℕ) → IsHeadFound bytes read_buffer.old found
-        → Comes max_size bytes [] read_buffer.new i) }
-    ensures arrives { IfErr result (Arrives read_buffer.new) }
-    ensures ended { read_buffer.new.ended ≡ read_buffer.old.ended }
+    requires held { IsHeldBy read_buffer.now found }
+    ensures head { IfOk result (λ p. (bytes : List ℕ) → IsHeadFound bytes read_buffer.now found
+        → BeginsHead max_size bytes p read_buffer.now.held) }
+    ensures long { IfOk result (λ p. (p.head_len ≤ head_limit) × (p.head_len ≤ length read_buffer.now.held)) }
+    ensures body { IfOk result (λ p. p.body_len < 2 ^ 31) }
+    ensures within { IfOk result (λ p. IsLayoutWithin p.head_len p) }
+    ensures comes { IfErr result (λ i. (bytes : List ℕ) → IsHeadFound bytes read_buffer.now found
+        → Comes max_size bytes [] read_buffer.now i) }
+    ensures arrives { IfErr result (Arrives read_buffer.now) }
 {
     match found {
         HeadFound::Whole(len) => match read_layout(
@@ -140,7 +161,7 @@ fn judge_head(
             map,
             max_size,
         ) {
-            Ok(layout) => make_room(read_buffer, layout),
+            Ok(layout) => Ok(layout),
             Err(refused) => Err(Incoming::Refused(refused.refusal, refused.framing)),
         },
         HeadFound::TooLong => Err(Incoming::Refused(WireRefusal::HeadSize, UNKNOWN_FRAMING)),
@@ -149,27 +170,27 @@ fn judge_head(
     }
 }
 
-// This layout of a head that is held, after there was made room for its message; or a refusal, since there is none.
-fn make_room(read_buffer: &mut ReadBuffer, layout: Layout) -> Result<Layout, Incoming<Layout>>
-    requires head { layout.head_len ≤ head_limit }
-    requires body { layout.body_len < 2 ^ 31 }
-    requires held { layout.head_len ≤ length read_buffer.old.held }
-    requires within { IsLayoutWithin layout.head_len layout }
-    ensures same { IfOk result (λ p. p ≡ layout) }
-    ensures room { IfOk result (HasRoom read_buffer.new) }
-    ensures comes { IfErr result (λ i. (max : ℕ) (bytes : List ℕ) → BeginsHead max bytes layout read_buffer.old.held
+// Makes room for a message whose head is held, and of whose body so many bytes are gathered; or refuses it, since there is none.
+fn make_room(
+    read_buffer: &mut ReadBuffer,
+    layout: &Layout,
+    gathered: usize,
+) -> Result<(), Incoming<Layout>>
+    requires head { layout.now.head_len ≤ head_limit }
+    requires body { layout.now.body_len < 2 ^ 31 }
+    requires gathered { gathered ≤ layout.now.body_len }
+    requires held { layout.now.head_len ≤ length read_buffer.old.held }
+    ensures room { OnOk result (layout.now.head_len + gathered + READ_SIZE ≤ read_buffer.new.room) }
+    ensures comes { IfErr result (λ i. (max : ℕ) (bytes : List ℕ) → BeginsHead max bytes layout.now read_buffer.old.held
         → Comes max bytes [] read_buffer.new i) }
     ensures arrives { IfErr result (Arrives read_buffer.new) }
     ensures held { read_buffer.new.held ≡ read_buffer.old.held }
     ensures ended { read_buffer.new.ended ≡ read_buffer.old.ended }
 {
-    if read_buffer
-        .reserve(layout.head_len + layout.body_len)
-        .is_err()
-    {
+    if read_buffer.reserve(layout.head_len + gathered).is_err() {
         return Err(Incoming::Refused(WireRefusal::Memory, closing(layout.framing)));
     }
-    Ok(layout)
+    Ok(())
 }
 
 // Looks for the body of a message for which there is room.
@@ -180,6 +201,7 @@ fn look_for_body(read_buffer: &mut ReadBuffer, layout: &Layout) -> Looked
     ensures leaves { Leaves read_buffer.new (variants.Body layout.now) result }
     ensures nearer { IsNearer (missing read_buffer.old (variants.Body layout.now)) read_buffer.new
         (variants.Body layout.now) result }
+    ensures body { pieced_after (variants.Body layout.now) result ≡ None }
     ensures ended { read_buffer.new.ended ≡ read_buffer.old.ended }
 {
     let total = layout.head_len + layout.body_len;
@@ -197,9 +219,11 @@ fn look_for_body(read_buffer: &mut ReadBuffer, layout: &Layout) -> Looked
     Looked::Came(Incoming::CutPatch(*layout, Cut::Ended))
 }
 
-// Lends all that is held.
-fn lend_all(read_buffer: &mut ReadBuffer)
+/// Lends all that is held.
+pub fn lend_all(read_buffer: &mut ReadBuffer)
     ensures lent { read_buffer.new.lent ≡ read_buffer.old.held }
+    ensures none { read_buffer.new.held ≡ [] }
+    ensures room { read_buffer.new.room ≡ read_buffer.old.room }
     ensures ended { read_buffer.new.ended ≡ read_buffer.old.ended }
 {
     let len = read_buffer.held().len();

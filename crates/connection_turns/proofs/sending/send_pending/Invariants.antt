@@ -7,4 +7,5 @@ abbrev pub invariant-loop : goal.invariant-loop
 invariant-loop g l = record {
   sends : SendsOn l.fn.connection l.connection (g.W.Write.contents l.fn.writer) (g.W.Write.contents l.writer);
   size : l.connection.max_size ≡ l.fn.connection.max_size;
+  piece : l.connection.piece ≡ l.fn.connection.piece;
 }

@@ -5,21 +5,23 @@ use Rattle.connection_turns.proofs.turn.take_turn.Goals as goal
 
 pub loop-init : goal.loop-init
 loop-init g c = record {
-  carries = CarriesOn-none g.A.Answer.steps g.K.Clock.tells _ _ _ _ _ _ (omega arith);
+  carries = CarriesOn-none g.A.Answer.steps g.K.Clock.tells _ _ _ _ _ _ _ (omega arith);
   held = λ holds. refl;
   left = omega arith;
   size = refl;
+  piece = refl;
 }
 
 pub returns-in-Stops-clause-carries : goal.returns-in-Stops-clause-carries
 returns-in-Stops-clause-carries g c =
-    CarriesOn-then g.A.Answer.steps g.K.Clock.tells _ _ _ _ _ _ (omega (arith, ap messages_of c.in-Stops.is)) c.loop.invariant.carries c.take_step-after.ensures.carries
+    CarriesOn-then g.A.Answer.steps g.K.Clock.tells _ _ _ _ _ _ _ (omega (arith, ap messages_of c.in-Stops.is)) c.loop.invariant.carries _ c.loop.invariant.piece c.take_step-after.ensures.carries
 
 pub loop-preserved : goal.loop-preserved
 loop-preserved g c = record {
-  carries = CarriesOn-then g.A.Answer.steps g.K.Clock.tells _ _ _ _ _ _
-      (omega (arith, c.messages_in.ensures, left-after _ _ _ c.loop.invariant.left c.take_step-after.ensures.allowed)) c.loop.invariant.carries c.take_step-after.ensures.carries;
+  carries = CarriesOn-then g.A.Answer.steps g.K.Clock.tells _ _ _ _ _ _ _
+      (omega (arith, c.messages_in.ensures, left-after _ _ _ c.loop.invariant.left c.take_step-after.ensures.allowed)) c.loop.invariant.carries _ c.loop.invariant.piece c.take_step-after.ensures.carries;
   held = λ holds. c.take_step-after.ensures.held (rw holds refl) ∙ c.loop.invariant.held holds;
   left = search (rules, arith);
   size = c.take_step-after.ensures.size ∙ c.loop.invariant.size;
+  piece = c.take_step-after.ensures.piece ∙ c.loop.invariant.piece;
 }

@@ -23,7 +23,7 @@ loop-moment-init g c =
         subst (Reached g.A.Answer.steps c.args.connection.now.max_size [] (record { input = []; text = []; before = b; after = b })) (sym c.requires.fresh.held) (λ rest. (refl, refl, refl)),
       );
       end = λ seen. absurd (true≢false (sym seen ∙ c.requires.fresh.unended));
-      between = record { phase = ap passed_over c.requires.fresh.phase; write_buffer = c.requires.fresh.write_buffer };
+      between = record { phase = ap passed_over c.requires.fresh.phase; gathers = c.requires.gathers; write_buffer = c.requires.fresh.write_buffer };
       size = refl;
     }
 
@@ -93,7 +93,7 @@ loop-moment-preserved g c =
         subst (λ l. Reached g.A.Answer.steps max l (longer_by g.A.Answer.steps max x turn.0 turn.1 b) held) more next,
       );
       end = (rw c.in_default.is at c.in_ok-turn.ensures.end) c.loop-moment.invariant.end;
-      between = record { phase = ap passed_over ((rw c.in_default.is at c.in_ok-turn.ensures.starts) refl); write_buffer = c.take_turn.ensures.sent };
+      between = record { phase = ap passed_over ((rw c.in_default.is at c.in_ok-turn.ensures.starts) refl); gathers = c.take_turn.ensures.piece ∙ c.loop-moment.invariant.between.gathers; write_buffer = c.take_turn.ensures.sent };
       size = c.take_turn.ensures.size ∙ c.loop-moment.invariant.size;
     }
 

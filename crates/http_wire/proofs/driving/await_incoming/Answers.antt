@@ -9,7 +9,7 @@ use Rattle.http_wire.proofs.AheadLemmas.{Appends-more, Appends-none, Consumes-ke
 use Rattle.http_wire.proofs.ConversationLemmas.{IfErr-from}
 use Rattle.http_wire.proofs.DrivingLemmas.{Breaks-continue, Breaks-over, CameIn-broken, CameIn-wanted, read-few, reads-other, settled-reads, writes-looking}
 use Rattle.http_wire.proofs.FindLemmas.{Searching-start}
-use Rattle.http_wire.proofs.HistoryLemmas.{StandsIn-kept}
+use Rattle.http_wire.proofs.PhaseLemmas.{StandsIn-unlent}
 use Rattle.http_wire.proofs.driving.await_incoming.Goals as goal
 
 pub loop-connection-init : goal.loop-connection-init
@@ -23,6 +23,8 @@ loop-connection-init g c =
       looks = ap (λ (o : OnConnection). is_looking o.phase) passed ∙ ap is_looking c.requires.between.phase;
       sent = ap (λ (o : OnConnection). o.write_buffer) passed ∙ c.requires.between.write_buffer;
       size = ap (λ (o : OnConnection). o.max_size) passed;
+      gathers = ap (λ (o : OnConnection). o.piece) passed ∙ c.requires.between.gathers;
+      piece = ap (λ (o : OnConnection). o.piece) passed;
       stands = (
         [],
         [],
@@ -43,7 +45,7 @@ returns-in_err-ended-in-Read-clause-breaks g c =
     let p = err_from_is_err_and c.from_residual.result c.from_residual.ensures.1 in
     let stands = settled-reads c.loop-connection.connection.write_buffer c.wants.new.self bytes s.1 loop.sent c.wants.ensures.same (sym c.wants.ensures.wants ∙ c.in-Read.is) (c.wants.ensures.stands bytes s.1 s.4) in
     let none = OnErr-known c.read_from.result (sym c.is_err.ensures.value ∙ c.if-is_err.true) c.read_from.ensures.none in
-    let kept = subst (Stands bytes s.1) (sym none.1) (StandsIn-kept c.wants.new.self.max_size bytes s.1 c.wants.new.self.read_buffer (record c.wants.new.self.read_buffer { lent = [] }) c.wants.new.self.phase stands refl) in
+    let kept = subst (Stands bytes s.1) (sym none.1) (StandsIn-unlent c.wants.new.self.max_size bytes s.1 c.wants.new.self.read_buffer c.wants.new.self.write_buffer c.wants.new.self.phase (sym c.wants.ensures.wants ∙ c.in-Read.is) stands) in
     let broken = Breaks-over c.read_from.new.self.max_size bytes s.1 c.fail.new.self.read_buffer c.fail.new.self.phase c.in_err-ended-in-Read.field-0.0 (c.fail.ensures.breaks bytes s.1 kept) c.in_err-ended-in-Read.ensures in
     let size = ap (λ (o : OnConnection). o.max_size) none.1 ∙ c.wants.ensures.size ∙ loop.size in
     IfErr-from _ c.from_residual.result p.0 c.in_err-ended-in-Read.field-0.0 p.1 p.2 (
@@ -64,7 +66,7 @@ returns-in_err-ended-in-Read-clause-fault g c =
     let stands = settled-reads c.loop-connection.connection.write_buffer c.wants.new.self bytes s.1 loop.sent c.wants.ensures.same (sym c.wants.ensures.wants ∙ c.in-Read.is) (c.wants.ensures.stands bytes s.1 s.4) in
     let error = sym c.is_err.ensures.value ∙ c.if-is_err.true in
     let none = OnErr-known c.read_from.result error c.read_from.ensures.none in
-    let kept = subst (Stands bytes s.1) (sym none.1) (StandsIn-kept c.wants.new.self.max_size bytes s.1 c.wants.new.self.read_buffer (record c.wants.new.self.read_buffer { lent = [] }) c.wants.new.self.phase stands refl) in
+    let kept = subst (Stands bytes s.1) (sym none.1) (StandsIn-unlent c.wants.new.self.max_size bytes s.1 c.wants.new.self.read_buffer c.wants.new.self.write_buffer c.wants.new.self.phase (sym c.wants.ensures.wants ∙ c.in-Read.is) stands) in
     let broken = Breaks-over c.read_from.new.self.max_size bytes s.1 c.fail.new.self.read_buffer c.fail.new.self.phase c.in_err-ended-in-Read.field-0.0 (c.fail.ensures.breaks bytes s.1 kept) c.in_err-ended-in-Read.ensures in
     IfErr-from _ c.from_residual.result p.0 fault.Read p.1 (p.2 ∙ broken.1) (c.read_from.ensures.failed ∙ error, loop.writer)
 
@@ -76,7 +78,7 @@ returns-in_err-ended-in-Read-clause-tells_end g c =
     let p = err_from_is_err_and c.from_residual.result c.from_residual.ensures.1 in
     let stands = settled-reads c.loop-connection.connection.write_buffer c.wants.new.self bytes s.1 loop.sent c.wants.ensures.same (sym c.wants.ensures.wants ∙ c.in-Read.is) (c.wants.ensures.stands bytes s.1 s.4) in
     let none = OnErr-known c.read_from.result (sym c.is_err.ensures.value ∙ c.if-is_err.true) c.read_from.ensures.none in
-    let kept = subst (Stands bytes s.1) (sym none.1) (StandsIn-kept c.wants.new.self.max_size bytes s.1 c.wants.new.self.read_buffer (record c.wants.new.self.read_buffer { lent = [] }) c.wants.new.self.phase stands refl) in
+    let kept = subst (Stands bytes s.1) (sym none.1) (StandsIn-unlent c.wants.new.self.max_size bytes s.1 c.wants.new.self.read_buffer c.wants.new.self.write_buffer c.wants.new.self.phase (sym c.wants.ensures.wants ∙ c.in-Read.is) stands) in
     let broken = Breaks-over c.read_from.new.self.max_size bytes s.1 c.fail.new.self.read_buffer c.fail.new.self.phase c.in_err-ended-in-Read.field-0.0 (c.fail.ensures.breaks bytes s.1 kept) c.in_err-ended-in-Read.ensures in
     IfErr-from _ c.from_residual.result p.0 fault.Read p.1 (p.2 ∙ broken.1) (c.fail.ensures.ended ∙ ap (λ (o : OnConnection). o.read_buffer.ended) none.1 ∙ c.wants.ensures.unended c.in-Read.is)
 
@@ -88,12 +90,13 @@ returns-then-is_err-clause-comes g c =
     let stands = settled-reads c.loop-connection.connection.write_buffer c.wants.new.self bytes s.1 loop.sent c.wants.ensures.same (sym c.wants.ensures.wants ∙ c.in-Read.is) (c.wants.ensures.stands bytes s.1 s.4) in
     let error = sym c.is_err.ensures.value ∙ c.if-is_err.true in
     let none = OnErr-known c.read_from.result error c.read_from.ensures.none in
-    let kept = subst (Stands bytes s.1) (sym none.1) (StandsIn-kept c.wants.new.self.max_size bytes s.1 c.wants.new.self.read_buffer (record c.wants.new.self.read_buffer { lent = [] }) c.wants.new.self.phase stands refl) in (
+    let kept = subst (Stands bytes s.1) (sym none.1) (StandsIn-unlent c.wants.new.self.max_size bytes s.1 c.wants.new.self.read_buffer c.wants.new.self.write_buffer c.wants.new.self.phase (sym c.wants.ensures.wants ∙ c.in-Read.is) stands) in (
       s.0,
       s.1,
       Consumes-kept _ _ _ s.0 s.2 none.0,
       s.3,
-      CameIn-broken c.read_from.new.self.max_size bytes s.1 _ c.fail.new.self _ (c.fail.ensures.breaks bytes s.1 kept) (sym c.fail.ensures.size) (sym c.ended.ensures ∙ c.in_ok-ended-in-Read.was) c.fail.ensures.tells_end (c.read_from.ensures.failed ∙ error),
+      CameIn-broken c.read_from.new.self.max_size bytes s.1 _ c.fail.new.self _ (c.fail.ensures.breaks bytes s.1 kept) (sym c.fail.ensures.size) (sym c.ended.ensures ∙ c.in_ok-ended-in-Read.was)
+          (c.fail.ensures.gathers (c.fail.ensures.piece ∙ ap (λ (o : OnConnection). o.piece) none.1 ∙ c.wants.ensures.piece ∙ loop.gathers)) c.fail.ensures.tells_end (c.read_from.ensures.failed ∙ error),
       s.5,
     )
 
@@ -117,6 +120,8 @@ loop-connection-preserved-else-is_err g c =
       looks = takes.looks;
       sent = takes.write_buffer ∙ c.wants.ensures.same (reads-other c.wants.new.self.write_buffer c.wants.new.self.phase reads) ∙ loop.sent;
       size = takes.size ∙ c.wants.ensures.size ∙ loop.size;
+      gathers = takes.piece ∙ c.wants.ensures.piece ∙ loop.gathers;
+      piece = takes.piece ∙ c.wants.ensures.piece ∙ loop.piece;
       stands = (
         s.0 ++ got,
         s.1,
@@ -144,6 +149,8 @@ loop-connection-preserved g c =
       looks = ap (λ (o : OnConnection). is_looking o.phase) sent ∙ writes-looking c.loop-connection.connection.write_buffer c.wants.new.self loop.sent c.wants.ensures.same (sym c.wants.ensures.wants ∙ c.in-Write.is);
       sent = ap (λ (o : OnConnection). o.write_buffer) sent;
       size = ap (λ (o : OnConnection). o.max_size) sent ∙ c.wants.ensures.size ∙ loop.size;
+      gathers = ap (λ (o : OnConnection). o.piece) sent ∙ c.wants.ensures.piece ∙ loop.gathers;
+      piece = ap (λ (o : OnConnection). o.piece) sent ∙ c.wants.ensures.piece ∙ loop.piece;
       stands = (
         s.0,
         s.1 ++ put.0,
@@ -189,7 +196,7 @@ returns-in-Answer-clause-comes g c =
       s.1,
       s.2,
       s.3,
-      CameIn-wanted bytes s.1 _ c.loop-connection.connection.write_buffer c.wants.new.self c.wants.result loop.sent c.wants.ensures.same c.wants.ensures.wants c.in-Answer.is (c.wants.ensures.stands bytes s.1 s.4)
+      CameIn-wanted bytes s.1 _ c.loop-connection.connection.write_buffer c.wants.new.self c.wants.result loop.sent c.wants.ensures.same c.wants.ensures.wants c.in-Answer.is (c.wants.ensures.gathers (c.wants.ensures.piece ∙ loop.gathers)) (c.wants.ensures.stands bytes s.1 s.4)
           c.wants.ensures.tells_end (c.wants.ensures.unbroken loop.looks) loop.reader,
       s.5,
     )

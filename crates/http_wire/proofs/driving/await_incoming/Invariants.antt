@@ -1,4 +1,4 @@
-use Rattle.std.proofs.Common.{◌≡◌, ◌≤◌, ◌++◌, ℕ, List, length, true, false}
+use Rattle.std.proofs.Common.{◌≡◌, ◌≤◌, ◌++◌, ℕ, List, length, true, false, None}
 use Rattle.std.specs.Io.KnownBytes.{Appends, Consumes}
 use Rattle.http_wire.specs.OnConnection.{Stands, is_looking, left}
 use Rattle.http_wire.specs.ReadOnWire.{read_limit}
@@ -14,6 +14,8 @@ invariant-loop-connection g l = record {
   looks : is_looking l.connection.phase ≡ true;
   sent : l.connection.write_buffer ≡ empty_write_buffer;
   size : l.connection.max_size ≡ l.fn.connection.max_size;
+  gathers : l.connection.piece ≡ None;
+  piece : l.connection.piece ≡ l.fn.connection.piece;
   stands : (got said : List ℕ) × Consumes (g.R.Source.remaining l.fn.reader) (g.R.Source.remaining l.reader) got
       × Appends (g.W.Sink.contents l.fn.writer) (g.W.Sink.contents l.writer) said × Stands (l.fn.connection.read_buffer.held ++ got) said l.connection
       × (length got ≤ read_limit l.fn.connection.max_size);

@@ -1,10 +1,11 @@
-use Rattle.std.proofs.Common.{refl, sym, subst}
+use Rattle.std.proofs.Common.{◌∙◌, sym, subst}
 use Rattle.http_wire.specs.Layout.{framed_at}
 use Rattle.http_wire.specs.OnConnection.{OnConnection}
 use Rattle.http_wire.specs.History.{HasHistory}
 use Rattle.http_wire.specs.declared.phase.Phase.TheVariants.{Waiting}
 use Rattle.http_wire.specs.inside.Phases.{map_phase}
 use Rattle.http_wire.proofs.HistoryLemmas.{History-broke}
+use Rattle.http_wire.proofs.PhaseLemmas.{same-body}
 use Rattle.http_wire.proofs.connection.Connection.fail.Goals as goal
 
 pub returns-in-Waiting-clause-breaks : goal.returns-in-Waiting-clause-breaks
@@ -15,6 +16,8 @@ returns-in-Waiting-clause-history c =
     let read_buffer = c.self.inside.buffers.read_buffer in
     let write_buffer = c.self.inside.buffers.write_buffer in
     let max = c.self.inside.max_size in
-    let old : OnConnection = record { read_buffer = read_buffer; phase = Waiting c.in-Waiting.stage; write_buffer = write_buffer; max_size = max } in
-    λ p h. History-broke p old _ (λ bytes said stands. c.broken-self-inside.ensures.breaks max bytes said stands) refl refl
-    (subst (λ q. HasHistory p (record { read_buffer = read_buffer; phase = map_phase (framed_at read_buffer.lent) q; write_buffer = write_buffer; max_size = max })) c.in-Waiting.is (subst (HasHistory p) (sym c.self.view_is) h))
+    let piece = c.self.inside.piece in
+    let broken = c.broken-self-inside in
+    let old : OnConnection = record { read_buffer = read_buffer; phase = Waiting c.in-Waiting.stage; write_buffer = write_buffer; max_size = max; piece = piece } in
+    λ p h. History-broke p old c.in-Waiting.stage _ _ (λ bytes said stands. broken.ensures.breaks max bytes said stands) (same-body _ broken.result ∙ broken.ensures.body)
+    (subst (λ q. HasHistory p (record { read_buffer = read_buffer; phase = map_phase (framed_at read_buffer.lent) q; write_buffer = write_buffer; max_size = max; piece = piece })) c.in-Waiting.is (subst (HasHistory p) (sym c.self.view_is) h))

@@ -17,7 +17,7 @@ returns-in-Waiting-clause-takes g c =
       grew.0,
       came-len held grew.0 new c.in_ok-count.count grew.1 count,
       grew.2,
-      Takes-read grew.0 (framed_at c.self.inside.buffers.read_buffer.lent) c.self.inside.phase c.in-Waiting.stage c.self.inside.buffers.read_buffer c.fill.new.self _ _ c.in-Waiting.is c.self.invariant.phase grew.1
+      Takes-read grew.0 (framed_at c.self.inside.buffers.read_buffer.lent) c.self.inside.phase c.in-Waiting.stage c.self.inside.buffers.read_buffer c.fill.new.self _ _ _ c.in-Waiting.is c.self.invariant.phase grew.1
           (none-came held grew.0 new c.in_ok-count.count _ grew.1 count c.in_ok-count.ensures.ended),
     )
 
@@ -31,4 +31,4 @@ pub returns-in_err-count-clause-kept : goal.returns-in_err-count-clause-kept
 returns-in_err-count-clause-kept g c =
     let unread = OnErr-known c.fill.result (ap is_err c.in_err-count.was) c.fill.ensures.unread in
     let reads = subst (λ (o : OnConnection). wanted o ≡ wants.Read) (sym c.self.view_is) c.requires.wants in
-    OnErr-always c.from_residual.result (λ p h. History-unread p c.self.inside.phase (framed_at c.self.inside.buffers.read_buffer.lent) _ c.self.inside.buffers.read_buffer c.fill.new.self _ _ reads unread.0 (subst (HasHistory p) (sym c.self.view_is) h))
+    OnErr-always c.from_residual.result (λ p h. History-unread p c.self.inside.phase (framed_at c.self.inside.buffers.read_buffer.lent) _ c.self.inside.buffers.read_buffer c.fill.new.self _ _ _ reads unread.0 (subst (HasHistory p) (sym c.self.view_is) h))

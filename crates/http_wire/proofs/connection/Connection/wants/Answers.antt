@@ -5,8 +5,9 @@ use Rattle.http_wire.specs.History.{HasHistory}
 use Rattle.http_wire.specs.ReadOnWire.{TellsEnd}
 use Rattle.http_wire.specs.declared.phase.Phase.TheVariants.{Looking}
 use Rattle.http_wire.specs.inside.Phases.{map_phase}
+use Rattle.http_wire.specs.inside.Standing.{Keeps, pieced}
 use Rattle.http_wire.proofs.HistoryLemmas.{History-looked}
-use Rattle.http_wire.proofs.PhaseLemmas.{not-looking, owed-tells, reads-unended, reads-unfinished, same-looking}
+use Rattle.http_wire.proofs.PhaseLemmas.{gathers, not-looking, owed-tells, reads-unended, reads-unfinished, same-body, same-looking}
 use Rattle.http_wire.proofs.connection.Connection.wants.Goals as goal
 
 pub returns-in-Looking-clause-stands : goal.returns-in-Looking-clause-stands
@@ -17,9 +18,11 @@ returns-in-Looking-clause-history c =
     let read_buffer = c.self.inside.buffers.read_buffer in
     let write_buffer = c.self.inside.buffers.write_buffer in
     let max = c.self.inside.max_size in
-    let old : OnConnection = record { read_buffer = read_buffer; phase = Looking c.in-Looking.stage; write_buffer = write_buffer; max_size = max } in
-    λ p h. History-looked p old _ (λ bytes said stands. c.look_on-self-inside.ensures.stands bytes said stands) refl
-    (subst (λ q. HasHistory p (record { read_buffer = read_buffer; phase = map_phase (framed_at read_buffer.lent) q; write_buffer = write_buffer; max_size = max })) c.in-Looking.is (subst (HasHistory p) (sym c.self.view_is) h))
+    let piece = c.self.inside.piece in
+    let looked = c.look_on-self-inside in
+    let old : OnConnection = record { read_buffer = read_buffer; phase = Looking c.in-Looking.stage; write_buffer = write_buffer; max_size = max; piece = piece } in
+    λ p h. History-looked p old c.in-Looking.stage _ _ _ (λ bytes said stands. looked.ensures.stands bytes said stands) (subst (Keeps piece (pieced c.in-Looking.stage)) (sym (same-body _ looked.result)) looked.ensures.body)
+    (subst (λ q. HasHistory p (record { read_buffer = read_buffer; phase = map_phase (framed_at read_buffer.lent) q; write_buffer = write_buffer; max_size = max; piece = piece })) c.in-Looking.is (subst (HasHistory p) (sym c.self.view_is) h))
 
 pub returns-in-Looking-clause-needs : goal.returns-in-Looking-clause-needs
 returns-in-Looking-clause-needs c reads bytes said =
@@ -48,5 +51,7 @@ returns c =
       ended = refl;
       tells_end = subst (λ (o : OnConnection). IfSome (owed_in (map_phase f phase)) (λ i. TellsEnd o.read_buffer.ended (Ok i))) c.self.view_is (owed-tells read_buffer phase c.self.invariant.phase);
       unbroken = λ looks. absurd (true≢false (sym looks ∙ same-looking f phase ∙ other));
+      gathers = gathers f phase c.self.inside.piece c.self.invariant.body;
       size = refl;
+      piece = refl;
     })

@@ -1,0 +1,159 @@
+-- A body that is taken in pieces, look by look, read by read and piece by piece.
+use Rattle.std.proofs.Common.{◌≡◌, ◌≤◌, ◌<◌, ◌+◌, ◌-◌, ◌&&◌, ℕ, Bool, true, false, List, [], ◌∷◌, ◌++◌, length, take, drop, refl, ap, sym, subst, ◌∙◌, arith, append-nil, append_assoc, length-append}
+use Rattle.std.proofs.lemmas.List.{take-append-drop, take-append-le, drop-append-le, take_at, drop_at, take_all, drop_all, take-take, length-take-le, length-drop}
+use Rattle.tus_steps.specs.Field.{FieldText, absent, one, many, is_absent}
+use Rattle.tus_steps.specs.InPieces.{IsPlainPatch, is_patched}
+use Rattle.tus_steps.specs.Method.{is_patch}
+use Rattle.tus_steps.specs.Request.{Request}
+use Rattle.http_wire.specs.Conversation.{continue_text}
+use Rattle.http_wire.specs.HeadText.{head_limit, head_text, whole}
+use Rattle.http_wire.specs.NextMessage.{NextMessage, IsNextMessage}
+use Rattle.http_wire.specs.OnConnection.{HasNoMessage}
+use Rattle.http_wire.specs.ReadOnWire.{waits}
+use Rattle.http_wire.specs.History.{Answering, AreGiven, piece_of}
+use Rattle.http_wire.specs.Layout.{field_at, request_at}
+use Rattle.http_wire.specs.PiecedBody.{IsPlain, IsTaken, piece_in}
+use Rattle.http_wire.specs.declared.read.layout.Layout.{Layout}
+use Rattle.http_wire.specs.declared.read.pieces.PiecedBody.{PiecedBody}
+use Rattle.http_wire.specs.inside.HeadLayout.{BeginsHead}
+use Rattle.http_wire.proofs.NextMessageLemmas.{BeginsHead-more, BeginsHead-short, IsNextMessage-cut_patch, IsNextMessage-waits}
+
+-- the bytes of a message whose head is here, with those that are gone
+abbrev with_gone : ℕ → List ℕ → List ℕ → List ℕ
+with_gone n gone here = take n here ++ (gone ++ drop n here)
+
+gone-head : (n : ℕ) (gone here : List ℕ) → n ≤ length here → take n (with_gone n gone here) ≡ take n here
+gone-head n gone here within = take_at (take n here) (gone ++ drop n here) n (length-take-le n here within)
+
+gone-rest : (n : ℕ) (gone here : List ℕ) → n ≤ length here → drop n (with_gone n gone here) ≡ gone ++ drop n here
+gone-rest n gone here within = drop_at (take n here) (gone ++ drop n here) n (length-take-le n here within)
+
+-- nothing is gone of a body that begins
+pub IsTaken-first : (max : ℕ) (bytes said : List ℕ) (b : PiecedBody) (held : List ℕ) → said ≡ continue_text b.layout.is_waiting → b.given ≡ 0 → b.layout.head_len ≤ length held → BeginsHead max bytes b.layout held
+    → IsTaken max bytes said [] b held
+IsTaken-first max bytes said b held says none within begins = record {
+  waits = says;
+  given = sym none;
+  head = within;
+  begins = subst (BeginsHead max bytes b.layout) (sym (take-append-drop b.layout.head_len held)) begins;
+}
+
+-- more bytes came
+pub IsTaken-more : (max : ℕ) (bytes got said gone : List ℕ) (b : PiecedBody) (here more : List ℕ) → IsTaken max bytes said gone b here → more ≡ here ++ got → IsTaken max (bytes ++ got) said gone b more
+IsTaken-more max bytes got said gone b here more h is =
+    let n = b.layout.head_len in
+    let head : take n more ≡ take n here = ap (take n) is ∙ take-append-le n here got h.head in
+    let rest : drop n more ≡ drop n here ++ got = ap (drop n) is ∙ drop-append-le n here got h.head in
+    let long : n ≤ length (with_gone n gone here) = omega (arith, length-append (take n here) (gone ++ drop n here), length-take-le n here h.head) in
+    record {
+      waits = h.waits;
+      given = h.given;
+      head = omega (arith, ap length is, length-append here got, h.head);
+      begins = BeginsHead-more max bytes b.layout (with_gone n gone here) got (with_gone n gone more) h.begins long
+          (rw (head, rest) (ap (λ l. take n here ++ l) (sym (append_assoc gone (drop n here) got)) ∙ sym (append_assoc (take n here) (gone ++ drop n here) got)));
+    }
+
+-- the same bytes are here
+pub IsTaken-kept : (max : ℕ) (bytes said gone : List ℕ) (b : PiecedBody) (here there : List ℕ) → IsTaken max bytes said gone b here → there ≡ here → IsTaken max bytes said gone b there
+IsTaken-kept max bytes said gone b here there h is = subst (IsTaken max bytes said gone b) (sym is) h
+
+whole-same : (a b c d : List ℕ) → whole a b ≡ whole c d → (a ≡ c) × (b ≡ d)
+whole-same a b c d e = (cc, cc)
+
+-- the bytes that came tell which are gone, and the head
+pub IsTaken-same : (max : ℕ) (bytes got said says gone went : List ℕ) (b : PiecedBody) (here there : List ℕ) → IsTaken max bytes said gone b here → IsTaken max (bytes ++ got) says went b there
+    → (went ≡ gone) × (take b.layout.head_len there ≡ take b.layout.head_len here)
+IsTaken-same max bytes got said says gone went b here there h k =
+    let n = b.layout.head_len in
+    let both = whole-same _ _ _ _ (sym (k.begins.begins []) ∙ ap head_text (append-nil (bytes ++ got)) ∙ h.begins.begins got) in
+    let left : (went ++ drop n there) ++ [] ≡ (gone ++ drop n here) ++ got =
+    ap (λ l. l ++ []) (sym (gone-rest n went there k.head)) ∙ both.1 ∙ ap (λ l. l ++ got) (gone-rest n gone here h.head) in (
+      sym (take_at went (drop n there ++ []) b.given k.given) ∙ ap (take b.given) (sym (append_assoc went (drop n there) []) ∙ left ∙ append_assoc gone (drop n here) got) ∙ take_at gone (drop n here ++ got) b.given h.given,
+      sym (gone-head n went there k.head) ∙ both.0 ∙ gone-head n gone here h.head,
+    )
+
+-- how many bytes of the message have come behind the line ends before it
+count-gone : (n : ℕ) (gone here : List ℕ) → n ≤ length here → length (with_gone n gone here) ≡ length here + length gone
+count-gone n gone here within =
+    omega (arith, length-append (take n here) (gone ++ drop n here), length-append gone (drop n here), length-take-le n here within, length-drop n here, within)
+
+-- its client waits for `100 Continue`
+pub IsTaken-waits : (max : ℕ) (bytes said gone : List ℕ) (b : PiecedBody) (here : List ℕ) → IsTaken max bytes said gone b here → b.layout.is_waiting ≡ true → (f : NextMessage) × IsNextMessage max bytes f × (waits f ≡ true)
+IsTaken-waits max bytes said gone b here h is = IsNextMessage-waits max bytes b.layout (with_gone b.layout.head_len gone here) h.begins is
+
+-- while bytes of the body are lacking, no whole message came
+pub IsTaken-unfinished : (max : ℕ) (bytes said gone : List ℕ) (b : PiecedBody) (here : List ℕ) → IsTaken max bytes said gone b here → IsPlain b.layout → b.given < b.layout.body_len
+    → length here < b.layout.head_len + (b.layout.body_len - b.given) → HasNoMessage max bytes
+IsTaken-unfinished max bytes said gone b here h plain given short =
+    let held = with_gone b.layout.head_len gone here in
+    let count = count-gone b.layout.head_len gone here h.head in
+    (_, IsNextMessage-cut_patch max bytes b.layout held h.begins (record { lent = held; held = []; ended = true; room = 0 }) (omega (arith, count, h.given, given, short)) (omega (arith, count, h.head)) plain refl, tt)
+
+-- and what came, and what the body lacks, are at most a head and the greatest body
+pub IsTaken-short : (max : ℕ) (bytes said gone : List ℕ) (b : PiecedBody) (here : List ℕ) → IsTaken max bytes said gone b here → b.given < b.layout.body_len
+    → length here < b.layout.head_len + (b.layout.body_len - b.given) → length bytes + ((b.layout.head_len + (b.layout.body_len - b.given)) - length here) ≤ head_limit + max
+IsTaken-short max bytes said gone b here h given short =
+    let held = with_gone b.layout.head_len gone here in
+    let count = count-gone b.layout.head_len gone here h.head in
+    omega (arith, count, h.given, given, BeginsHead-short max bytes b.layout held h.begins (omega (arith, count, h.head)) (omega (arith, count, h.given, given, short)))
+
+-- a piece was taken: it is gone, and the head is here
+pub IsTaken-accepted : (max : ℕ) (bytes said gone lent : List ℕ) (b : PiecedBody) → IsTaken max bytes said gone b (lent ++ []) → b.layout.head_len ≤ length lent
+    → IsTaken max bytes said (gone ++ drop b.layout.head_len lent) (record b { given = b.given + (length lent - b.layout.head_len) }) (take b.layout.head_len lent)
+IsTaken-accepted max bytes said gone lent b h within =
+    let n = b.layout.head_len in
+    let count : length (take n lent) ≡ n = length-take-le n lent within in
+    let head : take n (take n lent) ≡ take n lent = take_all n (take n lent) (omega (arith, count)) in
+    let none : drop n (take n lent) ≡ [] = drop_all n (take n lent) (omega (arith, count)) in
+    record {
+      waits = h.waits;
+      given = length-append gone (drop n lent) ∙ omega (arith, length-drop n lent, h.given);
+      head = omega (arith, count);
+      begins = subst (BeginsHead max bytes b.layout)
+          (ap (λ l. with_gone n gone l) (append-nil lent) ∙ sym (rw (head, none) (ap (λ l. take n lent ++ l) (append-nil (gone ++ drop n lent))))) h.begins;
+    }
+
+-- the head and the bytes of a piece that is lent
+pub lent-head : (n : ℕ) (lent held : List ℕ) → n ≤ length lent → take n (lent ++ held) ≡ take n lent
+lent-head n lent held within = take-append-le n lent held within
+
+pub lent-rest : (n : ℕ) (lent held : List ℕ) → n ≤ length lent → drop n (lent ++ held) ≡ drop n lent ++ held
+lent-rest n lent held within = drop-append-le n lent held within
+
+-- the request of a piece that is lent is the piece of the request
+pub piece-lent : (b : PiecedBody) (lent : List ℕ) → (piece_in b lent).request ≡ piece_of (request_at b.layout (take b.layout.head_len lent)) b.layout.body_len b.given (drop b.layout.head_len lent)
+piece-lent b lent =
+    let n = b.layout.head_len in
+    rw (take-take n n lent (omega arith), length-drop n lent) refl
+
+-- one piece more was accepted
+pub AreGiven-push : (r : Request) (n given : ℕ) (answered : List Answering) (bytes piece : List ℕ) (q : Answering) → AreGiven r n given answered bytes → q.request ≡ piece_of r n (given + length bytes) piece
+    → is_patched q.reply ≡ true → AreGiven r n given (answered ++ q ∷ []) (bytes ++ piece)
+AreGiven-push r n given [] bytes piece q is next accepted =
+    let none : given + length bytes ≡ given = rw is (omega arith) in
+    (piece, [], next ∙ ap (λ k. piece_of r n k piece) none, accepted, ap (λ l. l ++ piece) is ∙ sym (append-nil piece), refl)
+AreGiven-push r n given (a ∷ answered) bytes piece q taken next accepted =
+    let more : given + length bytes ≡ (given + length taken.0) + length taken.1 = omega (arith, ap length taken.4, length-append taken.0 taken.1) in (
+      taken.0,
+      taken.1 ++ piece,
+      taken.2,
+      taken.3,
+      ap (λ l. l ++ piece) taken.4 ∙ append_assoc taken.0 taken.1 piece,
+      AreGiven-push r n (given + length taken.0) answered taken.1 piece q taken.5 (next ∙ ap (λ k. piece_of r n k piece) more) accepted,
+    )
+
+-- the message of a body that is taken in pieces is a PATCH without a checksum
+both-true : (a b : Bool) → a && b ≡ true → (a ≡ true) × (b ≡ true)
+both-true true true is = (refl, refl)
+both-true true false is = absurd cc
+both-true false b is = absurd cc
+
+absent-is : (f : FieldText) → is_absent f ≡ true → f ≡ absent
+absent-is absent is = refl
+absent-is (one value) is = absurd cc
+absent-is many is = absurd cc
+
+pub plain-request : (p : Layout) (text : List ℕ) → IsPlain p → IsPlainPatch (request_at p text)
+plain-request p text plain =
+    let both = both-true (is_patch p.method) (is_absent (field_at (take p.head_len text) p.fields.checksum)) (plain (take p.head_len text)) in
+    record { method = both.0; unchecked = absent-is (field_at (take p.head_len text) p.fields.checksum) both.1 }

@@ -1,0 +1,109 @@
+//! The answer to a piece of a body: its step, and what becomes of the connection.
+ghost use Rattle.std.specs.Prelude.{◌≡◌, ◌-◌, true, length};
+ghost use Rattle.http_wire.specs.Layout.{IsMessage, request_at};
+ghost use Rattle.http_wire.specs.NextMessage.{closing};
+ghost use Rattle.http_wire.specs.PiecedBody.{piece_in};
+ghost use Rattle.http_wire.specs.inside.PieceAnswer.{AnswersPiece, end_of_cut};
+ghost use Rattle.http_wire.specs.inside.Standing.{HasPiece};
+ghost use Rattle.http_wire.specs.declared.read.pieces.Part.TheVariants.{Middle};
+ghost use Rattle.tus_steps.specs.InPieces.{is_patched};
+ghost use Rattle.tus_steps.specs.PlacedReply.{reply_in};
+ghost use Rattle.tus_steps.specs.declared.reply.Reply.{Reply};
+
+use crate::answer::Answer;
+use crate::buffers::Buffers;
+use crate::conversation::Ended;
+use crate::fault::WireFault;
+use crate::incoming::Cut;
+use crate::phase::Phase;
+use crate::read::head::closing;
+use crate::read::layout::Layout;
+use crate::read::pieces::{Part, PiecedBody};
+use crate::read::request::request_in;
+use crate::read::stage::Stage;
+use crate::replying::{answer_message, apply_cut, ended_after};
+use tus_steps::{PlacedReply, ReplyKind};
+use upload_book::Moment;
+
+/// Lets the piece that the buffers lend be answered, and tells how far the connection has come then.
+pub fn answer_piece<A: Answer>(
+    buffers: &mut Buffers,
+    answerer: &mut A,
+    body: &PiecedBody,
+    part: Part,
+    now: Moment,
+) -> Phase<Layout>
+    requires piece { HasPiece buffers.old.read_buffer body.now part }
+    requires room { buffers.old.write_buffer.has_room ≡ true }
+    ensures { (reply : Reply)
+        × A.steps answerer.old (piece_in body.now buffers.old.read_buffer.lent).request now reply answerer.new
+        × AnswersPiece now body.now part reply buffers.old.read_buffer buffers.new.read_buffer
+        buffers.old.write_buffer.pending buffers.new.write_buffer.pending result }
+{
+    let len = buffers.read_buffer.lent().len() - body.layout.head_len;
+    let layout = body.piece_at(len);
+    match part {
+        Part::Middle => answer_middle(buffers, answerer, body, len, now),
+        Part::Last => {
+            answer_message(buffers, answerer, &layout, now);
+            Phase::after(Ok(ended_after(layout.framing.close)))
+        }
+        Part::Cut(why) => {
+            apply_cut(buffers, answerer, &layout, now);
+            Phase::Stopped(end_of_cut(why))
+        }
+    }
+}
+
+// The same for a piece with more to come. Where it is accepted, it is let go, and the head is held for the next.
+fn answer_middle<A: Answer>(
+    buffers: &mut Buffers,
+    answerer: &mut A,
+    body: &PiecedBody,
+    len: usize,
+    now: Moment,
+) -> Phase<Layout>
+    requires piece { HasPiece buffers.old.read_buffer body.now Middle }
+    requires len { len ≡ length buffers.old.read_buffer.lent - body.now.layout.head_len }
+    requires room { buffers.old.write_buffer.has_room ≡ true }
+    ensures { (reply : Reply)
+        × A.steps answerer.old (piece_in body.now buffers.old.read_buffer.lent).request now reply answerer.new
+        × AnswersPiece now body.now Middle reply buffers.old.read_buffer buffers.new.read_buffer
+        buffers.old.write_buffer.pending buffers.new.write_buffer.pending result }
+{
+    let layout = body.piece_at(len);
+    let request = request_in(&layout, buffers.read_buffer.lent());
+    answerer.answer(&request, now, &mut buffers.reply);
+    if !is_patched(&buffers.reply) {
+        buffers.is_refused = true;
+        buffers
+            .write_buffer
+            .put_reply(&mut buffers.reply, now, closing(layout.framing));
+        return Phase::Stopped(Ok(Ended::Closed));
+    }
+    buffers.reply.let_go();
+    buffers.read_buffer.take_back(body.layout.head_len);
+    let mut body = *body;
+    body.given += len;
+    Phase::Looking(Stage::Pieces(body))
+}
+
+// Whether the bytes of a piece were taken.
+fn is_patched(reply: &PlacedReply) -> bool
+    ensures { result ≡ is_patched (reply_in reply.now) }
+{
+    match &reply.kind {
+        ReplyKind::Patched { .. } => true,
+        _ => false,
+    }
+}
+
+// How a connection ends with a body that was cut.
+fn end_of_cut(why: Cut) -> Result<Ended, WireFault>
+    ensures { result ≡ end_of_cut why }
+{
+    match why {
+        Cut::Ended => Ok(Ended::Cut),
+        Cut::Fault => Err(WireFault::Read),
+    }
+}

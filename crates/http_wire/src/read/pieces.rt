@@ -1,0 +1,95 @@
+//! A body that is taken in pieces, as its bytes come.
+ghost use Rattle.std.specs.Prelude.{◌≡◌, ◌<◌, ℕ, List, Some, IfSome};
+ghost use Rattle.http_wire.specs.PiecedBody.{IsPlain, IsTaken, piece_at, pieced_by};
+ghost use Rattle.http_wire.specs.declared.read.stage.Stage.TheVariants as variants;
+ghost use Rattle.http_wire.specs.inside.Standing.{HasRoomForPiece, IsNearer, Leaves, LooksOn, missing, pieced_after};
+
+use crate::incoming::Cut;
+use crate::read::layout::Layout;
+use crate::read::read_buffer::ReadBuffer;
+use crate::read::stage::{Looked, lend_all};
+
+/// A body that is taken in pieces.
+#[derive(Clone, Copy)]
+pub struct PiecedBody {
+    /// Its message as a whole.
+    pub layout: Layout,
+    /// How many bytes of it were taken.
+    pub given: usize,
+    /// How many bytes a piece has at least, unless it is the last.
+    pub piece: usize,
+}
+
+/// Which piece of a body came.
+#[derive(Clone, Copy, PartialEq, Eq)]
+pub enum Part {
+    /// More of the body is to come.
+    Middle,
+    /// It is the rest of the body.
+    Last,
+    /// It is what came of a piece before the body was cut.
+    Cut(Cut),
+}
+
+impl PiecedBody {
+    /// The body of this message, of which nothing was taken, if it is taken in pieces of so many bytes: that of a PATCH without
+    /// a checksum which has more bytes than a piece.
+    pub fn of(layout: &Layout, piece: Option<usize>) -> Option<PiecedBody>
+        ensures body { result ≡ pieced_by piece layout.now }
+        ensures begins { IfSome result (λ b. (b.layout ≡ layout.now) × (b.given ≡ 0) × (piece ≡ Some b.piece)
+            × (b.piece < b.layout.body_len)) }
+        ensures plain { IfSome result (λ b. IsPlain b.layout) }
+    {
+        let piece = piece?;
+        if !layout.is_applied_when_cut() || layout.body_len <= piece {
+            return None;
+        }
+        Some(PiecedBody {
+            layout: *layout,
+            given: 0,
+            piece,
+        })
+    }
+
+    /// The layout of the next `len` bytes of the body behind the head.
+    pub fn piece_at(&self, len: usize) -> Layout
+        ensures { result ≡ piece_at self.now len }
+    {
+        let mut layout = self.layout;
+        layout.given = self.given;
+        layout.more = layout
+            .body_len
+            .saturating_sub(self.given)
+            .saturating_sub(len);
+        layout
+    }
+}
+
+/// Looks for a piece of a body for which there is room: as many bytes as a piece has, or the rest of the body. All bytes that
+/// came are lent with the head, so that none is moved, but for those behind the body.
+pub fn look_for_piece(read_buffer: &mut ReadBuffer, body: &PiecedBody) -> Looked
+    requires { HasRoomForPiece read_buffer.old body.now }
+    ensures looks { (max : ℕ) (bytes said gone : List ℕ) → IsTaken max bytes said gone body.now read_buffer.old.held
+        → LooksOn max bytes said read_buffer.new (variants.Pieces body.now) result }
+    ensures leaves { Leaves read_buffer.new (variants.Pieces body.now) result }
+    ensures nearer { IsNearer (missing read_buffer.old (variants.Pieces body.now)) read_buffer.new
+        (variants.Pieces body.now) result }
+    ensures body { pieced_after (variants.Pieces body.now) result ≡ Some body.now }
+    ensures ended { read_buffer.new.ended ≡ read_buffer.old.ended }
+{
+    let came = read_buffer.held().len() - body.layout.head_len;
+    let left = body.layout.body_len - body.given;
+    if came >= left {
+        read_buffer.lend(body.layout.head_len + left);
+        return Looked::Piece(*body, Part::Last);
+    }
+    if came >= body.piece {
+        lend_all(read_buffer);
+        return Looked::Piece(*body, Part::Middle);
+    }
+    if !read_buffer.is_ended() {
+        return Looked::More;
+    }
+    lend_all(read_buffer);
+    Looked::Piece(*body, Part::Cut(Cut::Ended))
+}

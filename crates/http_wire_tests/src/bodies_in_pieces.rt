@@ -1,0 +1,204 @@
+//! Bodies that a connection takes in pieces. A PATCH that is accepted gets the reply that it gets as one; a piece that is refused
+//! closes the connection, and those before it are kept.
+
+use crate::checksums::PATCH_CHECKED;
+use crate::connections::{answer_next, assert_wants, take_in, take_out};
+use crate::conversations::{
+    COMPLETED, CONTINUE, CREATED, OFFSET, PATCH, PATCH_OLD, PATCH_PAST, PATCH_REST, PATCH_WAITING,
+    PATCHED, PATCHED_CLOSE, POST, WRONG_OFFSET,
+};
+use crate::driven::{Arriving, Leaving, Pieces, drive};
+use crate::spoken::{Expected, Spoken, assert_spoken, at_1000, joined, new_book, offset_of};
+use http_wire::{Buffers, Connection, Ended, Wants, WireFault};
+use std::alloc::Global;
+use std::process::Abort;
+
+const TOO_LONG_CLOSE: &[u8] =
+    b"HTTP/1.1 413 Content Too Large\r\nDate: Thu, 01 Jan 1970 00:16:40 GMT\r\n\
+Tus-Resumable: 1.0.0\r\nUpload-Expires: Thu, 01 Jan 1970 01:16:40 GMT\r\n\
+Content-Type: text/plain\r\nContent-Length: 9\r\nConnection: close\r\n\r\ntoo-long\n";
+
+const OFFSET_CLOSE: &[u8] = b"HTTP/1.1 409 Conflict\r\nDate: Thu, 01 Jan 1970 00:16:40 GMT\r\n\
+Tus-Resumable: 1.0.0\r\nUpload-Expires: Thu, 01 Jan 1970 01:16:40 GMT\r\n\
+Content-Type: text/plain\r\nContent-Length: 7\r\nConnection: close\r\n\r\noffset\n";
+
+/// The first 3 bytes of the body of `PATCH`, and its head.
+const PATCH_CUT: &[u8] = b"PATCH /files/acme/1 HTTP/1.1\r\nHost: x\r\nTus-Resumable: 1.0.0\r\n\
+Content-Type: application/offset+octet-stream\r\nUpload-Offset: 0\r\nContent-Length: 5\r\n\r\n\
+hel";
+
+/// A conversation in pieces of 2 bytes: what is sent, and what is written.
+struct Row {
+    what: &'static str,
+    sent: &'static [&'static [u8]],
+    written: &'static [&'static [u8]],
+    ended: Ended,
+    offset: u64,
+}
+
+static ROWS: [Row; 8] = [
+    Row {
+        what: "two bodies",
+        sent: &[POST, PATCH, PATCH_REST],
+        written: &[CREATED, PATCHED, COMPLETED],
+        ended: Ended::Input,
+        offset: 10,
+    },
+    Row {
+        what: "a client that waits to go on",
+        sent: &[POST, PATCH_WAITING, PATCH_REST],
+        written: &[CREATED, CONTINUE, PATCHED, COMPLETED],
+        ended: Ended::Input,
+        offset: 10,
+    },
+    Row {
+        what: "a last reply",
+        sent: &[POST, PATCH_OLD],
+        written: &[CREATED, PATCHED_CLOSE],
+        ended: Ended::Closed,
+        offset: 5,
+    },
+    Row {
+        what: "a cut in the second piece",
+        sent: &[POST, PATCH_CUT],
+        written: &[CREATED],
+        ended: Ended::Cut,
+        offset: 3,
+    },
+    Row {
+        what: "a body that is no longer than a piece",
+        sent: &[POST, WRONG_OFFSET, PATCH],
+        written: &[CREATED, OFFSET, PATCHED],
+        ended: Ended::Input,
+        offset: 5,
+    },
+    Row {
+        what: "a first piece of a body that is too long",
+        sent: &[POST, PATCH, PATCH_PAST],
+        written: &[CREATED, PATCHED, TOO_LONG_CLOSE],
+        ended: Ended::Closed,
+        offset: 5,
+    },
+    Row {
+        what: "an offset that is not the upload's",
+        sent: &[POST, PATCH, PATCH],
+        written: &[CREATED, PATCHED, OFFSET_CLOSE],
+        ended: Ended::Closed,
+        offset: 5,
+    },
+    Row {
+        what: "a checksum, which is of the whole body",
+        sent: &[POST, PATCH_CHECKED],
+        written: &[CREATED, PATCHED],
+        ended: Ended::Input,
+        offset: 5,
+    },
+];
+
+/// A connection that takes bodies in pieces of so many bytes, one at least.
+fn connection_by(rt: &impl Abort, alloc: Global, piece: usize) -> Connection {
+    let buffers = Buffers::new(alloc).expect(rt, "memory");
+    Connection::by_pieces(buffers, 64, Some(piece.max(1)))
+}
+
+/// Has this conversation in pieces of 2 bytes, of which a read brings one byte.
+fn speak(rt: &impl Abort, alloc: Global, sent: &[u8]) -> Spoken<'static> {
+    let mut connection = connection_by(rt, alloc, 2);
+    let mut reader = Arriving::new(sent, Pieces::Each(1));
+    let mut writer = Leaving::new(alloc, Pieces::Each(usize::MAX));
+    let mut book = new_book(rt, alloc);
+    let ended = drive(
+        rt,
+        &mut connection,
+        &mut reader,
+        &mut writer,
+        &mut book,
+        &at_1000(),
+    );
+    Spoken {
+        text: writer.written,
+        ended,
+        offset: offset_of(&book),
+        rest: b"",
+    }
+}
+
+#[test]
+fn conversations_in_pieces(rt: HostRuntime) {
+    for row in &ROWS {
+        let sent = joined(&rt, rt.alloc(), row.sent);
+        let written = joined(&rt, rt.alloc(), row.written);
+        let expected = Expected {
+            text: &written,
+            ended: Ok(row.ended),
+            offset: Some(row.offset),
+        };
+        let spoken = speak(&rt, rt.alloc(), &sent);
+        assert_spoken(&rt, row.what, &spoken, &expected);
+    }
+}
+
+/// However many bytes a piece has and a read brings, an upload is the same.
+#[test]
+fn pieces_of_each_length(rt: HostRuntime) {
+    let sent = joined(&rt, rt.alloc(), &[POST, PATCH, PATCH_REST]);
+    let written = joined(&rt, rt.alloc(), &[CREATED, PATCHED, COMPLETED]);
+    for piece in [1, 3, 4, 5] {
+        for read in [1, 2, 7, usize::MAX] {
+            let what = format!(in rt.alloc(); "{piece} bytes of {read} a read").expect(
+                &rt, "memory",
+            );
+            let mut connection = connection_by(&rt, rt.alloc(), piece);
+            let mut reader = Arriving::new(&sent, Pieces::Each(read));
+            let mut writer = Leaving::new(rt.alloc(), Pieces::Each(usize::MAX));
+            let mut book = new_book(&rt, rt.alloc());
+            let ended = drive(
+                &rt,
+                &mut connection,
+                &mut reader,
+                &mut writer,
+                &mut book,
+                &at_1000(),
+            );
+            assert_eq!(&rt; ended, Ok::<Ended, WireFault>(Ended::Input), "{what}");
+            assert!(&rt;
+                writer.written.as_slice() == written.as_slice(),
+                "{what}: text"
+            );
+            assert_eq!(&rt; offset_of(&book), Some(10), "{what}");
+        }
+    }
+}
+
+/// The first piece of a body is in the book before the second has come. Another client's PATCH then has the second refused, and
+/// both are kept.
+#[test]
+fn another_client_in_the_midst(rt: HostRuntime) {
+    let mut book = new_book(&rt, rt.alloc());
+    let mut other = connection_by(&rt, rt.alloc(), 64);
+    take_in(&rt, "a creation", &mut other, POST);
+    answer_next(&rt, "a creation", &mut other, &mut book);
+    take_out(&mut other, usize::MAX);
+    let mut connection = connection_by(&rt, rt.alloc(), 2);
+    let (head, rest) = PATCH.split_at(PATCH.len() - 3);
+    take_in(&rt, "a head and two bytes", &mut connection, head);
+    assert_wants(&rt, "a piece", &mut connection, Wants::Answer);
+    assert!(&rt; connection.incoming().is_none() && connection.piece().is_some());
+    answer_next(&rt, "a piece", &mut connection, &mut book);
+    assert!(&rt; connection.is_in_pieces());
+    assert_eq!(&rt; offset_of(&book), Some(2));
+    assert_eq!(&rt; connection.pending_len(), 0);
+    take_in(&rt, "one byte of the next", &mut connection, &rest[..1]);
+    assert_wants(&rt, "more", &mut connection, Wants::Read);
+    assert_eq!(&rt; connection.body_held(), 1);
+    take_in(&rt, "another PATCH", &mut other, ONE_BYTE);
+    answer_next(&rt, "another PATCH", &mut other, &mut book);
+    take_in(&rt, "the rest", &mut connection, &rest[1..]);
+    answer_next(&rt, "the rest", &mut connection, &mut book);
+    assert!(&rt; connection.pending() == OFFSET);
+    assert_eq!(&rt; offset_of(&book), Some(3));
+}
+
+/// A byte behind the first two of an upload.
+const ONE_BYTE: &[u8] = b"PATCH /files/acme/1 HTTP/1.1\r\nHost: x\r\nTus-Resumable: 1.0.0\r\n\
+Content-Type: application/offset+octet-stream\r\nUpload-Offset: 2\r\nContent-Length: 1\r\n\r\nx";
