@@ -1,6 +1,7 @@
 //! A client that a worker holds beside others.
 ghost use Rattle.std.specs.Prelude.{◌≡◌, ◌<◌, ◌≤◌, ◌^◌, ◌-◌, Some, None, true, IfOk, IfSome, OnErr, nat_lt, if◌then◌else◌};
 ghost use Rattle.std.proofs.Props.{props};
+ghost use Rattle.http_wire.specs.BodyLimits.{AreSmall};
 ghost use Rattle.http_wire.specs.History.{HasHistory, History, nothing_yet};
 ghost use Rattle.connection_turns.specs.Sending.{IsAfterSending};
 ghost use Rattle.connection_turns.specs.Turn.{HasHistoryWithin, Passes, SendsOnWithin, and_then, around};
@@ -11,7 +12,7 @@ use crate::pace::Busy;
 use crate::sending::{Sent, send_pending};
 use crate::turn::{Outcome, Precedence, Share, Streams, Turned, take_turn};
 use crate::unread::{ROOM_KEPT, may_be_unread};
-use http_wire::{Buffers, Clock, Connection, Ended, Message};
+use http_wire::{BodyLimits, Buffers, Clock, Connection, Ended, Message};
 use std::alloc::{AllocError, Global};
 use std::io::{Read, Write};
 
@@ -29,28 +30,28 @@ const FIRST_ROOM: usize = 65_536;
 pub struct ClientConnection {
     connection: Option<Connection>,
     left: usize,
-    max_size: u64,
+    limits: BodyLimits,
     piece: Option<usize>,
-    ghost small: { max_size < 2 ^ 31 },
+    ghost small: { AreSmall limits } by { Prim.hlevel props },
     ghost some: { IfSome piece (λ n. 0 < n) } by { Prim.hlevel props },
 }
 
 impl ClientConnection {
-    /// A client of which nothing was read. Its bodies have at most `max_size` bytes, below 2^31, and it has at most `left`
-    /// messages. Where there is a `piece`, above 0, bodies of PATCHes are taken in pieces of so many bytes, as
+    /// A client of which nothing was read. Its bodies have at most as many bytes as `limits` tell, each below 2^62. It has at most
+    /// `left` messages. Where there is a `piece`, above 0, bodies of PATCHes are taken in pieces of so many bytes, as
     /// [`Connection::by_pieces`] says.
-    pub fn new(max_size: u64, piece: Option<usize>, left: usize) -> Self
-        requires size { max_size < 2 ^ 31 }
+    pub fn new(limits: BodyLimits, piece: Option<usize>, left: usize) -> Self
+        requires limits { AreSmall limits }
         requires some { IfSome piece (λ n. 0 < n) }
-        ensures begins { HasHistoryWithin max_size piece nothing_yet result.connection }
-        ensures size { result.max_size ≡ max_size }
+        ensures begins { HasHistoryWithin limits piece nothing_yet result.connection }
+        ensures limits { result.limits ≡ limits }
         ensures piece { result.piece ≡ piece }
         ensures left { result.left ≡ left }
     {
         ClientConnection {
             connection: None,
             left,
-            max_size,
+            limits,
             piece,
         }
     }
@@ -76,23 +77,17 @@ impl ClientConnection {
         reads_on: bool,
         observer: &mut O,
     ) -> Turned<R, W>
-        ensures carries { (p : History) → HasHistoryWithin self.old.max_size self.old.piece p self.old.connection → (more : History)
+        ensures carries { (p : History) → HasHistoryWithin self.old.limits self.old.piece p self.old.connection → (more : History)
             × Passes A.steps K.tells self.old.piece (self.old.left - self.new.left)
             (around answerer.old clock.old (R.remaining streams.reader) (W.contents streams.writer))
             (around answerer.new clock.new (R.remaining result.streams.reader) (W.contents result.streams.writer)) more
-            × HasHistoryWithin self.old.max_size self.old.piece (and_then p more) self.new.connection }
+            × HasHistoryWithin self.old.limits self.old.piece (and_then p more) self.new.connection }
         ensures held { A.holds_back answerer.old ≡ true → W.contents result.streams.writer ≡ W.contents streams.writer }
         ensures left { self.new.left ≤ self.old.left }
-        ensures size { self.new.max_size ≡ self.old.max_size }
+        ensures limits { self.new.limits ≡ self.old.limits }
         ensures piece { self.new.piece ≡ self.old.piece }
     {
-        let opened = open(
-            self.connection.take(),
-            alloc,
-            free,
-            self.max_size,
-            self.piece,
-        );
+        let opened = open(self.connection.take(), alloc, free, self.limits, self.piece);
         let Ok(mut connection) = opened else {
             return Turned {
                 outcome: Outcome::NoMemory,
@@ -121,10 +116,10 @@ impl ClientConnection {
     /// Sends what is pending, as [`send_pending`] says, and puts the connection away where the client is silent then. Its
     /// buffers go back to `free`.
     pub fn send<W: Write + Drop>(&mut self, free: &mut Vec<Buffers>, writer: W) -> Sent<W>
-        ensures sends { SendsOnWithin self.old.max_size self.old.piece self.old.connection self.new.connection (W.contents writer) (W.contents result.writer) }
+        ensures sends { SendsOnWithin self.old.limits self.old.piece self.old.connection self.new.connection (W.contents writer) (W.contents result.writer) }
         ensures outcome { IsAfterSending result.outcome }
         ensures left { self.new.left ≡ self.old.left }
-        ensures size { self.new.max_size ≡ self.old.max_size }
+        ensures limits { self.new.limits ≡ self.old.limits }
         ensures piece { self.new.piece ≡ self.old.piece }
     {
         let Some(mut connection) = self.connection.take() else {
@@ -217,13 +212,13 @@ fn open(
     connection: Option<Connection>,
     alloc: Global,
     free: &mut Vec<Buffers>,
-    max_size: u64,
+    limits: BodyLimits,
     piece: Option<usize>,
 ) -> Result<Connection, AllocError>
-    requires size { max_size < 2 ^ 31 }
+    requires limits { AreSmall limits }
     requires some { IfSome piece (λ n. 0 < n) }
-    ensures history { IfOk result (λ c. (p : History) → HasHistoryWithin max_size piece p connection
-        → HasHistoryWithin max_size piece p (Some c)) }
+    ensures history { IfOk result (λ c. (p : History) → HasHistoryWithin limits piece p connection
+        → HasHistoryWithin limits piece p (Some c)) }
     ensures none { OnErr result (connection ≡ None) }
 {
     match connection {
@@ -233,14 +228,14 @@ fn open(
                 Some(buffers) => buffers,
                 None => Buffers::new(alloc)?,
             };
-            Ok(Connection::by_pieces(buffers, max_size, piece))
+            Ok(Connection::by_pieces(buffers, limits, piece))
         }
     }
 }
 
 // The connection, or none where it is idle: its buffers are kept then.
 fn put_away(connection: Connection, free: &mut Vec<Buffers>) -> Option<Connection>
-    ensures { (p : History) → HasHistory p connection → HasHistoryWithin connection.max_size connection.piece p result }
+    ensures { (p : History) → HasHistory p connection → HasHistoryWithin connection.limits connection.piece p result }
 {
     if !connection.is_idle() {
         return Some(connection);

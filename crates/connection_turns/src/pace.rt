@@ -1,5 +1,5 @@
 //! How fast a client goes, and for what it is cut off.
-ghost use Rattle.std.specs.Prelude.{◌≡◌};
+ghost use Rattle.std.specs.Prelude.{◌≡◌, Some};
 ghost use Rattle.connection_turns.specs.Pace.{counted, is_over, is_slow, lateness, noted, renewed, setting_out};
 
 /// After how many seconds a rate is judged, so that ten have passed in full.
@@ -10,7 +10,7 @@ const WINDOW_SECONDS: u64 = 11;
 pub struct Bounds {
     /// For how many seconds it may neither send nor take a byte.
     pub idle: u64,
-    /// How many seconds one message of it may take, head and body.
+    /// How many seconds one message of it may take, head and body; of a body in pieces, each piece.
     pub message_seconds: u64,
     /// How many bytes a second it has to send of a body, or to take of a reply.
     pub least_rate: u64,
@@ -90,6 +90,14 @@ impl Pace {
             Busy::Body | Busy::Reply => Some(counted(self.window, second, bytes)),
             Busy::Idle | Busy::Head => None,
         };
+    }
+
+    /// Notes that at this second a piece of a body was stored and more of the body is to come: the next piece may take as long as
+    /// a message.
+    pub fn begin_piece(&mut self, second: u64)
+        ensures { self.new ≡ record self.old { begun = Some second } }
+    {
+        self.begun = Some(second);
     }
 
     /// For what it is to be cut off at this second, if for anything: the first of the three that applies. Seconds are counted

@@ -24,7 +24,7 @@ pub struct Sent<W> {
 pub fn send_pending<W: Write + Drop>(connection: &mut Connection, writer: W) -> Sent<W>
     ensures sends { SendsOn connection.old connection.new (W.contents writer) (W.contents result.writer) }
     ensures outcome { IsAfterSending result.outcome }
-    ensures size { connection.new.max_size ≡ connection.old.max_size }
+    ensures limits { connection.new.limits ≡ connection.old.limits }
     ensures piece { connection.new.piece ≡ connection.old.piece }
 {
     let mut writer = writer;

@@ -145,7 +145,7 @@ pub fn take_turn<
     ensures over { result.outcome ≡ Outcome.Over → connection.new.write_buffer.pending ≡ [] }
     ensures turn { result.outcome ≡ Outcome.AwaitsTurn → wanted connection.new ≡ Wants.Answer }
     ensures left { result.left ≤ share.messages }
-    ensures size { connection.new.max_size ≡ connection.old.max_size }
+    ensures limits { connection.new.limits ≡ connection.old.limits }
     ensures piece { connection.new.piece ≡ connection.old.piece }
 {
     let mut streams = streams;
@@ -252,7 +252,7 @@ fn take_step<R: Read + Drop, W: Write + Drop, A: Durability, K: Clock, P: Preced
     ensures turn { result.1 ≡ Step.Stops Outcome.AwaitsTurn → wanted connection.new ≡ Wants.Answer }
     ensures more { result.1 ≢ Step.Stops Outcome.HasMore }
     ensures allowed { result.1 ≡ Step.Answered → allowed.answer ≡ true }
-    ensures size { connection.new.max_size ≡ connection.old.max_size }
+    ensures limits { connection.new.limits ≡ connection.old.limits }
     ensures piece { connection.new.piece ≡ connection.old.piece }
 {
     let Streams { reader, writer } = streams;
@@ -318,7 +318,7 @@ fn wants_now(connection: &mut Connection, may_answer: bool) -> Wants
     ensures answer { result ≡ Wants.Answer → wanted connection.new ≡ Wants.Answer }
     ensures allowed { result ≡ Wants.Answer → may_answer ≡ true }
     ensures nothing { result ≡ Wants.Nothing → connection.new.write_buffer.pending ≡ [] }
-    ensures size { connection.new.max_size ≡ connection.old.max_size }
+    ensures limits { connection.new.limits ≡ connection.old.limits }
     ensures piece { connection.new.piece ≡ connection.old.piece }
 {
     if may_answer {
@@ -339,7 +339,7 @@ fn receive<R: Read + Drop>(connection: &mut Connection, reader: R) -> (R, Step)
     ensures blocked { result.1 ≡ Step.Stops Outcome.AwaitsBytes → wanted connection.new ≡ Wants.Read }
     ensures other { (outcome : Outcome) → result.1 ≡ Step.Stops outcome → outcome ≡ Outcome.AwaitsBytes }
     ensures moves { result.1 ≢ Step.Answered }
-    ensures size { connection.new.max_size ≡ connection.old.max_size }
+    ensures limits { connection.new.limits ≡ connection.old.limits }
     ensures piece { connection.new.piece ≡ connection.old.piece }
 {
     let mut tapped = Tapped::new(reader);
@@ -355,7 +355,7 @@ fn step_of_read(connection: &mut Connection, read: io::Result<usize>) -> Step
     ensures blocked { result ≡ Step.Stops Outcome.AwaitsBytes → wanted connection.new ≡ Wants.Read }
     ensures other { (outcome : Outcome) → result ≡ Step.Stops outcome → outcome ≡ Outcome.AwaitsBytes }
     ensures moves { result ≢ Step.Answered }
-    ensures size { connection.new.max_size ≡ connection.old.max_size }
+    ensures limits { connection.new.limits ≡ connection.old.limits }
     ensures piece { connection.new.piece ≡ connection.old.piece }
 {
     match read {
@@ -378,7 +378,7 @@ pub(crate) fn send<W: Write + Drop>(connection: &mut Connection, writer: W) -> (
     ensures blocked { result.1 ≡ Step.Stops Outcome.AwaitsRoom → connection.new.write_buffer.pending ≢ [] }
     ensures other { (outcome : Outcome) → result.1 ≡ Step.Stops outcome → (outcome ≡ Outcome.AwaitsRoom) ⊎ (outcome ≡ Outcome.Failed) }
     ensures moves { result.1 ≢ Step.Answered }
-    ensures size { connection.new.max_size ≡ connection.old.max_size }
+    ensures limits { connection.new.limits ≡ connection.old.limits }
     ensures piece { connection.new.piece ≡ connection.old.piece }
 {
     let mut tapped = Tapped::new(writer);

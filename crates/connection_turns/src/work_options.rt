@@ -12,6 +12,11 @@ pub struct WorkOptions {
     pub at_once: usize,
     /// What a client may take at most.
     pub bounds: Bounds,
+    /// The size of the pieces in which the body of a PATCH is stored as it comes; bodies are gathered where there is none. 0 is
+    /// none.
+    pub piece: Option<usize>,
+    /// The most bytes of a body that is gathered, where they are fewer than those of the greatest upload and 16,777,216.
+    pub max_body: Option<u64>,
     /// How many bytes all workers together may hold of bodies that are half read, and of replies that are half sent.
     pub body_memory: u64,
     /// Whether clients are served by the readiness of their streams even where each worker holds one at a time, as replies have

@@ -1,6 +1,7 @@
 -- The second half of a turn: what is pending for each thing that came in, and what was sent of it.
-use Rattle.std.proofs.Common.{◌≡◌, ◌≢◌, ℕ, Bool, true, false, List, [], ◌∷◌, ◌++◌, Option, Some, None, IfSome, inl, ap, Result, Ok, Err, IfOk, IfErr, take, refl, sym, subst, ◌∙◌, append-nil}
+use Rattle.std.proofs.Common.{◌≡◌, ◌≢◌, ℕ, Bool, true, false, List, [], ◌∷◌, ◌++◌, length, ◌≤◌, Option, Some, None, IfSome, inl, ap, Result, Ok, Err, IfOk, IfErr, take, refl, sym, subst, ◌∙◌, append-nil}
 use Rattle.std.specs.Io.KnownBytes.{Appends}
+use Rattle.tus_steps.specs.InPieces.{IsPlainPatch}
 use Rattle.tus_steps.specs.Request.{Request}
 use Rattle.tus_steps.specs.declared.reply.Reply.{Reply}
 use Rattle.http_wire.specs.inside.Ahead.{Ahead}
@@ -30,6 +31,7 @@ use Rattle.http_wire.specs.declared.incoming.Cut.TheVariants as cut
 use Rattle.http_wire.specs.declared.refusal.WireRefusal.{WireRefusal}
 use Rattle.http_wire.proofs.AheadLemmas.{OnOk-always}
 use Rattle.http_wire.proofs.TurnLemmas.{MessageTurn-stays, MessageTurn-closed, MessageTurn-refused, MessageTurn-cut_patch, MessageTurn-cut_other, MessageTurn-end, LastTurn-alone, BreaksAnswer-reply, BreaksAnswer-refusal}
+use Rattle.http_wire.specs.declared.body_limits.BodyLimits.{BodyLimits}
 
 -- what holds of a value under a premise that does not name it
 pub IfOk-when : {T E P : Type 0} (Q : T → Type 0) (r : Result T E) → (P → IfOk r Q) → IfOk r (λ x. P → Q x)
@@ -54,16 +56,16 @@ ended-after (Err fault) = refl
 
 module _ {A : Type 0} (steps : A → Request → ℕ → Reply → A → Type 0) where
   -- nothing is written after what was written while the message came in
-  quiet : (max now : ℕ) (x : Exchange A) (e : Ended) → LastTurn steps max now x e → LastTurn steps max now (record x { text = x.text ++ [] }) e
-  quiet max now x e h =
-      subst (λ (t : List ℕ). LastTurn steps max now (record x { text = t }) e) (sym (append-nil x.text)) h
+  quiet : (limits : BodyLimits) (now : ℕ) (x : Exchange A) (e : Ended) → LastTurn steps limits now x e → LastTurn steps limits now (record x { text = x.text ++ [] }) e
+  quiet limits now x e h =
+      subst (λ (t : List ℕ). LastTurn steps limits now (record x { text = t }) e) (sym (append-nil x.text)) h
 
   -- a message was answered, and its reply is pending
   pub Answers-message : (now : ℕ) (a : Ahead) (p : Layout) (reply : Reply) (before after : A) (close : Bool) → p.framing.close ≡ close → steps before (request_at p a.lent) now reply after
       → AnswersTurn steps now a (incoming.Message (framed_at a.lent p)) (reply_text reply now p.framing) before after (Ok (ended_after close))
   Answers-message now a p reply before after true is step = record {
-    sent = λ max input said f rest _. MessageTurn-closed steps max now (record { input = input; text = said; before = before; after = after }) a p reply f step is rest;
-    unsent = λ max n input said f _. BreaksAnswer-reply steps max now n (record { input = input; text = said; before = before; after = after }) a p reply f step;
+    sent = λ limits input said f rest _. MessageTurn-closed steps limits now (record { input = input; text = said; before = before; after = after }) a p reply f step is rest;
+    unsent = λ limits n input said f _. BreaksAnswer-reply steps limits now n (record { input = input; text = said; before = before; after = after }) a p reply f step;
     silent = λ cut. absurd cc;
     end = λ remaining sees tells. tt;
     ends = tt;
@@ -71,8 +73,8 @@ module _ {A : Type 0} (steps : A → Request → ℕ → Reply → A → Type 0)
     fault = tt;
   }
   Answers-message now a p reply before after false is step = record {
-    sent = λ max input said f. MessageTurn-stays steps max now (record { input = input; text = said; before = before; after = after }) a p reply f step is;
-    unsent = λ max n input said f _. BreaksAnswer-reply steps max now n (record { input = input; text = said; before = before; after = after }) a p reply f step;
+    sent = λ limits input said f. MessageTurn-stays steps limits now (record { input = input; text = said; before = before; after = after }) a p reply f step is;
+    unsent = λ limits n input said f _. BreaksAnswer-reply steps limits now n (record { input = input; text = said; before = before; after = after }) a p reply f step;
     silent = λ cut. absurd cc;
     end = λ remaining sees tells. sees;
     ends = tt;
@@ -84,8 +86,8 @@ module _ {A : Type 0} (steps : A → Request → ℕ → Reply → A → Type 0)
   pub Answers-refused : (now : ℕ) (a : Ahead) (why : WireRefusal) (framing : Framing) (same : A)
       → AnswersTurn steps now a (incoming.Refused why framing) (refusal_text why now framing) same same (Ok (Some ended.Closed))
   Answers-refused now a why framing same = record {
-    sent = λ max input said f rest _. MessageTurn-refused steps max now (record { input = input; text = said; before = same; after = same }) a why framing f refl rest;
-    unsent = λ max n input said f _. BreaksAnswer-refusal steps max now n (record { input = input; text = said; before = same; after = same }) a why framing f refl;
+    sent = λ limits input said f rest _. MessageTurn-refused steps limits now (record { input = input; text = said; before = same; after = same }) a why framing f refl rest;
+    unsent = λ limits n input said f _. BreaksAnswer-refusal steps limits now n (record { input = input; text = said; before = same; after = same }) a why framing f refl;
     silent = λ cut. absurd cc;
     end = λ remaining sees tells. tt;
     ends = tt;
@@ -97,10 +99,10 @@ module _ {A : Type 0} (steps : A → Request → ℕ → Reply → A → Type 0)
   pub Answers-cut_patch : (now : ℕ) (a : Ahead) (p : Layout) (why : Cut) (reply : Reply) (before after : A) → steps before (request_at p a.lent) now reply after
       → AnswersTurn steps now a (incoming.CutPatch (framed_at a.lent p) why) [] before after (turn_cut why)
   Answers-cut_patch now a p cut.Ended reply before after step = record {
-    sent = λ max input said f rest none. LastTurn-alone steps max now (record { input = input; text = said ++ []; before = before; after = after }) rest ended.Cut
-        (quiet max now (record { input = input; text = said; before = before; after = after }) ended.Cut
-        (MessageTurn-cut_patch steps max now (record { input = input; text = said; before = before; after = after }) a p cut.Ended reply f step)) none;
-    unsent = λ max n input said f some. absurd (some refl);
+    sent = λ limits input said f rest none. LastTurn-alone steps limits now (record { input = input; text = said ++ []; before = before; after = after }) rest ended.Cut
+        (quiet limits now (record { input = input; text = said; before = before; after = after }) ended.Cut
+        (MessageTurn-cut_patch steps limits now (record { input = input; text = said; before = before; after = after }) a p cut.Ended reply f step)) none;
+    unsent = λ limits n input said f some. absurd (some refl);
     silent = λ _. refl;
     end = λ remaining sees tells. sees tells;
     ends = tt;
@@ -108,7 +110,7 @@ module _ {A : Type 0} (steps : A → Request → ℕ → Reply → A → Type 0)
     fault = tt;
   }
   Answers-cut_patch now a p cut.Fault reply before after step = record {
-    sent = λ max input said f. record {
+    sent = λ limits input said f. record {
       request = request_at p a.lent;
       framing = p.framing;
       waiting = f.0;
@@ -117,7 +119,7 @@ module _ {A : Type 0} (steps : A → Request → ℕ → Reply → A → Type 0)
       step = step;
       wrote = append-nil said ∙ f.1;
     };
-    unsent = λ max n input said f some. absurd (some refl);
+    unsent = λ limits n input said f some. absurd (some refl);
     silent = λ _. refl;
     end = λ remaining sees tells. tt;
     ends = tt;
@@ -128,10 +130,10 @@ module _ {A : Type 0} (steps : A → Request → ℕ → Reply → A → Type 0)
   -- another message was cut
   pub Answers-cut_other : (now : ℕ) (a : Ahead) (same : A) → AnswersTurn steps now a incoming.CutOther [] same same (Ok (Some ended.Cut))
   Answers-cut_other now a same = record {
-    sent = λ max input said f rest none. LastTurn-alone steps max now (record { input = input; text = said ++ []; before = same; after = same }) rest ended.Cut
-        (quiet max now (record { input = input; text = said; before = same; after = same }) ended.Cut
-        (MessageTurn-cut_other steps max now (record { input = input; text = said; before = same; after = same }) a f refl)) none;
-    unsent = λ max n input said f some. absurd (some refl);
+    sent = λ limits input said f rest none. LastTurn-alone steps limits now (record { input = input; text = said ++ []; before = same; after = same }) rest ended.Cut
+        (quiet limits now (record { input = input; text = said; before = same; after = same }) ended.Cut
+        (MessageTurn-cut_other steps limits now (record { input = input; text = said; before = same; after = same }) a f refl)) none;
+    unsent = λ limits n input said f some. absurd (some refl);
     silent = λ _. refl;
     end = λ remaining sees tells. sees tells;
     ends = tt;
@@ -142,10 +144,10 @@ module _ {A : Type 0} (steps : A → Request → ℕ → Reply → A → Type 0)
   -- the input ended between two messages
   pub Answers-end : (now : ℕ) (a : Ahead) (same : A) → AnswersTurn steps now a incoming.End [] same same (Ok (Some ended.Input))
   Answers-end now a same = record {
-    sent = λ max input said f rest none. LastTurn-alone steps max now (record { input = input; text = said ++ []; before = same; after = same }) rest ended.Input
-        (quiet max now (record { input = input; text = said; before = same; after = same }) ended.Input
-        (MessageTurn-end steps max now (record { input = input; text = said; before = same; after = same }) f refl)) none;
-    unsent = λ max n input said f some. absurd (some refl);
+    sent = λ limits input said f rest none. LastTurn-alone steps limits now (record { input = input; text = said ++ []; before = same; after = same }) rest ended.Input
+        (quiet limits now (record { input = input; text = said; before = same; after = same }) ended.Input
+        (MessageTurn-end steps limits now (record { input = input; text = said; before = same; after = same }) f refl)) none;
+    unsent = λ limits n input said f some. absurd (some refl);
     silent = λ _. refl;
     end = λ remaining sees tells. sees tells;
     ends = tt;
@@ -157,7 +159,7 @@ module _ {A : Type 0} (steps : A → Request → ℕ → Reply → A → Type 0)
   pub Finishes-sent : (now : ℕ) (a : Ahead) (incoming : Incoming FramedRequest) (pending : List ℕ) (w0 w1 : Option (List ℕ)) (failed : Bool) (before after : A) (r : Result (Option Ended) WireFault)
       → AnswersTurn steps now a incoming pending before after r → Appends w0 w1 pending → failed ≡ false → FinishesTurn steps now a incoming w0 w1 failed before after r
   Finishes-sent now a incoming pending w0 w1 failed before after r h wrote alive = record {
-    turn = λ max input said f. (pending, wrote, h.sent max input said f);
+    turn = λ limits input said f. (pending, wrote, h.sent limits input said f);
     end = h.end;
     ends = h.ends;
     reader = h.reader;
@@ -172,11 +174,11 @@ module _ {A : Type 0} (steps : A → Request → ℕ → Reply → A → Type 0)
   Finishes-unsent now a incoming pending w0 w1 failed before after answered r e given is same h w some =
       let write : e ≡ fault.Write = same ∙ w.fault in
       subst (FinishesTurn steps now a incoming w0 w1 failed before after) (sym is) (record {
-        turn = λ max input said f. (
+        turn = λ limits input said f. (
           take w.prefix.0 pending,
           w.prefix.2,
-          subst (BreaksAnswer steps max now (record { input = input; text = said ++ take w.prefix.0 pending; before = before; after = after })) (sym write)
-              (h.unsent max w.prefix.0 input said f some),
+          subst (BreaksAnswer steps limits now (record { input = input; text = said ++ take w.prefix.0 pending; before = before; after = after })) (sym write)
+              (h.unsent limits w.prefix.0 input said f some),
         );
         end = λ remaining sees tells. tt;
         ends = tt;
@@ -206,12 +208,12 @@ module _ {A : Type 0} (steps : A → Request → ℕ → Reply → A → Type 0)
       (subst (λ l. Writes {T = T} w0 w1 failed l (Err given)) put w) (subst (λ l. l ≢ []) put some)
 
   -- where a turn was finished by a fault, its message had come, and its moment was told before that
-  pub Finishes-asked : {C : Type 0} (tells : C → ℕ → C → Type 0) (before after : C) (max now : ℕ) (a : Ahead) (incoming : Incoming FramedRequest) (input said : List ℕ) (w0 w1 : Option (List ℕ)) (failed : Bool) (first last : A)
-      (r : Result (Option Ended) WireFault) → tells before now after → ComesIn max (record { input = input; text = said }) a.held incoming → FinishesTurn steps now a incoming w0 w1 failed first last r
-      → IfErr r (λ f. (text : List ℕ) × Appends w0 w1 text × BreaksAsked steps tells max before after (record { input = input; text = said ++ text; before = first; after = last }) f)
-  Finishes-asked tells before after max now a incoming input said w0 w1 failed first last (Ok e) told f h = tt
-  Finishes-asked tells before after max now a incoming input said w0 w1 failed first last (Err fault) told f h =
-      let t = h.turn max input said f in
+  pub Finishes-asked : {C : Type 0} (tells : C → ℕ → C → Type 0) (before after : C) (limits : BodyLimits) (now : ℕ) (a : Ahead) (incoming : Incoming FramedRequest) (input said : List ℕ) (w0 w1 : Option (List ℕ)) (failed : Bool) (first last : A)
+      (r : Result (Option Ended) WireFault) → tells before now after → ComesIn limits (record { input = input; text = said }) a.held incoming → FinishesTurn steps now a incoming w0 w1 failed first last r
+      → IfErr r (λ f. (text : List ℕ) × Appends w0 w1 text × BreaksAsked steps tells limits before after (record { input = input; text = said ++ text; before = first; after = last }) f)
+  Finishes-asked tells before after limits now a incoming input said w0 w1 failed first last (Ok e) told f h = tt
+  Finishes-asked tells before after limits now a incoming input said w0 w1 failed first last (Err fault) told f h =
+      let t = h.turn limits input said f in
       (t.0, t.1, asked now told t.2)
 
 -- where nothing was answered, the notes are as they were
@@ -220,6 +222,6 @@ pub Answers-unnoted : (steps : List Answering → Request → ℕ → Reply → 
 Answers-unnoted steps now a i put before r h = subst (λ after. AnswersTurn steps now a i put before after r) (sym (append-nil before)) h
 
 -- a request that is answered as one is noted, whether bodies are taken in pieces or not
-pub NotesBy-one : (piece : Option ℕ) (before : List Answering) (q : Answering) → NotesBy piece before q.request q.now q.reply (before ++ q ∷ [])
-NotesBy-one None before q = refl
-NotesBy-one (Some n) before q = inl refl
+pub NotesBy-one : (piece : Option ℕ) (before : List Answering) (q : Answering) → IfSome piece (λ n. IsPlainPatch q.request → length q.request.body ≤ n) → NotesBy piece before q.request q.now q.reply (before ++ q ∷ [])
+NotesBy-one None before q few = refl
+NotesBy-one (Some n) before q few = inl (few, refl)

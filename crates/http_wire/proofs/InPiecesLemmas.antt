@@ -1,17 +1,19 @@
 -- A body that comes in pieces.
-use Rattle.std.proofs.Common.{◌≡◌, ◌≤◌, ◌+◌, ℕ, false, List, [], ◌∷◌, ◌++◌, length, take, drop, refl, ap, sym, subst, ◌∙◌, arith, append-nil, append_assoc, length-append}
+use Rattle.std.proofs.Common.{◌≡◌, ◌≤◌, ◌+◌, ℕ, false, List, [], ◌∷◌, ◌++◌, length, take, drop, All, refl, ap, sym, subst, ◌∙◌, arith, append-nil, append_assoc, length-append}
+use Rattle.std.proofs.lemmas.List.Elements.{All-nil, All-cons, All-head, All-tail}
 use Rattle.std.proofs.lemmas.List.{take_at, drop_at, take_all}
 use Rattle.tus_steps.specs.Request.{Request}
 use Rattle.tus_steps.specs.declared.reply.Reply.{Reply}
-use Rattle.tus_steps.specs.InPieces.{InPieces, PieceAt, Takes, first_of, rest_of}
+use Rattle.tus_steps.specs.InPieces.{PieceAt, Takes, first_of, rest_of}
 use Rattle.http_wire.specs.InPieces.{PiecesAreATurn}
 use Rattle.http_wire.specs.Layout.{request_at}
-use Rattle.http_wire.specs.History.{Answering, AreGiven, Notes, piece_of}
+use Rattle.http_wire.specs.History.{Answering, AreGiven, AreLong, Notes, NotesInPieces, piece_of}
 use Rattle.http_wire.specs.declared.read.layout.Layout.{Layout}
 use Rattle.http_wire.specs.inside.Ahead.{Ahead}
 use Rattle.http_wire.specs.inside.HeadLayout.{BeginsHead}
 use Rattle.http_wire.specs.NextMessage.{IsNextMessage, message}
 use Rattle.http_wire.proofs.NextMessageLemmas.{IsNextMessage-message}
+use Rattle.http_wire.specs.declared.body_limits.BodyLimits.{BodyLimits}
 
 -- the whole of a request under a head, from a place of its body on
 abbrev from_place : Request → ℕ → List ℕ → Request
@@ -71,18 +73,33 @@ given-taken r n given before (q ∷ answered) bytes last is all =
           (subst (λ after. Takes Notes (before ++ q ∷ []) (from_place r (given + length piece) (later ++ last)) (pieces_in r n (given + length piece) answered later is.5) after (from_place r (given + length piece + length later) last)) (append_assoc before (q ∷ []) answered) others)),
     )
 
+-- they have the sizes of the pieces that were answered
+pieces-long : (m : ℕ) (r : Request) (n given : ℕ) (answered : List Answering) (bytes : List ℕ) (is : AreGiven r n given answered bytes) → AreLong m answered → All (λ (q : PieceAt). m ≤ q.len) (pieces_in r n given answered bytes is)
+unfolding pieces_in
+pieces-long m r n given [] bytes is long = All-nil (λ (q : PieceAt). m ≤ q.len)
+pieces-long m r n given (q ∷ answered) bytes is long =
+    let at_least = λ (q : Answering). m ≤ length q.request.body in
+    All-cons (λ (q : PieceAt). m ≤ q.len) (record { len = length is.0; now = q.now }) (pieces_in r n (given + length is.0) answered is.1 is.5) (subst (λ (r : Request). m ≤ length r.body) is.2 (All-head at_least q answered long))
+    (pieces-long m r n (given + length is.0) answered is.1 is.5 (All-tail at_least q answered long))
+
+any-long : (answered : List Answering) → AreLong 0 answered
+any-long [] = All-nil (λ (q : Answering). 0 ≤ length q.request.body)
+any-long (q ∷ answered) = All-cons (λ (q : Answering). 0 ≤ length q.request.body) q answered (omega arith) (any-long answered)
+
 -- a body that came in pieces is answered in pieces
-answered-in_pieces : (r : Request) (n now : ℕ) (before answered : List Answering) (gone last : List ℕ) (reply : Reply) → AreGiven r n 0 answered gone → length gone + length last ≡ n
-    → InPieces Notes before (from_place r 0 (gone ++ last)) now reply ((before ++ answered) ++ answering (piece_of r n (length gone) last) now reply ∷ [])
-answered-in_pieces r n now before answered gone last reply is all =
-    let left : from_place r (0 + length gone) last ≡ piece_of r n (length gone) last = same_numbers r last last _ _ _ _ refl (omega arith) (omega (arith, all)) in
-    record {
-      pieces = pieces_in r n 0 answered gone is;
-      between = before ++ answered;
-      left = from_place r (0 + length gone) last;
-      taken = given-taken r n 0 before answered gone last is (omega (arith, all));
-      last = ap (λ request. (before ++ answered) ++ answering request now reply ∷ []) (sym left);
-    }
+answered-in_pieces : (m : ℕ) (r : Request) (n now : ℕ) (before answered : List Answering) (gone last : List ℕ) (reply : Reply) → AreGiven r n 0 answered gone → length gone + length last ≡ n → AreLong m answered
+    → NotesInPieces m before (from_place r 0 (gone ++ last)) now reply ((before ++ answered) ++ answering (piece_of r n (length gone) last) now reply ∷ [])
+answered-in_pieces m r n now before answered gone last reply is all long =
+    let left : from_place r (0 + length gone) last ≡ piece_of r n (length gone) last = same_numbers r last last _ _ _ _ refl (omega arith) (omega (arith, all)) in (
+      record {
+        pieces = pieces_in r n 0 answered gone is;
+        between = before ++ answered;
+        left = from_place r (0 + length gone) last;
+        taken = given-taken r n 0 before answered gone last is (omega (arith, all));
+        last = ap (λ request. (before ++ answered) ++ answering request now reply ∷ []) (sym left);
+      },
+      pieces-long m r n 0 answered gone is long,
+    )
 
 -- the request of a whole message, by that of its head alone
 request-whole : (p : Layout) (head body : List ℕ) → length head ≡ p.head_len → p.given ≡ 0 → p.more ≡ 0 → request_at p (head ++ body) ≡ from_place (request_at p head) 0 body
@@ -93,18 +110,18 @@ request-whole p head body long none no_more =
 
 -- Some bytes are a message whose body came in pieces, all of which were taken but the last; that is answered. Then its request
 -- is answered in pieces.
-pub whole-step : (max : ℕ) (bytes : List ℕ) (p : Layout) (head gone last left : List ℕ) (before answered : List Answering) (now : ℕ) (reply : Reply)
-    → BeginsHead max bytes p (head ++ ((gone ++ last) ++ left)) → length head ≡ p.head_len → length gone + length last ≡ p.body_len → AreGiven (request_at p head) p.body_len 0 answered gone
-    → InPieces Notes before (request_at p (head ++ (gone ++ last))) now reply ((before ++ answered) ++ answering (piece_of (request_at p head) p.body_len (length gone) last) now reply ∷ [])
-whole-step max bytes p head gone last left before answered now reply begins long all given =
-    subst (λ request. InPieces Notes before request now reply ((before ++ answered) ++ answering (piece_of (request_at p head) p.body_len (length gone) last) now reply ∷ []))
-    (sym (request-whole p head (gone ++ last) long begins.shows.given begins.shows.more)) (answered-in_pieces (request_at p head) p.body_len now before answered gone last reply given all)
+pub whole-step : (m : ℕ) (limits : BodyLimits) (bytes : List ℕ) (p : Layout) (head gone last left : List ℕ) (before answered : List Answering) (now : ℕ) (reply : Reply)
+    → BeginsHead limits bytes p (head ++ ((gone ++ last) ++ left)) → length head ≡ p.head_len → length gone + length last ≡ p.body_len → AreGiven (request_at p head) p.body_len 0 answered gone → AreLong m answered
+    → NotesInPieces m before (request_at p (head ++ (gone ++ last))) now reply ((before ++ answered) ++ answering (piece_of (request_at p head) p.body_len (length gone) last) now reply ∷ [])
+whole-step m limits bytes p head gone last left before answered now reply begins long all given sized =
+    subst (λ request. NotesInPieces m before request now reply ((before ++ answered) ++ answering (piece_of (request_at p head) p.body_len (length gone) last) now reply ∷ []))
+    (sym (request-whole p head (gone ++ last) long begins.shows.given begins.shows.more)) (answered-in_pieces m (request_at p head) p.body_len now before answered gone last reply given all sized)
 
 -- and it is what the bytes begin with, whatever follows them
-pub whole-message : (max : ℕ) (bytes : List ℕ) (p : Layout) (head gone last left : List ℕ) → BeginsHead max bytes p (head ++ ((gone ++ last) ++ left)) → length head ≡ p.head_len → length gone + length last ≡ p.body_len
-    → (rest : List ℕ) → IsNextMessage max (bytes ++ rest) (message (request_at p (head ++ (gone ++ last))) p.framing p.is_waiting (left ++ rest))
-whole-message max bytes p head gone last left begins long all =
-    IsNextMessage-message max bytes p held begins ahead inside (sym (take_at lent left (p.head_len + p.body_len) count) ∙ ap (take (p.head_len + p.body_len)) joined)
+pub whole-message : (limits : BodyLimits) (bytes : List ℕ) (p : Layout) (head gone last left : List ℕ) → BeginsHead limits bytes p (head ++ ((gone ++ last) ++ left)) → length head ≡ p.head_len → length gone + length last ≡ p.body_len
+    → (rest : List ℕ) → IsNextMessage limits (bytes ++ rest) (message (request_at p (head ++ (gone ++ last))) p.framing p.is_waiting (left ++ rest))
+whole-message limits bytes p head gone last left begins long all =
+    IsNextMessage-message limits bytes p held begins ahead inside (sym (take_at lent left (p.head_len + p.body_len) count) ∙ ap (take (p.head_len + p.body_len)) joined)
     (sym (drop_at lent left (p.head_len + p.body_len) count) ∙ ap (drop (p.head_len + p.body_len)) joined)
   where
     held : List ℕ
@@ -126,13 +143,13 @@ whole-message max bytes p head gone last left begins long all =
     inside = omega (arith, sym (ap length joined), length-append lent left, count)
 
 pub pieces_are_a_turn : PiecesAreATurn
-pieces_are_a_turn max now bytes p head gone last left before answered reply begins long all stays given rest = record {
+pieces_are_a_turn limits now bytes p head gone last left before answered reply begins long all stays given rest = record {
   request = request_at p (head ++ (gone ++ last));
   framing = p.framing;
   waiting = p.is_waiting;
   reply = reply;
-  next_message = whole-message max bytes p head gone last left begins long all rest;
+  next_message = whole-message limits bytes p head gone last left begins long all rest;
   stays = stays;
-  step = whole-step max bytes p head gone last left before answered now reply begins long all given;
+  step = (whole-step 0 limits bytes p head gone last left before answered now reply begins long all given (any-long answered)).0;
   wrote = refl;
 }

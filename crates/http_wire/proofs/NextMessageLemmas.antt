@@ -8,8 +8,10 @@ use Rattle.tus_steps.specs.declared.tus_fields.TusFields.{TusFields}
 use Rattle.tus_steps.specs.Field.{FieldText, is_absent}
 use Rattle.tus_steps.specs.Method.{is_applied_when_cut}
 use Rattle.tus_steps.specs.Request.{Request}
+use Rattle.tus_steps.specs.declared.method.Method.{Method}
+use Rattle.http_wire.specs.BodyLimits.{AreWithin, limit_by}
 use Rattle.http_wire.specs.inside.Ahead.{Ahead}
-use Rattle.http_wire.specs.NextMessage.{NextMessage, Begins, BeginsWhole, IsNextMessage, LacksMemory, message, refused, cut_patch, cut_other, clean_end, closing, framing_of, unknown_framing, sure_room, method_in, is_waiting, request_of, tus_fields, with_body, judged, judged_message, parsed_message}
+use Rattle.http_wire.specs.NextMessage.{NextMessage, Begins, BeginsWhole, IsNextMessage, LacksMemory, message, refused, cut_patch, cut_other, clean_end, closing, framing_of, unknown_framing, sure_room, method_in, is_waiting, request_of, tus_fields, with_body, judged, judged_message, limit_of, parsed_message}
 use Rattle.http_wire.specs.Fields.{field_text}
 use Rattle.http_wire.specs.Judge.{body_len, is_host_wrong, judge, sized}
 use Rattle.http_wire.specs.Layout.{field_at, request_at}
@@ -23,6 +25,7 @@ use Rattle.http_wire.specs.declared.refusal.WireRefusal.TheVariants.{BodySize, C
 use Rattle.http_wire.specs.declared.framing.Framing.{Framing}
 use Rattle.http_wire.specs.declared.fault.WireFault.TheVariants.{Read}
 use Rattle.http_wire.proofs.FindLemmas.{head_text-append, whole_short}
+use Rattle.http_wire.specs.declared.body_limits.BodyLimits.{BodyLimits}
 
 -- a body that is accepted is no longer than the greatest
 sized-bound : (max : ℕ) (len : Option ℕ) (n : ℕ) → sized max len ≡ Ok n → n ≤ max
@@ -52,15 +55,27 @@ judge-bound max minor host coding len n is =
     no_length : (why : WireRefusal) → Err why ≡ Ok n → ⊥
     no_length why e = absurd cc
 
-pub judged-bound : (max : ℕ) (h : RequestHead) (n : ℕ) → judged max h ≡ Ok n → n ≤ max
-judged-bound max h n is =
+-- the limit of a request is no greater than both
+pub limit_by-within : (limits : BodyLimits) (most : ℕ) (method : Method) (checksum : FieldText) → AreWithin limits most → limit_by limits method checksum ≤ most
+limit_by-within limits most method checksum within = by (is_applied_when_cut method checksum)
+  where
+    by : (applied : Bool) → (if applied then limits.patch else limits.other) ≤ most
+    by true = within.0
+    by false = within.1
+
+pub judged-bound : (limits : BodyLimits) (most : ℕ) (h : RequestHead) (n : ℕ) → AreWithin limits most → judged limits h ≡ Ok n → n ≤ most
+judged-bound limits most h n within is =
     let field = λ (name : List ℕ). field_text name h.fields in
-    judge-bound max h.minor (field (codes "host")) (field (codes "transfer-encoding")) (field (codes "content-length")) n is
+    omega (
+      arith,
+      judge-bound (limit_of limits h) h.minor (field (codes "host")) (field (codes "transfer-encoding")) (field (codes "content-length")) n is,
+      limit_by-within limits most (method_in h) (tus_fields h).checksum within,
+    )
 
 -- more bytes came
-pub BeginsHead-more : (max : ℕ) (bytes : List ℕ) (p : Layout) (held got all : List ℕ) → BeginsHead max bytes p held → p.head_len ≤ length held → all ≡ held ++ got
-    → BeginsHead max (bytes ++ got) p all
-BeginsHead-more max bytes p held got all b within e =
+pub BeginsHead-more : (limits : BodyLimits) (bytes : List ℕ) (p : Layout) (held got all : List ℕ) → BeginsHead limits bytes p held → p.head_len ≤ length held → all ≡ held ++ got
+    → BeginsHead limits (bytes ++ got) p all
+BeginsHead-more limits bytes p held got all b within e =
     let head : take p.head_len all ≡ take p.head_len held = ap (take p.head_len) e ∙ take-append-le p.head_len held got within in
     let rest_of : drop p.head_len all ≡ drop p.head_len held ++ got = ap (drop p.head_len) e ∙ drop-append-le p.head_len held got within in
     record {
@@ -73,42 +88,42 @@ BeginsHead-more max bytes p held got all b within e =
     }
 
 -- what came with a head whose body lacks some bytes, and these, are at most a head and the greatest body
-pub BeginsHead-short : (max : ℕ) (bytes : List ℕ) (p : Layout) (held : List ℕ) → BeginsHead max bytes p held → p.head_len ≤ length held → length held < p.head_len + p.body_len
-    → length bytes + ((p.head_len + p.body_len) - length held) ≤ head_limit + max
-BeginsHead-short max bytes p held b within short =
+pub BeginsHead-short : (limits : BodyLimits) (most : ℕ) (bytes : List ℕ) (p : Layout) (held : List ℕ) → AreWithin limits most → BeginsHead limits bytes p held → p.head_len ≤ length held → length held < p.head_len + p.body_len
+    → length bytes + ((p.head_len + p.body_len) - length held) ≤ head_limit + most
+BeginsHead-short limits most bytes p held lie b within short =
     let text = take p.head_len held in
     let rest = drop p.head_len held in
     let begins : head_text bytes ≡ whole text rest = ap head_text (sym (append-nil bytes)) ∙ b.begins [] ∙ ap (whole text) (append-nil rest) in
-    omega (arith, within, short, whole_short bytes text rest begins, length-drop p.head_len held, judged-bound max b.head p.body_len b.shows.body_len)
+    omega (arith, within, short, whole_short bytes text rest begins, length-drop p.head_len held, judged-bound limits most b.head p.body_len lie b.shows.body_len)
 
 -- the next message, by the length of the body
-pub IsNextMessage-with_body : (max : ℕ) (bytes : List ℕ) (p : Layout) (held : List ℕ) (b : BeginsHead max bytes p held) (rest : List ℕ)
-    → IsNextMessage max (bytes ++ rest) (with_body b.head p.body_len (drop p.head_len held ++ rest))
-IsNextMessage-with_body max bytes p held b rest =
+pub IsNextMessage-with_body : (limits : BodyLimits) (bytes : List ℕ) (p : Layout) (held : List ℕ) (b : BeginsHead limits bytes p held) (rest : List ℕ)
+    → IsNextMessage limits (bytes ++ rest) (with_body b.head p.body_len (drop p.head_len held ++ rest))
+IsNextMessage-with_body limits bytes p held b rest =
     let f = with_body b.head p.body_len (drop p.head_len held ++ rest) in
-    let same : f ≡ parsed_message max (Some b.head) (drop p.head_len held ++ rest) = rw b.shows.body_len refl in
-    subst (λ t. Begins max t f) (sym (b.begins rest)) (rw b.few (Some b.head, b.parses, inl same))
+    let same : f ≡ parsed_message limits (Some b.head) (drop p.head_len held ++ rest) = rw b.shows.body_len refl in
+    subst (λ t. Begins limits t f) (sym (b.begins rest)) (rw b.few (Some b.head, b.parses, inl same))
 
 -- the body found no memory
-pub IsNextMessage-memory : (max : ℕ) (bytes : List ℕ) (p : Layout) (held : List ℕ) (b : BeginsHead max bytes p held) (rest : List ℕ) → p.head_len ≤ length held
-    → 0 < p.body_len → sure_room < p.head_len + p.body_len → IsNextMessage max (bytes ++ rest) (refused Memory (closing p.framing))
-IsNextMessage-memory max bytes p held b rest within some large =
+pub IsNextMessage-memory : (limits : BodyLimits) (bytes : List ℕ) (p : Layout) (held : List ℕ) (b : BeginsHead limits bytes p held) (rest : List ℕ) → p.head_len ≤ length held
+    → 0 < p.body_len → sure_room < p.head_len + p.body_len → IsNextMessage limits (bytes ++ rest) (refused Memory (closing p.framing))
+IsNextMessage-memory limits bytes p held b rest within some large =
     let f = refused Memory (closing p.framing) in
     let same : f ≡ refused Memory (closing (framing_of b.head)) = ap (λ x. refused Memory (closing x)) b.shows.framing in
-    subst (λ t. Begins max t f) (sym (b.begins rest)) (rw b.few (Some b.head, b.parses, inr ((p.body_len, b.shows.body_len, some, rw (length-take-le p.head_len held within) large), same)))
+    subst (λ t. Begins limits t f) (sym (b.begins rest)) (rw b.few (Some b.head, b.parses, inr ((p.body_len, b.shows.body_len, some, rw (length-take-le p.head_len held within) large), same)))
 
 -- the request of the layout is that of the head
-pub request_at-shows : (max : ℕ) (text head body : List ℕ) (h : RequestHead) (p : Layout) → ShowsHead max head h p → take p.head_len text ≡ head → drop p.head_len text ≡ body
+pub request_at-shows : (limits : BodyLimits) (text head body : List ℕ) (h : RequestHead) (p : Layout) → ShowsHead limits head h p → take p.head_len text ≡ head → drop p.head_len text ≡ body
     → request_at p text ≡ request_of h body
-request_at-shows max text head body h p s next_message rest =
+request_at-shows limits text head body h p s next_message rest =
     rw (next_message, rest, s.method, s.target, s.fields, s.given, s.more) refl
 
 -- all of the body is held
-pub IsNextMessage-message : (max : ℕ) (bytes : List ℕ) (p : Layout) (held : List ℕ) (b : BeginsHead max bytes p held) (a : Ahead) → p.head_len + p.body_len ≤ length held
+pub IsNextMessage-message : (limits : BodyLimits) (bytes : List ℕ) (p : Layout) (held : List ℕ) (b : BeginsHead limits bytes p held) (a : Ahead) → p.head_len + p.body_len ≤ length held
     → a.lent ≡ take (p.head_len + p.body_len) held → a.held ≡ drop (p.head_len + p.body_len) held
-    → (rest : List ℕ) → IsNextMessage max (bytes ++ rest) (message (request_at p a.lent) p.framing p.is_waiting (a.held ++ rest))
-IsNextMessage-message max bytes p held b a whole_body lent left rest =
-    subst (λ f. IsNextMessage max (bytes ++ rest) f) same (IsNextMessage-with_body max bytes p held b rest)
+    → (rest : List ℕ) → IsNextMessage limits (bytes ++ rest) (message (request_at p a.lent) p.framing p.is_waiting (a.held ++ rest))
+IsNextMessage-message limits bytes p held b a whole_body lent left rest =
+    subst (λ f. IsNextMessage limits (bytes ++ rest) f) same (IsNextMessage-with_body limits bytes p held b rest)
   where
     body : List ℕ
     body = drop p.head_len held
@@ -125,12 +140,12 @@ IsNextMessage-message max bytes p held b a whole_body lent left rest =
         let first : take p.body_len (drop p.head_len held ++ rest) ≡ take p.body_len (drop p.head_len held) = take-append-le p.body_len (drop p.head_len held) rest fits in
         let later : drop p.body_len (drop p.head_len held ++ rest) ≡ a.held ++ rest =
         drop-append-le p.body_len (drop p.head_len held) rest fits ∙ ap (λ l. l ++ rest) (drop-drop p.body_len p.head_len held ∙ sym left) in
-        let request = request_at-shows max a.lent (take p.head_len held) (take p.body_len (drop p.head_len held)) b.head p b.shows head text in
+        let request = request_at-shows limits a.lent (take p.head_len held) (take p.body_len (drop p.head_len held)) b.head p b.shows head text in
         rw (le-leb p.body_len (length (drop p.head_len held ++ rest)) long, first, later, request, b.shows.framing, b.shows.is_waiting) refl
 
-alone : (max : ℕ) (bytes : List ℕ) (p : Layout) (held : List ℕ) (b : BeginsHead max bytes p held) → IsNextMessage max bytes (with_body b.head p.body_len (drop p.head_len held))
-alone max bytes p held b =
-    subst₂ (λ i f. IsNextMessage max i f) (append-nil bytes) (ap (with_body b.head p.body_len) (append-nil (drop p.head_len held))) (IsNextMessage-with_body max bytes p held b [])
+alone : (limits : BodyLimits) (bytes : List ℕ) (p : Layout) (held : List ℕ) (b : BeginsHead limits bytes p held) → IsNextMessage limits bytes (with_body b.head p.body_len (drop p.head_len held))
+alone limits bytes p held b =
+    subst₂ (λ i f. IsNextMessage limits i f) (append-nil bytes) (ap (with_body b.head p.body_len) (append-nil (drop p.head_len held))) (IsNextMessage-with_body limits bytes p held b [])
 
 -- not all of it is held
 short_body : (h : RequestHead) (n : ℕ) (rest : List ℕ) → length rest < n
@@ -138,24 +153,24 @@ short_body : (h : RequestHead) (n : ℕ) (rest : List ℕ) → length rest < n
 short_body h n rest short = rw (lt-leb n (length rest) short) refl
 
 -- what a cut body does follows from the layout of the head
-cut-shows : (max : ℕ) (text : List ℕ) (h : RequestHead) (p : Layout) → ShowsHead max text h p → (applied : Bool) → is_applied_when_cut p.method (field_at text p.fields.checksum) ≡ applied → is_applied_when_cut (method_in h) (tus_fields h).checksum ≡ applied
-cut-shows max text h p shows applied is =
+cut-shows : (limits : BodyLimits) (text : List ℕ) (h : RequestHead) (p : Layout) → ShowsHead limits text h p → (applied : Bool) → is_applied_when_cut p.method (field_at text p.fields.checksum) ≡ applied → is_applied_when_cut (method_in h) (tus_fields h).checksum ≡ applied
+cut-shows limits text h p shows applied is =
     ap (λ m. is_applied_when_cut m (tus_fields h).checksum) (sym shows.method) ∙ ap (λ (f : TusFields FieldText). is_applied_when_cut p.method f.checksum) (sym shows.fields) ∙ is
 
-pub IsNextMessage-cut_patch : (max : ℕ) (bytes : List ℕ) (p : Layout) (held : List ℕ) (b : BeginsHead max bytes p held) (a : Ahead) → length held < p.head_len + p.body_len
-    → p.head_len ≤ length held → ((head : List ℕ) → is_applied_when_cut p.method (field_at head p.fields.checksum) ≡ true) → a.lent ≡ held → IsNextMessage max bytes (cut_patch (request_at p a.lent) p.framing p.is_waiting)
-IsNextMessage-cut_patch max bytes p held b a short within patch lent =
+pub IsNextMessage-cut_patch : (limits : BodyLimits) (bytes : List ℕ) (p : Layout) (held : List ℕ) (b : BeginsHead limits bytes p held) (a : Ahead) → length held < p.head_len + p.body_len
+    → p.head_len ≤ length held → ((head : List ℕ) → is_applied_when_cut p.method (field_at head p.fields.checksum) ≡ true) → a.lent ≡ held → IsNextMessage limits bytes (cut_patch (request_at p a.lent) p.framing p.is_waiting)
+IsNextMessage-cut_patch limits bytes p held b a short within patch lent =
     let few : length (drop p.head_len held) < p.body_len = omega (arith, length-drop p.head_len held) in
-    let request = request_at-shows max a.lent (take p.head_len held) (drop p.head_len held) b.head p b.shows (ap (take p.head_len) lent) (ap (drop p.head_len) lent) in
-    let is = cut-shows max (take p.head_len held) b.head p b.shows _ (patch (take p.head_len held)) in
-    subst (λ f. IsNextMessage max bytes f) (short_body b.head p.body_len (drop p.head_len held) few ∙ rw (is, request, b.shows.framing, b.shows.is_waiting) refl) (alone max bytes p held b)
+    let request = request_at-shows limits a.lent (take p.head_len held) (drop p.head_len held) b.head p b.shows (ap (take p.head_len) lent) (ap (drop p.head_len) lent) in
+    let is = cut-shows limits (take p.head_len held) b.head p b.shows _ (patch (take p.head_len held)) in
+    subst (λ f. IsNextMessage limits bytes f) (short_body b.head p.body_len (drop p.head_len held) few ∙ rw (is, request, b.shows.framing, b.shows.is_waiting) refl) (alone limits bytes p held b)
 
-pub IsNextMessage-cut_other : (max : ℕ) (bytes : List ℕ) (p : Layout) (held : List ℕ) (b : BeginsHead max bytes p held) → length held < p.head_len + p.body_len
-    → p.head_len ≤ length held → ((head : List ℕ) → is_applied_when_cut p.method (field_at head p.fields.checksum) ≡ false) → IsNextMessage max bytes (cut_other p.is_waiting)
-IsNextMessage-cut_other max bytes p held b short within patch =
+pub IsNextMessage-cut_other : (limits : BodyLimits) (bytes : List ℕ) (p : Layout) (held : List ℕ) (b : BeginsHead limits bytes p held) → length held < p.head_len + p.body_len
+    → p.head_len ≤ length held → ((head : List ℕ) → is_applied_when_cut p.method (field_at head p.fields.checksum) ≡ false) → IsNextMessage limits bytes (cut_other p.is_waiting)
+IsNextMessage-cut_other limits bytes p held b short within patch =
     let few : length (drop p.head_len held) < p.body_len = omega (arith, length-drop p.head_len held) in
-    let is = cut-shows max (take p.head_len held) b.head p b.shows _ (patch (take p.head_len held)) in
-    subst (λ f. IsNextMessage max bytes f) (short_body b.head p.body_len (drop p.head_len held) few ∙ rw (is, b.shows.is_waiting) refl) (alone max bytes p held b)
+    let is = cut-shows limits (take p.head_len held) b.head p b.shows _ (patch (take p.head_len held)) in
+    subst (λ f. IsNextMessage limits bytes f) (short_body b.head p.body_len (drop p.head_len held) few ∙ rw (is, b.shows.is_waiting) refl) (alone limits bytes p held b)
 
 -- the request waits
 pub waits-with_body : (h : RequestHead) (n : ℕ) (rest : List ℕ) → is_waiting h n ≡ true → waits (with_body h n rest) ≡ true
@@ -168,15 +183,15 @@ waits-with_body h n rest w =
       ])
     ]
 
-pub IsNextMessage-waits : (max : ℕ) (bytes : List ℕ) (p : Layout) (held : List ℕ) (b : BeginsHead max bytes p held) → p.is_waiting ≡ true
-    → (f : NextMessage) × IsNextMessage max bytes f × (waits f ≡ true)
-IsNextMessage-waits max bytes p held b w =
-    (with_body b.head p.body_len (drop p.head_len held), alone max bytes p held b, waits-with_body b.head p.body_len (drop p.head_len held) (sym b.shows.is_waiting ∙ w))
+pub IsNextMessage-waits : (limits : BodyLimits) (bytes : List ℕ) (p : Layout) (held : List ℕ) (b : BeginsHead limits bytes p held) → p.is_waiting ≡ true
+    → (f : NextMessage) × IsNextMessage limits bytes f × (waits f ≡ true)
+IsNextMessage-waits limits bytes p held b w =
+    (with_body b.head p.body_len (drop p.head_len held), alone limits bytes p held b, waits-with_body b.head p.body_len (drop p.head_len held) (sym b.shows.is_waiting ∙ w))
 
 -- a head that was found and read
-pub BeginsHead-found : (max : ℕ) (bytes held found : List ℕ) (len : ℕ) (p : Layout) → found ≡ held → len ≤ length held → p.head_len ≡ length (take len found)
-    → ReadsLayout max (take len found) (Ok p) → ((rest : List ℕ) → head_text (bytes ++ rest) ≡ whole (take len held) (drop len held ++ rest)) → BeginsHead max bytes p held
-BeginsHead-found max bytes held found len p e within is gives begins =
+pub BeginsHead-found : (limits : BodyLimits) (bytes held found : List ℕ) (len : ℕ) (p : Layout) → found ≡ held → len ≤ length held → p.head_len ≡ length (take len found)
+    → ReadsLayout limits (take len found) (Ok p) → ((rest : List ℕ) → head_text (bytes ++ rest) ≡ whole (take len held) (drop len held ++ rest)) → BeginsHead limits bytes p held
+BeginsHead-found limits bytes held found len p e within is gives begins =
     let count : length (take len found) ≡ len = rw e (omega (arith, length-take-le len held within)) in
     let n : p.head_len ≡ len = is ∙ count in
     let next_message : take p.head_len held ≡ take len found = ap (λ k. take k held) n ∙ ap (take len) (sym e) in
@@ -189,19 +204,19 @@ BeginsHead-found max bytes held found len p e within is gives begins =
     }
 
 -- a head that is refused
-pub IsNextMessage-refused : (max : ℕ) (bytes held found : List ℕ) (len : ℕ) (f : NextMessage) → found ≡ held → ((rest : List ℕ) → Begins max (whole (take len found) rest) f)
-    → ((rest : List ℕ) → head_text (bytes ++ rest) ≡ whole (take len held) (drop len held ++ rest)) → (rest : List ℕ) → IsNextMessage max (bytes ++ rest) f
-IsNextMessage-refused max bytes held found len f e gives begins rest =
-    subst (λ t. Begins max t f) (ap (λ l. whole (take len l) (drop len held ++ rest)) e ∙ sym (begins rest)) (gives (drop len held ++ rest))
+pub IsNextMessage-refused : (limits : BodyLimits) (bytes held found : List ℕ) (len : ℕ) (f : NextMessage) → found ≡ held → ((rest : List ℕ) → Begins limits (whole (take len found) rest) f)
+    → ((rest : List ℕ) → head_text (bytes ++ rest) ≡ whole (take len held) (drop len held ++ rest)) → (rest : List ℕ) → IsNextMessage limits (bytes ++ rest) f
+IsNextMessage-refused limits bytes held found len f e gives begins rest =
+    subst (λ t. Begins limits t f) (ap (λ l. whole (take len l) (drop len held ++ rest)) e ∙ sym (begins rest)) (gives (drop len held ++ rest))
 
 -- the end inside a head
-pub IsNextMessage-cut : (max : ℕ) (bytes : List ℕ) → head_text bytes ≡ cut → IsNextMessage max bytes (cut_other false)
-IsNextMessage-cut max bytes e = subst (λ t. Begins max t (cut_other false)) (sym e) refl
+pub IsNextMessage-cut : (limits : BodyLimits) (bytes : List ℕ) → head_text bytes ≡ cut → IsNextMessage limits bytes (cut_other false)
+IsNextMessage-cut limits bytes e = subst (λ t. Begins limits t (cut_other false)) (sym e) refl
 
 -- a read failed before a whole head came
-pub BreaksMessage-unfinished : (max : ℕ) (bytes said : List ℕ) → said ≡ [] → IsUnfinished bytes → BreaksMessage max (record { input = bytes; text = said }) Read
-BreaksMessage-unfinished max bytes said e (inl c) = inl (false, e, IsNextMessage-cut max bytes c)
-BreaksMessage-unfinished max bytes said e (inr n) = inr (e, subst (λ t. Begins max t clean_end) (sym n) refl)
+pub BreaksMessage-unfinished : (limits : BodyLimits) (bytes said : List ℕ) → said ≡ [] → IsUnfinished bytes → BreaksMessage limits (record { input = bytes; text = said }) Read
+BreaksMessage-unfinished limits bytes said e (inl c) = inl (false, e, IsNextMessage-cut limits bytes c)
+BreaksMessage-unfinished limits bytes said e (inr n) = inr (e, subst (λ t. Begins limits t clean_end) (sym n) refl)
 
 -- what an input begins with, where more bytes follow a message
 abbrev pub followed : List ℕ → NextMessage → NextMessage
@@ -242,19 +257,19 @@ judged_message-followed : (h : RequestHead) (r : Result ℕ WireRefusal) (rest m
 judged_message-followed h (Err why) rest more is = refl
 judged_message-followed h (Ok n) rest more is = with_body-followed h n rest more is
 
-parsed_message-followed : (max : ℕ) (h : Option RequestHead) (rest more : List ℕ) → is_message (parsed_message max h rest) ≡ true
-    → followed more (parsed_message max h rest) ≡ parsed_message max h (rest ++ more)
-parsed_message-followed max None rest more is = refl
-parsed_message-followed max (Some h) rest more is = judged_message-followed h (judged max h) rest more is
+parsed_message-followed : (limits : BodyLimits) (h : Option RequestHead) (rest more : List ℕ) → is_message (parsed_message limits h rest) ≡ true
+    → followed more (parsed_message limits h rest) ≡ parsed_message limits h (rest ++ more)
+parsed_message-followed limits None rest more is = refl
+parsed_message-followed limits (Some h) rest more is = judged_message-followed h (judged limits h) rest more is
 
 -- no message is refused because there is no memory
-pub lacks_none : (max : ℕ) (text : List ℕ) (h : Option RequestHead) (f : NextMessage) → is_message f ≡ true → LacksMemory max text h f → ⊥
-lacks_none max text None f is l = l
-lacks_none max text (Some h) f is l = no_message f (refused Memory (closing (framing_of h))) is l.1 refl
+pub lacks_none : (limits : BodyLimits) (text : List ℕ) (h : Option RequestHead) (f : NextMessage) → is_message f ≡ true → LacksMemory limits text h f → ⊥
+lacks_none limits text None f is l = l
+lacks_none limits text (Some h) f is l = no_message f (refused Memory (closing (framing_of h))) is l.1 refl
 
-Begins-followed : (max : ℕ) (t : HeadText) (more : List ℕ) (f : NextMessage) → is_message f ≡ true → Begins max t f
-    → (text rest : List ℕ) × (t ≡ whole text rest) × Begins max (whole text (rest ++ more)) (followed more f)
-Begins-followed max (whole text rest) more f is b = (
+Begins-followed : (limits : BodyLimits) (t : HeadText) (more : List ℕ) (f : NextMessage) → is_message f ≡ true → Begins limits t f
+    → (text rest : List ℕ) × (t ≡ whole text rest) × Begins limits (whole text (rest ++ more)) (followed more f)
+Begins-followed limits (whole text rest) more f is b = (
   text,
   rest,
   refl,
@@ -264,18 +279,18 @@ Begins-followed max (whole text rest) more f is b = (
   ],
 )
   where
-    kept : BeginsWhole max text rest f → BeginsWhole max text (rest ++ more) (followed more f)
+    kept : BeginsWhole limits text rest f → BeginsWhole limits text (rest ++ more) (followed more f)
     kept w =
         elim w.2 [
-          | inl same ↦ (w.0, w.1, inl (ap (followed more) same ∙ parsed_message-followed max w.0 rest more (ap is_message (sym same) ∙ is)))
-          | inr lacks ↦ absurd (lacks_none max text w.0 f is lacks)
+          | inl same ↦ (w.0, w.1, inl (ap (followed more) same ∙ parsed_message-followed limits w.0 rest more (ap is_message (sym same) ∙ is)))
+          | inr lacks ↦ absurd (lacks_none limits text w.0 f is lacks)
         ]
-Begins-followed max too_long more f is b = absurd (no_message f (refused HeadSize unknown_framing) is b refl)
-Begins-followed max cut more f is b = absurd (no_message f (cut_other false) is b refl)
-Begins-followed max nothing more f is b = absurd (no_message f clean_end is b refl)
+Begins-followed limits too_long more f is b = absurd (no_message f (refused HeadSize unknown_framing) is b refl)
+Begins-followed limits cut more f is b = absurd (no_message f (cut_other false) is b refl)
+Begins-followed limits nothing more f is b = absurd (no_message f clean_end is b refl)
 
 -- a message stays when more bytes follow
-pub IsNextMessage-followed : (max : ℕ) (input more : List ℕ) (f : NextMessage) → is_message f ≡ true → IsNextMessage max input f → IsNextMessage max (input ++ more) (followed more f)
-IsNextMessage-followed max input more f is next_message =
-    let b = Begins-followed max (head_text input) more f is next_message in
-    subst (λ t. Begins max t (followed more f)) (sym (head_text-append input more b.0 b.1 b.2)) b.3
+pub IsNextMessage-followed : (limits : BodyLimits) (input more : List ℕ) (f : NextMessage) → is_message f ≡ true → IsNextMessage limits input f → IsNextMessage limits (input ++ more) (followed more f)
+IsNextMessage-followed limits input more f is next_message =
+    let b = Begins-followed limits (head_text input) more f is next_message in
+    subst (λ t. Begins limits t (followed more f)) (sym (head_text-append input more b.0 b.1 b.2)) b.3

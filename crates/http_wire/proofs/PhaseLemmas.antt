@@ -1,7 +1,8 @@
 -- How far a connection has come, after each of its calls.
-use Rattle.std.proofs.Common.{◌≡◌, ◌≢◌, ◌≤◌, ◌↔◌, false, IfSome, ◌+◌, ◌∷◌, ◌++◌, ℕ, Bool, true, List, [], length, Option, Some, None, Result, Ok, Err, refl, ap, ◌∙◌, ◌<◌, ◌^◌, sym, subst, arith, length-append}
+use Rattle.std.proofs.Common.{◌≡◌, ◌≢◌, ◌≤◌, ◌↔◌, false, IfSome, ◌+◌, ◌∷◌, ◌++◌, ℕ, Bool, true, List, [], length, Option, Some, None, Result, Ok, Err, refl, ap, ◌∙◌, ◌<◌, sym, subst, arith, length-append}
 use Rattle.http_wire.specs.Incoming.{FramedRequest}
 use Rattle.std.specs.Prelude.{if◌then◌else◌}
+use Rattle.http_wire.specs.BodyLimits.{AreSmall, AreWithin}
 use Rattle.http_wire.specs.ConnectionCalls.{Takes}
 use Rattle.http_wire.specs.Layout.{framed_at}
 use Rattle.http_wire.specs.OnConnection.{HasNoMessage, StandsIn, at_start, body_in, is_looking, owed_in, phase_after, unless_pending, wanted_in}
@@ -16,35 +17,38 @@ use Rattle.http_wire.specs.declared.read.pieces.PiecedBody.{PiecedBody}
 use Rattle.http_wire.specs.declared.read.layout.Layout.{Layout}
 use Rattle.http_wire.specs.declared.read.stage.Stage.{Stage}
 use Rattle.http_wire.specs.inside.Ahead.{Ahead}
-use Rattle.http_wire.specs.inside.Phases.{map_phase, lacking, IsConnection, IsPhase}
+use Rattle.http_wire.specs.inside.Phases.{Gathers, map_phase, lacking, IsConnection, IsPhase}
 use Rattle.http_wire.specs.inside.Sending.{OnOutbox}
-use Rattle.http_wire.specs.inside.Standing.{Keeps}
 use Rattle.http_wire.proofs.HistoryLemmas.{History-kept, History-took}
 use Rattle.http_wire.proofs.StageLemmas.{Standing-few, Standing-kept, Standing-more, Standing-unfinished, Wants-unended}
+use Rattle.http_wire.specs.declared.body_limits.BodyLimits.{BodyLimits}
 
 -- the start of a message may stand over any read buffer
-pub IsConnection-start : (a : Ahead) (p : Phase Layout) (max : ℕ) (piece : Option ℕ) → max < 2 ^ 31 → IfSome piece (λ n. 0 < n) → p ≡ at_start → IsConnection a p max piece
-IsConnection-start a p max piece size some is = record {
+pub IsConnection-start : (a : Ahead) (p : Phase Layout) (limits : BodyLimits) (piece : Option ℕ) → AreSmall limits → IfSome piece (λ n. 0 < n) → p ≡ at_start → IsConnection a p limits piece
+IsConnection-start a p limits piece size some is = record {
   size = size;
   some = some;
   phase = subst (IsPhase a) (sym is) (omega arith, omega arith);
   body = subst (λ p. IfSome (body_in p) (λ b. piece ≡ Some b.piece)) (sym is) tt;
+  gathered = subst (Gathers piece a) (sym is) tt;
 }
 
 -- and so may what follows a turn
-pub IsConnection-after : (a : Ahead) (p : Phase Layout) (max : ℕ) (piece : Option ℕ) (turn : Result (Option Ended) WireFault) → max < 2 ^ 31 → IfSome piece (λ n. 0 < n) → p ≡ phase_after turn → IsConnection a p max piece
-IsConnection-after a p max piece (Ok None) size some is = IsConnection-start a p max piece size some is
-IsConnection-after a p max piece (Ok (Some e)) size some is = record {
+pub IsConnection-after : (a : Ahead) (p : Phase Layout) (limits : BodyLimits) (piece : Option ℕ) (turn : Result (Option Ended) WireFault) → AreSmall limits → IfSome piece (λ n. 0 < n) → p ≡ phase_after turn → IsConnection a p limits piece
+IsConnection-after a p limits piece (Ok None) size some is = IsConnection-start a p limits piece size some is
+IsConnection-after a p limits piece (Ok (Some e)) size some is = record {
   size = size;
   some = some;
   phase = subst (IsPhase a) (sym is) tt;
   body = subst (λ p. IfSome (body_in p) (λ b. piece ≡ Some b.piece)) (sym is) tt;
+  gathered = subst (Gathers piece a) (sym is) tt;
 }
-IsConnection-after a p max piece (Err fault) size some is = record {
+IsConnection-after a p limits piece (Err fault) size some is = record {
   size = size;
   some = some;
   phase = subst (IsPhase a) (sym is) tt;
   body = subst (λ p. IfSome (body_in p) (λ b. piece ≡ Some b.piece)) (sym is) tt;
+  gathered = subst (Gathers piece a) (sym is) tt;
 }
 
 -- it tells of no message
@@ -61,13 +65,6 @@ same-body f (Owing i) = refl
 same-body f (Piece b part) = refl
 same-body f (Over r) = refl
 same-body f (Stopped r) = refl
-
--- the body that goes on, or begins, where there are pieces of its size
-pub kept-body : (piece : Option ℕ) (old new : Option PiecedBody) → IfSome old (λ b. piece ≡ Some b.piece) → Keeps piece old new → IfSome new (λ b. piece ≡ Some b.piece)
-kept-body piece None None before keeps = tt
-kept-body piece None (Some b) before keeps = keeps.1
-kept-body piece (Some b) None before keeps = absurd keeps
-kept-body piece (Some b) (Some d) before keeps = before ∙ ap (λ (b : PiecedBody). Some b.piece) (sym keeps)
 
 -- where there are no pieces, no body is taken in them
 pub gathers : (f : Layout → FramedRequest) (p : Phase Layout) (piece : Option ℕ) → IfSome (body_in p) (λ b. piece ≡ Some b.piece) → piece ≡ None → body_in (map_phase f p) ≡ None
@@ -95,31 +92,31 @@ none-came old got new n ended is len ends =
     ((λ none. ends.0 (sym same ∙ ap length none)), (λ e. none-of got n same (ends.1 e)))
 
 -- one read at a message for which more is needed
-pub Takes-read : (got : List ℕ) (f : Layout → FramedRequest) (p : Phase Layout) (s : Stage) (old new : Ahead) (o : OnOutbox) (max : ℕ) (piece : Option ℕ) → p ≡ Waiting s → IsPhase old p
+pub Takes-read : (got : List ℕ) (f : Layout → FramedRequest) (p : Phase Layout) (s : Stage) (old new : Ahead) (o : OnOutbox) (limits : BodyLimits) (piece : Option ℕ) → p ≡ Waiting s → IsPhase old p
     → new.held ≡ old.held ++ got → ((got ≡ []) ↔ (new.ended ≡ true))
-    → Takes got (record { read_buffer = old; phase = map_phase f p; write_buffer = o; max_size = max; piece = piece }) (record { read_buffer = new; phase = Looking s; write_buffer = o; max_size = max; piece = piece })
-Takes-read got f p s old new o max piece is at held ended =
-    subst (λ q. Takes got (record { read_buffer = old; phase = map_phase f q; write_buffer = o; max_size = max; piece = piece }) (record { read_buffer = new; phase = Looking s; write_buffer = o; max_size = max; piece = piece })) (sym is)
+    → Takes got (record { read_buffer = old; phase = map_phase f p; write_buffer = o; limits = limits; piece = piece }) (record { read_buffer = new; phase = Looking s; write_buffer = o; limits = limits; piece = piece })
+Takes-read got f p s old new o limits piece is at held ended =
+    subst (λ q. Takes got (record { read_buffer = old; phase = map_phase f q; write_buffer = o; limits = limits; piece = piece }) (record { read_buffer = new; phase = Looking s; write_buffer = o; limits = limits; piece = piece })) (sym is)
     (record {
-      stands = λ bytes said h. Standing-more max [] bytes got said old new s h (subst (IsPhase old) is at).0 held;
+      stands = λ bytes said h. Standing-more limits [] bytes got said old new s h (subst (IsPhase old) is at).0 held;
       held = held;
       ended = ended;
       looks = refl;
-      history = λ q h. History-took q got (record { read_buffer = old; phase = Waiting s; write_buffer = o; max_size = max; piece = piece }) s new held (subst (IsPhase old) is at).0 h;
+      history = λ q h. History-took q got (record { read_buffer = old; phase = Waiting s; write_buffer = o; limits = limits; piece = piece }) s new held (subst (IsPhase old) is at).0 h;
       write_buffer = refl;
-      size = refl;
+      limits = refl;
       piece = refl;
     })
 
 -- what one read brings of a message that needs more stays within the limit
-pub Reads-few : (f : Layout → FramedRequest) (p : Phase Layout) (s : Stage) (max n : ℕ) (a : Ahead) → p ≡ Waiting s → IsPhase a p → n ≤ ahead_limit + lacking a p
-    → (bytes said : List ℕ) → StandsIn max bytes said a (map_phase f p) → length bytes + n ≤ read_limit max
-Reads-few f (Looking t) s max n a is at few bytes said h = absurd cc
-Reads-few f (Waiting t) s max n a is at few bytes said h = omega (arith, few, Standing-few max bytes said a t h at.0 at.1)
-Reads-few f (Owing i) s max n a is at few bytes said h = absurd cc
-Reads-few f (Piece b part) s max n a is at few bytes said h = absurd cc
-Reads-few f (Over r) s max n a is at few bytes said h = absurd cc
-Reads-few f (Stopped r) s max n a is at few bytes said h = absurd cc
+pub Reads-few : (f : Layout → FramedRequest) (p : Phase Layout) (s : Stage) (limits : BodyLimits) (most n : ℕ) (a : Ahead) → AreWithin limits most → p ≡ Waiting s → IsPhase a p → n ≤ ahead_limit + lacking a p
+    → (bytes said : List ℕ) → StandsIn limits bytes said a (map_phase f p) → length bytes + n ≤ read_limit most
+Reads-few f (Looking t) s limits most n a within is at few bytes said h = absurd cc
+Reads-few f (Waiting t) s limits most n a within is at few bytes said h = omega (arith, few, Standing-few limits most bytes said a t within h at.0 at.1)
+Reads-few f (Owing i) s limits most n a within is at few bytes said h = absurd cc
+Reads-few f (Piece b part) s limits most n a within is at few bytes said h = absurd cc
+Reads-few f (Over r) s limits most n a within is at few bytes said h = absurd cc
+Reads-few f (Stopped r) s limits most n a within is at few bytes said h = absurd cc
 
 -- some bytes behind others are some
 pub some-behind : (old new : List ℕ) (b : ℕ) (rest : List ℕ) → new ≡ old ++ b ∷ rest → new ≢ []
@@ -178,28 +175,28 @@ reads-unended f a p o at reads =
     Wants-unended a waits.0 (subst (IsPhase a) (waits-anyway f p waits.0 waits.1) at).1
 
 -- and only where no whole message is held
-pub reads-unfinished : (f : Layout → FramedRequest) (a : Ahead) (p : Phase Layout) (o : OnOutbox) (max : ℕ) (bytes said : List ℕ) → IsPhase a p → wanted_in o (map_phase f p) ≡ wants.Read
-    → StandsIn max bytes said a (map_phase f p) → HasNoMessage max bytes
-reads-unfinished f a p o max bytes said at reads stands =
+pub reads-unfinished : (f : Layout → FramedRequest) (a : Ahead) (p : Phase Layout) (o : OnOutbox) (limits : BodyLimits) (bytes said : List ℕ) → IsPhase a p → wanted_in o (map_phase f p) ≡ wants.Read
+    → StandsIn limits bytes said a (map_phase f p) → HasNoMessage limits bytes
+reads-unfinished f a p o limits bytes said at reads stands =
     let waits = reads-waiting o (map_phase f p) reads in
     let phase = subst (IsPhase a) (waits-anyway f p waits.0 waits.1) at in
-    Standing-unfinished max bytes said a waits.0 (subst (StandsIn max bytes said a) waits.1 stands) phase.0 phase.1
+    Standing-unfinished limits bytes said a waits.0 (subst (StandsIn limits bytes said a) waits.1 stands) phase.0 phase.1
 
 -- what stands while it wants to read stands as well where nothing is lent
-pub StandsIn-unlent : (max : ℕ) (bytes said : List ℕ) (a : Ahead) (o : OnOutbox) (p : Phase FramedRequest) → wanted_in o p ≡ wants.Read → StandsIn max bytes said a p → StandsIn max bytes said (record a { lent = [] }) p
-StandsIn-unlent max bytes said a o p reads stands =
+pub StandsIn-unlent : (limits : BodyLimits) (bytes said : List ℕ) (a : Ahead) (o : OnOutbox) (p : Phase FramedRequest) → wanted_in o p ≡ wants.Read → StandsIn limits bytes said a p → StandsIn limits bytes said (record a { lent = [] }) p
+StandsIn-unlent limits bytes said a o p reads stands =
     let waits = reads-waiting o p reads in
-    subst (StandsIn max bytes said (record a { lent = [] })) (sym waits.1) (Standing-kept max bytes said a (record a { lent = [] }) waits.0 (subst (StandsIn max bytes said a) waits.1 stands) refl)
+    subst (StandsIn limits bytes said (record a { lent = [] })) (sym waits.1) (Standing-kept limits bytes said a (record a { lent = [] }) waits.0 (subst (StandsIn limits bytes said a) waits.1 stands) refl)
 
 -- a read that brought nothing leaves the history as it is
-pub History-unread : (p : History) (q : Phase Layout) (f g : Layout → FramedRequest) (old new : Ahead) (o : OnOutbox) (max : ℕ) (piece : Option ℕ) → wanted_in o (map_phase f q) ≡ wants.Read → new.held ≡ old.held
-    → HasHistory p (record { read_buffer = old; phase = map_phase f q; write_buffer = o; max_size = max; piece = piece }) → HasHistory p (record { read_buffer = new; phase = map_phase g q; write_buffer = o; max_size = max; piece = piece })
-History-unread p q f g old new o max piece reads held history =
+pub History-unread : (p : History) (q : Phase Layout) (f g : Layout → FramedRequest) (old new : Ahead) (o : OnOutbox) (limits : BodyLimits) (piece : Option ℕ) → wanted_in o (map_phase f q) ≡ wants.Read → new.held ≡ old.held
+    → HasHistory p (record { read_buffer = old; phase = map_phase f q; write_buffer = o; limits = limits; piece = piece }) → HasHistory p (record { read_buffer = new; phase = map_phase g q; write_buffer = o; limits = limits; piece = piece })
+History-unread p q f g old new o limits piece reads held history =
     let waits = reads-waiting o (map_phase f q) reads in
     let is = waits-anyway f q waits.0 waits.1 in
-    subst (λ q. HasHistory p (record { read_buffer = new; phase = map_phase g q; write_buffer = o; max_size = max; piece = piece })) (sym is)
-    (History-kept p (record { read_buffer = old; phase = Waiting waits.0; write_buffer = o; max_size = max; piece = piece }) waits.0 new held
-    (subst (λ q. HasHistory p (record { read_buffer = old; phase = map_phase f q; write_buffer = o; max_size = max; piece = piece })) is history))
+    subst (λ q. HasHistory p (record { read_buffer = new; phase = map_phase g q; write_buffer = o; limits = limits; piece = piece })) (sym is)
+    (History-kept p (record { read_buffer = old; phase = Waiting waits.0; write_buffer = o; limits = limits; piece = piece }) waits.0 new held
+    (subst (λ q. HasHistory p (record { read_buffer = old; phase = map_phase f q; write_buffer = o; limits = limits; piece = piece })) is history))
 
 -- what was cut by the end came at the end
 pub owed-tells : (a : Ahead) (p : Phase Layout) → IsPhase a p → IfSome (owed_in (map_phase (framed_at a.lent) p)) (λ i. TellsEnd a.ended (Ok i))

@@ -1,11 +1,13 @@
 -- What the answer to a piece of a body adds to the history of a connection.
-use Rattle.std.proofs.Common.{◌≡◌, ◌≤◌, ◌<◌, ◌+◌, ◌-◌, ℕ, Bool, true, false, List, [], ◌∷◌, ◌++◌, length, take, drop, Option, Some, None, Result, Ok, Err, IfSome, MatchBool, ◌^◌, inr, refl, ap, sym, subst, subst₂, ◌∙◌, arith, append-nil, append_assoc}
-use Rattle.std.proofs.lemmas.List.{length-take-le, length-drop, take-take}
-use Rattle.tus_steps.specs.InPieces.{InPieces, IsPlainPatch, is_patched}
+use Rattle.std.proofs.Common.{◌≡◌, ◌≤◌, ◌<◌, ◌+◌, ◌-◌, ℕ, Bool, true, false, List, [], ◌∷◌, ◌++◌, length, take, drop, Option, Some, None, Ok, IfSome, MatchBool, inr, refl, ap, sym, subst, subst₂, ◌∙◌, arith, append-nil, append_assoc, length-append}
+use Rattle.std.proofs.lemmas.List.Elements.{All-push}
+use Rattle.std.proofs.lemmas.List.{drop_at, length-take-le, length-drop, take-take}
+use Rattle.tus_steps.specs.InPieces.{IsPlainPatch, is_patched}
 use Rattle.tus_steps.specs.Request.{Request}
 use Rattle.tus_steps.specs.declared.reply.Reply.{Reply}
+use Rattle.http_wire.specs.BodyLimits.{AreSmall}
 use Rattle.http_wire.specs.Conversation.{continue_text}
-use Rattle.http_wire.specs.History.{Answering, AreGiven, History, Notes, NotesBy, StandsAfter, StoodInPieces, StopsWith, noted, noted_before, noted_piece, piece_of}
+use Rattle.http_wire.specs.History.{Answering, AreGiven, AreLong, History, NotesBy, NotesInPieces, StandsAfter, StoodInPieces, StopsWith, noted, noted_before, noted_piece, piece_of}
 use Rattle.http_wire.specs.Incoming.{FramedRequest}
 use Rattle.http_wire.specs.Layout.{request_at}
 use Rattle.http_wire.specs.NextMessage.{closing}
@@ -13,22 +15,19 @@ use Rattle.http_wire.specs.OnConnection.{OnConnection, body_in, phase_after}
 use Rattle.http_wire.specs.PiecedBody.{IsPlain, piece_at, piece_in}
 use Rattle.http_wire.specs.ReplyText.{reply_text}
 use Rattle.http_wire.specs.Turns.{TakesTurn}
-use Rattle.http_wire.specs.declared.conversation.Ended.{Ended}
-use Rattle.http_wire.specs.declared.conversation.Ended.TheVariants as ended
-use Rattle.http_wire.specs.declared.fault.WireFault.{WireFault}
-use Rattle.http_wire.specs.declared.fault.WireFault.TheVariants as fault
 use Rattle.http_wire.specs.declared.incoming.Cut.{Cut}
 use Rattle.http_wire.specs.declared.incoming.Cut.TheVariants as cut
 use Rattle.http_wire.specs.declared.phase.Phase.{Phase}
 use Rattle.http_wire.specs.declared.phase.Phase.TheVariants.{Looking, Piece, Stopped}
 use Rattle.http_wire.specs.declared.read.layout.Layout.{Layout}
+use Rattle.http_wire.specs.declared.read.read_buffer.TheConstants.{READ_SIZE}
 use Rattle.http_wire.specs.declared.read.pieces.Part.{Part}
 use Rattle.http_wire.specs.declared.read.pieces.Part.TheVariants as part
 use Rattle.http_wire.specs.declared.read.pieces.PiecedBody.{PiecedBody}
 use Rattle.http_wire.specs.declared.read.stage.Stage.TheVariants.{Pieces}
 use Rattle.http_wire.specs.inside.Ahead.{Ahead}
 use Rattle.http_wire.specs.inside.HeadLayout.{BeginsHead}
-use Rattle.http_wire.specs.inside.PieceAnswer.{Accepts, AnswersPiece, Leaves, end_of_cut, with_lent}
+use Rattle.http_wire.specs.inside.PieceAnswer.{Accepts, AnswersOwed, AnswersPiece, EndsBody, with_lent}
 use Rattle.http_wire.specs.inside.Phases.{IsConnection, map_phase}
 use Rattle.http_wire.specs.inside.Sending.{OnOutbox}
 use Rattle.http_wire.specs.inside.Standing.{HasPiece, lent_to}
@@ -38,15 +37,16 @@ use Rattle.http_wire.proofs.HistoryLemmas.{History-turned, body-after, onto, sen
 use Rattle.http_wire.proofs.InPiecesLemmas.{whole-message, whole-step}
 use Rattle.http_wire.proofs.PhaseLemmas.{IsConnection-after, map-after}
 use Rattle.http_wire.proofs.PieceLemmas.{AreGiven-push, IsTaken-accepted, IsTaken-kept, lent-head, lent-rest, piece-lent, plain-request}
+use Rattle.http_wire.specs.declared.body_limits.BodyLimits.{BodyLimits}
 
 -- the answer to the piece that is lent
 abbrev pub answer_to : PiecedBody → Ahead → ℕ → Reply → Answering
 answer_to b a now reply = record { request = (piece_in b a.lent).request; now = now; reply = reply }
 
 -- a request that is answered in pieces is noted so, where bodies are taken in pieces
-NotesBy-pieces : (piece : Option ℕ) (n : ℕ) (before after : List Answering) (r : Request) (now : ℕ) (reply : Reply) → piece ≡ Some n → IsPlainPatch r → InPieces Notes before r now reply after
+NotesBy-pieces : (piece : Option ℕ) (n : ℕ) (before after : List Answering) (r : Request) (now : ℕ) (reply : Reply) → piece ≡ Some n → IsPlainPatch r → n < length r.body → NotesInPieces n before r now reply after
     → NotesBy piece before r now reply after
-NotesBy-pieces piece n before after r now reply is plain step = subst (λ s. NotesBy s before r now reply after) (sym is) (inr (plain, step))
+NotesBy-pieces piece n before after r now reply is plain long step = subst (λ s. NotesBy s before r now reply after) (sym is) (inr (plain, long, step))
 
 -- What stood while this piece was lent, by its head and its bytes.
 module _ (p : History) (c : OnConnection) (b : PiecedBody) (which : Part) (h : StoodInPieces p (record c { phase = Piece b which }) b (c.read_buffer.lent ++ c.read_buffer.held)) (within : b.layout.head_len ≤ length c.read_buffer.lent) where
@@ -59,7 +59,7 @@ module _ (p : History) (c : OnConnection) (b : PiecedBody) (which : Part) (h : S
   abbrev bytes : List ℕ
   bytes = drop b.layout.head_len c.read_buffer.lent
 
-  begins : BeginsHead c.max_size h.start b.layout (head ++ (h.gone ++ (bytes ++ c.read_buffer.held)))
+  begins : BeginsHead c.limits h.start b.layout (head ++ (h.gone ++ (bytes ++ c.read_buffer.held)))
   begins = rw (← lent-head n c.read_buffer.lent c.read_buffer.held within, ← lent-rest n c.read_buffer.lent c.read_buffer.held within) h.taken.begins
 
   given : AreGiven (request_at b.layout head) b.layout.body_len 0 h.pieces h.gone
@@ -70,18 +70,18 @@ module _ (p : History) (c : OnConnection) (b : PiecedBody) (which : Part) (h : S
   next = piece-lent b c.read_buffer.lent ∙ ap (λ k. piece_of (request_at b.layout head) b.layout.body_len k bytes) (sym h.taken.given)
 
   -- the last piece was answered
-  pub History-last : (now : ℕ) (reply : Reply) (o : OnOutbox) → c.piece ≡ Some b.piece → IsPlain b.layout → lent_to c.read_buffer b ≡ b.layout.body_len
+  pub History-last : (now : ℕ) (reply : Reply) (o : OnOutbox) → c.piece ≡ Some b.piece → IsPlain b.layout → b.piece < b.layout.body_len → lent_to c.read_buffer b ≡ b.layout.body_len
       → o.pending ≡ c.write_buffer.pending ++ reply_text reply now b.layout.framing
       → StandsAfter (noted p now (answer_to b c.read_buffer now reply ∷ [])) (onto c c.read_buffer (phase_after (Ok (ended_after b.layout.framing.close))) o) (phase_after (Ok (ended_after b.layout.framing.close)))
-  History-last now reply o piece plain whole pending =
+  History-last now reply o piece plain more whole pending =
       History-turned p now (answer_to b c.read_buffer now reply ∷ []) c c.read_buffer o (Ok (ended_after b.layout.framing.close)) h.start (h.said ++ reply_text reply now b.layout.framing) h.text h.before h.reached
       (sent-more p c o h.text h.said (reply_text reply now b.layout.framing) h.sent pending) (turn b.layout.framing.close refl)
     where
       count : length h.gone + length bytes ≡ b.layout.body_len
       count = omega (arith, h.taken.given, length-drop n c.read_buffer.lent, whole)
 
-      parted : BeginsHead c.max_size h.start b.layout (head ++ ((h.gone ++ bytes) ++ c.read_buffer.held))
-      parted = subst (λ l. BeginsHead c.max_size h.start b.layout (head ++ l)) (sym (append_assoc h.gone bytes c.read_buffer.held)) begins
+      parted : BeginsHead c.limits h.start b.layout (head ++ ((h.gone ++ bytes) ++ c.read_buffer.held))
+      parted = subst (λ l. BeginsHead c.limits h.start b.layout (head ++ l)) (sym (append_assoc h.gone bytes c.read_buffer.held)) begins
 
       long : length head ≡ n
       long = length-take-le n c.read_buffer.lent within
@@ -94,32 +94,33 @@ module _ (p : History) (c : OnConnection) (b : PiecedBody) (which : Part) (h : S
 
       step : NotesBy c.piece h.before request now reply after
       step = NotesBy-pieces c.piece b.piece h.before after request now reply piece (plain-request b.layout (head ++ (h.gone ++ bytes)) plain)
-          (subst (InPieces Notes h.before request now reply) (rw (h.answered, next) refl)
-          (whole-step c.max_size h.start b.layout head h.gone bytes c.read_buffer.held h.before h.pieces now reply parted long count given))
+          (omega (arith, ap length (drop_at head (h.gone ++ bytes) n long), length-append h.gone bytes, count, more))
+          (subst (NotesInPieces b.piece h.before request now reply) (rw (h.answered, next) refl)
+          (whole-step b.piece c.limits h.start b.layout head h.gone bytes c.read_buffer.held h.before h.pieces now reply parted long count given h.sized))
 
       wrote : h.said ++ reply_text reply now b.layout.framing ≡ continue_text b.layout.is_waiting ++ reply_text reply now b.layout.framing
       wrote = ap (λ l. l ++ reply_text reply now b.layout.framing) h.taken.waits
 
       turn : (close : Bool) → b.layout.framing.close ≡ close
-          → TakesTurn (NotesBy c.piece) c.max_size now (record { input = h.start; text = h.said ++ reply_text reply now b.layout.framing; before = h.before; after = after }) c.read_buffer.held (Ok (ended_after close))
+          → TakesTurn (NotesBy c.piece) c.limits now (record { input = h.start; text = h.said ++ reply_text reply now b.layout.framing; before = h.before; after = after }) c.read_buffer.held (Ok (ended_after close))
       turn false is = λ rest. record {
         request = request;
         framing = b.layout.framing;
         waiting = b.layout.is_waiting;
         reply = reply;
-        next_message = whole-message c.max_size h.start b.layout head h.gone bytes c.read_buffer.held parted long count rest;
+        next_message = whole-message c.limits h.start b.layout head h.gone bytes c.read_buffer.held parted long count rest;
         stays = is;
         step = step;
         wrote = wrote;
       }
       turn true is = λ rest _ moments.
-          Conversation-closed (NotesBy c.piece) c.max_size now moments (record { input = h.start ++ rest; text = h.said ++ reply_text reply now b.layout.framing; before = h.before; after = after }) request b.layout.framing b.layout.is_waiting (c.read_buffer.held ++ rest) reply
-          (whole-message c.max_size h.start b.layout head h.gone bytes c.read_buffer.held parted long count rest) step is wrote
+          Conversation-closed (NotesBy c.piece) c.limits now moments (record { input = h.start ++ rest; text = h.said ++ reply_text reply now b.layout.framing; before = h.before; after = after }) request b.layout.framing b.layout.is_waiting (c.read_buffer.held ++ rest) reply
+          (whole-message c.limits h.start b.layout head h.gone bytes c.read_buffer.held parted long count rest) step is wrote
 
   -- a piece with more to come was accepted
-  pub History-accepted : (now : ℕ) (reply : Reply) (a : Ahead) (o : OnOutbox) → c.read_buffer.held ≡ [] → is_patched reply ≡ true → a.held ≡ head → o.pending ≡ c.write_buffer.pending
+  pub History-accepted : (now : ℕ) (reply : Reply) (a : Ahead) (o : OnOutbox) → c.read_buffer.held ≡ [] → b.layout.head_len + b.piece ≤ length c.read_buffer.lent → is_patched reply ≡ true → a.held ≡ head → o.pending ≡ c.write_buffer.pending
       → StandsAfter (noted_piece p now (answer_to b c.read_buffer now reply ∷ [])) (onto c a (Looking (Pieces (with_lent c.read_buffer b))) o) (Looking (Pieces (with_lent c.read_buffer b)))
-  History-accepted now reply a o none accepted held pending = record {
+  History-accepted now reply a o none whole accepted held pending = record {
     start = h.start;
     said = h.said;
     text = h.text;
@@ -129,10 +130,11 @@ module _ (p : History) (c : OnConnection) (b : PiecedBody) (which : Part) (h : S
     answered = ap (λ l. l ++ answer_to b c.read_buffer now reply ∷ []) h.answered ∙ append_assoc h.before h.pieces (answer_to b c.read_buffer now reply ∷ []);
     reached = h.reached;
     sent = ap (λ l. p.handed ++ l) pending ∙ h.sent;
-    taken = IsTaken-kept c.max_size h.start h.said (h.gone ++ bytes) (with_lent c.read_buffer b) head a.held
-        (IsTaken-accepted c.max_size h.start h.said h.gone c.read_buffer.lent b (IsTaken-kept c.max_size h.start h.said h.gone b (c.read_buffer.lent ++ c.read_buffer.held) (c.read_buffer.lent ++ []) h.taken (ap (λ l. c.read_buffer.lent ++ l) (sym none))) within) held;
+    taken = IsTaken-kept c.limits h.start h.said (h.gone ++ bytes) (with_lent c.read_buffer b) head a.held
+        (IsTaken-accepted c.limits h.start h.said h.gone c.read_buffer.lent b (IsTaken-kept c.limits h.start h.said h.gone b (c.read_buffer.lent ++ c.read_buffer.held) (c.read_buffer.lent ++ []) h.taken (ap (λ l. c.read_buffer.lent ++ l) (sym none))) within) held;
     given = subst (λ l. AreGiven (request_at b.layout l) b.layout.body_len 0 (h.pieces ++ answer_to b c.read_buffer now reply ∷ []) (h.gone ++ bytes)) (sym (ap (take n) held ∙ same_head))
         (AreGiven-push (request_at b.layout head) b.layout.body_len 0 h.pieces h.gone bytes (answer_to b c.read_buffer now reply) given (next ∙ ap (λ k. piece_of (request_at b.layout head) b.layout.body_len k bytes) (sym zero)) accepted);
+    sized = All-push (λ (q : Answering). b.piece ≤ length q.request.body) h.pieces (answer_to b c.read_buffer now reply) h.sized (omega (arith, length-drop n c.read_buffer.lent, whole));
   }
     where
       zero : 0 + length h.gone ≡ length h.gone
@@ -142,17 +144,16 @@ module _ (p : History) (c : OnConnection) (b : PiecedBody) (which : Part) (h : S
       same_head = take-take n n c.read_buffer.lent (omega arith)
 
   -- the connection ends with a piece
-  pub History-stopped : (now : ℕ) (reply : Reply) (o : OnOutbox) (put : List ℕ) (r : Result Ended WireFault) → IsPlain b.layout → o.pending ≡ c.write_buffer.pending ++ put
-      → StopsWith r b.layout (answer_to b c.read_buffer now reply) (continue_text b.layout.is_waiting ++ put)
-      → StandsAfter (noted p now (answer_to b c.read_buffer now reply ∷ [])) (onto c c.read_buffer (Stopped r) o) (Stopped r)
-  History-stopped now reply o put r plain pending stops = record {
+  pub History-stopped : (now : ℕ) (reply : Reply) (o : OnOutbox) (put : List ℕ) (why : Option Cut) → c.piece ≡ Some b.piece → IsPlain b.layout → lent_to c.read_buffer b < b.layout.body_len → c.read_buffer.held ≡ [] → o.pending ≡ c.write_buffer.pending ++ put
+      → StopsWith c.read_buffer.ended why b.layout (answer_to b c.read_buffer now reply) (continue_text b.layout.is_waiting ++ put)
+      → StandsAfter (noted p now (answer_to b c.read_buffer now reply ∷ [])) (onto c c.read_buffer (Stopped why) o) (Stopped why)
+  History-stopped now reply o put why size plain more none pending stops = record {
     start = h.start;
     text = h.text;
     said = h.said ++ put;
     layout = b.layout;
     head = head;
     gone = h.gone;
-    behind = c.read_buffer.held;
     before = h.before;
     pieces = h.pieces;
     last = answer_to b c.read_buffer now reply;
@@ -162,11 +163,13 @@ module _ (p : History) (c : OnConnection) (b : PiecedBody) (which : Part) (h : S
     reached = h.reached;
     sent = sent-more p c o h.text h.said put h.sent pending;
     long = length-take-le n c.read_buffer.lent within;
-    begins = begins;
+    begins = subst (λ l. BeginsHead c.limits h.start b.layout (head ++ (h.gone ++ l))) (ap (λ l. bytes ++ l) none ∙ append-nil bytes) begins;
     plain = plain-request (piece_at b (length c.read_buffer.lent - n)) c.read_buffer.lent plain;
     given = given;
+    sized = subst (λ s. IfSome s (λ n. AreLong n h.pieces)) (sym size) h.sized;
     piece = next;
-    stops = subst (StopsWith r b.layout (answer_to b c.read_buffer now reply)) (ap (λ l. l ++ put) (sym h.taken.waits)) stops;
+    more = omega (arith, more);
+    stops = subst (StopsWith c.read_buffer.ended why b.layout (answer_to b c.read_buffer now reply)) (ap (λ l. l ++ put) (sym h.taken.waits)) stops;
   }
 
 -- how far the connection has come, whatever is told of messages
@@ -188,25 +191,25 @@ module _ (f : Layout → FramedRequest) where
           (subst (λ b. StandsAfter (noted_before b p now answered) (onto c c.read_buffer r o) r) (sym none) stands)
 
       middle : (accepted : Bool) → is_patched reply ≡ accepted → HasPiece c.read_buffer b part.Middle
-          → MatchBool accepted (Accepts b c.read_buffer a c.write_buffer.pending o.pending q) (Leaves (reply_text reply now (closing b.layout.framing)) (Stopped (Ok ended.Closed)) c.read_buffer a c.write_buffer.pending o.pending q)
+          → MatchBool accepted (Accepts b c.read_buffer a c.write_buffer.pending o.pending q) (EndsBody (reply_text reply now (closing b.layout.framing)) (Stopped None) c.read_buffer a c.write_buffer.pending o.pending q)
           → StoodInPieces p (record c { phase = Piece b part.Middle }) b (c.read_buffer.lent ++ c.read_buffer.held)
           → StandsAfter (noted_before (body_in (map_phase f q)) p now answered) (onto c a (map_phase f q) o) (map_phase f q)
       middle true is has answers h =
           subst (λ q. StandsAfter (noted_before (body_in (map_phase f q)) p now answered) (onto c a (map_phase f q) o) (map_phase f q)) (sym answers.phase)
-          (History-accepted p c b part.Middle h has.lent now reply a o has.part.1 is answers.held answers.pending)
+          (History-accepted p c b part.Middle h has.lent now reply a o has.part.1 has.part.2 is (ap (λ (a : Ahead). a.held) answers.read_buffer) answers.pending)
       middle false is has answers h =
-          left q (Stopped (Ok ended.Closed)) (Stopped (Ok ended.Closed)) refl refl answers.phase answers.read_buffer
-          (History-stopped p c b part.Middle h has.lent now reply o (reply_text reply now (closing b.layout.framing)) (Ok ended.Closed) has.body.plain answers.pending (is, refl))
+          left q (Stopped None) (Stopped None) refl refl answers.phase answers.read_buffer
+          (History-stopped p c b part.Middle h has.lent now reply o (reply_text reply now (closing b.layout.framing)) None piece has.body.plain has.part.0 has.part.1 answers.pending (is, refl))
 
-      parted : (why : Cut) → HasPiece c.read_buffer b (part.Cut why) → Leaves [] (Stopped (end_of_cut why)) c.read_buffer a c.write_buffer.pending o.pending q
+      parted : (why : Cut) → HasPiece c.read_buffer b (part.Cut why) → EndsBody [] (Stopped (Some why)) c.read_buffer a c.write_buffer.pending o.pending q
           → StoodInPieces p (record c { phase = Piece b (part.Cut why) }) b (c.read_buffer.lent ++ c.read_buffer.held)
           → StandsAfter (noted_before (body_in (map_phase f q)) p now answered) (onto c a (map_phase f q) o) (map_phase f q)
       parted cut.Ended has answers h =
-          left q (Stopped (Ok ended.Cut)) (Stopped (Ok ended.Cut)) refl refl answers.phase answers.read_buffer
-          (History-stopped p c b (part.Cut cut.Ended) h has.lent now reply o [] (Ok ended.Cut) has.body.plain answers.pending (append-nil (continue_text b.layout.is_waiting)))
+          left q (Stopped (Some cut.Ended)) (Stopped (Some cut.Ended)) refl refl answers.phase answers.read_buffer
+          (History-stopped p c b (part.Cut cut.Ended) h has.lent now reply o [] (Some cut.Ended) piece has.body.plain has.part.0 has.part.1 answers.pending (has.part.2, append-nil (continue_text b.layout.is_waiting)))
       parted cut.Fault has answers h =
-          left q (Stopped (Err fault.Read)) (Stopped (Err fault.Read)) refl refl answers.phase answers.read_buffer
-          (History-stopped p c b (part.Cut cut.Fault) h has.lent now reply o [] (Err fault.Read) has.body.plain answers.pending (append-nil (continue_text b.layout.is_waiting)))
+          left q (Stopped (Some cut.Fault)) (Stopped (Some cut.Fault)) refl refl answers.phase answers.read_buffer
+          (History-stopped p c b (part.Cut cut.Fault) h has.lent now reply o [] (Some cut.Fault) piece has.body.plain has.part.0 has.part.1 answers.pending (has.part.2, append-nil (continue_text b.layout.is_waiting)))
 
       go : (which : Part) → HasPiece c.read_buffer b which → AnswersPiece now b which reply c.read_buffer a c.write_buffer.pending o.pending q
           → StoodInPieces p (record c { phase = Piece b which }) b (c.read_buffer.lent ++ c.read_buffer.held)
@@ -215,23 +218,23 @@ module _ (f : Layout → FramedRequest) where
       go part.Last has answers h =
           let e = Ok (ended_after b.layout.framing.close) in
           left q (phase_after e) (phase_after e) (map-after f (phase_after e) e refl) (body-after e) answers.phase answers.read_buffer
-          (History-last p c b part.Last h has.lent now reply o piece has.body.plain has.part answers.pending)
+          (History-last p c b part.Last h has.lent now reply o piece has.body.plain has.body.long has.part answers.pending)
       go (part.Cut why) has answers h = parted why has answers h
 
 -- what holds of every connection holds of it as the answer left it
-pub IsConnection-piece : (now : ℕ) (b : PiecedBody) (which : Part) (reply : Reply) (old a : Ahead) (before after : List ℕ) (q : Phase Layout) (max : ℕ) (piece : Option ℕ) → max < 2 ^ 31 → piece ≡ Some b.piece → HasPiece old b which
-    → AnswersPiece now b which reply old a before after q → IsConnection a q max piece
-IsConnection-piece now b which reply old a before after q max piece size is has answers = go which has answers
+pub IsConnection-piece : (now : ℕ) (b : PiecedBody) (which : Part) (reply : Reply) (old a : Ahead) (before after : List ℕ) (q : Phase Layout) (limits : BodyLimits) (piece : Option ℕ) → AreSmall limits → piece ≡ Some b.piece → HasPiece old b which
+    → AnswersPiece now b which reply old a before after q → IsConnection a q limits piece
+IsConnection-piece now b which reply old a before after q limits piece size is has answers = go which has answers
   where
     some : IfSome piece (λ n. 0 < n)
     some = subst (λ s. IfSome s (λ n. 0 < n)) (sym is) has.body.some
 
-    stopped : (r : Result Ended WireFault) (put : List ℕ) → Leaves put (Stopped r) old a before after q → IsConnection a q max piece
-    stopped r put answers = subst (λ q. IsConnection a q max piece) (sym answers.phase) (record { size = size; some = some; phase = tt; body = tt })
+    stopped : (why : Option Cut) (put : List ℕ) → EndsBody put (Stopped why) old a before after q → IsConnection a q limits piece
+    stopped why put answers = subst (λ q. IsConnection a q limits piece) (sym answers.phase) (record { size = size; some = some; phase = tt; body = tt; gathered = tt })
 
-    middle : (accepted : Bool) → HasPiece old b part.Middle → MatchBool accepted (Accepts b old a before after q) (Leaves (reply_text reply now (closing b.layout.framing)) (Stopped (Ok ended.Closed)) old a before after q)
-        → IsConnection a q max piece
-    middle true has answers = subst (λ q. IsConnection a q max piece) (sym answers.phase) (record {
+    middle : (accepted : Bool) → HasPiece old b part.Middle → MatchBool accepted (Accepts b old a before after q) (EndsBody (reply_text reply now (closing b.layout.framing)) (Stopped None) old a before after q)
+        → IsConnection a q limits piece
+    middle true has answers = subst (λ q. IsConnection a q limits piece) (sym answers.phase) (record {
       size = size;
       some = some;
       phase = record {
@@ -240,17 +243,47 @@ IsConnection-piece now b which reply old a before after q max piece size is has 
           body = has.body.body;
           given = has.part.0;
           some = has.body.some;
-          room = rw answers.room has.body.room;
+          long = has.body.long;
+          room = subst (λ k. b.layout.head_len + b.piece + READ_SIZE ≤ k) (sym (ap (λ (a : Ahead). a.room) answers.read_buffer)) has.body.room;
           within = has.body.within;
           plain = has.body.plain;
         };
-        held = omega (arith, ap length answers.held, length-take-le b.layout.head_len old.lent has.lent);
+        held = omega (arith, ap (λ (a : Ahead). length a.held) answers.read_buffer, length-take-le b.layout.head_len old.lent has.lent);
       };
       body = is;
+      gathered = tt;
     })
-    middle false has answers = stopped (Ok ended.Closed) (reply_text reply now (closing b.layout.framing)) answers
+    middle false has answers = stopped None (reply_text reply now (closing b.layout.framing)) answers
 
-    go : (which : Part) → HasPiece old b which → AnswersPiece now b which reply old a before after q → IsConnection a q max piece
+    go : (which : Part) → HasPiece old b which → AnswersPiece now b which reply old a before after q → IsConnection a q limits piece
     go part.Middle has answers = middle (is_patched reply) has answers
-    go part.Last has answers = IsConnection-after a q max piece (Ok (ended_after b.layout.framing.close)) size some answers.phase
-    go (part.Cut why) has answers = stopped (end_of_cut why) [] answers
+    go part.Last has answers = IsConnection-after a q limits piece (Ok (ended_after b.layout.framing.close)) size some answers.phase
+    go (part.Cut why) has answers = stopped (Some why) [] answers
+
+-- the same answer, whatever is told of messages
+pub AnswersPiece-mapped : (f : Layout → FramedRequest) (now : ℕ) (b : PiecedBody) (which : Part) (reply : Reply) (old new : Ahead) (before after : List ℕ) (q : Phase Layout)
+    → AnswersPiece now b which reply old new before after q → AnswersPiece now b which reply old new before after (map_phase f q)
+AnswersPiece-mapped f now b which reply old new before after q answers = go which answers
+  where
+    left : (put : List ℕ) (p : Phase Layout) (r : Phase FramedRequest) → map_phase f p ≡ r → EndsBody put p old new before after q → EndsBody put r old new before after (map_phase f q)
+    left put p r maps h = record { read_buffer = h.read_buffer; pending = h.pending; phase = ap (map_phase f) h.phase ∙ maps }
+
+    middle : (accepted : Bool) → MatchBool accepted (Accepts b old new before after q) (EndsBody (reply_text reply now (closing b.layout.framing)) (Stopped None) old new before after q)
+        → MatchBool accepted (Accepts b old new before after (map_phase f q)) (EndsBody (reply_text reply now (closing b.layout.framing)) (Stopped None) old new before after (map_phase f q))
+    middle true h = record { read_buffer = h.read_buffer; pending = h.pending; phase = ap (map_phase f) h.phase }
+    middle false h = left (reply_text reply now (closing b.layout.framing)) (Stopped None) (Stopped None) refl h
+
+    go : (which : Part) → AnswersPiece now b which reply old new before after q → AnswersPiece now b which reply old new before after (map_phase f q)
+    go part.Middle h = middle (is_patched reply) h
+    go part.Last h =
+        let e = Ok (ended_after b.layout.framing.close) in
+        left (reply_text reply now b.layout.framing) (phase_after e) (phase_after e) (map-after f (phase_after e) e refl) h
+    go (part.Cut why) h = left [] (Stopped (Some why)) (Stopped (Some why)) refl h
+
+-- the piece that a connection owes an answer was answered
+pub AnswersOwed-piece : {A : Type 0} (steps : A → Request → ℕ → Reply → A → Type 0) (f g : Layout → FramedRequest) (now : ℕ) (b : PiecedBody) (which : Part) (reply : Reply) (before after : A) (c : OnConnection) (a : Ahead) (o : OnOutbox)
+    (p q : Phase Layout) → p ≡ Piece b which → steps before (piece_in b c.read_buffer.lent).request now reply after → AnswersPiece now b which reply c.read_buffer a c.write_buffer.pending o.pending q
+    → AnswersOwed steps now before after c (onto c a (map_phase g q) o) (map_phase f p)
+AnswersOwed-piece steps f g now b which reply before after c a o p q is step answers =
+    subst (λ p. AnswersOwed steps now before after c (onto c a (map_phase g q) o) (map_phase f p)) (sym is)
+    (reply, step, AnswersPiece-mapped g now b which reply c.read_buffer a c.write_buffer.pending o.pending q answers)

@@ -1,10 +1,12 @@
 -- A body that is taken in pieces, look by look, read by read and piece by piece.
-use Rattle.std.proofs.Common.{◌≡◌, ◌≤◌, ◌<◌, ◌+◌, ◌-◌, ◌&&◌, ℕ, Bool, true, false, List, [], ◌∷◌, ◌++◌, length, take, drop, refl, ap, sym, subst, ◌∙◌, arith, append-nil, append_assoc, length-append}
+use Rattle.std.proofs.Common.{◌≡◌, ◌≤◌, ◌<◌, ◌+◌, ◌-◌, ◌&&◌, ℕ, Bool, true, false, List, [], ◌∷◌, ◌++◌, length, take, drop, nat_lt, if◌then◌else◌, Option, Some, None, IfSome, refl, ap, sym, subst, ◌∙◌, arith, append-nil, append_assoc, length-append}
+use Rattle.std.proofs.lemmas.Bool.{ltb-false}
 use Rattle.std.proofs.lemmas.List.{take-append-drop, take-append-le, drop-append-le, take_at, drop_at, take_all, drop_all, take-take, length-take-le, length-drop}
 use Rattle.tus_steps.specs.Field.{FieldText, absent, one, many, is_absent}
 use Rattle.tus_steps.specs.InPieces.{IsPlainPatch, is_patched}
 use Rattle.tus_steps.specs.Method.{is_patch}
 use Rattle.tus_steps.specs.Request.{Request}
+use Rattle.http_wire.specs.BodyLimits.{AreWithin}
 use Rattle.http_wire.specs.Conversation.{continue_text}
 use Rattle.http_wire.specs.HeadText.{head_limit, head_text, whole}
 use Rattle.http_wire.specs.NextMessage.{NextMessage, IsNextMessage}
@@ -12,11 +14,14 @@ use Rattle.http_wire.specs.OnConnection.{HasNoMessage}
 use Rattle.http_wire.specs.ReadOnWire.{waits}
 use Rattle.http_wire.specs.History.{Answering, AreGiven, piece_of}
 use Rattle.http_wire.specs.Layout.{field_at, request_at}
-use Rattle.http_wire.specs.PiecedBody.{IsPlain, IsTaken, piece_in}
+use Rattle.http_wire.specs.PiecedBody.{IsPlain, IsTaken, piece_in, pieced_by}
+use Rattle.http_wire.specs.declared.read.fields.FieldSpan.{FieldSpan}
+use Rattle.http_wire.specs.declared.read.fields.FieldSpan.TheVariants.{Absent, One, Many}
 use Rattle.http_wire.specs.declared.read.layout.Layout.{Layout}
 use Rattle.http_wire.specs.declared.read.pieces.PiecedBody.{PiecedBody}
 use Rattle.http_wire.specs.inside.HeadLayout.{BeginsHead}
 use Rattle.http_wire.proofs.NextMessageLemmas.{BeginsHead-more, BeginsHead-short, IsNextMessage-cut_patch, IsNextMessage-waits}
+use Rattle.http_wire.specs.declared.body_limits.BodyLimits.{BodyLimits}
 
 -- the bytes of a message whose head is here, with those that are gone
 abbrev with_gone : ℕ → List ℕ → List ℕ → List ℕ
@@ -29,18 +34,18 @@ gone-rest : (n : ℕ) (gone here : List ℕ) → n ≤ length here → drop n (w
 gone-rest n gone here within = drop_at (take n here) (gone ++ drop n here) n (length-take-le n here within)
 
 -- nothing is gone of a body that begins
-pub IsTaken-first : (max : ℕ) (bytes said : List ℕ) (b : PiecedBody) (held : List ℕ) → said ≡ continue_text b.layout.is_waiting → b.given ≡ 0 → b.layout.head_len ≤ length held → BeginsHead max bytes b.layout held
-    → IsTaken max bytes said [] b held
-IsTaken-first max bytes said b held says none within begins = record {
+pub IsTaken-first : (limits : BodyLimits) (bytes said : List ℕ) (b : PiecedBody) (held : List ℕ) → said ≡ continue_text b.layout.is_waiting → b.given ≡ 0 → b.layout.head_len ≤ length held → BeginsHead limits bytes b.layout held
+    → IsTaken limits bytes said [] b held
+IsTaken-first limits bytes said b held says none within begins = record {
   waits = says;
   given = sym none;
   head = within;
-  begins = subst (BeginsHead max bytes b.layout) (sym (take-append-drop b.layout.head_len held)) begins;
+  begins = subst (BeginsHead limits bytes b.layout) (sym (take-append-drop b.layout.head_len held)) begins;
 }
 
 -- more bytes came
-pub IsTaken-more : (max : ℕ) (bytes got said gone : List ℕ) (b : PiecedBody) (here more : List ℕ) → IsTaken max bytes said gone b here → more ≡ here ++ got → IsTaken max (bytes ++ got) said gone b more
-IsTaken-more max bytes got said gone b here more h is =
+pub IsTaken-more : (limits : BodyLimits) (bytes got said gone : List ℕ) (b : PiecedBody) (here more : List ℕ) → IsTaken limits bytes said gone b here → more ≡ here ++ got → IsTaken limits (bytes ++ got) said gone b more
+IsTaken-more limits bytes got said gone b here more h is =
     let n = b.layout.head_len in
     let head : take n more ≡ take n here = ap (take n) is ∙ take-append-le n here got h.head in
     let rest : drop n more ≡ drop n here ++ got = ap (drop n) is ∙ drop-append-le n here got h.head in
@@ -49,21 +54,21 @@ IsTaken-more max bytes got said gone b here more h is =
       waits = h.waits;
       given = h.given;
       head = omega (arith, ap length is, length-append here got, h.head);
-      begins = BeginsHead-more max bytes b.layout (with_gone n gone here) got (with_gone n gone more) h.begins long
+      begins = BeginsHead-more limits bytes b.layout (with_gone n gone here) got (with_gone n gone more) h.begins long
           (rw (head, rest) (ap (λ l. take n here ++ l) (sym (append_assoc gone (drop n here) got)) ∙ sym (append_assoc (take n here) (gone ++ drop n here) got)));
     }
 
 -- the same bytes are here
-pub IsTaken-kept : (max : ℕ) (bytes said gone : List ℕ) (b : PiecedBody) (here there : List ℕ) → IsTaken max bytes said gone b here → there ≡ here → IsTaken max bytes said gone b there
-IsTaken-kept max bytes said gone b here there h is = subst (IsTaken max bytes said gone b) (sym is) h
+pub IsTaken-kept : (limits : BodyLimits) (bytes said gone : List ℕ) (b : PiecedBody) (here there : List ℕ) → IsTaken limits bytes said gone b here → there ≡ here → IsTaken limits bytes said gone b there
+IsTaken-kept limits bytes said gone b here there h is = subst (IsTaken limits bytes said gone b) (sym is) h
 
 whole-same : (a b c d : List ℕ) → whole a b ≡ whole c d → (a ≡ c) × (b ≡ d)
 whole-same a b c d e = (cc, cc)
 
 -- the bytes that came tell which are gone, and the head
-pub IsTaken-same : (max : ℕ) (bytes got said says gone went : List ℕ) (b : PiecedBody) (here there : List ℕ) → IsTaken max bytes said gone b here → IsTaken max (bytes ++ got) says went b there
+pub IsTaken-same : (limits : BodyLimits) (bytes got said says gone went : List ℕ) (b : PiecedBody) (here there : List ℕ) → IsTaken limits bytes said gone b here → IsTaken limits (bytes ++ got) says went b there
     → (went ≡ gone) × (take b.layout.head_len there ≡ take b.layout.head_len here)
-IsTaken-same max bytes got said says gone went b here there h k =
+IsTaken-same limits bytes got said says gone went b here there h k =
     let n = b.layout.head_len in
     let both = whole-same _ _ _ _ (sym (k.begins.begins []) ∙ ap head_text (append-nil (bytes ++ got)) ∙ h.begins.begins got) in
     let left : (went ++ drop n there) ++ [] ≡ (gone ++ drop n here) ++ got =
@@ -78,29 +83,29 @@ count-gone n gone here within =
     omega (arith, length-append (take n here) (gone ++ drop n here), length-append gone (drop n here), length-take-le n here within, length-drop n here, within)
 
 -- its client waits for `100 Continue`
-pub IsTaken-waits : (max : ℕ) (bytes said gone : List ℕ) (b : PiecedBody) (here : List ℕ) → IsTaken max bytes said gone b here → b.layout.is_waiting ≡ true → (f : NextMessage) × IsNextMessage max bytes f × (waits f ≡ true)
-IsTaken-waits max bytes said gone b here h is = IsNextMessage-waits max bytes b.layout (with_gone b.layout.head_len gone here) h.begins is
+pub IsTaken-waits : (limits : BodyLimits) (bytes said gone : List ℕ) (b : PiecedBody) (here : List ℕ) → IsTaken limits bytes said gone b here → b.layout.is_waiting ≡ true → (f : NextMessage) × IsNextMessage limits bytes f × (waits f ≡ true)
+IsTaken-waits limits bytes said gone b here h is = IsNextMessage-waits limits bytes b.layout (with_gone b.layout.head_len gone here) h.begins is
 
 -- while bytes of the body are lacking, no whole message came
-pub IsTaken-unfinished : (max : ℕ) (bytes said gone : List ℕ) (b : PiecedBody) (here : List ℕ) → IsTaken max bytes said gone b here → IsPlain b.layout → b.given < b.layout.body_len
-    → length here < b.layout.head_len + (b.layout.body_len - b.given) → HasNoMessage max bytes
-IsTaken-unfinished max bytes said gone b here h plain given short =
+pub IsTaken-unfinished : (limits : BodyLimits) (bytes said gone : List ℕ) (b : PiecedBody) (here : List ℕ) → IsTaken limits bytes said gone b here → IsPlain b.layout → b.given < b.layout.body_len
+    → length here < b.layout.head_len + (b.layout.body_len - b.given) → HasNoMessage limits bytes
+IsTaken-unfinished limits bytes said gone b here h plain given short =
     let held = with_gone b.layout.head_len gone here in
     let count = count-gone b.layout.head_len gone here h.head in
-    (_, IsNextMessage-cut_patch max bytes b.layout held h.begins (record { lent = held; held = []; ended = true; room = 0 }) (omega (arith, count, h.given, given, short)) (omega (arith, count, h.head)) plain refl, tt)
+    (_, IsNextMessage-cut_patch limits bytes b.layout held h.begins (record { lent = held; held = []; ended = true; room = 0 }) (omega (arith, count, h.given, given, short)) (omega (arith, count, h.head)) plain refl, tt)
 
 -- and what came, and what the body lacks, are at most a head and the greatest body
-pub IsTaken-short : (max : ℕ) (bytes said gone : List ℕ) (b : PiecedBody) (here : List ℕ) → IsTaken max bytes said gone b here → b.given < b.layout.body_len
-    → length here < b.layout.head_len + (b.layout.body_len - b.given) → length bytes + ((b.layout.head_len + (b.layout.body_len - b.given)) - length here) ≤ head_limit + max
-IsTaken-short max bytes said gone b here h given short =
+pub IsTaken-short : (limits : BodyLimits) (most : ℕ) (bytes said gone : List ℕ) (b : PiecedBody) (here : List ℕ) → AreWithin limits most → IsTaken limits bytes said gone b here → b.given < b.layout.body_len
+    → length here < b.layout.head_len + (b.layout.body_len - b.given) → length bytes + ((b.layout.head_len + (b.layout.body_len - b.given)) - length here) ≤ head_limit + most
+IsTaken-short limits most bytes said gone b here within h given short =
     let held = with_gone b.layout.head_len gone here in
     let count = count-gone b.layout.head_len gone here h.head in
-    omega (arith, count, h.given, given, BeginsHead-short max bytes b.layout held h.begins (omega (arith, count, h.head)) (omega (arith, count, h.given, given, short)))
+    omega (arith, count, h.given, given, BeginsHead-short limits most bytes b.layout held within h.begins (omega (arith, count, h.head)) (omega (arith, count, h.given, given, short)))
 
 -- a piece was taken: it is gone, and the head is here
-pub IsTaken-accepted : (max : ℕ) (bytes said gone lent : List ℕ) (b : PiecedBody) → IsTaken max bytes said gone b (lent ++ []) → b.layout.head_len ≤ length lent
-    → IsTaken max bytes said (gone ++ drop b.layout.head_len lent) (record b { given = b.given + (length lent - b.layout.head_len) }) (take b.layout.head_len lent)
-IsTaken-accepted max bytes said gone lent b h within =
+pub IsTaken-accepted : (limits : BodyLimits) (bytes said gone lent : List ℕ) (b : PiecedBody) → IsTaken limits bytes said gone b (lent ++ []) → b.layout.head_len ≤ length lent
+    → IsTaken limits bytes said (gone ++ drop b.layout.head_len lent) (record b { given = b.given + (length lent - b.layout.head_len) }) (take b.layout.head_len lent)
+IsTaken-accepted limits bytes said gone lent b h within =
     let n = b.layout.head_len in
     let count : length (take n lent) ≡ n = length-take-le n lent within in
     let head : take n (take n lent) ≡ take n lent = take_all n (take n lent) (omega (arith, count)) in
@@ -109,7 +114,7 @@ IsTaken-accepted max bytes said gone lent b h within =
       waits = h.waits;
       given = length-append gone (drop n lent) ∙ omega (arith, length-drop n lent, h.given);
       head = omega (arith, count);
-      begins = subst (BeginsHead max bytes b.layout)
+      begins = subst (BeginsHead limits bytes b.layout)
           (ap (λ l. with_gone n gone l) (append-nil lent) ∙ sym (rw (head, none) (ap (λ l. take n lent ++ l) (append-nil (gone ++ drop n lent))))) h.begins;
     }
 
@@ -157,3 +162,24 @@ pub plain-request : (p : Layout) (text : List ℕ) → IsPlain p → IsPlainPatc
 plain-request p text plain =
     let both = both-true (is_patch p.method) (is_absent (field_at (take p.head_len text) p.fields.checksum)) (plain (take p.head_len text)) in
     record { method = both.0; unchecked = absent-is (field_at (take p.head_len text) p.fields.checksum) both.1 }
+
+-- a PATCH without a checksum that is gathered whole has no more bytes than a piece
+absent-at : (head : List ℕ) (f : FieldSpan) → field_at head f ≡ absent → is_absent (field_at [] f) ≡ true
+absent-at head Absent is = refl
+absent-at head (One span) is = absurd cc
+absent-at head Many is = absurd cc
+
+no-piece : (a b c : Bool) (x : PiecedBody) → a ≡ true → b ≡ true → (if (a && b) && c then Some x else None) ≡ None → c ≡ false
+no-piece true true true x method field none = absurd cc
+no-piece true true false x method field none = refl
+no-piece true false c x method field none = absurd cc
+no-piece false b c x method field none = absurd cc
+
+gathered-whole : (n : ℕ) (p : Layout) (text : List ℕ) → pieced_by (Some n) p ≡ None → length text ≤ p.head_len + p.body_len → IsPlainPatch (request_at p text) → length (drop p.head_len text) ≤ n
+gathered-whole n p text none few plain =
+    let short = ltb-false n p.body_len (no-piece (is_patch p.method) (is_absent (field_at [] p.fields.checksum)) (nat_lt n p.body_len) (record { layout = p; given = 0; piece = n }) plain.method (absent-at (take p.head_len text) p.fields.checksum plain.unchecked) none) in
+    omega (arith, length-drop p.head_len text, few, short)
+
+pub GathersIn-few : (piece : Option ℕ) (p : Layout) (text : List ℕ) → pieced_by piece p ≡ None → length text ≤ p.head_len + p.body_len → IfSome piece (λ n. IsPlainPatch (request_at p text) → length (drop p.head_len text) ≤ n)
+GathersIn-few None p text none few = tt
+GathersIn-few (Some n) p text none few = gathered-whole n p text none few

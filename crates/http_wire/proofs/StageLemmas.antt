@@ -1,5 +1,6 @@
 -- A reading of a message, look by look and read by read.
 use Rattle.std.proofs.Common.{◌≡◌, ◌≤◌, ◌+◌, length, ℕ, Bool, true, false, List, [], ◌++◌, Result, Ok, Err, IfOk, IfErr, inl, inr, refl, subst, arith, length-append, append_assoc}
+use Rattle.http_wire.specs.BodyLimits.{AreWithin}
 use Rattle.http_wire.specs.Conversation.{continue_text}
 use Rattle.tus_steps.specs.Method.{is_applied_when_cut}
 use Rattle.tus_steps.specs.declared.method.Method.{Method}
@@ -21,21 +22,22 @@ use Rattle.http_wire.proofs.FindLemmas.{Searching-more, Searching-unfinished, un
 use Rattle.http_wire.specs.PiecedBody.{IsTaken}
 use Rattle.http_wire.proofs.PieceLemmas.{IsTaken-more, IsTaken-short, IsTaken-unfinished, IsTaken-waits}
 use Rattle.http_wire.proofs.NextMessageLemmas.{BeginsHead-more, BeginsHead-short, BreaksMessage-unfinished, IsNextMessage-cut_other, IsNextMessage-cut_patch, IsNextMessage-waits}
+use Rattle.http_wire.specs.declared.body_limits.BodyLimits.{BodyLimits}
 
 -- more bytes came
-pub Standing-more : (max : ℕ) (start read got said : List ℕ) (old new : Ahead) (s : Stage) → Standing max (start ++ read) said old s → Fits old s → new.held ≡ old.held ++ got
-    → Standing max (start ++ (read ++ got)) said new s
-Standing-more max start read got said old new (Head s) h fits e = (h.0, Searching-more start read old.held got new.held s h.1 e)
-Standing-more max start read got said old new (Body p) h fits e =
-    (h.0, subst (λ i. BeginsHead max i p new.held) (append_assoc start read got) (BeginsHead-more max (start ++ read) p old.held got new.held h.1 fits.held e))
-Standing-more max start read got said old new (Pieces b) h fits e =
-    (h.0, subst (λ i. IsTaken max i said h.0 b new.held) (append_assoc start read got) (IsTaken-more max (start ++ read) got said h.0 b old.held new.held h.1 e))
+pub Standing-more : (limits : BodyLimits) (start read got said : List ℕ) (old new : Ahead) (s : Stage) → Standing limits (start ++ read) said old s → Fits old s → new.held ≡ old.held ++ got
+    → Standing limits (start ++ (read ++ got)) said new s
+Standing-more limits start read got said old new (Head s) h fits e = (h.0, Searching-more start read old.held got new.held s h.1 e)
+Standing-more limits start read got said old new (Body p) h fits e =
+    (h.0, subst (λ i. BeginsHead limits i p new.held) (append_assoc start read got) (BeginsHead-more limits (start ++ read) p old.held got new.held h.1 fits.held e))
+Standing-more limits start read got said old new (Pieces b) h fits e =
+    (h.0, subst (λ i. IsTaken limits i said h.0 b new.held) (append_assoc start read got) (IsTaken-more limits (start ++ read) got said h.0 b old.held new.held h.1 e))
 
 -- the same bytes are held
-pub Standing-kept : (max : ℕ) (bytes said : List ℕ) (old new : Ahead) (s : Stage) → Standing max bytes said old s → new.held ≡ old.held → Standing max bytes said new s
-Standing-kept max bytes said old new (Head s) h e = rw e h
-Standing-kept max bytes said old new (Body p) h e = rw e h
-Standing-kept max bytes said old new (Pieces b) h e = rw e h
+pub Standing-kept : (limits : BodyLimits) (bytes said : List ℕ) (old new : Ahead) (s : Stage) → Standing limits bytes said old s → new.held ≡ old.held → Standing limits bytes said new s
+Standing-kept limits bytes said old new (Head s) h e = rw e h
+Standing-kept limits bytes said old new (Body p) h e = rw e h
+Standing-kept limits bytes said old new (Pieces b) h e = rw e h
 
 pub Fits-more : (got : List ℕ) (old new : Ahead) (s : Stage) → Fits old s → new.held ≡ old.held ++ got → new.room ≡ old.room → Fits new s
 Fits-more got old new (Head s) fits e room = (fits.0, rw e (omega (arith, length-append old.held got, fits.1)))
@@ -62,13 +64,13 @@ continue-due true e = refl
 continue-due false e = absurd cc
 
 -- a client that waits is told to go on, and what came is a message that waits
-pub Standing-waits : (max : ℕ) (bytes : List ℕ) (a : Ahead) (s : Stage) → Standing max bytes (continue_text true) a s → (f : NextMessage) × IsNextMessage max bytes f × (waits f ≡ true)
-Standing-waits max bytes a (Head s) h = absurd (said h.0)
+pub Standing-waits : (limits : BodyLimits) (bytes : List ℕ) (a : Ahead) (s : Stage) → Standing limits bytes (continue_text true) a s → (f : NextMessage) × IsNextMessage limits bytes f × (waits f ≡ true)
+Standing-waits limits bytes a (Head s) h = absurd (said h.0)
   where
     said : continue_text true ≡ [] → ⊥
     said e = absurd cc
-Standing-waits max bytes a (Body p) h = IsNextMessage-waits max bytes p a.held h.1 (continue-due p.is_waiting h.0)
-Standing-waits max bytes a (Pieces b) h = IsTaken-waits max bytes (continue_text true) h.0 b a.held h.1 (continue-due b.layout.is_waiting h.1.waits)
+Standing-waits limits bytes a (Body p) h = IsNextMessage-waits limits bytes p a.held h.1 (continue-due p.is_waiting h.0)
+Standing-waits limits bytes a (Pieces b) h = IsTaken-waits limits bytes (continue_text true) h.0 b a.held h.1 (continue-due b.layout.is_waiting h.1.waits)
 
 -- whether a message with this method and this field is applied when it is cut
 applied : (m : Method) (f : FieldSpan) → (b : Bool) × ((head : List ℕ) → is_applied_when_cut m (field_at head f) ≡ b)
@@ -77,18 +79,18 @@ applied m (One span) = (is_applied_when_cut m (field_at [] (One span)), λ head.
 applied m Many = (is_applied_when_cut m (field_at [] Many), λ head. refl)
 
 -- where more is needed, there is no message yet
-pub Standing-unfinished : (max : ℕ) (bytes said : List ℕ) (a : Ahead) (s : Stage) → Standing max bytes said a s → Fits a s → Wants a s → HasNoMessage max bytes
-Standing-unfinished max bytes said a (Head s) h fits wants = elim (BreaksMessage-unfinished max bytes said h.0 (Searching-unfinished bytes a s h.1 wants)) [
+pub Standing-unfinished : (limits : BodyLimits) (bytes said : List ℕ) (a : Ahead) (s : Stage) → Standing limits bytes said a s → Fits a s → Wants a s → HasNoMessage limits bytes
+Standing-unfinished limits bytes said a (Head s) h fits wants = elim (BreaksMessage-unfinished limits bytes said h.0 (Searching-unfinished bytes a s h.1 wants)) [
   | inl cut ↦ (cut_other cut.0, cut.2, tt)
   | inr none ↦ (clean_end, none.1, tt)
 ]
-Standing-unfinished max bytes said a (Body p) h fits wants = by (applied p.method p.fields.checksum)
+Standing-unfinished limits bytes said a (Body p) h fits wants = by (applied p.method p.fields.checksum)
   where
-    by : (b : Bool) × ((head : List ℕ) → is_applied_when_cut p.method (field_at head p.fields.checksum) ≡ b) → HasNoMessage max bytes
-    by (true, is) = (_, IsNextMessage-cut_patch max bytes p a.held h.1 (record a { lent = a.held }) wants.0 fits.held is refl, tt)
-    by (false, is) = (_, IsNextMessage-cut_other max bytes p a.held h.1 wants.0 fits.held is, tt)
-Standing-unfinished max bytes said a (Pieces b) h fits wants =
-    IsTaken-unfinished max bytes said h.0 b a.held h.1 fits.body.plain fits.body.given (omega (arith, wants.0))
+    by : (b : Bool) × ((head : List ℕ) → is_applied_when_cut p.method (field_at head p.fields.checksum) ≡ b) → HasNoMessage limits bytes
+    by (true, is) = (_, IsNextMessage-cut_patch limits bytes p a.held h.1 (record a { lent = a.held }) wants.0 fits.held is refl, tt)
+    by (false, is) = (_, IsNextMessage-cut_other limits bytes p a.held h.1 wants.0 fits.held is, tt)
+Standing-unfinished limits bytes said a (Pieces b) h fits wants =
+    IsTaken-unfinished limits bytes said h.0 b a.held h.1 fits.body.plain fits.body.given (omega (arith, wants.0))
 
 -- what holds of what was given, from what held of it
 pub IfOk-from : {T E : Type 0} {P Q : T → Type 0} (r : Result T E) → IfOk r P → ((x : T) → P x → Q x) → IfOk r Q
@@ -100,8 +102,8 @@ IfErr-from (Ok x) p all = tt
 IfErr-from (Err e) p all = all e p
 
 -- what came of a message that needs more, and what its body lacks, are at most a head and the greatest body
-pub Standing-few : (max : ℕ) (bytes said : List ℕ) (a : Ahead) (s : Stage) → Standing max bytes said a s → Fits a s → Wants a s → length bytes + lacking a (Waiting s) ≤ head_limit + max
-Standing-few max bytes said a (Head s) h fits wants = omega (arith, unfinished_short bytes (Searching-unfinished bytes a s h.1 wants))
-Standing-few max bytes said a (Body p) h fits wants = BeginsHead-short max bytes p a.held h.1 fits.held wants.0
-Standing-few max bytes said a (Pieces b) h fits wants =
-    omega (arith, IsTaken-short max bytes said h.0 b a.held h.1 fits.body.given (omega (arith, wants.0)), fits.body.given)
+pub Standing-few : (limits : BodyLimits) (most : ℕ) (bytes said : List ℕ) (a : Ahead) (s : Stage) → AreWithin limits most → Standing limits bytes said a s → Fits a s → Wants a s → length bytes + lacking a (Waiting s) ≤ head_limit + most
+Standing-few limits most bytes said a (Head s) within h fits wants = omega (arith, unfinished_short bytes (Searching-unfinished bytes a s h.1 wants))
+Standing-few limits most bytes said a (Body p) within h fits wants = BeginsHead-short limits most bytes p a.held within h.1 fits.held wants.0
+Standing-few limits most bytes said a (Pieces b) within h fits wants =
+    omega (arith, IsTaken-short limits most bytes said h.0 b a.held within h.1 fits.body.given (omega (arith, wants.0)), fits.body.given)

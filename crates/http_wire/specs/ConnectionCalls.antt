@@ -11,6 +11,7 @@ use Rattle.http_wire.specs.declared.incoming.Cut.TheVariants.{Fault}
 use Rattle.http_wire.specs.declared.read.pieces.Part.TheVariants.{Cut}
 use Rattle.http_wire.specs.inside.Ahead.{Ahead}
 use Rattle.http_wire.specs.inside.Sending.{empty_write_buffer}
+use Rattle.http_wire.specs.declared.body_limits.BodyLimits.{BodyLimits}
 
 -- one read brought these bytes, or the end of the input where there are none
 pub record Takes (got : List ℕ) (old new : OnConnection) : Type 0 where
@@ -20,18 +21,18 @@ pub record Takes (got : List ℕ) (old new : OnConnection) : Type 0 where
   pub looks : is_looking new.phase ≡ true
   pub history : (p : History) → HasHistory p old → HasHistory (took p got) new
   pub write_buffer : new.write_buffer ≡ old.write_buffer
-  pub size : new.max_size ≡ old.max_size
+  pub limits : new.limits ≡ old.limits
   pub piece : new.piece ≡ old.piece
 
 -- a read failed: a PATCH that is applied when it is cut is owed its step, and else the conversation is over
-abbrev pub BreaksTo : ℕ → List ℕ → List ℕ → Ahead → Phase FramedRequest → Type 0
-BreaksTo max bytes said a (Looking s) = ⊥
-BreaksTo max bytes said a (Waiting s) = ⊥
-BreaksTo max bytes said a (Owing i) = ComesIn max (record { input = bytes; text = said }) a.held i × (is_cut_by_fault i ≡ true)
-BreaksTo max bytes said a (Piece b part) = StandsIn max bytes said a (Piece b part) × (part ≡ Cut Fault)
-BreaksTo max bytes said a (Over (Ok e)) = ⊥
-BreaksTo max bytes said a (Over (Err fault)) = BreaksMessage max (record { input = bytes; text = said }) fault × (fault ≡ Read)
-BreaksTo max bytes said a (Stopped r) = ⊥
+abbrev pub BreaksTo : BodyLimits → List ℕ → List ℕ → Ahead → Phase FramedRequest → Type 0
+BreaksTo limits bytes said a (Looking s) = ⊥
+BreaksTo limits bytes said a (Waiting s) = ⊥
+BreaksTo limits bytes said a (Owing i) = ComesIn limits (record { input = bytes; text = said }) a.held i × (is_cut_by_fault i ≡ true)
+BreaksTo limits bytes said a (Piece b part) = StandsIn limits bytes said a (Piece b part) × (part ≡ Cut Fault)
+BreaksTo limits bytes said a (Over (Ok e)) = ⊥
+BreaksTo limits bytes said a (Over (Err fault)) = BreaksMessage limits (record { input = bytes; text = said }) fault × (fault ≡ Read)
+BreaksTo limits bytes said a (Stopped r) = ⊥
 
 -- this text was put behind what is pending, and nothing else changed
 pub record Puts (text : List ℕ) (old new : OnConnection) : Type 0 where

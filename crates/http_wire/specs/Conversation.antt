@@ -6,6 +6,7 @@ use Rattle.tus_steps.specs.declared.reply.Reply.{Reply}
 use Rattle.http_wire.specs.Exchange.{Exchange, last_part}
 use Rattle.http_wire.specs.NextMessage.{NextMessage, message, refused, cut_patch, cut_other, clean_end, IsNextMessage}
 use Rattle.http_wire.specs.ReplyText.{crlf, reply_text, refusal_text}
+use Rattle.http_wire.specs.declared.body_limits.BodyLimits.{BodyLimits}
 use Rattle.http_wire.specs.declared.conversation.Ended.{Ended}
 use Rattle.http_wire.specs.declared.conversation.Ended.TheVariants.{Input, Closed, Cut, Moments}
 
@@ -29,8 +30,8 @@ module _ {A : Type 0} where
   abbrev pub Goes : Bool → Course A → Course A
   Goes close next x e = MatchBool close (EndsWith Closed [] x e) (next x e)
 
--- Conversations with what makes these steps, each from a state, by a request at a moment, with a reply, to the
--- state after it; a body has at most max bytes.
+-- Conversations with what makes these steps. Each goes from a state, by a request at a moment, with a reply, to the state after
+-- it. Bodies have at most these lengths.
 module _ {A : Type 0} (steps : A → Request → ℕ → Reply → A → Type 0) where
   -- the turn of what the input begins with, at a moment
   abbrev pub MessageTurn : ℕ → Course A → NextMessage → Course A
@@ -45,6 +46,6 @@ module _ {A : Type 0} (steps : A → Request → ℕ → Reply → A → Type 0)
   MessageTurn now next clean_end x e = EndsWith Input [] x e
 
   -- the conversation of an input: the k-th message has the k-th moment
-  abbrev pub Conversation : ℕ → List ℕ → Course A
-  Conversation max [] x e = EndsWith Moments [] x e
-  Conversation max (now ∷ moments) x e = (f : NextMessage) × IsNextMessage max x.input f × MessageTurn now (Conversation max moments) f x e
+  abbrev pub Conversation : BodyLimits → List ℕ → Course A
+  Conversation limits [] x e = EndsWith Moments [] x e
+  Conversation limits (now ∷ moments) x e = (f : NextMessage) × IsNextMessage limits x.input f × MessageTurn now (Conversation limits moments) f x e

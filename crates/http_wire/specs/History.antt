@@ -1,6 +1,6 @@
 -- The history of a connection: what was taken from its client and handed out to it, and what was answered.
-use Rattle.std.specs.Prelude.{◌≡◌, ◌⊎◌, ◌+◌, ◌-◌, ℕ, true, false, List, [], ◌∷◌, ◌++◌, length, take, Option, Some, None, Result, Ok, Err}
-use Rattle.tus_steps.specs.InPieces.{InPieces, IsPlainPatch, is_patched}
+use Rattle.std.specs.Prelude.{◌≡◌, ◌⊎◌, ◌≤◌, ◌<◌, ◌+◌, ◌-◌, ℕ, Bool, true, false, List, [], ◌∷◌, ◌++◌, length, take, Option, Some, None, IfSome, All, Ok, Err}
+use Rattle.tus_steps.specs.InPieces.{InPieces, IsPlainPatch, PieceAt, is_patched}
 use Rattle.tus_steps.specs.Request.{Request}
 use Rattle.tus_steps.specs.declared.reply.Reply.{Reply}
 use Rattle.http_wire.specs.Conversation.{continue_text}
@@ -12,10 +12,8 @@ use Rattle.http_wire.specs.OnConnection.{OnConnection, Stands}
 use Rattle.http_wire.specs.PiecedBody.{IsTaken}
 use Rattle.http_wire.specs.ReplyText.{reply_text}
 use Rattle.http_wire.specs.Turns.{Breaks, Converses, Turns}
-use Rattle.http_wire.specs.declared.conversation.Ended.{Ended}
-use Rattle.http_wire.specs.declared.conversation.Ended.TheVariants as ended
-use Rattle.http_wire.specs.declared.fault.WireFault.{WireFault}
-use Rattle.http_wire.specs.declared.fault.WireFault.TheVariants as fault
+use Rattle.http_wire.specs.declared.incoming.Cut.{Cut}
+use Rattle.http_wire.specs.declared.incoming.Cut.TheVariants as cut
 use Rattle.http_wire.specs.declared.read.layout.Layout.{Layout}
 use Rattle.http_wire.specs.declared.read.pieces.PiecedBody.{PiecedBody}
 use Rattle.http_wire.specs.declared.read.stage.Stage.{Stage}
@@ -34,12 +32,21 @@ pub record Answering : Type 0 where
 abbrev pub Notes : List Answering → Request → ℕ → Reply → List Answering → Type 0
 Notes before request now reply after = after ≡ before ++ record { request = request; now = now; reply = reply } ∷ []
 
--- The same where bodies are taken in pieces of some size: a request is noted as one, or, of a PATCH without a checksum, piece by
--- piece.
+-- The same of a request that is noted piece by piece. Each piece but the last has at least so many bytes.
+abbrev pub NotesInPieces : ℕ → List Answering → Request → ℕ → Reply → List Answering → Type 0
+NotesInPieces n before request now reply after = (step : InPieces Notes before request now reply after) × All (λ (q : PieceAt). n ≤ q.len) step.pieces
+
+-- The same where bodies may be taken in pieces of some size. A request is noted as one. A PATCH without a checksum whose body has
+-- more bytes than a piece is noted piece by piece instead.
 abbrev pub NotesBy : Option ℕ → List Answering → Request → ℕ → Reply → List Answering → Type 0
 NotesBy None before request now reply after = Notes before request now reply after
 NotesBy (Some n) before request now reply after =
-    Notes before request now reply after ⊎ (IsPlainPatch request × InPieces Notes before request now reply after)
+    ((IsPlainPatch request → length request.body ≤ n) × Notes before request now reply after)
+    ⊎ (IsPlainPatch request × (n < length request.body) × NotesInPieces n before request now reply after)
+
+-- each of these pieces has at least so many bytes
+abbrev pub AreLong : ℕ → List Answering → Type 0
+AreLong n pieces = All (λ (q : Answering). n ≤ length q.request.body) pieces
 
 -- the piece of a body of n bytes that has these, behind so many that were given before
 abbrev pub piece_of : Request → ℕ → ℕ → List ℕ → Request
@@ -58,8 +65,8 @@ module _ {A : Type 0} (steps : A → Request → ℕ → Reply → A → Type 0)
   Follows a [] b = b ≡ a
   Follows a (q ∷ answered) b = (c : A) × steps a q.request q.now q.reply c × Follows c answered b
 
--- all bytes that reads brought, all that were sent, the moments at which messages and refusals were answered, a PATCH that was
--- cut included, all moments that were told, those of pieces among them, and what was answered
+-- What has passed: all bytes that reads brought, all that were sent, and what was answered. `moments` has those at which messages
+-- and refusals were answered, a PATCH that was cut included. `all_moments` has those of all pieces too.
 pub record History : Type 0 where
   pub taken : List ℕ
   pub handed : List ℕ
@@ -104,12 +111,12 @@ pub record Stood (p : History) (c : OnConnection) : Type 0 where
   pub start : List ℕ
   pub said : List ℕ
   pub text : List ℕ
-  pub reached : (rest : List ℕ) → Turns (NotesBy c.piece) c.max_size p.moments (followed (told p text) rest) (start ++ rest)
+  pub reached : (rest : List ℕ) → Turns (NotesBy c.piece) c.limits p.moments (followed (told p text) rest) (start ++ rest)
   pub sent : p.handed ++ c.write_buffer.pending ≡ text ++ said
   pub stands : Stands start said c
 
--- Whole messages were taken and answered, and then pieces of the next, which is a PATCH without a checksum: all of them were
--- accepted, and each had the bytes behind those before it. The rest of what came is here, behind the head.
+-- Whole messages were taken and answered, and then pieces of the next, which is a PATCH without a checksum. All pieces were
+-- accepted, and each had the bytes behind those before it, and its size. The rest of what came is here, behind the head.
 pub record StoodInPieces (p : History) (c : OnConnection) (b : PiecedBody) (here : List ℕ) : Type 0 where
   pub start : List ℕ
   pub said : List ℕ
@@ -118,47 +125,50 @@ pub record StoodInPieces (p : History) (c : OnConnection) (b : PiecedBody) (here
   pub before : List Answering
   pub pieces : List Answering
   pub answered : p.answered ≡ before ++ pieces
-  pub reached : (rest : List ℕ) → Turns (NotesBy c.piece) c.max_size p.moments (followed (told_with p text before) rest) (start ++ rest)
+  pub reached : (rest : List ℕ) → Turns (NotesBy c.piece) c.limits p.moments (followed (told_with p text before) rest) (start ++ rest)
   pub sent : p.handed ++ c.write_buffer.pending ≡ text ++ said
-  pub taken : IsTaken c.max_size start said gone b here
+  pub taken : IsTaken c.limits start said gone b here
   pub given : AreGiven (request_at b.layout (take b.layout.head_len here)) b.layout.body_len 0 pieces gone
+  pub sized : AreLong b.piece pieces
 
--- How a connection ends with a piece, by the reply to it and the text that goes with that: the piece was refused, and the reply
--- closes the connection; or the body was cut behind it, and it gets no reply.
-abbrev pub StopsWith : Result Ended WireFault → Layout → Answering → List ℕ → Type 0
-StopsWith (Ok ended.Closed) p last text =
+-- How a connection stops with a piece, by whether the end of the input was seen. A piece that is refused gets the reply, which
+-- closes the connection. One behind which the body was cut gets none. The end was seen where that cut it, and not where a read
+-- failed.
+abbrev pub StopsWith : Bool → Option Cut → Layout → Answering → List ℕ → Type 0
+StopsWith at_end None p last text =
     (is_patched last.reply ≡ false) × (text ≡ continue_text p.is_waiting ++ reply_text last.reply last.now (closing p.framing))
-StopsWith (Ok ended.Cut) p last text = text ≡ continue_text p.is_waiting
-StopsWith (Err fault.Read) p last text = text ≡ continue_text p.is_waiting
-StopsWith other p last text = ⊥
+StopsWith at_end (Some cut.Ended) p last text = (at_end ≡ true) × (text ≡ continue_text p.is_waiting)
+StopsWith at_end (Some cut.Fault) p last text = (at_end ≡ false) × (text ≡ continue_text p.is_waiting)
 
--- Whole messages were taken and answered, and then pieces of the next, which is a PATCH without a checksum. All but the last were
--- accepted, and with the last the connection ends so, at its moment.
-pub record StoppedInPieces (p : History) (c : OnConnection) (r : Result Ended WireFault) : Type 0 where
+-- Whole messages were taken and answered, and then pieces of the next, which is a PATCH without a checksum. All but the last
+-- piece were accepted. The last has all bytes that came behind those, and more was to come. With it the connection ends so, at
+-- its moment.
+pub record StoppedInPieces (p : History) (c : OnConnection) (why : Option Cut) : Type 0 where
   pub start : List ℕ
   pub text : List ℕ
   pub said : List ℕ
   pub layout : Layout
   pub head : List ℕ
   pub gone : List ℕ
-  pub behind : List ℕ
   pub before : List Answering
   pub pieces : List Answering
   pub last : Answering
   pub moments : List ℕ
   pub timed : p.moments ≡ moments ++ last.now ∷ []
   pub answered : p.answered ≡ (before ++ pieces) ++ last ∷ []
-  pub reached : (rest : List ℕ) → Turns (NotesBy c.piece) c.max_size moments (followed (told_with p text before) rest) (start ++ rest)
+  pub reached : (rest : List ℕ) → Turns (NotesBy c.piece) c.limits moments (followed (told_with p text before) rest) (start ++ rest)
   pub sent : p.handed ++ c.write_buffer.pending ≡ text ++ said
   pub long : length head ≡ layout.head_len
-  pub begins : BeginsHead c.max_size start layout (head ++ (gone ++ (last.request.body ++ behind)))
+  pub begins : BeginsHead c.limits start layout (head ++ (gone ++ last.request.body))
   pub plain : IsPlainPatch last.request
   pub given : AreGiven (request_at layout head) layout.body_len 0 pieces gone
+  pub sized : IfSome c.piece (λ n. AreLong n pieces)
   pub piece : last.request ≡ piece_of (request_at layout head) layout.body_len (length gone) last.request.body
-  pub stops : StopsWith r layout last said
+  pub more : 0 < last.request.more
+  pub stops : StopsWith c.read_buffer.ended why layout last said
 
--- What was sent, and then what is pending, is the text of the conversation of the bytes that were taken: so far, and as a whole
--- once it is over. Where a read failed, it is broken off; the message that was cut takes one moment more, whichever.
+-- What was sent, and then what is pending, is the text of the conversation of the bytes that were taken. It is that so far, and
+-- as a whole once it is over. Where a read failed, it is broken off; the message that was cut takes one moment more, whichever.
 abbrev pub StandsAt : History → OnConnection → Stage → Type 0
 StandsAt p c (Head s) = Stood p c
 StandsAt p c (Body l) = Stood p c
@@ -169,10 +179,10 @@ StandsAfter p c (Looking s) = StandsAt p c s
 StandsAfter p c (Waiting s) = StandsAt p c s
 StandsAfter p c (Owing i) = Stood p c
 StandsAfter p c (Piece b part) = StoodInPieces p c b (c.read_buffer.lent ++ c.read_buffer.held)
-StandsAfter p c (Over (Ok e)) = Converses (NotesBy c.piece) c.max_size p.moments (told p (p.handed ++ c.write_buffer.pending)) e
+StandsAfter p c (Over (Ok e)) = Converses (NotesBy c.piece) c.limits p.moments (told p (p.handed ++ c.write_buffer.pending)) e
 StandsAfter p c (Over (Err fault)) =
-    (last : List ℕ) × Breaks (NotesBy c.piece) c.max_size (p.moments ++ last) (told p (p.handed ++ c.write_buffer.pending)) fault
-StandsAfter p c (Stopped r) = StoppedInPieces p c r
+    (last : List ℕ) × Breaks (NotesBy c.piece) c.limits (p.moments ++ last) (told p (p.handed ++ c.write_buffer.pending)) fault
+StandsAfter p c (Stopped why) = StoppedInPieces p c why
 
 abbrev pub HasHistory : History → OnConnection → Type 0
 HasHistory p c = StandsAfter p c c.phase

@@ -10,6 +10,7 @@ use Rattle.tus_steps.specs.Request.{Request}
 use Rattle.tus_steps.specs.Method.{is_applied_when_cut, is_head}
 use Rattle.tus_steps.specs.declared.tus_fields.TusFields.{TusFields}
 use Rattle.tus_steps.specs.TusFields.{fields_by}
+use Rattle.http_wire.specs.BodyLimits.{limit_by}
 use Rattle.http_wire.specs.ConnectionFields.{closes, asks_to_continue}
 use Rattle.http_wire.specs.Fields.{values_named, field_text}
 use Rattle.http_wire.specs.HeadText.{field_limit, HeadText, whole, too_long, cut, nothing, head_text, has_many_lines}
@@ -17,6 +18,7 @@ use Rattle.http_wire.specs.Judge.{judge}
 use Rattle.http_wire.specs.declared.framing.Framing.{Framing}
 use Rattle.http_wire.specs.declared.refusal.WireRefusal.{WireRefusal}
 use Rattle.http_wire.specs.declared.refusal.WireRefusal.TheVariants.{Memory, Head, HeadSize}
+use Rattle.http_wire.specs.declared.body_limits.BodyLimits.{BodyLimits}
 
 -- What an input begins with. A message, with its framing, whether `100 Continue` is due before its body,
 -- and what follows it; a request that the wire refuses; the end of the input inside a body, that of a
@@ -82,10 +84,14 @@ closing framing = record framing { close = true }
 abbrev pub unknown_framing : Framing
 unknown_framing = record { bare = false; close = true }
 
+-- the most bytes of the body of a head, by the method in force and by its checksum
+abbrev pub limit_of : BodyLimits → RequestHead → ℕ
+limit_of limits h = limit_by limits (method_in h) (tus_fields h).checksum
+
 -- the length of the body of a head, or why it is refused
-abbrev pub judged : ℕ → RequestHead → Result ℕ WireRefusal
-judged max h =
-    judge max h.minor (field_text (codes "host") h.fields) (field_text (codes "transfer-encoding") h.fields)
+abbrev pub judged : BodyLimits → RequestHead → Result ℕ WireRefusal
+judged limits h =
+    judge (limit_of limits h) h.minor (field_text (codes "host") h.fields) (field_text (codes "transfer-encoding") h.fields)
     (field_text (codes "content-length") h.fields)
 
 -- the request waits for `100 Continue` before it sends a body of n bytes
@@ -105,9 +111,9 @@ judged_message h (Err why) rest = refused why (closing (framing_of h))
 judged_message h (Ok n) rest = with_body h n rest
 
 -- a head text that was parsed, with what follows it
-abbrev pub parsed_message : ℕ → Option RequestHead → List ℕ → NextMessage
-parsed_message max None rest = refused Head unknown_framing
-parsed_message max (Some h) rest = judged_message h (judged max h) rest
+abbrev pub parsed_message : BodyLimits → Option RequestHead → List ℕ → NextMessage
+parsed_message limits None rest = refused Head unknown_framing
+parsed_message limits (Some h) rest = judged_message h (judged limits h) rest
 
 -- the text as a whole is a request head of httparse's grammar with no more fields than a head may have, or it is none
 abbrev pub Parses : List ℕ → Option RequestHead → Type 0
@@ -120,27 +126,27 @@ abbrev pub sure_room : ℕ
 sure_room = 49152
 
 -- the body of a head with this text may need more memory: it has bytes, and more than there is room for
-abbrev pub OutgrowsRoom : ℕ → List ℕ → RequestHead → Type 0
-OutgrowsRoom max text h = (n : ℕ) × (judged max h ≡ Ok n) × (0 < n) × (sure_room < length text + n)
+abbrev pub OutgrowsRoom : BodyLimits → List ℕ → RequestHead → Type 0
+OutgrowsRoom limits text h = (n : ℕ) × (judged limits h ≡ Ok n) × (0 < n) × (sure_room < length text + n)
 
 -- A head that was parsed is refused because there is no memory for its body. The head itself takes none.
-abbrev pub LacksMemory : ℕ → List ℕ → Option RequestHead → NextMessage → Type 0
-LacksMemory max text None f = ⊥
-LacksMemory max text (Some h) f = OutgrowsRoom max text h × (f ≡ refused Memory (closing (framing_of h)))
+abbrev pub LacksMemory : BodyLimits → List ℕ → Option RequestHead → NextMessage → Type 0
+LacksMemory limits text None f = ⊥
+LacksMemory limits text (Some h) f = OutgrowsRoom limits text h × (f ≡ refused Memory (closing (framing_of h)))
 
 -- what a whole head text begins
-abbrev pub BeginsWhole : ℕ → List ℕ → List ℕ → NextMessage → Type 0
-BeginsWhole max text rest f =
-    (h : Option RequestHead) × Parses text h × ((f ≡ parsed_message max h rest) ⊎ LacksMemory max text h f)
+abbrev pub BeginsWhole : BodyLimits → List ℕ → List ℕ → NextMessage → Type 0
+BeginsWhole limits text rest f =
+    (h : Option RequestHead) × Parses text h × ((f ≡ parsed_message limits h rest) ⊎ LacksMemory limits text h f)
 
 -- what a head text begins
-abbrev pub Begins : ℕ → HeadText → NextMessage → Type 0
-Begins max (whole text rest) f =
-    MatchBool (has_many_lines text) (f ≡ refused HeadSize unknown_framing) (BeginsWhole max text rest f)
-Begins max too_long f = f ≡ refused HeadSize unknown_framing
-Begins max cut f = f ≡ cut_other false
-Begins max nothing f = f ≡ clean_end
+abbrev pub Begins : BodyLimits → HeadText → NextMessage → Type 0
+Begins limits (whole text rest) f =
+    MatchBool (has_many_lines text) (f ≡ refused HeadSize unknown_framing) (BeginsWhole limits text rest f)
+Begins limits too_long f = f ≡ refused HeadSize unknown_framing
+Begins limits cut f = f ≡ cut_other false
+Begins limits nothing f = f ≡ clean_end
 
--- what an input begins with, where a body has at most max bytes
-abbrev pub IsNextMessage : ℕ → List ℕ → NextMessage → Type 0
-IsNextMessage max input f = Begins max (head_text input) f
+-- what an input begins with, where bodies have at most these lengths
+abbrev pub IsNextMessage : BodyLimits → List ℕ → NextMessage → Type 0
+IsNextMessage limits input f = Begins limits (head_text input) f

@@ -22,14 +22,15 @@ use Rattle.http_wire.specs.inside.HeadSearch.{search_start}
 use Rattle.http_wire.specs.inside.Sending.{OnOutbox, empty_write_buffer}
 use Rattle.http_wire.specs.inside.Standing.{Standing, pieced, still}
 use Rattle.http_wire.specs.inside.TurnFinish.{ended_after, turn_cut}
+use Rattle.http_wire.specs.declared.body_limits.BodyLimits.{BodyLimits}
 
--- what was read and belongs to no message that was answered, how far it has come with it, what is to be sent, the most bytes of
--- a body, and how many bytes of a body are taken as a piece, where it takes bodies in pieces
+-- What was read and belongs to no message that was answered, how far the connection has come, and what is to be sent. `limits`
+-- has the most bytes of a body. `piece` is how many bytes a piece has, where bodies are taken in pieces.
 pub record OnConnection : Type 0 where
   pub read_buffer : Ahead
   pub phase : Phase FramedRequest
   pub write_buffer : OnOutbox
-  pub max_size : ℕ
+  pub limits : BodyLimits
   pub piece : Option ℕ
 
 -- this, unless something is to be sent first
@@ -91,8 +92,8 @@ ended_in (Owing i) = Ok None
 ended_in (Piece b part) = Ok None
 ended_in (Over (Ok e)) = Ok (Some e)
 ended_in (Over (Err fault)) = Err fault
-ended_in (Stopped (Ok e)) = Ok (Some e)
-ended_in (Stopped (Err fault)) = Err fault
+ended_in (Stopped None) = Ok (Some ended.Closed)
+ended_in (Stopped (Some why)) = turn_cut why
 
 -- what is owed an answer, but for a piece
 abbrev pub owed_in : Phase FramedRequest → Option (Incoming FramedRequest)
@@ -123,16 +124,16 @@ piece_owed a (Stopped r) = None
 
 -- These bytes came since the last message that was answered, and this was said meanwhile; where a message came in, it is what
 -- they begin with.
-abbrev pub StandsIn : ℕ → List ℕ → List ℕ → Ahead → Phase FramedRequest → Type 0
-StandsIn max bytes said a (Looking s) = Standing max bytes said a s
-StandsIn max bytes said a (Waiting s) = Standing max bytes said a s
-StandsIn max bytes said a (Owing i) = ComesIn max (record { input = bytes; text = said }) a.held i
-StandsIn max bytes said a (Piece b part) = (gone : List ℕ) × IsTaken max bytes said gone b (a.lent ++ a.held)
-StandsIn max bytes said a (Over r) = ⊥
-StandsIn max bytes said a (Stopped r) = ⊥
+abbrev pub StandsIn : BodyLimits → List ℕ → List ℕ → Ahead → Phase FramedRequest → Type 0
+StandsIn limits bytes said a (Looking s) = Standing limits bytes said a s
+StandsIn limits bytes said a (Waiting s) = Standing limits bytes said a s
+StandsIn limits bytes said a (Owing i) = ComesIn limits (record { input = bytes; text = said }) a.held i
+StandsIn limits bytes said a (Piece b part) = (gone : List ℕ) × IsTaken limits bytes said gone b (a.lent ++ a.held)
+StandsIn limits bytes said a (Over r) = ⊥
+StandsIn limits bytes said a (Stopped r) = ⊥
 
 abbrev pub Stands : List ℕ → List ℕ → OnConnection → Type 0
-Stands bytes said c = StandsIn c.max_size bytes said c.read_buffer c.phase
+Stands bytes said c = StandsIn c.limits bytes said c.read_buffer c.phase
 
 -- a connection looks at a message
 abbrev pub is_looking : {M : Type 0} → Phase M → Bool
@@ -213,5 +214,5 @@ abbrev pub left : OnConnection → ℕ
 left c = left_in c.read_buffer c.phase c.write_buffer.pending
 
 -- some bytes are no whole message, nor is a message in them that is refused
-abbrev pub HasNoMessage : ℕ → List ℕ → Type 0
-HasNoMessage max bytes = (f : NextMessage) × IsNextMessage max bytes f × IsCut f
+abbrev pub HasNoMessage : BodyLimits → List ℕ → Type 0
+HasNoMessage limits bytes = (f : NextMessage) × IsNextMessage limits bytes f × IsCut f

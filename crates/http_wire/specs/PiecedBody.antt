@@ -8,13 +8,14 @@ use Rattle.http_wire.specs.Layout.{field_at, framed_at}
 use Rattle.http_wire.specs.declared.read.layout.Layout.{Layout}
 use Rattle.http_wire.specs.declared.read.pieces.PiecedBody.{PiecedBody}
 use Rattle.http_wire.specs.inside.HeadLayout.{BeginsHead}
+use Rattle.http_wire.specs.declared.body_limits.BodyLimits.{BodyLimits}
 
 -- the message is a PATCH without a checksum
 abbrev pub IsPlain : Layout → Type 0
 IsPlain p = (head : List ℕ) → is_applied_when_cut p.method (field_at head p.fields.checksum) ≡ true
 
--- The body of a message that is taken in pieces of so many bytes, where there are pieces: a PATCH without a checksum which has
--- more bytes than a piece.
+-- The body of a message, where it is taken in pieces of so many bytes. The message is a PATCH without a checksum, and its body
+-- has more bytes than a piece.
 abbrev pub pieced_by : Option ℕ → Layout → Option PiecedBody
 pieced_by None p = None
 pieced_by (Some n) p =
@@ -28,10 +29,10 @@ piece_at b n = record b.layout { given = b.given; more = b.layout.body_len - (b.
 abbrev pub piece_in : PiecedBody → List ℕ → FramedRequest
 piece_in b text = framed_at text (piece_at b (length text - b.layout.head_len))
 
--- Some bytes came, and this was said meanwhile. They begin with a message of which the head is here. Of its body these bytes are
--- gone, and what came behind them is here, behind the head.
-pub record IsTaken (max : ℕ) (bytes said gone : List ℕ) (b : PiecedBody) (here : List ℕ) : Type 0 where
+-- Some bytes came, and this was said meanwhile. They begin with a message whose head is here. These bytes of its body are gone,
+-- and what came behind them is here, behind the head.
+pub record IsTaken (limits : BodyLimits) (bytes said gone : List ℕ) (b : PiecedBody) (here : List ℕ) : Type 0 where
   pub waits : said ≡ continue_text b.layout.is_waiting
   pub given : length gone ≡ b.given
   pub head : b.layout.head_len ≤ length here
-  pub begins : BeginsHead max bytes b.layout (take b.layout.head_len here ++ (gone ++ drop b.layout.head_len here))
+  pub begins : BeginsHead limits bytes b.layout (take b.layout.head_len here ++ (gone ++ drop b.layout.head_len here))

@@ -1,6 +1,7 @@
 -- What the reading of the next message tells of the bytes that were read, and of the text that was written meanwhile.
 use Rattle.std.specs.Prelude.{◌≡◌, ◌⊎◌, ◌≤◌, ◌+◌, ℕ, length, Bool, true, false, List, [], ◌++◌, take, Option, Result, Ok, Err, IfOk, OnOk, IfErr, ⊤}
 use Rattle.std.specs.Io.KnownBytes.{Appends, Consumes, IsAtEnd}
+use Rattle.http_wire.specs.BodyLimits.{alike}
 use Rattle.http_wire.specs.Conversation.{continue_text}
 use Rattle.http_wire.specs.NextMessage.{NextMessage, IsNextMessage, message, refused, cut_patch, cut_other, clean_end}
 use Rattle.http_wire.specs.Fault.{NamesStream}
@@ -14,6 +15,7 @@ use Rattle.http_wire.specs.declared.fault.WireFault.TheVariants.{Read, Write, Me
 use Rattle.http_wire.specs.declared.incoming.Cut.TheVariants.{Ended, Fault}
 use Rattle.http_wire.specs.declared.incoming.Incoming.{Incoming}
 use Rattle.http_wire.specs.declared.incoming.Incoming.TheVariants.{Message, CutPatch, CutOther, Refused, End}
+use Rattle.http_wire.specs.declared.body_limits.BodyLimits.{BodyLimits}
 
 -- the most bytes that are read ahead of the next message: a read asks for at most so many beyond what the message lacks
 abbrev pub ahead_limit : ℕ
@@ -30,17 +32,17 @@ pub record Intake : Type 0 where
 
 -- The input begins with what came in. What follows it changes no message and no refusal; after a message, these bytes of
 -- it are left.
-abbrev pub ComesIn : ℕ → Intake → List ℕ → Incoming FramedRequest → Type 0
-ComesIn max i left (Message m) =
+abbrev pub ComesIn : BodyLimits → Intake → List ℕ → Incoming FramedRequest → Type 0
+ComesIn limits i left (Message m) =
     (waiting : Bool) × (i.text ≡ continue_text waiting)
-    × ((rest : List ℕ) → IsNextMessage max (i.input ++ rest) (message m.request m.framing waiting (left ++ rest)))
-ComesIn max i left (CutPatch m why) =
-    (waiting : Bool) × (i.text ≡ continue_text waiting) × IsNextMessage max i.input (cut_patch m.request m.framing waiting)
-ComesIn max i left CutOther =
-    (waiting : Bool) × (i.text ≡ continue_text waiting) × IsNextMessage max i.input (cut_other waiting)
-ComesIn max i left (Refused why framing) =
-    (i.text ≡ []) × ((rest : List ℕ) → IsNextMessage max (i.input ++ rest) (refused why framing))
-ComesIn max i left End = (i.text ≡ []) × IsNextMessage max i.input clean_end
+    × ((rest : List ℕ) → IsNextMessage limits (i.input ++ rest) (message m.request m.framing waiting (left ++ rest)))
+ComesIn limits i left (CutPatch m why) =
+    (waiting : Bool) × (i.text ≡ continue_text waiting) × IsNextMessage limits i.input (cut_patch m.request m.framing waiting)
+ComesIn limits i left CutOther =
+    (waiting : Bool) × (i.text ≡ continue_text waiting) × IsNextMessage limits i.input (cut_other waiting)
+ComesIn limits i left (Refused why framing) =
+    (i.text ≡ []) × ((rest : List ℕ) → IsNextMessage limits (i.input ++ rest) (refused why framing))
+ComesIn limits i left End = (i.text ≡ []) × IsNextMessage limits i.input clean_end
 
 -- the request waits for `100 Continue`
 abbrev pub waits : NextMessage → Bool
@@ -60,19 +62,19 @@ IsCut clean_end = ⊤
 
 -- A read failed, and the bytes that were read would be cut as a whole input, or nothing; or the write of `100 Continue`
 -- failed, and a prefix of it was written.
-abbrev pub BreaksMessage : ℕ → Intake → WireFault → Type 0
-BreaksMessage max i Read =
-    ((waiting : Bool) × (i.text ≡ continue_text waiting) × IsNextMessage max i.input (cut_other waiting))
-    ⊎ ((i.text ≡ []) × IsNextMessage max i.input clean_end)
-BreaksMessage max i Write =
-    (f : NextMessage) × IsNextMessage max i.input f × (waits f ≡ true) × ((n : ℕ) × (i.text ≡ take n (continue_text true)))
-BreaksMessage max i Memory = ⊥
-BreaksMessage max i Failed = ⊥
+abbrev pub BreaksMessage : BodyLimits → Intake → WireFault → Type 0
+BreaksMessage limits i Read =
+    ((waiting : Bool) × (i.text ≡ continue_text waiting) × IsNextMessage limits i.input (cut_other waiting))
+    ⊎ ((i.text ≡ []) × IsNextMessage limits i.input clean_end)
+BreaksMessage limits i Write =
+    (f : NextMessage) × IsNextMessage limits i.input f × (waits f ≡ true) × ((n : ℕ) × (i.text ≡ take n (continue_text true)))
+BreaksMessage limits i Memory = ⊥
+BreaksMessage limits i Failed = ⊥
 
 -- what a reading gave, and these bytes are left
-abbrev pub ReadsNext : ℕ → Intake → List ℕ → Result (Incoming FramedRequest) WireFault → Type 0
-ReadsNext max i left (Ok m) = ComesIn max i left m
-ReadsNext max i left (Err fault) = BreaksMessage max i fault
+abbrev pub ReadsNext : BodyLimits → Intake → List ℕ → Result (Incoming FramedRequest) WireFault → Type 0
+ReadsNext limits i left (Ok m) = ComesIn limits i left m
+ReadsNext limits i left (Err fault) = BreaksMessage limits i fault
 
 -- the input is cut or ended only where no byte of it is left
 abbrev pub ComesAtEnd : Option (List ℕ) → Incoming FramedRequest → Type 0
@@ -102,7 +104,7 @@ TellsEnd ended (Err Failed) = ⊤
 -- the writer has not failed, and the reader only where a read that failed cut a PATCH. Nothing is read after the reader's end.
 pub record Reads {R W : Type 0} (s : Streams R W) (old new : OnWire R W) (r : Result (Incoming FramedRequest) WireFault) : Type 0 where
   pub next : (got text : List ℕ) × Consumes (s.remaining old.reader) (s.remaining new.reader) got × Appends (s.contents old.writer) (s.contents new.writer) text
-      × ReadsNext old.max_size (record { input = old.held ++ got; text = text }) new.held r × (length got ≤ read_limit old.max_size)
+      × ReadsNext (alike old.max_size) (record { input = old.held ++ got; text = text }) new.held r × (length got ≤ read_limit old.max_size)
   pub at_end : IfOk r (ComesAtEnd (s.remaining new.reader))
   pub tells_end : TellsEnd new.ended r
   pub stops : old.ended ≡ true → (new.reader ≡ old.reader) × (new.ended ≡ true)

@@ -4,6 +4,7 @@ use Rattle.std.specs.Io.KnownBytes.{Appends, Consumes}
 use Rattle.tus_steps.specs.Request.{Request}
 use Rattle.tus_steps.specs.declared.reply.Reply.{Reply}
 use Rattle.http_wire.specs.Asking.{BreaksAsked}
+use Rattle.http_wire.specs.BodyLimits.{alike}
 use Rattle.http_wire.specs.Clock.{IsTimed}
 use Rattle.http_wire.specs.Fault.{NamesStream}
 use Rattle.http_wire.specs.OnWire.{OnWire}
@@ -38,10 +39,10 @@ module _ {R W A C : Type 0} (s : Streams R W) (steps : A → Request → ℕ →
   pub record TakesTurnOn (old new : ServedWire R W A C) (r : Result (Option Ended) WireFault) : Type 0 where
     pub turn : IsTimed tells old.clock new.clock (IsErr r) (λ now. (got text : List ℕ) × Consumes (s.remaining old.wire.reader) (s.remaining new.wire.reader) got
         × Appends (s.contents old.wire.writer) (s.contents new.wire.writer) text
-        × TakesTurn steps old.wire.max_size now (record { input = old.wire.held ++ got; text = text; before = old.state; after = new.state }) new.wire.held r)
+        × TakesTurn steps (alike old.wire.max_size) now (record { input = old.wire.held ++ got; text = text; before = old.state; after = new.state }) new.wire.held r)
     pub asked : IfErr r (λ f. (got text : List ℕ) × Consumes (s.remaining old.wire.reader) (s.remaining new.wire.reader) got
         × Appends (s.contents old.wire.writer) (s.contents new.wire.writer) text
-        × BreaksAsked steps tells old.wire.max_size old.clock new.clock (record { input = old.wire.held ++ got; text = text; before = old.state; after = new.state }) f)
+        × BreaksAsked steps tells (alike old.wire.max_size) old.clock new.clock (record { input = old.wire.held ++ got; text = text; before = old.state; after = new.state }) f)
     pub end : IfOk r (EndsAtEnd (s.remaining new.wire.reader))
     pub ends : IfOk r EndsByTurn
     pub stops : old.wire.ended ≡ true → (new.wire.reader ≡ old.wire.reader) × (new.wire.ended ≡ true)

@@ -12,6 +12,7 @@ use Rattle.http_wire.specs.declared.conversation.Ended.TheVariants as ended
 use Rattle.http_wire.specs.declared.fault.WireFault.{WireFault}
 use Rattle.http_wire.specs.declared.fault.WireFault.TheVariants as fault
 use Rattle.http_wire.specs.declared.framing.Framing.{Framing}
+use Rattle.http_wire.specs.declared.body_limits.BodyLimits.{BodyLimits}
 
 -- what may follow the bytes that were read: nothing, where the input ended
 abbrev pub MayRemain : Ended → List ℕ → Type 0
@@ -42,8 +43,8 @@ EndsByTurn (Some ended.Closed) = ⊤
 EndsByTurn (Some ended.Cut) = ⊤
 EndsByTurn (Some ended.Moments) = ⊥
 
--- what makes these steps, over a connection whose bodies have at most max bytes
-module _ {A : Type 0} (steps : A → Request → ℕ → Reply → A → Type 0) (max : ℕ) where
+-- what makes these steps, over a connection whose bodies have at most these lengths
+module _ {A : Type 0} (steps : A → Request → ℕ → Reply → A → Type 0) (limits : BodyLimits) where
   -- The message that the input begins with is answered, which leaves this rest of the input, and the
   -- connection open.
   pub record Answered (now : ℕ) (x : Exchange A) (rest : List ℕ) : Type 0 where
@@ -51,7 +52,7 @@ module _ {A : Type 0} (steps : A → Request → ℕ → Reply → A → Type 0)
     pub framing : Framing
     pub waiting : Bool
     pub reply : Reply
-    pub next_message : IsNextMessage max x.input (message request framing waiting rest)
+    pub next_message : IsNextMessage limits x.input (message request framing waiting rest)
     pub stays : framing.close ≡ false
     pub step : steps x.before request now reply x.after
     pub wrote : x.text ≡ continue_text waiting ++ reply_text reply now framing
@@ -93,32 +94,32 @@ module _ {A : Type 0} (steps : A → Request → ℕ → Reply → A → Type 0)
   abbrev pub BreaksOff : List ℕ → Exchange A → Type 0
   BreaksOff [] x = ⊥
   BreaksOff (now ∷ moments) x =
-      ((f : NextMessage) × IsNextMessage max x.input f × FailsIn now f x)
+      ((f : NextMessage) × IsNextMessage limits x.input f × FailsIn now f x)
       ⊎ ((text later rest : List ℕ) × (b : A) × Answered now (first_part x text b) rest
       × BreaksOff moments (last_part x rest b later) × (x.text ≡ text ++ later))
 
   -- The conversation ended so, after this input was read, whatever bytes may follow it: so the cuts that a
   -- reader makes between its bytes change nothing.
   abbrev pub Converses : List ℕ → Exchange A → Ended → Type 0
-  Converses moments x e = (rest : List ℕ) → MayRemain e rest → Conversation steps max moments (followed x rest) e
+  Converses moments x e = (rest : List ℕ) → MayRemain e rest → Conversation steps limits moments (followed x rest) e
 
   -- A fault broke the conversation off. After a read that failed it is the conversation of the bytes that were
   -- read, as a whole input, and ends with that; after a write that failed, every text before the last is written
   -- whole, and a prefix of the last. Memory is lacking only before anything is read.
   abbrev pub Breaks : List ℕ → Exchange A → WireFault → Type 0
-  Breaks moments x fault.Read = (e : Ended) × EndsWithInput e × Conversation steps max moments x e
+  Breaks moments x fault.Read = (e : Ended) × EndsWithInput e × Conversation steps limits moments x e
   Breaks moments x fault.Write = BreaksOff moments x
   Breaks moments x fault.Memory = (x.input ≡ []) × (x.text ≡ []) × (x.after ≡ x.before)
   Breaks moments x fault.Failed = ⊥
 
   -- a turn with which the conversation ends, whatever moments are left
   abbrev pub LastTurn : ℕ → Exchange A → Ended → Type 0
-  LastTurn now x e = (moments : List ℕ) → Conversation steps max (now ∷ moments) x e
+  LastTurn now x e = (moments : List ℕ) → Conversation steps limits (now ∷ moments) x e
 
   -- a turn was broken off by a fault, after this input
   abbrev pub BreaksTurn : ℕ → Exchange A → WireFault → Type 0
   BreaksTurn now x fault.Read = (e : Ended) × EndsWithInput e × LastTurn now x e
-  BreaksTurn now x fault.Write = (f : NextMessage) × IsNextMessage max x.input f × FailsIn now f x
+  BreaksTurn now x fault.Write = (f : NextMessage) × IsNextMessage limits x.input f × FailsIn now f x
   BreaksTurn now x fault.Memory = ⊥
   BreaksTurn now x fault.Failed = ⊥
 

@@ -1,10 +1,11 @@
 //! A connection that holds no stream: what its client sends is put in, and what it is to be sent is taken out.
-ghost use Rattle.std.specs.Prelude.{◌≡◌, ◌≢◌, ◌⊎◌, ◌≤◌, ◌<◌, ◌+◌, ◌-◌, ◌^◌, ◌++◌, ℕ, List, [], Ok, None, Some, true, false, length, drop, take, IfOk, OnOk, OnErr, IfSome, is_err, is_some, option_map};
+ghost use Rattle.std.specs.Prelude.{◌≡◌, ◌≢◌, ◌⊎◌, ◌≤◌, ◌<◌, ◌+◌, ◌-◌, ◌^◌, ◌++◌, ℕ, List, [], Ok, None, Some, true, false, length, drop, take, Option, IfOk, OnOk, OnErr, IfSome, is_err, is_some, option_map};
 ghost use Rattle.std.specs.Bool.{OnFalse, OnTrue};
 ghost use Rattle.std.specs.Io.KnownBytes.{Appends, Consumes, IsAtEnd, Keeps};
+ghost use Rattle.http_wire.specs.BodyLimits.{AreSmall, AreWithin, alike};
 ghost use Rattle.http_wire.specs.ConnectionCalls.{BreaksTo, Puts, Sends, Takes};
 ghost use Rattle.http_wire.specs.Incoming.{map_incoming, is_cut_by_fault};
-ghost use Rattle.http_wire.specs.Layout.{framed_at};
+ghost use Rattle.http_wire.specs.Layout.{IsLayoutWithin, framed_at};
 ghost use Rattle.http_wire.specs.Message.{framed};
 ghost use Rattle.http_wire.specs.OnConnection.{HasNoMessage, IsFresh, IsIdle, OnConnection, Stands, StandsIn, at_start, body_held, body_in, ended_in, is_looking, left, left_in, looking_again, owed_in, passed_over, phase_after, piece_owed, turn_end, under_way, unless_pending, wanted, wanted_in};
 ghost use Rattle.http_wire.specs.PiecedBody.{piece_in};
@@ -14,9 +15,10 @@ ghost use Rattle.http_wire.specs.ReplyText.{refusal_text, reply_text};
 ghost use Rattle.http_wire.specs.Streams.{took_nothing};
 ghost use Rattle.http_wire.specs.Writes.{Writes};
 ghost use Rattle.http_wire.specs.inside.IncomingLayout.{IsLent};
-ghost use Rattle.http_wire.specs.inside.Phases.{map_phase, IsPhase, lacking};
+ghost use Rattle.http_wire.specs.inside.Phases.{Gathers, map_phase, IsPhase, lacking};
+ghost use Rattle.http_wire.specs.inside.PieceAnswer.{AnswersOwed};
 ghost use Rattle.http_wire.specs.inside.Sending.{empty_write_buffer};
-ghost use Rattle.http_wire.specs.inside.Standing.{Fits, HasRoom, HasRoomForPiece, IsPieced, Keeps as KeepsBody, Standing, Wants as WantsMore, pieced};
+ghost use Rattle.http_wire.specs.inside.Standing.{Fits, GathersAt, HasRoom, KeepsBody, Standing, Wants as WantsMore, pieced};
 ghost use Rattle.http_wire.specs.inside.TurnFinish.{AnswersTurn};
 ghost use Rattle.http_wire.specs.declared.phase.Phase.TheVariants.{Looking, Waiting};
 ghost use Rattle.http_wire.specs.declared.read.stage.Stage.TheVariants.{Head};
@@ -25,6 +27,7 @@ ghost use Rattle.tus_steps.specs.PlacedReply.{reply_in};
 ghost use Rattle.tus_steps.specs.declared.reply.Reply.TheVariants.{Deleted};
 
 use crate::answer::Answer;
+use crate::body_limits::BodyLimits;
 use crate::buffers::Buffers;
 use crate::conversation::Ended;
 use crate::fault::WireFault;
@@ -38,7 +41,7 @@ use crate::read::pieces::{Part, PiecedBody};
 use crate::read::read_buffer::{READ_SIZE, ReadBuffer};
 use crate::read::stage::{Looked, Stage, lend_all};
 use crate::refusal::WireRefusal;
-use crate::replying::answer_incoming;
+use crate::replying::{answer_incoming, turn_cut};
 use crate::source::{Sink, Source};
 use crate::write::send::flush;
 use crate::write::write_buffer::WriteBuffer;
@@ -62,19 +65,19 @@ pub enum Wants {
 }
 
 /// A connection: what came of its client's messages, and what is to be sent. It holds no stream. A caller asks what it wants,
-/// and does that: a read into it, a write of what is pending, or an answer to what came in. Each call makes at most one read
-/// or one write, and waits only where the stream or the answerer does. After a write that failed it is let go.
+/// and does that: it reads into it, writes what is pending, or answers what came in. Each call makes at most one read or one
+/// write, and waits only where the stream or the answerer does. After a write that failed it is let go.
 ///
 /// It gathers each body, or takes those of PATCHes without a checksum in pieces. Then a piece is owed an answer as a message is,
 /// and may be answered once it has come.
 ///
-/// A contract sees what it holds, how far it has come, what is to be sent, the most bytes of a body, and how many bytes a piece
-/// has, where there are pieces.
+/// A contract sees what it holds, how far it has come, and what is to be sent. It sees the most bytes of bodies too, and how many
+/// bytes a piece has, where there are pieces.
 #[derive(Drop)]
 pub struct Connection {
     buffers: Buffers,
     phase: Phase<Layout>,
-    max_size: u64,
+    limits: BodyLimits,
     piece: Option<usize>,
 }
 
@@ -89,21 +92,21 @@ impl Model for Connection {
       read_buffer = c.buffers.read_buffer;
       phase = map_phase (framed_at c.buffers.read_buffer.lent) c.phase;
       write_buffer = c.buffers.write_buffer;
-      max_size = c.max_size;
+      limits = c.limits;
       piece = c.piece;
     } };
 
-    ghost invariant = { λ c. IsConnection c.buffers.read_buffer c.phase c.max_size c.piece };
+    ghost invariant = { λ c. IsConnection c.buffers.read_buffer c.phase c.limits c.piece };
 }
 
 impl Connection {
-    /// A connection of which nothing was read, and which gathers each body. A body has at most `max_size` bytes, below 2^31. The
+    /// A connection of which nothing was read, and which gathers each body. A body has at most `max_size` bytes, below 2^62. The
     /// error is that memory is lacking.
     pub fn new(alloc: Global, max_size: u64) -> Result<Self, AllocError>
-        requires { max_size < 2 ^ 31 }
+        requires { max_size < 2 ^ 62 }
         ensures fresh { IfOk result IsFresh }
         ensures begins { IfOk result (HasHistory nothing_yet) }
-        ensures size { IfOk result (λ c. c.max_size ≡ max_size) }
+        ensures limits { IfOk result (λ c. c.limits ≡ alike max_size) }
         ensures gathers { IfOk result (λ c. c.piece ≡ None) }
     {
         let buffers = Buffers::new(alloc)?;
@@ -113,24 +116,25 @@ impl Connection {
     /// The same over buffers that another connection has left, so that it takes no memory. What they hold is neither read
     /// nor sent.
     pub fn with_buffers(buffers: Buffers, max_size: u64) -> Self
-        requires { max_size < 2 ^ 31 }
+        requires { max_size < 2 ^ 62 }
         ensures fresh { IsFresh result }
         ensures begins { HasHistory nothing_yet result }
-        ensures size { result.max_size ≡ max_size }
+        ensures limits { result.limits ≡ alike max_size }
         ensures gathers { result.piece ≡ None }
     {
-        Connection::by_pieces(buffers, max_size, None)
+        Connection::by_pieces(buffers, BodyLimits::alike(max_size), None)
     }
 
-    /// The same, but the body of a PATCH without a checksum is taken in pieces where it has more bytes than `piece`, above 0: each
-    /// piece once so many bytes have come, with at most 16,384 more, and what is left once the rest has. Where there is none,
+    /// The same, but it may take bodies in pieces. Bodies have at most as many bytes as `limits` tell, each below 2^62. The body of
+    /// a PATCH without a checksum is taken so if it has more bytes than `piece`, which is above 0. A piece is taken once so many
+    /// bytes have come, and has at most 16,384 more. The last piece is taken once the rest has come. Where there is no `piece`,
     /// each body is gathered.
-    pub fn by_pieces(buffers: Buffers, max_size: u64, piece: Option<usize>) -> Self
-        requires size { max_size < 2 ^ 31 }
+    pub fn by_pieces(buffers: Buffers, limits: BodyLimits, piece: Option<usize>) -> Self
+        requires limits { AreSmall limits }
         requires some { IfSome piece (λ n. 0 < n) }
         ensures fresh { IsFresh result }
         ensures begins { HasHistory nothing_yet result }
-        ensures size { result.max_size ≡ max_size }
+        ensures limits { result.limits ≡ limits }
         ensures piece { result.piece ≡ piece }
     {
         let mut buffers = buffers;
@@ -138,7 +142,7 @@ impl Connection {
         Connection {
             buffers,
             phase: Phase::start(),
-            max_size,
+            limits,
             piece,
         }
     }
@@ -150,13 +154,13 @@ impl Connection {
         ensures idle { OnTrue result (IsIdle self.now) }
         ensures busy { OnFalse result (IsIdle self.now → ⊥) }
         ensures renews { OnTrue result ((p : History) (c : OnConnection) → HasHistory p self.now → IsFresh c
-            → c.max_size ≡ self.now.max_size → c.piece ≡ self.now.piece → HasHistory p c) }
+            → c.limits ≡ self.now.limits → c.piece ≡ self.now.piece → HasHistory p c) }
     {
         is_at_start(&self.phase) && is_empty(&self.buffers)
     }
 
-    /// How many bytes it holds of a body that has not come whole, as far as `wants` has looked: 0 for a head, and once a
-    /// message or a piece came in.
+    /// How many bytes it holds of a body that has not come whole, as far as `wants` has looked. It is 0 while a head is read,
+    /// and once a message or a piece came in.
     pub fn body_held(&self) -> usize
         ensures { result ≡ body_held self.now.read_buffer self.now.phase }
     {
@@ -188,7 +192,7 @@ impl Connection {
                 lend_held(layout, &self.buffers.read_buffer),
             ),
             Phase::Looking(Stage::Pieces(body)) | Phase::Waiting(Stage::Pieces(body)) => Some(
-                lend_held_piece(body, &self.buffers.read_buffer),
+                lend_piece(body, self.buffers.read_buffer.held()),
             ),
             _ => None,
         }
@@ -225,7 +229,7 @@ impl Connection {
         ensures looks { self.old.write_buffer.has_room ≡ true → is_looking self.new.phase ≡ true
             → self.new.write_buffer.pending ≢ self.old.write_buffer.pending }
         ensures needs { result ≡ Wants.Read → (bytes said : List ℕ) → Stands bytes said self.new
-            → HasNoMessage self.new.max_size bytes }
+            → HasNoMessage self.new.limits bytes }
         ensures few { result ≡ Wants.Answer → length self.new.write_buffer.pending ≤ 8192 }
         ensures some { result ≡ Wants.Write → self.new.write_buffer.pending ≢ [] }
         ensures nearer { left self.new ≤ left self.old }
@@ -235,11 +239,11 @@ impl Connection {
         ensures unbroken { is_looking self.old.phase ≡ true
             → IfSome (owed_in self.new.phase) (λ i. is_cut_by_fault i ≡ false) }
         ensures gathers { self.new.piece ≡ None → body_in self.new.phase ≡ None }
-        ensures size { self.new.max_size ≡ self.old.max_size }
+        ensures limits { self.new.limits ≡ self.old.limits }
         ensures piece { self.new.piece ≡ self.old.piece }
     {
         if let Phase::Looking(stage) = &self.phase {
-            self.phase = look_on(*stage, &mut self.buffers, self.max_size, self.piece);
+            self.phase = look_on(*stage, &mut self.buffers, self.limits, self.piece);
             return wants_at(&self.phase, &self.buffers.write_buffer);
         }
         wants_at(&self.phase, &self.buffers.write_buffer)
@@ -255,8 +259,8 @@ impl Connection {
         ensures takes { IfOk result (λ n. (got : List ℕ) × (length got ≡ n)
             × Consumes (R.remaining reader.old) (R.remaining reader.new) got × Takes got self.old self.new) }
         ensures end { IfOk result (λ n. n ≡ 0 → IsAtEnd (R.remaining reader.new)) }
-        ensures few { IfOk result (λ n. (bytes said : List ℕ) → Stands bytes said self.old
-            → length bytes + n ≤ read_limit self.old.max_size) }
+        ensures few { IfOk result (λ n. (most : ℕ) → AreWithin self.old.limits most → (bytes said : List ℕ)
+            → Stands bytes said self.old → length bytes + n ≤ read_limit most) }
         ensures nearer { OnOk result (left self.new < left self.old) }
         ensures room { self.new.read_buffer.room ≡ self.old.read_buffer.room }
         ensures fits { length self.new.read_buffer.held ≤ self.new.read_buffer.room }
@@ -282,7 +286,7 @@ impl Connection {
         ensures phase { self.new.phase ≡ looking_again self.old.phase }
         ensures nearer { left self.new < left self.old }
         ensures write_buffer { self.new.write_buffer ≡ self.old.write_buffer }
-        ensures size { self.new.max_size ≡ self.old.max_size }
+        ensures limits { self.new.limits ≡ self.old.limits }
         ensures piece { self.new.piece ≡ self.old.piece }
     {
         if let Phase::Waiting(stage) = &self.phase {
@@ -297,13 +301,13 @@ impl Connection {
     pub fn fail(&mut self)
         requires { wanted self.old ≡ Wants.Read }
         ensures breaks { (bytes said : List ℕ) → Stands bytes said self.old
-            → BreaksTo self.old.max_size bytes said self.new.read_buffer self.new.phase }
+            → BreaksTo self.old.limits bytes said self.new.read_buffer self.new.phase }
         ensures history { (p : History) → HasHistory p self.old → HasHistory p self.new }
         ensures tells_end { IfSome (owed_in self.new.phase) (λ i. TellsEnd self.new.read_buffer.ended (Ok i)) }
         ensures write_buffer { self.new.write_buffer ≡ self.old.write_buffer }
         ensures ended { self.new.read_buffer.ended ≡ self.old.read_buffer.ended }
         ensures gathers { self.new.piece ≡ None → body_in self.new.phase ≡ None }
-        ensures size { self.new.max_size ≡ self.old.max_size }
+        ensures limits { self.new.limits ≡ self.old.limits }
         ensures piece { self.new.piece ≡ self.old.piece }
     {
         if let Phase::Waiting(stage) = &self.phase {
@@ -327,7 +331,7 @@ impl Connection {
         ensures { option_map framed result ≡ piece_owed self.now.read_buffer self.now.phase }
     {
         match &self.phase {
-            Phase::Piece(body, _) => Some(lend_piece(body, &self.buffers.read_buffer)),
+            Phase::Piece(body, _) => Some(lend_piece(body, self.buffers.read_buffer.lent())),
             _ => None,
         }
     }
@@ -345,9 +349,9 @@ impl Connection {
         }
     }
 
-    /// Lets what came in be answered at its moment, and puts the answer behind what is pending; then it may look for the next
+    /// Lets what came in be answered at its moment, and puts the answer behind what is pending. Then it may look for the next
     /// message, or the conversation is over. A refusal is put, and closes. A PATCH that was cut is applied with the bytes that
-    /// came, and gets no reply, as the end and any other message that was cut. Each takes a moment.
+    /// came, and gets no reply. The end and any other message that was cut get none either. Each takes a moment.
     ///
     /// A piece with more to come gets no reply where it is accepted; the reply that refuses it closes the connection. The last
     /// piece gets the reply to its message. What came of a piece before its body was cut is applied and gets none.
@@ -356,13 +360,14 @@ impl Connection {
         ensures answers { IfSome (owed_in self.old.phase) (λ i. (put : List ℕ)
             × (self.new.write_buffer.pending ≡ self.old.write_buffer.pending ++ put)
             × AnswersTurn A.steps now self.old.read_buffer i put answerer.old answerer.new (turn_end i)) }
+        ensures pieces { AnswersOwed A.steps now answerer.old answerer.new self.old self.new self.old.phase }
         ensures history { (p : History) → HasHistory p self.old → (answered : List Answering)
             × Follows A.steps answerer.old answered answerer.new
             × HasHistory (noted_before (body_in self.new.phase) p now answered) self.new }
         ensures phase { IfSome (owed_in self.old.phase) (λ i. self.new.phase ≡ phase_after (turn_end i)) }
         ensures read_buffer { IfSome (owed_in self.old.phase) (λ i. self.new.read_buffer ≡ self.old.read_buffer) }
         ensures gathers { self.new.piece ≡ None → body_in self.new.phase ≡ None }
-        ensures size { self.new.max_size ≡ self.old.max_size }
+        ensures limits { self.new.limits ≡ self.old.limits }
         ensures piece { self.new.piece ≡ self.old.piece }
     {
         match &self.phase {
@@ -392,8 +397,10 @@ impl Connection {
         ensures { result ≡ ended_in self.now.phase }
     {
         match &self.phase {
-            Phase::Over(Ok(ended)) | Phase::Stopped(Ok(ended)) => Ok(Some(*ended)),
-            Phase::Over(Err(fault)) | Phase::Stopped(Err(fault)) => Err(*fault),
+            Phase::Over(Ok(ended)) => Ok(Some(*ended)),
+            Phase::Over(Err(fault)) => Err(*fault),
+            Phase::Stopped(None) => Ok(Some(Ended::Closed)),
+            Phase::Stopped(Some(why)) => turn_cut(*why),
             _ => Ok(None),
         }
     }
@@ -476,15 +483,15 @@ impl Connection {
 fn look_on(
     stage: Stage,
     buffers: &mut Buffers,
-    max_size: u64,
+    limits: BodyLimits,
     piece: Option<usize>,
 ) -> Phase<Layout>
-    requires size { max_size < 2 ^ 31 }
+    requires limits { AreSmall limits }
     requires piece { IfSome piece (λ n. 0 < n) }
     requires fits { Fits buffers.old.read_buffer stage }
-    ensures stands { (bytes said : List ℕ) → Standing max_size bytes said buffers.old.read_buffer stage
+    ensures stands { (bytes said : List ℕ) → Standing limits bytes said buffers.old.read_buffer stage
         → (put : List ℕ) × (buffers.new.write_buffer.pending ≡ buffers.old.write_buffer.pending ++ put)
-        × StandsIn max_size bytes (said ++ put) buffers.new.read_buffer (map_phase (framed_at buffers.new.read_buffer.lent) result) }
+        × StandsIn limits bytes (said ++ put) buffers.new.read_buffer (map_phase (framed_at buffers.new.read_buffer.lent) result) }
     ensures phase { IsPhase buffers.new.read_buffer result }
     ensures some { is_looking result ≡ true → buffers.new.write_buffer.pending ≢ [] }
     ensures same { is_looking result ≡ false → buffers.new.write_buffer ≡ buffers.old.write_buffer }
@@ -495,6 +502,7 @@ fn look_on(
     ensures unbroken { IfSome (owed_in (map_phase (framed_at buffers.new.read_buffer.lent) result))
         (λ i. is_cut_by_fault i ≡ false) }
     ensures body { KeepsBody piece (pieced stage) (body_in result) }
+    ensures gathers { GathersAt piece stage → Gathers piece buffers.new.read_buffer result }
     ensures ended { buffers.new.read_buffer.ended ≡ buffers.old.read_buffer.ended }
 {
     if !buffers.write_buffer.has_room() {
@@ -505,7 +513,7 @@ fn look_on(
         &mut buffers.read_buffer,
         &mut buffers.spans,
         &mut buffers.fields,
-        max_size,
+        limits,
         piece,
     ) {
         Looked::More => Phase::Waiting(stage),
@@ -522,7 +530,7 @@ fn look_on(
 fn lacking(phase: &Phase<Layout>, read_buffer: &ReadBuffer) -> usize
     requires { IsPhase read_buffer.now phase.now }
     ensures lacks { result ≡ lacking read_buffer.now phase.now }
-    ensures few { result < 2 ^ 32 }
+    ensures few { result < 2 ^ 63 }
 {
     match phase {
         Phase::Waiting(Stage::Body(layout)) => {
@@ -573,10 +581,11 @@ fn unless_pending(write_buffer: &WriteBuffer, wants: Wants) -> Wants
 fn broken(stage: Stage, read_buffer: &mut ReadBuffer) -> Phase<Layout>
     requires fits { Fits read_buffer.old stage }
     requires wants { WantsMore read_buffer.old stage }
-    ensures breaks { (max : ℕ) (bytes said : List ℕ) → Standing max bytes said read_buffer.old stage
-        → BreaksTo max bytes said read_buffer.new (map_phase (framed_at read_buffer.new.lent) result) }
+    ensures breaks { (limits : BodyLimits) (bytes said : List ℕ) → Standing limits bytes said read_buffer.old stage
+        → BreaksTo limits bytes said read_buffer.new (map_phase (framed_at read_buffer.new.lent) result) }
     ensures phase { IsPhase read_buffer.new result }
     ensures body { body_in result ≡ pieced stage }
+    ensures gathers { (piece : Option ℕ) → GathersAt piece stage → Gathers piece read_buffer.new result }
     ensures ended { read_buffer.new.ended ≡ read_buffer.old.ended }
 {
     match stage {
@@ -632,25 +641,12 @@ fn lend_held<'i>(layout: &Layout, read_buffer: &'i ReadBuffer) -> Message<'i>
     }
 }
 
-// The same of a body that is taken in pieces.
-fn lend_held_piece<'i>(body: &PiecedBody, read_buffer: &'i ReadBuffer) -> Message<'i>
-    requires { HasRoomForPiece read_buffer.now body.now }
-    ensures { framed result ≡ piece_in body.now read_buffer.now.held }
+// The piece of a body that stands in this text behind the head.
+fn lend_piece<'i>(body: &PiecedBody, text: &'i [u8]) -> Message<'i>
+    requires head { body.now.layout.head_len ≤ length text.now }
+    requires within { IsLayoutWithin body.now.layout.head_len body.now.layout }
+    ensures { framed result ≡ piece_in body.now text.now }
 {
-    let text = read_buffer.held();
-    Message {
-        layout: body.piece_at(text.len() - body.layout.head_len),
-        text,
-    }
-}
-
-// A piece that came.
-fn lend_piece<'i>(body: &PiecedBody, read_buffer: &'i ReadBuffer) -> Message<'i>
-    requires body { IsPieced read_buffer.now.room body.now }
-    requires lent { body.now.layout.head_len ≤ length read_buffer.now.lent }
-    ensures { framed result ≡ piece_in body.now read_buffer.now.lent }
-{
-    let text = read_buffer.lent();
     Message {
         layout: body.piece_at(text.len() - body.layout.head_len),
         text,

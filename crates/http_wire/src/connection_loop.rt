@@ -1,6 +1,7 @@
 ghost use Rattle.std.specs.Prelude.{◌≡◌, ◌<◌, ◌∷◌, ◌++◌, [], ℕ, List, length, true, false, IfOk, IfErr, IsErr, OnOk};
 ghost use Rattle.std.specs.Io.KnownBytes.{Appends, Consumes};
 ghost use Rattle.http_wire.specs.Asking.{BreaksAfterTurns};
+ghost use Rattle.http_wire.specs.BodyLimits.{alike};
 ghost use Rattle.http_wire.specs.Clock.{AreTold, IsTimed, Tells};
 ghost use Rattle.http_wire.specs.Fault.{NamesStream};
 ghost use Rattle.http_wire.specs.Turns.{Breaks, Converses, IsReadWhen};
@@ -27,7 +28,7 @@ pub fn serve<R: Source + Drop, W: Sink + Drop, A: Answer, C: Clock>(
         × AreTold C.tells clock.old clock.new most e moments × (got text : List ℕ)
         × Consumes (R.remaining wire.old.reader) (R.remaining wire.new.reader) got
         × Appends (W.contents wire.old.writer) (W.contents wire.new.writer) text
-        × Converses A.steps wire.old.max_size moments
+        × Converses A.steps (alike wire.old.max_size) moments
         (record { input = wire.old.held ++ got; text = text; before = answerer.old; after = answerer.new }) e) }
     ensures read { IfOk result (λ e. IsReadWhen e (R.remaining wire.new.reader)) }
     ensures breaks { IfErr result (λ f. (moments : List ℕ) × (last : C)
@@ -35,12 +36,12 @@ pub fn serve<R: Source + Drop, W: Sink + Drop, A: Answer, C: Clock>(
         × IsTimed C.tells last clock.new (IsErr result) (λ now. (got text : List ℕ)
         × Consumes (R.remaining wire.old.reader) (R.remaining wire.new.reader) got
         × Appends (W.contents wire.old.writer) (W.contents wire.new.writer) text
-        × Breaks A.steps wire.old.max_size (moments ++ now ∷ [])
+        × Breaks A.steps (alike wire.old.max_size) (moments ++ now ∷ [])
         (record { input = wire.old.held ++ got; text = text; before = answerer.old; after = answerer.new }) f)) }
     ensures asked { IfErr result (λ f. (got text : List ℕ)
         × Consumes (R.remaining wire.old.reader) (R.remaining wire.new.reader) got
         × Appends (W.contents wire.old.writer) (W.contents wire.new.writer) text
-        × BreaksAfterTurns A.steps C.tells wire.old.max_size clock.old clock.new
+        × BreaksAfterTurns A.steps C.tells (alike wire.old.max_size) clock.old clock.new
         (record { input = wire.old.held ++ got; text = text; before = answerer.old; after = answerer.new }) f) }
     ensures reads { IfOk result (λ e. e ≡ Ended.Moments → wire.new.reads ≡ true) }
     ensures reader { OnOk result (R.has_failed wire.new.reader ≡ false) }

@@ -1,6 +1,7 @@
 ghost use Rattle.std.specs.Prelude.{◌≡◌, ◌++◌, ℕ, List, None, Some, false, IfOk, IfErr, IfSome, IsErr, OnOk};
 ghost use Rattle.std.specs.Io.KnownBytes.{Appends, Consumes};
 ghost use Rattle.http_wire.specs.Asking.{BreaksAsked};
+ghost use Rattle.http_wire.specs.BodyLimits.{alike};
 ghost use Rattle.http_wire.specs.Clock.{IsTimed};
 ghost use Rattle.http_wire.specs.Conversation.{Conversation};
 ghost use Rattle.http_wire.specs.Fault.{NamesStream, NamesOrMemory};
@@ -53,18 +54,18 @@ pub fn converse<R: Source, W: Sink, A: Answer>(
     ensures known { (input before : List ℕ) → R.remaining reader.old ≡ Some input
         → W.contents writer.old ≡ Some before
         → IfOk result (λ e. (text : List ℕ) × (W.contents writer.new ≡ Some (before ++ text))
-        × Conversation A.steps (A.max_size answerer.old) moments.now
+        × Conversation A.steps (alike (A.max_size answerer.old)) moments.now
         (record { input = input; text = text; before = answerer.old; after = answerer.new }) e) }
     ensures converses { IfOk result (λ e. (got text : List ℕ)
         × Consumes (R.remaining reader.old) (R.remaining reader.new) got
         × Appends (W.contents writer.old) (W.contents writer.new) text
-        × Converses A.steps (A.max_size answerer.old) moments.now
+        × Converses A.steps (alike (A.max_size answerer.old)) moments.now
         (record { input = got; text = text; before = answerer.old; after = answerer.new }) e) }
     ensures read { IfOk result (λ e. IsReadWhen e (R.remaining reader.new)) }
     ensures breaks { IfErr result (λ f. (got text : List ℕ)
         × Consumes (R.remaining reader.old) (R.remaining reader.new) got
         × Appends (W.contents writer.old) (W.contents writer.new) text
-        × Breaks A.steps (A.max_size answerer.old) moments.now
+        × Breaks A.steps (alike (A.max_size answerer.old)) moments.now
         (record { input = got; text = text; before = answerer.old; after = answerer.new }) f) }
     ensures reader { OnOk result (R.has_failed reader.new ≡ false) }
     ensures writer { OnOk result (W.has_failed writer.new ≡ false) }
@@ -86,22 +87,22 @@ fn take_turns<R: Source, W: Sink, A: Answer>(
     requires writer { W.has_failed writer.old ≡ false }
     requires fresh { IsFresh connection.old }
     requires gathers { connection.old.piece ≡ None }
-    requires same { connection.old.max_size ≡ A.max_size answerer.old }
+    requires same { connection.old.limits ≡ alike (A.max_size answerer.old) }
     ensures known { (input before : List ℕ) → R.remaining reader.old ≡ Some input
         → W.contents writer.old ≡ Some before
         → IfOk result (λ e. (text : List ℕ) × (W.contents writer.new ≡ Some (before ++ text))
-        × Conversation A.steps (A.max_size answerer.old) moments.now
+        × Conversation A.steps (alike (A.max_size answerer.old)) moments.now
         (record { input = input; text = text; before = answerer.old; after = answerer.new }) e) }
     ensures converses { IfOk result (λ e. (got text : List ℕ)
         × Consumes (R.remaining reader.old) (R.remaining reader.new) got
         × Appends (W.contents writer.old) (W.contents writer.new) text
-        × Converses A.steps (A.max_size answerer.old) moments.now
+        × Converses A.steps (alike (A.max_size answerer.old)) moments.now
         (record { input = got; text = text; before = answerer.old; after = answerer.new }) e) }
     ensures read { IfOk result (λ e. IsReadWhen e (R.remaining reader.new)) }
     ensures breaks { IfErr result (λ f. (got text : List ℕ)
         × Consumes (R.remaining reader.old) (R.remaining reader.new) got
         × Appends (W.contents writer.old) (W.contents writer.new) text
-        × Breaks A.steps (A.max_size answerer.old) moments.now
+        × Breaks A.steps (alike (A.max_size answerer.old)) moments.now
         (record { input = got; text = text; before = answerer.old; after = answerer.new }) f) }
     ensures reader { OnOk result (R.has_failed reader.new ≡ false) }
     ensures writer { OnOk result (W.has_failed writer.new ≡ false) }
@@ -133,13 +134,13 @@ pub fn take_turn<R: Source, W: Sink, A: Answer, C: Clock>(
     ensures turn { IsTimed C.tells clock.old clock.new (IsErr result) (λ now.
         (got text : List ℕ) × Consumes (R.remaining reader.old) (R.remaining reader.new) got
         × Appends (W.contents writer.old) (W.contents writer.new) text
-        × TakesTurn A.steps connection.old.max_size now
+        × TakesTurn A.steps connection.old.limits now
         (record { input = connection.old.read_buffer.held ++ got; text = text; before = answerer.old; after = answerer.new })
         connection.new.read_buffer.held result) }
     ensures asked { IfErr result (λ f. (got text : List ℕ)
         × Consumes (R.remaining reader.old) (R.remaining reader.new) got
         × Appends (W.contents writer.old) (W.contents writer.new) text
-        × BreaksAsked A.steps C.tells connection.old.max_size clock.old clock.new
+        × BreaksAsked A.steps C.tells connection.old.limits clock.old clock.new
         (record { input = connection.old.read_buffer.held ++ got; text = text; before = answerer.old; after = answerer.new }) f) }
     ensures end { IfOk result (λ r. SeesEnd (R.remaining reader.old) connection.old.read_buffer
         → EndsTurnAtEnd (R.remaining reader.new) connection.new.read_buffer r) }
@@ -150,7 +151,7 @@ pub fn take_turn<R: Source, W: Sink, A: Answer, C: Clock>(
     ensures fault { IfErr result (NamesStream (R.has_failed reader.new) (W.has_failed writer.new)) }
     ensures starts { IfOk result (λ r. r ≡ None → connection.new.phase ≡ at_start) }
     ensures sent { connection.new.write_buffer ≡ empty_write_buffer }
-    ensures size { connection.new.max_size ≡ connection.old.max_size }
+    ensures limits { connection.new.limits ≡ connection.old.limits }
     ensures piece { connection.new.piece ≡ connection.old.piece }
 {
     await_incoming(reader, writer, connection)?;
@@ -175,7 +176,7 @@ fn finish_turn<W: Sink, A: Answer>(
         answerer.old answerer.new result) }
     ensures starts { IfOk result (λ r. r ≡ None → connection.new.phase ≡ at_start) }
     ensures sent { connection.new.write_buffer ≡ empty_write_buffer }
-    ensures size { connection.new.max_size ≡ connection.old.max_size }
+    ensures limits { connection.new.limits ≡ connection.old.limits }
     ensures piece { connection.new.piece ≡ connection.old.piece }
 {
     connection.answer(answerer, now);

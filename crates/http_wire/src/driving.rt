@@ -1,6 +1,7 @@
 //! A connection over a reader and a writer that wait.
 ghost use Rattle.std.specs.Prelude.{◌≡◌, ◌≤◌, ◌++◌, ℕ, List, length, Err, false, OnOk, IfErr};
 ghost use Rattle.std.specs.Io.KnownBytes.{Appends, Consumes};
+ghost use Rattle.http_wire.specs.BodyLimits.{AreWithin};
 ghost use Rattle.http_wire.specs.Fault.{NamesStream};
 ghost use Rattle.http_wire.specs.ReadOnWire.{BreaksMessage, TellsEnd, read_limit};
 ghost use Rattle.http_wire.specs.inside.Ahead.{SeesEnd, StopsAtEnd};
@@ -25,19 +26,19 @@ pub fn await_incoming<R: Source, W: Sink>(
         × Consumes (R.remaining reader.old) (R.remaining reader.new) got
         × Appends (W.contents writer.old) (W.contents writer.new) text
         × CameIn (connection.old.read_buffer.held ++ got) text (R.has_failed reader.new) connection.new
-        × (length got ≤ read_limit connection.old.max_size)) }
+        × ((most : ℕ) → AreWithin connection.old.limits most → length got ≤ read_limit most)) }
     ensures breaks { IfErr result (λ f. (got text : List ℕ)
         × Consumes (R.remaining reader.old) (R.remaining reader.new) got
         × Appends (W.contents writer.old) (W.contents writer.new) text
-        × BreaksMessage connection.old.max_size
+        × BreaksMessage connection.old.limits
         (record { input = connection.old.read_buffer.held ++ got; text = text }) f
-        × (length got ≤ read_limit connection.old.max_size)) }
+        × ((most : ℕ) → AreWithin connection.old.limits most → length got ≤ read_limit most)) }
     ensures end { OnOk result (SeesEnd (R.remaining reader.old) connection.old.read_buffer
         → SeesEnd (R.remaining reader.new) connection.new.read_buffer) }
     ensures tells_end { IfErr result (λ f. TellsEnd connection.new.read_buffer.ended (Err f)) }
     ensures stops { StopsAtEnd reader.old reader.new connection.old.read_buffer connection.new.read_buffer }
     ensures sent { connection.new.write_buffer ≡ empty_write_buffer }
-    ensures size { connection.new.max_size ≡ connection.old.max_size }
+    ensures limits { connection.new.limits ≡ connection.old.limits }
     ensures piece { connection.new.piece ≡ connection.old.piece }
     ensures writer { OnOk result (W.has_failed writer.new ≡ false) }
     ensures fault { IfErr result (λ e. NamesStream (R.has_failed reader.new) (W.has_failed writer.new) e) }

@@ -1,4 +1,5 @@
 ghost use Rattle.std.specs.Prelude.{◌≡◌, ◌⊎◌, ◌++◌, ℕ, List, Some, false, IfErr, IfOk};
+ghost use Rattle.http_wire.specs.BodyLimits.{alike};
 ghost use Rattle.http_wire.specs.Conversation.{Conversation};
 ghost use Rattle.http_wire.specs.Turns.{Breaks};
 
@@ -21,11 +22,11 @@ pub fn conversation_of<A: Answer>(
     answerer: &mut A,
     moments: &[Moment],
 ) -> Result<(Vec<u8>, Ended), WireFault>
-    ensures whole { IfOk result (λ r. Conversation A.steps (A.max_size answerer.old) moments.now
+    ensures whole { IfOk result (λ r. Conversation A.steps (alike (A.max_size answerer.old)) moments.now
         (record { input = input.now; text = r.0.items; before = answerer.old; after = answerer.new }) r.1) }
     ensures fault { IfErr result (λ f. (f ≡ WireFault.Memory) ⊎ (f ≡ WireFault.Write)) }
     ensures breaks { IfErr result (λ f. (got rest text : List ℕ) × (input.now ≡ got ++ rest)
-        × Breaks A.steps (A.max_size answerer.old) moments.now
+        × Breaks A.steps (alike (A.max_size answerer.old)) moments.now
         (record { input = got; text = text; before = answerer.old; after = answerer.new }) f) }
 {
     let mut reader = Bytes { rest: input };

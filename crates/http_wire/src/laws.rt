@@ -37,8 +37,8 @@ pub fn refusals_follow_the_order()
     ensures { WireFollowsOrder }
 {}
 
-/// A message whose body was taken in pieces, the last of which got the reply, is a turn of a conversation in which requests
-/// are answered in pieces.
+/// A message whose body was taken in pieces is a turn of a conversation in which requests are answered in pieces. Its last
+/// piece got the reply.
 pub fn pieces_are_a_turn()
     ensures { PiecesAreATurn }
 {}

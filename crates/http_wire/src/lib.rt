@@ -2,6 +2,7 @@
 #![tactic(auto)]
 
 mod answer;
+mod body_limits;
 mod buffers;
 mod clock;
 mod connection;
@@ -24,6 +25,7 @@ mod wire;
 mod write;
 
 pub use answer::Answer;
+pub use body_limits::BodyLimits;
 pub use buffers::Buffers;
 pub use clock::Clock;
 pub use connection::{Connection, Wants};

@@ -4,7 +4,7 @@ ghost use Rattle.http_wire.specs.OnConnection.{at_start, phase_after};
 
 use crate::conversation::Ended;
 use crate::fault::WireFault;
-use crate::incoming::Incoming;
+use crate::incoming::{Cut, Incoming};
 use crate::read::layout::Layout;
 use crate::read::pieces::{Part, PiecedBody};
 use crate::read::stage::Stage;
@@ -22,8 +22,8 @@ pub enum Phase<M: Drop> {
     Piece(PiecedBody, Part),
     /// Nothing more is read: so the conversation ended, or a read failed.
     Over(Result<Ended, WireFault>),
-    /// Nothing more is read: so it ended within a body that was taken in pieces. A piece was refused, or the body was cut.
-    Stopped(Result<Ended, WireFault>),
+    /// Nothing more is read: it ended within a body that was taken in pieces. This cut the body, or else a piece was refused.
+    Stopped(Option<Cut>),
 }
 
 impl Phase<Layout> {

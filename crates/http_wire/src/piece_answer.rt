@@ -1,9 +1,8 @@
 //! The answer to a piece of a body: its step, and what becomes of the connection.
 ghost use Rattle.std.specs.Prelude.{◌≡◌, ◌-◌, true, length};
-ghost use Rattle.http_wire.specs.Layout.{IsMessage, request_at};
 ghost use Rattle.http_wire.specs.NextMessage.{closing};
 ghost use Rattle.http_wire.specs.PiecedBody.{piece_in};
-ghost use Rattle.http_wire.specs.inside.PieceAnswer.{AnswersPiece, end_of_cut};
+ghost use Rattle.http_wire.specs.inside.PieceAnswer.{AnswersPiece};
 ghost use Rattle.http_wire.specs.inside.Standing.{HasPiece};
 ghost use Rattle.http_wire.specs.declared.read.pieces.Part.TheVariants.{Middle};
 ghost use Rattle.tus_steps.specs.InPieces.{is_patched};
@@ -12,9 +11,6 @@ ghost use Rattle.tus_steps.specs.declared.reply.Reply.{Reply};
 
 use crate::answer::Answer;
 use crate::buffers::Buffers;
-use crate::conversation::Ended;
-use crate::fault::WireFault;
-use crate::incoming::Cut;
 use crate::phase::Phase;
 use crate::read::head::closing;
 use crate::read::layout::Layout;
@@ -50,7 +46,7 @@ pub fn answer_piece<A: Answer>(
         }
         Part::Cut(why) => {
             apply_cut(buffers, answerer, &layout, now);
-            Phase::Stopped(end_of_cut(why))
+            Phase::Stopped(Some(why))
         }
     }
 }
@@ -79,7 +75,7 @@ fn answer_middle<A: Answer>(
         buffers
             .write_buffer
             .put_reply(&mut buffers.reply, now, closing(layout.framing));
-        return Phase::Stopped(Ok(Ended::Closed));
+        return Phase::Stopped(None);
     }
     buffers.reply.let_go();
     buffers.read_buffer.take_back(body.layout.head_len);
@@ -95,15 +91,5 @@ fn is_patched(reply: &PlacedReply) -> bool
     match &reply.kind {
         ReplyKind::Patched { .. } => true,
         _ => false,
-    }
-}
-
-// How a connection ends with a body that was cut.
-fn end_of_cut(why: Cut) -> Result<Ended, WireFault>
-    ensures { result ≡ end_of_cut why }
-{
-    match why {
-        Cut::Ended => Ok(Ended::Cut),
-        Cut::Fault => Err(WireFault::Read),
     }
 }

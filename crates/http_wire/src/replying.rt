@@ -6,6 +6,7 @@ ghost use Rattle.http_wire.specs.OnConnection.{turn_end};
 ghost use Rattle.http_wire.specs.History.{Answering, Follows, NotesBy};
 ghost use Rattle.http_wire.specs.ReplyText.{reply_text};
 ghost use Rattle.http_wire.specs.inside.IncomingLayout.{IsLent};
+ghost use Rattle.http_wire.specs.inside.Standing.{GathersIn};
 ghost use Rattle.http_wire.specs.inside.TurnFinish.{AnswersTurn, ended_after, turn_cut};
 ghost use Rattle.tus_steps.specs.PlacedReply.{reply_in};
 ghost use Rattle.tus_steps.specs.declared.reply.Reply.{Reply};
@@ -36,7 +37,8 @@ pub fn answer_incoming<A: Answer>(
         × AnswersTurn A.steps now buffers.old.read_buffer (map_incoming (framed_at buffers.old.read_buffer.lent) incoming.now)
         put answerer.old answerer.new result
         × (answered : List Answering) × Follows A.steps answerer.old answered answerer.new
-        × ((piece : Option ℕ) (before : List Answering) → AnswersTurn (NotesBy piece) now buffers.old.read_buffer
+        × ((piece : Option ℕ) (before : List Answering) → GathersIn piece buffers.old.read_buffer incoming.now
+        → AnswersTurn (NotesBy piece) now buffers.old.read_buffer
         (map_incoming (framed_at buffers.old.read_buffer.lent) incoming.now) put before (before ++ answered) result) }
     ensures end { result ≡ turn_end (map_incoming (framed_at buffers.old.read_buffer.lent) incoming.now) }
 {
@@ -66,8 +68,8 @@ pub fn ended_after(close: bool) -> Option<Ended>
     if close { Some(Ended::Closed) } else { None }
 }
 
-// How a turn ends whose body was cut.
-fn turn_cut(why: Cut) -> Result<Option<Ended>, WireFault>
+/// How a turn ends whose body was cut.
+pub fn turn_cut(why: Cut) -> Result<Option<Ended>, WireFault>
     ensures { result ≡ turn_cut why }
 {
     match why {

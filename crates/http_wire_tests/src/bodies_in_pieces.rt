@@ -4,12 +4,12 @@
 use crate::checksums::PATCH_CHECKED;
 use crate::connections::{answer_next, assert_wants, take_in, take_out};
 use crate::conversations::{
-    COMPLETED, CONTINUE, CREATED, OFFSET, PATCH, PATCH_OLD, PATCH_PAST, PATCH_REST, PATCH_WAITING,
-    PATCHED, PATCHED_CLOSE, POST, WRONG_OFFSET,
+    BODY_SIZE, COMPLETED, CONTINUE, CREATED, OFFSET, PATCH, PATCH_OLD, PATCH_PAST, PATCH_REST,
+    PATCH_WAITING, PATCHED, PATCHED_CLOSE, POST, WRONG_OFFSET,
 };
 use crate::driven::{Arriving, Leaving, Pieces, drive};
 use crate::spoken::{Expected, Spoken, assert_spoken, at_1000, joined, new_book, offset_of};
-use http_wire::{Buffers, Connection, Ended, Wants, WireFault};
+use http_wire::{BodyLimits, Buffers, Connection, Ended, Wants, WireFault};
 use std::alloc::Global;
 use std::process::Abort;
 
@@ -27,6 +27,14 @@ const PATCH_CUT: &[u8] = b"PATCH /files/acme/1 HTTP/1.1\r\nHost: x\r\nTus-Resuma
 Content-Type: application/offset+octet-stream\r\nUpload-Offset: 0\r\nContent-Length: 5\r\n\r\n\
 hel";
 
+const PATCH_ALL: &[u8] = b"PATCH /files/acme/1 HTTP/1.1\r\nHost: x\r\nTus-Resumable: 1.0.0\r\n\
+Content-Type: application/offset+octet-stream\r\nUpload-Offset: 0\r\nContent-Length: 10\r\n\r\n\
+helloworld";
+
+const PATCH_CHECKED_LONG: &[u8] = b"PATCH /files/acme/1 HTTP/1.1\r\nHost: x\r\n\
+Tus-Resumable: 1.0.0\r\nContent-Type: application/offset+octet-stream\r\nUpload-Offset: 0\r\n\
+Upload-Checksum: sha1 qvTGHdzF6KLavt4PO0gs2a6pQ00=\r\nContent-Length: 6\r\n\r\n";
+
 /// A conversation in pieces of 2 bytes: what is sent, and what is written.
 struct Row {
     what: &'static str,
@@ -36,7 +44,7 @@ struct Row {
     offset: u64,
 }
 
-static ROWS: [Row; 8] = [
+static ROWS: [Row; 10] = [
     Row {
         what: "two bodies",
         sent: &[POST, PATCH, PATCH_REST],
@@ -93,12 +101,32 @@ static ROWS: [Row; 8] = [
         ended: Ended::Input,
         offset: 5,
     },
+    Row {
+        what: "more bytes than a body may have that is gathered",
+        sent: &[POST, PATCH_ALL],
+        written: &[CREATED, COMPLETED],
+        ended: Ended::Input,
+        offset: 10,
+    },
+    Row {
+        what: "more bytes with a checksum",
+        sent: &[POST, PATCH_CHECKED_LONG],
+        written: &[CREATED, BODY_SIZE],
+        ended: Ended::Closed,
+        offset: 0,
+    },
 ];
+
+/// How long a body may be that is gathered: shorter than some that come in pieces.
+const LIMITS: BodyLimits = BodyLimits {
+    patch: 64,
+    other: 5,
+};
 
 /// A connection that takes bodies in pieces of so many bytes, one at least.
 fn connection_by(rt: &impl Abort, alloc: Global, piece: usize) -> Connection {
     let buffers = Buffers::new(alloc).expect(rt, "memory");
-    Connection::by_pieces(buffers, 64, Some(piece.max(1)))
+    Connection::by_pieces(buffers, LIMITS, Some(piece.max(1)))
 }
 
 /// Has this conversation in pieces of 2 bytes, of which a read brings one byte.

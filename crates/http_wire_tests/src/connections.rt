@@ -7,12 +7,12 @@ ghost use Rattle.http_wire.specs.OnConnection.{wanted};
 use crate::conversations::{CREATED, FIRST_UPLOAD, POST, REPLIES};
 use crate::driven::{Arriving, Leaving, Pieces, drive};
 use crate::hostile::{Dice, NUMBERS as HOSTILE_NUMBERS, moments, text_of};
-use crate::plain::plain_conversation;
+use crate::plain::{InPieces, plain_conversation};
 use crate::spoken::{
     Expected, Spoken, assert_spoken, at, at_1000, book_with, charge_of, joined, new_book,
     offset_of, put,
 };
-use http_wire::{Buffers, Connection, Ended, Tapped, Wants, WireFault};
+use http_wire::{BodyLimits, Buffers, Connection, Ended, Tapped, Wants, WireFault};
 use std::alloc::Global;
 use std::process::Abort;
 use upload_book::{Book, Moment};
@@ -262,17 +262,20 @@ fn answers_stand_behind_what_is_pending(rt: HostRuntime) {
 /// How many conversations are tried.
 const CONVERSATIONS: u64 = 3_000;
 
-/// The conversation of a text with a book over these buffers, in pieces by chance.
-fn speak_in_pieces(
+/// The conversation of a text with a book over these buffers, read and written in parts by chance. Bodies are taken in pieces of so
+/// many bytes, or gathered where there are none.
+fn speak_by_chance(
     rt: &impl Abort,
     alloc: Global,
     mut dice: Dice,
     buffers: Buffers,
+    piece: Option<usize>,
     text: &[u8],
     book: &mut Book,
 ) -> (Spoken<'static>, Buffers) {
     let (reads, writes) = (dice.roll(60), dice.roll(60));
-    let mut connection = Connection::with_buffers(buffers, 64);
+    let piece = piece.filter(|size| *size > 0);
+    let mut connection = Connection::by_pieces(buffers, BodyLimits::alike(64), piece);
     let mut reader = Arriving::new(text, Pieces::Chance(dice, reads));
     let mut writer = Leaving::new(alloc, Pieces::Chance(dice, writes));
     let ended = drive(
@@ -292,15 +295,26 @@ fn speak_in_pieces(
     (spoken, connection.into_buffers())
 }
 
-/// Asserts that the conversation of a seed over these buffers is the plain program's, and leaves the same in its book.
-fn check_conversation(rt: &impl Abort, alloc: Global, seed: u64, buffers: Buffers) -> Buffers {
+/// Asserts that the conversation of a seed over these buffers is the plain program's, and leaves the same in its book. Bodies are
+/// taken in pieces of so many bytes, or gathered where there are none.
+fn check_conversation(
+    rt: &impl Abort,
+    alloc: Global,
+    seed: u64,
+    piece: Option<usize>,
+    buffers: Buffers,
+) -> Buffers {
     let what = format!(in alloc; "conversation {seed}").expect(rt, "memory");
     let mut dice = Dice::new(seed);
     let sent = text_of(rt, alloc, &mut dice);
     let mut book = book_with(rt, alloc, HOSTILE_NUMBERS);
-    let (spoken, buffers) = speak_in_pieces(rt, alloc, dice, buffers, &sent, &mut book);
+    let (spoken, buffers) = speak_by_chance(rt, alloc, dice, buffers, piece, &sent, &mut book);
     let mut plain_book = book_with(rt, alloc, HOSTILE_NUMBERS);
-    let (text, ended) = plain_conversation(rt, alloc, &sent, &mut plain_book, &moments());
+    let other = piece.map(|size| InPieces {
+        size,
+        written: spoken.text.as_slice(),
+    });
+    let (text, ended) = plain_conversation(rt, alloc, &sent, &mut plain_book, &moments(), other);
     let expected = Expected {
         text: &text,
         ended: Ok(ended),
@@ -315,11 +329,15 @@ fn check_conversation(rt: &impl Abort, alloc: Global, seed: u64, buffers: Buffer
     buffers
 }
 
-/// One connection's buffers pass to the next.
+/// One connection's buffers pass to the next. Each conversation is had with bodies gathered, and with bodies in pieces of one to
+/// seven blocks of four bytes.
 #[test]
-fn random_conversations_in_random_pieces(rt: HostRuntime) {
+fn random_conversations_in_random_parts(rt: HostRuntime) {
     let mut buffers = Buffers::new(rt.alloc()).expect(&rt, "memory");
     for seed in 1..=CONVERSATIONS {
-        buffers = check_conversation(&rt, rt.alloc(), seed, buffers);
+        let blocks = (seed % 7) as usize;
+        for piece in [None, Some(4 + 4 * blocks)] {
+            buffers = check_conversation(&rt, rt.alloc(), seed, piece, buffers);
+        }
     }
 }

@@ -6,28 +6,37 @@ use http_wire::{Ended, Framing, WireRefusal};
 use httparse::{EMPTY_HEADER, Header, Request as Head, Status};
 use std::alloc::Global;
 use std::process::Abort;
-use tus_steps::{Field, Method, Request, TusFields, answer};
+use tus_steps::{Field, Method, Reply, Request, TusFields, answer};
 use tus_text::{read_number, read_path};
 use upload_book::{Book, Moment};
 
 /// What an input begins with.
 enum NextMessage<'a> {
-    /// A request, how its reply is framed, whether it waits for `100 Continue`, and what follows it. Where its body was
-    /// cut, nothing follows.
-    Request(Request<'a>, Framing, bool, Option<&'a [u8]>),
+    /// A request, how its reply is framed, whether it waits for `100 Continue`, how many bytes its body has, and what follows
+    /// it. Where its body was cut, nothing follows.
+    Request(Request<'a>, Framing, bool, usize, Option<&'a [u8]>),
     /// A request that the wire refuses, and how the reply is framed.
     Refused(WireRefusal, Framing),
     /// The end of the input.
     End(Ended),
 }
 
-/// What the conversation of an input writes, and how it ends. The k-th message has the k-th moment.
+/// A conversation that takes bodies in pieces: how many bytes a piece has, and what it wrote.
+#[derive(Clone, Copy)]
+pub struct InPieces<'a> {
+    pub size: usize,
+    pub written: &'a [u8],
+}
+
+/// What the conversation of an input writes, and how it ends. The k-th message has the k-th moment. Where another one takes bodies
+/// in pieces, a refused body that is longer than a piece closes, if it does so there: it may have come as one.
 pub fn plain_conversation(
     rt: &impl Abort,
     alloc: Global,
     input: &[u8],
     book: &mut Book,
     moments: &[Moment],
+    pieces: Option<InPieces<'_>>,
 ) -> (Vec<u8>, Ended) {
     let max_size = book.settings().numbers().max_size;
     let mut page = Page::new(alloc);
@@ -39,20 +48,35 @@ pub fn plain_conversation(
                 page.put_refusal(rt, refusal, *now, framing);
                 return (page.text, Ended::Closed);
             }
-            NextMessage::Request(request, framing, is_waiting, rest) => {
+            NextMessage::Request(mut request, framing, is_waiting, len, rest) => {
                 if is_waiting {
                     page.put(rt, b"HTTP/1.1 100 Continue\r\n\r\n");
                 }
-                let is_unchecked = matches!(request.fields.checksum, Field::Absent);
-                let is_kept = matches!(request.method, Method::Patch) && is_unchecked;
+                let is_kept = is_plain_patch(&request);
                 if rest.is_none() && !is_kept {
                     return (page.text, Ended::Cut);
                 }
+                let pieces = pieces.filter(|pieces| is_kept && len > pieces.size);
+                if pieces.is_some() {
+                    request.more = len.saturating_sub(request.body.len()) as u64;
+                }
                 let reply = answer(book, &request, *now);
+                let replied = Replied::of(rt, alloc, &reply);
+                if let Some(pieces) = pieces
+                    && matches!(reply, Reply::Refused { .. })
+                    && request.body.len() >= pieces.size
+                {
+                    let before = page.text.len();
+                    page.put_reply(rt, &replied, *now, closing(framing));
+                    if rest.is_none() || pieces.written.starts_with(page.text.as_slice()) {
+                        return (page.text, Ended::Closed);
+                    }
+                    page.text.truncate(before);
+                }
                 let Some(rest) = rest else {
                     return (page.text, Ended::Cut);
                 };
-                page.put_reply(rt, &Replied::of(rt, alloc, &reply), *now, framing);
+                page.put_reply(rt, &replied, *now, framing);
                 if framing.close {
                     return (page.text, Ended::Closed);
                 }
@@ -61,6 +85,19 @@ pub fn plain_conversation(
         }
     }
     (page.text, Ended::Moments)
+}
+
+// Whether a request is a PATCH without a checksum.
+fn is_plain_patch(request: &Request) -> bool {
+    matches!(request.method, Method::Patch) && matches!(request.fields.checksum, Field::Absent)
+}
+
+// The same framing, after which the connection closes.
+fn closing(framing: Framing) -> Framing {
+    Framing {
+        close: true,
+        ..framing
+    }
 }
 
 // The framing of a refusal by a head that is not known.
@@ -232,7 +269,7 @@ fn with_head<'a>(head: &Head<'_, 'a>, rest: &'a [u8], max_size: u64) -> NextMess
                 given: 0,
                 more: 0,
             };
-            NextMessage::Request(request, Framing { bare, close }, is_waiting, after)
+            NextMessage::Request(request, Framing { bare, close }, is_waiting, len, after)
         }
         Err(refusal) => NextMessage::Refused(refusal, Framing { bare, close: true }),
     }

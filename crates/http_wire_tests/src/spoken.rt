@@ -148,7 +148,7 @@ pub fn plain_talk(
     moments: &[Moment],
 ) -> Spoken<'static> {
     let mut book = book_with(rt, alloc, numbers);
-    let (text, ended) = plain_conversation(rt, alloc, input, &mut book, moments);
+    let (text, ended) = plain_conversation(rt, alloc, input, &mut book, moments, None);
     Spoken {
         text,
         ended: Ok(ended),

@@ -101,10 +101,11 @@ abbrev grace_in : Option WorkerOptions → Option ℕ
 grace_in None = None
 grace_in (Some work) = work.grace
 
-grace-given : (rows : List Row) (moment : Option (Option ℕ)) (at_once : Option ℕ) (work : WorkerOptions) → Some work ≡ work_with rows moment at_once → work.grace ≡ grace_given rows
-grace-given rows None at_once work at = absurd (true≢false (ap is_some at))
-grace-given rows (Some moment) None work at = absurd (true≢false (ap is_some at))
-grace-given rows (Some moment) (Some n) work at = ap grace_in at
+grace-given : (rows : List Row) (moment : Option (Option ℕ)) (at_once : Option ℕ) (piece : Option (Option ℕ)) (work : WorkerOptions) → Some work ≡ work_with rows moment at_once piece → work.grace ≡ grace_given rows
+grace-given rows None at_once piece work at = absurd (true≢false (ap is_some at))
+grace-given rows (Some moment) None piece work at = absurd (true≢false (ap is_some at))
+grace-given rows (Some moment) (Some n) None work at = absurd (true≢false (ap is_some at))
+grace-given rows (Some moment) (Some n) (Some piece) work at = ap grace_in at
 
 abbrev has_port : Option (Option ℕ) → Bool
 has_port None = false
@@ -122,7 +123,7 @@ no_grace f (Some port) metrics told none = no_port f port (nat_lt 65535 port) me
 -- without a port at which a stop can be asked for there is no grace
 pub grace-with_port : (rows : List Row) (work : WorkerOptions) (metrics : Option ℕ) → Some work ≡ work_given rows → Some metrics ≡ metrics_set (number_given (codes "metrics") rows) → metrics ≡ None → work.grace ≡ None
 grace-with_port rows work metrics at told none =
-    grace-given rows _ _ work at ∙ no_grace (λ port. number_under (codes "grace") rows) (number_given (codes "metrics") rows) metrics told none
+    grace-given rows _ _ _ work at ∙ no_grace (λ port. number_under (codes "grace") rows) (number_given (codes "metrics") rows) metrics told none
 
 -- without words there are none
 pub serve_arguments-none : (rows : List Row) (address : Text) (port workers : ℕ) (work : WorkerOptions) (metrics : Option ℕ) → Some address ≡ first_of (codes "address") rows → Some work ≡ work_given rows

@@ -106,11 +106,18 @@ metrics_set (Some port) = if nat_lt 65535 port then None else Some (Some port)
 abbrev pub grace_given : List Row → Option ℕ
 grace_given rows = option_map (λ port. number_under (codes "grace") rows) (number_given (codes "metrics") rows)
 
--- what each worker is asked for, where the moment can be, and how many connections it holds
-abbrev pub work_with : List Row → Option (Option ℕ) → Option ℕ → Option WorkerOptions
-work_with rows None at_once = None
-work_with rows (Some moment) None = None
-work_with rows (Some moment) (Some n) = Some (record {
+-- The size of the pieces in which the body of a PATCH is stored as it comes, if one is told. It is from 65,536 to 1,048,576, and
+-- else there are no arguments.
+abbrev pub piece_set : Option ℕ → Option (Option ℕ)
+piece_set None = Some None
+piece_set (Some size) = if nat_lt size 65536 || nat_lt 1048576 size then None else Some (Some size)
+
+-- what each worker is asked for, where the moment can be, how many connections it holds, and the size of pieces
+abbrev pub work_with : List Row → Option (Option ℕ) → Option ℕ → Option (Option ℕ) → Option WorkerOptions
+work_with rows None at_once piece = None
+work_with rows (Some moment) None piece = None
+work_with rows (Some moment) (Some n) None = None
+work_with rows (Some moment) (Some n) (Some piece) = Some (record {
   moment = moment;
   connections = connections_given rows;
   at_once = n;
@@ -118,12 +125,15 @@ work_with rows (Some moment) (Some n) = Some (record {
   message_seconds = number_under (codes "message-seconds") rows;
   least_rate = number_under (codes "least-rate") rows;
   body_memory = number_under (codes "body-memory") rows;
+  piece = piece;
+  max_body = number_given (codes "max-body") rows;
   by_readiness = is_by_readiness rows;
   grace = grace_given rows;
 })
 
 abbrev pub work_given : List Row → Option WorkerOptions
-work_given rows = work_with rows (moment_set (number_given (codes "moment") rows)) (at_once_given rows)
+work_given rows =
+    work_with rows (moment_set (number_given (codes "moment") rows)) (at_once_given rows) (piece_set (number_given (codes "pieces") rows))
 
 -- the port that is listened at, where the number is one
 abbrev pub port_given : List Row → Option ℕ

@@ -106,11 +106,15 @@ with_many_clients command =
     with_rule
     (with_rule
     (with_rule
+    (with_rule
+    (with_rule
     (with_rule command
     (number_rule (codes "at-once") 1 16384))
     (option_between (codes "message-seconds") (codes "0") 0 86400))
     (option_between (codes "least-rate") (codes "0") 0 1073741824))
-    (option_rule (codes "body-memory") (codes "268435456") no_end)
+    (option_rule (codes "body-memory") (codes "268435456") no_end))
+    (number_rule (codes "pieces") 65536 1048576))
+    (number_rule (codes "max-body") 1 16777216)
 
 -- the options on how a service is watched: the file of its log, the port at which numbers and a stop are asked for, and how long
 -- messages may last then

@@ -4,10 +4,11 @@ use Rattle.std.specs.Prelude.{ℕ, Bool, true, not, ◌==◌, ◌^◌, ◌&&◌,
 use Rattle.server_words.specs.Arguments.{CommandArguments, talk, serve, check, export}
 use Rattle.server_words.specs.declared.options.WorkerOptions.{WorkerOptions}
 
--- each worker serves one connection after another, with no other bound than that one may be silent for a minute
+-- each worker serves one connection after another and gathers bodies, with no other bounds than that one may be silent for
+-- a minute, and those of the settings
 abbrev pub is_least_work : WorkerOptions → Bool
 is_least_work work =
-    nat_le work.connections 4096 && (work.at_once == 1 && (work.idle == 60 && (work.message_seconds == 0 && (work.least_rate == 0 && work.body_memory == 2 ^ 28))))
+    nat_le work.connections 4096 && (work.at_once == 1 && (work.idle == 60 && (work.message_seconds == 0 && (work.least_rate == 0 && (work.body_memory == 2 ^ 28 && (not (is_some work.piece) && not (is_some work.max_body)))))))
 
 -- the command asks for more: for a journal, a log, a port for numbers, another address, or clients at once or for ever
 abbrev pub asks_more : CommandArguments → Bool

@@ -3,7 +3,7 @@ ghost use Rattle.std.specs.Borrow.{Bor};
 ghost use Rattle.std.specs.Prelude.{◌≡◌, ℕ, IfSome, List, codes, false, option_map};
 ghost use Rattle.clap.specs.Walk.{rows_of};
 ghost use Rattle.clap.specs.Words.{first_of, found_of, subcommand_rows_of};
-ghost use Rattle.server_words.specs.Arguments.{arguments_entered, arguments_of, at_once_given, check, connections_given, export, export_arguments, grace_given, is_by_readiness, is_set, metrics_set, moment_set, number_given, number_under, numbers_given, port_given, serve, serve_arguments, talk, talk_arguments, work_given, workers_given};
+ghost use Rattle.server_words.specs.Arguments.{arguments_entered, arguments_of, at_once_given, check, connections_given, export, export_arguments, grace_given, is_by_readiness, is_set, metrics_set, moment_set, number_given, number_under, numbers_given, piece_set, port_given, serve, serve_arguments, talk, talk_arguments, work_given, workers_given};
 ghost use Rattle.upload_book.specs.Settings.{is_outside};
 
 use crate::options::{CommandOptions, ExportOptions, ServeOptions, TalkOptions, WorkerOptions};
@@ -168,13 +168,14 @@ fn port_of(found: &ArgMatches) -> Option<u16>
     }
 }
 
-/// What each worker is asked for; None where the moment is past the year 9999, or a worker is to hold no connection or more
-/// than 16,384.
+/// What each worker is asked for; None where the moment is past the year 9999, a worker is to hold no connection or more than
+/// 16,384, or a piece is to have fewer than 65,536 bytes or more than 1,048,576.
 fn work_of(found: &ArgMatches) -> Option<WorkerOptions>
     ensures { result ≡ work_given (rows_of (found_of found.now)) }
 {
     let moment = moment_of(found)?;
     let at_once = at_once_of(found)?;
+    let piece = piece_of(found)?;
     Some(WorkerOptions {
         moment,
         connections: connections_of(found),
@@ -183,9 +184,22 @@ fn work_of(found: &ArgMatches) -> Option<WorkerOptions>
         message_seconds: number_of(found, "message-seconds"),
         least_rate: number_of(found, "least-rate"),
         body_memory: number_of(found, "body-memory"),
+        piece,
+        max_body: number_given(found, "max-body"),
         by_readiness: is_by_readiness(found),
         grace: grace_of(found),
     })
+}
+
+/// The size of the pieces in which bodies are stored, if they are; None where the number is none.
+fn piece_of(found: &ArgMatches) -> Option<Option<usize>>
+    ensures { result ≡ piece_set (number_given (codes "pieces") (rows_of (found_of found.now))) }
+{
+    match number_given(found, "pieces") {
+        Some(size) if size < 65_536 || size > 1_048_576 => None,
+        Some(size) => Some(Some(size as usize)),
+        None => Some(None),
+    }
 }
 
 /// For how many seconds messages may still end once a stop was asked for, if it can be.

@@ -348,7 +348,9 @@ fn many_clients<'a>(alloc: Global, command: Command<'a>) -> Result<Command<'a>, 
         .arg(at_once(alloc))?
         .arg(message_seconds(alloc))?
         .arg(least_rate(alloc))?
-        .arg(body_memory(alloc))
+        .arg(body_memory(alloc))?
+        .arg(pieces(alloc))?
+        .arg(max_body(alloc))
 }
 
 /// The options on how the service is watched.
@@ -507,6 +509,34 @@ fn body_memory<'a>(alloc: Global) -> Arg<'a>
     number(alloc, "body-memory", "BYTES", "268435456").help(
         "How many bytes of bodies that are under way are held; above that the greatest is cut off, and kept",
     )
+}
+
+/// The option that has bodies stored in pieces.
+fn pieces<'a>(alloc: Global) -> Arg<'a>
+    ensures rule { rule_of result ≡ number_rule (codes "pieces") 65536 1048576 }
+    ensures local { result.global ≡ false }
+{
+    Arg::new(alloc, "pieces")
+        .long("pieces")
+        .value_name("BYTES")
+        .value_parser(value_parser!(u64).range(65_536..1_048_577))
+        .help(
+            "Store the body of a PATCH without a checksum as it comes, in pieces of so many bytes, 65536 to 1048576",
+        )
+}
+
+/// The option for how long a body may be that is gathered.
+fn max_body<'a>(alloc: Global) -> Arg<'a>
+    ensures rule { rule_of result ≡ number_rule (codes "max-body") 1 16777216 }
+    ensures local { result.global ≡ false }
+{
+    Arg::new(alloc, "max-body")
+        .long("max-body")
+        .value_name("BYTES")
+        .value_parser(value_parser!(u64).range(1..16_777_217))
+        .help(
+            "The greatest body that is gathered, 1 to 16777216; --max-size unless set, or 16777216 if that is more",
+        )
 }
 
 /// The option that sets the clock of a server, which otherwise is the machine's.

@@ -33,7 +33,8 @@ impl<'m, 'a> ServeOptions<'m, 'a> {
 }
 
 impl WorkerOptions {
-    /// Whether each worker serves one connection after another, with no other bound than that one may be silent for a minute.
+    /// Whether each worker serves one connection after another and gathers bodies, with no other bounds than that one may
+    /// be silent for a minute, and those of the settings.
     fn is_least(&self) -> bool
         ensures { result ≡ is_least_work self.now }
     {
@@ -43,5 +44,7 @@ impl WorkerOptions {
             && self.message_seconds == 0
             && self.least_rate == 0
             && self.body_memory == 1 << 28
+            && self.piece.is_none()
+            && self.max_body.is_none()
     }
 }

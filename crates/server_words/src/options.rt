@@ -66,6 +66,10 @@ pub struct WorkerOptions {
     pub least_rate: u64,
     /// How many bytes all workers together may hold of bodies that are half read, and of replies that are half sent.
     pub body_memory: u64,
+    /// The size of the pieces in which the body of a PATCH is stored as it comes; bodies are gathered where there is none.
+    pub piece: Option<usize>,
+    /// The most bytes of a body that is gathered; where there is none, those of the greatest upload, and at most 16,777,216.
+    pub max_body: Option<u64>,
     /// Whether clients are served by the readiness of their streams even where each worker holds one at a time.
     pub by_readiness: bool,
     /// For how many seconds messages that are under way may still end once a stop was asked for; none where nobody can ask for

@@ -3,6 +3,7 @@ use Rattle.std.proofs.Common.{◌≡◌, ◌⊎◌, ℕ, Bool, true, false, List
 use Rattle.std.specs.Io.KnownBytes.{Appends, Consumes}
 use Rattle.std.proofs.lemmas.List.{append-nil}
 use Rattle.sqlite_disk.specs.declared.Disk.{Ghosts}
+use Rattle.http_wire.specs.BodyLimits.{alike}
 use Rattle.http_wire.specs.Conversation.{Conversation}
 use Rattle.http_wire.specs.Exchange.{Exchange}
 use Rattle.http_wire.specs.Fault.{NamesOrMemory}
@@ -171,11 +172,11 @@ module _ {D : Type 0} {g : Ghosts D} where
 
     module _ {R W : Type 0} (arguments : TalkArguments) (reader : StreamUse R) (writer : StreamUse W) (s : Settings) (found : D) where
       Talks-kept : (x : Exchange A) (e : Ended) → has_failed x.before ≡ false → talk_settings arguments ≡ Ok s → IsOpened s journal_key found (kept x.before) → key_in (kept x.before) ≡ journal_key
-          → Conversation steps (book_in (kept x.before)).settings.numbers.max_size (replicate 4096 arguments.moment) x e → TalksKept g.seen g.may_leave g.is_clean arguments reader writer (has_failed x.after) x.input x.text
+          → Conversation steps (alike (book_in (kept x.before)).settings.numbers.max_size) (replicate 4096 arguments.moment) x e → TalksKept g.seen g.may_leave g.is_clean arguments reader writer (has_failed x.after) x.input x.text
       Talks-kept x e works given is_opened key h =
           let opened = kept x.before in
-          let max = (book_in opened).settings.numbers.max_size in
-          let whole = Conversation-like steps IsJournalStep (Like opened) (on opened) max (replicate 4096 arguments.moment) x e (working (book_in opened)) (like_first x.before works) h in
+          let limits = alike (book_in opened).settings.numbers.max_size in
+          let whole = Conversation-like steps IsJournalStep (Like opened) (on opened) limits (replicate 4096 arguments.moment) x e (working (book_in opened)) (like_first x.before works) h in
           record {
             settings = s;
             is_given = given;
@@ -187,15 +188,15 @@ module _ {D : Type 0} {g : Ghosts D} where
             outlives = outlives s found opened (kept x.after) (has_failed x.after) whole.0 is_opened key whole.1;
             failed_is = whole.1.failed_is;
             ended = e;
-            conversation = subst (λ (at : List ℕ). Conversation IsJournalStep max at (record { input = x.input; text = x.text; before = working (book_in opened); after = whole.0 }) e) (laid arguments.moment) whole.2;
+            conversation = subst (λ (at : List ℕ). Conversation IsJournalStep limits at (record { input = x.input; text = x.text; before = working (book_in opened); after = whole.0 }) e) (laid arguments.moment) whole.2;
           }
 
       Breaks-kept : (x : Exchange A) (f : WireFault) → has_failed x.before ≡ false → talk_settings arguments ≡ Ok s → IsOpened s journal_key found (kept x.before) → key_in (kept x.before) ≡ journal_key
-          → Breaks steps (book_in (kept x.before)).settings.numbers.max_size (replicate 4096 arguments.moment) x f → BreaksKept g.seen g.may_leave g.is_clean arguments reader writer x.input x.text
+          → Breaks steps (alike (book_in (kept x.before)).settings.numbers.max_size) (replicate 4096 arguments.moment) x f → BreaksKept g.seen g.may_leave g.is_clean arguments reader writer x.input x.text
       Breaks-kept x f works given is_opened key h =
           let opened = kept x.before in
-          let max = (book_in opened).settings.numbers.max_size in
-          let broken = Breaks-like steps IsJournalStep (Like opened) (on opened) max (replicate 4096 arguments.moment) x f (working (book_in opened)) (like_first x.before works) h in
+          let limits = alike (book_in opened).settings.numbers.max_size in
+          let broken = Breaks-like steps IsJournalStep (Like opened) (on opened) limits (replicate 4096 arguments.moment) x f (working (book_in opened)) (like_first x.before works) h in
           record {
             settings = s;
             is_given = given;
@@ -206,11 +207,11 @@ module _ {D : Type 0} {g : Ghosts D} where
             after = broken.0;
             outlives = outlives s found opened (kept x.after) (has_failed x.after) broken.0 is_opened key broken.1;
             fault = f;
-            breaks = subst (λ (at : List ℕ). Breaks IsJournalStep max at (record { input = x.input; text = x.text; before = working (book_in opened); after = broken.0 }) f) (laid arguments.moment) broken.2;
+            breaks = subst (λ (at : List ℕ). Breaks IsJournalStep limits at (record { input = x.input; text = x.text; before = working (book_in opened); after = broken.0 }) f) (laid arguments.moment) broken.2;
           }
 
       loses : (x : Exchange A) (f : WireFault) → has_failed x.before ≡ false → talk_settings arguments ≡ Ok s → IsOpened s journal_key found (kept x.before) → key_in (kept x.before) ≡ journal_key
-          → Consumes reader.before reader.after x.input → Appends writer.before writer.after x.text → Breaks steps (book_in (kept x.before)).settings.numbers.max_size (replicate 4096 arguments.moment) x f
+          → Consumes reader.before reader.after x.input → Appends writer.before writer.after x.text → Breaks steps (alike (book_in (kept x.before)).settings.numbers.max_size) (replicate 4096 arguments.moment) x f
           → LosesKept g.seen g.may_leave g.is_clean arguments reader writer
       loses x f works given is_opened key consumes appends h = record {
         got = x.input;
@@ -223,7 +224,7 @@ module _ {D : Type 0} {g : Ghosts D} where
       -- the conversation was broken off by this fault
       pub KeptTalkEnds-broken : (T : Type 0) (x : Exchange A) (f : WireFault) → has_failed x.before ≡ false → talk_settings arguments ≡ Ok s → IsOpened s journal_key found (kept x.before) → key_in (kept x.before) ≡ journal_key
           → NamesOrMemory reader.has_failed writer.has_failed f → Consumes reader.before reader.after x.input → Appends writer.before writer.after x.text
-          → Breaks steps (book_in (kept x.before)).settings.numbers.max_size (replicate 4096 arguments.moment) x f
+          → Breaks steps (alike (book_in (kept x.before)).settings.numbers.max_size) (replicate 4096 arguments.moment) x f
           → KeptTalkEnds g.seen g.may_leave g.is_clean arguments reader writer {T = T} (Err (fault_of_wire f))
       KeptTalkEnds-broken T x wire.Read works given is_opened key named consumes appends h = (loses x wire.Read works given is_opened key consumes appends h, named.0)
       KeptTalkEnds-broken T x wire.Write works given is_opened key named consumes appends h = (loses x wire.Write works given is_opened key consumes appends h, named.1)
@@ -239,7 +240,7 @@ module _ {D : Type 0} {g : Ghosts D} where
       -- the conversation ended, and no stream has failed
       pub holds : (before after : A) (e : Ended) → has_failed before ≡ false → talk_settings arguments ≡ Ok s → IsOpened s journal_key found (kept before) → key_in (kept before) ≡ journal_key → IsAlive reader → IsAlive writer
           → ((input written : List ℕ) → reader.before ≡ Some input → writer.before ≡ Some written → (text : List ℕ) × (writer.after ≡ Some (written ++ text))
-          × Conversation steps (book_in (kept before)).settings.numbers.max_size (replicate 4096 arguments.moment) (record { input = input; text = text; before = before; after = after }) e)
+          × Conversation steps (alike (book_in (kept before)).settings.numbers.max_size) (replicate 4096 arguments.moment) (record { input = input; text = text; before = before; after = after }) e)
           → HoldsKept g.seen g.may_leave g.is_clean arguments reader writer (has_failed after)
       holds before after e works given is_opened key read wrote known = record {
         settings = is_ok_by (talk_settings arguments) s given;

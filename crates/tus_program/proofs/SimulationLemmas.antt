@@ -4,6 +4,7 @@ use Rattle.http_wire.specs.Conversation.{Course, Conversation, EndsWith, Goes, M
 use Rattle.http_wire.specs.Exchange.{Exchange, last_part}
 use Rattle.http_wire.specs.NextMessage.{NextMessage, message, refused, cut_patch, cut_other, clean_end}
 use Rattle.http_wire.specs.Turns.{Breaks, BreaksOff, FailsIn}
+use Rattle.http_wire.specs.declared.body_limits.BodyLimits.{BodyLimits}
 use Rattle.http_wire.specs.declared.conversation.Ended.{Ended}
 use Rattle.http_wire.specs.declared.fault.WireFault.{WireFault}
 use Rattle.http_wire.specs.declared.fault.WireFault.TheVariants.{Read, Write, Memory, Failed}
@@ -15,7 +16,7 @@ abbrev pub between : {A B : Type 0} → Exchange A → B → B → Exchange B
 between x p q = record { input = x.input; text = x.text; before = p; after = q }
 
 module _ {A B : Type 0} (steps : A → Request → ℕ → Reply → A → Type 0) (others : B → Request → ℕ → Reply → B → Type 0) (Like : A → B → Type 0)
-    (on : (a : A) (p : B) (r : Request) (now : ℕ) (reply : Reply) (b : A) → Like a p → steps a r now reply b → (q : B) × Like b q × others p r now reply q) (max : ℕ) where
+    (on : (a : A) (p : B) (r : Request) (now : ℕ) (reply : Reply) (b : A) → Like a p → steps a r now reply b → (q : B) × Like b q × others p r now reply q) (limits : BodyLimits) where
   stays : (a b : A) (p : B) → b ≡ a → Like a p → Like b p
   stays a b p same like = subst (λ (c : A). Like c p) (sym same) like
 
@@ -43,14 +44,14 @@ module _ {A B : Type 0} (steps : A → Request → ℕ → Reply → A → Type 
   MessageTurn-like now next then clean_end x e p like later h = EndsWith-like _ _ x e p like h
 
   -- a whole conversation
-  pub Conversation-like : (moments : List ℕ) (x : Exchange A) (e : Ended) (p : B) → Like x.before p → Conversation steps max moments x e
-      → (q : B) × Like x.after q × Conversation others max moments (between x p q) e
+  pub Conversation-like : (moments : List ℕ) (x : Exchange A) (e : Ended) (p : B) → Like x.before p → Conversation steps limits moments x e
+      → (q : B) × Like x.after q × Conversation others limits moments (between x p q) e
   Conversation-like [] x e p like h = EndsWith-like _ _ x e p like h
   Conversation-like (now ∷ moments) x e p like h =
-      let turn = MessageTurn-like now (Conversation steps max moments) (Conversation others max moments) h.0 x e p like (λ y q there rest. Conversation-like moments y e q there rest) h.2 in
+      let turn = MessageTurn-like now (Conversation steps limits moments) (Conversation others limits moments) h.0 x e p like (λ y q there rest. Conversation-like moments y e q there rest) h.2 in
       (turn.0, turn.1, (h.0, h.1, turn.2))
 
-  FailsIn-like : (now : ℕ) (next_message : NextMessage) (x : Exchange A) (p : B) → Like x.before p → FailsIn steps max now next_message x → (q : B) × Like x.after q × FailsIn others max now next_message (between x p q)
+  FailsIn-like : (now : ℕ) (next_message : NextMessage) (x : Exchange A) (p : B) → Like x.before p → FailsIn steps limits now next_message x → (q : B) × Like x.after q × FailsIn others limits now next_message (between x p q)
   FailsIn-like now (message request framing waiting rest) x p like (inl h) = (p, stays x.before x.after p h.1 like, inl (h.0, refl, h.2))
   FailsIn-like now (message request framing waiting rest) x p like (inr h) =
       let made = on x.before p request now h.0 x.after like h.2 in
@@ -60,7 +61,7 @@ module _ {A B : Type 0} (steps : A → Request → ℕ → Reply → A → Type 
   FailsIn-like now (cut_other waiting) x p like h = (p, stays x.before x.after p h.1 like, (h.0, refl, h.2))
   FailsIn-like now clean_end x p like h = absurd h
 
-  BreaksOff-like : (moments : List ℕ) (x : Exchange A) (p : B) → Like x.before p → BreaksOff steps max moments x → (q : B) × Like x.after q × BreaksOff others max moments (between x p q)
+  BreaksOff-like : (moments : List ℕ) (x : Exchange A) (p : B) → Like x.before p → BreaksOff steps limits moments x → (q : B) × Like x.after q × BreaksOff others limits moments (between x p q)
   BreaksOff-like [] x p like h = absurd h
   BreaksOff-like (now ∷ moments) x p like (inl h) =
       let fails = FailsIn-like now h.0 x p like h.2 in
@@ -82,8 +83,8 @@ module _ {A B : Type 0} (steps : A → Request → ℕ → Reply → A → Type 
       )
 
   -- one that a fault broke off
-  pub Breaks-like : (moments : List ℕ) (x : Exchange A) (fault : WireFault) (p : B) → Like x.before p → Breaks steps max moments x fault
-      → (q : B) × Like x.after q × Breaks others max moments (between x p q) fault
+  pub Breaks-like : (moments : List ℕ) (x : Exchange A) (fault : WireFault) (p : B) → Like x.before p → Breaks steps limits moments x fault
+      → (q : B) × Like x.after q × Breaks others limits moments (between x p q) fault
   Breaks-like moments x Read p like h =
       let whole = Conversation-like moments x h.0 p like h.2 in
       (whole.0, whole.1, (h.0, h.1, whole.2))

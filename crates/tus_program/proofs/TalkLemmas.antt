@@ -3,6 +3,7 @@ use Rattle.std.proofs.Common.{◌≡◌, ℕ, Bool, List, [], ◌++◌, Option, 
 use Rattle.std.specs.Prelude.{OnErr, IsOk}
 use Rattle.std.specs.Io.KnownBytes.{Appends, Consumes, Keeps}
 use Rattle.std.proofs.lemmas.List.{append-nil}
+use Rattle.http_wire.specs.BodyLimits.{alike}
 use Rattle.http_wire.specs.BookStep.{BookStep}
 use Rattle.http_wire.proofs.CarriedLemmas.{Conversation-carried, Breaks-carried}
 use Rattle.tus_steps.specs.Request.{Request}
@@ -47,33 +48,33 @@ carries b r now reply after step = step
 
 -- a conversation on the new book is one of the settings that were given
 Talks-from : (given : Result Settings SettingsFault) (now : ℕ) (x : Exchange StoredBook) (e : Ended) → given ≡ Ok (plain_of x.before).settings → plain_of x.before ≡ opening_book (plain_of x.before).settings
-    → Conversation BookStep (plain_of x.before).settings.numbers.max_size (replicate 4096 now) x e → Talks given now x.input x.text
+    → Conversation BookStep (alike (plain_of x.before).settings.numbers.max_size) (replicate 4096 now) x e → Talks given now x.input x.text
 Talks-from given now x e is_given new h =
     let settings = (plain_of x.before).settings in
-    let max = settings.numbers.max_size in
+    let limits = alike settings.numbers.max_size in
     record {
       settings = settings;
       is_given = is_given;
       after = plain_of x.after;
       ended = e;
-      conversation = subst₂ (λ (book : PlainBook) (moments : List ℕ). Conversation IsStep max moments (record { input = x.input; text = x.text; before = book; after = plain_of x.after }) e) new (laid now)
-          (Conversation-carried plain_of BookStep IsStep carries max (replicate 4096 now) x e h);
+      conversation = subst₂ (λ (book : PlainBook) (moments : List ℕ). Conversation IsStep limits moments (record { input = x.input; text = x.text; before = book; after = plain_of x.after }) e) new (laid now)
+          (Conversation-carried plain_of BookStep IsStep carries limits (replicate 4096 now) x e h);
     }
 
 -- the same of one that a fault broke off
 BreaksTalk-from : (given : Result Settings SettingsFault) (now : ℕ) (reader writer : Bool) (x : Exchange StoredBook) (f : WireFault) → given ≡ Ok (plain_of x.before).settings → plain_of x.before ≡ opening_book (plain_of x.before).settings
-    → NamesStream reader writer f → Breaks BookStep (plain_of x.before).settings.numbers.max_size (replicate 4096 now) x f → BreaksTalk given now reader writer x.input x.text
+    → NamesStream reader writer f → Breaks BookStep (alike (plain_of x.before).settings.numbers.max_size) (replicate 4096 now) x f → BreaksTalk given now reader writer x.input x.text
 BreaksTalk-from given now reader writer x f is_given new named h =
     let settings = (plain_of x.before).settings in
-    let max = settings.numbers.max_size in
+    let limits = alike settings.numbers.max_size in
     record {
       settings = settings;
       is_given = is_given;
       after = plain_of x.after;
       fault = f;
       named = named;
-      breaks = subst₂ (λ (book : PlainBook) (moments : List ℕ). Breaks IsStep max moments (record { input = x.input; text = x.text; before = book; after = plain_of x.after }) f) new (laid now)
-          (Breaks-carried plain_of BookStep IsStep carries max (replicate 4096 now) x f h);
+      breaks = subst₂ (λ (book : PlainBook) (moments : List ℕ). Breaks IsStep limits moments (record { input = x.input; text = x.text; before = book; after = plain_of x.after }) f) new (laid now)
+          (Breaks-carried plain_of BookStep IsStep carries limits (replicate 4096 now) x f h);
     }
 
 pub is_ok_by : {T E : Type 0} (r : Result T E) (v : T) → r ≡ Ok v → IsOk r
@@ -85,7 +86,7 @@ not_err {T} {E} P r v is = subst (λ (r : Result T E). OnErr r P) (sym is) tt
 -- the conversation was broken off by this fault
 pub TalkEnds-broken : {R W : Type 0} (T : Type 0) (arguments : TalkArguments) (reader : StreamUse R) (writer : StreamUse W) (x : Exchange StoredBook) (f : WireFault)
     → talk_settings arguments ≡ Ok (plain_of x.before).settings → plain_of x.before ≡ opening_book (plain_of x.before).settings → NamesOrMemory reader.has_failed writer.has_failed f
-    → Consumes reader.before reader.after x.input → Appends writer.before writer.after x.text → Breaks BookStep (plain_of x.before).settings.numbers.max_size (replicate 4096 arguments.moment) x f
+    → Consumes reader.before reader.after x.input → Appends writer.before writer.after x.text → Breaks BookStep (alike (plain_of x.before).settings.numbers.max_size) (replicate 4096 arguments.moment) x f
     → TalkEnds arguments reader writer {T = T} (Err (fault_of_wire f))
 TalkEnds-broken T arguments reader writer x wire.Read given new named consumes appends h =
     let lost : LosesTalk arguments reader writer = record {
@@ -118,7 +119,7 @@ TalkEnds-broken T arguments reader writer x wire.Failed given new named consumes
 pub TalkEnds-held : {R W T : Type 0} (arguments : TalkArguments) (reader : StreamUse R) (writer : StreamUse W) (before after : StoredBook) (e : Ended) (v : T)
     → talk_settings arguments ≡ Ok (plain_of before).settings → plain_of before ≡ opening_book (plain_of before).settings → IsAlive reader → IsAlive writer
     → ((input written : List ℕ) → reader.before ≡ Some input → writer.before ≡ Some written → (text : List ℕ) × (writer.after ≡ Some (written ++ text))
-    × Conversation BookStep (plain_of before).settings.numbers.max_size (replicate 4096 arguments.moment) (record { input = input; text = text; before = before; after = after }) e)
+    × Conversation BookStep (alike (plain_of before).settings.numbers.max_size) (replicate 4096 arguments.moment) (record { input = input; text = text; before = before; after = after }) e)
     → TalkEnds arguments reader writer (Ok v)
 TalkEnds-held arguments reader writer before after e v given new read wrote known = record {
   settings = is_ok_by (talk_settings arguments) (plain_of before).settings given;

@@ -2,6 +2,7 @@
 use Rattle.std.specs.Prelude.{◌≡◌, ◌⊎◌, ◌++◌, ℕ, Bool, true, false, List, Some, Result, Ok, Err, IsOk, IsTrue}
 use Rattle.std.specs.Io.KnownBytes.{Appends, Consumes}
 use Rattle.book_replay.specs.Replay.{AllHappen, records_of}
+use Rattle.http_wire.specs.BodyLimits.{alike}
 use Rattle.http_wire.specs.Conversation.{Conversation}
 use Rattle.http_wire.specs.Turns.{Breaks}
 use Rattle.http_wire.specs.declared.conversation.Ended.{Ended}
@@ -52,7 +53,7 @@ module _ {D : Type 0} (seen : D → List ℕ) (may_leave : D → List ℕ → Ty
       pub outlives : OutlivesCrash settings found opened last before after.book
       pub failed_is : after.has_failed ≡ failed
       pub ended : Ended
-      pub conversation : Conversation IsJournalStep before.settings.numbers.max_size (moments_at arguments.moment)
+      pub conversation : Conversation IsJournalStep (alike before.settings.numbers.max_size) (moments_at arguments.moment)
           (record { input = input; text = text; before = working before; after = after }) ended
 
     -- these bytes were read and this text was written in such a conversation, until a stream failed
@@ -66,7 +67,7 @@ module _ {D : Type 0} (seen : D → List ℕ) (may_leave : D → List ℕ → Ty
       pub after : KeptState
       pub outlives : OutlivesCrash settings found opened last before after.book
       pub fault : WireFault
-      pub breaks : Breaks IsJournalStep before.settings.numbers.max_size (moments_at arguments.moment)
+      pub breaks : Breaks IsJournalStep (alike before.settings.numbers.max_size) (moments_at arguments.moment)
           (record { input = got; text = text; before = working before; after = after }) fault
 
     -- The conversation ended, in whatever way: where the bytes of both streams are known, what was written is the text of

@@ -1,6 +1,7 @@
 -- What `talk` does: one conversation over two streams, on a new book.
 use Rattle.std.specs.Prelude.{◌≡◌, ◌++◌, ℕ, Bool, List, replicate, Some, Result, Ok, Err, IsOk, OnErr}
 use Rattle.std.specs.Io.KnownBytes.{Appends, Consumes}
+use Rattle.http_wire.specs.BodyLimits.{alike}
 use Rattle.http_wire.specs.Conversation.{Conversation}
 use Rattle.http_wire.specs.Fault.{NamesStream}
 use Rattle.http_wire.specs.Turns.{Breaks}
@@ -27,7 +28,7 @@ pub record Talks (given : Result Settings SettingsFault) (now : ℕ) (input text
   pub is_given : given ≡ Ok settings
   pub after : PlainBook
   pub ended : Ended
-  pub conversation : Conversation IsStep settings.numbers.max_size (moments_at now)
+  pub conversation : Conversation IsStep (alike settings.numbers.max_size) (moments_at now)
       (record { input = input; text = text; before = opening_book settings; after = after }) ended
 
 -- These bytes were read and this text was written in such a conversation, until a fault broke it off: a read
@@ -38,7 +39,7 @@ pub record BreaksTalk (given : Result Settings SettingsFault) (now : ℕ) (reade
   pub after : PlainBook
   pub fault : WireFault
   pub named : NamesStream reader writer fault
-  pub breaks : Breaks IsStep settings.numbers.max_size (moments_at now)
+  pub breaks : Breaks IsStep (alike settings.numbers.max_size) (moments_at now)
       (record { input = got; text = text; before = opening_book settings; after = after }) fault
 
 -- `talk` was asked for with these arguments, over these streams

@@ -9,6 +9,8 @@ work_of options = record {
   at_once = options.at_once;
   bounds = record { idle = options.idle; message_seconds = options.message_seconds; least_rate = options.least_rate };
   body_memory = options.body_memory;
+  piece = options.piece;
+  max_body = options.max_body;
   by_readiness = options.by_readiness;
   grace = options.grace;
 }

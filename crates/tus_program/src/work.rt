@@ -19,6 +19,8 @@ pub fn work_of(options: &WorkerOptions) -> WorkOptions
             least_rate: options.least_rate,
         },
         body_memory: options.body_memory,
+        piece: options.piece,
+        max_body: options.max_body,
         by_readiness: options.by_readiness,
         grace: options.grace,
     }

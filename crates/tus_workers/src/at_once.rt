@@ -1,5 +1,6 @@
 //! A worker that serves many clients at once, over its one desk.
-ghost use Rattle.std.specs.Prelude.{◌≡◌, ◌+◌, ◌≤◌, ◌<◌, ◌^◌, None, Some, true, false};
+ghost use Rattle.std.specs.Prelude.{◌≡◌, ◌+◌, ◌≤◌, ◌<◌, ◌^◌, None, Some, IfSome, true, false};
+ghost use Rattle.http_wire.specs.BodyLimits.{AreWithin};
 ghost use Rattle.tus_workers.specs.Serving.{SweepsKept};
 
 use crate::accept::Accept;
@@ -16,9 +17,9 @@ use crate::sweeping::sweep_expired;
 use crate::watch::Watch;
 use crate::worker::Worker;
 use crate::workers::Workers;
-use connection_turns::{ClientConnection, Durability};
+use connection_turns::{ClientConnection, Durability, WorkOptions};
 use core::mem::replace_with;
-use http_wire::Clock;
+use http_wire::{BodyLimits, Clock};
 use mio::Events;
 use std::alloc::AllocError;
 use std::io::Eprint;
@@ -391,7 +392,9 @@ impl<
         match door.accept(&mut worker.acceptor) {
             Entry::Came(stream) => {
                 let max_size = worker.desk.settings().numbers().max_size;
-                let client_connection = ClientConnection::new(max_size, None, MESSAGES_MAX);
+                let piece = piece_of(&self.options);
+                let limits = limits_of(&self.options, max_size);
+                let client_connection = ClientConnection::new(limits, piece, MESSAGES_MAX);
                 let second = rounds.second;
                 rounds
                     .connections
@@ -505,6 +508,26 @@ impl<'a, H: Wait + time::Clock + Eprint> Rounds<'a, H> {
     fn pass_second<S: Durability>(&mut self, answerer: &mut S, second: u64) {
         self.connections.cut_late(answerer, &mut self.clock, second);
     }
+}
+
+// The size of the pieces in which bodies are stored, if they are.
+fn piece_of(options: &WorkOptions) -> Option<usize>
+    ensures some { IfSome result (λ size. 0 < size) }
+{
+    options.piece.filter(|size| *size > 0)
+}
+
+// The most bytes of bodies, where an upload has at most `max_size`.
+fn limits_of(options: &WorkOptions, max_size: u64) -> BodyLimits
+    requires size { max_size ≤ 16777216 }
+    ensures small { AreWithin result 16777216 }
+{
+    let other = options.max_body.unwrap_or(max_size).min(max_size);
+    let patch = match options.piece {
+        Some(_) => max_size,
+        None => other,
+    };
+    BodyLimits { patch, other }
 }
 
 // How many seconds have begun since then: 1 at first, and always where the machine's clock can't be read.

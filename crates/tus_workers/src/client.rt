@@ -221,6 +221,9 @@ impl Client {
         let busy = self.client_connection.busy();
         self.has_gone_on = has_answered || busy != was_busy;
         self.pace.note(second, moved as u64, busy, has_answered);
+        if self.seen.take_stored() && busy == Busy::Body {
+            self.pace.begin_piece(second);
+        }
         outcome
     }
 

@@ -86,8 +86,7 @@ impl<'a, W: Wait + time::Clock> Connections<'a, W> {
         !self.again.is_empty()
     }
 
-    /// Takes in a client at this second, with at most so many messages, whose bodies have at most `max_size` bytes. Its stream
-    /// is told of by its key as the token. One that can't be registered, or has no place, is let go.
+    /// Takes in a client at this second. Its stream is told of by its key as the token. One that can't be registered, or has no place, is let go.
     pub fn admit(
         &mut self,
         registry: &Registry,
@@ -401,7 +400,7 @@ fn seen_at(watch: &mut Option<Watch>, stream: &TcpStream) -> Seen {
             watch.accept();
             watch.record(stream.peer_addr().ok())
         }
-        None => Seen { record: None },
+        None => Seen::new(None),
     }
 }
 

@@ -6,6 +6,7 @@ use connection_turns::Observer;
 use http_wire::{Connection, Incoming, Message};
 use service_watch::{WORD_MAX, Word};
 use std::alloc::Global;
+use std::mem;
 use std::net::SocketAddr;
 use tus_steps::Method;
 use tus_text::Path;
@@ -66,6 +67,8 @@ pub(crate) struct Record {
 #[derive(Drop)]
 pub(crate) struct Seen {
     pub record: Option<Box<Record>>,
+    // Whether a piece of a body was stored, with more of the body to come, and nobody asked for that yet.
+    has_stored: bool,
 }
 
 impl Answered {
@@ -112,21 +115,27 @@ impl Record {
     }
 
     fn ask(&mut self, connection: &Connection) {
-        let began = self.began.unwrap_or(self.now);
-        self.began = None;
+        let began = self.began.take().unwrap_or(self.now);
         self.before = connection.pending_len();
-        self.asked = match connection.incoming() {
-            Some(Incoming::Message(message)) => Some(answered_of(self.alloc, &message, began)),
-            Some(Incoming::CutPatch(message, _)) => Some(answered_of(self.alloc, &message, began)),
-            Some(Incoming::Refused(_, _)) => Some(unknown_at(self.alloc, began)),
-            _ => None,
+        self.asked = match (connection.piece(), connection.incoming()) {
+            (Some(message), _)
+            | (None, Some(Incoming::Message(message) | Incoming::CutPatch(message, _))) => {
+                Some(answered_of(self.alloc, &message, began))
+            }
+            (None, Some(Incoming::Refused(_, _))) => Some(unknown_at(self.alloc, began)),
+            (None, _) => None,
         };
     }
 
+    // A request whose body has more pieces to come is told with its last one.
     fn answer(&mut self, connection: &Connection) {
         let Some(mut answered) = self.asked.take() else {
             return;
         };
+        if connection.is_in_pieces() {
+            self.began = Some(answered.began);
+            return;
+        }
         let put = connection.pending_len().saturating_sub(self.before);
         answered.sent = put as u64;
         if let Some(reply) = connection.pending().get(self.before..) {
@@ -140,11 +149,24 @@ impl Record {
 }
 
 impl Seen {
+    /// Nothing is seen yet, and nothing will be told where there is no record.
+    pub fn new(record: Option<Box<Record>>) -> Self {
+        Seen {
+            record,
+            has_stored: false,
+        }
+    }
+
     /// A turn begins at this microsecond.
     pub fn begin_turn(&mut self, now: u64) {
         if let Some(record) = &mut self.record {
             record.now = now;
         }
+    }
+
+    /// Whether a piece of a body was stored, with more of the body to come, since this was asked before.
+    pub fn take_stored(&mut self) -> bool {
+        mem::replace(&mut self.has_stored, false)
     }
 }
 
@@ -171,6 +193,7 @@ impl Observer for Seen {
     }
 
     fn has_answered(&mut self, connection: &Connection) {
+        self.has_stored |= connection.is_in_pieces();
         if let Some(record) = &mut self.record {
             record.answer(connection);
         }
@@ -186,7 +209,7 @@ fn answered_of(alloc: Global, message: &Message, began: u64) -> Answered {
         target: target_of(alloc, message, &request.path),
         status: None,
         word: Word::empty(),
-        received: request.body.len() as u64,
+        received: request.given.saturating_add(request.body.len() as u64),
         sent: 0,
         began,
     }

@@ -121,10 +121,12 @@ impl ServerState {
     }
 }
 
-/// Whether a worker waits for each of its clients in turn: it may, it holds one at a time, and no bound needs a look at the
-/// clock while it waits. Sixteen such workers can't hold more than 268,435,456 bytes of bodies.
+/// Whether a worker waits for each of its clients in turn: it may, it holds one at a time, bodies are gathered, and no bound
+/// needs a look at the clock while it waits. Sixteen such workers can't hold more than 268,435,456 bytes of bodies.
 pub(crate) fn waits_for_each(options: &WorkOptions) -> bool {
     !options.by_readiness
+        && options.piece.is_none()
+        && options.max_body.is_none()
         && options.at_once <= 1
         && options.bounds.message_seconds == 0
         && options.bounds.least_rate == 0

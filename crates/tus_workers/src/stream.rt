@@ -1,6 +1,7 @@
 //! A connection's conversation at a desk.
 ghost use Rattle.std.specs.Prelude.{◌≡◌, ◌<◌, ◌∷◌, ◌++◌, [], ℕ, List, length, false, None, IfErr, IfOk, IsErr};
 ghost use Rattle.std.specs.Io.KnownBytes.{Appends, Consumes};
+ghost use Rattle.http_wire.specs.BodyLimits.{alike};
 ghost use Rattle.http_wire.specs.Clock.{AreTold, IsTimed, Tells};
 ghost use Rattle.http_wire.specs.Fault.{NamesStream};
 ghost use Rattle.http_wire.specs.Turns.{Breaks, Converses, IsReadWhen};
@@ -61,14 +62,14 @@ pub fn serve_stream<
         × AreTold K.tells clock.old clock.new 4096 e moments × (got text : List ℕ)
         × Consumes (I.remaining reader) (I.remaining result.reader) got
         × Appends (O.contents writer) (O.contents result.writer) text
-        × Converses (λ old request now reply new. ServesTurn C.settings request now reply old new) C.settings.numbers.max_size moments
+        × Converses (λ old request now reply new. ServesTurn C.settings request now reply old new) (alike C.settings.numbers.max_size) moments
         (record { input = got; text = text; before = desk; after = result.desk }) e) }
     ensures breaks { IfErr result.ended (λ f. (moments : List ℕ) × (last : K)
         × (length moments < 4096) × Tells K.tells clock.old moments last
         × IsTimed K.tells last clock.new (IsErr result.ended) (λ now. (got text : List ℕ)
         × Consumes (I.remaining reader) (I.remaining result.reader) got
         × Appends (O.contents writer) (O.contents result.writer) text
-        × Breaks (λ old request now reply new. ServesTurn C.settings request now reply old new) C.settings.numbers.max_size (moments ++ now ∷ [])
+        × Breaks (λ old request now reply new. ServesTurn C.settings request now reply old new) (alike C.settings.numbers.max_size) (moments ++ now ∷ [])
         (record { input = got; text = text; before = desk; after = result.desk }) f)) }
     ensures read { IfOk result.ended (λ e. IsReadWhen e (I.remaining result.reader)) }
     ensures fault { IfErr result.ended (NamesStream (I.has_failed result.reader) (O.has_failed result.writer)) }

@@ -78,9 +78,7 @@ impl<'a> Watch<'a> {
 
     /// What is to be seen of a client at this address. Where there is no memory for that, nothing is.
     pub fn record(&self, peer: Option<SocketAddr>) -> Seen {
-        Seen {
-            record: Box::new(self.alloc, Record::new(self.alloc, peer)).ok(),
-        }
+        Seen::new(Box::new(self.alloc, Record::new(self.alloc, peer)).ok())
     }
 
     /// Notes that a connection was accepted.

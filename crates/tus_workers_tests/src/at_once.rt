@@ -89,6 +89,8 @@ fn work_for(rt: &impl Abort, connections: Connections) -> WorkOptions {
             least_rate: 1,
         },
         body_memory: 268_435_456,
+        piece: None,
+        max_body: None,
         by_readiness: false,
         grace: None,
     }

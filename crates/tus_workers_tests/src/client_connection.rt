@@ -5,7 +5,7 @@ use crate::texts::{CREATED, CUT_PATCH, HEAD, LOOKED, PATCH, PATCHED, POST};
 use connection_turns::{
     AsTheyCome, Busy, ClientConnection, Outcome, Precedence, Streams, Turned, Unwatched,
 };
-use http_wire::Buffers;
+use http_wire::{BodyLimits, Buffers};
 use std::alloc::Global;
 use std::cell::Cell;
 use std::io;
@@ -90,7 +90,7 @@ impl<'a> Client<'a> {
             has_blocked: false,
         };
         Client {
-            client_connection: ClientConnection::new(64, None, left),
+            client_connection: ClientConnection::new(BodyLimits::alike(64), None, left),
             free: Vec::new(alloc),
             streams: Streams { reader, writer },
             rounds: 0,

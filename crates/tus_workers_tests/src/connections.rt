@@ -113,6 +113,8 @@ where
             least_rate: 0,
         },
         body_memory: 268_435_456,
+        piece: None,
+        max_body: None,
         by_readiness: false,
         grace: None,
     };

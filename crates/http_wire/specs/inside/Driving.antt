@@ -16,6 +16,6 @@ pub record IsBetween (c : OnConnection) : Type 0 where
 pub record CameIn (bytes text : List ℕ) (broke : Bool) (c : OnConnection) : Type 0 where
   pub incoming : Incoming FramedRequest
   pub owed : owed_in c.phase ≡ Some incoming
-  pub comes : ComesIn c.max_size (record { input = bytes; text = text }) c.read_buffer.held incoming
+  pub comes : ComesIn c.limits (record { input = bytes; text = text }) c.read_buffer.held incoming
   pub tells_end : TellsEnd c.read_buffer.ended (Ok incoming)
   pub why : broke ≡ is_cut_by_fault incoming

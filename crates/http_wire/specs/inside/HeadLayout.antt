@@ -10,6 +10,7 @@ use Rattle.http_wire.specs.NextMessage.{Parses, method_in, tus_fields, framing_o
 use Rattle.http_wire.specs.declared.read.layout.Layout.{Layout}
 use Rattle.http_wire.specs.HeadText.{whole, has_many_lines, head_text}
 use Rattle.http_wire.specs.declared.read.head.RefusedHead.{RefusedHead}
+use Rattle.http_wire.specs.declared.body_limits.BodyLimits.{BodyLimits}
 
 -- a line that was parsed is that of a head, which is the whole text, with its fields
 pub record IsLine (text : List ℕ) (spans : List HeaderSpan) (line : RequestSpans) (h : RequestHead) : Type 0 where
@@ -25,31 +26,31 @@ pub record HasLine (text : List ℕ) (line : RequestSpans) (h : RequestHead) : T
   pub version : line.version ≡ h.minor
 
 -- the layout is that of a head
-pub record ShowsHead (max : ℕ) (head : List ℕ) (h : RequestHead) (p : Layout) : Type 0 where
+pub record ShowsHead (limits : BodyLimits) (head : List ℕ) (h : RequestHead) (p : Layout) : Type 0 where
   pub method : p.method ≡ method_in h
   pub framing : p.framing ≡ framing_of h
   pub is_waiting : p.is_waiting ≡ is_waiting h p.body_len
-  pub body_len : judged max h ≡ Ok p.body_len
+  pub body_len : judged limits h ≡ Ok p.body_len
   pub given : p.given ≡ 0
   pub more : p.more ≡ 0
   pub target : span_bytes head p.target ≡ h.target
   pub fields : map_fields (field_at head) p.fields ≡ tus_fields h
 
 -- the layout of a head whose fields are judged well, or the refusal by them
-abbrev pub JudgesHead : ℕ → List ℕ → RequestHead → Result Layout RefusedHead → Type 0
-JudgesHead max text h (Ok p) = ShowsHead max text h p
-JudgesHead max text h (Err e) = (judged max h ≡ Err e.refusal) × (e.framing ≡ closing (framing_of h))
+abbrev pub JudgesHead : BodyLimits → List ℕ → RequestHead → Result Layout RefusedHead → Type 0
+JudgesHead limits text h (Ok p) = ShowsHead limits text h p
+JudgesHead limits text h (Err e) = (judged limits h ≡ Err e.refusal) × (e.framing ≡ closing (framing_of h))
 
 -- What a head text gives: the layout of its head, or a refusal that an input begins with which begins
 -- with this text, whatever follows it.
-abbrev pub ReadsLayout : ℕ → List ℕ → Result Layout RefusedHead → Type 0
-ReadsLayout max text (Ok p) = (has_many_lines text ≡ false) × ((h : RequestHead) × Parses text (Some h) × ShowsHead max text h p)
-ReadsLayout max text (Err e) = (rest : List ℕ) → Begins max (whole text rest) (refused e.refusal e.framing)
+abbrev pub ReadsLayout : BodyLimits → List ℕ → Result Layout RefusedHead → Type 0
+ReadsLayout limits text (Ok p) = (has_many_lines text ≡ false) × ((h : RequestHead) × Parses text (Some h) × ShowsHead limits text h p)
+ReadsLayout limits text (Err e) = (rest : List ℕ) → Begins limits (whole text rest) (refused e.refusal e.framing)
 
 -- these bytes begin with a whole head of this layout, which is held with what follows it
-pub record BeginsHead (max : ℕ) (bytes : List ℕ) (p : Layout) (held : List ℕ) : Type 0 where
+pub record BeginsHead (limits : BodyLimits) (bytes : List ℕ) (p : Layout) (held : List ℕ) : Type 0 where
   pub head : RequestHead
   pub few : has_many_lines (take p.head_len held) ≡ false
   pub parses : Parses (take p.head_len held) (Some head)
-  pub shows : ShowsHead max (take p.head_len held) head p
+  pub shows : ShowsHead limits (take p.head_len held) head p
   pub begins : (rest : List ℕ) → head_text (bytes ++ rest) ≡ whole (take p.head_len held) (drop p.head_len held ++ rest)

@@ -8,6 +8,7 @@ use Rattle.http_wire.specs.declared.incoming.Incoming.{Incoming}
 use Rattle.http_wire.specs.declared.incoming.Incoming.TheVariants.{Message, CutPatch, CutOther, Refused, End}
 use Rattle.http_wire.specs.declared.read.layout.Layout.{Layout}
 use Rattle.http_wire.specs.inside.Ahead.{Ahead}
+use Rattle.http_wire.specs.declared.body_limits.BodyLimits.{BodyLimits}
 
 -- these bytes are those of a message or of a cut PATCH, where there is one
 abbrev pub IsLent : List ℕ → Incoming Layout → Type 0
@@ -18,5 +19,5 @@ IsLent text (Refused why framing) = ⊤
 IsLent text End = ⊤
 
 -- what a reading gave, whose message the read buffer lends
-abbrev pub ReadsIncoming : ℕ → Intake → Ahead → Result (Incoming Layout) WireFault → Type 0
-ReadsIncoming max i a r = ReadsNext max i a.held (map_read (framed_at a.lent) r)
+abbrev pub ReadsIncoming : BodyLimits → Intake → Ahead → Result (Incoming Layout) WireFault → Type 0
+ReadsIncoming limits i a r = ReadsNext limits i a.held (map_read (framed_at a.lent) r)

@@ -1,5 +1,6 @@
 -- What holds of every connection at each phase.
-use Rattle.std.specs.Prelude.{⊤, ◌≡◌, ◌≤◌, ◌<◌, ◌+◌, ◌-◌, ◌^◌, ℕ, length, min, Option, Some, Ok, IfSome}
+use Rattle.std.specs.Prelude.{⊤, ◌≡◌, ◌≤◌, ◌<◌, ◌+◌, ◌-◌, ℕ, length, min, Option, Some, Ok, IfSome}
+use Rattle.http_wire.specs.BodyLimits.{AreSmall}
 use Rattle.http_wire.specs.Incoming.{map_incoming}
 use Rattle.http_wire.specs.Layout.{framed_at}
 use Rattle.http_wire.specs.ReadOnWire.{TellsEnd}
@@ -11,7 +12,8 @@ use Rattle.http_wire.specs.declared.read.stage.Stage.TheVariants.{Head, Body, Pi
 use Rattle.http_wire.specs.inside.Ahead.{Ahead}
 use Rattle.http_wire.specs.inside.IncomingLayout.{IsLent}
 use Rattle.http_wire.specs.OnConnection.{body_in}
-use Rattle.http_wire.specs.inside.Standing.{Fits, HasPiece, Wants}
+use Rattle.http_wire.specs.inside.Standing.{Fits, GathersAt, GathersIn, HasPiece, Wants}
+use Rattle.http_wire.specs.declared.body_limits.BodyLimits.{BodyLimits}
 
 -- the same with what f gives of the message that came in
 abbrev pub map_phase : {M N : Type 0} → (M → N) → Phase M → Phase N
@@ -22,8 +24,8 @@ map_phase f (Piece b part) = Piece b part
 map_phase f (Over r) = Over r
 map_phase f (Stopped r) = Stopped r
 
--- A reading that may stand so over this read buffer; where it waits, there is room for a read; a message that came in is lent, and
--- one that was cut by the end came at the end.
+-- A reading may stand so over this read buffer. Where it waits, there is room for a read. A message that came in is lent, and one
+-- that was cut by the end came at the end.
 abbrev pub IsPhase : Ahead → Phase Layout → Type 0
 IsPhase a (Looking s) = Fits a s
 IsPhase a (Waiting s) = Fits a s × Wants a s × (length a.held + READ_SIZE ≤ a.room)
@@ -31,6 +33,15 @@ IsPhase a (Owing i) = IsLent a.lent i × TellsEnd a.ended (Ok (map_incoming (fra
 IsPhase a (Piece b part) = HasPiece a b part
 IsPhase a (Over r) = ⊤
 IsPhase a (Stopped r) = ⊤
+
+-- a body that is gathered whole is not one that is taken in pieces of this size
+abbrev pub Gathers : Option ℕ → Ahead → Phase Layout → Type 0
+Gathers piece a (Looking s) = GathersAt piece s
+Gathers piece a (Waiting s) = GathersAt piece s
+Gathers piece a (Owing i) = GathersIn piece a i
+Gathers piece a (Piece b part) = ⊤
+Gathers piece a (Over r) = ⊤
+Gathers piece a (Stopped r) = ⊤
 
 -- how many bytes are missing of a body that is waited for, or of its next piece
 abbrev pub lacking : Ahead → Phase Layout → ℕ
@@ -43,9 +54,10 @@ lacking a (Piece b part) = 0
 lacking a (Over r) = 0
 lacking a (Stopped r) = 0
 
--- A connection whose bodies have at most so many bytes, and are taken in pieces of this size, where there are pieces.
-pub record IsConnection (a : Ahead) (p : Phase Layout) (max : ℕ) (piece : Option ℕ) : Type 0 where
-  pub size : max < 2 ^ 31
+-- A connection whose bodies have at most these lengths, and are taken in pieces of this size, where there are pieces.
+pub record IsConnection (a : Ahead) (p : Phase Layout) (limits : BodyLimits) (piece : Option ℕ) : Type 0 where
+  pub size : AreSmall limits
   pub some : IfSome piece (λ n. 0 < n)
   pub phase : IsPhase a p
   pub body : IfSome (body_in p) (λ b. piece ≡ Some b.piece)
+  pub gathered : Gathers piece a p

@@ -5,7 +5,7 @@ use Rattle.http_wire.specs.Conversation.{continue_text}
 use Rattle.http_wire.specs.HeadText.{head_limit}
 use Rattle.http_wire.specs.Incoming.{is_cut_by_fault, map_incoming}
 use Rattle.http_wire.specs.Layout.{IsLayoutWithin, framed_at}
-use Rattle.http_wire.specs.PiecedBody.{IsPlain, IsTaken}
+use Rattle.http_wire.specs.PiecedBody.{IsPlain, IsTaken, pieced_by}
 use Rattle.http_wire.specs.ReadOnWire.{ComesIn, TellsEnd}
 use Rattle.http_wire.specs.inside.Ahead.{Ahead}
 use Rattle.http_wire.specs.inside.HeadLayout.{BeginsHead}
@@ -13,6 +13,7 @@ use Rattle.http_wire.specs.inside.HeadSearch.{NeedsMore, Searching}
 use Rattle.http_wire.specs.inside.IncomingLayout.{IsLent}
 use Rattle.http_wire.specs.declared.incoming.Cut.TheVariants as cut
 use Rattle.http_wire.specs.declared.incoming.Incoming.{Incoming}
+use Rattle.http_wire.specs.declared.incoming.Incoming.TheVariants.{Message, CutPatch, CutOther, Refused, End}
 use Rattle.http_wire.specs.declared.read.read_buffer.TheConstants.{READ_SIZE}
 use Rattle.http_wire.specs.declared.read.layout.Layout.{Layout}
 use Rattle.http_wire.specs.declared.read.pieces.Part.{Part}
@@ -22,30 +23,31 @@ use Rattle.http_wire.specs.declared.read.stage.Looked.{Looked}
 use Rattle.http_wire.specs.declared.read.stage.Looked.TheVariants.{More, Continue, Came, Piece}
 use Rattle.http_wire.specs.declared.read.stage.Stage.{Stage}
 use Rattle.http_wire.specs.declared.read.stage.Stage.TheVariants.{Head, Body, Pieces}
+use Rattle.http_wire.specs.declared.body_limits.BodyLimits.{BodyLimits}
 
--- Some bytes came, of which these are held, and this was said meanwhile: nothing while the head is searched, and
--- `100 Continue` before the body, where the client waits for it. Of a body that is taken in pieces some may be gone.
-abbrev pub Standing : ℕ → List ℕ → List ℕ → Ahead → Stage → Type 0
-Standing max bytes said a (Head s) = (said ≡ []) × Searching bytes a.held s
-Standing max bytes said a (Body p) = (said ≡ continue_text p.is_waiting) × BeginsHead max bytes p a.held
-Standing max bytes said a (Pieces b) = (gone : List ℕ) × IsTaken max bytes said gone b a.held
+-- Some bytes came, of which these are held, and this was said meanwhile. Nothing is said while the head is searched, and
+-- `100 Continue` before the body, where the client waits for it. Some of a body that is taken in pieces may be gone.
+abbrev pub Standing : BodyLimits → List ℕ → List ℕ → Ahead → Stage → Type 0
+Standing limits bytes said a (Head s) = (said ≡ []) × Searching bytes a.held s
+Standing limits bytes said a (Body p) = (said ≡ continue_text p.is_waiting) × BeginsHead limits bytes p a.held
+Standing limits bytes said a (Pieces b) = (gone : List ℕ) × IsTaken limits bytes said gone b a.held
 
 -- with these bytes, and with this said meanwhile, this came in, which the read buffer lends
-abbrev pub Comes : ℕ → List ℕ → List ℕ → Ahead → Incoming Layout → Type 0
-Comes max bytes said a i = ComesIn max (record { input = bytes; text = said }) a.held (map_incoming (framed_at a.lent) i)
+abbrev pub Comes : BodyLimits → List ℕ → List ℕ → Ahead → Incoming Layout → Type 0
+Comes limits bytes said a i = ComesIn limits (record { input = bytes; text = said }) a.held (map_incoming (framed_at a.lent) i)
 
 -- what a look came to: more is needed; `100 Continue` is due, before which nothing was said; something came in; or a piece is
 -- lent
-abbrev pub LooksOn : ℕ → List ℕ → List ℕ → Ahead → Stage → Looked → Type 0
-LooksOn max bytes said a stage More = Standing max bytes said a stage
-LooksOn max bytes said a stage Continue = (said ≡ []) × Standing max bytes (continue_text true) a stage
-LooksOn max bytes said a stage (Came i) = Comes max bytes said a i
-LooksOn max bytes said a stage (Piece b part) = (gone : List ℕ) × IsTaken max bytes said gone b (a.lent ++ a.held)
+abbrev pub LooksOn : BodyLimits → List ℕ → List ℕ → Ahead → Stage → Looked → Type 0
+LooksOn limits bytes said a stage More = Standing limits bytes said a stage
+LooksOn limits bytes said a stage Continue = (said ≡ []) × Standing limits bytes (continue_text true) a stage
+LooksOn limits bytes said a stage (Came i) = Comes limits bytes said a i
+LooksOn limits bytes said a stage (Piece b part) = (gone : List ℕ) × IsTaken limits bytes said gone b (a.lent ++ a.held)
 
 -- the head of this layout is held, and there is room for its message and for a read after it
 pub record HasRoom (a : Ahead) (p : Layout) : Type 0 where
   pub head : p.head_len ≤ head_limit
-  pub body : p.body_len < 2 ^ 31
+  pub body : p.body_len < 2 ^ 62
   pub held : p.head_len ≤ length a.held
   pub room : p.head_len + p.body_len + READ_SIZE ≤ a.room
   pub within : IsLayoutWithin p.head_len p
@@ -53,9 +55,10 @@ pub record HasRoom (a : Ahead) (p : Layout) : Type 0 where
 -- a body that is taken in pieces, where there is room for so many bytes: for its head, a piece and a read after it
 pub record IsPieced (space : ℕ) (b : PiecedBody) : Type 0 where
   pub head : b.layout.head_len ≤ head_limit
-  pub body : b.layout.body_len < 2 ^ 31
+  pub body : b.layout.body_len < 2 ^ 62
   pub given : b.given < b.layout.body_len
   pub some : 0 < b.piece
+  pub long : b.piece < b.layout.body_len
   pub room : b.layout.head_len + b.piece + READ_SIZE ≤ space
   pub within : IsLayoutWithin b.layout.head_len b.layout
   pub plain : IsPlain b.layout
@@ -69,9 +72,10 @@ pub record HasRoomForPiece (a : Ahead) (b : PiecedBody) : Type 0 where
 abbrev pub lent_to : Ahead → PiecedBody → ℕ
 lent_to a b = b.given + (length a.lent - b.layout.head_len)
 
--- Which piece of a body is lent. Nothing is held behind one that is not the last.
+-- Which piece of a body is lent. Nothing is held behind one that is not the last. One with more to come has at least the size of
+-- a piece.
 abbrev pub IsPart : Ahead → PiecedBody → Part → Type 0
-IsPart a b Middle = (lent_to a b < b.layout.body_len) × (a.held ≡ [])
+IsPart a b Middle = (lent_to a b < b.layout.body_len) × (a.held ≡ []) × (b.layout.head_len + b.piece ≤ length a.lent)
 IsPart a b Last = lent_to a b ≡ b.layout.body_len
 IsPart a b (Cut cut.Ended) = (lent_to a b < b.layout.body_len) × (a.held ≡ []) × (a.ended ≡ true)
 IsPart a b (Cut cut.Fault) = (lent_to a b < b.layout.body_len) × (a.held ≡ []) × (a.ended ≡ false)
@@ -122,15 +126,36 @@ pieced_after stage (Came i) = None
 pieced_after stage (Piece b part) = Some b
 
 -- A body that is taken in pieces stays the same. One begins only where bodies are taken in pieces of this size, with nothing taken.
-abbrev pub Keeps : Option ℕ → Option PiecedBody → Option PiecedBody → Type 0
-Keeps piece None None = ⊤
-Keeps piece None (Some b) = (b.given ≡ 0) × (piece ≡ Some b.piece)
-Keeps piece (Some b) None = ⊥
-Keeps piece (Some b) (Some c) = c ≡ b
+abbrev pub KeepsBody : Option ℕ → Option PiecedBody → Option PiecedBody → Type 0
+KeepsBody piece None None = ⊤
+KeepsBody piece None (Some b) = (b.given ≡ 0) × (piece ≡ Some b.piece)
+KeepsBody piece (Some b) None = ⊥
+KeepsBody piece (Some b) (Some c) = c ≡ b
+
+-- The body of a message is gathered whole, and not in pieces of this size. Once it came in, no more is lent than the message has.
+abbrev pub GathersIn : Option ℕ → Ahead → Incoming Layout → Type 0
+GathersIn piece a (Message p) = (pieced_by piece p ≡ None) × (length a.lent ≤ p.head_len + p.body_len)
+GathersIn piece a (CutPatch p why) = (pieced_by piece p ≡ None) × (length a.lent ≤ p.head_len + p.body_len)
+GathersIn piece a CutOther = ⊤
+GathersIn piece a (Refused why framing) = ⊤
+GathersIn piece a End = ⊤
+
+-- the same of a message that is being read
+abbrev pub GathersAt : Option ℕ → Stage → Type 0
+GathersAt piece (Head s) = ⊤
+GathersAt piece (Body p) = pieced_by piece p ≡ None
+GathersAt piece (Pieces b) = ⊤
+
+-- the same once a look was taken
+abbrev pub GathersAfter : Option ℕ → Ahead → Stage → Looked → Type 0
+GathersAfter piece a stage More = GathersAt piece stage
+GathersAfter piece a stage Continue = GathersAt piece stage
+GathersAfter piece a stage (Came i) = GathersIn piece a i
+GathersAfter piece a stage (Piece b part) = ⊤
 
 -- how many bytes may still come; a head counts for more than any body
 abbrev pub missing : Ahead → Stage → ℕ
-missing a (Head s) = 2 ^ 32 + (head_limit - (s.skipped + length a.held))
+missing a (Head s) = 2 ^ 63 + (head_limit - (s.skipped + length a.held))
 missing a (Body p) = (p.head_len + p.body_len) - length a.held
 missing a (Pieces b) = (b.layout.head_len + (b.layout.body_len - b.given)) - length a.held
 

@@ -20,7 +20,7 @@ module _ {R W : Type 0} where
     writer = writer;
     held = c.read_buffer.held;
     ended = c.read_buffer.ended;
-    max_size = c.max_size;
+    max_size = c.limits.other;
     reads = is_open state;
     writes = is_alive state;
   }
@@ -34,10 +34,11 @@ module _ {R W : Type 0} where
     pub writer_alive : w.writes ≡ true → s.write_failed w.writer ≡ false
     pub end : w.reads ≡ true → w.ended ≡ true → IsAtEnd (s.remaining w.reader)
 
-  -- The same of its parts; each body is gathered, nothing is left to be sent, and while it reads, the next message begins, unless
-  -- one that came in is left as it is.
+  -- The same of its parts. Both limits of bodies are alike, each body is gathered, and nothing is left to be sent. While it
+  -- reads, the next message begins, unless one that came in is left as it is.
   pub record IsWire (s : Streams R W) (reader : R) (writer : W) (c : OnConnection) (state : State) : Type 0 where
     pub sound : IsSound s (wire_of reader writer c state)
+    pub limits : c.limits.patch ≡ c.limits.other
     pub gathers : c.piece ≡ None
     pub sent : c.write_buffer ≡ empty_write_buffer
     pub starts : is_open state ≡ true → passed_over c.phase ≡ at_start

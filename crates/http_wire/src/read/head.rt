@@ -1,12 +1,15 @@
 ghost use Rattle.std.specs.Prelude.{◌≡◌, ◌≤◌, ◌<◌, ◌^◌, None, ℕ, List, length, IfOk, MatchOption};
 ghost use Rattle.httparse.specs.Grammar.{RequestHead};
 ghost use Rattle.httparse.specs.Spans.{IsWithin};
-ghost use Rattle.http_wire.specs.Layout.{IsLayoutWithin};
+ghost use Rattle.http_wire.specs.BodyLimits.{AreSmall};
+ghost use Rattle.http_wire.specs.Judge.{judge};
+ghost use Rattle.http_wire.specs.Layout.{IsLayoutWithin, field_at};
 ghost use Rattle.http_wire.specs.inside.HeadFields.{AreInside, ShowFields};
 ghost use Rattle.http_wire.specs.inside.HeadLayout.{HasLine, IsLine, JudgesHead, ReadsLayout};
 ghost use Rattle.tus_steps.specs.Field.{text_of};
 ghost use Rattle.http_wire.specs.NextMessage.{Parses, method_of, method_by, closing, unknown_framing};
 
+use crate::body_limits::BodyLimits;
 use crate::framing::Framing;
 use crate::read::connection_fields::asks_to_continue;
 use crate::read::fields::{FieldMap, HeadFields};
@@ -34,19 +37,19 @@ pub const UNKNOWN_FRAMING: Framing = Framing {
     close: true,
 };
 
-/// The layout of a head, and of the body that follows it, which has at most `max_size` bytes; or the
-/// first refusal of the wire that applies. Where the fields stand is written to `spans`, and where those that count do, to
+/// The layout of a head and of the body that follows it, or the first refusal of the wire that applies. The body has at most
+/// as many bytes as `limits` tell. Where the fields stand is written to `spans`, and where those that count do, to
 /// `map`; what these had is not read. It takes no memory.
 pub fn read_layout(
     head: &[u8],
     spans: &mut [HeaderSpan; FIELD_LIMIT],
     map: &mut FieldMap,
-    max_size: u64,
+    limits: BodyLimits,
 ) -> Result<Layout, RefusedHead>
-    requires max_size { max_size < 2 ^ 31 }
+    requires limits { AreSmall limits }
     ensures within { IfOk result (λ p. IsLayoutWithin (length head.now) p) }
-    ensures size { IfOk result (λ p. p.body_len ≤ max_size) }
-    ensures gives { ReadsLayout max_size head.now result }
+    ensures size { IfOk result (λ p. p.body_len < 2 ^ 62) }
+    ensures gives { ReadsLayout limits head.now result }
 {
     if has_many_lines(head) {
         return Err(unknown(WireRefusal::HeadSize));
@@ -58,7 +61,7 @@ pub fn read_layout(
         line,
         head,
         &map.gather(head, &spans[..line.headers]),
-        max_size,
+        limits,
     )
 }
 
@@ -76,27 +79,26 @@ fn layout_of(
     line: RequestSpans,
     head: &[u8],
     fields: &HeadFields,
-    max_size: u64,
+    limits: BodyLimits,
 ) -> Result<Layout, RefusedHead>
-    requires max_size { max_size < 2 ^ 31 }
+    requires limits { AreSmall limits }
     requires method { IsWithin (length head.now) line.method }
     requires target { IsWithin (length head.now) line.path }
     requires fields { AreInside (length head.now) fields.now }
     ensures within { IfOk result (λ p. IsLayoutWithin (length head.now) p) }
-    ensures size { IfOk result (λ p. p.body_len ≤ max_size) }
+    ensures size { IfOk result (λ p. p.body_len < 2 ^ 62) }
     ensures shown { (h : RequestHead) → HasLine head.now line h
         → ShowFields head.now fields.now h.fields
-        → JudgesHead max_size head.now h result }
+        → JudgesHead limits head.now h result }
 {
     let name = line.method.of(head);
     let framing = Framing {
         bare: method_of(name).is_head(),
         close: line.version == 0 || fields.has_close,
     };
-    let host = fields.host.of(head);
-    let coding = fields.coding.of(head);
-    let length = fields.length.of(head);
-    match judge(max_size, line.version, host, coding, length) {
+    let method = method_by(name, fields.instead.of(head));
+    let most = limits.most(method, fields.tus.checksum.of(head));
+    match judge_fields(most, line.version, head, fields) {
         Err(refusal) => Err(RefusedHead {
             refusal,
             framing: closing(framing),
@@ -104,7 +106,7 @@ fn layout_of(
         Ok(body_len) => {
             let expect = fields.expect.of(head);
             Ok(Layout {
-                method: method_by(name, fields.instead.of(head)),
+                method,
                 framing,
                 is_waiting: line.version == 1 && asks_to_continue(expect) && body_len > 0,
                 head_len: head.len(),
@@ -116,6 +118,19 @@ fn layout_of(
             })
         }
     }
+}
+
+// The length of the body of a head with these fields, or the first refusal by them that applies.
+fn judge_fields(most: u64, minor: u8, head: &[u8], fields: &HeadFields) -> Result<u64, WireRefusal>
+    requires { AreInside (length head.now) fields.now }
+    ensures judges { result ≡ judge most minor (field_at head.now fields.now.host)
+        (field_at head.now fields.now.coding) (field_at head.now fields.now.length) }
+    ensures few { IfOk result (λ n. n ≤ most) }
+{
+    let host = fields.host.of(head);
+    let coding = fields.coding.of(head);
+    let length = fields.length.of(head);
+    judge(most, minor, host, coding, length)
 }
 
 /// The framing of a reply after which the connection closes.

@@ -1,8 +1,9 @@
 //! A body that is taken in pieces, as its bytes come.
-ghost use Rattle.std.specs.Prelude.{◌≡◌, ◌<◌, ℕ, List, Some, IfSome};
+ghost use Rattle.std.specs.Prelude.{◌≡◌, ◌<◌, ℕ, List, Option, Some, IfSome};
 ghost use Rattle.http_wire.specs.PiecedBody.{IsPlain, IsTaken, piece_at, pieced_by};
+ghost use Rattle.http_wire.specs.declared.body_limits.BodyLimits.{BodyLimits};
 ghost use Rattle.http_wire.specs.declared.read.stage.Stage.TheVariants as variants;
-ghost use Rattle.http_wire.specs.inside.Standing.{HasRoomForPiece, IsNearer, Leaves, LooksOn, missing, pieced_after};
+ghost use Rattle.http_wire.specs.inside.Standing.{GathersAfter, HasRoomForPiece, IsNearer, Leaves, LooksOn, missing, pieced_after};
 
 use crate::incoming::Cut;
 use crate::read::layout::Layout;
@@ -32,8 +33,8 @@ pub enum Part {
 }
 
 impl PiecedBody {
-    /// The body of this message, of which nothing was taken, if it is taken in pieces of so many bytes: that of a PATCH without
-    /// a checksum which has more bytes than a piece.
+    /// The body of this message, of which nothing was taken, if it is taken in pieces of so many bytes. The message is a PATCH
+    /// without a checksum, and its body has more bytes than a piece.
     pub fn of(layout: &Layout, piece: Option<usize>) -> Option<PiecedBody>
         ensures body { result ≡ pieced_by piece layout.now }
         ensures begins { IfSome result (λ b. (b.layout ≡ layout.now) × (b.given ≡ 0) × (piece ≡ Some b.piece)
@@ -69,12 +70,13 @@ impl PiecedBody {
 /// came are lent with the head, so that none is moved, but for those behind the body.
 pub fn look_for_piece(read_buffer: &mut ReadBuffer, body: &PiecedBody) -> Looked
     requires { HasRoomForPiece read_buffer.old body.now }
-    ensures looks { (max : ℕ) (bytes said gone : List ℕ) → IsTaken max bytes said gone body.now read_buffer.old.held
-        → LooksOn max bytes said read_buffer.new (variants.Pieces body.now) result }
+    ensures looks { (limits : BodyLimits) (bytes said gone : List ℕ) → IsTaken limits bytes said gone body.now read_buffer.old.held
+        → LooksOn limits bytes said read_buffer.new (variants.Pieces body.now) result }
     ensures leaves { Leaves read_buffer.new (variants.Pieces body.now) result }
     ensures nearer { IsNearer (missing read_buffer.old (variants.Pieces body.now)) read_buffer.new
         (variants.Pieces body.now) result }
     ensures body { pieced_after (variants.Pieces body.now) result ≡ Some body.now }
+    ensures gathers { (piece : Option ℕ) → GathersAfter piece read_buffer.new (variants.Pieces body.now) result }
     ensures ended { read_buffer.new.ended ≡ read_buffer.old.ended }
 {
     let came = read_buffer.held().len() - body.layout.head_len;

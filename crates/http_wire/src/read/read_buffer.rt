@@ -151,7 +151,7 @@ impl ReadBuffer {
     /// The error is that there is no memory, which comes only where there was not room enough, so never for 49,152
     /// bytes or fewer. Then nothing changed.
     pub fn reserve(&mut self, total: usize) -> Result<(), AllocError>
-        requires { total < 2 ^ 32 }
+        requires { total + READ_SIZE ≤ 2 ^ 63 }
         ensures held { self.new.held ≡ self.old.held }
         ensures ended { self.new.ended ≡ self.old.ended }
         ensures ok { OnOk result (total + READ_SIZE ≤ self.new.room) }

@@ -1,14 +1,17 @@
 //! The reading of a message as steps over what a read buffer holds: no reader and no writer is touched here.
-ghost use Rattle.std.specs.Prelude.{◌≡◌, ◌≤◌, ◌<◌, ◌+◌, ◌^◌, ℕ, List, [], true, false, length, None, IfOk, IfErr, IfSome, OnOk};
+ghost use Rattle.std.specs.Prelude.{◌≡◌, ◌≤◌, ◌<◌, ◌+◌, ◌^◌, ℕ, List, [], true, false, length, Option, None, IfOk, IfErr, IfSome, OnOk};
+ghost use Rattle.http_wire.specs.BodyLimits.{AreSmall};
 ghost use Rattle.http_wire.specs.Conversation.{continue_text};
 ghost use Rattle.http_wire.specs.HeadText.{head_limit};
 ghost use Rattle.http_wire.specs.Layout.{IsLayoutWithin};
+ghost use Rattle.http_wire.specs.PiecedBody.{pieced_by};
 ghost use Rattle.http_wire.specs.inside.HeadLayout.{BeginsHead};
 ghost use Rattle.http_wire.specs.inside.HeadSearch.{IsHeadFound, IsHeldBy, search_start};
-ghost use Rattle.http_wire.specs.inside.Standing.{Arrives, Comes, Fits, HasRoom, IsNearer, Keeps, Leaves, LooksOn, Standing, missing, pieced, pieced_after};
+ghost use Rattle.http_wire.specs.inside.Standing.{Arrives, Comes, Fits, GathersAfter, GathersAt, GathersIn, HasRoom, IsNearer, KeepsBody, Leaves, LooksOn, Standing, missing, pieced, pieced_after};
 ghost use Rattle.http_wire.specs.declared.read.read_buffer.TheConstants.{READ_SIZE};
 ghost use Rattle.http_wire.specs.declared.read.stage.Stage.TheVariants as variants;
 
+use crate::body_limits::BodyLimits;
 use crate::incoming::{Cut, Incoming};
 use crate::read::fields::FieldMap;
 use crate::read::head::{FIELD_LIMIT, UNKNOWN_FRAMING, closing, read_layout};
@@ -51,26 +54,27 @@ impl Stage {
         Stage::Head(Search::new())
     }
 
-    /// Looks at what is held; for the end of a head no byte is searched twice. A body has at most `max_size` bytes. `piece` tells
-    /// how many bytes of a body are taken as a piece; where it is none, each body is gathered. `spans` and `map` are where the
-    /// fields of a head are written. `Looked::Continue` comes at most once, between the head and the body. After `Looked::More`
-    /// there is room for a read, and the input has not ended.
+    /// Looks at what is held; for the end of a head no byte is searched twice. A body has at most as many bytes as `limits` tell.
+    /// `piece` tells how many bytes of a body are taken as a piece; where it is none, each body is gathered. `spans` and `map` are
+    /// where the fields of a head are written. `Looked::Continue` comes at most once, between the head and the body. After
+    /// `Looked::More` there is room for a read, and the input has not ended.
     pub fn look(
         &mut self,
         read_buffer: &mut ReadBuffer,
         spans: &mut [HeaderSpan; FIELD_LIMIT],
         map: &mut FieldMap,
-        max_size: u64,
+        limits: BodyLimits,
         piece: Option<usize>,
     ) -> Looked
-        requires max_size { max_size < 2 ^ 31 }
+        requires limits { AreSmall limits }
         requires piece { IfSome piece (λ n. 0 < n) }
         requires fits { Fits read_buffer.old self.old }
-        ensures looks { (bytes said : List ℕ) → Standing max_size bytes said read_buffer.old self.old
-            → LooksOn max_size bytes said read_buffer.new self.new result }
+        ensures looks { (bytes said : List ℕ) → Standing limits bytes said read_buffer.old self.old
+            → LooksOn limits bytes said read_buffer.new self.new result }
         ensures leaves { Leaves read_buffer.new self.new result }
         ensures nearer { IsNearer (missing read_buffer.old self.old) read_buffer.new self.new result }
-        ensures body { Keeps piece (pieced self.old) (pieced_after self.new result) }
+        ensures body { KeepsBody piece (pieced self.old) (pieced_after self.new result) }
+        ensures gathers { GathersAt piece self.old → GathersAfter piece read_buffer.new self.new result }
         ensures ended { read_buffer.new.ended ≡ read_buffer.old.ended }
     {
         match self {
@@ -78,7 +82,7 @@ impl Stage {
                 let Some(found) = search.look(read_buffer) else {
                     return Looked::More;
                 };
-                match judge_head(found, read_buffer, spans, map, max_size) {
+                match judge_head(found, read_buffer, spans, map, limits) {
                     Ok(layout) => self.begin_body(read_buffer, layout, piece),
                     Err(incoming) => Looked::Came(incoming),
                 }
@@ -88,8 +92,8 @@ impl Stage {
         }
     }
 
-    // Begins with the body of a message whose head is held: makes room for it, or for a piece of it, and looks for it where its
-    // client need not be told to go on. Where there is no room, its message is refused.
+    // Begins with the body of a message whose head is held. It makes room for the body, or for a piece of it; where there is
+    // none, the message is refused. Then it looks for the body, unless its client is first to be told to go on.
     fn begin_body(
         &mut self,
         read_buffer: &mut ReadBuffer,
@@ -97,15 +101,16 @@ impl Stage {
         piece: Option<usize>,
     ) -> Looked
         requires head { layout.head_len ≤ head_limit }
-        requires body { layout.body_len < 2 ^ 31 }
+        requires body { layout.body_len < 2 ^ 62 }
         requires piece { IfSome piece (λ n. 0 < n) }
         requires held { layout.head_len ≤ length read_buffer.old.held }
         requires within { IsLayoutWithin layout.head_len layout }
-        ensures looks { (max : ℕ) (bytes : List ℕ) → BeginsHead max bytes layout read_buffer.old.held
-            → LooksOn max bytes [] read_buffer.new self.new result }
+        ensures looks { (limits : BodyLimits) (bytes : List ℕ) → BeginsHead limits bytes layout read_buffer.old.held
+            → LooksOn limits bytes [] read_buffer.new self.new result }
         ensures leaves { Leaves read_buffer.new self.new result }
-        ensures nearer { (before : ℕ) → 2 ^ 32 ≤ before → IsNearer before read_buffer.new self.new result }
-        ensures body { Keeps piece None (pieced_after self.new result) }
+        ensures nearer { (before : ℕ) → 2 ^ 63 ≤ before → IsNearer before read_buffer.new self.new result }
+        ensures body { KeepsBody piece None (pieced_after self.new result) }
+        ensures gathers { GathersAfter piece read_buffer.new self.new result }
         ensures ended { read_buffer.new.ended ≡ read_buffer.old.ended }
     {
         let pieced = PiecedBody::of(&layout, piece);
@@ -141,26 +146,22 @@ fn judge_head(
     read_buffer: &ReadBuffer,
     spans: &mut [HeaderSpan; FIELD_LIMIT],
     map: &mut FieldMap,
-    max_size: u64,
+    limits: BodyLimits,
 ) -> Result<Layout, Incoming<Layout>>
-    requires max_size { max_size < 2 ^ 31 }
+    requires limits { AreSmall limits }
     requires held { IsHeldBy read_buffer.now found }
     ensures head { IfOk result (λ p. (bytes : List ℕ) → IsHeadFound bytes read_buffer.now found
-        → BeginsHead max_size bytes p read_buffer.now.held) }
+        → BeginsHead limits bytes p read_buffer.now.held) }
     ensures long { IfOk result (λ p. (p.head_len ≤ head_limit) × (p.head_len ≤ length read_buffer.now.held)) }
-    ensures body { IfOk result (λ p. p.body_len < 2 ^ 31) }
+    ensures body { IfOk result (λ p. p.body_len < 2 ^ 62) }
     ensures within { IfOk result (λ p. IsLayoutWithin p.head_len p) }
     ensures comes { IfErr result (λ i. (bytes : List ℕ) → IsHeadFound bytes read_buffer.now found
-        → Comes max_size bytes [] read_buffer.now i) }
+        → Comes limits bytes [] read_buffer.now i) }
     ensures arrives { IfErr result (Arrives read_buffer.now) }
+    ensures gathers { IfErr result (λ i. (piece : Option ℕ) → GathersIn piece read_buffer.now i) }
 {
     match found {
-        HeadFound::Whole(len) => match read_layout(
-            &read_buffer.held()[..len],
-            spans,
-            map,
-            max_size,
-        ) {
+        HeadFound::Whole(len) => match read_layout(&read_buffer.held()[..len], spans, map, limits) {
             Ok(layout) => Ok(layout),
             Err(refused) => Err(Incoming::Refused(refused.refusal, refused.framing)),
         },
@@ -170,20 +171,21 @@ fn judge_head(
     }
 }
 
-// Makes room for a message whose head is held, and of whose body so many bytes are gathered; or refuses it, since there is none.
+// Makes room for a message whose head is held, with so many bytes of its body. Where there is none, the message is refused.
 fn make_room(
     read_buffer: &mut ReadBuffer,
     layout: &Layout,
     gathered: usize,
 ) -> Result<(), Incoming<Layout>>
     requires head { layout.now.head_len ≤ head_limit }
-    requires body { layout.now.body_len < 2 ^ 31 }
+    requires body { layout.now.body_len < 2 ^ 62 }
     requires gathered { gathered ≤ layout.now.body_len }
     requires held { layout.now.head_len ≤ length read_buffer.old.held }
     ensures room { OnOk result (layout.now.head_len + gathered + READ_SIZE ≤ read_buffer.new.room) }
-    ensures comes { IfErr result (λ i. (max : ℕ) (bytes : List ℕ) → BeginsHead max bytes layout.now read_buffer.old.held
-        → Comes max bytes [] read_buffer.new i) }
+    ensures comes { IfErr result (λ i. (limits : BodyLimits) (bytes : List ℕ) → BeginsHead limits bytes layout.now read_buffer.old.held
+        → Comes limits bytes [] read_buffer.new i) }
     ensures arrives { IfErr result (Arrives read_buffer.new) }
+    ensures gathers { IfErr result (λ i. (piece : Option ℕ) → GathersIn piece read_buffer.new i) }
     ensures held { read_buffer.new.held ≡ read_buffer.old.held }
     ensures ended { read_buffer.new.ended ≡ read_buffer.old.ended }
 {
@@ -196,12 +198,14 @@ fn make_room(
 // Looks for the body of a message for which there is room.
 fn look_for_body(read_buffer: &mut ReadBuffer, layout: &Layout) -> Looked
     requires { HasRoom read_buffer.old layout.now }
-    ensures looks { (max : ℕ) (bytes : List ℕ) → BeginsHead max bytes layout.now read_buffer.old.held
-        → LooksOn max bytes (continue_text layout.now.is_waiting) read_buffer.new (variants.Body layout.now) result }
+    ensures looks { (limits : BodyLimits) (bytes : List ℕ) → BeginsHead limits bytes layout.now read_buffer.old.held
+        → LooksOn limits bytes (continue_text layout.now.is_waiting) read_buffer.new (variants.Body layout.now) result }
     ensures leaves { Leaves read_buffer.new (variants.Body layout.now) result }
     ensures nearer { IsNearer (missing read_buffer.old (variants.Body layout.now)) read_buffer.new
         (variants.Body layout.now) result }
     ensures body { pieced_after (variants.Body layout.now) result ≡ None }
+    ensures gathers { (piece : Option ℕ) → pieced_by piece layout.now ≡ None
+        → GathersAfter piece read_buffer.new (variants.Body layout.now) result }
     ensures ended { read_buffer.new.ended ≡ read_buffer.old.ended }
 {
     let total = layout.head_len + layout.body_len;

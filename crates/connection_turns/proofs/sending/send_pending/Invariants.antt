@@ -6,6 +6,6 @@ use Rattle.connection_turns.proofs.sending.send_pending.Given as goal
 abbrev pub invariant-loop : goal.invariant-loop
 invariant-loop g l = record {
   sends : SendsOn l.fn.connection l.connection (g.W.Write.contents l.fn.writer) (g.W.Write.contents l.writer);
-  size : l.connection.max_size ≡ l.fn.connection.max_size;
+  limits : l.connection.limits ≡ l.fn.connection.limits;
   piece : l.connection.piece ≡ l.fn.connection.piece;
 }

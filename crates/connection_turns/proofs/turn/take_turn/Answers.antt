@@ -8,7 +8,7 @@ loop-init g c = record {
   carries = CarriesOn-none g.A.Answer.steps g.K.Clock.tells _ _ _ _ _ _ _ (omega arith);
   held = λ holds. refl;
   left = omega arith;
-  size = refl;
+  limits = refl;
   piece = refl;
 }
 
@@ -22,6 +22,6 @@ loop-preserved g c = record {
       (omega (arith, c.messages_in.ensures, left-after _ _ _ c.loop.invariant.left c.take_step-after.ensures.allowed)) c.loop.invariant.carries _ c.loop.invariant.piece c.take_step-after.ensures.carries;
   held = λ holds. c.take_step-after.ensures.held (rw holds refl) ∙ c.loop.invariant.held holds;
   left = search (rules, arith);
-  size = c.take_step-after.ensures.size ∙ c.loop.invariant.size;
+  limits = c.take_step-after.ensures.limits ∙ c.loop.invariant.limits;
   piece = c.take_step-after.ensures.piece ∙ c.loop.invariant.piece;
 }

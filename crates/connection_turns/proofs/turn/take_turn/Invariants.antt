@@ -10,6 +10,6 @@ invariant-loop g l = record {
       (on_turn l.connection l.answerer l.clock (g.R.Read.remaining l.streams.reader) (g.W.Write.contents l.streams.writer));
   held : l.holds_back ≡ true → g.W.Write.contents l.streams.writer ≡ g.W.Write.contents l.fn.streams.writer;
   left : l.left ≤ l.fn.share.messages;
-  size : l.connection.max_size ≡ l.fn.connection.max_size;
+  limits : l.connection.limits ≡ l.fn.connection.limits;
   piece : l.connection.piece ≡ l.fn.connection.piece;
 }

@@ -6,31 +6,31 @@ use Rattle.http_wire.proofs.PieceLemmas.{IsTaken-kept}
 use Rattle.http_wire.proofs.connection.broken.Goals as goal
 
 pub returns-in-Head-clause-breaks : goal.returns-in-Head-clause-breaks
-returns-in-Head-clause-breaks c max bytes said stands =
+returns-in-Head-clause-breaks c limits bytes said stands =
     let search = c.in-Head.field-0 in
-    let s = subst (λ stage. Standing max bytes said c.args.read_buffer.now stage) c.in-Head.is stands in
+    let s = subst (λ stage. Standing limits bytes said c.args.read_buffer.now stage) c.in-Head.is stands in
     let wants = subst (λ stage. Wants c.args.read_buffer.now stage) c.in-Head.is c.requires.wants in
-    (BreaksMessage-unfinished max bytes said s.0 (Searching-unfinished bytes c.args.read_buffer.now search s.1 wants), refl)
+    (BreaksMessage-unfinished limits bytes said s.0 (Searching-unfinished bytes c.args.read_buffer.now search s.1 wants), refl)
 
 pub returns-then-not-is_applied_when_cut-clause-breaks : goal.returns-then-not-is_applied_when_cut-clause-breaks
-returns-then-not-is_applied_when_cut-clause-breaks c max bytes said stands =
+returns-then-not-is_applied_when_cut-clause-breaks c limits bytes said stands =
     let p = c.in-Body.layout in
-    let s = subst (λ stage. Standing max bytes said c.args.read_buffer.now stage) c.in-Body.is stands in
+    let s = subst (λ stage. Standing limits bytes said c.args.read_buffer.now stage) c.in-Body.is stands in
     let wants = subst (λ stage. Wants c.args.read_buffer.now stage) c.in-Body.is c.requires.wants in
     let fits = subst (λ stage. Fits c.args.read_buffer.now stage) c.in-Body.is c.requires.fits in
-    (inl (p.is_waiting, s.0, IsNextMessage-cut_other max bytes p c.args.read_buffer.now.held s.1 wants.0 fits.held (λ head. sym (c.is_applied_when_cut.ensures head) ∙ c.if-not-is_applied_when_cut.true)), refl)
+    (inl (p.is_waiting, s.0, IsNextMessage-cut_other limits bytes p c.args.read_buffer.now.held s.1 wants.0 fits.held (λ head. sym (c.is_applied_when_cut.ensures head) ∙ c.if-not-is_applied_when_cut.true)), refl)
 
 pub returns-else-not-is_applied_when_cut-clause-breaks : goal.returns-else-not-is_applied_when_cut-clause-breaks
-returns-else-not-is_applied_when_cut-clause-breaks c max bytes said stands =
+returns-else-not-is_applied_when_cut-clause-breaks c limits bytes said stands =
     let p = c.in-Body.layout in
-    let s = subst (λ stage. Standing max bytes said c.args.read_buffer.now stage) c.in-Body.is stands in
+    let s = subst (λ stage. Standing limits bytes said c.args.read_buffer.now stage) c.in-Body.is stands in
     let wants = subst (λ stage. Wants c.args.read_buffer.now stage) c.in-Body.is c.requires.wants in
     let fits = subst (λ stage. Fits c.args.read_buffer.now stage) c.in-Body.is c.requires.fits in
-    ((p.is_waiting, s.0, IsNextMessage-cut_patch max bytes p c.args.read_buffer.now.held s.1 c.lend_all.new.read_buffer wants.0 fits.held (λ head. sym (c.is_applied_when_cut.ensures head) ∙ c.if-not-is_applied_when_cut.false) c.lend_all.ensures.lent), refl)
+    ((p.is_waiting, s.0, IsNextMessage-cut_patch limits bytes p c.args.read_buffer.now.held s.1 c.lend_all.new.read_buffer wants.0 fits.held (λ head. sym (c.is_applied_when_cut.ensures head) ∙ c.if-not-is_applied_when_cut.false) c.lend_all.ensures.lent), refl)
 
 pub returns-in-Pieces-clause-breaks : goal.returns-in-Pieces-clause-breaks
-returns-in-Pieces-clause-breaks c max bytes said stands =
+returns-in-Pieces-clause-breaks c limits bytes said stands =
     let b = c.in-Pieces.body in
-    let s = subst (λ stage. Standing max bytes said c.args.read_buffer.now stage) c.in-Pieces.is stands in
+    let s = subst (λ stage. Standing limits bytes said c.args.read_buffer.now stage) c.in-Pieces.is stands in
     let lent = c.lend_all-in-Pieces.ensures in
-    ((s.0, IsTaken-kept max bytes said s.0 b c.args.read_buffer.now.held _ s.1 (rw (lent.lent, lent.none) (append-nil _))), refl)
+    ((s.0, IsTaken-kept limits bytes said s.0 b c.args.read_buffer.now.held _ s.1 (rw (lent.lent, lent.none) (append-nil _))), refl)

@@ -2,6 +2,7 @@ use Rattle.std.proofs.Common.{arith, ℕ, ◌+◌, ◌∷◌, ◌++◌, [], true
 use Rattle.std.proofs.lemmas.List.{length-append}
 use Rattle.std.proofs.lemmas.Result.{err_from_is_err_and}
 use Rattle.http_wire.specs.Asking.{BreaksAsked}
+use Rattle.http_wire.specs.BodyLimits.{alike}
 use Rattle.http_wire.specs.Exchange.{Exchange, last_part}
 use Rattle.http_wire.specs.Turns.{Breaks, Converses, EndsByTurn, TakesTurn, Turns}
 use Rattle.http_wire.proofs.AheadLemmas.{Appends-none, Appends-more, Consumes-none, Consumes-more}
@@ -12,7 +13,7 @@ pub loop-taken-init : goal.loop-taken-init
 loop-taken-init g c =
     let held = c.args.wire.now.held in
     let b = c.args.answerer.now in
-    let max = c.args.wire.now.max_size in
+    let limits = alike c.args.wire.now.max_size in
     record {
       reads = c.requires;
       size = refl;
@@ -24,14 +25,14 @@ loop-taken-init g c =
         [],
         Consumes-none (g.R.Source.remaining c.args.wire.now.reader),
         Appends-none (g.W.Sink.contents c.args.wire.now.writer),
-        subst (λ l. Reached g.A.Answer.steps max [] (record { input = l; text = []; before = b; after = b }) held) (sym (append-nil held)) (λ rest. (refl, refl, refl)),
+        subst (λ l. Reached g.A.Answer.steps limits [] (record { input = l; text = []; before = b; after = b }) held) (sym (append-nil held)) (λ rest. (refl, refl, refl)),
       );
     }
 
 pub returns-in_err-turn-clause-breaks : goal.returns-in_err-turn-clause-breaks
 returns-in_err-turn-clause-breaks g c =
     let p = err_from_is_err_and c.from_residual.result c.from_residual.ensures.1 in
-    let max = c.args.wire.now.max_size in
+    let limits = alike c.args.wire.now.max_size in
     let reached = c.loop-taken.invariant.reached in
     let timed = (c.in_err-turn.ensures.turn.reading c.loop-taken.invariant.reads).turn in
     let ms = reached.0 in
@@ -47,20 +48,20 @@ returns-in_err-turn-clause-breaks g c =
       omega (arith, reached.1, c.loop-taken-test.true),
       reached.2,
       timed_weaker (λ _. rw p.1 refl) (λ m turn.
-          let last = subst (λ (k : ℕ). TakesTurn g.A.Answer.steps k m (next_from g.A.Answer.steps k x held turn.0 turn.1 b2) c.take_turn.new.self.held (Err fault)) c.loop-taken.invariant.size turn.4 in
-          let breaks = Breaks-after g.A.Answer.steps max ms [] m x held turn.0 turn.1 b2 fault reached.7 last in (
+          let last = subst (λ (k : ℕ). TakesTurn g.A.Answer.steps (alike k) m (next_from g.A.Answer.steps (alike k) x held turn.0 turn.1 b2) c.take_turn.new.self.held (Err fault)) c.loop-taken.invariant.size turn.4 in
+          let breaks = Breaks-after g.A.Answer.steps limits ms [] m x held turn.0 turn.1 b2 fault reached.7 last in (
             reached.3 ++ turn.0,
             reached.4 ++ turn.1,
             Consumes-more _ _ _ reached.3 turn.0 reached.5 turn.2,
             Appends-more _ _ _ reached.4 turn.1 reached.6 turn.3,
-            subst (λ i. Breaks g.A.Answer.steps max (ms ++ m ∷ []) (record x { input = i; text = reached.4 ++ turn.1; after = b2 }) fault) (append_assoc start reached.3 turn.0) breaks,
+            subst (λ i. Breaks g.A.Answer.steps limits (ms ++ m ∷ []) (record x { input = i; text = reached.4 ++ turn.1; after = b2 }) fault) (append_assoc start reached.3 turn.0) breaks,
           )) timed,
     )
 
 pub returns-in_err-turn-clause-asked : goal.returns-in_err-turn-clause-asked
 returns-in_err-turn-clause-asked g c =
     let p = err_from_is_err_and c.from_residual.result c.from_residual.ensures.1 in
-    let max = c.args.wire.now.max_size in
+    let limits = alike c.args.wire.now.max_size in
     let reached = c.loop-taken.invariant.reached in
     let asked = (c.in_err-turn.ensures.turn.reading c.loop-taken.invariant.reads).asked in
     let fault = c.in_err-turn.field-0.0 in
@@ -80,8 +81,8 @@ returns-in_err-turn-clause-asked g c =
         later = asked.1;
         rest = c.loop-taken.wire.held ++ asked.0;
         state = b1;
-        turns = subst (λ i. Turns g.A.Answer.steps max reached.0 (record x { input = i; text = reached.4; after = b1 }) (c.loop-taken.wire.held ++ asked.0)) (append_assoc start reached.3 asked.0) (reached.7 asked.0);
-        breaks = subst (λ k. BreaksAsked g.A.Answer.steps g.C.Clock.tells k c.loop-taken.clock c.take_turn.new.clock (last_part x (c.loop-taken.wire.held ++ asked.0) b1 asked.1) fault) c.loop-taken.invariant.size asked.4;
+        turns = subst (λ i. Turns g.A.Answer.steps limits reached.0 (record x { input = i; text = reached.4; after = b1 }) (c.loop-taken.wire.held ++ asked.0)) (append_assoc start reached.3 asked.0) (reached.7 asked.0);
+        breaks = subst (λ k. BreaksAsked g.A.Answer.steps g.C.Clock.tells (alike k) c.loop-taken.clock c.take_turn.new.clock (last_part x (c.loop-taken.wire.held ++ asked.0) b1 asked.1) fault) c.loop-taken.invariant.size asked.4;
         whole = refl;
       },
     )
@@ -93,7 +94,7 @@ returns-in_err-turn-clause-fault g c =
 
 pub returns-in-Some-clause-converses : goal.returns-in-Some-clause-converses
 returns-in-Some-clause-converses g c =
-    let max = c.args.wire.now.max_size in
+    let limits = alike c.args.wire.now.max_size in
     let reached = c.loop-taken.invariant.reached in
     let on = c.in_ok-turn.ensures.turn.reading c.loop-taken.invariant.reads in
     let timed = timed_asked (λ failed. absurd (true≢false (sym failed))) on.turn in
@@ -105,8 +106,8 @@ returns-in-Some-clause-converses g c =
     let start = c.args.wire.now.held in
     let held = c.loop-taken.wire.held in
     let x : Exchange _ = record { input = start ++ reached.3; text = reached.4; before = c.args.answerer.now; after = b1 } in
-    let last = subst₂ (λ k t. TakesTurn g.A.Answer.steps k m (next_from g.A.Answer.steps k x held turn.0 turn.1 b2) c.take_turn.new.self.held (Ok t)) c.loop-taken.invariant.size c.in-Some.is turn.4 in
-    let converses = Converses-last g.A.Answer.steps max ms [] m x held turn.0 turn.1 b2 c.in-Some.ended reached.7 last in
+    let last = subst₂ (λ k t. TakesTurn g.A.Answer.steps (alike k) m (next_from g.A.Answer.steps (alike k) x held turn.0 turn.1 b2) c.take_turn.new.self.held (Ok t)) c.loop-taken.invariant.size c.in-Some.is turn.4 in
+    let converses = Converses-last g.A.Answer.steps limits ms [] m x held turn.0 turn.1 b2 c.in-Some.ended reached.7 last in
     let few = length-append ms (m ∷ []) in
     let ends = rw c.in-Some.is at on.ends in (
       ms ++ m ∷ [],
@@ -119,7 +120,7 @@ returns-in-Some-clause-converses g c =
       reached.4 ++ turn.1,
       Consumes-more _ _ _ reached.3 turn.0 reached.5 turn.2,
       Appends-more _ _ _ reached.4 turn.1 reached.6 turn.3,
-      subst (λ i. Converses g.A.Answer.steps max (ms ++ m ∷ []) (record x { input = i; text = reached.4 ++ turn.1; after = b2 }) c.in-Some.ended) (append_assoc start reached.3 turn.0) converses,
+      subst (λ i. Converses g.A.Answer.steps limits (ms ++ m ∷ []) (record x { input = i; text = reached.4 ++ turn.1; after = b2 }) c.in-Some.ended) (append_assoc start reached.3 turn.0) converses,
     )
 
 pub returns-in-Some-clause-read : goal.returns-in-Some-clause-read
@@ -133,7 +134,7 @@ returns-in-Some-clause-reads g c is =
 
 pub loop-taken-preserved : goal.loop-taken-preserved
 loop-taken-preserved g c =
-    let max = c.args.wire.now.max_size in
+    let limits = alike c.args.wire.now.max_size in
     let reached = c.loop-taken.invariant.reached in
     let on = c.in_ok-turn.ensures.turn.reading c.loop-taken.invariant.reads in
     let timed = timed_asked (λ failed. absurd (true≢false (sym failed))) on.turn in
@@ -146,8 +147,8 @@ loop-taken-preserved g c =
     let held = c.loop-taken.wire.held in
     let x : Exchange _ = record { input = start ++ reached.3; text = reached.4; before = c.args.answerer.now; after = b1 } in
     let left = c.take_turn.new.self.held in
-    let last = subst₂ (λ k t. TakesTurn g.A.Answer.steps k m (next_from g.A.Answer.steps k x held turn.0 turn.1 b2) left (Ok t)) c.loop-taken.invariant.size c.in_default.is turn.4 in
-    let next = Reached-more g.A.Answer.steps max ms m x held turn.0 turn.1 b2 left reached.7 last in
+    let last = subst₂ (λ k t. TakesTurn g.A.Answer.steps (alike k) m (next_from g.A.Answer.steps (alike k) x held turn.0 turn.1 b2) left (Ok t)) c.loop-taken.invariant.size c.in_default.is turn.4 in
+    let next = Reached-more g.A.Answer.steps limits ms m x held turn.0 turn.1 b2 left reached.7 last in
     record {
       reads = rw c.in_default.is at on.reads;
       size = on.size ∙ c.loop-taken.invariant.size;
@@ -159,13 +160,13 @@ loop-taken-preserved g c =
         reached.4 ++ turn.1,
         Consumes-more _ _ _ reached.3 turn.0 reached.5 turn.2,
         Appends-more _ _ _ reached.4 turn.1 reached.6 turn.3,
-        subst (λ i. Reached g.A.Answer.steps max (ms ++ m ∷ []) (record x { input = i; text = reached.4 ++ turn.1; after = b2 }) left) (append_assoc start reached.3 turn.0) next,
+        subst (λ i. Reached g.A.Answer.steps limits (ms ++ m ∷ []) (record x { input = i; text = reached.4 ++ turn.1; after = b2 }) left) (append_assoc start reached.3 turn.0) next,
       );
     }
 
 pub returns-clause-converses : goal.returns-clause-converses
 returns-clause-converses g c =
-    let max = c.args.wire.now.max_size in
+    let limits = alike c.args.wire.now.max_size in
     let reached = c.loop-taken.invariant.reached in
     let held = c.loop-taken.wire.held in
     let b1 = c.loop-taken.answerer in
@@ -180,7 +181,7 @@ returns-clause-converses g c =
       reached.4,
       reached.5,
       reached.6,
-      Converses-all g.A.Answer.steps max reached.0 x held reached.7,
+      Converses-all g.A.Answer.steps limits reached.0 x held reached.7,
     )
 
 pub returns-clause-reads : goal.returns-clause-reads

@@ -1,6 +1,7 @@
 use Rattle.std.proofs.Common.{◌++◌, [], ◌≡◌, ◌≢◌, ◌≤◌, ◌+◌, ℕ, List, arith, IfOk, length, ap, refl, sym, ◌∙◌, subst, take, append_assoc}
 use Rattle.std.proofs.lemmas.Result.{err_from_is_err_and}
 use Rattle.std.specs.Io.KnownBytes.{Appends, IsAtEnd}
+use Rattle.http_wire.specs.BodyLimits.{AreWithin}
 use Rattle.http_wire.specs.OnConnection.{OnConnection, Stands, StandsIn, is_looking}
 use Rattle.http_wire.specs.ReadOnWire.{BreaksMessage, read_limit}
 use Rattle.http_wire.specs.declared.fault.WireFault.TheVariants as fault
@@ -22,7 +23,7 @@ loop-connection-init g c =
       writer = c.requires.writer;
       looks = ap (λ (o : OnConnection). is_looking o.phase) passed ∙ ap is_looking c.requires.between.phase;
       sent = ap (λ (o : OnConnection). o.write_buffer) passed ∙ c.requires.between.write_buffer;
-      size = ap (λ (o : OnConnection). o.max_size) passed;
+      limits = ap (λ (o : OnConnection). o.limits) passed;
       gathers = ap (λ (o : OnConnection). o.piece) passed ∙ c.requires.between.gathers;
       piece = ap (λ (o : OnConnection). o.piece) passed;
       stands = (
@@ -30,8 +31,8 @@ loop-connection-init g c =
         [],
         Consumes-none (g.R.Source.remaining c.args.reader.now),
         Appends-none (g.W.Sink.contents c.args.writer.now),
-        subst (Stands (start.read_buffer.held ++ []) []) (sym passed) (subst (StandsIn start.max_size (start.read_buffer.held ++ []) [] start.read_buffer) (sym c.requires.between.phase) (refl, Searching-start start.read_buffer.held)),
-        omega arith,
+        subst (Stands (start.read_buffer.held ++ []) []) (sym passed) (subst (StandsIn start.limits (start.read_buffer.held ++ []) [] start.read_buffer) (sym c.requires.between.phase) (refl, Searching-start start.read_buffer.held)),
+        λ most within. omega arith,
       );
       stops = λ h. (refl, ended ∙ h);
       end = λ sees h. sees (sym ended ∙ h);
@@ -45,9 +46,9 @@ returns-in_err-ended-in-Read-clause-breaks g c =
     let p = err_from_is_err_and c.from_residual.result c.from_residual.ensures.1 in
     let stands = settled-reads c.loop-connection.connection.write_buffer c.wants.new.self bytes s.1 loop.sent c.wants.ensures.same (sym c.wants.ensures.wants ∙ c.in-Read.is) (c.wants.ensures.stands bytes s.1 s.4) in
     let none = OnErr-known c.read_from.result (sym c.is_err.ensures.value ∙ c.if-is_err.true) c.read_from.ensures.none in
-    let kept = subst (Stands bytes s.1) (sym none.1) (StandsIn-unlent c.wants.new.self.max_size bytes s.1 c.wants.new.self.read_buffer c.wants.new.self.write_buffer c.wants.new.self.phase (sym c.wants.ensures.wants ∙ c.in-Read.is) stands) in
-    let broken = Breaks-over c.read_from.new.self.max_size bytes s.1 c.fail.new.self.read_buffer c.fail.new.self.phase c.in_err-ended-in-Read.field-0.0 (c.fail.ensures.breaks bytes s.1 kept) c.in_err-ended-in-Read.ensures in
-    let size = ap (λ (o : OnConnection). o.max_size) none.1 ∙ c.wants.ensures.size ∙ loop.size in
+    let kept = subst (Stands bytes s.1) (sym none.1) (StandsIn-unlent c.wants.new.self.limits bytes s.1 c.wants.new.self.read_buffer c.wants.new.self.write_buffer c.wants.new.self.phase (sym c.wants.ensures.wants ∙ c.in-Read.is) stands) in
+    let broken = Breaks-over c.read_from.new.self.limits bytes s.1 c.fail.new.self.read_buffer c.fail.new.self.phase c.in_err-ended-in-Read.field-0.0 (c.fail.ensures.breaks bytes s.1 kept) c.in_err-ended-in-Read.ensures in
+    let size = ap (λ (o : OnConnection). o.limits) none.1 ∙ c.wants.ensures.limits ∙ loop.limits in
     IfErr-from _ c.from_residual.result p.0 c.in_err-ended-in-Read.field-0.0 p.1 p.2 (
       s.0,
       s.1,
@@ -66,8 +67,8 @@ returns-in_err-ended-in-Read-clause-fault g c =
     let stands = settled-reads c.loop-connection.connection.write_buffer c.wants.new.self bytes s.1 loop.sent c.wants.ensures.same (sym c.wants.ensures.wants ∙ c.in-Read.is) (c.wants.ensures.stands bytes s.1 s.4) in
     let error = sym c.is_err.ensures.value ∙ c.if-is_err.true in
     let none = OnErr-known c.read_from.result error c.read_from.ensures.none in
-    let kept = subst (Stands bytes s.1) (sym none.1) (StandsIn-unlent c.wants.new.self.max_size bytes s.1 c.wants.new.self.read_buffer c.wants.new.self.write_buffer c.wants.new.self.phase (sym c.wants.ensures.wants ∙ c.in-Read.is) stands) in
-    let broken = Breaks-over c.read_from.new.self.max_size bytes s.1 c.fail.new.self.read_buffer c.fail.new.self.phase c.in_err-ended-in-Read.field-0.0 (c.fail.ensures.breaks bytes s.1 kept) c.in_err-ended-in-Read.ensures in
+    let kept = subst (Stands bytes s.1) (sym none.1) (StandsIn-unlent c.wants.new.self.limits bytes s.1 c.wants.new.self.read_buffer c.wants.new.self.write_buffer c.wants.new.self.phase (sym c.wants.ensures.wants ∙ c.in-Read.is) stands) in
+    let broken = Breaks-over c.read_from.new.self.limits bytes s.1 c.fail.new.self.read_buffer c.fail.new.self.phase c.in_err-ended-in-Read.field-0.0 (c.fail.ensures.breaks bytes s.1 kept) c.in_err-ended-in-Read.ensures in
     IfErr-from _ c.from_residual.result p.0 fault.Read p.1 (p.2 ∙ broken.1) (c.read_from.ensures.failed ∙ error, loop.writer)
 
 pub returns-in_err-ended-in-Read-clause-tells_end : goal.returns-in_err-ended-in-Read-clause-tells_end
@@ -78,8 +79,8 @@ returns-in_err-ended-in-Read-clause-tells_end g c =
     let p = err_from_is_err_and c.from_residual.result c.from_residual.ensures.1 in
     let stands = settled-reads c.loop-connection.connection.write_buffer c.wants.new.self bytes s.1 loop.sent c.wants.ensures.same (sym c.wants.ensures.wants ∙ c.in-Read.is) (c.wants.ensures.stands bytes s.1 s.4) in
     let none = OnErr-known c.read_from.result (sym c.is_err.ensures.value ∙ c.if-is_err.true) c.read_from.ensures.none in
-    let kept = subst (Stands bytes s.1) (sym none.1) (StandsIn-unlent c.wants.new.self.max_size bytes s.1 c.wants.new.self.read_buffer c.wants.new.self.write_buffer c.wants.new.self.phase (sym c.wants.ensures.wants ∙ c.in-Read.is) stands) in
-    let broken = Breaks-over c.read_from.new.self.max_size bytes s.1 c.fail.new.self.read_buffer c.fail.new.self.phase c.in_err-ended-in-Read.field-0.0 (c.fail.ensures.breaks bytes s.1 kept) c.in_err-ended-in-Read.ensures in
+    let kept = subst (Stands bytes s.1) (sym none.1) (StandsIn-unlent c.wants.new.self.limits bytes s.1 c.wants.new.self.read_buffer c.wants.new.self.write_buffer c.wants.new.self.phase (sym c.wants.ensures.wants ∙ c.in-Read.is) stands) in
+    let broken = Breaks-over c.read_from.new.self.limits bytes s.1 c.fail.new.self.read_buffer c.fail.new.self.phase c.in_err-ended-in-Read.field-0.0 (c.fail.ensures.breaks bytes s.1 kept) c.in_err-ended-in-Read.ensures in
     IfErr-from _ c.from_residual.result p.0 fault.Read p.1 (p.2 ∙ broken.1) (c.fail.ensures.ended ∙ ap (λ (o : OnConnection). o.read_buffer.ended) none.1 ∙ c.wants.ensures.unended c.in-Read.is)
 
 pub returns-then-is_err-clause-comes : goal.returns-then-is_err-clause-comes
@@ -90,12 +91,12 @@ returns-then-is_err-clause-comes g c =
     let stands = settled-reads c.loop-connection.connection.write_buffer c.wants.new.self bytes s.1 loop.sent c.wants.ensures.same (sym c.wants.ensures.wants ∙ c.in-Read.is) (c.wants.ensures.stands bytes s.1 s.4) in
     let error = sym c.is_err.ensures.value ∙ c.if-is_err.true in
     let none = OnErr-known c.read_from.result error c.read_from.ensures.none in
-    let kept = subst (Stands bytes s.1) (sym none.1) (StandsIn-unlent c.wants.new.self.max_size bytes s.1 c.wants.new.self.read_buffer c.wants.new.self.write_buffer c.wants.new.self.phase (sym c.wants.ensures.wants ∙ c.in-Read.is) stands) in (
+    let kept = subst (Stands bytes s.1) (sym none.1) (StandsIn-unlent c.wants.new.self.limits bytes s.1 c.wants.new.self.read_buffer c.wants.new.self.write_buffer c.wants.new.self.phase (sym c.wants.ensures.wants ∙ c.in-Read.is) stands) in (
       s.0,
       s.1,
       Consumes-kept _ _ _ s.0 s.2 none.0,
       s.3,
-      CameIn-broken c.read_from.new.self.max_size bytes s.1 _ c.fail.new.self _ (c.fail.ensures.breaks bytes s.1 kept) (sym c.fail.ensures.size) (sym c.ended.ensures ∙ c.in_ok-ended-in-Read.was)
+      CameIn-broken c.read_from.new.self.limits bytes s.1 _ c.fail.new.self _ (c.fail.ensures.breaks bytes s.1 kept) (sym c.fail.ensures.limits) (sym c.ended.ensures ∙ c.in_ok-ended-in-Read.was)
           (c.fail.ensures.gathers (c.fail.ensures.piece ∙ ap (λ (o : OnConnection). o.piece) none.1 ∙ c.wants.ensures.piece ∙ loop.gathers)) c.fail.ensures.tells_end (c.read_from.ensures.failed ∙ error),
       s.5,
     )
@@ -112,14 +113,14 @@ loop-connection-preserved-else-is_err g c =
     let read = IfOk-known _ c.read_from.result ok c.read_from.ensures.takes in
     let got = read.2.0 in
     let takes = read.2.3 in
-    let size = c.wants.ensures.size ∙ loop.size in
+    let size = c.wants.ensures.limits ∙ loop.limits in
     let end = subst (λ r. IfOk r (λ n. n ≡ 0 → IsAtEnd (g.R.Source.remaining c.read_from.new.reader))) read.1 c.read_from.ensures.end in
     record {
       reader = c.read_from.ensures.failed ∙ ok;
       writer = loop.writer;
       looks = takes.looks;
       sent = takes.write_buffer ∙ c.wants.ensures.same (reads-other c.wants.new.self.write_buffer c.wants.new.self.phase reads) ∙ loop.sent;
-      size = takes.size ∙ c.wants.ensures.size ∙ loop.size;
+      limits = takes.limits ∙ c.wants.ensures.limits ∙ loop.limits;
       gathers = takes.piece ∙ c.wants.ensures.piece ∙ loop.gathers;
       piece = takes.piece ∙ c.wants.ensures.piece ∙ loop.piece;
       stands = (
@@ -128,7 +129,10 @@ loop-connection-preserved-else-is_err g c =
         Consumes-more _ _ _ s.0 got s.2 read.2.2,
         s.3,
         subst (λ i. Stands i s.1 c.read_from.new.self) (append_assoc start.held s.0 got) (takes.stands bytes s.1 stands),
-        read-few c.args.connection.now.max_size c.wants.new.self.max_size start.held s.0 got read.0 read.2.1 size (subst (λ r. IfOk r (λ n. (bytes said : List ℕ) → Stands bytes said c.wants.new.self → length bytes + n ≤ read_limit c.wants.new.self.max_size)) read.1 c.read_from.ensures.few bytes s.1 stands),
+        λ most within.
+            read-few most start.held s.0 got read.0 read.2.1
+            (subst (λ r. IfOk r (λ n. (most : ℕ) → AreWithin c.wants.new.self.limits most → (bytes said : List ℕ) → Stands bytes said c.wants.new.self → length bytes + n ≤ read_limit most)) read.1 c.read_from.ensures.few most
+            (subst (λ l. AreWithin l most) (sym size) within) bytes s.1 stands),
       );
       stops = StopsAtEnd-open _ c.loop-connection.reader c.read_from.new.reader start c.loop-connection.connection.read_buffer c.read_from.new.self.read_buffer loop.stops (sym c.wants.ensures.ended ∙ c.wants.ensures.unended c.in-Read.is);
       end = λ _ ended. end (sym read.2.1 ∙ ap length (takes.ended.1 ended));
@@ -148,7 +152,7 @@ loop-connection-preserved g c =
       writer = wrote.failed;
       looks = ap (λ (o : OnConnection). is_looking o.phase) sent ∙ writes-looking c.loop-connection.connection.write_buffer c.wants.new.self loop.sent c.wants.ensures.same (sym c.wants.ensures.wants ∙ c.in-Write.is);
       sent = ap (λ (o : OnConnection). o.write_buffer) sent;
-      size = ap (λ (o : OnConnection). o.max_size) sent ∙ c.wants.ensures.size ∙ loop.size;
+      limits = ap (λ (o : OnConnection). o.limits) sent ∙ c.wants.ensures.limits ∙ loop.limits;
       gathers = ap (λ (o : OnConnection). o.piece) sent ∙ c.wants.ensures.piece ∙ loop.gathers;
       piece = ap (λ (o : OnConnection). o.piece) sent ∙ c.wants.ensures.piece ∙ loop.piece;
       stands = (
@@ -177,13 +181,13 @@ returns-in_err-flush-in-Write-clause-breaks g c =
     let writes = c.in_err-flush-in-Write.ensures.writes in
     let n = writes.prefix.0 in
     let some = subst (λ l. l ≢ []) all (c.wants.ensures.some c.in-Write.is) in
-    let breaks = Breaks-continue c.wants.new.self.max_size bytes s.1 put.0 n c.wants.new.self.read_buffer c.wants.new.self.phase put.2 looks some in
+    let breaks = Breaks-continue c.wants.new.self.limits bytes s.1 put.0 n c.wants.new.self.read_buffer c.wants.new.self.phase put.2 looks some in
     IfErr-from _ c.from_residual-in_err-flush-in-Write.result p.0 fault.Write p.1 (p.2 ∙ writes.fault) (
       s.0,
       s.1 ++ take n put.0,
       s.2,
       Appends-more _ _ _ s.1 (take n put.0) s.3 (subst (λ l. Appends (g.W.Sink.contents c.loop-connection.writer) (g.W.Sink.contents c.flush.new.writer) (take n l)) all writes.prefix.2),
-      subst (λ m. BreaksMessage m (record { input = bytes; text = s.1 ++ take n put.0 }) fault.Write) (c.wants.ensures.size ∙ loop.size) breaks,
+      subst (λ m. BreaksMessage m (record { input = bytes; text = s.1 ++ take n put.0 }) fault.Write) (c.wants.ensures.limits ∙ loop.limits) breaks,
       s.5,
     )
 

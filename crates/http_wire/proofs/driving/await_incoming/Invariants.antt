@@ -1,5 +1,6 @@
 use Rattle.std.proofs.Common.{◌≡◌, ◌≤◌, ◌++◌, ℕ, List, length, true, false, None}
 use Rattle.std.specs.Io.KnownBytes.{Appends, Consumes}
+use Rattle.http_wire.specs.BodyLimits.{AreWithin}
 use Rattle.http_wire.specs.OnConnection.{Stands, is_looking, left}
 use Rattle.http_wire.specs.ReadOnWire.{read_limit}
 use Rattle.http_wire.specs.inside.Ahead.{SeesEnd, StopsAtEnd}
@@ -13,12 +14,12 @@ invariant-loop-connection g l = record {
   writer : g.W.Sink.has_failed l.writer ≡ false;
   looks : is_looking l.connection.phase ≡ true;
   sent : l.connection.write_buffer ≡ empty_write_buffer;
-  size : l.connection.max_size ≡ l.fn.connection.max_size;
+  limits : l.connection.limits ≡ l.fn.connection.limits;
   gathers : l.connection.piece ≡ None;
   piece : l.connection.piece ≡ l.fn.connection.piece;
   stands : (got said : List ℕ) × Consumes (g.R.Source.remaining l.fn.reader) (g.R.Source.remaining l.reader) got
       × Appends (g.W.Sink.contents l.fn.writer) (g.W.Sink.contents l.writer) said × Stands (l.fn.connection.read_buffer.held ++ got) said l.connection
-      × (length got ≤ read_limit l.fn.connection.max_size);
+      × ((most : ℕ) → AreWithin l.fn.connection.limits most → length got ≤ read_limit most);
   stops : StopsAtEnd l.fn.reader l.reader l.fn.connection.read_buffer l.connection.read_buffer;
   end : SeesEnd (g.R.Source.remaining l.fn.reader) l.fn.connection.read_buffer → SeesEnd (g.R.Source.remaining l.reader) l.connection.read_buffer;
 }

@@ -3,6 +3,7 @@ use Rattle.http_wire.specs.Layout.{request_at}
 use Rattle.http_wire.specs.History.{Answering, NotesBy}
 use Rattle.http_wire.specs.ReplyText.{refusal_text, reply_text}
 use Rattle.http_wire.proofs.FinishLemmas.{Answers-message, Answers-refused, Answers-cut_patch, Answers-cut_other, Answers-end, Answers-unnoted, NotesBy-one}
+use Rattle.http_wire.proofs.PieceLemmas.{GathersIn-few}
 use Rattle.http_wire.proofs.replying.answer_incoming.Goals as goal
 
 pub returns-in-Message-clause-answers : goal.returns-in-Message-clause-answers
@@ -17,7 +18,7 @@ returns-in-Message-clause-answers g c =
       Answers-message g.A.Answer.steps c.args.now read_buffer layout step.0 _ _ layout.framing.close refl step.1,
       answered ∷ [],
       (_, step.1, refl),
-      λ piece before. Answers-message (NotesBy piece) c.args.now read_buffer layout step.0 before _ layout.framing.close refl (NotesBy-one piece before answered),
+      λ piece before gathers. Answers-message (NotesBy piece) c.args.now read_buffer layout step.0 before _ layout.framing.close refl (NotesBy-one piece before answered (GathersIn-few piece layout read_buffer.lent gathers.0 gathers.1)),
     )
 
 pub returns-in-Refused-clause-answers : goal.returns-in-Refused-clause-answers
@@ -29,7 +30,7 @@ returns-in-Refused-clause-answers g c =
       Answers-refused g.A.Answer.steps c.args.now read_buffer c.in-Refused.refusal c.in-Refused.framing _,
       [],
       refl,
-      λ piece before. Answers-unnoted (NotesBy piece) c.args.now read_buffer _ _ before _ (Answers-refused (NotesBy piece) c.args.now read_buffer c.in-Refused.refusal c.in-Refused.framing before),
+      λ piece before _. Answers-unnoted (NotesBy piece) c.args.now read_buffer _ _ before _ (Answers-refused (NotesBy piece) c.args.now read_buffer c.in-Refused.refusal c.in-Refused.framing before),
     )
 
 pub returns-in-CutPatch-clause-answers : goal.returns-in-CutPatch-clause-answers
@@ -44,15 +45,15 @@ returns-in-CutPatch-clause-answers g c =
       Answers-cut_patch g.A.Answer.steps c.args.now read_buffer layout c.in-CutPatch.why step.0 _ _ step.1,
       answered ∷ [],
       (_, step.1, refl),
-      λ piece before. Answers-cut_patch (NotesBy piece) c.args.now read_buffer layout c.in-CutPatch.why step.0 before _ (NotesBy-one piece before answered),
+      λ piece before gathers. Answers-cut_patch (NotesBy piece) c.args.now read_buffer layout c.in-CutPatch.why step.0 before _ (NotesBy-one piece before answered (GathersIn-few piece layout read_buffer.lent gathers.0 gathers.1)),
     )
 
 pub returns-in-CutOther-clause-answers : goal.returns-in-CutOther-clause-answers
 returns-in-CutOther-clause-answers g c =
     let read_buffer = c.args.buffers.now.read_buffer in
-    rw c.in-CutOther.is ([], sym (append-nil _), Answers-cut_other g.A.Answer.steps c.args.now read_buffer _, [], refl, λ piece before. Answers-unnoted (NotesBy piece) c.args.now read_buffer _ _ before _ (Answers-cut_other (NotesBy piece) c.args.now read_buffer before))
+    rw c.in-CutOther.is ([], sym (append-nil _), Answers-cut_other g.A.Answer.steps c.args.now read_buffer _, [], refl, λ piece before _. Answers-unnoted (NotesBy piece) c.args.now read_buffer _ _ before _ (Answers-cut_other (NotesBy piece) c.args.now read_buffer before))
 
 pub returns-in-End-clause-answers : goal.returns-in-End-clause-answers
 returns-in-End-clause-answers g c =
     let read_buffer = c.args.buffers.now.read_buffer in
-    rw c.in-End.is ([], sym (append-nil _), Answers-end g.A.Answer.steps c.args.now read_buffer _, [], refl, λ piece before. Answers-unnoted (NotesBy piece) c.args.now read_buffer _ _ before _ (Answers-end (NotesBy piece) c.args.now read_buffer before))
+    rw c.in-End.is ([], sym (append-nil _), Answers-end g.A.Answer.steps c.args.now read_buffer _, [], refl, λ piece before _. Answers-unnoted (NotesBy piece) c.args.now read_buffer _ _ before _ (Answers-end (NotesBy piece) c.args.now read_buffer before))

@@ -17,9 +17,17 @@ least_rate = option_between (codes "least-rate") (codes "0") 0 1073741824
 abbrev body_memory : Rule
 body_memory = option_rule (codes "body-memory") (codes "268435456") 18446744073709551615
 
+abbrev pieces : Rule
+pieces = number_rule (codes "pieces") 65536 1048576
+
+abbrev max_body : Rule
+max_body = number_rule (codes "max-body") 1 16777216
+
 pub returns : goal.returns
 returns c =
     let one = added _ _ _ at_once c.in_ok-arg.ensures c.at_once.ensures.local c.at_once.ensures.rule in
     let two = added _ _ _ message_seconds c.in_ok-arg-2.ensures c.message_seconds.ensures.local c.message_seconds.ensures.rule ∙ ap (λ (a : App). with_rule a message_seconds) one in
     let three = added _ _ _ least_rate c.in_ok-arg-3.ensures c.least_rate.ensures.local c.least_rate.ensures.rule ∙ ap (λ (a : App). with_rule a least_rate) two in
-    IfOk-weaker c.arg-4.result _ _ (λ r h. added _ _ r body_memory h c.body_memory.ensures.local c.body_memory.ensures.rule ∙ ap (λ (a : App). with_rule a body_memory) three) c.arg-4.ensures
+    let four = added _ _ _ body_memory c.in_ok-arg-4.ensures c.body_memory.ensures.local c.body_memory.ensures.rule ∙ ap (λ (a : App). with_rule a body_memory) three in
+    let five = added _ _ _ pieces c.in_ok-arg-5.ensures c.pieces.ensures.local c.pieces.ensures.rule ∙ ap (λ (a : App). with_rule a pieces) four in
+    IfOk-weaker c.arg-6.result _ _ (λ r h. added _ _ r max_body h c.max_body.ensures.local c.max_body.ensures.rule ∙ ap (λ (a : App). with_rule a max_body) five) c.arg-6.ensures

@@ -10,7 +10,7 @@ pub returns-in-Waiting-clause-history : goal.returns-in-Waiting-clause-history
 returns-in-Waiting-clause-history c =
     let read_buffer = c.self.inside.buffers.read_buffer in
     let write_buffer = c.self.inside.buffers.write_buffer in
-    let max = c.self.inside.max_size in
+    let limits = c.self.inside.limits in
     let piece = c.self.inside.piece in
-    λ p h. History-again p (record { read_buffer = read_buffer; phase = map_phase (framed_at read_buffer.lent) c.self.inside.phase; write_buffer = write_buffer; max_size = max; piece = piece }) c.in-Waiting.stage c.end.new.self (ap (λ (a : Ahead). a.held) c.end.ensures)
-    (subst (λ q. HasHistory p (record { read_buffer = read_buffer; phase = map_phase (framed_at read_buffer.lent) q; write_buffer = write_buffer; max_size = max; piece = piece })) c.in-Waiting.is (subst (HasHistory p) (sym c.self.view_is) h))
+    λ p h. History-again p (record { read_buffer = read_buffer; phase = map_phase (framed_at read_buffer.lent) c.self.inside.phase; write_buffer = write_buffer; limits = limits; piece = piece }) c.in-Waiting.stage c.end.new.self (ap (λ (a : Ahead). a.held) c.end.ensures)
+    (subst (λ q. HasHistory p (record { read_buffer = read_buffer; phase = map_phase (framed_at read_buffer.lent) q; write_buffer = write_buffer; limits = limits; piece = piece })) c.in-Waiting.is (subst (HasHistory p) (sym c.self.view_is) h))

@@ -24,7 +24,7 @@ returns-in-Waiting-clause-takes g c =
 pub returns-in-Waiting-clause-few : goal.returns-in-Waiting-clause-few
 returns-in-Waiting-clause-few g c =
     let most = c.lacking-most.ensures.lacks in
-    rw (← c.self.view_is) (λ bytes said h. Reads-few (framed_at c.self.inside.buffers.read_buffer.lent) c.self.inside.phase c.in-Waiting.stage c.self.inside.max_size c.in_ok-count.count c.self.inside.buffers.read_buffer c.in-Waiting.is c.self.invariant.phase
+    rw (← c.self.view_is) (λ limit within bytes said h. Reads-few (framed_at c.self.inside.buffers.read_buffer.lent) c.self.inside.phase c.in-Waiting.stage c.self.inside.limits limit c.in_ok-count.count c.self.inside.buffers.read_buffer within c.in-Waiting.is c.self.invariant.phase
     (omega (arith, c.in_ok-count.ensures.few, most)) bytes said h)
 
 pub returns-in_err-count-clause-kept : goal.returns-in_err-count-clause-kept

@@ -12,6 +12,6 @@ pub returns-clause-gives : goal.returns-clause-gives
 returns-clause-gives c =
     let h = c.in-Some.ensures.0 in
     let line = c.in-Some.ensures.1 in
-    ReadsLayout-judged c.args.max_size c.args.head.now h c.layout_of.result (sym c.if-has_many_lines.ensures) line.parses
+    ReadsLayout-judged c.args.limits c.args.head.now h c.layout_of.result (sym c.if-has_many_lines.ensures) line.parses
     (c.layout_of.ensures.shown h (record { method = line.at.method; target = line.at.path; version = line.at.version })
     (rw c.gather.ensures (ShowFields-found c.args.head.now (take c.in-Some.line.headers c.parse.new.spans) h.fields line.at.fields)))

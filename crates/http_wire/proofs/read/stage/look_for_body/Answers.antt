@@ -4,28 +4,28 @@ use Rattle.http_wire.proofs.NextMessageLemmas.{IsNextMessage-message, IsNextMess
 use Rattle.http_wire.proofs.read.stage.look_for_body.Goals as goal
 
 pub returns-then-held-total-clause-looks : goal.returns-then-held-total-clause-looks
-returns-then-held-total-clause-looks c max bytes b =
+returns-then-held-total-clause-looks c limits bytes b =
     let p = c.args.layout.now in (
       p.is_waiting,
       refl,
-      IsNextMessage-message max bytes p c.args.read_buffer.now.held b c.lend.new.self (omega (arith, c.if-held-total.true, ap length c.held.ensures.bytes))
+      IsNextMessage-message limits bytes p c.args.read_buffer.now.held b c.lend.new.self (omega (arith, c.if-held-total.true, ap length c.held.ensures.bytes))
           (ap (λ (a : Ahead). a.lent) c.lend.ensures) (ap (λ (a : Ahead). a.held) c.lend.ensures),
     )
 
 pub returns-then-not-is_applied_when_cut-clause-looks : goal.returns-then-not-is_applied_when_cut-clause-looks
-returns-then-not-is_applied_when_cut-clause-looks c max bytes b =
+returns-then-not-is_applied_when_cut-clause-looks c limits bytes b =
     let p = c.args.layout.now in (
       p.is_waiting,
       refl,
-      IsNextMessage-cut_other max bytes p c.args.read_buffer.now.held b (omega (arith, c.if-held-total.false, ap length c.held.ensures.bytes))
+      IsNextMessage-cut_other limits bytes p c.args.read_buffer.now.held b (omega (arith, c.if-held-total.false, ap length c.held.ensures.bytes))
           c.requires.held (λ head. sym (c.is_applied_when_cut.ensures head) ∙ c.if-not-is_applied_when_cut.true),
     )
 
 pub returns-clause-looks : goal.returns-clause-looks
-returns-clause-looks c max bytes b =
+returns-clause-looks c limits bytes b =
     let p = c.args.layout.now in (
       p.is_waiting,
       refl,
-      IsNextMessage-cut_patch max bytes p c.args.read_buffer.now.held b c.lend_all.new.read_buffer (omega (arith, c.if-held-total.false, ap length c.held.ensures.bytes))
+      IsNextMessage-cut_patch limits bytes p c.args.read_buffer.now.held b c.lend_all.new.read_buffer (omega (arith, c.if-held-total.false, ap length c.held.ensures.bytes))
           c.requires.held (λ head. sym (c.is_applied_when_cut.ensures head) ∙ c.if-not-is_applied_when_cut.false) c.lend_all.ensures.lent,
     )
