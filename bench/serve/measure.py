@@ -119,14 +119,15 @@ def request(method, path, fields, body=b''):
     return '\r\n'.join(lines).encode() + b'\r\n\r\n' + body
 
 
-def patches(port, end, number):
-    """Sends 16 MiB again and again, each to an upload of its own, which it then deletes."""
+def patches(port, end, number, note=lambda: None):
+    """Sends 16 MiB again and again, each to an upload of its own, which it then deletes, and notes each."""
     connection, body = socket.create_connection(('127.0.0.1', port)), bytes(16 * MIB)
     while time.monotonic() < end:
         made = exchange(connection, request('POST', '/files/acme', [f'Upload-Length: {16 * MIB}']))
         path = re.search(rb'Location: (\S+)', made).group(1).decode()
         fields = ['Upload-Offset: 0', 'Content-Type: application/offset+octet-stream']
         assert b' 204 ' in exchange(connection, request('PATCH', path, fields, body))
+        note()
         exchange(connection, request('DELETE', path, []))
 
 
