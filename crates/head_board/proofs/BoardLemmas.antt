@@ -14,7 +14,7 @@ use Rattle.upload_book.specs.HeadNotes.{line_told}
 use Rattle.upload_book.specs.Heads.{Heads, apply_line, heads_of}
 use Rattle.upload_book.specs.HeadSteps.{MayFollow}
 use Rattle.upload_book.specs.PlainBook.{PlainBook, opening_book}
-use Rattle.upload_book.specs.Settings.{Settings, settings_fault}
+use Rattle.upload_book.specs.Settings.{AreSound, Settings}
 use Rattle.head_board.specs.Event.{Event}
 use Rattle.head_board.specs.declared.board_copy.Added.{Added}
 use Rattle.head_board.specs.declared.board_copy.Note.{Note}
@@ -113,7 +113,7 @@ current-noted s e note after texts current is asked told =
     table ∙ ap (λ (h : Heads). apply_line h line) current.heads ∙ sym told.leads.heads ∙ sym (ap heads_of (ap (book_at s.table.settings) events ∙ after-one (opening_book s.table.settings) s.seen.events e)) in
     record {
       current = record {
-        sound = subst (λ (settings : Settings). settings_fault settings ≡ None) (sym settings) current.sound;
+        sound = subst AreSound (sym settings) current.sound;
         happened = subst (λ (settings : Settings). HaveHappened settings after.events) (sym settings) happened;
         heads = heads ∙ ap (λ (settings : Settings). heads_of (book_at settings after.events)) (sym settings);
         slots = note-slots s.table s.last_changes note.change after current.slots;

@@ -21,7 +21,7 @@ use Rattle.upload_book.specs.declared.refusal.Refusal.TheVariants.{Unknown}
 use Rattle.upload_book.specs.HeadNotes.{line_told, row_grown}
 use Rattle.upload_book.specs.Heads.{Heads, HeadPart, apply_line, head_part_at, heads_of, shown, with_row}
 use Rattle.upload_book.specs.PlainBook.{opening_book}
-use Rattle.upload_book.specs.Settings.{Settings, settings_fault}
+use Rattle.upload_book.specs.Settings.{AreSound, Settings}
 use Rattle.upload_book.specs.TenantBook.{Entry, is_given, kept_in, opening_part, visible, visible_in, with_changed, with_new}
 use Rattle.upload_book.specs.Terminate.{without}
 use Rattle.upload_book.proofs.Lawful.Entries.{kept_in-push, kept_in-with_other}
@@ -188,7 +188,7 @@ rests-next s next e line name known settings seen heads table rests (inr stays) 
     tells-same events from now (inr before) = rests.same events from before now ∙ sym (ap (λ (h : Heads). shown h name now) table ∙ stays.1 now)
 
 -- a copy of a new book is current, and rests on no event
-pub current-first : (settings : Settings) (opened seen : LogPrefix) (table : Heads) (slots : List LogPrefix) (texts : ComingTexts) → settings_fault settings ≡ None → table ≡ heads_of (opening_book settings) → seen ≡ opened → opened.events ≡ [] → slots ≡ all_marked opened
+pub current-first : (settings : Settings) (opened seen : LogPrefix) (table : Heads) (slots : List LogPrefix) (texts : ComingTexts) → AreSound settings → table ≡ heads_of (opening_book settings) → seen ≡ opened → opened.events ≡ [] → slots ≡ all_marked opened
     → IsCurrent (record { table = table; seen = seen; last_changes = slots; coming = texts })
 current-first settings opened seen table slots texts sound heads same none marked =
     let s : BoardCopy = record { table = table; seen = seen; last_changes = slots; coming = texts } in
@@ -197,7 +197,7 @@ current-first settings opened seen table slots texts sound heads same none marke
     let here : table ≡ heads_of (book_at table.settings seen.events) =
     heads ∙ sym (ap₂ (λ (settings : Settings) (events : List Event). heads_of (book_at settings events)) (ap (λ (h : Heads). h.settings) heads) events) in
     record {
-      sound = subst (λ (settings : Settings). settings_fault settings ≡ None) (sym (ap (λ (h : Heads). h.settings) heads)) sound;
+      sound = subst AreSound (sym (ap (λ (h : Heads). h.settings) heads)) sound;
       happened = subst (HaveHappened table.settings) (sym events) tt;
       heads = here;
       slots = ap (λ (slots : List LogPrefix). length slots) last ∙ length-replicate 256 seen;

@@ -8,7 +8,7 @@ use Rattle.upload_book.specs.Heads.{Heads, HeadPart, head_part, heads_of, shown}
 use Rattle.upload_book.specs.Lawful.{IsLawful}
 use Rattle.upload_book.specs.Look.{look_answer, row_of}
 use Rattle.upload_book.specs.PlainBook.{PlainBook, answer_of, opening_book, tenant_book}
-use Rattle.upload_book.specs.Settings.{Settings, settings_fault}
+use Rattle.upload_book.specs.Settings.{AreSound, Settings}
 use Rattle.upload_book.specs.TenantBook.{TenantBook, is_given, kept_in, visible, visible_in, visible_upload}
 use Rattle.upload_book.specs.Expiry.{has_expired}
 use Rattle.upload_book.specs.Upload.{Upload, head_row_of}
@@ -62,7 +62,7 @@ found-happened v s seen events knows there is =
 -- so that is lawful after them
 found-lawful : (v : View) (s : BoardCopy) (seen : LogPrefix) (events : List Event) → v.knows ≡ true → IsFound v seen s → HaveHappened v.settings events → IsLawful (book_at v.settings events)
 found-lawful v s seen events knows there happened =
-    books_stay_lawful.opened v.settings events (subst (λ (settings : Settings). settings_fault settings ≡ None) (sym (there.fits knows).0) there.current.sound) happened
+    books_stay_lawful.opened v.settings events (subst AreSound (sym (there.fits knows).0) there.current.sound) happened
 
 -- what a copy that was found rests on is of the log that the reader reads
 pub found-log : (v : View) (s : BoardCopy) (seen : LogPrefix) (name : Name) → v.knows ≡ true → log_of v.log ≡ seen.book → IsFound v seen s → (last_of s.last_changes name.id).book ≡ seen.book

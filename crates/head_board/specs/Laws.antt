@@ -8,7 +8,7 @@ use Rattle.upload_book.specs.Heads.{Heads, HeadPart, head_part_at, heads_of}
 use Rattle.upload_book.specs.HeadSteps.{MayBecome, MayFollow}
 use Rattle.upload_book.specs.Lawful.{IsLawful}
 use Rattle.upload_book.specs.PlainBook.{PlainBook}
-use Rattle.upload_book.specs.Settings.{Settings, settings_fault}
+use Rattle.upload_book.specs.Settings.{AreSound, Settings}
 use Rattle.upload_book.specs.TenantBook.{kept_in}
 use Rattle.head_board.specs.Event.{Event}
 use Rattle.head_board.specs.Events.{AllHappen, HaveHappened, book_at, change_event}
@@ -26,7 +26,7 @@ pub record BooksStayLawful : Type 0 where
       → IsLawful b → AllHappen b events → IsLawful (book_after_all b (map {A = Event} {B = ChangeEvent} change_event events))
   pub opened :
       (s : Settings) (events : List Event)
-      → settings_fault s ≡ None → HaveHappened s events → IsLawful (book_at s events)
+      → AreSound s → HaveHappened s events → IsLawful (book_at s events)
 
 -- What a later part of a tenant tells of an id: the ids that were given stay given; an upload which stands in both
 -- does not become shorter, and its kind, its texts and its length, once that is known, stay; and none stands again

@@ -20,7 +20,7 @@ pub trait Answer {
     /// The most bytes of a request's body.
     fn max_size(&self) -> u64
         ensures value { result ≡ max_size self.now }
-        ensures range { result < 2 ^ 31 };
+        ensures range { result < 2 ^ 62 };
 
     /// Makes the step of a request at its moment, and puts the reply to its place.
     fn answer(&mut self, request: &Request, now: Moment, reply: &mut PlacedReply)

@@ -78,7 +78,7 @@ impl<R: Source + Drop, W: Sink + Drop> Wire<R, W> {
     pub fn new(alloc: Global, reader: R, writer: W, max_size: u64) -> Result<Self, WireFault>
         requires reader { R.has_failed reader ≡ false }
         requires writer { W.has_failed writer ≡ false }
-        requires size { max_size < 2 ^ 31 }
+        requires size { max_size < 2 ^ 62 }
         ensures fresh { IfOk result (λ w. w ≡ fresh_wire reader writer max_size) }
         ensures memory { IfErr result (λ e. e ≡ WireFault.Memory) }
     {
@@ -91,7 +91,7 @@ impl<R: Source + Drop, W: Sink + Drop> Wire<R, W> {
     pub fn with_buffers(buffers: Buffers, reader: R, writer: W, max_size: u64) -> Self
         requires reader { R.has_failed reader ≡ false }
         requires writer { W.has_failed writer ≡ false }
-        requires size { max_size < 2 ^ 31 }
+        requires size { max_size < 2 ^ 62 }
         ensures { result ≡ fresh_wire reader writer max_size }
     {
         Wire {

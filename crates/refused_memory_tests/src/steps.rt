@@ -40,6 +40,9 @@ pub struct Sent {
     pub target: &'static [u8],
     pub fields: TusFields<Field<'static>>,
     pub body: &'static [u8],
+    /// How many bytes of the request came in pieces before this one, and how many are to come behind it.
+    pub given: u64,
+    pub more: u64,
 }
 
 impl Sent {
@@ -50,8 +53,8 @@ impl Sent {
             path: read_path(self.target),
             fields: self.fields,
             body: self.body,
-            given: 0,
-            more: 0,
+            given: self.given,
+            more: self.more,
         }
     }
 }
@@ -71,14 +74,19 @@ pub const FIELDS: TusFields<Field<'static>> = TusFields {
 /// The content type of a PATCH.
 pub const TYPED: Field<'static> = Field::One(b"application/offset+octet-stream");
 
-/// A request `Method target [field: value, ..] body`, which names the version.
+/// A request `Method target [field: value, ..] body`, which names the version. A piece of one has `given N more N` behind it.
 macro_rules! sent {
     ($method:ident $target:literal [$($name:ident: $field:expr),*] $body:literal) => {
+        sent!($method $target [$($name: $field),*] $body given 0 more 0)
+    };
+    ($method:ident $target:literal [$($name:ident: $field:expr),*] $body:literal given $given:literal more $more:literal) => {
         Sent {
             method: Method::$method,
             target: $target,
             fields: TusFields { $($name: $field,)* ..FIELDS },
             body: $body,
+            given: $given,
+            more: $more,
         }
     };
 }
@@ -136,10 +144,10 @@ pub struct Step {
 
 /// A table of steps, each `Method target [field: value, ..] body => told, lacking, paid;`.
 macro_rules! steps {
-    ($($method:ident $target:literal [$($name:ident: $field:expr),*] $body:literal
+    ($($method:ident $target:literal [$($name:ident: $field:expr),*] $body:literal $(given $given:literal more $more:literal)?
         => $told:expr, $lacking:expr, $paid:expr;)*) => {
         [$(Step {
-            sent: sent!($method $target [$($name: $field),*] $body),
+            sent: sent!($method $target [$($name: $field),*] $body $(given $given more $more)?),
             told: $told,
             lacking: $lacking,
             paid: $paid,
@@ -152,13 +160,15 @@ const REFUSED: Option<Told<'static>> = Some(Told::Refused(Refusal::Memory, None)
 const REFUSED_PATCH: Option<Told<'static>> = Some(Told::Refused(Refusal::Memory, Some(8600)));
 
 /// An upload with its first bytes before all else; two parts and the final upload of both, which stays when these three end;
-/// another upload with its first bytes; and the bytes of the final one, for whose room a desk asks twice.
-pub static STEPS: [Step; 14] = steps! {
+/// another upload with its first bytes; and the bytes of the final one, for whose room a desk asks twice. One PATCH comes in two
+/// pieces, of which the first takes the memory for both.
+pub static STEPS: [Step; 15] = steps! {
     Post b"/files/acme" [length: Field::One(b"10"), media: TYPED] b"hello" => Told::Created(1), REFUSED, [2, 10, 2, 0];
     Post b"/files/acme" [length: Field::One(b"20"), concat: Field::One(b"partial")] b"" => Told::Created(2), None, [2, 10, 2, 0];
     Patch b"/files/acme/2" [offset: Field::One(b"0"), media: TYPED] b"hello" => Told::Patched(5), REFUSED_PATCH, [4, 8, 4, 0];
     Patch b"/files/acme/2" [offset: Field::One(b"5"), media: TYPED] b"wor" => Told::Patched(8), REFUSED_PATCH, [4, 8, 4, 0];
-    Patch b"/files/acme/2" [offset: Field::One(b"8"), media: TYPED] b"ld and more." => Told::Patched(20), REFUSED_PATCH, [7, 5, 7, 0];
+    Patch b"/files/acme/2" [offset: Field::One(b"8"), media: TYPED] b"ld a" given 0 more 8 => Told::Patched(12), REFUSED_PATCH, [5, 7, 5, 0];
+    Patch b"/files/acme/2" [offset: Field::One(b"8"), media: TYPED] b"nd more." given 4 more 0 => Told::Patched(20), None, [7, 5, 7, 0];
     Post b"/files/acme" [length: Field::One(b"2"), concat: Field::One(b"partial")] b"" => Told::Created(3), None, [7, 5, 7, 0];
     Patch b"/files/acme/3" [offset: Field::One(b"0"), media: TYPED] b"fg" => Told::Patched(2), REFUSED_PATCH, [8, 4, 8, 0];
     Post b"/files/acme" [concat: Field::One(b"final;/files/acme/2 /files/acme/3")] b"" => Told::Created(4), REFUSED, [8, 4, 8, 0];

@@ -12,7 +12,7 @@ use Rattle.clap.specs.Words.{ReadsOne, Text, all_of, first_of, one_text}
 use Rattle.clap.specs.declared.parser.matches.Found.{Found}
 use Rattle.upload_book.specs.declared.settings.Numbers.{Numbers}
 use Rattle.server_words.specs.declared.options.WorkerOptions.{WorkerOptions}
-use Rattle.server_words.specs.Arguments.{grace_given, is_number, is_set, number_in, metrics_set, number_given, number_under, numbers_given, port_given, serve_arguments, talk_arguments, talk_arguments_with, work_given, work_with, workers_given}
+use Rattle.server_words.specs.Arguments.{ServeArguments, grace_given, is_number, is_set, number_in, metrics_set, number_given, number_under, numbers_given, port_given, run_arguments, run_numbers, run_work, service_arguments, talk_arguments, talk_arguments_with, workers_given}
 
 digits_pass : (digits : List ℕ) → AllDigits 10 digits → list_all (λ d. nat_lt (digit_value d) 10) digits ≡ true
 digits_pass [] h = refl
@@ -88,24 +88,14 @@ talk_arguments-some rows numbers secs moment journal words all at made beside gi
 pub talk_arguments-none : (rows : List Row) → None ≡ all_of (codes "tenant") rows → None ≡ talk_arguments rows
 talk_arguments-none rows h = ap (talk_arguments_with (number_under (codes "moment") rows) rows) h
 
--- the options of `serve` are the arguments that its rows give
-pub serve_arguments-some : (rows : List Row) (numbers : Numbers) (words : List Text) (address : Text) (port workers : ℕ) (work : WorkerOptions) (journal log : Option Text) (metrics : Option ℕ) → numbers ≡ numbers_given rows
-    → Some address ≡ first_of (codes "address") rows → Some work ≡ work_given rows → Some port ≡ port_given rows → Some workers ≡ workers_given rows
-    → journal ≡ first_of (codes "journal") rows → log ≡ first_of (codes "log") rows → Some metrics ≡ metrics_set (number_given (codes "metrics") rows) → Some words ≡ all_of (codes "tenant") rows
-    → Some (record { numbers = numbers; tenants = words; address = address; port = port; journal = journal; workers = workers; work = work; log = log; metrics = metrics }) ≡ serve_arguments rows
-serve_arguments-some rows numbers words address port workers work journal log metrics given place each at many found kept told all =
-    rw (given, found, kept, ← place, ← each, ← at, ← many, ← told, ← all) refl
-
--- the grace of what each worker is asked for
-abbrev grace_in : Option WorkerOptions → Option ℕ
-grace_in None = None
-grace_in (Some work) = work.grace
-
-grace-given : (rows : List Row) (moment : Option (Option ℕ)) (at_once : Option ℕ) (piece : Option (Option ℕ)) (work : WorkerOptions) → Some work ≡ work_with rows moment at_once piece → work.grace ≡ grace_given rows
-grace-given rows None at_once piece work at = absurd (true≢false (ap is_some at))
-grace-given rows (Some moment) None piece work at = absurd (true≢false (ap is_some at))
-grace-given rows (Some moment) (Some n) None work at = absurd (true≢false (ap is_some at))
-grace-given rows (Some moment) (Some n) (Some piece) work at = ap grace_in at
+-- the options of a server are the arguments that its rows give
+pub service_arguments-some : (rows : List Row) (numbers : Numbers) (words : List Text) (work : WorkerOptions) (address : Text) (port workers : ℕ) (journal log : Option Text) (metrics : Option ℕ)
+    → Some address ≡ first_of (codes "address") rows → Some port ≡ port_given rows → Some workers ≡ workers_given rows
+    → journal ≡ first_of (codes "journal") rows → log ≡ first_of (codes "log") rows → Some metrics ≡ metrics_set (number_given (codes "metrics") rows)
+    → Some (record { numbers = numbers; tenants = words; address = address; port = port; journal = journal; workers = workers; work = work; log = log; metrics = metrics })
+    ≡ service_arguments rows numbers words work
+service_arguments-some rows numbers words work address port workers journal log metrics place at many found kept told =
+    rw (found, kept, ← place, ← at, ← many, ← told) refl
 
 abbrev has_port : Option (Option ℕ) → Bool
 has_port None = false
@@ -121,15 +111,14 @@ no_grace f None metrics told none = refl
 no_grace f (Some port) metrics told none = no_port f port (nat_lt 65535 port) metrics told none
 
 -- without a port at which a stop can be asked for there is no grace
-pub grace-with_port : (rows : List Row) (work : WorkerOptions) (metrics : Option ℕ) → Some work ≡ work_given rows → Some metrics ≡ metrics_set (number_given (codes "metrics") rows) → metrics ≡ None → work.grace ≡ None
-grace-with_port rows work metrics at told none =
-    grace-given rows _ _ _ work at ∙ no_grace (λ port. number_under (codes "grace") rows) (number_given (codes "metrics") rows) metrics told none
+pub grace-with_port : (rows : List Row) (grace metrics : Option ℕ) → grace ≡ grace_given rows → Some metrics ≡ metrics_set (number_given (codes "metrics") rows) → metrics ≡ None → grace ≡ None
+grace-with_port rows grace metrics at told none = at ∙ no_grace (λ port. number_under (codes "grace") rows) (number_given (codes "metrics") rows) metrics told none
 
--- without words there are none
-pub serve_arguments-none : (rows : List Row) (address : Text) (port workers : ℕ) (work : WorkerOptions) (metrics : Option ℕ) → Some address ≡ first_of (codes "address") rows → Some work ≡ work_given rows
-    → Some port ≡ port_given rows → Some workers ≡ workers_given rows → Some metrics ≡ metrics_set (number_given (codes "metrics") rows) → None ≡ all_of (codes "tenant") rows → None ≡ serve_arguments rows
-serve_arguments-none rows address port workers work metrics place each at many told none = rw (← place, ← each, ← at, ← many, ← told, ← none) refl
-
--- without an address there are none
-pub serve_arguments-nowhere : (rows : List Row) → None ≡ first_of (codes "address") rows → None ≡ serve_arguments rows
-serve_arguments-nowhere rows none = rw (← none) refl
+-- the arguments of `run`, where there are words, with their numbers, and its work
+pub run_arguments-some : (rows : List Row) (words : List Text) (numbers : Numbers) (work : WorkerOptions) → Some words ≡ all_of (codes "tenant") rows → numbers ≡ run_numbers rows words
+    → Some work ≡ run_work rows numbers.max_size → service_arguments rows numbers words work ≡ run_arguments rows
+run_arguments-some rows words numbers work words-is numbers-is work-is =
+    ap (option_and_then (service_arguments rows numbers words)) work-is ∙ ap (with_numbers words) numbers-is ∙ ap (option_and_then (λ words. with_numbers words (run_numbers rows words))) words-is
+  where
+    with_numbers : List Text → Numbers → Option ServeArguments
+    with_numbers words numbers = option_and_then (service_arguments rows numbers words) (run_work rows numbers.max_size)

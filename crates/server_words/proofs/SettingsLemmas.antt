@@ -6,7 +6,7 @@ use Rattle.std.proofs.lemmas.Bool.Decides.{eqb_tells}
 use Rattle.std.proofs.lemmas.List.{drop_all}
 use Rattle.std.proofs.lemmas.Slice.Eq.{bytes_eq-Decides}
 use mathlib.Core.List.{IsPrefix}
-use Rattle.upload_book.specs.Settings.{Settings, settings_fault}
+use Rattle.upload_book.specs.Settings.{AreSound, Settings}
 use Rattle.upload_book.specs.declared.settings.TenantQuota.{TenantQuota}
 use Rattle.upload_book.proofs.Lawful.SettingsLemmas.{tenants-within}
 use Rattle.server_words.specs.MadeAgain.{MakesTheSame}
@@ -16,7 +16,7 @@ use Rattle.server_words.specs.declared.difference.Difference.{Difference}
 use Rattle.server_words.proofs.MadeAgainLemmas.{makes-the-same}
 
 -- a place of a tenant is a small number
-pub few_tenants : (s : Settings) (place : ℕ) → settings_fault s ≡ None → place < length s.tenants → place < 256
+pub few_tenants : (s : Settings) (place : ℕ) → AreSound s → place < length s.tenants → place < 256
 few_tenants s place sound within = omega (arith, tenants-within s sound)
 
 abbrev names : List TenantQuota → List (List ℕ)

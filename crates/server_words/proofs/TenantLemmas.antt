@@ -5,7 +5,7 @@ use Rattle.std.specs.List.{position_or_len, before_first}
 use Rattle.std.proofs.lemmas.List.{drop_all}
 use Rattle.tus_text.specs.Number.{number_of}
 use Rattle.server_words.specs.Quota.{quota_of}
-use Rattle.server_words.specs.Settings.{is_colon, tenant_named, tenant_in}
+use Rattle.server_words.specs.Tenants.{is_colon, tenant_named, tenant_in}
 
 no_quota : (size : ℕ) → quota_of size [] ≡ None
 unfolding number_of

@@ -1,5 +1,5 @@
 -- What the words of the command line ask for: the command, with its arguments.
-use Rattle.std.specs.Prelude.{ℕ, ◌^◌, ◌-◌, Bool, false, ◌&&◌, ◌||◌, List, length, nat_lt, nat_le, Option, Some, None, option_and_then, option_map, is_some, unwrap_or, bytes_eq, codes, if◌then◌else◌}
+use Rattle.std.specs.Prelude.{ℕ, ◌^◌, ◌+◌, ◌-◌, Bool, true, false, ◌&&◌, ◌||◌, List, length, min, nat_lt, nat_le, Option, Some, None, option_and_then, option_map, is_some, unwrap_or, bytes_eq, codes, if◌then◌else◌}
 use Rattle.std.specs.List.{list_all}
 use Rattle.std.specs.Option.{option_map_or}
 use Rattle.std.specs.Borrow.{Bor}
@@ -7,6 +7,8 @@ use Rattle.std.specs.Char.{digit_value}
 use Rattle.std.specs.Str.Parse.{digits_value, without_leading_plus}
 use Rattle.clap.specs.Walk.{texts}
 use Rattle.clap.specs.Words.{Row, Text, all_of, first_of, one_of}
+use Rattle.upload_book.specs.declared.settings.Bounds.{Bounds}
+use Rattle.upload_book.specs.declared.settings.Bounds.TheVariants.{Narrow, Wide}
 use Rattle.upload_book.specs.declared.settings.Numbers.{Numbers}
 use Rattle.upload_book.specs.Settings.{is_outside}
 use Rattle.server_words.specs.declared.options.CommandOptions.{CommandOptions}
@@ -16,6 +18,7 @@ use Rattle.server_words.specs.declared.options.ServeOptions.{ServeOptions}
 use Rattle.server_words.specs.declared.options.TalkOptions.{TalkOptions}
 use Rattle.server_words.specs.declared.options.WorkerOptions.{WorkerOptions}
 use Rattle.server_words.specs.CommandLine.{command_in}
+use Rattle.server_words.specs.Tenants.{blocks_of_quotas, greatest_quota_bytes}
 
 -- the text is a decimal number below 2^64, perhaps after a plus
 abbrev pub is_number : Text → Bool
@@ -39,18 +42,30 @@ number_under name rows = unwrap_or (number_given name rows) 0
 abbrev pub is_set : Text → List Row → Bool
 is_set name rows = option_map_or (λ text. bytes_eq text (codes "true")) (one_of name rows) false
 
--- The numbers that the options of `talk` and `serve` give, each under its name. Ids and totals have no option: they
--- are bounded by their type alone.
-abbrev pub numbers_given : List Row → Numbers
-numbers_given rows = record {
-  blocks = number_under (codes "blocks") rows;
+-- The numbers of a server with so many blocks and this greatest upload: the options give the others, each under its name. Ids
+-- and totals have no option: they are bounded by their type alone.
+abbrev pub numbers_with : ℕ → ℕ → List Row → Numbers
+numbers_with blocks max_size rows = record {
+  blocks = blocks;
   block_size = number_under (codes "block-size") rows;
   lifetime = number_under (codes "lifetime") rows;
-  max_size = number_under (codes "max-size") rows;
+  max_size = max_size;
   uploads = number_under (codes "uploads") rows;
   last_id = 2 ^ 64 - 2;
   last_total = 2 ^ 64 - 1;
 }
+
+-- the numbers that the options of `talk` and `serve` give
+abbrev pub numbers_given : List Row → Numbers
+numbers_given rows = numbers_with (number_under (codes "blocks") rows) (number_under (codes "max-size") rows) rows
+
+-- the numbers of `run`: where they are not told there are as many blocks as the quotas sum to, and the greatest upload is as
+-- large as the greatest quota
+abbrev pub run_numbers : List Row → List Text → Numbers
+run_numbers rows words =
+    let size = number_under (codes "block-size") rows in
+    numbers_with (unwrap_or (number_given (codes "blocks") rows) (blocks_of_quotas size words))
+    (unwrap_or (number_given (codes "max-size") rows) (greatest_quota_bytes size words)) rows
 
 -- what `talk` is asked for: the numbers of the settings, the moment of every message, and the words
 -- NAME:QUOTA
@@ -83,14 +98,14 @@ moment_set (Some secs) = if nat_lt 253402300799 secs then None else Some (Some s
 abbrev pub connections_given : List Row → ℕ
 connections_given rows = if is_set (codes "forever") rows then 2 ^ 64 - 1 else number_under (codes "connections") rows
 
--- How many connections a worker holds at once: 8,192 where it is not told and the flag `forever` is set, and else 1. It is told
+-- How many connections a worker holds at once: 8,192 where it is not told and they come without end, and else 1. It is told
 -- as a number from 1 to 16,384, and else there are no arguments.
 abbrev pub at_once_set : Bool → Option ℕ → Option ℕ
 at_once_set forever None = Some (if forever then 8192 else 1)
 at_once_set forever (Some n) = if is_outside n 16384 then None else Some n
 
-abbrev pub at_once_given : List Row → Option ℕ
-at_once_given rows = at_once_set (is_set (codes "forever") rows) (number_given (codes "at-once") rows)
+abbrev pub at_once_given : Bool → List Row → Option ℕ
+at_once_given forever rows = at_once_set forever (number_given (codes "at-once") rows)
 
 -- there is a journal, a log, or a port at which numbers are asked for, so clients are served by readiness
 abbrev pub is_by_readiness : List Row → Bool
@@ -112,28 +127,49 @@ abbrev pub piece_set : Option ℕ → Option (Option ℕ)
 piece_set None = Some None
 piece_set (Some size) = if nat_lt size 65536 || nat_lt 1048576 size then None else Some (Some size)
 
--- what each worker is asked for, where the moment can be, how many connections it holds, and the size of pieces
-abbrev pub work_with : List Row → Option (Option ℕ) → Option ℕ → Option (Option ℕ) → Option WorkerOptions
-work_with rows None at_once piece = None
-work_with rows (Some moment) None piece = None
-work_with rows (Some moment) (Some n) None = None
-work_with rows (Some moment) (Some n) (Some piece) = Some (record {
+-- what each worker is asked for, with these of its parts; the options give the others, each under its name
+abbrev pub work_with : List Row → Option ℕ → ℕ → ℕ → ℕ → Option ℕ → Bool → WorkerOptions
+work_with rows moment connections at_once body_memory piece by_readiness = record {
   moment = moment;
-  connections = connections_given rows;
-  at_once = n;
+  connections = connections;
+  at_once = at_once;
   idle = number_under (codes "idle") rows;
   message_seconds = number_under (codes "message-seconds") rows;
   least_rate = number_under (codes "least-rate") rows;
-  body_memory = number_under (codes "body-memory") rows;
+  body_memory = body_memory;
   piece = piece;
   max_body = number_given (codes "max-body") rows;
-  by_readiness = is_by_readiness rows;
+  by_readiness = by_readiness;
   grace = grace_given rows;
-})
+}
 
+-- what each worker of `serve` is asked for, where the moment can be, how many connections it holds, and the size of pieces
 abbrev pub work_given : List Row → Option WorkerOptions
 work_given rows =
-    work_with rows (moment_set (number_given (codes "moment") rows)) (at_once_given rows) (piece_set (number_given (codes "pieces") rows))
+    option_and_then
+    (λ moment. option_and_then
+    (λ at_once. option_map (λ piece. work_with rows moment (connections_given rows) at_once (number_under (codes "body-memory") rows) piece (is_by_readiness rows)) (piece_set (number_given (codes "pieces") rows)))
+    (at_once_given (is_set (codes "forever") rows) rows))
+    (moment_set (number_given (codes "moment") rows))
+
+-- How many bytes of bodies and replies `run` holds where an upload has at most so many: 256 MiB more, where that is not told. No
+-- upload has more than 1 GiB, which all blocks have together.
+abbrev pub run_body_memory : List Row → ℕ → ℕ
+run_body_memory rows max_size = unwrap_or (number_given (codes "body-memory") rows) (min max_size (2 ^ 30) + 2 ^ 28)
+
+-- what each worker of `run` is asked for, where an upload has at most so many bytes, and where that can be: connections come
+-- without end and are served by readiness, bodies are stored in pieces, of 262,144 bytes where their size is not told, and the
+-- clock is the machine's
+abbrev pub run_work : List Row → ℕ → Option WorkerOptions
+run_work rows max_size =
+    option_and_then
+    (λ at_once. option_map (λ piece. work_with rows None (2 ^ 64 - 1) at_once (run_body_memory rows max_size) piece true) (piece_set (Some (unwrap_or (number_given (codes "pieces") rows) 262144))))
+    (at_once_given true rows)
+
+-- the bounds of the settings of a server: wide where bodies are stored in pieces, as an upload may then be larger than any body
+-- that is held
+abbrev pub bounds_of : WorkerOptions → Bounds
+bounds_of work = if is_some work.piece then Wide else Narrow
 
 -- the port that is listened at, where the number is one
 abbrev pub port_given : List Row → Option ℕ
@@ -143,7 +179,7 @@ port_given rows = if nat_le (number_under (codes "port") rows) 65535 then Some (
 abbrev pub workers_given : List Row → Option ℕ
 workers_given rows = if is_outside (number_under (codes "workers") rows) 16 then None else Some (number_under (codes "workers") rows)
 
--- what `serve` is asked for: the numbers of the settings, the words NAME:QUOTA, the address and the port, how many workers
+-- what `serve` or `run` is asked for: the numbers of the settings, the words NAME:QUOTA, the address and the port, how many workers
 -- there are, what each of them is asked for, and, if there are any, the files of the journal and of the log, and the port for
 -- numbers
 pub record ServeArguments : Type 0 where
@@ -157,17 +193,15 @@ pub record ServeArguments : Type 0 where
   pub log : Option Text
   pub metrics : Option ℕ
 
--- The arguments of `serve`, where there is an address, the moment, the ports and the number of workers can be, and there are
--- words NAME:QUOTA.
-abbrev pub serve_arguments_with : List Row → Option Text → Option WorkerOptions → Option ℕ → Option ℕ → Option (Option ℕ) → Option (List Text) → Option ServeArguments
-serve_arguments_with rows None work port workers metrics words = None
-serve_arguments_with rows (Some address) None port workers metrics words = None
-serve_arguments_with rows (Some address) (Some work) None workers metrics words = None
-serve_arguments_with rows (Some address) (Some work) (Some port) None metrics words = None
-serve_arguments_with rows (Some address) (Some work) (Some port) (Some workers) None words = None
-serve_arguments_with rows (Some address) (Some work) (Some port) (Some workers) (Some metrics) None = None
-serve_arguments_with rows (Some address) (Some work) (Some port) (Some workers) (Some metrics) (Some words) = Some (record {
-  numbers = numbers_given rows;
+-- the arguments of a server of these numbers, tenants and work, where there is an address, and the ports and the number of
+-- workers can be
+abbrev pub serve_arguments_with : List Row → Numbers → List Text → WorkerOptions → Option Text → Option ℕ → Option ℕ → Option (Option ℕ) → Option ServeArguments
+serve_arguments_with rows numbers words work None port workers metrics = None
+serve_arguments_with rows numbers words work (Some address) None workers metrics = None
+serve_arguments_with rows numbers words work (Some address) (Some port) None metrics = None
+serve_arguments_with rows numbers words work (Some address) (Some port) (Some workers) None = None
+serve_arguments_with rows numbers words work (Some address) (Some port) (Some workers) (Some metrics) = Some (record {
+  numbers = numbers;
   tenants = words;
   address = address;
   port = port;
@@ -178,10 +212,21 @@ serve_arguments_with rows (Some address) (Some work) (Some port) (Some workers) 
   metrics = metrics;
 })
 
+abbrev pub service_arguments : List Row → Numbers → List Text → WorkerOptions → Option ServeArguments
+service_arguments rows numbers words work =
+    serve_arguments_with rows numbers words work (first_of (codes "address") rows) (port_given rows) (workers_given rows)
+    (metrics_set (number_given (codes "metrics") rows))
+
+-- the arguments of `serve` and of `run`, where each has its work, and there are words NAME:QUOTA
 abbrev pub serve_arguments : List Row → Option ServeArguments
 serve_arguments rows =
-    serve_arguments_with rows (first_of (codes "address") rows) (work_given rows) (port_given rows) (workers_given rows)
-    (metrics_set (number_given (codes "metrics") rows)) (all_of (codes "tenant") rows)
+    option_and_then (λ work. option_and_then (λ words. service_arguments rows (numbers_given rows) words work) (all_of (codes "tenant") rows)) (work_given rows)
+
+abbrev pub run_arguments : List Row → Option ServeArguments
+run_arguments rows =
+    option_and_then
+    (λ words. option_and_then (λ work. service_arguments rows (run_numbers rows words) words work) (run_work rows (run_numbers rows words).max_size))
+    (all_of (codes "tenant") rows)
 
 -- what `journal export` is asked for: a folder, and an upload in it
 pub record ExportArguments : Type 0 where
@@ -196,7 +241,7 @@ export_arguments_with (Some folder) (Some upload) = Some (record { folder = fold
 abbrev pub export_arguments : List Row → Option ExportArguments
 export_arguments rows = export_arguments_with (first_of (codes "folder") rows) (first_of (codes "upload") rows)
 
--- a command, with what it is asked for; of `journal check` that is a folder
+-- a command, with what it is asked for; of `journal check` that is a folder, and `run` is a `serve`
 pub data CommandArguments : Type 0 where
   talk : TalkArguments → CommandArguments
   serve : ServeArguments → CommandArguments
@@ -207,10 +252,11 @@ pub data CommandArguments : Type 0 where
 abbrev pub arguments_entered : Option (Text × List Row) → Option CommandArguments
 arguments_entered None = None
 arguments_entered (Some entered) =
-    if bytes_eq entered.0 (codes "talk") then option_map talk (talk_arguments entered.1)
+    if bytes_eq entered.0 (codes "run") then option_map serve (run_arguments entered.1)
+    else (if bytes_eq entered.0 (codes "talk") then option_map talk (talk_arguments entered.1)
     else (if bytes_eq entered.0 (codes "serve") then option_map serve (serve_arguments entered.1)
     else (if bytes_eq entered.0 (codes "check") then option_map check (first_of (codes "folder") entered.1)
-    else (if bytes_eq entered.0 (codes "export") then option_map export (export_arguments entered.1) else None)))
+    else (if bytes_eq entered.0 (codes "export") then option_map export (export_arguments entered.1) else None))))
 
 -- the command that the words of the command line ask for, the program's name first
 abbrev pub arguments_in : List Text → Option CommandArguments

@@ -74,6 +74,20 @@ with_sizes command =
     (option_rule (codes "max-size") (codes "1048576") no_end))
     (option_rule (codes "uploads") (codes "64") no_end)
 
+-- the options that set up the book of `run`: how many blocks there are and the greatest upload may stay untold
+abbrev pub with_run_sizes : App → App
+with_run_sizes command =
+    with_rule
+    (with_rule
+    (with_rule
+    (with_rule
+    (with_rule command
+    (number_rule (codes "blocks") 0 no_end))
+    (option_rule (codes "block-size") (codes "4096") no_end))
+    (option_rule (codes "lifetime") (codes "86400") no_end))
+    (number_rule (codes "max-size") 0 no_end))
+    (option_rule (codes "uploads") (codes "64") no_end)
+
 -- the command `talk`: its options with their defaults, and the tenants
 abbrev pub talk_command : App
 talk_command =
@@ -100,9 +114,21 @@ with_service command =
     (flag_rule (codes "forever")))
     (option_between (codes "idle") (codes "60") 0 86400)
 
--- the options on how many clients are served at once, and what they may take
-abbrev pub with_many_clients : App → App
-with_many_clients command =
+-- the options on how the connections of `run` are served, which come without end
+abbrev pub with_run_service : App → App
+with_run_service command =
+    with_rule
+    (with_rule
+    (with_rule
+    (with_rule command
+    (text_rule (codes "address") (codes "127.0.0.1")))
+    (option_between (codes "port") (codes "8080") 0 65535))
+    (option_between (codes "workers") (codes "2") 1 16))
+    (option_between (codes "idle") (codes "60") 0 86400)
+
+-- the options on how many clients are served at once, and what they may take, of which one is how many bytes bodies may
+abbrev pub with_many_clients : Rule → App → App
+with_many_clients body_memory command =
     with_rule
     (with_rule
     (with_rule
@@ -112,7 +138,7 @@ with_many_clients command =
     (number_rule (codes "at-once") 1 16384))
     (option_between (codes "message-seconds") (codes "0") 0 86400))
     (option_between (codes "least-rate") (codes "0") 0 1073741824))
-    (option_rule (codes "body-memory") (codes "268435456") no_end))
+    body_memory)
     (number_rule (codes "pieces") 65536 1048576))
     (number_rule (codes "max-body") 1 16777216)
 
@@ -136,8 +162,16 @@ serve_command =
     with_rule
     (with_sizes
     (with_rule
-    (with_rule (with_watch (with_many_clients (with_service (new_app (codes "serve"))))) moment_rule)
+    (with_rule (with_watch (with_many_clients (option_rule (codes "body-memory") (codes "268435456") no_end) (with_service (new_app (codes "serve"))))) moment_rule)
     journal_rule))
+    tenant_rule
+
+-- the command `run`: its options with their defaults, and the tenants
+abbrev pub run_command : App
+run_command =
+    with_rule
+    (with_run_sizes
+    (with_rule (with_watch (with_many_clients (number_rule (codes "body-memory") 0 no_end) (with_run_service (new_app (codes "run"))))) journal_rule))
     tenant_rule
 
 -- the program without its commands, which does nothing without one, and tells its version
@@ -148,12 +182,14 @@ program_alone =
       top = record bare.top { has_version = true; subcommand_required = true; arg_required_else_help = true };
     }
 
--- the program: it has the commands `talk`, `serve` and `journal`
+-- the program: it has the commands `run`, `talk`, `serve` and `journal`
 abbrev pub program : App
 program =
     with_subcommand
     (with_subcommand
-    (with_subcommand program_alone talk_command.top)
+    (with_subcommand
+    (with_subcommand program_alone run_command.top)
+    talk_command.top)
     serve_command.top)
     (new_app (codes "journal")).top
 

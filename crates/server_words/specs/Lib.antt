@@ -10,3 +10,4 @@ pub mod Quota
 pub mod Sentences
 pub mod Settings
 pub mod SettingsFile
+pub mod Tenants

@@ -1,14 +1,15 @@
 -- The second line of a fault: a sentence that says what was wrong, with the value and the limit, and what to do.
-use Rattle.std.specs.Prelude.{ℕ, ◌+◌, ◌*◌, ◌^◌, ◌==◌, ◌&&◌, nat_le, nat_lt, List, [], ◌∷◌, ◌++◌, length, map, take, Option, Some, None, option_and_then, is_some, unwrap_or, bytes_eq, codes, decimal, if◌then◌else◌}
+use Rattle.std.specs.Prelude.{ℕ, ◌*◌, ◌==◌, ◌&&◌, nat_le, nat_lt, List, [], ◌∷◌, ◌++◌, length, map, take, Option, Some, None, is_some, unwrap_or, bytes_eq, codes, decimal, if◌then◌else◌}
 use Rattle.std.specs.List.{before_first, list_any, position_or_len}
-use Rattle.std.specs.Option.{option_map_or}
 use Rattle.std.specs.Str.{byte}
 use Rattle.tus_text.specs.Tenant.{is_tenant_name}
+use Rattle.upload_book.specs.declared.settings.Bounds.{Bounds}
+use Rattle.upload_book.specs.declared.settings.Bounds.TheVariants.{Narrow, Wide}
 use Rattle.upload_book.specs.declared.settings.Numbers.{Numbers}
 use Rattle.upload_book.specs.declared.settings_fault.SettingsFault.{SettingsFault}
 use Rattle.upload_book.specs.declared.settings_fault.SettingsFault.TheVariants as settings
-use Rattle.server_words.specs.Arguments.{CommandArguments, talk, serve, check, export}
-use Rattle.server_words.specs.Settings.{is_colon, tenant_in}
+use Rattle.server_words.specs.Arguments.{CommandArguments, bounds_of, talk, serve, check, export}
+use Rattle.server_words.specs.Tenants.{is_colon, quota_sum, tenant_in}
 use Rattle.server_words.specs.declared.cause.Cause.{Cause}
 use Rattle.server_words.specs.declared.cause.Cause.TheVariants.{Input, Output, Port, Workers, Accept, Log, Metrics}
 use Rattle.server_words.specs.declared.cause.PortFault.{PortFault}
@@ -73,16 +74,6 @@ name_twice (word ∷ words) =
 abbrev pub twice_text : List ℕ → List ℕ
 twice_text name = shown name ++ codes " is the name of two tenants: give each another\n"
 
--- the quota of a word, 0 where it names no tenant
-abbrev pub quota_in : ℕ → List ℕ → ℕ
-quota_in size word = option_map_or (λ t. t.quota) (tenant_in size word) 0
-
--- what the quotas of the words sum to, where that is below 2^64
-abbrev pub quota_sum : ℕ → List (List ℕ) → Option ℕ
-quota_sum size [] = Some 0
-quota_sum size (word ∷ words) =
-    option_and_then (λ sum. if nat_lt (sum + quota_in size word) (2 ^ 64) then Some (sum + quota_in size word) else None) (quota_sum size words)
-
 abbrev pub sum_text : Option ℕ → List ℕ
 sum_text None = codes "more than 18446744073709551615"
 sum_text (Some sum) = decimal sum
@@ -93,19 +84,24 @@ quota_text sum blocks =
     codes "the quotas sum to " ++ sum_text sum ++ codes " blocks, --blocks is " ++ decimal blocks
     ++ codes ": give smaller quotas or more --blocks\n"
 
--- what is wrong with the settings of these numbers and words; no option gives the last id
-abbrev pub settings_text : SettingsFault → Numbers → List (List ℕ) → List ℕ
-settings_text settings.Blocks n words = outside_text (codes "blocks") n.blocks (codes "1 to 1048576")
-settings_text settings.BlockSize n words = outside_text (codes "block-size") n.block_size (codes "1 to 65536")
-settings_text settings.PoolBytes n words = pool_text n
-settings_text settings.Lifetime n words = outside_text (codes "lifetime") n.lifetime (codes "1 to 31536000")
-settings_text settings.MaxSize n words = outside_text (codes "max-size") n.max_size (codes "1 to 16777216")
-settings_text settings.Uploads n words = outside_text (codes "uploads") n.uploads (codes "1 to 64")
-settings_text settings.LastId n words = codes "the last id is out of its range\n"
-settings_text settings.TenantCount n words = tenants_text (length words)
-settings_text settings.TenantName n words = word_text (wrong_word n.block_size words)
-settings_text settings.TenantTwice n words = twice_text (name_twice words)
-settings_text settings.Quota n words = quota_text (quota_sum n.block_size words) n.blocks
+-- how large the greatest upload may be under these bounds
+abbrev pub size_range : Bounds → List ℕ
+size_range Narrow = codes "1 to 16777216"
+size_range Wide = codes "1 to 1099511627776"
+
+-- what is wrong with the settings of these numbers and words under these bounds; no option gives the last id
+abbrev pub settings_text : Bounds → SettingsFault → Numbers → List (List ℕ) → List ℕ
+settings_text bounds settings.Blocks n words = outside_text (codes "blocks") n.blocks (codes "1 to 1048576")
+settings_text bounds settings.BlockSize n words = outside_text (codes "block-size") n.block_size (codes "1 to 65536")
+settings_text bounds settings.PoolBytes n words = pool_text n
+settings_text bounds settings.Lifetime n words = outside_text (codes "lifetime") n.lifetime (codes "1 to 31536000")
+settings_text bounds settings.MaxSize n words = outside_text (codes "max-size") n.max_size (size_range bounds)
+settings_text bounds settings.Uploads n words = outside_text (codes "uploads") n.uploads (codes "1 to 64")
+settings_text bounds settings.LastId n words = codes "the last id is out of its range\n"
+settings_text bounds settings.TenantCount n words = tenants_text (length words)
+settings_text bounds settings.TenantName n words = word_text (wrong_word n.block_size words)
+settings_text bounds settings.TenantTwice n words = twice_text (name_twice words)
+settings_text bounds settings.Quota n words = quota_text (quota_sum n.block_size words) n.blocks
 
 -- there was no memory for the blocks and what stands beside them
 abbrev pub memory_text : Numbers → List ℕ
@@ -264,6 +260,13 @@ tenant_words (serve arguments) = arguments.tenants
 tenant_words (check folder) = []
 tenant_words (export arguments) = []
 
+-- the bounds of the settings of a command
+abbrev pub bounds_in : CommandArguments → Bounds
+bounds_in (talk arguments) = Narrow
+bounds_in (serve arguments) = bounds_of arguments.work
+bounds_in (check folder) = Narrow
+bounds_in (export arguments) = Narrow
+
 -- the word TENANT/ID of a command; `journal export` alone has one
 abbrev pub upload_in : CommandArguments → List ℕ
 upload_in (export arguments) = arguments.upload
@@ -275,7 +278,7 @@ abbrev pub sentence_of : CommandArguments → RunFault → List ℕ
 sentence_of arguments run.Words = untold_text
 sentence_of arguments run.Address = address_text (address_in arguments)
 sentence_of arguments run.Ports = ports_text (port_in arguments)
-sentence_of arguments (run.Settings why) = settings_text why (numbers_in arguments) (tenant_words arguments)
+sentence_of arguments (run.Settings why) = settings_text (bounds_in arguments) why (numbers_in arguments) (tenant_words arguments)
 sentence_of arguments (run.Wire cause) = cause_text cause arguments
 sentence_of arguments (run.Journal why) = journal_text why (journal_in arguments) (upload_in arguments)
 sentence_of arguments run.Memory = memory_told arguments

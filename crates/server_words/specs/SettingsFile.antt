@@ -6,11 +6,12 @@ use Rattle.std.specs.Result.{result_ok}
 use Rattle.clap.specs.Kinds.{Kinds}
 use Rattle.clap.specs.Words.{Text}
 use Rattle.upload_book.specs.Settings.{Settings}
+use Rattle.upload_book.specs.declared.settings.Bounds.TheVariants.{Wide}
 use Rattle.upload_book.specs.declared.settings.Numbers.{Numbers}
 use Rattle.upload_book.specs.declared.settings.TenantQuota.{TenantQuota}
 use Rattle.server_words.specs.Arguments.{CommandArguments, talk, serve, check, export, arguments_in}
 use Rattle.server_words.specs.CommandLine.{faults_in}
-use Rattle.server_words.specs.Settings.{talk_settings}
+use Rattle.server_words.specs.Settings.{settings_given}
 
 -- each word as a line
 abbrev pub lines : List Text → List ℕ
@@ -63,10 +64,10 @@ pub record AreLines (words : List Text) (text : List ℕ) : Type 0 where
   pub each : AllByRecursion IsWord words
   pub whole : (lines words ≡ text) ⊎ IsLastLine words text
 
--- the settings that `talk` is asked for
+-- the settings that `talk` is asked for, under the wide bounds, as a server may have had these
 abbrev pub settings_asked : Option CommandArguments → Option Settings
 settings_asked None = None
-settings_asked (Some (talk arguments)) = result_ok (talk_settings arguments)
+settings_asked (Some (talk arguments)) = result_ok (settings_given Wide arguments.numbers arguments.tenants)
 settings_asked (Some (serve arguments)) = None
 settings_asked (Some (check folder)) = None
 settings_asked (Some (export arguments)) = None
@@ -79,6 +80,6 @@ settings_where (fault ∷ faults) asked = None
 unfoldable pub settings_in : List Text → Option Settings
 settings_in words = settings_where (faults_in words) (arguments_in words)
 
--- the settings that the words of a file give: those that `talk` would be asked for by them
+-- the settings that the words of a file give: those that `talk` would be asked for by them, under the wide bounds
 unfoldable pub settings_given_by : List Text → Option Settings
 settings_given_by words = settings_in (codes "tus-server" ∷ codes "talk" ∷ words)

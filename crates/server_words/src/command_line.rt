@@ -2,7 +2,7 @@
 ghost use Rattle.std.specs.Prelude.{◌≡◌, ◌≤◌, IfOk, IsTrue, codes, false, length, map, true};
 ghost use Rattle.clap.specs.Walk.{texts};
 ghost use Rattle.clap.specs.Words.{FailsBy, HasKind, app_of, fault_of, new_app, rule_of, subcommand_of, subcommand_rows_of};
-ghost use Rattle.server_words.specs.CommandLine.{are_of_journal, ask_help_of_journal, check_command, command_in, export_command, faults_in, flag_rule, help_kinds, is_word, journal_alone, journal_program, journal_rule, log_rule, moment_rule, option_between, option_rule, program, number_rule, program_alone, serve_command, talk_command, tenant_rule, text_rule, with_many_clients, with_service, with_sizes, with_watch, word_rule};
+ghost use Rattle.server_words.specs.CommandLine.{are_of_journal, ask_help_of_journal, check_command, command_in, export_command, faults_in, flag_rule, help_kinds, is_word, journal_alone, journal_program, journal_rule, log_rule, moment_rule, option_between, option_rule, program, number_rule, program_alone, run_command, serve_command, talk_command, tenant_rule, text_rule, with_many_clients, with_run_service, with_run_sizes, with_service, with_sizes, with_watch, word_rule};
 
 use crate::version::VERSION;
 use clap::{Arg, ArgAction, ArgMatches, Command, value_parser};
@@ -23,6 +23,20 @@ Exit status:
   5  The journal could not be had, and no request was read, or it failed; of journal: it is damaged, can't be read, or has
      no such upload
 At 2, 3, 4 and 5 standard error says why.";
+
+const RUN_HELP: &str = "\
+It is serve --forever --port 8080 --pieces 262144, with as many --blocks as the quotas sum to, the largest quota in bytes
+as --max-size, and 268435456 bytes more as --body-memory. Each of these but --forever can be told otherwise.
+A quota is a number of blocks, or of bytes with KiB, MiB, GiB or TiB, of which the whole blocks count: with blocks of
+4096 bytes acme:262144 and acme:1GiB are the same. An upload takes a block for each that its bytes begin.
+All uploads are kept in memory that is taken at the start: as much as all quotas together, which is at most 2^30 bytes.
+A GET holds the bytes of its upload once more until they are sent.
+Without --journal everything ends with the process: its end, or the end of the machine, loses all uploads. With it a
+folder has all of them, and the next start goes on from there, with the same tenants in the same order; new ones may
+follow them. The help of serve says more.
+
+Example, which serves the tenant acme until it is stopped:
+  tus-server run acme:1GiB";
 
 const TALK_HELP: &str = "\
 Uploads are created by POST to /files/NAME, and live as long as the conversation, or with --journal in its folder: no
@@ -54,7 +68,7 @@ Example, which serves the tenant acme until it is stopped:
   tus-server serve --port 8080 --forever acme:4096";
 
 const JOURNAL_HELP: &str = "\
-A journal is the folder that talk or serve has as --journal. These commands write nothing to it, and leave what a crash
+A journal is the folder that run, talk or serve has as --journal. These commands write nothing to it, and leave what a crash
 has torn as it is. They take no lock, so a server may run meanwhile: they tell of what its file had when it was read.
 
 Example, which tells what is in the journal in the folder uploads:
@@ -175,6 +189,7 @@ fn command<'a>(alloc: Global) -> Result<Command<'a>, AllocError>
 {
     let command = program_alone(alloc)?;
     command
+        .subcommand(run(alloc)?)?
         .subcommand(talk(alloc)?)?
         .subcommand(serve(alloc)?)?
         .subcommand(journal_named(alloc))
@@ -311,7 +326,7 @@ fn serve<'a>(alloc: Global) -> Result<Command<'a>, AllocError>
     ensures { IfOk result (λ c. app_of c ≡ serve_command) }
 {
     let served = service(alloc, serve_alone(alloc))?;
-    let with_clients = many_clients(alloc, served)?;
+    let with_clients = many_clients(alloc, served, body_memory(alloc))?;
     let command = watch(alloc, with_clients)?
         .arg(set_moment(alloc))?
         .arg(journal(alloc))?;
@@ -327,28 +342,63 @@ fn serve_alone<'a>(alloc: Global) -> Command<'a>
         .after_help(SERVE_HELP)
 }
 
+/// The command `run`.
+fn run<'a>(alloc: Global) -> Result<Command<'a>, AllocError>
+    ensures { IfOk result (λ c. app_of c ≡ run_command) }
+{
+    let served = run_service(alloc, run_alone(alloc))?;
+    let with_clients = many_clients(alloc, served, run_body_memory(alloc))?;
+    let command = watch(alloc, with_clients)?.arg(journal(alloc))?;
+    run_sizes(alloc, command)?.arg(tenants(alloc))
+}
+
+/// The command `run`, without its arguments.
+fn run_alone<'a>(alloc: Global) -> Command<'a>
+    ensures { app_of result ≡ new_app (codes "run") }
+{
+    Command::new(alloc, "run")
+        .about("Serves tenants with these quotas until it is stopped")
+        .after_help(RUN_HELP)
+}
+
+/// The options on how the connections of `run` are served.
+fn run_service<'a>(alloc: Global, command: Command<'a>) -> Result<Command<'a>, AllocError>
+    ensures { IfOk result (λ c. app_of c ≡ with_run_service (app_of command.entry)) }
+{
+    command
+        .arg(address(alloc))?
+        .arg(port(alloc, "8080"))?
+        .arg(workers(alloc))?
+        .arg(idle(alloc))
+}
+
 /// The options on how connections are served.
 fn service<'a>(alloc: Global, command: Command<'a>) -> Result<Command<'a>, AllocError>
     ensures { IfOk result (λ c. app_of c ≡ with_service (app_of command.entry)) }
 {
     command
         .arg(address(alloc))?
-        .arg(port(alloc))?
+        .arg(port(alloc, "0"))?
         .arg(workers(alloc))?
         .arg(connections(alloc))?
         .arg(forever(alloc))?
         .arg(idle(alloc))
 }
 
-/// The options on how many clients are served at once, and what they may take.
-fn many_clients<'a>(alloc: Global, command: Command<'a>) -> Result<Command<'a>, AllocError>
-    ensures { IfOk result (λ c. app_of c ≡ with_many_clients (app_of command.entry)) }
+/// The options on how many clients are served at once, and what they may take, of which one is how many bytes bodies may.
+fn many_clients<'a>(
+    alloc: Global,
+    command: Command<'a>,
+    body_memory: Arg<'a>,
+) -> Result<Command<'a>, AllocError>
+    requires { body_memory.global ≡ false }
+    ensures { IfOk result (λ c. app_of c ≡ with_many_clients (rule_of body_memory.entry) (app_of command.entry)) }
 {
     command
         .arg(at_once(alloc))?
         .arg(message_seconds(alloc))?
         .arg(least_rate(alloc))?
-        .arg(body_memory(alloc))?
+        .arg(body_memory)?
         .arg(pieces(alloc))?
         .arg(max_body(alloc))
 }
@@ -400,11 +450,11 @@ fn grace<'a>(alloc: Global) -> Arg<'a>
 }
 
 /// The option that names the port.
-fn port<'a>(alloc: Global) -> Arg<'a>
-    ensures rule { rule_of result ≡ option_between (codes "port") (codes "0") 0 65535 }
+fn port<'a>(alloc: Global, default: &'a str) -> Arg<'a>
+    ensures rule { rule_of result ≡ option_between (codes "port") default.entry.now 0 65535 }
     ensures local { result.global ≡ false }
 {
-    number(alloc, "port", "PORT", "0")
+    number(alloc, "port", "PORT", default)
         .value_parser(value_parser!(u64).range(..=65_535))
         .help("The port to listen at, 0 to 65535; 0 is any that is free")
 }
@@ -511,6 +561,20 @@ fn body_memory<'a>(alloc: Global) -> Arg<'a>
     )
 }
 
+/// The option for how much memory bodies of `run` may take.
+fn run_body_memory<'a>(alloc: Global) -> Arg<'a>
+    ensures rule { rule_of result ≡ number_rule (codes "body-memory") 0 18446744073709551615 }
+    ensures local { result.global ≡ false }
+{
+    Arg::new(alloc, "body-memory")
+        .long("body-memory")
+        .value_name("BYTES")
+        .value_parser(value_parser!(u64))
+        .help(
+            "How many bytes of bodies and replies that are under way are held; 268435456 above --max-size unless set",
+        )
+}
+
 /// The option that has bodies stored in pieces.
 fn pieces<'a>(alloc: Global) -> Arg<'a>
     ensures rule { rule_of result ≡ number_rule (codes "pieces") 65536 1048576 }
@@ -521,7 +585,7 @@ fn pieces<'a>(alloc: Global) -> Arg<'a>
         .value_name("BYTES")
         .value_parser(value_parser!(u64).range(65_536..1_048_577))
         .help(
-            "Store the body of a PATCH without a checksum as it comes, in pieces of so many bytes, 65536 to 1048576",
+            "Store the body of a PATCH without a checksum as it comes, in pieces of so many bytes, 65536 to 1048576; --max-size may then be up to 1099511627776",
         )
 }
 
@@ -571,18 +635,78 @@ fn sizes<'a>(alloc: Global, command: Command<'a>) -> Result<Command<'a>, AllocEr
         .arg(number(alloc, "blocks", "N", "4096").help(
             "How many blocks the server has, 1 to 1048576",
         ))?
-        .arg(number(alloc, "block-size", "BYTES", "4096").help(
-            "The size of a block, 1 to 65536; all blocks together have at most 2^30 bytes",
-        ))?
-        .arg(number(alloc, "lifetime", "SECONDS", "86400").help(
-            "For how long an unfinished upload is kept after its last PATCH, 1 to 31536000",
-        ))?
+        .arg(block_size(alloc))?
+        .arg(lifetime(alloc))?
         .arg(number(alloc, "max-size", "BYTES", "1048576").help(
             "The greatest upload and request body, 1 to 16777216",
         ))?
-        .arg(number(alloc, "uploads", "N", "64").help(
-            "How many uploads a tenant has at most, 1 to 64",
-        ))
+        .arg(uploads(alloc))
+}
+
+/// The options that set up the book of `run`.
+fn run_sizes<'a>(alloc: Global, command: Command<'a>) -> Result<Command<'a>, AllocError>
+    ensures { IfOk result (λ c. app_of c ≡ with_run_sizes (app_of command.entry)) }
+{
+    command
+        .arg(run_blocks(alloc))?
+        .arg(block_size(alloc))?
+        .arg(lifetime(alloc))?
+        .arg(run_max_size(alloc))?
+        .arg(uploads(alloc))
+}
+
+/// The option for how many blocks `run` has.
+fn run_blocks<'a>(alloc: Global) -> Arg<'a>
+    ensures rule { rule_of result ≡ number_rule (codes "blocks") 0 18446744073709551615 }
+    ensures local { result.global ≡ false }
+{
+    Arg::new(alloc, "blocks")
+        .long("blocks")
+        .value_name("N")
+        .value_parser(value_parser!(u64))
+        .help(
+            "How many blocks the server has, 1 to 1048576; as many as the quotas sum to unless set",
+        )
+}
+
+/// The option for the greatest upload of `run`.
+fn run_max_size<'a>(alloc: Global) -> Arg<'a>
+    ensures rule { rule_of result ≡ number_rule (codes "max-size") 0 18446744073709551615 }
+    ensures local { result.global ≡ false }
+{
+    Arg::new(alloc, "max-size")
+        .long("max-size")
+        .value_name("BYTES")
+        .value_parser(value_parser!(u64))
+        .help("The greatest upload, 1 to 1099511627776; the largest quota unless set")
+}
+
+/// The option for how many bytes a block has.
+fn block_size<'a>(alloc: Global) -> Arg<'a>
+    ensures rule { rule_of result ≡ option_rule (codes "block-size") (codes "4096") 18446744073709551615 }
+    ensures local { result.global ≡ false }
+{
+    number(alloc, "block-size", "BYTES", "4096").help(
+        "The size of a block, 1 to 65536; all blocks together have at most 2^30 bytes",
+    )
+}
+
+/// The option for how long an unfinished upload is kept.
+fn lifetime<'a>(alloc: Global) -> Arg<'a>
+    ensures rule { rule_of result ≡ option_rule (codes "lifetime") (codes "86400") 18446744073709551615 }
+    ensures local { result.global ≡ false }
+{
+    number(alloc, "lifetime", "SECONDS", "86400").help(
+        "For how long an unfinished upload is kept after its last PATCH, 1 to 31536000",
+    )
+}
+
+/// The option for how many uploads a tenant has.
+fn uploads<'a>(alloc: Global) -> Arg<'a>
+    ensures rule { rule_of result ≡ option_rule (codes "uploads") (codes "64") 18446744073709551615 }
+    ensures local { result.global ≡ false }
+{
+    number(alloc, "uploads", "N", "64").help("How many uploads a tenant has at most, 1 to 64")
 }
 
 /// The words that name the tenants.

@@ -15,6 +15,7 @@ mod sentence;
 mod settings;
 mod settings_file;
 mod shortage;
+mod tenants;
 mod version;
 
 pub use arguments::command_options;

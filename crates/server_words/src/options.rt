@@ -26,7 +26,7 @@ pub struct TalkOptions<'m, 'a> {
     pub tenants: &'m [&'a str],
 }
 
-/// What the command `serve` was asked for.
+/// What the command `serve` or `run` was asked for.
 #[derive(Clone, Copy)]
 pub struct ServeOptions<'m, 'a> {
     pub numbers: Numbers,
@@ -49,7 +49,7 @@ pub struct ServeOptions<'m, 'a> {
     pub ghost grace_with_port: { metrics ≡ None → work.grace ≡ None },
 }
 
-/// What each worker of `serve` was asked for.
+/// What each worker of a server was asked for.
 #[derive(Clone, Copy)]
 pub struct WorkerOptions {
     /// The moment of every message; the machine's clock where there is none.

@@ -4,20 +4,20 @@ ghost use Rattle.std.specs.List.{before_first, list_any};
 ghost use Rattle.arrayvec.specs.ArrayString.{array_string_len};
 ghost use Rattle.clap.specs.Walk.{texts};
 ghost use Rattle.server_words.specs.Arguments.{arguments_of};
-ghost use Rattle.server_words.specs.Sentences.{address_in, address_text, cause_text, difference_text, journal_in, journal_text, log_in, memory_text, memory_told, metrics_in, mismatch_text, name_twice, no_upload_text, numbers_in, outside_text, pool_text, port_in, port_text, ports_text, quota_in, quota_sum, quota_text, reading_text, sentence_of, settings_text, shortage_text, shown, shown_byte, sum_text, tenant_words, tenants_text, twice_text, untold_text, upload_in, word_rule, word_text, wrong_word};
-ghost use Rattle.server_words.specs.Settings.{is_colon};
+ghost use Rattle.server_words.specs.Sentences.{address_in, address_text, bounds_in, cause_text, difference_text, journal_in, journal_text, log_in, memory_text, memory_told, metrics_in, mismatch_text, name_twice, no_upload_text, numbers_in, outside_text, pool_text, port_in, port_text, ports_text, quota_text, reading_text, sentence_of, settings_text, shortage_text, shown, shown_byte, size_range, sum_text, tenant_words, tenants_text, twice_text, untold_text, upload_in, word_rule, word_text, wrong_word};
+ghost use Rattle.server_words.specs.Tenants.{is_colon};
 
 use crate::cause::{Cause, PortFault};
 use crate::difference::Difference;
 use crate::fault::RunFault;
 use crate::journal_fault::{JournalFault, Mismatch, NoUpload};
 use crate::options::CommandOptions;
-use crate::settings::tenant_of;
 use crate::shortage::Shortage;
+use crate::tenants::{quota_sum, tenant_of};
 use arrayvec::ArrayString;
 use itoa::Buffer;
 use tus_text::is_tenant_name;
-use upload_book::{Numbers, SettingsFault};
+use upload_book::{Bounds, Numbers, SettingsFault};
 
 /// The most bytes of a sentence.
 pub const SENTENCE_MAX: usize = 256;
@@ -45,7 +45,12 @@ pub fn sentence(fault: &RunFault, command: &CommandOptions) -> ArrayString<SENTE
 {
     match fault {
         RunFault::Words => line(UNTOLD),
-        RunFault::Settings(why) => settings_line(*why, numbers_of(command), tenants_of(command)),
+        RunFault::Settings(why) => settings_line(
+            bounds_of(command),
+            *why,
+            numbers_of(command),
+            tenants_of(command),
+        ),
         RunFault::Address => address_line(address_of(command)),
         RunFault::Ports => ports_line(port_of(command)),
         RunFault::Wire(cause) => cause_line(*cause, command),
@@ -84,6 +89,17 @@ fn tenants_of<'m, 'a>(command: &CommandOptions<'m, 'a>) -> &'m [&'a str]
         CommandOptions::Talk(options) => options.tenants,
         CommandOptions::Serve(options) => options.tenants,
         CommandOptions::Check(_) | CommandOptions::Export(_) => &[],
+    }
+}
+
+/// The bounds of the settings of a command.
+fn bounds_of(command: &CommandOptions) -> Bounds
+    ensures { result ≡ bounds_in (arguments_of command.now) }
+{
+    match command {
+        CommandOptions::Talk(_) | CommandOptions::Check(_) | CommandOptions::Export(_) =>
+            Bounds::Narrow,
+        CommandOptions::Serve(options) => options.work.bounds(),
     }
 }
 
@@ -159,22 +175,38 @@ fn line(text: &str) -> ArrayString<SENTENCE_MAX>
     line
 }
 
-/// What is wrong with the settings of these numbers and words.
-fn settings_line(why: SettingsFault, numbers: Numbers, words: &[&str]) -> ArrayString<SENTENCE_MAX>
-    ensures { result.bytes ≡ settings_text why numbers (texts words.now) }
+/// What is wrong with the settings of these numbers and words under these bounds.
+fn settings_line(
+    bounds: Bounds,
+    why: SettingsFault,
+    numbers: Numbers,
+    words: &[&str],
+) -> ArrayString<SENTENCE_MAX>
+    ensures { result.bytes ≡ settings_text bounds why numbers (texts words.now) }
 {
     match why {
         SettingsFault::Blocks => outside("blocks", numbers.blocks, "1 to 1048576"),
         SettingsFault::BlockSize => outside("block-size", numbers.block_size, "1 to 65536"),
         SettingsFault::PoolBytes => pool_line(numbers),
         SettingsFault::Lifetime => outside("lifetime", numbers.lifetime, "1 to 31536000"),
-        SettingsFault::MaxSize => outside("max-size", numbers.max_size, "1 to 16777216"),
+        SettingsFault::MaxSize => outside("max-size", numbers.max_size, size_range(bounds)),
         SettingsFault::Uploads => outside("uploads", numbers.uploads, "1 to 64"),
         SettingsFault::LastId => line("the last id is out of its range\n"),
         SettingsFault::TenantCount => tenants_line(words.len()),
         SettingsFault::TenantName => word_line(wrong_word(words, numbers.block_size)),
         SettingsFault::TenantTwice => twice_line(name_twice(words)),
         SettingsFault::Quota => quota_line(quota_sum(words, numbers.block_size), numbers.blocks),
+    }
+}
+
+/// How large the greatest upload may be under these bounds.
+fn size_range(bounds: Bounds) -> &'static str
+    ensures range { result.now ≡ size_range bounds }
+    ensures short { length result.now ≤ 32 }
+{
+    match bounds {
+        Bounds::Narrow => "1 to 16777216",
+        Bounds::Wide => "1 to 1099511627776",
     }
 }
 
@@ -763,27 +795,5 @@ fn name_of(word: &str) -> &str
     match word.split_once(':') {
         Some((name, _)) => name,
         None => word,
-    }
-}
-
-/// What the quotas of the words sum to, where that is below 2^64.
-fn quota_sum(words: &[&str], block_size: u64) -> Option<u64>
-    ensures { result ≡ quota_sum block_size (texts words.now) }
-{
-    match words.split_first() {
-        Some((word, later)) => quota_sum(later, block_size)?.checked_add(quota_of(
-            word, block_size,
-        )),
-        None => Some(0),
-    }
-}
-
-/// The quota of a word, 0 where it names no tenant.
-fn quota_of(word: &str, block_size: u64) -> u64
-    ensures { result ≡ quota_in block_size word.now }
-{
-    match tenant_of(word, block_size) {
-        Some((_, quota)) => quota,
-        None => 0,
     }
 }

@@ -15,7 +15,7 @@ use clap::ArgMatches;
 use clap::error::ErrorKind;
 use itoa::Buffer;
 use std::alloc::{AllocError, Global};
-use upload_book::{Numbers, Settings};
+use upload_book::{Bounds, Numbers, Settings};
 
 /// The text of the file of these settings: all words as they would be typed, one a line. The error is that there is no memory
 /// for it.
@@ -69,8 +69,8 @@ fn push_number(text: &mut Vec<u8>, number: u64) -> Result<(), AllocError>
     text.extend_from_slice(b"\n")
 }
 
-/// The settings that the text of a file gives: those that `talk` would be asked for by its lines. None where it gives none.
-/// The error is `RunFault::Memory`.
+/// The settings that the text of a file gives: those that `talk` would be asked for by its lines, under the wide bounds, as a
+/// server may have had these. None where it gives none. The error is `RunFault::Memory`.
 pub fn read_settings(alloc: Global, text: &str) -> Result<Option<Settings>, RunFault>
     ensures found { IfOk result (λ found. (words : List Text) × AreLines words text.now × (found ≡ settings_given_by words)) }
     ensures fault { IfErr result (λ fault. fault ≡ RunFault.Memory) }
@@ -132,7 +132,7 @@ fn settings_in(alloc: Global, words: &[&str]) -> Result<Option<Settings>, RunFau
     }
 }
 
-/// The settings that `talk` is asked for by what was found in a command line; None where that is none.
+/// The settings that `talk` is asked for by what was found in a command line, under the wide bounds; None where that is none.
 /// The error is `RunFault::Memory`.
 fn settings_asked(alloc: Global, matches: &ArgMatches) -> Result<Option<Settings>, RunFault>
     ensures found { IfOk result (λ found. found ≡ settings_asked (arguments_entered (subcommand_rows_of matches.now))) }
@@ -141,7 +141,7 @@ fn settings_asked(alloc: Global, matches: &ArgMatches) -> Result<Option<Settings
     let Some(CommandOptions::Talk(options)) = command_options(matches) else {
         return Ok(None);
     };
-    match settings_with(alloc, options.numbers, options.tenants) {
+    match settings_with(alloc, Bounds::Wide, options.numbers, options.tenants) {
         Ok(settings) => Ok(Some(settings)),
         Err(RunFault::Memory) => Err(RunFault::Memory),
         Err(_) => Ok(None),

@@ -12,6 +12,7 @@ use server_words::{JournalFault, RunFault, TalkOptions, settings_with};
 use sqlite_disk::Disk;
 use std::alloc::Global;
 use tus_workers::MESSAGES_MAX;
+use upload_book::Bounds;
 
 /// Holds one conversation over `reader` and `writer`, on the book that the journal in the folder at `path` keeps, with the
 /// settings of the options: where others stand beside it, it is put back under these first ([`open_renewed`]). Each message has
@@ -39,7 +40,7 @@ where
         (used R.remaining R.has_failed reader.old reader.new)
         (used W.contents W.has_failed writer.old writer.new) result }
 {
-    let settings = settings_with(alloc, options.numbers, options.tenants)?;
+    let settings = settings_with(alloc, Bounds::Narrow, options.numbers, options.tenants)?;
     let folder = open_renewed(journals, alloc, path, &settings)?;
     let Folder {
         disk,

@@ -1,5 +1,5 @@
 //! The command `serve`, after its command line was read.
-ghost use Rattle.std.specs.Prelude.{◌≡◌, ◌≤◌, [], ◌⊎◌, false, true, All, OnOk, OnErr, IfOk, IsErrOf, IfErr, string_bytes, vec_capacity, vec_len};
+ghost use Rattle.std.specs.Prelude.{◌≡◌, ◌≤◌, [], ◌⊎◌, false, true, All, OnOk, OnErr, Ok, IfOk, IsErrOf, IfErr, string_bytes, vec_capacity, vec_len};
 ghost use Rattle.std.specs.IoError.{error_kind};
 ghost use Rattle.std.specs.Net.Grammar.{IsIpText};
 ghost use Rattle.std.specs.Net.ToAddrs.{IsHostAndPort};
@@ -7,11 +7,12 @@ ghost use Rattle.std.specs.declared.net.ip_addr.IpAddr.{IpAddr};
 ghost use Rattle.http_wire.specs.Writes.{Writes};
 ghost use Rattle.server_words.specs.Arguments.{serve_arguments_of};
 ghost use Rattle.server_words.specs.Cause.{metrics_cause_of};
+ghost use Rattle.server_words.specs.Fault.{IsFaultOf};
 ghost use Rattle.journal_folders.specs.StreamUse.{used};
 ghost use Rattle.server_words.specs.declared.cause.Cause.{Cause};
 ghost use Rattle.server_words.specs.declared.cause.PortFault.{PortFault};
 ghost use Rattle.tus_program.specs.Lines.{Settles, balance_text, listening_text};
-ghost use Rattle.tus_program.specs.Serve.{BreaksOff, HaveEnded, IsOfWatching, IsPlaceAsked, ServeEnds, ServesEach, has_port_twice, is_before_listening, is_of_service};
+ghost use Rattle.tus_program.specs.Serve.{BreaksOff, HaveEnded, IsOfWatching, IsPlaceAsked, ServeEnds, ServesEach, has_port_twice, is_before_listening, is_of_service, serve_settings};
 ghost use Rattle.tus_program.specs.Sockets.{sockets};
 ghost use Rattle.tus_shared.specs.declared.balance.Balance.{Balance};
 
@@ -80,7 +81,7 @@ where
     ensures { ServeEnds (sockets L.asked L.place L.Acceptor.accepted L.Acceptor.has_failed L.Acceptor.is_stopped)
         (serve_arguments_of options.now) (used W.contents W.has_failed output.old output.new) result }
 {
-    let settings = settings_with(alloc, options.numbers, options.tenants)?;
+    let settings = serve_settings(alloc, options)?;
     let place = place_of(options.address, options.port)?;
     check_ports(options)?;
     if let Some(path) = options.journal {
@@ -489,6 +490,20 @@ fn metrics_fault(error: &Error) -> RunFault
         ErrorKind::AddrNotAvailable => RunFault::Wire(Cause::Port(PortFault::NotHere)),
         _ => RunFault::Wire(Cause::Metrics),
     }
+}
+
+/// The settings of the options, whose bounds are wide where bodies are stored in pieces; or their first fault, or
+/// `RunFault::Memory`.
+fn serve_settings(alloc: Global, options: &ServeOptions) -> Result<Settings, RunFault>
+    ensures settings { IfOk result (λ settings. serve_settings (serve_arguments_of options.now) ≡ Ok settings) }
+    ensures fault { IfErr result (IsFaultOf (serve_settings (serve_arguments_of options.now))) }
+{
+    settings_with(
+        alloc,
+        options.work.bounds(),
+        options.numbers,
+        options.tenants,
+    )
 }
 
 /// The place of this address and this port. The error is `RunFault::Address`, where the text is no address.

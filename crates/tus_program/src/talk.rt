@@ -3,6 +3,7 @@ ghost use Rattle.std.specs.Prelude.{◌≡◌, false, Ok, IfOk, IfErr};
 ghost use Rattle.clap.specs.Walk.{texts};
 ghost use Rattle.upload_book.specs.Book.{plain_of};
 ghost use Rattle.upload_book.specs.PlainBook.{opening_book};
+ghost use Rattle.upload_book.specs.declared.settings.Bounds.TheVariants.{Narrow};
 ghost use Rattle.server_words.specs.Arguments.{talk_arguments_of};
 ghost use Rattle.server_words.specs.Fault.{IsFaultOf};
 ghost use Rattle.server_words.specs.Settings.{settings_given};
@@ -14,7 +15,7 @@ use http_wire::{Sink, Source, converse};
 use server_words::{RunFault, TalkOptions, settings_with};
 use std::alloc::Global;
 use tus_workers::MESSAGES_MAX;
-use upload_book::{Book, Numbers};
+use upload_book::{Book, Bounds, Numbers};
 
 /// Holds one conversation over `reader` and `writer`, on a new book with the settings of the options. Each message
 /// has the moment of the options, and at most 4,096 are read.
@@ -46,13 +47,13 @@ pub fn talk<R: Source, W: Sink>(
     Ok(())
 }
 
-/// The new book with the settings that the numbers and the words give, or their first fault, or
+/// The new book with the settings that the numbers and the words give under the narrow bounds, or their first fault, or
 /// `RunFault::Memory`.
 fn new_book(alloc: Global, numbers: Numbers, tenants: &[&str]) -> Result<Book, RunFault>
-    ensures settings { IfOk result (λ book. settings_given numbers (texts tenants.now) ≡ Ok (plain_of book).settings) }
+    ensures settings { IfOk result (λ book. settings_given Narrow numbers (texts tenants.now) ≡ Ok (plain_of book).settings) }
     ensures new { IfOk result (λ book. plain_of book ≡ opening_book (plain_of book).settings) }
-    ensures fault { IfErr result (IsFaultOf (settings_given numbers (texts tenants.now))) }
+    ensures fault { IfErr result (IsFaultOf (settings_given Narrow numbers (texts tenants.now))) }
 {
-    let settings = settings_with(alloc, numbers, tenants)?;
+    let settings = settings_with(alloc, Bounds::Narrow, numbers, tenants)?;
     Ok(Book::new(alloc, settings)?)
 }

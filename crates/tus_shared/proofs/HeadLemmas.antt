@@ -6,7 +6,7 @@ use Rattle.upload_book.specs.declared.head_row.HeadRow.{HeadRow}
 use Rattle.upload_book.specs.declared.head_row.Name.{Name}
 use Rattle.upload_book.specs.declared.operation.Operation.{Operation}
 use Rattle.upload_book.specs.declared.refusal.Refusal.{Refusal}
-use Rattle.upload_book.specs.Settings.{Settings, settings_fault}
+use Rattle.upload_book.specs.Settings.{AreSound, Settings}
 use Rattle.tus_steps.specs.Asked.{asked_in, change_in}
 use Rattle.tus_steps.specs.Changing.{change_found}
 use Rattle.tus_steps.specs.declared.asked.Asked.{Asked}
@@ -121,7 +121,7 @@ sees-first s r now reply old ready new looks answers =
     }
 
 -- a request that is refused before the book is asked changes nothing, at a desk that has seen what happened
-pub refused-answers : (s : Settings) (r : Request) (now : ℕ) (why : Refusal) (desk : Desk) → asked.Refused why ≡ asked_in s r → settings_fault s ≡ None → HaveHappened s desk.seen → Answers s r now (refusing r why None) desk desk
+pub refused-answers : (s : Settings) (r : Request) (now : ℕ) (why : Refusal) (desk : Desk) → asked.Refused why ≡ asked_in s r → AreSound s → HaveHappened s desk.seen → Answers s r now (refusing r why None) desk desk
 refused-answers s r now why desk is sound happened = record {
   before = desk.seen;
   begins = prefix-self desk.seen;

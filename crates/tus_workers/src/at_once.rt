@@ -1,6 +1,6 @@
 //! A worker that serves many clients at once, over its one desk.
 ghost use Rattle.std.specs.Prelude.{◌≡◌, ◌+◌, ◌≤◌, ◌<◌, ◌^◌, None, Some, IfSome, true, false};
-ghost use Rattle.http_wire.specs.BodyLimits.{AreWithin};
+ghost use Rattle.http_wire.specs.BodyLimits.{AreSmall};
 ghost use Rattle.tus_workers.specs.Serving.{SweepsKept};
 
 use crate::accept::Accept;
@@ -30,6 +30,9 @@ use std::time::{Duration, Instant};
 use std::{io, time};
 use tus_shared::{Charges, Desk, NoGate};
 use upload_book::{Moment, Settings};
+
+/// The most bytes of a body that is gathered, which is 16 MiB.
+const GATHERED_MAX: u64 = 16_777_216;
 
 /// How many events are taken at once.
 const EVENTS_MAX: usize = 256;
@@ -393,7 +396,7 @@ impl<
             Entry::Came(stream) => {
                 let max_size = worker.desk.settings().numbers().max_size;
                 let piece = piece_of(&self.options);
-                let limits = limits_of(&self.options, max_size);
+                let limits = limits_of(&self.options, piece, max_size);
                 let client_connection = ClientConnection::new(limits, piece, MESSAGES_MAX);
                 let second = rounds.second;
                 rounds
@@ -517,13 +520,20 @@ fn piece_of(options: &WorkOptions) -> Option<usize>
     options.piece.filter(|size| *size > 0)
 }
 
-// The most bytes of bodies, where an upload has at most `max_size`.
-fn limits_of(options: &WorkOptions, max_size: u64) -> BodyLimits
-    requires size { max_size ≤ 16777216 }
-    ensures small { AreWithin result 16777216 }
+// The most bytes of bodies, where an upload has at most `max_size`. A body that is gathered has at most 16 MiB; one that comes in
+// pieces is as long as an upload may be.
+fn limits_of(options: &WorkOptions, piece: Option<usize>, max_size: u64) -> BodyLimits
+    requires size { max_size ≤ 2 ^ 40 }
+    ensures small { AreSmall result }
+    ensures gathered { result.other ≤ 2 ^ 24 }
+    ensures patch { piece ≡ None → result.patch ≡ result.other }
 {
-    let other = options.max_body.unwrap_or(max_size).min(max_size);
-    let patch = match options.piece {
+    let other = options
+        .max_body
+        .unwrap_or(max_size)
+        .min(max_size)
+        .min(GATHERED_MAX);
+    let patch = match piece {
         Some(_) => max_size,
         None => other,
     };

@@ -11,7 +11,7 @@ use Rattle.upload_book.specs.declared.head_row.Kind.TheVariants.{Plain, Partial,
 use Rattle.upload_book.specs.declared.settings.Numbers.{Numbers}
 use Rattle.upload_book.specs.declared.settings.TenantQuota.{TenantQuota}
 use Rattle.upload_book.specs.Charge.{charge_in}
-use Rattle.upload_book.specs.Settings.{settings_fault}
+use Rattle.upload_book.specs.Settings.{AreSound}
 use Rattle.upload_book.specs.Upload.{Upload, content_of, offset_of, IsComplete}
 use Rattle.upload_book.specs.TenantBook.{Entry, TenantBook, kept_in}
 use Rattle.upload_book.specs.PlainBook.{PlainBook}
@@ -88,7 +88,7 @@ pub record IsTenantOf (n : Numbers) (part : TenantBook) : Type 0 where
 -- The settings have no fault, and each tenant of theirs has a part with its quota that is as it should be. No
 -- tenant pays more than its quota; what was charged and not released is what they pay, and is within its bound.
 pub record IsLawful (b : PlainBook) : Type 0 where
-  pub settings : settings_fault b.settings ≡ None
+  pub settings : AreSound b.settings
   pub quotas : map {A = TenantBook} {B = ℕ} (λ part. part.quota) b.tenants ≡ map {A = TenantQuota} {B = ℕ} (λ t. t.quota) b.settings.tenants
   pub tenants : All (IsTenantOf b.settings.numbers) b.tenants
   pub charges : All (λ part. charge_in b.settings.numbers part ≤ part.quota) b.tenants

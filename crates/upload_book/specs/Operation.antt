@@ -5,6 +5,7 @@ use Rattle.upload_book.specs.declared.operation.Operation.{Operation}
 use Rattle.upload_book.specs.declared.operation.Operation.TheVariants.{Create, CreateWith, Concat, Look, Content, Append, Terminate}
 use Rattle.upload_book.specs.Account.{blocks_added}
 use Rattle.upload_book.specs.Append.{append_answer, part_after_append}
+use Rattle.upload_book.specs.Chunk.{count_all}
 use Rattle.upload_book.specs.Concat.{concat_answer, part_after_concat}
 use Rattle.upload_book.specs.Content.{content_answer}
 use Rattle.upload_book.specs.Create.{create_answer, part_after_create, part_after_create_empty}
@@ -21,8 +22,9 @@ book_after_operation b (Content name) now = b
 book_after_operation b (Append name chunk) now = book_after b name.tenant (part_after_append name.id chunk now b.charged)
 book_after_operation b (Terminate name) now = book_after b name.tenant (part_after_terminate name.id now)
 
--- The operation may lack memory: it is a GET of an upload with bytes, a PATCH or a creation whose bytes take a block,
--- or a concatenation, and is not refused. Where it does, its answer is the refusal Memory, and the book stays as it was.
+-- The operation may lack memory: it is a GET of an upload with bytes, a PATCH or a creation whose bytes, with those that
+-- are to come behind them, take a block, or a concatenation, and is not refused. Where it does, its answer is the refusal
+-- Memory, and the book stays as it was.
 abbrev pub MayLackMemory : PlainBook → Operation → ℕ → Type 0
 MayLackMemory b (Create tenant new) now = ⊥
 MayLackMemory b (CreateWith tenant new first) now =
@@ -31,5 +33,5 @@ MayLackMemory b (Concat tenant new) now = IsOk (answer_of b tenant (concat_answe
 MayLackMemory b (Look name) now = ⊥
 MayLackMemory b (Content name) now = IsOkAnd (answer_of b name.tenant (content_answer name.id now)) (λ bytes. bytes ≢ [])
 MayLackMemory b (Append name chunk) now =
-    IsOk (answer_of b name.tenant (append_answer name.id chunk now b.charged)) × (0 < blocks_added b.settings.numbers chunk.offset (length chunk.bytes))
+    IsOk (answer_of b name.tenant (append_answer name.id chunk now b.charged)) × (0 < blocks_added b.settings.numbers chunk.offset (count_all chunk))
 MayLackMemory b (Terminate name) now = ⊥

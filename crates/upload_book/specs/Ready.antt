@@ -4,6 +4,7 @@ use Rattle.block_bodies.specs.Bodies.{HasRoom}
 use Rattle.upload_book.specs.Account.{account_in}
 use Rattle.upload_book.specs.Append.{append_refusal, is_final, row_with}
 use Rattle.upload_book.specs.Book.{StoredBook, plain_of}
+use Rattle.upload_book.specs.Chunk.{count_all}
 use Rattle.upload_book.specs.declared.change.Change.{Change}
 use Rattle.upload_book.specs.declared.change.Change.TheVariants as change
 use Rattle.upload_book.specs.declared.head_row.Kind.TheVariants.{Final}
@@ -36,13 +37,13 @@ use Rattle.upload_book.specs.inside.Pieces.{as_piece, no_chain, own_chain}
 use Rattle.upload_book.specs.Upload.{head_row_of}
 
 -- The book is ready for a PATCH: it sees the upload at the place and refuses nothing, the upload will be so far, and
--- there is room for the bytes in the list of its blocks.
+-- there is room for the bytes, and for all that are to come behind them, in the list of its blocks.
 pub record IsReadyForChunk (b : StoredBook) (r : ReadyChunk) : Type 0 where
   pub there : r.name.tenant < length b.settings.tenants
   pub seen : IsVisibleIn b.store r.name.tenant r.name.id r.now r.place
   pub accepted : append_refusal b.settings.numbers (account_in b.settings.numbers (tenant_book (plain_of b) r.name.tenant) b.charged) (head_row_of (upload_at b.store r.name.tenant r.place)) r.chunk ≡ None
   pub after : r.after ≡ progress_in (row_with b.settings.numbers (head_row_of (upload_at b.store r.name.tenant r.place)) r.chunk r.now)
-  pub room : 0 < length r.chunk.bytes → HasRoom b.store.pool (own_chain (entry_at b.store r.name.tenant r.place).kept.pieces) (length r.chunk.bytes)
+  pub room : 0 < count_all r.chunk → HasRoom b.store.pool (own_chain (entry_at b.store r.name.tenant r.place).kept.pieces) (count_all r.chunk)
 
 -- the book is ready for a DELETE: it sees the upload at the place
 pub record IsReadyForEnd (b : StoredBook) (r : ReadyEnd) : Type 0 where

@@ -1,8 +1,10 @@
 -- What a server is set up with, and the first fault of what was given.
-use Rattle.std.specs.Prelude.{ℕ, ◌*◌, ◌-◌, ◌^◌, Bool, false, not, ◌||◌, List, [], ◌∷◌, ◌++◌, length, map, sum_by, nat_lt, ◌==◌, Option, Some, None, Result, Ok, Err, bytes_eq, codes, position}
+use Rattle.std.specs.Prelude.{◌≡◌, ℕ, ◌*◌, ◌-◌, ◌^◌, Bool, false, not, ◌||◌, List, [], ◌∷◌, ◌++◌, length, map, sum_by, nat_lt, ◌==◌, Option, Some, None, Result, Ok, Err, bytes_eq, codes, position}
 use Rattle.std.specs.Borrow.{Bor}
 use Rattle.std.specs.List.{list_all, list_any}
 use Rattle.tus_text.specs.Tenant.{is_tenant_name}
+use Rattle.upload_book.specs.declared.settings.Bounds.{Bounds}
+use Rattle.upload_book.specs.declared.settings.Bounds.TheVariants.{Narrow, Wide}
 use Rattle.upload_book.specs.declared.settings.Numbers.{Numbers}
 use Rattle.upload_book.specs.declared.settings.TenantQuota.{TenantQuota}
 use Rattle.upload_book.specs.declared.settings_fault.SettingsFault.{SettingsFault}
@@ -31,14 +33,19 @@ abbrev pub has_name_twice : List TenantQuota → Bool
 has_name_twice [] = false
 has_name_twice (t ∷ tenants) = is_named_again t.name tenants || has_name_twice tenants
 
--- the tests of the numbers, in this order
-abbrev pub number_tests : Numbers → List (Bool × SettingsFault)
-number_tests n =
+-- the most that the greatest size of an upload may be, under these bounds: 16 MiB, or 1 TiB
+abbrev pub size_limit : Bounds → ℕ
+size_limit Narrow = 2 ^ 24
+size_limit Wide = 2 ^ 40
+
+-- the tests of the numbers under these bounds, in this order
+abbrev pub number_tests : Bounds → Numbers → List (Bool × SettingsFault)
+number_tests bounds n =
     (is_outside n.blocks 1048576, Blocks)
     ∷ (is_outside n.block_size 65536, BlockSize)
     ∷ (nat_lt 1073741824 (n.blocks * n.block_size), PoolBytes)
     ∷ (is_outside n.lifetime 31536000, Lifetime)
-    ∷ (is_outside n.max_size 16777216, MaxSize)
+    ∷ (is_outside n.max_size (size_limit bounds), MaxSize)
     ∷ (is_outside n.uploads 64, Uploads)
     ∷ (is_outside n.last_id (2 ^ 64 - 2), LastId)
     ∷ []
@@ -52,13 +59,17 @@ tenant_tests blocks tenants =
     ∷ (nat_lt blocks (sum_by (λ t. t.quota) tenants), Quota)
     ∷ []
 
--- the first fault of the settings: those of the numbers come first
-abbrev pub settings_fault : Settings → Option SettingsFault
-settings_fault s = first_that_holds (number_tests s.numbers ++ tenant_tests s.numbers.blocks s.tenants)
+-- the first fault of the settings under these bounds: those of the numbers come first
+abbrev pub settings_fault : Bounds → Settings → Option SettingsFault
+settings_fault bounds s = first_that_holds (number_tests bounds s.numbers ++ tenant_tests s.numbers.blocks s.tenants)
 
--- settings are those that were given, unless these have a fault
-abbrev pub settings_of : Settings → Result Settings SettingsFault
-settings_of given = settings_or given (settings_fault given) where
+-- the settings have no fault under the widest bounds, as all have that are made
+abbrev pub AreSound : Settings → Type 0
+AreSound s = settings_fault Wide s ≡ None
+
+-- settings are those that were given, unless these have a fault under these bounds
+abbrev pub settings_of : Bounds → Settings → Result Settings SettingsFault
+settings_of bounds given = settings_or given (settings_fault bounds given) where
   settings_or : Settings → Option SettingsFault → Result Settings SettingsFault
   settings_or given None = Ok given
   settings_or given (Some fault) = Err fault

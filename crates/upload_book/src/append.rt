@@ -95,9 +95,9 @@ impl Book {
     /// bytes touches no block, also where other uploads hold the last one.
     ///
     /// It is refused by the first of these that applies: Unknown, Gone, IsFinal, Media, Offset,
-    /// LengthFixed, TooLong, Algorithm, Mismatch, Spent, Quota. Where none of them does and the bytes
-    /// take a block or more, it may be refused as Memory: there was none for the list of the upload's
-    /// blocks. A refusal leaves the book as it was.
+    /// LengthFixed, TooLong, Algorithm, Mismatch, Spent, Quota. Where none of them does and the bytes, with those that
+    /// are to come behind them, take a block or more, it may be refused as Memory: there was none for the list of the
+    /// upload's blocks. A refusal leaves the book as it was.
     pub fn append(&mut self, name: &Name, chunk: Chunk, now: Moment) -> Result<Appended, Refused>
         ensures answer { IsAnswer
             (answer_of (plain_of self.old) name.now.tenant
@@ -114,8 +114,8 @@ impl Book {
         Ok(self.put_chunk(ready))
     }
 
-    // Finds the upload to which a PATCH adds its bytes and makes room for them, or finds why it is refused. The book
-    // still stands for the same plain book.
+    // Finds the upload to which a PATCH adds its bytes and makes room for them and for those behind them, or finds why it
+    // is refused. The book still stands for the same plain book.
     pub(crate) fn ready_for_chunk<'a>(
         &mut self,
         name: Name,
@@ -144,7 +144,8 @@ impl Book {
         }
     }
 
-    // Makes room for the bytes of a PATCH of the upload that it sees, which stands at this place.
+    // Makes room for the bytes of a PATCH, and for all that are to come behind them, of the upload that it sees, which
+    // stands at this place.
     fn ready_at<'a>(
         &mut self,
         name: Name,
@@ -167,7 +168,6 @@ impl Book {
         ensures pool { self.new.store.pool ≡ self.old.store.pool }
         ensures unchanged { OnErr result (self.new ≡ self.old) }
     {
-        let more = chunk.bytes.len() as u64;
         let account = self.account(name.tenant);
         let tenant = usize::from(name.tenant);
         let progress = self.store.progress(tenant, place);
@@ -179,7 +179,8 @@ impl Book {
             });
         }
         let after = progress.with(numbers, &chunk, now);
-        if more > 0 && self.store.reserve(tenant, place, more).is_err() {
+        let count = chunk.bytes.len() as u64 + chunk.more;
+        if count > 0 && self.store.reserve(tenant, place, count).is_err() {
             return Err(Refused {
                 refusal: Refusal::Memory,
                 expires: progress.expires,

@@ -12,7 +12,7 @@ ghost use Rattle.upload_book.specs.Lawful.{IsConcatText, is_kept_metadata};
 ghost use Rattle.upload_book.specs.Sweep.{part_after_sweep};
 ghost use Rattle.upload_book.specs.declared.head_row.Kind.TheVariants.{Final};
 ghost use Rattle.upload_book.specs.inside.Kept.{stored_tenant_of, HasUploadRoom};
-ghost use Rattle.upload_book.specs.Settings.{settings_fault};
+ghost use Rattle.upload_book.specs.Settings.{AreSound};
 ghost use Rattle.upload_book.specs.snapshot.Snapshot.{upload_kept};
 ghost use Rattle.upload_book.specs.inside.Progress.{progress_in};
 ghost use Rattle.upload_book.specs.BlockStore.{opening_stored_tenants, plain_in, stored_tenant_at, part_at, pieces_named, entry_at, holders_at, rows_at, upload_at, Joins};
@@ -74,7 +74,7 @@ impl BlockStore {
           stored_tenants = opening_stored_tenants settings.now.tenants;
           room = settings.now.numbers.uploads;
         }) }
-        ensures sound { settings_fault settings.now ≡ None }
+        ensures sound { AreSound settings.now }
     {
         let numbers = settings.numbers();
         let pool = Pool::new(alloc, numbers.blocks as u32, numbers.block_size as u32)?;

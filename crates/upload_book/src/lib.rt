@@ -61,7 +61,7 @@ pub use ready::Ready;
 pub use refusal::Refusal;
 pub use restored::{Restored, RestoredSegment, RestoredUpload};
 pub use row_ref::RowRef;
-pub use settings::{Numbers, Settings, TenantQuota};
+pub use settings::{Bounds, Numbers, Settings, TenantQuota};
 pub use settings_fault::SettingsFault;
 pub use sweep::Swept;
 pub use terminate::Removed;

@@ -25,7 +25,8 @@ pub(crate) enum Step<'a> {
     Restore(ReadyRestore<'a>),
 }
 
-/// A PATCH that was accepted, of the upload at this place, for whose bytes there is room.
+/// A PATCH that was accepted, of the upload at this place. There is room for its bytes, and for all that are to come behind
+/// them.
 #[derive(Drop)]
 pub(crate) struct ReadyChunk<'a> {
     pub(crate) name: Name,

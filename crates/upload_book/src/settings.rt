@@ -2,7 +2,8 @@ ghost use Rattle.std.specs.Prelude.{◌≡◌, ◌<◌, ◌≤◌, ◌^◌, not,
 ghost use Rattle.std.specs.List.{list_all, list_any};
 ghost use Rattle.tus_text.specs.Tenant.{is_tenant_name};
 ghost use Rattle.upload_book.specs.Refusal.{first_that_holds};
-ghost use Rattle.upload_book.specs.Settings.{settings_fault, settings_of, tenants_of, tenant_place, number_tests, tenant_tests, is_outside, has_name_twice};
+ghost use Rattle.upload_book.specs.Settings.{AreSound, settings_of, size_limit, tenants_of, tenant_place, number_tests, tenant_tests, is_outside, has_name_twice};
+ghost use Rattle.upload_book.specs.declared.settings.Bounds.TheVariants.{Narrow};
 
 use crate::settings_fault::SettingsFault;
 use arrayvec::ArrayVec;
@@ -11,6 +12,27 @@ use tus_text::{Tenant, Text, is_tenant_name};
 
 /// The most tenants that a server has.
 pub const TENANTS_MAX: usize = 16;
+
+/// How far the numbers that a server is set up with may go. They differ in the greatest size of an upload.
+#[derive(Clone, Copy, Debug, PartialEq, Eq)]
+pub enum Bounds {
+    /// An upload has at most 2^24 bytes, so the body of a request may be held as a whole.
+    Narrow,
+    /// An upload has at most 2^40 bytes.
+    Wide,
+}
+
+impl Bounds {
+    /// The most that the greatest size of an upload may be, in bytes.
+    pub fn size_limit(self) -> u64
+        ensures { result ≡ size_limit self }
+    {
+        match self {
+            Bounds::Narrow => 16_777_216,
+            Bounds::Wide => 1_099_511_627_776,
+        }
+    }
+}
 
 /// The numbers that a server is set up with.
 #[derive(Clone, Copy, Debug, PartialEq, Eq)]
@@ -22,7 +44,7 @@ pub struct Numbers {
     /// For how many seconds an upload that expires is kept after its last PATCH, or after its creation: 1
     /// to 31,536,000.
     pub lifetime: u64,
-    /// The most bytes of an upload and of a request's body: 1 to 16,777,216.
+    /// The most bytes of an upload: 1 to 16,777,216, or to 2^40 under the wide bounds.
     pub max_size: u64,
     /// The most uploads that the book keeps for a tenant: 1 to 64.
     pub uploads: u64,
@@ -48,25 +70,36 @@ pub struct Settings {
 }
 
 impl Model for Settings {
-    ghost use Rattle.std.specs.Prelude.{◌≡◌, None};
     ghost use Rattle.upload_book.specs.Settings as spec;
 
     ghost Value = { spec.Settings };
 
     ghost view = { λ s. record { numbers = s.numbers; tenants = s.tenants.items } };
 
-    ghost invariant = { λ s. spec.settings_fault (record { numbers = s.numbers; tenants = s.tenants.items }) ≡ None };
+    ghost invariant = { λ s. spec.AreSound (record { numbers = s.numbers; tenants = s.tenants.items }) };
 }
 
 impl Settings {
-    /// The settings of these numbers and of these tenants, each a name and the most blocks that its
-    /// uploads may cost; or the first fault of them, in the order of [`SettingsFault`]. It takes no
-    /// memory, and compares each name with all later ones.
+    /// The settings of these numbers and of these tenants under the narrow bounds, as [`Settings::within`] gives them.
     pub fn new(numbers: Numbers, tenants: &[(&[u8], u64)]) -> Result<Settings, SettingsFault>
         ensures { result ≡
-            settings_of (record { numbers = numbers; tenants = tenants_of tenants.now }) }
+            settings_of Narrow (record { numbers = numbers; tenants = tenants_of tenants.now }) }
     {
-        if let Some(fault) = number_fault(numbers) {
+        Settings::within(Bounds::Narrow, numbers, tenants)
+    }
+
+    /// The settings of these numbers and of these tenants, each a name and the most blocks that its
+    /// uploads may cost; or the first fault of them under these bounds, in the order of [`SettingsFault`]. It takes no
+    /// memory, and compares each name with all later ones.
+    pub fn within(
+        bounds: Bounds,
+        numbers: Numbers,
+        tenants: &[(&[u8], u64)],
+    ) -> Result<Settings, SettingsFault>
+        ensures { result ≡
+            settings_of bounds (record { numbers = numbers; tenants = tenants_of tenants.now }) }
+    {
+        if let Some(fault) = number_fault(bounds, numbers) {
             return Err(fault);
         }
         if let Some(fault) = tenant_fault(numbers.blocks, tenants) {
@@ -105,8 +138,8 @@ impl Settings {
     /// The numbers, each in its range.
     pub fn numbers(&self) -> &Numbers
         ensures value { result.now ≡ self.now.numbers }
-        ensures sound { settings_fault self.now ≡ None }
-        ensures max_size { result.now.max_size ≤ 16777216 }
+        ensures sound { AreSound self.now }
+        ensures max_size { result.now.max_size ≤ 2 ^ 40 }
         ensures last_total { result.now.last_total < 2 ^ 64 }
     {
         // what is read of a number tells that it is one
@@ -157,9 +190,9 @@ fn place_of(tenants: &[TenantQuota], name: &[u8]) -> Option<usize>
         .position(|tenant| tenant.name.as_slice() == name)
 }
 
-// The first fault of the numbers.
-fn number_fault(numbers: Numbers) -> Option<SettingsFault>
-    ensures { result ≡ first_that_holds (number_tests numbers) }
+// The first fault of the numbers under these bounds.
+fn number_fault(bounds: Bounds, numbers: Numbers) -> Option<SettingsFault>
+    ensures { result ≡ first_that_holds (number_tests bounds numbers) }
 {
     if is_outside(numbers.blocks, 1_048_576) {
         Some(SettingsFault::Blocks)
@@ -169,7 +202,7 @@ fn number_fault(numbers: Numbers) -> Option<SettingsFault>
         Some(SettingsFault::PoolBytes)
     } else if is_outside(numbers.lifetime, 31_536_000) {
         Some(SettingsFault::Lifetime)
-    } else if is_outside(numbers.max_size, 16_777_216) {
+    } else if is_outside(numbers.max_size, bounds.size_limit()) {
         Some(SettingsFault::MaxSize)
     } else if is_outside(numbers.uploads, 64) {
         Some(SettingsFault::Uploads)

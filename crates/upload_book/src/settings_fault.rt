@@ -16,7 +16,7 @@ pub enum SettingsFault {
     PoolBytes,
     /// The lifetime is outside 1 to 31,536,000 seconds.
     Lifetime,
-    /// The greatest size is outside 1 to 16,777,216 bytes.
+    /// The greatest size is outside 1 to 16,777,216 bytes, or 1 to 2^40 under the wide bounds.
     MaxSize,
     /// The number of uploads of a tenant is outside 1 to 64.
     Uploads,

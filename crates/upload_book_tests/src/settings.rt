@@ -4,7 +4,7 @@ use crate::books::NUMBERS;
 use std::alloc::Global;
 use std::process::Abort;
 use std::test::Fail;
-use upload_book::{Moment, Numbers, Refusal, Settings, SettingsFault};
+use upload_book::{Bounds, Moment, Numbers, Refusal, Settings, SettingsFault};
 
 // The seconds of the moment at this second, where there is one.
 fn secs(at: u64) -> Option<u64> {
@@ -96,6 +96,26 @@ static ACCEPTED: [Numbers; 3] = [
         last_total: 0,
     },
 ];
+
+// The greatest size of an upload, and the fault of settings with it under the wide bounds.
+static WIDE: [(u64, Option<SettingsFault>); 4] = [
+    (0, Some(SettingsFault::MaxSize)),
+    (16_777_217, None),
+    (1_099_511_627_776, None),
+    (1_099_511_627_777, Some(SettingsFault::MaxSize)),
+];
+
+#[test]
+fn sizes_under_the_wide_bounds(rt: HostRuntime) {
+    for (place, (max_size, fault)) in WIDE.iter().enumerate() {
+        let numbers = Numbers {
+            max_size: *max_size,
+            ..GREATEST
+        };
+        let found = Settings::within(Bounds::Wide, numbers, &SIXTEEN).err();
+        assert!(&rt; found == *fault, "row {place}");
+    }
+}
 
 static SIXTEEN: [(&[u8], u64); 16] = [
     (b"00000000000000000000000000000000", 0),

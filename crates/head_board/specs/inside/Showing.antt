@@ -9,7 +9,7 @@ use Rattle.upload_book.specs.declared.head_note.NotedChange.TheVariants.{Created
 use Rattle.upload_book.specs.declared.head_note.HeadNote.{HeadNote}
 use Rattle.upload_book.specs.declared.head_row.Name.{Name}
 use Rattle.upload_book.specs.Heads.{heads_of, shown}
-use Rattle.upload_book.specs.Settings.{settings_fault}
+use Rattle.upload_book.specs.Settings.{AreSound}
 use Rattle.head_board.specs.Event.{Event}
 use Rattle.head_board.specs.Events.{HaveHappened, book_at}
 use Rattle.head_board.specs.NoBoard.{no_settings}
@@ -77,7 +77,7 @@ pub record RestsOn (s : BoardCopy) (name : Name) (some_seen : LogPrefix) : Type 
 -- The copy has the heads of the book after what happened, and for each name the events on which what it tells of it rests.
 -- The book is of settings without a fault.
 pub record IsCurrent (s : BoardCopy) : Type 0 where
-  pub sound : settings_fault s.table.settings ≡ None
+  pub sound : AreSound s.table.settings
   pub happened : HaveHappened s.table.settings s.seen.events
   pub heads : s.table ≡ heads_of (book_at s.table.settings s.seen.events)
   pub slots : length s.last_changes ≡ 256

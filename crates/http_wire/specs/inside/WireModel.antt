@@ -28,7 +28,7 @@ module _ {R W : Type 0} where
   -- What holds of every wire: while it reads, it also writes, no read has failed, and the reader's end was seen only there;
   -- while it writes, no write has failed; and bodies have less than two gigabytes.
   pub record IsSound (s : Streams R W) (w : OnWire R W) : Type 0 where
-    pub size : w.max_size < 2 ^ 31
+    pub size : w.max_size < 2 ^ 62
     pub both : w.reads ≡ true → w.writes ≡ true
     pub reader_alive : w.reads ≡ true → s.read_failed w.reader ≡ false
     pub writer_alive : w.writes ≡ true → s.write_failed w.writer ≡ false

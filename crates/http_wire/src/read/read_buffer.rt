@@ -11,6 +11,9 @@ use std::marker::Model;
 /// The fewest bytes that a read asks for.
 pub const READ_SIZE: usize = 16_384;
 
+/// The most bytes by which a buffer is written ahead of those that came.
+const WIDEN_MAX: usize = 65_536;
+
 /// The bytes that a new read buffer has room for.
 pub const FIRST_ROOM: usize = 65_536;
 
@@ -18,7 +21,7 @@ pub const FIRST_ROOM: usize = 65_536;
 /// pieces; a message is lent from it without a copy, and what was read past it stays for the next.
 ///
 /// Its memory is taken for a whole message, and written only as bytes come: no client makes the server
-/// write more than twice what it sent, and one read's bytes.
+/// write more than twice what it sent, and one read's bytes, nor 65,536 more than what it sent.
 #[derive(Drop)]
 pub struct ReadBuffer {
     // `buffer[start..at]` is lent, `buffer[at..end]` is held.
@@ -258,7 +261,7 @@ fn place_with_room(
 }
 
 // Makes the buffer as long as a read after `end` asks for, where it is not: at least by a read's bytes, and by
-// `needed` more where there is room.
+// `needed` more where there is room, but by 65,536 at most.
 fn widen(buffer: &mut Vec<u8>, end: usize, needed: usize, room: usize)
     requires end { end ≤ vec_len buffer.old }
     requires fits { end + READ_SIZE ≤ room }
@@ -268,11 +271,13 @@ fn widen(buffer: &mut Vec<u8>, end: usize, needed: usize, room: usize)
     ensures bytes { take end buffer.new.items ≡ take end buffer.old.items }
     ensures read { end + READ_SIZE ≤ vec_len buffer.new }
     ensures len { vec_len buffer.new ≤ room }
-    ensures few { (vec_len buffer.new ≡ vec_len buffer.old) ⊎ (vec_len buffer.new ≤ end + needed) }
+    ensures few { (vec_len buffer.new ≡ vec_len buffer.old)
+        ⊎ ((vec_len buffer.new ≤ end + needed) × (vec_len buffer.new ≤ end + 65536)) }
     ensures room { room ≤ vec_capacity buffer.new }
 {
     if buffer.len() < end + READ_SIZE {
-        let wider = buffer.resize(end + needed.min(room - end), 0);
+        let more = needed.min(room - end).min(WIDEN_MAX);
+        let wider = buffer.resize(end + more, 0);
         prove!(wider.is_ok());
     }
 }

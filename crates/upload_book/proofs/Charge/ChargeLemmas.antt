@@ -10,7 +10,7 @@ use Rattle.block_bodies.specs.Bodies.{blocks_for}
 use Rattle.upload_book.specs.Account.{blocks_added, blocks_between}
 use Rattle.upload_book.specs.Append.{is_final, append_refusal, upload_with}
 use Rattle.upload_book.specs.Charge.{Source, sources_of, charge_in}
-use Rattle.upload_book.specs.Chunk.{Chunk}
+use Rattle.upload_book.specs.Chunk.{Chunk, count_all}
 use Rattle.upload_book.specs.Create.{created_upload, new_kind}
 use Rattle.upload_book.specs.declared.board_line.Account.{Account}
 use Rattle.upload_book.specs.declared.head_row.Kind.TheVariants.{Partial, Final}
@@ -73,23 +73,23 @@ uploads-sole n part id u sound there sole = λ k d within final.
     parts-sole part id u e.kept there sole (final_parts part e.kept (sound.uploads k d within).kind final)
 
 -- an upload that takes more bytes is not complete
-takes-more : (n : Numbers) (account : Account) (u : Upload) (chunk : Chunk) → IsAppendable n account u chunk → 0 < length chunk.bytes → ¬ (IsComplete u)
+takes-more : (n : Numbers) (account : Account) (u : Upload) (chunk : Chunk) → IsAppendable n account u chunk → 0 < count_all chunk → ¬ (IsComplete u)
 takes-more n account u chunk can some complete =
-    let fits = rw complete at can.fits in
-    let none : length chunk.bytes ≡ 0 = no_bytes n (offset_of u) (length chunk.bytes) fits in
+    let fits = rw complete at can.all_fit in
+    let none : count_all chunk ≡ 0 = no_bytes n (offset_of u) (count_all chunk) fits in
     omega arith
 
 -- no final upload has a part that takes more bytes
-pub parts-differ : (n : Numbers) (account : Account) (part : TenantBook) (id : ℕ) (u : Upload) (chunk : Chunk) (v : Upload) → kept_in part.uploads id ≡ Some u → IsAppendable n account u chunk → 0 < length chunk.bytes → HasParts part v → All (λ o. o ≢ id) v.parts
+pub parts-differ : (n : Numbers) (account : Account) (part : TenantBook) (id : ℕ) (u : Upload) (chunk : Chunk) (v : Upload) → kept_in part.uploads id ≡ Some u → IsAppendable n account u chunk → 0 < count_all chunk → HasParts part v → All (λ o. o ≢ id) v.parts
 parts-differ n account part id u chunk v there can some parts = parts-sole part id u v there (λ kind. takes-more n account u chunk can some) parts
 
 -- so it is of every upload of the tenant
-pub uploads-differ : (n : Numbers) (account : Account) (part : TenantBook) (id : ℕ) (u : Upload) (chunk : Chunk) → IsTenantOf n part → kept_in part.uploads id ≡ Some u → IsAppendable n account u chunk → 0 < length chunk.bytes
+pub uploads-differ : (n : Numbers) (account : Account) (part : TenantBook) (id : ℕ) (u : Upload) (chunk : Chunk) → IsTenantOf n part → kept_in part.uploads id ≡ Some u → IsAppendable n account u chunk → 0 < count_all chunk
     → All (λ e. e.kept.kind ≡ Final → All (λ o. o ≢ id) e.kept.parts) part.uploads
 uploads-differ n account part id u chunk sound there can some = uploads-sole n part id u sound there (λ kind. takes-more n account u chunk can some)
 
 -- nobody else has the bytes of an upload that takes more
-pub sources-differ : (n : Numbers) (account : Account) (part : TenantBook) (id : ℕ) (u : Upload) (chunk : Chunk) → IsTenantOf n part → kept_in part.uploads id ≡ Some u → IsAppendable n account u chunk → 0 < length chunk.bytes
+pub sources-differ : (n : Numbers) (account : Account) (part : TenantBook) (id : ℕ) (u : Upload) (chunk : Chunk) → IsTenantOf n part → kept_in part.uploads id ≡ Some u → IsAppendable n account u chunk → 0 < count_all chunk
     → All (λ s. s.origin ≢ id) (flat_map sources_of (filter (λ e. not (eqb e.id id)) part.uploads))
 sources-differ n account part id u chunk sound there can some =
     let p : Entry Upload → Bool = λ (e : Entry Upload). not (eqb e.id id) in
@@ -150,7 +150,7 @@ charge-appendable n account part id u chunk now sound there can =
 
     alone : (added ≡ 0) ⊎ All (λ s. s.origin ≢ id) (flat_map sources_of (remove part.uploads place.0))
     alone = elim (cases_lt 0 (length chunk.bytes)) [
-      | inl some ↦ inr (rw (← without-place part.uploads id place.0 e sound.ascending place.1 named) (sources-differ n account part id u chunk sound there can some))
+      | inl some ↦ inr (rw (← without-place part.uploads id place.0 e sound.ascending place.1 named) (sources-differ n account part id u chunk sound there can (omega (arith, some))))
       | inr none ↦ inl (blocks_between-none n.block_size (offset_of u) (length chunk.bytes) (omega arith))
     ]
 

@@ -1,5 +1,5 @@
 -- The book at the start is lawful, and so is one with a part that changed into one that is as it should be.
-use Rattle.std.proofs.Common.{◌≡◌, ◌⊎◌, ℕ, zero, suc, ◌+◌, ◌-◌, ◌<◌, ◌≤◌, List, [], ◌∷◌, map, length, get_or, set, None, refl, sym, ap, ◌∙◌, subst, arith, rules}
+use Rattle.std.proofs.Common.{◌≡◌, ◌⊎◌, ℕ, zero, suc, ◌+◌, ◌-◌, ◌<◌, ◌≤◌, List, [], ◌∷◌, map, length, get_or, set, refl, sym, ap, ◌∙◌, subst, arith, rules}
 use Rattle.std.proofs.Math.ListN.{length-append}
 use Rattle.std.proofs.lemmas.List.{map-append}
 use Rattle.std.proofs.lemmas.Slice.Zip.{length-zip, get_or-zip}
@@ -13,7 +13,7 @@ use Rattle.upload_book.specs.declared.settings.Numbers.{Numbers}
 use Rattle.upload_book.specs.declared.settings.TenantQuota.{TenantQuota}
 use Rattle.upload_book.specs.Lawful.{IsLawful, IsTenantOf, IsUploadOf, IsOfKind, IsGivenIn, IsSegmentOf, joined_in}
 use Rattle.upload_book.specs.PlainBook.{PlainBook, with_tenant_book, opening_book, tenant_book}
-use Rattle.upload_book.specs.Settings.{Settings, settings_fault}
+use Rattle.upload_book.specs.Settings.{AreSound, Settings}
 use Rattle.upload_book.specs.TenantBook.{Entry, TenantBook, with_new, opening_part}
 use Rattle.upload_book.specs.Upload.{Upload}
 use Rattle.upload_book.proofs.Charge.InUse.{Contains-none}
@@ -53,7 +53,7 @@ charges-opening n (t ∷ tenants) =
     omega (arith, sum_by-cons (charge_in n) (opening_part t.quota) (opening_parts tenants), charges-opening n tenants, charge-opening n t.quota)
 
 -- the book at the start is lawful
-pub IsLawful-opening : (s : Settings) → settings_fault s ≡ None → IsLawful (opening_book s)
+pub IsLawful-opening : (s : Settings) → AreSound s → IsLawful (opening_book s)
 IsLawful-opening s sound = record {
   settings = sound;
   quotas = quotas-opening s.tenants;

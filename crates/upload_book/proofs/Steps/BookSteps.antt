@@ -17,7 +17,7 @@ use Rattle.upload_book.specs.Expiries.{AreExpiries}
 use Rattle.upload_book.specs.ExpiryList.{ExpiryList}
 use Rattle.upload_book.specs.Lawful.{IsLawful, IsTenantOf, IsUploadOf}
 use Rattle.upload_book.specs.PlainBook.{answer_of, opening_book, tenant_book, with_tenant_book}
-use Rattle.upload_book.specs.Settings.{Settings, settings_fault}
+use Rattle.upload_book.specs.Settings.{AreSound, Settings}
 use Rattle.upload_book.specs.BlockStore.{BlockStore, no_upload, plain_in, part_at, stored_tenant_at, entry_at, upload_at}
 use Rattle.upload_book.specs.inside.Places.{IsPlaceOf, IsVisibleIn, with_upload, without_upload}
 use Rattle.upload_book.specs.Stored.{StoredTenant, entry_of, part_of}
@@ -95,7 +95,7 @@ pub plain-opening : (settings : Settings) (s : BlockStore) (e : ExpiryList) → 
 plain-opening settings s e is =
     ap (λ s. plain_of (opened settings s e)) is ∙ ap (λ tenants. book_with (opening_book settings) tenants 0 0) (parts-opening settings)
 
-pub IsBook-opening : (settings : Settings) (s : BlockStore) (e : ExpiryList) → settings_fault settings ≡ None → s ≡ opening_store settings → e ≡ record { list = []; room = length settings.tenants * settings.numbers.uploads } → IsBook (opened settings s e)
+pub IsBook-opening : (settings : Settings) (s : BlockStore) (e : ExpiryList) → AreSound settings → s ≡ opening_store settings → e ≡ record { list = []; room = length settings.tenants * settings.numbers.uploads } → IsBook (opened settings s e)
 IsBook-opening settings s e sound is none = record {
   lawful = subst IsLawful (sym (plain-opening settings s e is)) (IsLawful-opening settings sound);
   size = ap (λ (s : BlockStore). s.pool.block_size) is;

@@ -7,10 +7,10 @@ use Rattle.std.proofs.lemmas.Bool.Decides.{nat_tests}
 use Rattle.block_pool.specs.Blocks.{size_of}
 use Rattle.block_bodies.specs.Changes.{SameSizes}
 use Rattle.upload_book.specs.Account.{account_in, blocks_added, blocks_between}
-use Rattle.upload_book.specs.Append.{append_answer, append_lacking, append_refusal, is_final, part_after_append, row_with, upload_with}
+use Rattle.upload_book.specs.Append.{append_answer, append_lacking, append_refusal, is_final, or_else, part_after_append, row_with, upload_with}
 use Rattle.upload_book.specs.Book.{StoredBook, IsBook, plain_of}
 use Rattle.upload_book.specs.Charge.{charge_in, charge_with}
-use Rattle.upload_book.specs.Chunk.{Chunk}
+use Rattle.upload_book.specs.Chunk.{Chunk, count_all}
 use Rattle.upload_book.specs.declared.board_line.Account.{Account}
 use Rattle.upload_book.specs.declared.append.Appended.{Appended}
 use Rattle.upload_book.specs.declared.head_row.Kind.{Kind}
@@ -30,10 +30,10 @@ use Rattle.upload_book.specs.ExpiryList.{ExpiryList}
 use Rattle.std.specs.Option.{option_and_then}
 use Rattle.upload_book.proofs.Expiries.BookEnds.{HasEnd-changed}
 use Rattle.upload_book.proofs.Expiries.ExpirySteps.{IsRenewed}
-use Rattle.upload_book.proofs.Steps.BookSteps.{Follows, IsBook-follows, IsIndex, seen-placed, part-plain, part-sound, part-within, plain-follows, placed-changed, seen-kept, seen-sound, seen-upload, seen-visible, stored_tenants-settings, stored_with}
+use Rattle.upload_book.proofs.Steps.BookSteps.{Follows, IsBook-follows, IsIndex, seen-placed, part-plain, part-sound, part-within, plain-follows, placed-changed, seen-kept, seen-sound, seen-visible, stored_tenants-settings, stored_with}
 use Rattle.upload_book.proofs.Lawful.AppendLemmas.{part_after_append-none}
 use Rattle.upload_book.proofs.Charge.ChargeLemmas.{blocks_between-none, charge-append, uploads-differ}
-use Rattle.upload_book.proofs.Lawful.LawfulAppend.{IsAppendable, IsAppendable-from_none, offset_of-append}
+use Rattle.upload_book.proofs.Lawful.LawfulAppend.{IsAppendable, IsAppendable-from_none, ends_within, fewer_blocks, offset_of-append}
 use Rattle.upload_book.proofs.Charge.RoomLemmas.{room-within}
 use Rattle.upload_book.proofs.Lawful.SettingsLemmas.{max_size-within}
 
@@ -103,7 +103,7 @@ module _ (b : StoredBook) (t id place now : ℕ) (chunk : Chunk) (kept : IsBook 
     patch-own = not_final u.kind can.own
 
     -- nobody else has its bytes
-    pub patch-alone : 0 < length chunk.bytes → IsAlone b.store t place
+    pub patch-alone : 0 < count_all chunk → IsAlone b.store t place
     patch-alone some =
         let differ = uploads-differ b.settings.numbers (account_at b t) part id u chunk (seen-sound b t id place now kept within seen) (seen-kept b t id place now kept within seen) can some in
         record {
@@ -114,13 +114,21 @@ module _ (b : StoredBook) (t id place now : ℕ) (chunk : Chunk) (kept : IsBook 
               (subst (λ named. All (λ (e : Entry Upload). e.kept.kind ≡ Final → All (λ o. o ≢ named) e.kept.parts) part.uploads) (sym seen.named) differ);
         }
 
-    -- there is room for its bytes
-    pub patch-room : sum_by (charge_with b.store.pool.block_size) (plain_in b.store) + blocks_between b.store.pool.block_size (offset_of u) (length chunk.bytes) ≤ size_of b.store.pool
-    patch-room =
-        let room = room-within (plain_of b) t patch_blocks kept.lawful (part-within b t within) can.paid in
-        let same : sum_by (charge_with b.store.pool.block_size) (plain_in b.store) + blocks_between b.store.pool.block_size (offset_of u) (length chunk.bytes) ≡ sum_by (charge_in b.settings.numbers) (plain_in b.store) + patch_blocks =
-        ap (λ size. sum_by (charge_with size) (plain_in b.store) + blocks_between size (offset_of u) (length chunk.bytes)) kept.size in
+    -- how many blocks all that is to come takes
+    abbrev all_blocks : ℕ
+    all_blocks = blocks_added b.settings.numbers (offset_of u) (count_all chunk)
+
+    -- there is room for all that is to come
+    pub all-room : sum_by (charge_with b.store.pool.block_size) (plain_in b.store) + blocks_between b.store.pool.block_size (offset_of u) (count_all chunk) ≤ size_of b.store.pool
+    all-room =
+        let room = room-within (plain_of b) t all_blocks kept.lawful (part-within b t within) can.all_paid in
+        let same : sum_by (charge_with b.store.pool.block_size) (plain_in b.store) + blocks_between b.store.pool.block_size (offset_of u) (count_all chunk) ≡ sum_by (charge_in b.settings.numbers) (plain_in b.store) + all_blocks =
+        ap (λ size. sum_by (charge_with size) (plain_in b.store) + blocks_between size (offset_of u) (count_all chunk)) kept.size in
         omega (arith, room, same, kept.blocks)
+
+    -- so there is for its bytes
+    pub patch-room : sum_by (charge_with b.store.pool.block_size) (plain_in b.store) + blocks_between b.store.pool.block_size (offset_of u) (length chunk.bytes) ≤ size_of b.store.pool
+    patch-room = omega (arith, all-room, fewer_blocks b.store.pool.block_size (offset_of u) (length chunk.bytes) chunk.more)
 
     -- and what is charged stays within its bound
     pub patch-charged : b.charged + blocks_between b.store.pool.block_size (offset_of u) (length chunk.bytes) ≤ b.settings.numbers.last_total
@@ -189,11 +197,14 @@ module _ (b : StoredBook) (t id place now : ℕ) (chunk : Chunk) (kept : IsBook 
         ∙ ap (λ bytes. blocks_between b.store.pool.block_size (offset_of u) (length bytes)) bytes-is
         ∙ ap (λ size. blocks_between size (offset_of u) (length chunk.bytes)) kept.size
 
-    -- where they take one, memory may lack for it
-    pub patch-lacks : (after : Progress) → after ≡ progress_in (row_with b.settings.numbers (head_row_of u) chunk now) → 0 < patch_blocks → IsOk (append_answer id chunk now b.charged b.settings.numbers part) × (0 < blocks_added b.settings.numbers chunk.offset (length chunk.bytes))
-    patch-lacks after after-is some = (
+    -- where all that is to come takes a block, memory may lack for it
+    pub patch-lacks : (after : Progress) (tenant count : ℕ) → after ≡ progress_in (row_with b.settings.numbers (head_row_of u) chunk now) → tenant ≡ t → count ≡ count_all chunk → 0 < blocks_between b.store.pool.block_size (offset_of (upload_at b.store tenant place)) count → IsOk (append_answer id chunk now b.charged b.settings.numbers part) × (0 < blocks_added b.settings.numbers chunk.offset (count_all chunk))
+    patch-lacks after tenant count after-is at is some = (
       subst IsOk (sym (patch-answer after after-is)) refl,
-      subst (λ offset. 0 < blocks_added b.settings.numbers offset (length chunk.bytes)) (sym patch-offset) some,
+      subst (λ offset. 0 < blocks_added b.settings.numbers offset (count_all chunk)) (sym patch-offset)
+          (subst (λ size. 0 < blocks_between size (offset_of u) (count_all chunk)) kept.size
+          (subst (λ count. 0 < blocks_between b.store.pool.block_size (offset_of u) count) is
+          (subst (λ t. 0 < blocks_between b.store.pool.block_size (offset_of (upload_at b.store t place)) count) at some))),
     )
 
 -- what was read where a PATCH of the upload at a place is tested
@@ -229,8 +240,10 @@ module _ {b w : StoredBook} {t id place now : ℕ} {chunk : Chunk} {tenant : ℕ
   pub read-after : (after : Progress) → after ≡ progress_in (row_with numbers (row_at progress) chunk now) → after ≡ progress_in (row_with b.settings.numbers (head_row_of (upload_at b.store t place)) chunk now)
   read-after after is = after-read b t tenant place chunk now numbers progress after r.numbers_read r.at r.progress_read is
 
-  -- no upload is longer than the greatest size
-  pub read-small : progress.offset ≤ 16777216
-  read-small =
-      let upload = seen-upload b t id place now r.kept read-within read-seen in
-      omega (arith, upload.size, max_size-within b.settings r.kept.lawful.settings, ap (λ (s : Progress). s.offset) read-progress)
+  -- all that is to come of a PATCH that is not refused ends within the greatest size
+  pub read-end : append_refusal b.settings.numbers (account_at b t) (head_row_of (upload_at b.store t place)) chunk ≡ None → progress.offset + count_all chunk ≤ 1099511627776
+  read-end none =
+      let u = upload_at b.store t place in
+      let can = IsAppendable-from_none b.settings.numbers (account_at b t) u chunk none in
+      let ends = ends_within b.settings.numbers (or_else u.declared chunk.length) (offset_of u + count_all chunk) can.all_fit in
+      omega (arith, ends.1, max_size-within b.settings r.kept.lawful.settings, ap (λ (s : Progress). s.offset) read-progress)

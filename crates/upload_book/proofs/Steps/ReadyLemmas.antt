@@ -5,6 +5,7 @@ use Rattle.block_bodies.specs.Bodies.{HasRoom}
 use Rattle.upload_book.specs.Account.{account_in}
 use Rattle.upload_book.specs.Append.{append_refusal, row_with}
 use Rattle.upload_book.specs.Book.{StoredBook, plain_of}
+use Rattle.upload_book.specs.Chunk.{count_all}
 use Rattle.upload_book.specs.declared.ready.ReadyChunk.{ReadyChunk}
 use Rattle.upload_book.specs.PlainBook.{PlainBook, tenant_book}
 use Rattle.upload_book.specs.Ready.{IsReadyForChunk}
@@ -43,7 +44,7 @@ module _ (b later : StoredBook) (r : ReadyChunk) (same : plain_of later ≡ plai
   pub ready-later : r.name.tenant < length b.settings.tenants → IsVisibleIn b.store r.name.tenant r.name.id r.now r.place
       → append_refusal b.settings.numbers (account_in b.settings.numbers (tenant_book (plain_of b) r.name.tenant) b.charged) (head_row_of (upload_at b.store r.name.tenant r.place)) r.chunk ≡ None
       → r.after ≡ progress_in (row_with b.settings.numbers (head_row_of (upload_at b.store r.name.tenant r.place)) r.chunk r.now)
-      → (0 < length r.chunk.bytes → HasRoom later.store.pool (own_chain (entry_at later.store r.name.tenant r.place).kept.pieces) (length r.chunk.bytes))
+      → (0 < count_all r.chunk → HasRoom later.store.pool (own_chain (entry_at later.store r.name.tenant r.place).kept.pieces) (count_all r.chunk))
       → IsReadyForChunk later r
   ready-later there seen accepted after room = record {
     there = omega (arith, there, ap (λ (p : PlainBook). length p.settings.tenants) same);

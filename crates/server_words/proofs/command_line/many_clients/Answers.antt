@@ -1,7 +1,7 @@
-use Rattle.std.proofs.Common.{◌∙◌, ap, codes}
+use Rattle.std.proofs.Common.{◌∙◌, ap, codes, refl}
 use Rattle.std.proofs.lemmas.Result.{IfOk-weaker}
-use Rattle.clap.specs.Words.{App, Rule, with_rule}
-use Rattle.server_words.specs.CommandLine.{number_rule, option_between, option_rule}
+use Rattle.clap.specs.Words.{App, Rule, rule_of, with_rule}
+use Rattle.server_words.specs.CommandLine.{number_rule, option_between}
 use Rattle.server_words.proofs.CommandLineLemmas.{added}
 use Rattle.server_words.proofs.command_line.many_clients.Goals as goal
 
@@ -14,9 +14,6 @@ message_seconds = option_between (codes "message-seconds") (codes "0") 0 86400
 abbrev least_rate : Rule
 least_rate = option_between (codes "least-rate") (codes "0") 0 1073741824
 
-abbrev body_memory : Rule
-body_memory = option_rule (codes "body-memory") (codes "268435456") 18446744073709551615
-
 abbrev pieces : Rule
 pieces = number_rule (codes "pieces") 65536 1048576
 
@@ -28,6 +25,7 @@ returns c =
     let one = added _ _ _ at_once c.in_ok-arg.ensures c.at_once.ensures.local c.at_once.ensures.rule in
     let two = added _ _ _ message_seconds c.in_ok-arg-2.ensures c.message_seconds.ensures.local c.message_seconds.ensures.rule ∙ ap (λ (a : App). with_rule a message_seconds) one in
     let three = added _ _ _ least_rate c.in_ok-arg-3.ensures c.least_rate.ensures.local c.least_rate.ensures.rule ∙ ap (λ (a : App). with_rule a least_rate) two in
-    let four = added _ _ _ body_memory c.in_ok-arg-4.ensures c.body_memory.ensures.local c.body_memory.ensures.rule ∙ ap (λ (a : App). with_rule a body_memory) three in
+    let body_memory = rule_of c.args.body_memory in
+    let four = added _ _ _ body_memory c.in_ok-arg-4.ensures c.requires refl ∙ ap (λ (a : App). with_rule a body_memory) three in
     let five = added _ _ _ pieces c.in_ok-arg-5.ensures c.pieces.ensures.local c.pieces.ensures.rule ∙ ap (λ (a : App). with_rule a pieces) four in
     IfOk-weaker c.arg-6.result _ _ (λ r h. added _ _ r max_body h c.max_body.ensures.local c.max_body.ensures.rule ∙ ap (λ (a : App). with_rule a max_body) five) c.arg-6.ensures

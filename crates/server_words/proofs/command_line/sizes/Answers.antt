@@ -23,12 +23,9 @@ uploads = option_rule (codes "uploads") (codes "64") 18446744073709551615
 pub returns : goal.returns
 returns c =
     let first = helped c.number.result c.help.result _ _ c.number.ensures.rule c.number.ensures.local c.help.ensures in
-    let second = helped c.number-2.result c.help-2.result _ _ c.number-2.ensures.rule c.number-2.ensures.local c.help-2.ensures in
-    let third = helped c.number-3.result c.help-3.result _ _ c.number-3.ensures.rule c.number-3.ensures.local c.help-3.ensures in
-    let fourth = helped c.number-4.result c.help-4.result _ _ c.number-4.ensures.rule c.number-4.ensures.local c.help-4.ensures in
-    let fifth = helped c.number-5.result c.help-5.result _ _ c.number-5.ensures.rule c.number-5.ensures.local c.help-5.ensures in
+    let fourth = helped c.number-2.result c.help-2.result _ _ c.number-2.ensures.rule c.number-2.ensures.local c.help-2.ensures in
     let one = added _ _ _ blocks c.in_ok-arg.ensures first.1 first.0 in
-    let two = added _ _ _ block_size c.in_ok-arg-2.ensures second.1 second.0 ∙ ap (λ (a : App). with_rule a block_size) one in
-    let three = added _ _ _ lifetime c.in_ok-arg-3.ensures third.1 third.0 ∙ ap (λ (a : App). with_rule a lifetime) two in
+    let two = added _ _ _ block_size c.in_ok-arg-2.ensures c.block_size.ensures.local c.block_size.ensures.rule ∙ ap (λ (a : App). with_rule a block_size) one in
+    let three = added _ _ _ lifetime c.in_ok-arg-3.ensures c.lifetime.ensures.local c.lifetime.ensures.rule ∙ ap (λ (a : App). with_rule a lifetime) two in
     let four = added _ _ _ max_size c.in_ok-arg-4.ensures fourth.1 fourth.0 ∙ ap (λ (a : App). with_rule a max_size) three in
-    IfOk-weaker c.arg-5.result _ _ (λ r h. added _ _ r uploads h fifth.1 fifth.0 ∙ ap (λ (a : App). with_rule a uploads) four) c.arg-5.ensures
+    IfOk-weaker c.arg-5.result _ _ (λ r h. added _ _ r uploads h c.uploads.ensures.local c.uploads.ensures.rule ∙ ap (λ (a : App). with_rule a uploads) four) c.arg-5.ensures

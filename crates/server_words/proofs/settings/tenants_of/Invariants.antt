@@ -2,7 +2,7 @@ use Rattle.std.proofs.Common.{◌≡◌, ◌++◌, drop}
 use Rattle.std.specs.Prelude.{option_map}
 use Rattle.clap.specs.Walk.{texts}
 use Rattle.upload_book.specs.Settings.{tenants_of}
-use Rattle.server_words.specs.Settings.{tenants_in}
+use Rattle.server_words.specs.Tenants.{tenants_in}
 use Rattle.server_words.proofs.settings.tenants_of.Given as goal
 
 -- the tenants so far and those of the words that are left are those of all words

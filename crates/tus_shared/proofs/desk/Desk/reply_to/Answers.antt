@@ -1,5 +1,5 @@
 use Rattle.std.proofs.Common.{◌≡◌, None, inl, rules, refl, sym, subst, ◌∙◌}
-use Rattle.upload_book.specs.Settings.{Settings, settings_fault}
+use Rattle.upload_book.specs.Settings.{AreSound, Settings}
 use Rattle.tus_steps.specs.Asked.{asked_in}
 use Rattle.head_board.specs.Events.{HaveHappened}
 use Rattle.tus_shared.proofs.HeadLemmas.{head-asks, is-refused-head, refused-answers, refused-asks}
@@ -10,7 +10,7 @@ returns-in-Refused g c =
     let s = g.C.Charges.settings in
     let r = c.args.request.now in
     let is = subst (λ (s : Settings). c.asked_of.result ≡ asked_in s r) c.self.invariant.settings_are c.asked_of.ensures.is in
-    let sound : settings_fault s ≡ None = subst (λ (s : Settings). settings_fault s ≡ None) c.self.invariant.settings_are c.numbers-sound.ensures.sound in
+    let sound : AreSound s = subst AreSound c.self.invariant.settings_are c.numbers-sound.ensures.sound in
     let happened : HaveHappened s c.args.self.now.seen = rw (← c.self.view_is) c.self.invariant.happened in
     rw c.refuse.ensures (record {
       answers = refused-answers s r c.args.now c.in-Refused.refusal c.args.self.now (sym c.in-Refused.is ∙ is) sound happened;

@@ -2,9 +2,9 @@ use Rattle.std.proofs.Common.{◌≡◌, ℕ, ◌+◌, ◌<◌, ◌≤◌, Bool,
 use Rattle.std.proofs.lemmas.Bool.Decides.{nat_tests}
 use Rattle.std.proofs.lemmas.List.{nil_from_length}
 use Rattle.block_pool.specs.Blocks.{Blocks, size_of}
-use Rattle.block_bodies.specs.Bodies.{HasRoom}
+use Rattle.block_bodies.specs.Bodies.{Chain, HasRoom}
 use Rattle.upload_book.specs.Book.{StoredBook, IsBook, plain_of}
-use Rattle.upload_book.specs.Chunk.{Chunk}
+use Rattle.upload_book.specs.Chunk.{Chunk, count_all}
 use Rattle.upload_book.specs.contracts.book.Book.{the_view}
 use Rattle.upload_book.specs.declared.ready.ReadyChunk.{ReadyChunk}
 use Rattle.upload_book.specs.declared.settings.Numbers.{Numbers}
@@ -19,6 +19,7 @@ use Rattle.upload_book.specs.Account.{blocks_between}
 use Rattle.upload_book.specs.BlockStore.{entry_at, upload_at}
 use Rattle.upload_book.specs.Upload.{offset_of}
 use Rattle.upload_book.specs.inside.Pieces.{own_chain}
+use Rattle.upload_book.proofs.Charge.PriceLemmas.{blocks_for-more}
 use Rattle.upload_book.proofs.Steps.BookSteps.{IsIndex, expiries-room_is, stored_tenants-settings}
 use Rattle.upload_book.proofs.Expiries.ExpirySteps.{AreExpiries-renewed, IsRenewed, renewed-few, renewed-known, renewed-room}
 use Rattle.upload_book.proofs.Steps.PatchSteps.{IsBook-patch, patch-alone, patch-answer, patch-charged, patch-follows, patch-free, patch-renewed, patch-room, patch-taken, plain-patch}
@@ -31,6 +32,12 @@ no_bytes bytes empty is holds = nil_from_length bytes (grind (arith, nat_tests))
 -- or that there are some
 some_bytes : (bytes : List ℕ) (empty : Bool) → empty ≡ eqb (length bytes) 0 → empty ≡ false → 0 < length bytes
 some_bytes bytes empty is fails = grind (arith, nat_tests)
+
+-- where there is room for more bytes there is for fewer
+fewer_room : (p : Blocks) (x : Chain) (few many : ℕ) → few ≤ many → HasRoom p x many → HasRoom p x few
+fewer_room p x few many less room =
+    let blocks = blocks_for-more p.block_size (x.len + few) (x.len + many) (omega (arith, less)) in
+    record { listed = omega (arith, blocks, room.listed); free = omega (arith, blocks, room.free) }
 
 -- the book was ready
 ready_as : (b w : StoredBook) (r : ReadyChunk) → b ≡ w → IsReadyForChunk w r → IsReadyForChunk b r
@@ -110,7 +117,7 @@ put-requires-clause-alone c =
     let ready = ready_as b c.args.self.now r c.self.view_is c.requires in
     let bytes : c.as_slice-bytes.result.now ≡ r.chunk.bytes = c.as_slice-bytes.ensures ∙ ap (λ (chunk : Chunk). chunk.bytes) c.chunk.view_is in
     let some : 0 < length r.chunk.bytes = subst (λ (bytes : List ℕ). 0 < length bytes) bytes (some_bytes c.as_slice-bytes.result.now c.is_empty.result c.is_empty.ensures c.if-is_empty.false) in
-    rw c.from-tenant.ensures (patch-alone b r.name.tenant r.name.id r.place r.now r.chunk c.self.invariant (stored_tenant_there b r c.self.invariant ready) ready.seen ready.accepted some)
+    rw c.from-tenant.ensures (patch-alone b r.name.tenant r.name.id r.place r.now r.chunk c.self.invariant (stored_tenant_there b r c.self.invariant ready) ready.seen ready.accepted (omega (arith, some)))
 
 pub put-requires-clause-room : goal.put-requires-clause-room
 put-requires-clause-room c =
@@ -127,7 +134,8 @@ put-requires-clause-listed c =
     let ready = ready_as b c.args.self.now r c.self.view_is c.requires in
     let bytes : c.as_slice-bytes.result.now ≡ r.chunk.bytes = c.as_slice-bytes.ensures ∙ ap (λ (chunk : Chunk). chunk.bytes) c.chunk.view_is in
     let some : 0 < length r.chunk.bytes = subst (λ (bytes : List ℕ). 0 < length bytes) bytes (some_bytes c.as_slice-bytes.result.now c.is_empty.result c.is_empty.ensures c.if-is_empty.false) in
-    rw c.from-tenant.ensures (subst (λ (bytes : List ℕ). HasRoom b.store.pool (own_chain (entry_at b.store r.name.tenant r.place).kept.pieces) (length bytes)) (sym bytes) (ready.room some))
+    let room = fewer_room b.store.pool (own_chain (entry_at b.store r.name.tenant r.place).kept.pieces) (length r.chunk.bytes) (count_all r.chunk) (omega arith) (ready.room (omega (arith, some))) in
+    rw c.from-tenant.ensures (subst (λ (bytes : List ℕ). HasRoom b.store.pool (own_chain (entry_at b.store r.name.tenant r.place).kept.pieces) (length bytes)) (sym bytes) room)
 
 -- what is charged in all fits
 fits_taken : (charged taken blocks most : ℕ) → most < 18446744073709551616 → taken ≡ blocks → charged + blocks ≤ most → Fits w64 (charged + taken)

@@ -1,7 +1,7 @@
-use Rattle.std.proofs.Common.{◌≡◌, ◌<◌, Bool, true, false, length, None, Result, Ok, Err, OnOk, OnErr, is_err, inl, inr, ap, refl, sym, subst, ◌∙◌, arith}
+use Rattle.std.proofs.Common.{◌≡◌, ◌+◌, ◌<◌, Bool, true, false, length, None, Result, Ok, Err, OnOk, OnErr, is_err, inl, inr, ap, refl, sym, subst, ◌∙◌, arith}
 use Rattle.block_bodies.specs.Bodies.{HasRoom}
 use Rattle.upload_book.specs.Book.{StoredBook, plain_of}
-use Rattle.upload_book.specs.Chunk.{Chunk}
+use Rattle.upload_book.specs.Chunk.{Chunk, count_all}
 use Rattle.upload_book.specs.contracts.book.Book.{the_view}
 use Rattle.upload_book.specs.declared.append.Refused.{Refused}
 use Rattle.upload_book.specs.declared.ready.ReadyChunk.{ReadyChunk}
@@ -11,9 +11,9 @@ use Rattle.upload_book.specs.Ready.{IsReadyForChunk}
 use Rattle.upload_book.specs.BlockStore.{entry_at}
 use Rattle.upload_book.specs.inside.Pieces.{own_chain}
 use Rattle.upload_book.proofs.Steps.BookLemmas.{book_with}
-use Rattle.upload_book.proofs.Steps.PatchSteps.{IsRead, patch-alone, patch-lacking, patch-lacks, patch-refused, patch-room, patch-taken, read-after, read-refusal, read-seen, read-small, read-progress, read-within}
+use Rattle.upload_book.proofs.Steps.PatchSteps.{IsRead, all-room, patch-alone, patch-lacking, patch-lacks, patch-refused, read-after, read-end, read-refusal, read-seen, read-progress, read-within}
 use Rattle.upload_book.proofs.Steps.ReadyLemmas.{ready-later}
-use Rattle.upload_book.proofs.book.Book.ready_at.Goals.{else-more-gt0-via-then-more-gt0+else-is_err, else-more-gt0-via-else-more-gt0}
+use Rattle.upload_book.proofs.book.Book.ready_at.Goals.{else-count-gt0-via-then-count-gt0+else-is_err, else-count-gt0-via-else-count-gt0}
 use Rattle.upload_book.proofs.book.Book.ready_at.Goals as goal
 
 pub with-after-requires : goal.with-after-requires
@@ -22,8 +22,8 @@ with-after-requires c =
     let name = c.args.name in
     let r : IsRead b c.args.self.now name.tenant name.id c.args.place c.args.now c.args.chunk c.from-tenant.result c.numbers-numbers.result.now c.account-account.result c.progress-progress.result =
     record { kept = c.self.invariant; is = c.self.view_is; there = c.requires.tenant; seen = c.requires.visible; at = c.from-tenant.ensures; numbers_read = c.numbers-numbers.ensures.value; account_read = c.account-account.ensures; progress_read = c.progress-progress.ensures } in
-    let count : c.len-more.result ≡ length c.args.chunk.bytes = c.len-more.ensures.value ∙ ap (λ (chunk : Chunk). length chunk.bytes) c.chunk.view_is in
-    omega (arith, read-small r, count, c.len-more.ensures)
+    let none = read-refusal r c.append_refusal.result None c.append_refusal.ensures c.in_default.is in
+    omega (arith, read-end r none)
 
 pub returns-in-Some-clause-refused : goal.returns-in-Some-clause-refused
 returns-in-Some-clause-refused c =
@@ -34,6 +34,16 @@ returns-in-Some-clause-refused c =
     let refused : Progress → Refused = λ s. record { refusal = c.in-Some.refusal; expires = s.expires } in
     inl (rw (← c.self.view_is) (ap (λ s. Err (refused s)) (read-progress r) ∙ sym (patch-refused b name.tenant name.id c.args.place c.args.now c.args.chunk c.self.invariant (read-within r) (read-seen r) c.in-Some.refusal (read-refusal r c.append_refusal.result _ c.append_refusal.ensures c.in-Some.is))))
 
+pub overflow_add-count : goal.overflow_add-count
+overflow_add-count c =
+    let b = the_view c.self.inside in
+    let name = c.args.name in
+    let r : IsRead b c.args.self.now name.tenant name.id c.args.place c.args.now c.args.chunk c.from-tenant.result c.numbers-numbers.result.now c.account-account.result c.progress-progress.result =
+    record { kept = c.self.invariant; is = c.self.view_is; there = c.requires.tenant; seen = c.requires.visible; at = c.from-tenant.ensures; numbers_read = c.numbers-numbers.ensures.value; account_read = c.account-account.ensures; progress_read = c.progress-progress.ensures } in
+    let none = read-refusal r c.append_refusal.result None c.append_refusal.ensures c.in_default.is in
+    let count : c.len.result + c.chunk.inside.more ≡ count_all c.args.chunk = omega (arith, c.len.ensures.value, ap (λ (chunk : Chunk). length chunk.bytes) c.chunk.view_is, ap (λ (chunk : Chunk). chunk.more) c.chunk.view_is) in
+    omega (arith, read-end r none, count)
+
 pub reserve-requires-clause-alone : goal.reserve-requires-clause-alone
 reserve-requires-clause-alone c =
     let b = the_view c.self.inside in
@@ -41,8 +51,8 @@ reserve-requires-clause-alone c =
     let r : IsRead b c.args.self.now name.tenant name.id c.args.place c.args.now c.args.chunk c.from-tenant.result c.numbers-numbers.result.now c.account-account.result c.progress-progress.result =
     record { kept = c.self.invariant; is = c.self.view_is; there = c.requires.tenant; seen = c.requires.visible; at = c.from-tenant.ensures; numbers_read = c.numbers-numbers.ensures.value; account_read = c.account-account.ensures; progress_read = c.progress-progress.ensures } in
     let none = read-refusal r c.append_refusal.result None c.append_refusal.ensures c.in_default.is in
-    let count : c.len-more.result ≡ length c.args.chunk.bytes = c.len-more.ensures.value ∙ ap (λ (chunk : Chunk). length chunk.bytes) c.chunk.view_is in
-    let some : 0 < length c.args.chunk.bytes = subst (λ n. 0 < n) count c.if-more-gt0.true in
+    let count : c.len.result + c.chunk.inside.more ≡ count_all c.args.chunk = omega (arith, c.len.ensures.value, ap (λ (chunk : Chunk). length chunk.bytes) c.chunk.view_is, ap (λ (chunk : Chunk). chunk.more) c.chunk.view_is) in
+    let some : 0 < count_all c.args.chunk = subst (λ n. 0 < n) count c.if-count-gt0.true in
     rw c.from-tenant.ensures (patch-alone b name.tenant name.id c.args.place c.args.now c.args.chunk c.self.invariant (read-within r) (read-seen r) none some)
 
 pub reserve-requires-clause-room : goal.reserve-requires-clause-room
@@ -52,8 +62,8 @@ reserve-requires-clause-room c =
     let r : IsRead b c.args.self.now name.tenant name.id c.args.place c.args.now c.args.chunk c.from-tenant.result c.numbers-numbers.result.now c.account-account.result c.progress-progress.result =
     record { kept = c.self.invariant; is = c.self.view_is; there = c.requires.tenant; seen = c.requires.visible; at = c.from-tenant.ensures; numbers_read = c.numbers-numbers.ensures.value; account_read = c.account-account.ensures; progress_read = c.progress-progress.ensures } in
     let none = read-refusal r c.append_refusal.result None c.append_refusal.ensures c.in_default.is in
-    let count : c.len-more.result ≡ length c.args.chunk.bytes = c.len-more.ensures.value ∙ ap (λ (chunk : Chunk). length chunk.bytes) c.chunk.view_is in
-    rw (c.from-tenant.ensures, count) (patch-room b name.tenant name.id c.args.place c.args.now c.args.chunk c.self.invariant (read-within r) (read-seen r) none)
+    let count : c.len.result + c.chunk.inside.more ≡ count_all c.args.chunk = omega (arith, c.len.ensures.value, ap (λ (chunk : Chunk). length chunk.bytes) c.chunk.view_is, ap (λ (chunk : Chunk). chunk.more) c.chunk.view_is) in
+    rw (c.from-tenant.ensures, count) (all-room b name.tenant name.id c.args.place c.args.now c.args.chunk c.self.invariant (read-within r) (read-seen r) none)
 
 -- what holds of an error holds where there is one
 of_err : {T E P : Type 0} (result : Result T E) (failed : Bool) → failed ≡ is_err result → failed ≡ true → OnErr result P → P
@@ -73,11 +83,10 @@ returns-then-is_err-clause-refused c =
     record { kept = c.self.invariant; is = c.self.view_is; there = c.requires.tenant; seen = c.requires.visible; at = c.from-tenant.ensures; numbers_read = c.numbers-numbers.ensures.value; account_read = c.account-account.ensures; progress_read = c.progress-progress.ensures } in
     let none = read-refusal r c.append_refusal.result None c.append_refusal.ensures c.in_default.is in
     let after = read-after r c.with-after.result c.with-after.ensures in
-    let count : c.len-more.result ≡ length c.args.chunk.bytes = c.len-more.ensures.value ∙ ap (λ (chunk : Chunk). length chunk.bytes) c.chunk.view_is in
+    let count : c.len.result + c.chunk.inside.more ≡ count_all c.args.chunk = omega (arith, c.len.ensures.value, ap (λ (chunk : Chunk). length chunk.bytes) c.chunk.view_is, ap (λ (chunk : Chunk). chunk.more) c.chunk.view_is) in
     let lacks = of_err c.reserve.result c.is_err.result c.is_err.ensures.value c.if-is_err.true c.reserve.ensures.memory in
-    let some = subst (λ n. 0 < n) (patch-taken b name.tenant name.id c.args.place c.args.now c.args.chunk c.self.invariant (read-within r) (read-seen r) none c.from-tenant.result _ c.args.chunk.bytes c.from-tenant.ensures refl refl) (rw count at lacks) in
     let refused : Progress → Refused = λ s. record { refusal = Memory; expires = s.expires } in
-    inr (rw (← c.self.view_is) (patch-lacks b name.tenant name.id c.args.place c.args.now c.args.chunk c.self.invariant (read-within r) (read-seen r) none c.with-after.result after some, ap (λ s. Err (refused s)) (read-progress r) ∙ sym (patch-lacking b name.tenant name.id c.args.place c.args.now c.args.chunk c.self.invariant (read-within r) (read-seen r))))
+    inr (rw (← c.self.view_is) (patch-lacks b name.tenant name.id c.args.place c.args.now c.args.chunk c.self.invariant (read-within r) (read-seen r) none c.with-after.result c.from-tenant.result _ after c.from-tenant.ensures count lacks, ap (λ s. Err (refused s)) (read-progress r) ∙ sym (patch-lacking b name.tenant name.id c.args.place c.args.now c.args.chunk c.self.invariant (read-within r) (read-seen r))))
 
 pub returns-clause-ready : goal.returns-clause-ready
 returns-clause-ready c =
@@ -87,22 +96,22 @@ returns-clause-ready c =
     record { kept = c.self.invariant; is = c.self.view_is; there = c.requires.tenant; seen = c.requires.visible; at = c.from-tenant.ensures; numbers_read = c.numbers-numbers.ensures.value; account_read = c.account-account.ensures; progress_read = c.progress-progress.ensures } in
     let none = read-refusal r c.append_refusal.result None c.append_refusal.ensures c.in_default.is in
     let after = read-after r c.with-after.result c.with-after.ensures in
-    let count : c.len-more.result ≡ length c.args.chunk.bytes = c.len-more.ensures.value ∙ ap (λ (chunk : Chunk). length chunk.bytes) c.chunk.view_is in
+    let count : c.len.result + c.chunk.inside.more ≡ count_all c.args.chunk = omega (arith, c.len.ensures.value, ap (λ (chunk : Chunk). length chunk.bytes) c.chunk.view_is, ap (λ (chunk : Chunk). chunk.more) c.chunk.view_is) in
     let ready : ReadyChunk = record { name = name; chunk = c.args.chunk; now = c.args.now; place = c.args.place; after = c.with-after.result } in
     let there : name.tenant < length b.settings.tenants = omega (arith, c.requires.tenant, ap (λ (b : StoredBook). length b.settings.tenants) c.self.view_is) in
-    elim c.else-more-gt0.branch [
-      | else-more-gt0-via-then-more-gt0+else-is_err w ↦
+    elim c.else-count-gt0.branch [
+      | else-count-gt0-via-then-count-gt0+else-is_err w ↦
           let later : StoredBook = record b { store = w.reserve.new.self } in
           let plain = of_ok w.reserve.result w.is_err.result w.is_err.ensures.value w.if-is_err.false w.reserve.ensures.plain in
           let listed = of_ok w.reserve.result w.is_err.result w.is_err.ensures.value w.if-is_err.false w.reserve.ensures.listed in
-          let room : HasRoom later.store.pool (own_chain (entry_at later.store name.tenant c.args.place).kept.pieces) (length c.args.chunk.bytes) =
-          subst (λ t. HasRoom later.store.pool (own_chain (entry_at later.store t c.args.place).kept.pieces) (length c.args.chunk.bytes)) c.from-tenant.ensures
+          let room : HasRoom later.store.pool (own_chain (entry_at later.store name.tenant c.args.place).kept.pieces) (count_all c.args.chunk) =
+          subst (λ t. HasRoom later.store.pool (own_chain (entry_at later.store t c.args.place).kept.pieces) (count_all c.args.chunk)) c.from-tenant.ensures
           (subst (λ n. HasRoom later.store.pool (own_chain (entry_at later.store c.from-tenant.result c.args.place).kept.pieces) n) count listed) in
           subst (λ (b : StoredBook). IsReadyForChunk b ready) (sym w.self-is)
           (ready-later b later ready (ap (λ tenants. book_with (plain_of b) tenants b.charged b.released) plain) there (read-seen r) none after (λ some. room))
-      | else-more-gt0-via-else-more-gt0 w ↦
+      | else-count-gt0-via-else-count-gt0 w ↦
           subst (λ (b : StoredBook). IsReadyForChunk b ready) (c.self.view_is ∙ sym w.self-is)
-          (ready-later b b ready refl there (read-seen r) none after (λ some. absurd (omega (arith, some, w.if-more-gt0.false, count))))
+          (ready-later b b ready refl there (read-seen r) none after (λ some. absurd (omega (arith, some, w.if-count-gt0.false, count))))
     ]
 
 -- the lists of an upload's blocks alone have more room

@@ -1,6 +1,6 @@
 use Rattle.std.proofs.Common.{sym, ◌∙◌, arith}
 use Rattle.upload_book.proofs.Lawful.TenantLists.{names_fit}
-use Rattle.upload_book.proofs.settings.Settings.new.Goals as goal
+use Rattle.upload_book.proofs.settings.Settings.within.Goals as goal
 
 pub of-requires : goal.of-requires
 of-requires c =
