@@ -115,7 +115,7 @@ class Terminal:
 
 
 def is_serve(command):
-    return "tus-server serve" in command
+    return re.search("tus-server (run|serve) ", command) is not None
 
 
 class Nginx:
@@ -185,7 +185,9 @@ def main():
 
     def text_of(file):
         with open(f"{TOP}/docs/{file}", encoding="utf-8") as opened:
-            return re.sub(r"\b(" + "|".join(ports) + r")\b", lambda found: ports[found[0]], opened.read())
+            text = re.sub(r"\b(" + "|".join(ports) + r")\b", lambda found: ports[found[0]], opened.read())
+        # `run` listens at its own port unless told.
+        return text if ports["8080"] == "8080" else text.replace("tus-server run ", f"tus-server run --port {ports['8080']} ")
 
     page = commands(text_of("TRY.md"))
     lacking = {section: [it for it in NEEDS.get(section, ["curl"]) if not is_there(it)] for section, _, _ in page}

@@ -52,9 +52,18 @@ class Server:
         self.port = port
         self.process = subprocess.Popen(words, stdout=subprocess.DEVNULL, preexec_fn=lambda: os.sched_setaffinity(0, processors))
         time.sleep(1)
+        self.wait()
         children = subprocess.run(['pgrep', '-P', str(self.process.pid)], capture_output=True, text=True).stdout.split()
         self.pids = [self.process.pid, *map(int, children)]
         self.small = '/small'
+
+    def wait(self):
+        """Waits until it listens, ten seconds at most."""
+        for _ in range(100):
+            try:
+                return socket.create_connection(('127.0.0.1', self.port)).close()
+            except ConnectionRefusedError:
+                time.sleep(0.1)
 
     def create(self):
         """Creates an upload of 100 bytes, which HEADs look at."""
@@ -119,11 +128,11 @@ def request(method, path, fields, body=b''):
     return '\r\n'.join(lines).encode() + b'\r\n\r\n' + body
 
 
-def patches(port, end, number, note=lambda: None):
-    """Sends 16 MiB again and again, each to an upload of its own, which it then deletes, and notes each."""
-    connection, body = socket.create_connection(('127.0.0.1', port)), bytes(16 * MIB)
+def patches(port, end, number, note=lambda: None, size=16 * MIB):
+    """Sends so many bytes again and again, each time to an upload of its own, which it then deletes, and notes each."""
+    connection, body = socket.create_connection(('127.0.0.1', port)), bytes(size)
     while time.monotonic() < end:
-        made = exchange(connection, request('POST', '/files/acme', [f'Upload-Length: {16 * MIB}']))
+        made = exchange(connection, request('POST', '/files/acme', [f'Upload-Length: {size}']))
         path = re.search(rb'Location: (\S+)', made).group(1).decode()
         fields = ['Upload-Offset: 0', 'Content-Type: application/offset+octet-stream']
         assert b' 204 ' in exchange(connection, request('PATCH', path, fields, body))

@@ -1,12 +1,15 @@
 #!/usr/bin/env python3
 """Random clients of one server: they create, send, join, ask, cut off and delete, and count what is charged.
 
-    bench/serve/soak.py PROGRAM [SECONDS [PAUSE]]
+    bench/serve/soak.py PROGRAM [SECONDS [PAUSE [WORD..]]]
 
-starts the program with 16 workers and keeps 500 connections busy for so long (600 seconds unless said), each with
-uploads of its own. Each client waits for PAUSE seconds (0.02 unless said) after each step. Every reply is compared with what the client expects, and the bytes of each upload that is
-downloaded with those that were sent. At the end the server's last line has to say what the clients counted.
+starts the program with 16 workers, and with these words, and keeps 500 connections busy for so long (600 seconds unless
+said), each with uploads of its own. Each client waits for PAUSE seconds (0.02 unless said) after each step. Every reply is
+compared with what the client expects, and the bytes of each upload that is downloaded with those that were sent. At the
+end the server's last line has to say what the clients counted. With `--journal FOLDER` among the words, `journal check`
+then has to find the uploads that the clients have.
 """
+import contextlib
 import http.client
 import random
 import socket
@@ -166,21 +169,30 @@ class Client(threading.Thread):
             self.connection.close()
 
 
+def is_kept(program, folder, clients):
+    """Whether a journal has the uploads of the clients, by their number and their bytes."""
+    told = subprocess.run([program, 'journal', 'check', folder], stdout=subprocess.PIPE, text=True).stdout.strip()
+    uploads = [upload for client in clients for upload in client.uploads.values()]
+    print(f'the journal: {told}\nthe clients: {len(uploads)} uploads, {sum(len(upload["bytes"]) for upload in uploads)} bytes')
+    return f' {len(uploads)} uploads, {sum(len(upload["bytes"]) for upload in uploads)} bytes;' in told
+
+
 def main():
-    program, seconds, pause = [*sys.argv[1:], *('600', '0.02')[len(sys.argv) - 2:]]
+    program, seconds, pause, *words = [*sys.argv[1:], *('600', '0.02')[len(sys.argv) - 2:]]
     seconds, pause = int(seconds), float(pause)
     server = subprocess.Popen(
         [program, 'serve', '--workers', str(WORKERS), '--connections', str(CONNECTIONS), '--at-once', str(CLIENTS), '--idle', '0', '--blocks', '131072',
-         *(f'{tenant}:8192' for tenant in TENANTS)], stdout=subprocess.PIPE, text=True)
+         *words, *(f'{tenant}:8192' for tenant in TENANTS)], stdout=subprocess.PIPE, text=True)
     port = int(server.stdout.readline().rsplit(':', 1)[1])
     clients = [Client(number, port, time.monotonic() + seconds, pause) for number in range(CLIENTS)]
     for client in clients:
         client.start()
     for client in clients:
         client.join()
-    # The workers end after all of their connections.
-    for _ in range(WORKERS * CONNECTIONS - sum(client.opened for client in clients)):
-        socket.create_connection(('127.0.0.1', port)).close()
+    # The workers end after all of their connections; of those that are closed at once some are lost before they are accepted.
+    while server.poll() is None:
+        with contextlib.suppress(OSError):
+            socket.create_connection(('127.0.0.1', port)).close()
     told = server.stdout.readline().strip()
     charged, released = sum(c.charged for c in clients), sum(c.released for c in clients)
     counted = f'charged {charged} released {released} held {charged - released}'
@@ -188,7 +200,9 @@ def main():
     print(f'{sum(c.requests for c in clients)} requests on {sum(c.opened for c in clients)} connections')
     print(f'the server:  {told}\nthe clients: {counted}')
     print('\n'.join(errors) if errors else 'no reply was another than expected')
-    sys.exit(server.wait() != 0 or told != counted or bool(errors))
+    status = server.wait()
+    kept = '--journal' not in words or is_kept(program, words[words.index('--journal') + 1], clients)
+    sys.exit(status != 0 or told != counted or bool(errors) or not kept)
 
 
 main()

@@ -1,5 +1,5 @@
 #!/usr/bin/python3
-"""Drives the page in a browser: it sends a file in one part and in parts, is paused, is loaded anew, and goes on.
+"""Drives the page in a browser: it sends a file in one part, in parts and in one PATCH, is paused, is loaded anew, and goes on.
 
     examples/browser/drive.py PROGRAM [PICTURE]
 
@@ -13,10 +13,12 @@ import http.server
 import json
 import os
 import shutil
+import ssl
 import sys
 import tempfile
 import threading
 import time
+import urllib.request
 
 from selenium import webdriver
 from selenium.webdriver.chrome.service import Service
@@ -28,6 +30,7 @@ from parts import Nginx, Server, ask, message, wait_for  # noqa: E402
 
 SIZE = 6_000_001
 SLOW = 1_500_000  # bytes a second, so that there is time for a pause
+LARGE = 100 << 20
 
 
 class Files(http.server.SimpleHTTPRequestHandler):
@@ -98,8 +101,9 @@ def offsets(nginx, urls):
     return [int(ask(nginx.connect, message('HEAD', '/' + url.split('/', 3)[3])).fields['upload-offset']) for url in urls if url]
 
 
-def compare(nginx, url, data, what):
-    got = ask(nginx.connect, message('GET', '/' + url.split('/', 3)[3])).body
+def compare(url, data, what):
+    with urllib.request.urlopen(url, context=ssl._create_unverified_context()) as reply:
+        got = reply.read()
     assert got == data, f'{what}: {len(got)} bytes, which are not those of the file'
     print(f'ok   {what}: {len(got)} bytes at {url.split("/", 3)[3]}', flush=True)
 
@@ -109,7 +113,7 @@ def drive(driver, nginx, address, file, data, origin, picture):
     page = Page(driver, address, file)
     page.choose(1)
     page.press('Upload')
-    compare(nginx, page.wait_for_end(), data, f'{origin}, one part')
+    compare(page.wait_for_end(), data, f'{origin}, one part')
 
     for parts, reloads in ((1, False), (3, False), (3, True)):
         page = Page(driver, address, file)
@@ -136,8 +140,27 @@ def drive(driver, nginx, address, file, data, origin, picture):
         page.press('Go on')
         url = page.wait_for_end()
         assert parts > 1 or url == urls[0], 'it began anew'
-        compare(nginx, url, data, f'{origin}, {parts} part{"s" * (parts > 1)}, {"loaded anew" if reloads else "paused"} at {sum(before)} bytes')
+        compare(url, data, f'{origin}, {parts} part{"s" * (parts > 1)}, {"loaded anew" if reloads else "paused"} at {sum(before)} bytes')
         assert page.stored() == [], 'something is kept of what is done'
+
+
+def drive_large(driver, nginx, address, file, data):
+    """One PATCH of the whole file, without a checksum, and another of what was missing after a pause."""
+    page = Page(driver, address, file)
+    speed(driver, LARGE // 4)
+    page['checked'].click()
+    page.choose(1)
+    page.press('Upload')
+    time.sleep(2)
+    page.press('Pause')
+    page.wait('the pause', lambda: page.told() == 'Paused.')
+    urls = page.stored()
+    before = offsets(nginx, urls)
+    assert 0 < before[0] < LARGE, before
+    speed(driver, -1)
+    page.press('Go on')
+    assert page.wait_for_end() == urls[0], 'it began anew'
+    compare(urls[0], data, f'one PATCH, paused at {before[0]} bytes, and another')
 
 
 def main():
@@ -145,7 +168,9 @@ def main():
     folder, data = tempfile.mkdtemp(), os.urandom(SIZE)
     file = f'{folder}/holiday pictures.bin'
     open(file, 'wb').write(data)
-    server = Server(program, '--max-size', '16777216', '--blocks', '65536', 'acme:65536')
+    large = f'{folder}/film.bin'
+    open(large, 'wb').write(os.urandom(LARGE))
+    server = Server(program, '--pieces', '262144', '--max-size', str(LARGE), '--blocks', '65536', 'acme:65536')
     elsewhere = http.server.ThreadingHTTPServer(('127.0.0.1', 0), functools.partial(Files, directory=f'{folder}/page'))
     threading.Thread(target=elsewhere.serve_forever, daemon=True).start()
     other = f'http://127.0.0.1:{elsewhere.server_port}'
@@ -160,6 +185,7 @@ def main():
         wait_for(elsewhere.server_port)
         drive(driver, nginx, f'{own}/', file, data, 'same origin', picture)
         drive(driver, nginx, f'{other}/', file, data, 'another origin', None)
+        drive_large(driver, nginx, f'{own}/', large, open(large, 'rb').read())
     finally:
         driver.quit()
         nginx.stop()

@@ -2,7 +2,7 @@
 // index.html says to which tenant, and at which server where that is another one than the page's own.
 'use strict';
 
-const CHUNK = 262144; // bytes of a PATCH
+const CHUNK = 262144; // bytes of a PATCH with a checksum
 const TRIES = 5; // without any progress
 const endpoint = new URL(document.documentElement.dataset.endpoint, location);
 const element = id => document.getElementById(id);
@@ -20,8 +20,9 @@ const pause = milliseconds => new Promise(done => setTimeout(done, milliseconds)
 
 // A file on its way: its parts, each with the bytes from `start` to `end`, the address of its upload, and how much was sent.
 class Transfer {
-    constructor(file, count) {
+    constructor(file, count, checked) {
         this.file = file;
+        this.checked = checked;
         this.key = `tus ${endpoint} ${file.name} ${file.size} ${file.lastModified}`;
         this.metadata = `filename ${base64(new TextEncoder().encode(file.name))}`;
         // What an earlier page left in the browser's storage: the addresses of the parts.
@@ -63,9 +64,11 @@ class Transfer {
         if (!part.url || !await this.find(part)) await this.create(part);
         while (part.start + part.sent < part.end) {
             const from = part.start + part.sent;
-            const bytes = await this.file.slice(from, Math.min(from + CHUNK, part.end)).arrayBuffer();
-            const fields = { 'Upload-Offset': part.sent, 'Upload-Checksum': `sha1 ${await digest(bytes)}` };
-            const reply = await ask('PATCH', part.url, { 'Content-Type': 'application/offset+octet-stream', ...fields }, signal, bytes);
+            const rest = this.file.slice(from, this.checked ? Math.min(from + CHUNK, part.end) : part.end);
+            const bytes = this.checked ? await rest.arrayBuffer() : rest;
+            const fields = { 'Content-Type': 'application/offset+octet-stream', 'Upload-Offset': part.sent };
+            if (this.checked) fields['Upload-Checksum'] = `sha1 ${await digest(bytes)}`;
+            const reply = await ask('PATCH', part.url, fields, signal, bytes);
             part.sent = Number(reply.headers.get('Upload-Offset'));
             this.tell();
         }
@@ -130,7 +133,7 @@ async function go() {
 }
 
 element('file').addEventListener('change', ({ target }) => {
-    transfer = new Transfer(target.files[0], Number(element('parts').value));
+    transfer = new Transfer(target.files[0], Number(element('parts').value), element('checked').checked);
     const known = transfer.parts.some(({ url }) => url);
     Object.assign(element('go'), { disabled: false, textContent: known ? 'Go on' : 'Upload' });
     element('done').hidden = true;
