@@ -38,10 +38,10 @@ budget 3500 'docs/OPERATIONS.md and docs/JOURNAL.md' docs/OPERATIONS.md docs/JOU
 budget 4500 docs/DECISIONS.md docs/DECISIONS.md
 budget 900 docs/SCALE.md docs/SCALE.md
 budget 5000 docs/PROVING.md <(sed '/^## The gate/,$d' docs/PROVING.md)
-budget 16000 crates/ crates/*/README.md
+budget 16000 'crates/ and refused_memory/' crates/*/README.md refused_memory/README.md
 budget 6000 bench/ bench/*/README.md
 
-pages=(README.md docs/*.md crates/*/README.md bench/*/README.md)
+pages=(README.md docs/*.md crates/*/README.md refused_memory/README.md bench/*/README.md)
 
 for page in "${pages[@]}"; do
     while read -r link; do
@@ -54,7 +54,7 @@ for page in "${pages[@]}"; do
     fi
 done
 
-names=$(find crates runs \( -name '*.rt' -o -name '*.antt' -o -name '*.edit' \) -exec cat {} + | grep -oE '[A-Za-z_][A-Za-z0-9_]*' | sort -u)
+names=$(find crates runs refused_memory \( -name '*.rt' -o -name '*.rt.txt' -o -name '*.antt' -o -name '*.edit' \) -exec cat {} + | grep -oE '[A-Za-z_][A-Za-z0-9_]*' | sort -u)
 while read -r name; do
     if [[ $name == */* ]]; then
         [ -e "crates/$name" ] || [ -e "crates/$name.antt" ] || [ -e "crates/$name.rt" ] || [ -e "$name" ] ||
