@@ -54,7 +54,7 @@ for page in "${pages[@]}"; do
     fi
 done
 
-names=$(find crates runs refused_memory \( -name '*.rt' -o -name '*.rt.txt' -o -name '*.antt' -o -name '*.edit' \) -exec cat {} + | grep -oE '[A-Za-z_][A-Za-z0-9_]*' | sort -u)
+names=$(find crates runs refused_memory \( -name '*.rt' -o -name '*.rt.in' -o -name '*.antt' -o -name '*.edit' \) -exec cat {} + | grep -oE '[A-Za-z_][A-Za-z0-9_]*' | sort -u)
 while read -r name; do
     if [[ $name == */* ]]; then
         [ -e "crates/$name" ] || [ -e "crates/$name.antt" ] || [ -e "crates/$name.rt" ] || [ -e "$name" ] ||
