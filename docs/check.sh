@@ -1,10 +1,11 @@
 #!/usr/bin/env bash
 # Checks the pages of the project, and prints one line for each fault:
-#   - each page has no more words (`wc -w`) than its budget, and the READMEs of crates/ and of bench/ together;
-#     of PROVING the section on the gate is not counted;
+#   - each page has no more words (`wc -w`) than its budget, and so have the READMEs of crates/ with that of refused_memory/,
+#     and those of bench/, together; of PROVING the section on the gate is not counted;
 #   - each link to a file of the repository leads to one;
-#   - each file, contract or definition in code font that CLAIMS names is there: a path with a slash below crates/ or at
-#     the top, any other name in a source, a definition or a mutant of the crates, or in a stored run;
+#   - each file, contract or definition in code font that CLAIMS names before its section on what is trusted is there: a path
+#     with a slash below crates/ or at the top, any other name in a source, a definition or a mutant of crates/ or of
+#     refused_memory/;
 #   - CLAIMS has the headline sentence, and no page begins a sentence with 'That' (a code block, a list of printed lines and
 #     TRY are left out).
 # The status is 1 where there was a fault, and else 0.
@@ -41,7 +42,7 @@ budget 5000 docs/PROVING.md <(sed '/^## The gate/,$d' docs/PROVING.md)
 budget 16000 'crates/ and refused_memory/' crates/*/README.md refused_memory/README.md
 budget 6000 bench/ bench/*/README.md
 
-pages=(README.md docs/*.md crates/*/README.md refused_memory/README.md bench/*/README.md)
+pages=(README.md mutants/README.md docs/*.md crates/*/README.md refused_memory/README.md bench/*/README.md)
 
 for page in "${pages[@]}"; do
     while read -r link; do
@@ -54,7 +55,7 @@ for page in "${pages[@]}"; do
     fi
 done
 
-names=$(find crates runs refused_memory \( -name '*.rt' -o -name '*.rt.in' -o -name '*.antt' -o -name '*.edit' \) -exec cat {} + | grep -oE '[A-Za-z_][A-Za-z0-9_]*' | sort -u)
+names=$(find crates refused_memory -name out -prune -o \( -name '*.rt' -o -name '*.rt.in' -o -name '*.antt' -o -name '*.edit' \) -exec cat {} + | grep -oE '[A-Za-z_][A-Za-z0-9_]*' | sort -u)
 while read -r name; do
     if [[ $name == */* ]]; then
         [ -e "crates/$name" ] || [ -e "crates/$name.antt" ] || [ -e "crates/$name.rt" ] || [ -e "$name" ] ||
@@ -64,7 +65,7 @@ while read -r name; do
             grep -qx -- "$word" <<<"$names" || fault "docs/CLAIMS.md names $name, of which $word is in no crate"
         done
     fi
-done < <(prose docs/CLAIMS.md | sed '/^## Trusted/,$d' | grep -o '`[^`]*`' | tr -d '`' | grep -E '^[A-Za-z_][A-Za-z0-9_/.]*(::[A-Za-z_]+)*$' | grep -v '/$' | sort -u)
+done < <(prose docs/CLAIMS.md | sed '/^## Trusted/,$d' | grep -o '`[^`]*`' | tr -d '`' | grep -E '^[A-Za-z_][A-Za-z0-9_/.]*(::[A-Za-z_][A-Za-z0-9_]*)*$' | grep -v '/$' | sort -u)
 grep -q "^> \*\*Whenever the store's lock is got, every block is free or counted by exactly its holders" docs/CLAIMS.md ||
     fault 'docs/CLAIMS.md lacks the headline sentence'
 

@@ -63,7 +63,10 @@ class Edit:
         """Returns the functions whose text it changes, as pairs of a file and a name, or None where it changes something else."""
         found = set()
         for file, old, _ in self.changes:
-            source = Source(f"{TOP}/crates/{self.crate}/{file}")
+            path = f"{TOP}/crates/{self.crate}/{file}"
+            if not os.path.isfile(path):
+                return None
+            source = Source(path)
             if source.text.count(old) != 1:
                 return None
             around = source.function_at(source.text[: source.text.index(old)].count("\n"))
@@ -76,6 +79,8 @@ class Edit:
         """Puts its texts in place in a copy of the crate. Returns whether each old text stood there once."""
         for file, old, new in self.changes:
             path = f"{folder}/{file}"
+            if not os.path.isfile(path):
+                return False
             with open(path, encoding="utf-8") as it:
                 text = it.read()
             if text.count(old) != 1:
@@ -85,7 +90,7 @@ class Edit:
         return True
 
     def has_clause(self):
-        """Returns whether the clause that it names is there: in this crate, one below it, or for what a call requires in the kit."""
+        """Returns whether the clause that it names is there: in this crate or one below it."""
         found = re.fullmatch(r"(?:(\w+)::)?(\w+) (ensures|requires|invariant|gives|safe)(?: (\w+))?", self.clause or "")
         if not found:
             return False

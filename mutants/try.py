@@ -137,11 +137,13 @@ def try_alone(copy, edits, tell):
 
 
 def try_crate(room, crate):
-    """Tries the mutants of a crate. Returns how many there are, and the names of those that were not refused."""
-    edits, copy, told = mutants_of(crate), Copy(room, crate), []
+    """Tries the mutants of a crate. Returns them, a line for each that was not refused, what was said, and the sum of the sources
+    on which they were tried."""
+    edits, stood, copy, told = mutants_of(crate), sum_of(crate), Copy(room, crate), []
     proved, said = copy.check()
     if not proved:
-        return len(edits), [f"{crate} is not proved:\n{said[-2000:]}"], told
+        told.append(said[-2000:])
+        return edits, [f"{crate}/{it.name} is not tried, since {crate} is not proved" for it in edits], told, stood
     refused = []
     for batch in in_batches(edits):
         refused += try_batch(copy, batch, told.append)
@@ -152,7 +154,7 @@ def try_crate(room, crate):
         left, refused = edits, []
     refused += try_alone(copy, left, told.append)
     shutil.rmtree(copy.top)
-    return len(edits), [f"{it.crate}/{it.name} survived" for it in edits if it not in refused], told
+    return edits, [f"{crate}/{it.name} survived" for it in edits if it not in refused], told, stood
 
 
 def build_below(names):
@@ -177,11 +179,11 @@ def is_tried(crate):
     return tried_lines().get(crate, " none").split()[-1] == sum_of(crate)
 
 
-def note(crate, count):
-    """Writes a crate's line in TRIED."""
-    lines = tried_lines() | {crate: f"{crate} {count} {time.strftime('%Y-%m-%d', time.gmtime())} {sum_of(crate)}"}
+def note(crate, line):
+    """Writes a crate's line in TRIED, or takes it away where there is none."""
+    lines = tried_lines() | {crate: line}
     with open(TRIED, "w", encoding="utf-8") as it:
-        it.writelines(f"{lines[name]}\n" for name in sorted(lines))
+        it.writelines(f"{lines[name]}\n" for name in sorted(lines) if lines[name])
 
 
 def part_of(names, part, parts):
@@ -199,12 +201,16 @@ def try_all(names, lanes):
     build_below(names)
     refused, survived = 0, []
     with tempfile.TemporaryDirectory(prefix="mutants-") as room, ThreadPoolExecutor(lanes) as pool:
-        for crate, outcome in [(it, pool.submit(try_crate, room, it)) for it in names]:
-            count, left, told = outcome.result()
-            print("\n".join(told), f"\n{crate}: {count - len(left)} of {count} refused", flush=True)
-            refused, survived = refused + count - len(left), survived + left
-            if not left:
-                note(crate, count)
+        try:
+            for crate, outcome in [(it, pool.submit(try_crate, room, it)) for it in names]:
+                edits, left, told, stood = outcome.result()
+                print("\n".join(told), f"\n{crate}: {len(edits) - len(left)} of {len(edits)} refused", flush=True)
+                refused, survived = refused + len(edits) - len(left), survived + left
+                day = time.strftime("%Y-%m-%d", time.gmtime())
+                note(crate, None if left else f"{crate} {len(edits)} {day} {stood}")
+        except BaseException:
+            pool.shutdown(cancel_futures=True)
+            raise
     for it in survived:
         print(it)
     print(f"{refused} refused, {len(survived)} survived")
@@ -226,13 +232,16 @@ def tell_tried():
 
 
 def check_clauses():
-    """Tells which mutants name no clause that is there, and returns how many."""
+    """Tells which mutants name no clause that is there, or stand in the folder of no crate, and returns how many."""
+    strays = [it for it in sorted(os.listdir(f"{TOP}/mutants")) if os.path.isdir(f"{TOP}/mutants/{it}") and it not in crates()]
+    for it in strays:
+        print(f"mutants/{it}: there is no such crate")
     edits = all_edits()
     lost = [it for it in edits if not it.has_clause()]
     for it in lost:
         print(f"{os.path.relpath(it.path, TOP)}: {it.clause or 'no clause'} is not there")
     print(f"{len(edits) - len(lost)} of {len(edits)} mutants name a clause that is there")
-    return len(lost)
+    return len(lost) + len(strays)
 
 
 def main():
@@ -247,8 +256,11 @@ def main():
         return tell_tried()
     if given.clauses:
         return check_clauses()
-    names = given.crates or [it for it in crates() if mutants_of(it) and not is_tried(it)]
-    return try_all(part_of(names, *given.slice), given.jobs)
+    part, parts = given.slice
+    if not 1 <= part <= parts or not set(given.crates) <= set(crates()):
+        asked.error("there is no such part, or no such crate")
+    names = part_of(given.crates or [it for it in crates() if mutants_of(it)], part, parts)
+    return try_all([it for it in names if given.crates or not is_tried(it)], given.jobs)
 
 
 if __name__ == "__main__":
