@@ -148,10 +148,9 @@ def sources_of(names):
 
 
 def edits_in(crate, folder):
-    """Returns the edits of a crate that stand in a folder."""
-    if not os.path.isdir(folder):
-        return []
-    return [Edit(crate, f"{folder}/{name}") for name in sorted(os.listdir(folder)) if name.endswith(".edit")]
+    """Returns the edits of a crate that stand in a folder or in one within it, by their names."""
+    found = [f"{at}/{name}" for at, _, names in os.walk(folder) for name in names if name.endswith(".edit")]
+    return [Edit(crate, path) for path in sorted(found, key=os.path.basename)]
 
 
 def mutants_of(crate):
