@@ -1,16 +1,18 @@
 #!/usr/bin/env python3
-"""What bodies in pieces do to HEADs: `serve`, which gathers bodies, and `run`, which stores them in pieces, by turns in one run.
+"""What bodies in pieces do to HEADs: `serve`, which gathers bodies, `run`, which stores them in pieces, and the least server
+(least.c), by turns in one run.
 
     bench/serve/pieces.py PROGRAM [TURNS]
 
 needs gcc and at least two processors. In each turn four clients send PATCHes of 16 MiB for two seconds, while another asks for an
 upload's offset again and again, each time a millisecond after its last reply; of `run` so they do with PATCHes of 240 MiB. Then
-four and 64 connections send PATCHes of 1 MiB. It prints the table of README.md: medians over the turns (5 unless told). The
-servers have one half of the processors, and the clients the other; of that the client that asks has one by itself, where there
-are two.
+four connections create uploads with 16 MiB, which the least server can't, and four and 64 send PATCHes of 1 MiB. It prints the
+table of README.md: medians over the turns (5 unless told). The servers have one half of the processors, and the clients the other;
+of that the client that asks has one by itself, where there are two.
 """
 import multiprocessing
 import os
+import re
 import socket
 import statistics
 import subprocess
@@ -19,29 +21,39 @@ import tempfile
 import time
 from measure import MIB, SECONDS, Server, built, exchange, patches, request
 
-PORTS = {'serve': 18080, 'run': 18081}
+PORTS = {'serve': 18080, 'run': 18081, 'least': 18082}
 BLOCKS = ['--blocks', '262144']
 WORDS = {
     'serve': ['serve', '--forever', '--max-size', '16777216', *BLOCKS],
     'run': ['run', *BLOCKS],
 }
-SIZES = {'serve': (16,), 'run': (16, 240)}
+SIZES = {'serve': (16,), 'run': (16, 240), 'least': (16,)}
 
 
-def counted(port, end, number, sent, size, processors):
-    """Sends PATCHes of so many bytes until the end, and counts them."""
+def creations(port, end, number, note, size):
+    """Creates uploads with so many bytes again and again, each of which it then deletes, and notes each."""
+    connection, body = socket.create_connection(('127.0.0.1', port)), bytes(size)
+    fields = [f'Upload-Length: {size}', 'Content-Type: application/offset+octet-stream']
+    while time.monotonic() < end:
+        made = exchange(connection, request('POST', '/files/acme', fields, body))
+        note()
+        exchange(connection, request('DELETE', re.search(rb'Location: (\S+)', made).group(1).decode(), []))
+
+
+def counted(work, port, end, number, sent, size, processors):
+    """Sends bodies of so many bytes until the end, and counts them."""
     def count():
         with sent.get_lock():
             sent.value += 1
     os.sched_setaffinity(0, processors)
-    patches(port, end, number, count, size)
+    work(port, end, number, count, size)
 
 
-def beside_patches(server, mebibytes, processors):
+def beside_bodies(work, server, mebibytes, processors):
     """How long each HEAD took while four clients sent so much at once, and how many megabytes they sent in a second."""
     end, sent = time.monotonic() + SECONDS, multiprocessing.Value('i', 0)
-    busy = [multiprocessing.Process(target=counted, args=(server.port, end, n, sent, mebibytes * MIB, processors[1:] or processors))
-            for n in range(4)]
+    words = server.port, end, 0, sent, mebibytes * MIB, processors[1:] or processors
+    busy = [multiprocessing.Process(target=counted, args=(work, *words)) for _ in range(4)]
     start = time.monotonic()
     for client in busy:
         client.start()
@@ -62,12 +74,14 @@ def turn(server, sizes, load, processors):
     """The numbers of a turn, under their names."""
     numbers = {}
     for mebibytes in sizes:
-        took, rate = beside_patches(server, mebibytes, processors)
+        took, rate = beside_bodies(patches, server, mebibytes, processors)
         numbers |= {
             f'HEADs above 1 ms beside PATCHes of {mebibytes} MiB': 100 * sum(it > 0.001 for it in took) / len(took),
             f'the slowest hundredth of HEADs beside {mebibytes} MiB': 1000 * sorted(took)[len(took) * 99 // 100],
             f'PATCHes of {mebibytes} MiB, 4 connections': rate,
         }
+    if server.port != PORTS['least']:
+        numbers['creations with 16 MiB, 4 connections'] = beside_bodies(creations, server, 16, processors)[1]
     for count in (4, 64):
         words = [load, 'patches', str(server.port), str(count), str(SECONDS), str(MIB)]
         done = int(subprocess.run(words, capture_output=True, check=True).stdout)
@@ -88,11 +102,11 @@ def main():
     processors = sorted(os.sched_getaffinity(0))
     for_servers, for_clients = processors[:len(processors) // 2], processors[len(processors) // 2:]
     with tempfile.TemporaryDirectory() as folder:
-        load = built(folder, 'load')
+        load, least = built(folder, 'load'), built(folder, 'least')
         servers = {}
         for name, port in PORTS.items():
-            words = [program, *WORDS[name], '--workers', str(len(for_servers)), '--idle', '0', '--port', str(port), 'acme:262143', 'beta:1']
-            servers[name] = Server(port, words, for_servers)
+            words = [program, *WORDS.get(name, ()), '--workers', str(len(for_servers)), '--idle', '0', '--port', str(port), 'acme:262143', 'beta:1']
+            servers[name] = Server(port, words if name in WORDS else [least, str(port), '70'], for_servers)
         os.sched_setaffinity(0, for_clients)
         found = {name: [] for name in servers}
         for server in servers.values():
@@ -100,7 +114,7 @@ def main():
         for _ in range(turns):
             for name, server in servers.items():
                 found[name].append(turn(server, SIZES[name], load, for_clients))
-        print(f"| what | {' | '.join(f'`{name}`' for name in servers)} |\n|---|---|---|")
+        print(f"| what | {' | '.join(f'`{name}`' for name in servers)} |\n|{'---|' * (1 + len(servers))}")
         for what in found['run'][0]:
             print(f"| {what} | {' | '.join(shown(what, numbers) for numbers in found.values())} |")
         for server in servers.values():

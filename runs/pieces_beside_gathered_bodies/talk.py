@@ -18,19 +18,23 @@ def told(*messages):
             print(head.splitlines()[0], body)
 
 
+def checksum(body):
+    return f'Upload-Checksum: sha1 {base64.b64encode(hashlib.sha1(body).digest()).decode()}'
+
+
 def checked(body):
-    sum_of = base64.b64encode(hashlib.sha1(body).digest()).decode()
-    return request('PATCH', '/files/acme/2', *PATCH, 'Upload-Offset: 0', f'Upload-Checksum: sha1 {sum_of}', body=body)
+    return request('PATCH', '/files/acme/2', *PATCH, 'Upload-Offset: 0', checksum(body), body=body)
 
 
-def created(body):
-    return request('POST', '/files/acme', f'Upload-Length: {len(BODY)}', *PATCH, body=body)
+def created(body, *fields):
+    return request('POST', '/files/acme', f'Upload-Length: {len(BODY)}', *PATCH, *fields, body=body)
 
 
 server = Server(sys.argv[1:])
 told(creation('acme', len(BODY)), patch('/files/acme/1', 0, BODY), creation('acme', len(BODY)))
 told(checked(BODY[:MOST + 1]))
 told(checked(BODY[:MOST]))
-told(created(BODY[:MOST + 1]))
-told(created(BODY[:MOST]))
+told(created(BODY[:MOST + 1], checksum(BODY[:MOST + 1])))
+told(created(BODY[:MOST], checksum(BODY[:MOST])))
+told(created(BODY))
 server.end()

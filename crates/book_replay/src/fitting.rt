@@ -1,14 +1,14 @@
 //! What the numbers of a change are.
 ghost use Rattle.std.specs.Prelude.{◌≡◌, ◌<◌, ◌≤◌, ◌^◌, ℕ, length, option_map, IfSome};
 ghost use Rattle.std.specs.List.{AllByRecursion};
-ghost use Rattle.journal_records.specs.Records.{FitsBack, FitsChange, FitsChunk, FitsCheck, FitsFinal, FitsPiece, FitsSegment, FitsUpload, IsNumber};
+ghost use Rattle.journal_records.specs.Records.{FitsBack, FitsChange, FitsChunk, FitsCheck, FitsFinal, FitsFirst, FitsPiece, FitsSegment, FitsUpload, IsNumber};
 ghost use Rattle.upload_book.specs.Change.{CanBeMade};
 ghost use Rattle.upload_book.specs.snapshot.Restore.{CanBePutBack, IsRestorable};
 
 use tus_text::{Checksum, DIGEST_LEN};
 use upload_book::{
-    Change, Chunk, KeptSegment, KeptUpload, Moment, NewFinal, NewUpload, Restored, RestoredSegment,
-    RestoredUpload,
+    Change, Chunk, FirstChunk, KeptSegment, KeptUpload, Moment, NewFinal, NewUpload, Restored,
+    RestoredSegment, RestoredUpload,
 };
 
 /// Says of a change which a book may be asked for that a record holds its numbers, and does nothing.
@@ -19,7 +19,7 @@ pub fn tell_fits(tenants: usize, change: &Change)
     match change {
         Change::Create { new, first, .. } => {
             tell_upload(new);
-            tell_check(&first.check);
+            tell_first(first);
         }
         Change::Append { name, chunk } => {
             tell_id(name.id);
@@ -126,6 +126,13 @@ fn tell_upload(new: &NewUpload)
     tell_number(new.length);
     let _metadata = new.metadata.len();
     let _concat = new.concat.len();
+}
+
+fn tell_first(first: &FirstChunk)
+    ensures { FitsFirst first.now }
+{
+    let _more = first.more;
+    tell_check(&first.check);
 }
 
 fn tell_chunk(chunk: &Chunk)

@@ -42,6 +42,7 @@ fn creation() -> Change<'static>
         typed: true,
         check: None,
         bytes: Payload::new(b"hello"),
+        more: 0,
     };
     Change::Create {
         tenant: 0,

@@ -1,7 +1,7 @@
 -- The second half of a turn: what is pending for each thing that came in, and what was sent of it.
 use Rattle.std.proofs.Common.{◌≡◌, ◌≢◌, ℕ, Bool, true, false, List, [], ◌∷◌, ◌++◌, length, ◌≤◌, Option, Some, None, IfSome, inl, ap, Result, Ok, Err, IfOk, IfErr, take, refl, sym, subst, ◌∙◌, append-nil}
 use Rattle.std.specs.Io.KnownBytes.{Appends}
-use Rattle.tus_steps.specs.InPieces.{IsPlainPatch}
+use Rattle.tus_steps.specs.InPieces.{MayComeInPieces}
 use Rattle.tus_steps.specs.Request.{Request}
 use Rattle.tus_steps.specs.declared.reply.Reply.{Reply}
 use Rattle.http_wire.specs.inside.Ahead.{Ahead}
@@ -222,6 +222,6 @@ pub Answers-unnoted : (steps : List Answering → Request → ℕ → Reply → 
 Answers-unnoted steps now a i put before r h = subst (λ after. AnswersTurn steps now a i put before after r) (sym (append-nil before)) h
 
 -- a request that is answered as one is noted, whether bodies are taken in pieces or not
-pub NotesBy-one : (piece : Option ℕ) (before : List Answering) (q : Answering) → IfSome piece (λ n. IsPlainPatch q.request → length q.request.body ≤ n) → NotesBy piece before q.request q.now q.reply (before ++ q ∷ [])
+pub NotesBy-one : (piece : Option ℕ) (before : List Answering) (q : Answering) → IfSome piece (λ n. MayComeInPieces q.request → length q.request.body ≤ n) → NotesBy piece before q.request q.now q.reply (before ++ q ∷ [])
 NotesBy-one None before q few = refl
 NotesBy-one (Some n) before q few = inl (few, refl)

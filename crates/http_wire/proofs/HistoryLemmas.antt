@@ -1,5 +1,5 @@
 -- What each call of a connection adds to its history.
-use Rattle.std.proofs.Common.{◌≡◌, ℕ, List, [], ◌∷◌, ◌++◌, ◌≤◌, length, take, drop, Option, Some, None, Result, Ok, Err, refl, ap, sym, subst, subst₂, ◌∙◌, append-nil, append_assoc}
+use Rattle.std.proofs.Common.{◌≡◌, ℕ, List, [], ◌∷◌, ◌++◌, ◌≤◌, ◌<◌, length, take, drop, Option, Some, None, Result, Ok, Err, refl, ap, sym, subst, subst₂, ◌∙◌, append-nil, append_assoc}
 use Rattle.std.proofs.lemmas.List.Elements.{All-nil}
 use Rattle.std.proofs.lemmas.List.{take-append-drop, nil_from_length}
 use Rattle.http_wire.specs.ConnectionCalls.{BreaksTo}
@@ -7,7 +7,8 @@ use Rattle.http_wire.specs.Exchange.{Exchange, followed}
 use Rattle.http_wire.specs.Incoming.{FramedRequest}
 use Rattle.http_wire.specs.Layout.{request_at}
 use Rattle.http_wire.specs.OnConnection.{IsFresh, OnConnection, StandsIn, body_in, owed_in, phase_after, turn_end}
-use Rattle.http_wire.specs.History.{Answering, AreGiven, HasHistory, NotesBy, History, StandsAfter, StandsAt, Stood, StoodInPieces, gave, noted, noted_before, nothing_yet, told, told_with, took}
+use Rattle.tus_steps.specs.InPieces.{behind}
+use Rattle.http_wire.specs.History.{Answering, AreGiven, HasHistory, NotesBy, History, StandsAfter, StandsAt, Stood, StoodInPieces, behind_pieces, gave, noted, noted_before, nothing_yet, told, told_with, took}
 use Rattle.http_wire.specs.PiecedBody.{IsTaken}
 use Rattle.http_wire.specs.Turns.{Answered, Breaks, BreaksTurn, Converses, LastTurn, MayRemain, TakesTurn, Turns}
 use Rattle.http_wire.specs.declared.conversation.Ended.{Ended}
@@ -21,11 +22,11 @@ use Rattle.http_wire.specs.declared.read.stage.Stage.TheVariants.{Head, Body, Pi
 use Rattle.http_wire.specs.inside.Ahead.{Ahead}
 use Rattle.http_wire.specs.inside.HeadSearch.{Searching, search_start}
 use Rattle.http_wire.specs.inside.Sending.{OnOutbox}
-use Rattle.http_wire.specs.inside.Standing.{Fits, KeepsBody, Standing, pieced}
+use Rattle.http_wire.specs.inside.Standing.{Fits, KeepsBody, Standing, StaysBody, pieced}
 use Rattle.http_wire.specs.inside.TurnFinish.{AnswersTurn}
 use Rattle.http_wire.proofs.ConversationLemmas.{Breaks-after, Converses-last, Reached-more}
 use Rattle.http_wire.proofs.FindLemmas.{Searching-start}
-use Rattle.http_wire.proofs.PieceLemmas.{IsTaken-kept, IsTaken-more, IsTaken-same}
+use Rattle.http_wire.proofs.PieceLemmas.{IsTaken-kept, IsTaken-more, IsTaken-same, none-given}
 use Rattle.http_wire.proofs.StageLemmas.{Standing-kept, Standing-more}
 use Rattle.http_wire.proofs.TurnLemmas.{BreaksTurn-next_message, TakesTurn-finished}
 use Rattle.http_wire.specs.declared.body_limits.BodyLimits.{BodyLimits}
@@ -131,13 +132,14 @@ Stood-on p got put c new b here there went size piece pending h k =
       sent = ap (λ l. p.handed ++ l) pending ∙ sym (append_assoc p.handed c.write_buffer.pending put) ∙ ap (λ l. l ++ put) h.sent ∙ append_assoc h.text h.said put;
       taken = subst (λ m. IsTaken m (h.start ++ got) (h.said ++ put) went b there) (sym size) k;
       given = subst₂ (λ head gone. AreGiven (request_at b.layout head) b.layout.body_len 0 h.pieces gone) (sym same.1) (sym same.0) h.given;
+      asks = subst (λ head. behind_pieces (request_at b.layout head) h.pieces ≡ behind b.created (request_at b.layout head)) (sym same.1) h.asks;
       sized = h.sized;
     }
 
 -- nothing was taken in pieces of a body that begins
 Stood-begins : (p : History) (put : List ℕ) (c new : OnConnection) (b : PiecedBody) (there went : List ℕ) → new.limits ≡ c.limits → new.piece ≡ c.piece → new.write_buffer.pending ≡ c.write_buffer.pending ++ put
-    → b.given ≡ 0 → (h : Stood p c) → IsTaken c.limits h.start (h.said ++ put) went b there → StoodInPieces p new b there
-Stood-begins p put c new b there went size piece pending none h k = record {
+    → b.given ≡ 0 → b.created ≡ None → (h : Stood p c) → IsTaken c.limits h.start (h.said ++ put) went b there → StoodInPieces p new b there
+Stood-begins p put c new b there went size piece pending none fresh h k = record {
   start = h.start;
   said = h.said ++ put;
   text = h.text;
@@ -149,8 +151,23 @@ Stood-begins p put c new b there went size piece pending none h k = record {
   sent = ap (λ l. p.handed ++ l) pending ∙ sym (append_assoc p.handed c.write_buffer.pending put) ∙ ap (λ l. l ++ put) h.sent ∙ append_assoc h.text h.said put;
   taken = subst (λ m. IsTaken m h.start (h.said ++ put) went b there) (sym size) k;
   given = nil_from_length went (k.given ∙ none);
+  asks = rw fresh refl;
   sized = All-nil (λ (q : Answering). b.piece ≤ length q.request.body);
 }
+
+-- a body of which nothing was taken is given up: it is as one that was gathered
+Stood-given_up : (p : History) (c : OnConnection) (b : PiecedBody) (q : Phase FramedRequest) → c.phase ≡ q → b.given ≡ 0 → 0 < b.piece → (h : StoodInPieces p c b c.read_buffer.held) → StandsIn c.limits h.start h.said c.read_buffer q → Stood p c
+Stood-given_up p c b q at none some h stands =
+    let no_pieces : h.pieces ≡ [] = none-given (request_at b.layout (take b.layout.head_len c.read_buffer.held)) b.layout.body_len 0 b.piece h.pieces h.gone h.given h.sized some (h.taken.given ∙ none) in
+    let answered : p.answered ≡ h.before = h.answered ∙ ap (λ l. h.before ++ l) no_pieces ∙ append-nil h.before in
+    record {
+      start = h.start;
+      said = h.said;
+      text = h.text;
+      reached = λ rest. subst (λ before. Turns (NotesBy c.piece) c.limits p.moments (followed (told_with p h.text before) rest) (h.start ++ rest)) (sym answered) (h.reached rest);
+      sent = h.sent;
+      stands = subst (StandsIn c.limits h.start h.said c.read_buffer) (sym at) stands;
+    }
 
 -- nothing was taken
 took-nothing : (p : History) (c : OnConnection) (b : PiecedBody) (here : List ℕ) → StoodInPieces (took p []) c b here → StoodInPieces p c b here
@@ -188,13 +205,15 @@ History-looked p c s a q o looks keeps h = go s looks keeps h (body_in q) refl
     begins s looks h (Some b) is keeps =
         let put = looks h.start h.said h.stands in
         let taken = taken-in c.limits h.start (h.said ++ put.0) a q b is put.2 in
-        pieces-history p (onto c a q o) b is (Stood-begins p put.0 (record c { phase = Looking s }) (onto c a q o) b (here_in a q) taken.0 refl refl put.1 keeps.0 h taken.1)
+        pieces-history p (onto c a q o) b is (Stood-begins p put.0 (record c { phase = Looking s }) (onto c a q o) b (here_in a q) taken.0 refl refl put.1 keeps.0 keeps.1 h taken.1)
 
     go : (s : Stage) → ((bytes said : List ℕ) → Standing c.limits bytes said c.read_buffer s → (put : List ℕ) × (o.pending ≡ c.write_buffer.pending ++ put) × StandsIn c.limits bytes (said ++ put) a q)
         → KeepsBody c.piece (pieced s) (body_in q) → StandsAt p (record c { phase = Looking s }) s → (body : Option PiecedBody) → body_in q ≡ body → StandsAfter p (onto c a q o) q
     go (Head t) looks keeps h body is = begins (Head t) looks h body is (subst (KeepsBody c.piece None) is keeps)
     go (Body l) looks keeps h body is = begins (Body l) looks h body is (subst (KeepsBody c.piece None) is keeps)
-    go (Pieces b) looks keeps h None is = absurd (subst (KeepsBody c.piece (Some b)) is keeps)
+    go (Pieces b) looks keeps h None is =
+        let given_up = subst (KeepsBody c.piece (Some b)) is keeps in
+        begins (Pieces b) looks (Stood-given_up p (record c { phase = Looking (Pieces b) }) b (Looking (Pieces b)) refl given_up.0 given_up.1 h (h.gone, h.taken)) None is tt
     go (Pieces b) looks keeps h (Some d) is =
         let same : d ≡ b = subst (KeepsBody c.piece (Some b)) is keeps in
         let put = looks h.start h.said (h.gone, h.taken) in
@@ -246,6 +265,7 @@ History-kept p c s a held h = go s h
       sent = h.sent;
       taken = IsTaken-kept c.limits h.start h.said h.gone b c.read_buffer.held a.held h.taken held;
       given = subst (λ l. AreGiven (request_at b.layout (take b.layout.head_len l)) b.layout.body_len 0 h.pieces h.gone) (sym held) h.given;
+      asks = subst (λ l. behind_pieces (request_at b.layout (take b.layout.head_len l)) h.pieces ≡ behind b.created (request_at b.layout (take b.layout.head_len l))) (sym held) h.asks;
       sized = h.sized;
     }
 
@@ -259,11 +279,11 @@ History-again p c s a held h = go s (History-kept p c s a held h)
     go : (s : Stage) → StandsAt p (record c { phase = Waiting s; read_buffer = a }) s → StandsAt p (record c { phase = Looking s; read_buffer = a }) s
     go (Head t) h = stood (Head t) h
     go (Body l) h = stood (Body l) h
-    go (Pieces b) h = record { start = h.start; said = h.said; text = h.text; gone = h.gone; before = h.before; pieces = h.pieces; answered = h.answered; reached = h.reached; sent = h.sent; taken = h.taken; given = h.given; sized = h.sized }
+    go (Pieces b) h = record { start = h.start; said = h.said; text = h.text; gone = h.gone; before = h.before; pieces = h.pieces; answered = h.answered; reached = h.reached; sent = h.sent; taken = h.taken; given = h.given; asks = h.asks; sized = h.sized }
 
 -- a read failed
 pub History-broke : (p : History) (c : OnConnection) (s : Stage) (a : Ahead) (q : Phase FramedRequest) → ((bytes said : List ℕ) → Standing c.limits bytes said c.read_buffer s → BreaksTo c.limits bytes said a q)
-    → body_in q ≡ pieced s → StandsAt p (record c { phase = Waiting s }) s → StandsAfter p (onto c a q c.write_buffer) q
+    → StaysBody (pieced s) (body_in q) → StandsAt p (record c { phase = Waiting s }) s → StandsAfter p (onto c a q c.write_buffer) q
 History-broke p c s a q breaks body h = by s breaks body h
   where
     went : (s : Stage) (q : Phase FramedRequest) → body_in q ≡ None → (h : Stood p (record c { phase = Waiting s })) → BreaksTo c.limits h.start h.said a q → StandsAfter p (onto c a q c.write_buffer) q
@@ -291,15 +311,28 @@ History-broke p c s a q breaks body h = by s breaks body h
     owed b (Over r) is h breaks = absurd cc
     owed b (Stopped r) is h breaks = absurd breaks
 
-    by : (s : Stage) → ((bytes said : List ℕ) → Standing c.limits bytes said c.read_buffer s → BreaksTo c.limits bytes said a q) → body_in q ≡ pieced s → StandsAt p (record c { phase = Waiting s }) s
-        → StandsAfter p (onto c a q c.write_buffer) q
-    by (Head t) breaks body h = went (Head t) q body h (breaks h.start h.said h.stands)
-    by (Body l) breaks body h = went (Body l) q body h (breaks h.start h.said h.stands)
-    by (Pieces b) breaks body h =
+    -- no body begins with a read that failed
+    none-begins : (made : Option PiecedBody) → StaysBody None made → made ≡ None
+    none-begins None stays = refl
+    none-begins (Some b) stays = absurd stays
+
+    pieces : (b : PiecedBody) → ((bytes said : List ℕ) → Standing c.limits bytes said c.read_buffer (Pieces b) → BreaksTo c.limits bytes said a q) → (made : Option PiecedBody) → body_in q ≡ made → StaysBody (Some b) made
+        → StoodInPieces p (record c { phase = Waiting (Pieces b) }) b c.read_buffer.held → StandsAfter p (onto c a q c.write_buffer) q
+    pieces b breaks None is keeps h =
+        let stood = Stood-given_up p (record c { phase = Waiting (Pieces b) }) b (Waiting (Pieces b)) refl keeps.0 keeps.1 h (h.gone, h.taken) in
+        went (Pieces b) q is stood (breaks stood.start stood.said stood.stands)
+    pieces b breaks (Some d) is keeps h =
+        let body : body_in q ≡ Some b = is ∙ ap Some keeps in
         let taken = taken-in c.limits h.start h.said a q b body (owed b q body h (breaks h.start h.said (h.gone, h.taken))) in
         pieces-history p (onto c a q c.write_buffer) b body
         (Stood-looked p [] (record c { phase = Waiting (Pieces b) }) (onto c a q c.write_buffer) b c.read_buffer.held (here_in a q) taken.0 refl refl (sym (append-nil c.write_buffer.pending)) h
         (subst (λ said. IsTaken c.limits h.start said taken.0 b (here_in a q)) (sym (append-nil h.said)) taken.1))
+
+    by : (s : Stage) → ((bytes said : List ℕ) → Standing c.limits bytes said c.read_buffer s → BreaksTo c.limits bytes said a q) → StaysBody (pieced s) (body_in q) → StandsAt p (record c { phase = Waiting s }) s
+        → StandsAfter p (onto c a q c.write_buffer) q
+    by (Head t) breaks keeps h = went (Head t) q (none-begins (body_in q) keeps) h (breaks h.start h.said h.stands)
+    by (Body l) breaks keeps h = went (Body l) q (none-begins (body_in q) keeps) h (breaks h.start h.said h.stands)
+    by (Pieces b) breaks keeps h = pieces b breaks (body_in q) refl keeps h
 
 -- what is owed came in
 owing-of : (q : Phase FramedRequest) (i : Incoming FramedRequest) → owed_in q ≡ Some i → q ≡ Owing i
@@ -385,7 +418,7 @@ History-sent p n old new pending same history = subst (HasHistory (gave p (take 
     stood h = record { start = h.start; said = h.said; text = h.text; reached = h.reached; sent = whole ∙ h.sent; stands = h.stands }
 
     in_pieces : (b : PiecedBody) (here : List ℕ) → StoodInPieces p old b here → StoodInPieces (gave p (take n old.write_buffer.pending)) (record old { write_buffer = new.write_buffer }) b here
-    in_pieces b here h = record { start = h.start; said = h.said; text = h.text; gone = h.gone; before = h.before; pieces = h.pieces; answered = h.answered; reached = h.reached; sent = whole ∙ h.sent; taken = h.taken; given = h.given; sized = h.sized }
+    in_pieces b here h = record { start = h.start; said = h.said; text = h.text; gone = h.gone; before = h.before; pieces = h.pieces; answered = h.answered; reached = h.reached; sent = whole ∙ h.sent; taken = h.taken; given = h.given; asks = h.asks; sized = h.sized }
 
     at_stage : (s : Stage) → StandsAt p old s → StandsAt (gave p (take n old.write_buffer.pending)) (record old { write_buffer = new.write_buffer }) s
     at_stage (Head s) h = stood h

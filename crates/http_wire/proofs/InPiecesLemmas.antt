@@ -4,10 +4,10 @@ use Rattle.std.proofs.lemmas.List.Elements.{All-nil, All-cons, All-head, All-tai
 use Rattle.std.proofs.lemmas.List.{take_at, drop_at, take_all}
 use Rattle.tus_steps.specs.Request.{Request}
 use Rattle.tus_steps.specs.declared.reply.Reply.{Reply}
-use Rattle.tus_steps.specs.InPieces.{PieceAt, Takes, first_of, rest_of}
+use Rattle.tus_steps.specs.InPieces.{PieceAt, Takes, behind, created_in, first_of, reply_to_all, rest_of}
 use Rattle.http_wire.specs.InPieces.{PiecesAreATurn}
 use Rattle.http_wire.specs.Layout.{request_at}
-use Rattle.http_wire.specs.History.{Answering, AreGiven, AreLong, Notes, NotesInPieces, piece_of}
+use Rattle.http_wire.specs.History.{Answering, AreGiven, AreLong, Notes, NotesInPieces, behind_pieces, piece_of}
 use Rattle.http_wire.specs.declared.read.layout.Layout.{Layout}
 use Rattle.http_wire.specs.inside.Ahead.{Ahead}
 use Rattle.http_wire.specs.inside.HeadLayout.{BeginsHead}
@@ -34,8 +34,8 @@ first_of-piece r n given piece later last all =
     (omega (arith, length-append piece (later ++ last), length-append later last, all))
 
 -- and what is left
-rest_of-piece : (r : Request) (given : ℕ) (piece rest : List ℕ) → rest_of (from_place r given (piece ++ rest)) (length piece) ≡ from_place r (given + length piece) rest
-rest_of-piece r given piece rest = same_numbers r _ rest _ _ 0 0 (drop_at piece rest (length piece) refl) refl refl
+rest_of-piece : (r : Request) (given : ℕ) (piece rest : List ℕ) (reply : Reply) → rest_of (from_place r given (piece ++ rest)) (length piece) reply ≡ from_place (behind (created_in reply) r) (given + length piece) rest
+rest_of-piece r given piece rest reply = same_numbers (behind (created_in reply) r) _ rest _ _ 0 0 (drop_at piece rest (length piece) refl) refl refl
 
 -- an answer by its parts
 abbrev answering : Request → ℕ → Reply → Answering
@@ -44,11 +44,11 @@ answering request now reply = record { request = request; now = now; reply = rep
 -- the lengths and moments of pieces that were taken
 pieces_in : (r : Request) (n given : ℕ) (answered : List Answering) (bytes : List ℕ) → AreGiven r n given answered bytes → List PieceAt
 pieces_in r n given [] bytes is = []
-pieces_in r n given (q ∷ answered) bytes is = record { len = length is.0; now = q.now } ∷ pieces_in r n (given + length is.0) answered is.1 is.5
+pieces_in r n given (q ∷ answered) bytes is = record { len = length is.0; now = q.now } ∷ pieces_in (behind (created_in q.reply) r) n (given + length is.0) answered is.1 is.5
 
 -- they are taken of the request that they begin
 given-taken : (r : Request) (n given : ℕ) (before answered : List Answering) (bytes last : List ℕ) (is : AreGiven r n given answered bytes) → given + (length bytes + length last) ≡ n
-    → Takes Notes before (from_place r given (bytes ++ last)) (pieces_in r n given answered bytes is) (before ++ answered) (from_place r (given + length bytes) last)
+    → Takes Notes before (from_place r given (bytes ++ last)) (pieces_in r n given answered bytes is) (before ++ answered) (from_place (behind_pieces r answered) (given + length bytes) last)
 unfolding pieces_in
 given-taken r n given before [] bytes last is all =
     (append-nil before, same_numbers r last (bytes ++ last) (given + length bytes) given 0 0 (ap (λ l. l ++ last) (sym is)) (rw is (omega arith)) refl)
@@ -59,18 +59,20 @@ given-taken r n given before (q ∷ answered) bytes last is all =
     let count : length bytes ≡ length piece + length later = ap length is.4 ∙ length-append piece later in
     let first : first_of (from_place r given (bytes ++ last)) (length piece) ≡ q.request =
     ap (λ l. first_of (from_place r given l) (length piece)) whole ∙ first_of-piece r n given piece later last (omega (arith, all, count)) ∙ sym is.2 in
-    let rest : rest_of (from_place r given (bytes ++ last)) (length piece) ≡ from_place r (given + length piece) (later ++ last) =
-    ap (λ l. rest_of (from_place r given l) (length piece)) whole ∙ rest_of-piece r given piece (later ++ last) in
-    let others = given-taken r n (given + length piece) (before ++ q ∷ []) answered later last is.5 (omega (arith, all, count)) in
-    let ends : from_place r (given + length piece + length later) last ≡ from_place r (given + length bytes) last = same_numbers r last last _ _ 0 0 refl (omega (arith, count)) refl in (
+    let next = behind (created_in q.reply) r in
+    let left = behind_pieces next answered in
+    let rest : rest_of (from_place r given (bytes ++ last)) (length piece) q.reply ≡ from_place next (given + length piece) (later ++ last) =
+    ap (λ l. rest_of (from_place r given l) (length piece) q.reply) whole ∙ rest_of-piece r given piece (later ++ last) q.reply in
+    let others = given-taken next n (given + length piece) (before ++ q ∷ []) answered later last is.5 (omega (arith, all, count)) in
+    let ends : from_place left (given + length piece + length later) last ≡ from_place left (given + length bytes) last = same_numbers left last last _ _ 0 0 refl (omega (arith, count)) refl in (
       before ++ q ∷ [],
       q.reply,
       omega (arith, ap length whole, length-append piece (later ++ last)),
       ap (λ request. before ++ answering request q.now q.reply ∷ []) (sym first),
       is.3,
-      subst (λ request. Takes Notes (before ++ q ∷ []) request (pieces_in r n (given + length piece) answered later is.5) (before ++ (q ∷ answered)) (from_place r (given + length bytes) last)) (sym rest)
-          (subst (λ left. Takes Notes (before ++ q ∷ []) (from_place r (given + length piece) (later ++ last)) (pieces_in r n (given + length piece) answered later is.5) (before ++ (q ∷ answered)) left) ends
-          (subst (λ after. Takes Notes (before ++ q ∷ []) (from_place r (given + length piece) (later ++ last)) (pieces_in r n (given + length piece) answered later is.5) after (from_place r (given + length piece + length later) last)) (append_assoc before (q ∷ []) answered) others)),
+      subst (λ request. Takes Notes (before ++ q ∷ []) request (pieces_in next n (given + length piece) answered later is.5) (before ++ (q ∷ answered)) (from_place left (given + length bytes) last)) (sym rest)
+          (subst (λ end. Takes Notes (before ++ q ∷ []) (from_place next (given + length piece) (later ++ last)) (pieces_in next n (given + length piece) answered later is.5) (before ++ (q ∷ answered)) end) ends
+          (subst (λ after. Takes Notes (before ++ q ∷ []) (from_place next (given + length piece) (later ++ last)) (pieces_in next n (given + length piece) answered later is.5) after (from_place left (given + length piece + length later) last)) (append_assoc before (q ∷ []) answered) others)),
     )
 
 -- they have the sizes of the pieces that were answered
@@ -79,8 +81,8 @@ unfolding pieces_in
 pieces-long m r n given [] bytes is long = All-nil (λ (q : PieceAt). m ≤ q.len)
 pieces-long m r n given (q ∷ answered) bytes is long =
     let at_least = λ (q : Answering). m ≤ length q.request.body in
-    All-cons (λ (q : PieceAt). m ≤ q.len) (record { len = length is.0; now = q.now }) (pieces_in r n (given + length is.0) answered is.1 is.5) (subst (λ (r : Request). m ≤ length r.body) is.2 (All-head at_least q answered long))
-    (pieces-long m r n (given + length is.0) answered is.1 is.5 (All-tail at_least q answered long))
+    All-cons (λ (q : PieceAt). m ≤ q.len) (record { len = length is.0; now = q.now }) (pieces_in (behind (created_in q.reply) r) n (given + length is.0) answered is.1 is.5) (subst (λ (r : Request). m ≤ length r.body) is.2 (All-head at_least q answered long))
+    (pieces-long m (behind (created_in q.reply) r) n (given + length is.0) answered is.1 is.5 (All-tail at_least q answered long))
 
 any-long : (answered : List Answering) → AreLong 0 answered
 any-long [] = All-nil (λ (q : Answering). 0 ≤ length q.request.body)
@@ -88,15 +90,18 @@ any-long (q ∷ answered) = All-cons (λ (q : Answering). 0 ≤ length q.request
 
 -- a body that came in pieces is answered in pieces
 answered-in_pieces : (m : ℕ) (r : Request) (n now : ℕ) (before answered : List Answering) (gone last : List ℕ) (reply : Reply) → AreGiven r n 0 answered gone → length gone + length last ≡ n → AreLong m answered
-    → NotesInPieces m before (from_place r 0 (gone ++ last)) now reply ((before ++ answered) ++ answering (piece_of r n (length gone) last) now reply ∷ [])
+    → NotesInPieces m before (from_place r 0 (gone ++ last)) now (reply_to_all r (behind_pieces r answered) reply) ((before ++ answered) ++ answering (piece_of (behind_pieces r answered) n (length gone) last) now reply ∷ [])
 answered-in_pieces m r n now before answered gone last reply is all long =
-    let left : from_place r (0 + length gone) last ≡ piece_of r n (length gone) last = same_numbers r last last _ _ _ _ refl (omega arith) (omega (arith, all)) in (
+    let next = behind_pieces r answered in
+    let left : from_place next (0 + length gone) last ≡ piece_of next n (length gone) last = same_numbers next last last _ _ _ _ refl (omega arith) (omega (arith, all)) in (
       record {
         pieces = pieces_in r n 0 answered gone is;
         between = before ++ answered;
-        left = from_place r (0 + length gone) last;
+        left = from_place next (0 + length gone) last;
+        last = reply;
         taken = given-taken r n 0 before answered gone last is (omega (arith, all));
-        last = ap (λ request. (before ++ answered) ++ answering request now reply ∷ []) (sym left);
+        ends = ap (λ request. (before ++ answered) ++ answering request now reply ∷ []) (sym left);
+        told = refl;
       },
       pieces-long m r n 0 answered gone is long,
     )
@@ -112,9 +117,10 @@ request-whole p head body long none no_more =
 -- is answered in pieces.
 pub whole-step : (m : ℕ) (limits : BodyLimits) (bytes : List ℕ) (p : Layout) (head gone last left : List ℕ) (before answered : List Answering) (now : ℕ) (reply : Reply)
     → BeginsHead limits bytes p (head ++ ((gone ++ last) ++ left)) → length head ≡ p.head_len → length gone + length last ≡ p.body_len → AreGiven (request_at p head) p.body_len 0 answered gone → AreLong m answered
-    → NotesInPieces m before (request_at p (head ++ (gone ++ last))) now reply ((before ++ answered) ++ answering (piece_of (request_at p head) p.body_len (length gone) last) now reply ∷ [])
+    → NotesInPieces m before (request_at p (head ++ (gone ++ last))) now (reply_to_all (request_at p head) (behind_pieces (request_at p head) answered) reply)
+    ((before ++ answered) ++ answering (piece_of (behind_pieces (request_at p head) answered) p.body_len (length gone) last) now reply ∷ [])
 whole-step m limits bytes p head gone last left before answered now reply begins long all given sized =
-    subst (λ request. NotesInPieces m before request now reply ((before ++ answered) ++ answering (piece_of (request_at p head) p.body_len (length gone) last) now reply ∷ []))
+    subst (λ request. NotesInPieces m before request now (reply_to_all (request_at p head) (behind_pieces (request_at p head) answered) reply) ((before ++ answered) ++ answering (piece_of (behind_pieces (request_at p head) answered) p.body_len (length gone) last) now reply ∷ []))
     (sym (request-whole p head (gone ++ last) long begins.shows.given begins.shows.more)) (answered-in_pieces m (request_at p head) p.body_len now before answered gone last reply given all sized)
 
 -- and it is what the bytes begin with, whatever follows them
@@ -147,7 +153,7 @@ pieces_are_a_turn limits now bytes p head gone last left before answered reply b
   request = request_at p (head ++ (gone ++ last));
   framing = p.framing;
   waiting = p.is_waiting;
-  reply = reply;
+  reply = reply_to_all (request_at p head) (behind_pieces (request_at p head) answered) reply;
   next_message = whole-message limits bytes p head gone last left begins long all rest;
   stays = stays;
   step = (whole-step 0 limits bytes p head gone last left before answered now reply begins long all given (any-long answered)).0;

@@ -6,7 +6,7 @@ use Rattle.std.proofs.lemmas.List.{take-append-le, drop-append-le, drop-take}
 use Rattle.httparse.specs.Grammar.{RequestHead}
 use Rattle.tus_steps.specs.declared.tus_fields.TusFields.{TusFields}
 use Rattle.tus_steps.specs.Field.{FieldText, is_absent}
-use Rattle.tus_steps.specs.Method.{is_applied_when_cut}
+use Rattle.tus_steps.specs.Method.{is_applied_when_cut, is_taken_in_pieces}
 use Rattle.tus_steps.specs.Request.{Request}
 use Rattle.tus_steps.specs.declared.method.Method.{Method}
 use Rattle.http_wire.specs.BodyLimits.{AreWithin, limit_by}
@@ -57,9 +57,9 @@ judge-bound max minor host coding len n is =
 
 -- the limit of a request is no greater than both
 pub limit_by-within : (limits : BodyLimits) (most : ℕ) (method : Method) (checksum : FieldText) → AreWithin limits most → limit_by limits method checksum ≤ most
-limit_by-within limits most method checksum within = by (is_applied_when_cut method checksum)
+limit_by-within limits most method checksum within = by (is_taken_in_pieces method checksum)
   where
-    by : (applied : Bool) → (if applied then limits.patch else limits.other) ≤ most
+    by : (plain : Bool) → (if plain then limits.plain else limits.other) ≤ most
     by true = within.0
     by false = within.1
 
@@ -116,7 +116,7 @@ IsNextMessage-memory limits bytes p held b rest within some large =
 pub request_at-shows : (limits : BodyLimits) (text head body : List ℕ) (h : RequestHead) (p : Layout) → ShowsHead limits head h p → take p.head_len text ≡ head → drop p.head_len text ≡ body
     → request_at p text ≡ request_of h body
 request_at-shows limits text head body h p s next_message rest =
-    rw (next_message, rest, s.method, s.target, s.fields, s.given, s.more) refl
+    rw (next_message, rest, s.created, s.method, s.target, s.fields, s.given, s.more) refl
 
 -- all of the body is held
 pub IsNextMessage-message : (limits : BodyLimits) (bytes : List ℕ) (p : Layout) (held : List ℕ) (b : BeginsHead limits bytes p held) (a : Ahead) → p.head_len + p.body_len ≤ length held

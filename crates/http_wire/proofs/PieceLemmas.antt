@@ -1,18 +1,21 @@
 -- A body that is taken in pieces, look by look, read by read and piece by piece.
-use Rattle.std.proofs.Common.{◌≡◌, ◌≤◌, ◌<◌, ◌+◌, ◌-◌, ◌&&◌, ℕ, Bool, true, false, List, [], ◌∷◌, ◌++◌, length, take, drop, nat_lt, if◌then◌else◌, Option, Some, None, IfSome, refl, ap, sym, subst, ◌∙◌, arith, append-nil, append_assoc, length-append}
+use Rattle.std.proofs.Common.{◌≡◌, ◌≤◌, ◌<◌, ◌+◌, ◌-◌, ◌&&◌, ◌||◌, ℕ, Bool, true, false, List, [], ◌∷◌, ◌++◌, length, take, drop, nat_lt, if◌then◌else◌, Option, Some, None, true≢false, IfSome, refl, ap, sym, subst, ◌∙◌, arith, append-nil, append_assoc, length-append}
 use Rattle.std.proofs.lemmas.Bool.{ltb-false}
+use Rattle.std.proofs.lemmas.List.Elements.{All-head}
 use Rattle.std.proofs.lemmas.List.{take-append-drop, take-append-le, drop-append-le, take_at, drop_at, take_all, drop_all, take-take, length-take-le, length-drop}
-use Rattle.tus_steps.specs.Field.{FieldText, absent, one, many, is_absent}
-use Rattle.tus_steps.specs.InPieces.{IsPlainPatch, is_patched}
-use Rattle.tus_steps.specs.Method.{is_patch}
+use Rattle.tus_steps.specs.Field.{FieldText, is_absent}
+use Rattle.tus_steps.specs.InPieces.{MayComeInPieces, behind, created_in, fields_behind, is_taken, method_behind}
+use Rattle.tus_steps.specs.Method.{is_applied_when_cut, is_patch, is_post, is_taken_in_pieces}
+use Rattle.tus_steps.specs.TusFields.{map_fields}
+use Rattle.tus_steps.specs.declared.method.Method.{Method}
 use Rattle.tus_steps.specs.Request.{Request}
 use Rattle.http_wire.specs.BodyLimits.{AreWithin}
 use Rattle.http_wire.specs.Conversation.{continue_text}
 use Rattle.http_wire.specs.HeadText.{head_limit, head_text, whole}
-use Rattle.http_wire.specs.NextMessage.{NextMessage, IsNextMessage}
+use Rattle.http_wire.specs.NextMessage.{NextMessage, IsNextMessage, cut_other}
 use Rattle.http_wire.specs.OnConnection.{HasNoMessage}
 use Rattle.http_wire.specs.ReadOnWire.{waits}
-use Rattle.http_wire.specs.History.{Answering, AreGiven, piece_of}
+use Rattle.http_wire.specs.History.{Answering, AreGiven, AreLong, behind_pieces, piece_of}
 use Rattle.http_wire.specs.Layout.{field_at, request_at}
 use Rattle.http_wire.specs.PiecedBody.{IsPlain, IsTaken, piece_in, pieced_by}
 use Rattle.http_wire.specs.declared.read.fields.FieldSpan.{FieldSpan}
@@ -20,7 +23,7 @@ use Rattle.http_wire.specs.declared.read.fields.FieldSpan.TheVariants.{Absent, O
 use Rattle.http_wire.specs.declared.read.layout.Layout.{Layout}
 use Rattle.http_wire.specs.declared.read.pieces.PiecedBody.{PiecedBody}
 use Rattle.http_wire.specs.inside.HeadLayout.{BeginsHead}
-use Rattle.http_wire.proofs.NextMessageLemmas.{BeginsHead-more, BeginsHead-short, IsNextMessage-cut_patch, IsNextMessage-waits}
+use Rattle.http_wire.proofs.NextMessageLemmas.{BeginsHead-more, BeginsHead-short, IsNextMessage-cut_other, IsNextMessage-cut_patch, IsNextMessage-waits}
 use Rattle.http_wire.specs.declared.body_limits.BodyLimits.{BodyLimits}
 
 -- the bytes of a message whose head is here, with those that are gone
@@ -86,13 +89,40 @@ count-gone n gone here within =
 pub IsTaken-waits : (limits : BodyLimits) (bytes said gone : List ℕ) (b : PiecedBody) (here : List ℕ) → IsTaken limits bytes said gone b here → b.layout.is_waiting ≡ true → (f : NextMessage) × IsNextMessage limits bytes f × (waits f ≡ true)
 IsTaken-waits limits bytes said gone b here h is = IsNextMessage-waits limits bytes b.layout (with_gone b.layout.head_len gone here) h.begins is
 
+-- whether a message with this method and this field is applied when it is cut
+pub applied : (m : Method) (f : FieldSpan) → (b : Bool) × ((head : List ℕ) → is_applied_when_cut m (field_at head f) ≡ b)
+applied m Absent = (is_applied_when_cut m (field_at [] Absent), λ head. refl)
+applied m (One span) = (is_applied_when_cut m (field_at [] (One span)), λ head. refl)
+applied m Many = (is_applied_when_cut m (field_at [] Many), λ head. refl)
+
 -- while bytes of the body are lacking, no whole message came
-pub IsTaken-unfinished : (limits : BodyLimits) (bytes said gone : List ℕ) (b : PiecedBody) (here : List ℕ) → IsTaken limits bytes said gone b here → IsPlain b.layout → b.given < b.layout.body_len
+pub IsTaken-unfinished : (limits : BodyLimits) (bytes said gone : List ℕ) (b : PiecedBody) (here : List ℕ) → IsTaken limits bytes said gone b here → b.given < b.layout.body_len
     → length here < b.layout.head_len + (b.layout.body_len - b.given) → HasNoMessage limits bytes
-IsTaken-unfinished limits bytes said gone b here h plain given short =
+IsTaken-unfinished limits bytes said gone b here h given short = by (applied b.layout.method b.layout.fields.checksum)
+  where
+    held : List ℕ
+    held = with_gone b.layout.head_len gone here
+
+    count : length held ≡ length here + length gone
+    count = count-gone b.layout.head_len gone here h.head
+
+    by : (applied : Bool) × ((head : List ℕ) → is_applied_when_cut b.layout.method (field_at head b.layout.fields.checksum) ≡ applied) → HasNoMessage limits bytes
+    by (true, is) =
+        (_, IsNextMessage-cut_patch limits bytes b.layout held h.begins (record { lent = held; held = []; ended = true; room = 0 }) (omega (arith, count, h.given, given, short)) (omega (arith, count, h.head)) is refl, tt)
+    by (false, is) = (_, IsNextMessage-cut_other limits bytes b.layout held h.begins (omega (arith, count, h.given, given, short)) (omega (arith, count, h.head)) is, tt)
+
+-- what is not applied where it is cut is no PATCH
+pub not-applied : (made : Option ℕ) (m : Method) (is : Bool) → is ≡ is_patch (method_behind made m) → is ≡ false → is_patch m ≡ false
+not-applied None m is told other = sym told ∙ other
+not-applied (Some id) m is told other = absurd (true≢false (sym told ∙ other))
+
+-- of a body of which nothing was taken, that is no PATCH, what came is no message
+pub IsTaken-cut : (limits : BodyLimits) (bytes said gone : List ℕ) (b : PiecedBody) (here : List ℕ) → IsTaken limits bytes said gone b here → b.given < b.layout.body_len
+    → length here < b.layout.head_len + (b.layout.body_len - b.given) → is_patch b.layout.method ≡ false → IsNextMessage limits bytes (cut_other b.layout.is_waiting)
+IsTaken-cut limits bytes said gone b here h given short other =
     let held = with_gone b.layout.head_len gone here in
     let count = count-gone b.layout.head_len gone here h.head in
-    (_, IsNextMessage-cut_patch limits bytes b.layout held h.begins (record { lent = held; held = []; ended = true; room = 0 }) (omega (arith, count, h.given, given, short)) (omega (arith, count, h.head)) plain refl, tt)
+    IsNextMessage-cut_other limits bytes b.layout held h.begins (omega (arith, count, h.given, given, short)) (omega (arith, count, h.head)) (λ head. rw other refl)
 
 -- and what came, and what the body lacks, are at most a head and the greatest body
 pub IsTaken-short : (limits : BodyLimits) (most : ℕ) (bytes said gone : List ℕ) (b : PiecedBody) (here : List ℕ) → AreWithin limits most → IsTaken limits bytes said gone b here → b.given < b.layout.body_len
@@ -103,9 +133,9 @@ IsTaken-short limits most bytes said gone b here within h given short =
     omega (arith, count, h.given, given, BeginsHead-short limits most bytes b.layout held within h.begins (omega (arith, count, h.head)) (omega (arith, count, h.given, given, short)))
 
 -- a piece was taken: it is gone, and the head is here
-pub IsTaken-accepted : (limits : BodyLimits) (bytes said gone lent : List ℕ) (b : PiecedBody) → IsTaken limits bytes said gone b (lent ++ []) → b.layout.head_len ≤ length lent
-    → IsTaken limits bytes said (gone ++ drop b.layout.head_len lent) (record b { given = b.given + (length lent - b.layout.head_len) }) (take b.layout.head_len lent)
-IsTaken-accepted limits bytes said gone lent b h within =
+pub IsTaken-accepted : (limits : BodyLimits) (bytes said gone lent : List ℕ) (b : PiecedBody) (made : Option ℕ) → IsTaken limits bytes said gone b (lent ++ []) → b.layout.head_len ≤ length lent
+    → IsTaken limits bytes said (gone ++ drop b.layout.head_len lent) (record b { given = b.given + (length lent - b.layout.head_len); created = made }) (take b.layout.head_len lent)
+IsTaken-accepted limits bytes said gone lent b made h within =
     let n = b.layout.head_len in
     let count : length (take n lent) ≡ n = length-take-le n lent within in
     let head : take n (take n lent) ≡ take n lent = take_all n (take n lent) (omega (arith, count)) in
@@ -125,15 +155,16 @@ lent-head n lent held within = take-append-le n lent held within
 pub lent-rest : (n : ℕ) (lent held : List ℕ) → n ≤ length lent → drop n (lent ++ held) ≡ drop n lent ++ held
 lent-rest n lent held within = drop-append-le n lent held within
 
--- the request of a piece that is lent is the piece of the request
-pub piece-lent : (b : PiecedBody) (lent : List ℕ) → (piece_in b lent).request ≡ piece_of (request_at b.layout (take b.layout.head_len lent)) b.layout.body_len b.given (drop b.layout.head_len lent)
-piece-lent b lent =
+-- the request of a piece that is lent is the piece of the request, or of what is behind the pieces that created its upload
+pub piece-lent : (b : PiecedBody) (lent : List ℕ) → b.layout.created ≡ None
+    → (piece_in b lent).request ≡ piece_of (behind b.created (request_at b.layout (take b.layout.head_len lent))) b.layout.body_len b.given (drop b.layout.head_len lent)
+piece-lent b lent fresh =
     let n = b.layout.head_len in
-    rw (take-take n n lent (omega arith), length-drop n lent) refl
+    rw (take-take n n lent (omega arith), length-drop n lent, fresh) refl
 
 -- one piece more was accepted
-pub AreGiven-push : (r : Request) (n given : ℕ) (answered : List Answering) (bytes piece : List ℕ) (q : Answering) → AreGiven r n given answered bytes → q.request ≡ piece_of r n (given + length bytes) piece
-    → is_patched q.reply ≡ true → AreGiven r n given (answered ++ q ∷ []) (bytes ++ piece)
+pub AreGiven-push : (r : Request) (n given : ℕ) (answered : List Answering) (bytes piece : List ℕ) (q : Answering) → AreGiven r n given answered bytes → q.request ≡ piece_of (behind_pieces r answered) n (given + length bytes) piece
+    → is_taken (behind_pieces r answered) q.reply ≡ true → AreGiven r n given (answered ++ q ∷ []) (bytes ++ piece)
 AreGiven-push r n given [] bytes piece q is next accepted =
     let none : given + length bytes ≡ given = rw is (omega arith) in
     (piece, [], next ∙ ap (λ k. piece_of r n k piece) none, accepted, ap (λ l. l ++ piece) is ∙ sym (append-nil piece), refl)
@@ -144,42 +175,55 @@ AreGiven-push r n given (a ∷ answered) bytes piece q taken next accepted =
       taken.2,
       taken.3,
       ap (λ l. l ++ piece) taken.4 ∙ append_assoc taken.0 taken.1 piece,
-      AreGiven-push r n (given + length taken.0) answered taken.1 piece q taken.5 (next ∙ ap (λ k. piece_of r n k piece) more) accepted,
+      AreGiven-push (behind (created_in a.reply) r) n (given + length taken.0) answered taken.1 piece q taken.5 (next ∙ ap (λ k. piece_of (behind_pieces (behind (created_in a.reply) r) answered) n k piece) more) accepted,
     )
 
--- the message of a body that is taken in pieces is a PATCH without a checksum
+-- what is asked for behind one piece more
+pub behind_pieces-push : (r : Request) (answered : List Answering) (q : Answering) → behind_pieces r (answered ++ q ∷ []) ≡ behind (created_in q.reply) (behind_pieces r answered)
+behind_pieces-push r [] q = refl
+behind_pieces-push r (a ∷ answered) q = behind_pieces-push (behind (created_in a.reply) r) answered q
+
+-- pieces that have some bytes each are none where they have none together
+pub none-given : (r : Request) (n given m : ℕ) (answered : List Answering) (bytes : List ℕ) → AreGiven r n given answered bytes → AreLong m answered → 0 < m → length bytes ≡ 0 → answered ≡ []
+none-given r n given m [] bytes is long some none = refl
+none-given r n given m (q ∷ answered) bytes is long some none =
+    absurd (omega (arith, some, none, ap length is.4, length-append is.0 is.1, subst (λ (r : Request). m ≤ length r.body) is.2 (All-head (λ (q : Answering). m ≤ length q.request.body) q answered long)))
+
+-- the message of a body that is taken in pieces is a PATCH or a POST without a checksum
 both-true : (a b : Bool) → a && b ≡ true → (a ≡ true) × (b ≡ true)
 both-true true true is = (refl, refl)
 both-true true false is = absurd cc
 both-true false b is = absurd cc
 
-absent-is : (f : FieldText) → is_absent f ≡ true → f ≡ absent
-absent-is absent is = refl
-absent-is (one value) is = absurd cc
-absent-is many is = absurd cc
+pub plain-request : (p : Layout) (text : List ℕ) → IsPlain p → MayComeInPieces (request_at p text)
+plain-request p text plain = by p.created
+  where
+    head : List ℕ
+    head = take p.head_len text
 
-pub plain-request : (p : Layout) (text : List ℕ) → IsPlain p → IsPlainPatch (request_at p text)
-plain-request p text plain =
-    let both = both-true (is_patch p.method) (is_absent (field_at (take p.head_len text) p.fields.checksum)) (plain (take p.head_len text)) in
-    record { method = both.0; unchecked = absent-is (field_at (take p.head_len text) p.fields.checksum) both.1 }
+    by : (made : Option ℕ) → is_taken_in_pieces (method_behind made p.method) (fields_behind made (map_fields (field_at head) p.fields)).checksum ≡ true
+    by None = plain head
+    by (Some id) = (both-true (is_patch p.method || is_post p.method) (is_absent (field_at head p.fields.checksum)) (plain head)).1
 
--- a PATCH without a checksum that is gathered whole has no more bytes than a piece
-absent-at : (head : List ℕ) (f : FieldSpan) → field_at head f ≡ absent → is_absent (field_at [] f) ≡ true
-absent-at head Absent is = refl
-absent-at head (One span) is = absurd cc
-absent-at head Many is = absurd cc
+-- one that is gathered whole has no more bytes than a piece
+same-absent : (head : List ℕ) (f : FieldSpan) → is_absent (field_at head f) ≡ is_absent (field_at [] f)
+same-absent head Absent = refl
+same-absent head (One span) = refl
+same-absent head Many = refl
 
-no-piece : (a b c : Bool) (x : PiecedBody) → a ≡ true → b ≡ true → (if (a && b) && c then Some x else None) ≡ None → c ≡ false
-no-piece true true true x method field none = absurd cc
-no-piece true true false x method field none = refl
-no-piece true false c x method field none = absurd cc
-no-piece false b c x method field none = absurd cc
+no-piece : (a c : Bool) (x : PiecedBody) → a ≡ true → (if a && c then Some x else None) ≡ None → c ≡ false
+no-piece true true x plain none = absurd cc
+no-piece true false x plain none = refl
+no-piece false c x plain none = absurd cc
 
-gathered-whole : (n : ℕ) (p : Layout) (text : List ℕ) → pieced_by (Some n) p ≡ None → length text ≤ p.head_len + p.body_len → IsPlainPatch (request_at p text) → length (drop p.head_len text) ≤ n
-gathered-whole n p text none few plain =
-    let short = ltb-false n p.body_len (no-piece (is_patch p.method) (is_absent (field_at [] p.fields.checksum)) (nat_lt n p.body_len) (record { layout = p; given = 0; piece = n }) plain.method (absent-at (take p.head_len text) p.fields.checksum plain.unchecked) none) in
+gathered-whole : (n : ℕ) (p : Layout) (text : List ℕ) → pieced_by (Some n) p ≡ None → p.created ≡ None → length text ≤ p.head_len + p.body_len → MayComeInPieces (request_at p text) → length (drop p.head_len text) ≤ n
+gathered-whole n p text none fresh few plain =
+    let told : is_taken_in_pieces p.method (field_at (take p.head_len text) p.fields.checksum) ≡ true = rw fresh at plain in
+    let first : is_taken_in_pieces p.method (field_at [] p.fields.checksum) ≡ true =
+    ap (λ b. (is_patch p.method || is_post p.method) && b) (sym (same-absent (take p.head_len text) p.fields.checksum)) ∙ told in
+    let short = ltb-false n p.body_len (no-piece (is_taken_in_pieces p.method (field_at [] p.fields.checksum)) (nat_lt n p.body_len) (record { layout = p; given = 0; piece = n; created = None }) first none) in
     omega (arith, length-drop p.head_len text, few, short)
 
-pub GathersIn-few : (piece : Option ℕ) (p : Layout) (text : List ℕ) → pieced_by piece p ≡ None → length text ≤ p.head_len + p.body_len → IfSome piece (λ n. IsPlainPatch (request_at p text) → length (drop p.head_len text) ≤ n)
-GathersIn-few None p text none few = tt
-GathersIn-few (Some n) p text none few = gathered-whole n p text none few
+pub GathersIn-few : (piece : Option ℕ) (p : Layout) (text : List ℕ) → pieced_by piece p ≡ None → p.created ≡ None → length text ≤ p.head_len + p.body_len → IfSome piece (λ n. MayComeInPieces (request_at p text) → length (drop p.head_len text) ≤ n)
+GathersIn-few None p text none fresh few = tt
+GathersIn-few (Some n) p text none fresh few = gathered-whole n p text none fresh few

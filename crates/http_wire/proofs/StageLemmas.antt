@@ -20,7 +20,7 @@ use Rattle.http_wire.specs.declared.read.stage.Stage.{Stage}
 use Rattle.http_wire.specs.declared.read.stage.Stage.TheVariants.{Head, Body, Pieces}
 use Rattle.http_wire.proofs.FindLemmas.{Searching-more, Searching-unfinished, unfinished_short}
 use Rattle.http_wire.specs.PiecedBody.{IsTaken}
-use Rattle.http_wire.proofs.PieceLemmas.{IsTaken-more, IsTaken-short, IsTaken-unfinished, IsTaken-waits}
+use Rattle.http_wire.proofs.PieceLemmas.{applied, IsTaken-more, IsTaken-short, IsTaken-unfinished, IsTaken-waits}
 use Rattle.http_wire.proofs.NextMessageLemmas.{BeginsHead-more, BeginsHead-short, BreaksMessage-unfinished, IsNextMessage-cut_other, IsNextMessage-cut_patch, IsNextMessage-waits}
 use Rattle.http_wire.specs.declared.body_limits.BodyLimits.{BodyLimits}
 
@@ -72,12 +72,6 @@ Standing-waits limits bytes a (Head s) h = absurd (said h.0)
 Standing-waits limits bytes a (Body p) h = IsNextMessage-waits limits bytes p a.held h.1 (continue-due p.is_waiting h.0)
 Standing-waits limits bytes a (Pieces b) h = IsTaken-waits limits bytes (continue_text true) h.0 b a.held h.1 (continue-due b.layout.is_waiting h.1.waits)
 
--- whether a message with this method and this field is applied when it is cut
-applied : (m : Method) (f : FieldSpan) → (b : Bool) × ((head : List ℕ) → is_applied_when_cut m (field_at head f) ≡ b)
-applied m Absent = (is_applied_when_cut m (field_at [] Absent), λ head. refl)
-applied m (One span) = (is_applied_when_cut m (field_at [] (One span)), λ head. refl)
-applied m Many = (is_applied_when_cut m (field_at [] Many), λ head. refl)
-
 -- where more is needed, there is no message yet
 pub Standing-unfinished : (limits : BodyLimits) (bytes said : List ℕ) (a : Ahead) (s : Stage) → Standing limits bytes said a s → Fits a s → Wants a s → HasNoMessage limits bytes
 Standing-unfinished limits bytes said a (Head s) h fits wants = elim (BreaksMessage-unfinished limits bytes said h.0 (Searching-unfinished bytes a s h.1 wants)) [
@@ -90,7 +84,7 @@ Standing-unfinished limits bytes said a (Body p) h fits wants = by (applied p.me
     by (true, is) = (_, IsNextMessage-cut_patch limits bytes p a.held h.1 (record a { lent = a.held }) wants.0 fits.held is refl, tt)
     by (false, is) = (_, IsNextMessage-cut_other limits bytes p a.held h.1 wants.0 fits.held is, tt)
 Standing-unfinished limits bytes said a (Pieces b) h fits wants =
-    IsTaken-unfinished limits bytes said h.0 b a.held h.1 fits.body.plain fits.body.given (omega (arith, wants.0))
+    IsTaken-unfinished limits bytes said h.0 b a.held h.1 fits.body.given (omega (arith, wants.0))
 
 -- what holds of what was given, from what held of it
 pub IfOk-from : {T E : Type 0} {P Q : T → Type 0} (r : Result T E) → IfOk r P → ((x : T) → P x → Q x) → IfOk r Q

@@ -28,10 +28,10 @@ comes-at-end remaining ended (incoming.Refused why framing) tells sees = tt
 comes-at-end remaining ended incoming.End tells sees = sees tells
 
 -- limits that are the same are alike, and within either
-pub alike_is : (limits : BodyLimits) → limits.patch ≡ limits.other → limits ≡ alike limits.other
-alike_is limits same = ap (λ (most : ℕ). record limits { patch = most }) same
+pub alike_is : (limits : BodyLimits) → limits.plain ≡ limits.other → limits ≡ alike limits.other
+alike_is limits same = ap (λ (most : ℕ). record limits { plain = most }) same
 
-alike_within : (limits : BodyLimits) → limits.patch ≡ limits.other → AreWithin limits limits.other
+alike_within : (limits : BodyLimits) → limits.plain ≡ limits.other → AreWithin limits limits.other
 alike_within limits same = (omega (arith, same), omega arith)
 
 -- the reading of the next message on a wire that reads

@@ -1,6 +1,7 @@
 -- The history of a connection: what was taken from its client and handed out to it, and what was answered.
 use Rattle.std.specs.Prelude.{◌≡◌, ◌⊎◌, ◌≤◌, ◌<◌, ◌+◌, ◌-◌, ℕ, Bool, true, false, List, [], ◌∷◌, ◌++◌, length, take, Option, Some, None, IfSome, All, Ok, Err}
-use Rattle.tus_steps.specs.InPieces.{InPieces, IsPlainPatch, PieceAt, is_patched}
+use Rattle.tus_steps.specs.InPieces.{InPieces, MayComeInPieces, PieceAt, behind, created_in, is_taken}
+use Rattle.tus_steps.specs.Method.{is_patch}
 use Rattle.tus_steps.specs.Request.{Request}
 use Rattle.tus_steps.specs.declared.reply.Reply.{Reply}
 use Rattle.http_wire.specs.Conversation.{continue_text}
@@ -36,13 +37,13 @@ Notes before request now reply after = after ≡ before ++ record { request = re
 abbrev pub NotesInPieces : ℕ → List Answering → Request → ℕ → Reply → List Answering → Type 0
 NotesInPieces n before request now reply after = (step : InPieces Notes before request now reply after) × All (λ (q : PieceAt). n ≤ q.len) step.pieces
 
--- The same where bodies may be taken in pieces of some size. A request is noted as one. A PATCH without a checksum whose body has
--- more bytes than a piece is noted piece by piece instead.
+-- The same where bodies may be taken in pieces of some size. A request is noted as one. A PATCH or a POST without a checksum
+-- whose body has more bytes than a piece is noted piece by piece instead.
 abbrev pub NotesBy : Option ℕ → List Answering → Request → ℕ → Reply → List Answering → Type 0
 NotesBy None before request now reply after = Notes before request now reply after
 NotesBy (Some n) before request now reply after =
-    ((IsPlainPatch request → length request.body ≤ n) × Notes before request now reply after)
-    ⊎ (IsPlainPatch request × (n < length request.body) × NotesInPieces n before request now reply after)
+    ((MayComeInPieces request → length request.body ≤ n) × Notes before request now reply after)
+    ⊎ (MayComeInPieces request × (n < length request.body) × NotesInPieces n before request now reply after)
 
 -- each of these pieces has at least so many bytes
 abbrev pub AreLong : ℕ → List Answering → Type 0
@@ -52,12 +53,17 @@ AreLong n pieces = All (λ (q : Answering). n ≤ length q.request.body) pieces
 abbrev pub piece_of : Request → ℕ → ℕ → List ℕ → Request
 piece_of r n given bytes = record r { body = bytes; given = given; more = n - (given + length bytes) }
 
+-- what is asked for behind pieces that were answered: a creation goes on as a PATCH of the upload that it created
+abbrev pub behind_pieces : Request → List Answering → Request
+behind_pieces r [] = r
+behind_pieces r (q ∷ answered) = behind_pieces (behind (created_in q.reply) r) answered
+
 -- pieces of it were taken, one after another, from a place on; together they are these bytes
 abbrev pub AreGiven : Request → ℕ → ℕ → List Answering → List ℕ → Type 0
 AreGiven r n given [] bytes = bytes ≡ []
 AreGiven r n given (q ∷ answered) bytes =
-    (piece later : List ℕ) × (q.request ≡ piece_of r n given piece) × (is_patched q.reply ≡ true) × (bytes ≡ piece ++ later)
-    × AreGiven r n (given + length piece) answered later
+    (piece later : List ℕ) × (q.request ≡ piece_of r n given piece) × (is_taken r q.reply ≡ true) × (bytes ≡ piece ++ later)
+    × AreGiven (behind (created_in q.reply) r) n (given + length piece) answered later
 
 module _ {A : Type 0} (steps : A → Request → ℕ → Reply → A → Type 0) where
   -- these answers are steps, one after another, from one state to another
@@ -115,8 +121,9 @@ pub record Stood (p : History) (c : OnConnection) : Type 0 where
   pub sent : p.handed ++ c.write_buffer.pending ≡ text ++ said
   pub stands : Stands start said c
 
--- Whole messages were taken and answered, and then pieces of the next, which is a PATCH without a checksum. All pieces were
--- accepted, and each had the bytes behind those before it, and its size. The rest of what came is here, behind the head.
+-- Whole messages were taken and answered, and then pieces of the next, which is a PATCH or a POST without a checksum. All pieces
+-- were accepted, and each had the bytes behind those before it, and its size. The rest of what came is here, behind the head, and
+-- this is asked for with it.
 pub record StoodInPieces (p : History) (c : OnConnection) (b : PiecedBody) (here : List ℕ) : Type 0 where
   pub start : List ℕ
   pub said : List ℕ
@@ -129,19 +136,20 @@ pub record StoodInPieces (p : History) (c : OnConnection) (b : PiecedBody) (here
   pub sent : p.handed ++ c.write_buffer.pending ≡ text ++ said
   pub taken : IsTaken c.limits start said gone b here
   pub given : AreGiven (request_at b.layout (take b.layout.head_len here)) b.layout.body_len 0 pieces gone
+  pub asks : behind_pieces (request_at b.layout (take b.layout.head_len here)) pieces ≡ behind b.created (request_at b.layout (take b.layout.head_len here))
   pub sized : AreLong b.piece pieces
 
 -- How a connection stops with a piece, by whether the end of the input was seen. A piece that is refused gets the reply, which
--- closes the connection. One behind which the body was cut gets none. The end was seen where that cut it, and not where a read
--- failed.
+-- closes the connection. One behind which the body was cut is for an upload, and gets none. The end was seen where that cut it, and
+-- not where a read failed.
 abbrev pub StopsWith : Bool → Option Cut → Layout → Answering → List ℕ → Type 0
 StopsWith at_end None p last text =
-    (is_patched last.reply ≡ false) × (text ≡ continue_text p.is_waiting ++ reply_text last.reply last.now (closing p.framing))
-StopsWith at_end (Some cut.Ended) p last text = (at_end ≡ true) × (text ≡ continue_text p.is_waiting)
-StopsWith at_end (Some cut.Fault) p last text = (at_end ≡ false) × (text ≡ continue_text p.is_waiting)
+    (is_taken last.request last.reply ≡ false) × (text ≡ continue_text p.is_waiting ++ reply_text last.reply last.now (closing p.framing))
+StopsWith at_end (Some cut.Ended) p last text = (at_end ≡ true) × (is_patch last.request.method ≡ true) × (text ≡ continue_text p.is_waiting)
+StopsWith at_end (Some cut.Fault) p last text = (at_end ≡ false) × (is_patch last.request.method ≡ true) × (text ≡ continue_text p.is_waiting)
 
--- Whole messages were taken and answered, and then pieces of the next, which is a PATCH without a checksum. All but the last
--- piece were accepted. The last has all bytes that came behind those, and more was to come. With it the connection ends so, at
+-- Whole messages were taken and answered, and then pieces of the next, which is a PATCH or a POST without a checksum. All but the
+-- last piece were accepted. The last has all bytes that came behind those, and more was to come. With it the connection ends so, at
 -- its moment.
 pub record StoppedInPieces (p : History) (c : OnConnection) (why : Option Cut) : Type 0 where
   pub start : List ℕ
@@ -160,10 +168,10 @@ pub record StoppedInPieces (p : History) (c : OnConnection) (why : Option Cut) :
   pub sent : p.handed ++ c.write_buffer.pending ≡ text ++ said
   pub long : length head ≡ layout.head_len
   pub begins : BeginsHead c.limits start layout (head ++ (gone ++ last.request.body))
-  pub plain : IsPlainPatch last.request
+  pub plain : MayComeInPieces last.request
   pub given : AreGiven (request_at layout head) layout.body_len 0 pieces gone
   pub sized : IfSome c.piece (λ n. AreLong n pieces)
-  pub piece : last.request ≡ piece_of (request_at layout head) layout.body_len (length gone) last.request.body
+  pub piece : last.request ≡ piece_of (behind_pieces (request_at layout head) pieces) layout.body_len (length gone) last.request.body
   pub more : 0 < last.request.more
   pub stops : StopsWith c.read_buffer.ended why layout last said
 

@@ -6,6 +6,7 @@ use Rattle.tus_steps.specs.Field.{FieldText, absent, one, many}
 use Rattle.http_wire.specs.declared.read.fields.FieldSpan.{FieldSpan}
 use Rattle.http_wire.specs.declared.read.fields.FieldSpan.TheVariants.{Absent, One, Many}
 use Rattle.tus_text.specs.Path.{path_of}
+use Rattle.tus_steps.specs.InPieces.{fields_behind, method_behind, path_behind}
 use Rattle.tus_steps.specs.Request.{Request}
 use Rattle.tus_steps.specs.TusFields.{EachField, map_fields}
 use Rattle.http_wire.specs.Incoming.{FramedRequest}
@@ -33,14 +34,14 @@ pub record IsLayoutWithin (n : ℕ) (p : Layout) : Type 0 where
   pub target : IsWithin n p.target
   pub fields : EachField (IsInside n) p.fields
 
--- the request of a message with this layout
+-- the request of a message with this layout, or of a piece of one
 abbrev pub request_at : Layout → List ℕ → Request
 request_at p text =
     let head = take p.head_len text in
     record {
-      method = p.method;
-      path = path_of (span_bytes head p.target);
-      fields = map_fields (field_at head) p.fields;
+      method = method_behind p.created p.method;
+      path = path_behind p.created (path_of (span_bytes head p.target));
+      fields = fields_behind p.created (map_fields (field_at head) p.fields);
       body = drop p.head_len text;
       given = p.given;
       more = p.more;

@@ -1,7 +1,7 @@
 -- A body that is taken in pieces, as its bytes come.
 use Rattle.std.specs.Prelude.{◌≡◌, ◌≤◌, ◌+◌, ◌-◌, ◌&&◌, ℕ, nat_lt, true, List, [], ◌++◌, length, take, drop, Option, Some, None}
 use Rattle.std.specs.Prelude.{if◌then◌else◌}
-use Rattle.tus_steps.specs.Method.{is_applied_when_cut}
+use Rattle.tus_steps.specs.Method.{is_taken_in_pieces}
 use Rattle.http_wire.specs.Conversation.{continue_text}
 use Rattle.http_wire.specs.Incoming.{FramedRequest}
 use Rattle.http_wire.specs.Layout.{field_at, framed_at}
@@ -10,20 +10,22 @@ use Rattle.http_wire.specs.declared.read.pieces.PiecedBody.{PiecedBody}
 use Rattle.http_wire.specs.inside.HeadLayout.{BeginsHead}
 use Rattle.http_wire.specs.declared.body_limits.BodyLimits.{BodyLimits}
 
--- the message is a PATCH without a checksum
+-- the message is a PATCH or a POST without a checksum
 abbrev pub IsPlain : Layout → Type 0
-IsPlain p = (head : List ℕ) → is_applied_when_cut p.method (field_at head p.fields.checksum) ≡ true
+IsPlain p = (head : List ℕ) → is_taken_in_pieces p.method (field_at head p.fields.checksum) ≡ true
 
--- The body of a message, where it is taken in pieces of so many bytes. The message is a PATCH without a checksum, and its body
--- has more bytes than a piece.
+-- The body of a message, where it is taken in pieces of so many bytes. The message is a PATCH or a POST without a checksum, and
+-- its body has more bytes than a piece.
 abbrev pub pieced_by : Option ℕ → Layout → Option PiecedBody
 pieced_by None p = None
 pieced_by (Some n) p =
-    if is_applied_when_cut p.method (field_at [] p.fields.checksum) && nat_lt n p.body_len then Some (record { layout = p; given = 0; piece = n }) else None
+    if is_taken_in_pieces p.method (field_at [] p.fields.checksum) && nat_lt n p.body_len
+    then Some (record { layout = p; given = 0; piece = n; created = None }) else None
 
--- the layout of its next n bytes: how many of the body were taken before, and how many are to come behind them
+-- the layout of its next n bytes: how many of the body were taken before, how many are to come behind them, and the upload that
+-- the pieces before created
 abbrev pub piece_at : PiecedBody → ℕ → Layout
-piece_at b n = record b.layout { given = b.given; more = b.layout.body_len - (b.given + n) }
+piece_at b n = record b.layout { given = b.given; more = b.layout.body_len - (b.given + n); created = b.created }
 
 -- the request of a piece that stands in these bytes behind the head
 abbrev pub piece_in : PiecedBody → List ℕ → FramedRequest

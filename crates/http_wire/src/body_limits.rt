@@ -7,8 +7,8 @@ use tus_steps::{Field, Method};
 /// The most bytes of a request's body.
 #[derive(Clone, Copy)]
 pub struct BodyLimits {
-    /// Of a PATCH without a checksum. It may be taken in pieces.
-    pub patch: u64,
+    /// Of a PATCH or a POST without a checksum. It may be taken in pieces.
+    pub plain: u64,
     /// Of any other request. It is gathered.
     pub other: u64,
 }
@@ -19,7 +19,7 @@ impl BodyLimits {
         ensures { result ≡ alike most }
     {
         BodyLimits {
-            patch: most,
+            plain: most,
             other: most,
         }
     }
@@ -28,8 +28,8 @@ impl BodyLimits {
     pub(crate) fn most(self, method: Method, checksum: Field<'_>) -> u64
         ensures { result ≡ limit_by self method (text_of checksum.entry) }
     {
-        if method.is_patch() && checksum.is_absent() {
-            self.patch
+        if (method.is_patch() || method.is_post()) && checksum.is_absent() {
+            self.plain
         } else {
             self.other
         }

@@ -18,7 +18,7 @@ ghost use Rattle.http_wire.specs.inside.IncomingLayout.{IsLent};
 ghost use Rattle.http_wire.specs.inside.Phases.{Gathers, map_phase, IsPhase, lacking};
 ghost use Rattle.http_wire.specs.inside.PieceAnswer.{AnswersOwed};
 ghost use Rattle.http_wire.specs.inside.Sending.{empty_write_buffer};
-ghost use Rattle.http_wire.specs.inside.Standing.{Fits, GathersAt, HasRoom, KeepsBody, Standing, Wants as WantsMore, pieced};
+ghost use Rattle.http_wire.specs.inside.Standing.{Fits, GathersAt, HasRoom, KeepsBody, Standing, StaysBody, Wants as WantsMore, pieced};
 ghost use Rattle.http_wire.specs.inside.TurnFinish.{AnswersTurn};
 ghost use Rattle.http_wire.specs.declared.phase.Phase.TheVariants.{Looking, Waiting};
 ghost use Rattle.http_wire.specs.declared.read.stage.Stage.TheVariants.{Head};
@@ -584,7 +584,7 @@ fn broken(stage: Stage, read_buffer: &mut ReadBuffer) -> Phase<Layout>
     ensures breaks { (limits : BodyLimits) (bytes said : List ℕ) → Standing limits bytes said read_buffer.old stage
         → BreaksTo limits bytes said read_buffer.new (map_phase (framed_at read_buffer.new.lent) result) }
     ensures phase { IsPhase read_buffer.new result }
-    ensures body { body_in result ≡ pieced stage }
+    ensures body { StaysBody (pieced stage) (body_in result) }
     ensures gathers { (piece : Option ℕ) → GathersAt piece stage → Gathers piece read_buffer.new result }
     ensures ended { read_buffer.new.ended ≡ read_buffer.old.ended }
 {
@@ -598,6 +598,9 @@ fn broken(stage: Stage, read_buffer: &mut ReadBuffer) -> Phase<Layout>
             Phase::Owing(Incoming::CutPatch(layout, Cut::Fault))
         }
         Stage::Pieces(body) => {
+            if !body.is_applied_when_cut() {
+                return Phase::Over(Err(WireFault::Read));
+            }
             lend_all(read_buffer);
             Phase::Piece(body, Part::Cut(Cut::Fault))
         }

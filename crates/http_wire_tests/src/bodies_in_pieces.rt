@@ -1,5 +1,5 @@
-//! Bodies that a connection takes in pieces. A PATCH that is accepted gets the reply that it gets as one; a piece that is refused
-//! closes the connection, and those before it are kept.
+//! Bodies that a connection takes in pieces. A PATCH or a creation that is accepted gets the reply that it gets as one; a piece
+//! that is refused closes the connection, and those before it are kept.
 
 use crate::checksums::PATCH_CHECKED;
 use crate::connections::{answer_next, assert_wants, take_in, take_out};
@@ -35,91 +35,150 @@ const PATCH_CHECKED_LONG: &[u8] = b"PATCH /files/acme/1 HTTP/1.1\r\nHost: x\r\n\
 Tus-Resumable: 1.0.0\r\nContent-Type: application/offset+octet-stream\r\nUpload-Offset: 0\r\n\
 Upload-Checksum: sha1 qvTGHdzF6KLavt4PO0gs2a6pQ00=\r\nContent-Length: 6\r\n\r\n";
 
+/// A creation of an upload of 10 bytes, with its first 5.
+const POST_WITH: &[u8] = b"POST /files/acme HTTP/1.1\r\nHost: x\r\nTus-Resumable: 1.0.0\r\n\
+Upload-Length: 10\r\nContent-Type: application/offset+octet-stream\r\nContent-Length: 5\r\n\r\nhello";
+
+const POST_WITH_WAITING: &[u8] = b"POST /files/acme HTTP/1.1\r\nHost: x\r\nTus-Resumable: 1.0.0\r\n\
+Expect: 100-continue\r\nUpload-Length: 10\r\nContent-Type: application/offset+octet-stream\r\n\
+Content-Length: 5\r\n\r\nhello";
+
+const POST_WITH_HEAD: &[u8] = b"POST /files/acme HTTP/1.1\r\nHost: x\r\nTus-Resumable: 1.0.0\r\n\
+Upload-Length: 10\r\nContent-Type: application/offset+octet-stream\r\nContent-Length: 5\r\n\r\n";
+
+/// One with more bytes than the length that it tells.
+const POST_WITH_PAST: &[u8] = b"POST /files/acme HTTP/1.1\r\nHost: x\r\nTus-Resumable: 1.0.0\r\n\
+Upload-Length: 4\r\nContent-Type: application/offset+octet-stream\r\nContent-Length: 5\r\n\r\nhello";
+
+const CREATED_WITH: &[u8] = b"HTTP/1.1 201 Created\r\nDate: Thu, 01 Jan 1970 00:16:40 GMT\r\n\
+Tus-Resumable: 1.0.0\r\nLocation: /files/acme/1\r\nUpload-Offset: 5\r\n\
+Upload-Expires: Thu, 01 Jan 1970 01:16:40 GMT\r\nContent-Length: 0\r\n\r\n";
+
+const CREATION_TOO_LONG_CLOSE: &[u8] =
+    b"HTTP/1.1 413 Content Too Large\r\nDate: Thu, 01 Jan 1970 00:16:40 GMT\r\n\
+Tus-Resumable: 1.0.0\r\nContent-Type: text/plain\r\nContent-Length: 9\r\nConnection: close\r\n\r\ntoo-long\n";
+
 /// A conversation in pieces of 2 bytes: what is sent, and what is written.
 struct Row {
     what: &'static str,
     sent: &'static [&'static [u8]],
     written: &'static [&'static [u8]],
     ended: Ended,
-    offset: u64,
+    /// How many bytes the upload has then, if there is one.
+    offset: Option<u64>,
 }
 
-static ROWS: [Row; 10] = [
+static ROWS: [Row; 15] = [
     Row {
         what: "two bodies",
         sent: &[POST, PATCH, PATCH_REST],
         written: &[CREATED, PATCHED, COMPLETED],
         ended: Ended::Input,
-        offset: 10,
+        offset: Some(10),
     },
     Row {
         what: "a client that waits to go on",
         sent: &[POST, PATCH_WAITING, PATCH_REST],
         written: &[CREATED, CONTINUE, PATCHED, COMPLETED],
         ended: Ended::Input,
-        offset: 10,
+        offset: Some(10),
     },
     Row {
         what: "a last reply",
         sent: &[POST, PATCH_OLD],
         written: &[CREATED, PATCHED_CLOSE],
         ended: Ended::Closed,
-        offset: 5,
+        offset: Some(5),
     },
     Row {
         what: "a cut in the second piece",
         sent: &[POST, PATCH_CUT],
         written: &[CREATED],
         ended: Ended::Cut,
-        offset: 3,
+        offset: Some(3),
     },
     Row {
         what: "a body that is no longer than a piece",
         sent: &[POST, WRONG_OFFSET, PATCH],
         written: &[CREATED, OFFSET, PATCHED],
         ended: Ended::Input,
-        offset: 5,
+        offset: Some(5),
     },
     Row {
         what: "a first piece of a body that is too long",
         sent: &[POST, PATCH, PATCH_PAST],
         written: &[CREATED, PATCHED, TOO_LONG_CLOSE],
         ended: Ended::Closed,
-        offset: 5,
+        offset: Some(5),
     },
     Row {
         what: "an offset that is not the upload's",
         sent: &[POST, PATCH, PATCH],
         written: &[CREATED, PATCHED, OFFSET_CLOSE],
         ended: Ended::Closed,
-        offset: 5,
+        offset: Some(5),
     },
     Row {
         what: "a checksum, which is of the whole body",
         sent: &[POST, PATCH_CHECKED],
         written: &[CREATED, PATCHED],
         ended: Ended::Input,
-        offset: 5,
+        offset: Some(5),
     },
     Row {
         what: "more bytes than a body may have that is gathered",
         sent: &[POST, PATCH_ALL],
         written: &[CREATED, COMPLETED],
         ended: Ended::Input,
-        offset: 10,
+        offset: Some(10),
     },
     Row {
         what: "more bytes with a checksum",
         sent: &[POST, PATCH_CHECKED_LONG],
         written: &[CREATED, BODY_SIZE],
         ended: Ended::Closed,
-        offset: 0,
+        offset: Some(0),
+    },
+    Row {
+        what: "a creation with its upload",
+        sent: &[POST_WITH, PATCH_REST],
+        written: &[CREATED_WITH, COMPLETED],
+        ended: Ended::Input,
+        offset: Some(10),
+    },
+    Row {
+        what: "a creation with its upload, whose client waits to go on",
+        sent: &[POST_WITH_WAITING],
+        written: &[CONTINUE, CREATED_WITH],
+        ended: Ended::Input,
+        offset: Some(5),
+    },
+    Row {
+        what: "a creation that is cut in its first piece",
+        sent: &[POST_WITH_HEAD, b"h"],
+        written: &[],
+        ended: Ended::Cut,
+        offset: None,
+    },
+    Row {
+        what: "a creation that is cut in its second piece",
+        sent: &[POST_WITH_HEAD, b"hel"],
+        written: &[],
+        ended: Ended::Cut,
+        offset: Some(3),
+    },
+    Row {
+        what: "a creation with more bytes than its upload may have",
+        sent: &[POST_WITH_PAST],
+        written: &[CREATION_TOO_LONG_CLOSE],
+        ended: Ended::Closed,
+        offset: None,
     },
 ];
 
 /// How long a body may be that is gathered: shorter than some that come in pieces.
 const LIMITS: BodyLimits = BodyLimits {
-    patch: 64,
+    plain: 64,
     other: 5,
 };
 
@@ -159,7 +218,7 @@ fn conversations_in_pieces(rt: HostRuntime) {
         let expected = Expected {
             text: &written,
             ended: Ok(row.ended),
-            offset: Some(row.offset),
+            offset: row.offset,
         };
         let spoken = speak(&rt, rt.alloc(), &sent);
         assert_spoken(&rt, row.what, &spoken, &expected);

@@ -52,11 +52,10 @@ pub fn plain_conversation(
                 if is_waiting {
                     page.put(rt, b"HTTP/1.1 100 Continue\r\n\r\n");
                 }
-                let is_kept = is_plain_patch(&request);
-                if rest.is_none() && !is_kept {
+                let pieces = pieces.filter(|pieces| is_plain(&request) && len > pieces.size);
+                if rest.is_none() && !is_applied_when_cut(&request, pieces) {
                     return (page.text, Ended::Cut);
                 }
-                let pieces = pieces.filter(|pieces| is_kept && len > pieces.size);
                 if pieces.is_some() {
                     request.more = len.saturating_sub(request.body.len()) as u64;
                 }
@@ -87,9 +86,17 @@ pub fn plain_conversation(
     (page.text, Ended::Moments)
 }
 
-// Whether a request is a PATCH without a checksum.
-fn is_plain_patch(request: &Request) -> bool {
-    matches!(request.method, Method::Patch) && matches!(request.fields.checksum, Field::Absent)
+// Whether a request is a PATCH or a POST without a checksum.
+fn is_plain(request: &Request) -> bool {
+    matches!(request.method, Method::Patch | Method::Post)
+        && matches!(request.fields.checksum, Field::Absent)
+}
+
+// Whether what came of a request is applied, though its body was cut: that of a PATCH, and of a creation whose first piece came.
+fn is_applied_when_cut(request: &Request, pieces: Option<InPieces<'_>>) -> bool {
+    let is_patch = matches!(request.method, Method::Patch);
+    let has_piece = pieces.is_some_and(|pieces| request.body.len() >= pieces.size);
+    is_plain(request) && (is_patch || has_piece)
 }
 
 // The same framing, after which the connection closes.

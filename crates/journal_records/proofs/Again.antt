@@ -24,7 +24,7 @@ use Rattle.upload_book.specs.declared.restored.Restored.TheVariants as piece
 use Rattle.upload_book.specs.snapshot.Restored.{RestoredSegment, RestoredUpload}
 use Rattle.journal_records.specs.Laws.{RecordsAreReadAgain}
 use Rattle.journal_records.specs.Reading.{number_at, bytes_at, flag_at, flag_more_at, nonzero_at, optional_at, text_at, check_at, name_at, many_at, parts_at, expires_at, kind_at, optional_text_at, segment_at, segments_at, upload_at, first_at, chunk_at, final_at, fields_at, back_at, create_at, append_at, concat_at, terminate_at, restore_at, next_at, totals_at, change_at, moment_at, record_at}
-use Rattle.journal_records.specs.Records.{number, flag, flag_more, optional, text, check, name_bytes, parts, kind_byte, optional_text, segment_bytes, segments_bytes, upload_bytes, first_bytes, chunk_bytes, final_bytes, back_bytes, piece_bytes, change_bytes, IsNumber, FitsCheck, FitsUpload, FitsChunk, FitsFinal, FitsSegment, FitsBack, FitsPiece, FitsChange}
+use Rattle.journal_records.specs.Records.{number, flag, flag_more, optional, text, check, name_bytes, parts, kind_byte, optional_text, segment_bytes, segments_bytes, upload_bytes, first_bytes, chunk_bytes, final_bytes, back_bytes, piece_bytes, change_bytes, IsNumber, FitsCheck, FitsUpload, FitsFirst, FitsChunk, FitsFinal, FitsSegment, FitsBack, FitsPiece, FitsChange}
 
 -- ---- fields
 
@@ -150,10 +150,11 @@ upload_again new rest fits =
     ap upload_at regrouped
     ∙ rw (flag_again new.partial (b ++ (d ++ (e ++ rest))), optional_again new.length (d ++ (e ++ rest)) fits.told, text_again new.metadata (e ++ rest) fits.metadata, text_again new.concat rest fits.concat) refl
 
-first_again : (first : FirstChunk) → FitsCheck first.check → first_at (first_bytes first) ≡ Some first
+first_again : (first : FirstChunk) → FitsFirst first → first_at (first_bytes first) ≡ Some first
 unfolding first_at first_bytes
 first_again first fits =
-    ap first_at (append_assoc (flag first.typed) (check first.check) first.bytes) ∙ rw (flag_again first.typed (check first.check ++ first.bytes), check_again first.check first.bytes fits) refl
+    ap first_at (append_assoc (flag_more first.typed first.more) (check first.check) first.bytes)
+    ∙ rw (flag_more_again first.typed first.more (check first.check ++ first.bytes) fits.more, check_again first.check first.bytes fits.check) refl
 
 chunk_again : (chunk : Chunk) → FitsChunk chunk → chunk_at (chunk_bytes chunk) ≡ Some chunk
 unfolding chunk_at chunk_bytes

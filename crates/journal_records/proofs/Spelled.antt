@@ -22,7 +22,7 @@ use Rattle.upload_book.specs.declared.restored.Restored.TheVariants as piece
 use Rattle.upload_book.specs.snapshot.Restored.{RestoredSegment, RestoredUpload}
 use Rattle.journal_records.specs.Laws.{RecordsAreSpelledSo}
 use Rattle.journal_records.specs.Reading.{◌>>=◌, byte_at, number_at, bytes_at, flag_at, flag_more_at, nonzero_at, optional_at, text_at, check_at, name_at, many_at, parts_at, expires_at, kind_at, optional_text_at, segment_at, segments_at, upload_at, first_at, chunk_at, final_at, fields_at, back_at, at_end, create_at, append_at, concat_at, terminate_at, sweep_at, restore_at, next_at, totals_at, other_at, change_at, moment_at, record_at}
-use Rattle.journal_records.specs.Records.{AreBytes, number, flag, flag_more, optional, text, check, name_bytes, parts, kind_byte, optional_text, segment_bytes, segments_bytes, upload_bytes, first_bytes, chunk_bytes, final_bytes, back_bytes, change_bytes, record_bytes, IsNumber, FitsCheck, FitsUpload, FitsChunk, FitsFinal, FitsSegment, FitsBack, FitsChange}
+use Rattle.journal_records.specs.Records.{AreBytes, number, flag, flag_more, optional, text, check, name_bytes, parts, kind_byte, optional_text, segment_bytes, segments_bytes, upload_bytes, first_bytes, chunk_bytes, final_bytes, back_bytes, change_bytes, record_bytes, IsNumber, FitsCheck, FitsUpload, FitsFirst, FitsChunk, FitsFinal, FitsSegment, FitsBack, FitsChange}
 
 AreBytes-drop : (n : ℕ) (bytes : List ℕ) → AreBytes bytes → AreBytes (drop n bytes)
 AreBytes-drop n bytes are i = rw get_or-drop (are (n + i))
@@ -260,15 +260,16 @@ upload_takes bytes x are is =
     let made : NewUpload × List ℕ = (record { partial = a.0.0; length = b.0.0; metadata = d.0.0; concat = e.0.0 }, e.0.1) in
     subst (λ (y : NewUpload × List ℕ). Takes bytes (upload_bytes y.0) y.1 × FitsUpload y.0) (some_is made x e.2) (u3, record { told = t1.1; metadata = t2.1; concat = t3.1 })
 
-first_spelled : (bytes : List ℕ) (x : FirstChunk) → AreBytes bytes → first_at bytes ≡ Some x → (bytes ≡ first_bytes x) × FitsCheck x.check
+first_spelled : (bytes : List ℕ) (x : FirstChunk) → AreBytes bytes → first_at bytes ≡ Some x → (bytes ≡ first_bytes x) × FitsFirst x
 unfolding first_at first_bytes
 first_spelled bytes x are is =
-    let a = bind_some (flag_at bytes) (λ typed. check_at typed.1 >>= λ told. Some (record { typed = typed.0; check = told.0; bytes = told.1 })) x is in
-    let b = bind_some (check_at a.0.1) (λ told. Some (record { typed = a.0.0; check = told.0; bytes = told.1 })) x a.2 in
-    let t0 = flag_takes bytes a.0 are a.1 in
-    let t1 = check_takes a.0.1 b.0 t0.rest_are b.1 in
-    let made : FirstChunk = record { typed = a.0.0; check = b.0.0; bytes = b.0.1 } in
-    subst (λ (y : FirstChunk). (bytes ≡ first_bytes y) × FitsCheck y.check) (some_is made x b.2) ((then_takes bytes (flag a.0.0) a.0.1 (check b.0.0) b.0.1 t0 t1.0).parts, t1.1)
+    let a = bind_some (flag_more_at bytes) (λ typed. check_at typed.1 >>= λ told. Some (record { typed = typed.0.0; check = told.0; bytes = told.1; more = typed.0.1 })) x is in
+    let b = bind_some (check_at a.0.1) (λ told. Some (record { typed = a.0.0.0; check = told.0; bytes = told.1; more = a.0.0.1 })) x a.2 in
+    let t0 = flag_more_takes bytes a.0 are a.1 in
+    let t1 = check_takes a.0.1 b.0 t0.0.rest_are b.1 in
+    let made : FirstChunk = record { typed = a.0.0.0; check = b.0.0; bytes = b.0.1; more = a.0.0.1 } in
+    subst (λ (y : FirstChunk). (bytes ≡ first_bytes y) × FitsFirst y) (some_is made x b.2)
+    ((then_takes bytes (flag_more a.0.0.0 a.0.0.1) a.0.1 (check b.0.0) b.0.1 t0.0 t1.0).parts, record { more = t0.1; check = t1.1 })
 
 chunk_spelled : (bytes : List ℕ) (x : Chunk) → AreBytes bytes → chunk_at bytes ≡ Some x → (bytes ≡ chunk_bytes x) × FitsChunk x
 unfolding chunk_at chunk_bytes

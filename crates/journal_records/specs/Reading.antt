@@ -164,9 +164,9 @@ upload_at bytes = do
 -- what a creation carries, to the end
 unfoldable pub first_at : List ℕ → Option FirstChunk
 first_at bytes = do
-  typed ← flag_at bytes
+  typed ← flag_more_at bytes
   check ← check_at typed.1
-  Some (record { typed = typed.0; check = check.0; bytes = check.1 })
+  Some (record { typed = typed.0.0; check = check.0; bytes = check.1; more = typed.0.1 })
 
 -- what a PATCH carries, to the end
 unfoldable pub chunk_at : List ℕ → Option Chunk

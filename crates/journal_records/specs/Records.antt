@@ -36,7 +36,7 @@ optional (Some n) = 1 ∷ number n
 abbrev pub text : List ℕ → List ℕ
 text bytes = number (length bytes) ++ bytes
 
--- a flag, where a whole PATCH came; and of a piece another flag, and how many bytes are still to come behind its own
+-- a flag, where all bytes came; and of a piece another flag, and how many bytes are still to come behind its own
 abbrev pub flag_more : Bool → ℕ → List ℕ
 flag_more set more = if more == 0 then flag set else (if set then 3 else 2) ∷ number more
 
@@ -78,7 +78,7 @@ unfoldable pub upload_bytes : NewUpload → List ℕ
 upload_bytes new = flag new.partial ++ optional new.length ++ text new.metadata ++ text new.concat
 
 unfoldable pub first_bytes : FirstChunk → List ℕ
-first_bytes first = flag first.typed ++ check first.check ++ first.bytes
+first_bytes first = flag_more first.typed first.more ++ check first.check ++ first.bytes
 
 unfoldable pub chunk_bytes : Chunk → List ℕ
 chunk_bytes chunk = number chunk.offset ++ optional chunk.length ++ flag_more chunk.typed chunk.more ++ check chunk.check ++ chunk.bytes
@@ -128,6 +128,10 @@ pub record FitsUpload (new : NewUpload) : Type 0 where
   pub metadata : IsNumber (length new.metadata)
   pub concat : IsNumber (length new.concat)
 
+pub record FitsFirst (first : FirstChunk) : Type 0 where
+  pub more : IsNumber first.more
+  pub check : FitsCheck first.check
+
 pub record FitsChunk (chunk : Chunk) : Type 0 where
   pub offset : IsNumber chunk.offset
   pub told : IfSome chunk.length IsNumber
@@ -159,7 +163,7 @@ FitsPiece (piece.Totals released) = IsNumber released
 -- its numbers fit their eight bytes, a SHA-1 has 20 bytes, an end is a moment, and a concatenation and an upload that is
 -- put back have at most 32 parts
 abbrev pub FitsChange : Change → Type 0
-FitsChange (Create tenant new first) = FitsUpload new × FitsCheck first.check
+FitsChange (Create tenant new first) = FitsUpload new × FitsFirst first
 FitsChange (Append name chunk) = IsNumber name.id × FitsChunk chunk
 FitsChange (Concat tenant new) = FitsFinal new
 FitsChange (Terminate name) = IsNumber name.id

@@ -141,12 +141,13 @@ fn upload_of(bytes: &[u8]) -> Option<(NewUpload<'_>, &[u8])>
 fn first_of(bytes: &[u8]) -> Option<FirstChunk<'_>>
     ensures { Gives (λ first. first) result (first_at bytes.now) }
 {
-    let (typed, rest) = flag_of(bytes)?;
+    let (typed, more, rest) = flag_more_of(bytes)?;
     let (check, rest) = check_of(rest)?;
     Some(FirstChunk {
         typed,
         check,
         bytes: Payload::new(rest),
+        more,
     })
 }
 

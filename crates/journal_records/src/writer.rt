@@ -60,7 +60,7 @@ fn put_upload(out: &mut Vec<u8>, new: &NewUpload) -> Result<(), AllocError>
 fn put_first(out: &mut Vec<u8>, first: &FirstChunk) -> Result<(), AllocError>
     ensures { OnOk result (out.new.items ≡ out.old.items ++ first_bytes first.now) }
 {
-    put_flag(out, first.typed)?;
+    put_flag_more(out, first.typed, first.more)?;
     put_check(out, &first.check)?;
     out.extend_from_slice(first.bytes.as_slice())
 }

@@ -79,6 +79,7 @@ fn copied_first<'a>(first: &FirstChunk<'a>) -> FirstChunk<'a>
         typed: first.typed,
         check: first.check,
         bytes: Payload::new(first.bytes.as_slice()),
+        more: first.more,
     }
 }
 

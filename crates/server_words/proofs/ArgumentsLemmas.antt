@@ -12,7 +12,7 @@ use Rattle.clap.specs.Words.{ReadsOne, Text, all_of, first_of, one_text}
 use Rattle.clap.specs.declared.parser.matches.Found.{Found}
 use Rattle.upload_book.specs.declared.settings.Numbers.{Numbers}
 use Rattle.server_words.specs.declared.options.WorkerOptions.{WorkerOptions}
-use Rattle.server_words.specs.Arguments.{ServeArguments, grace_given, is_number, is_set, number_in, metrics_set, number_given, number_under, numbers_given, port_given, run_arguments, run_numbers, run_work, service_arguments, talk_arguments, talk_arguments_with, workers_given}
+use Rattle.server_words.specs.Arguments.{ServeArguments, grace_given, is_number, is_set, number_in, metrics_set, number_given, number_under, numbers_given, piece_set, port_given, run_arguments, run_numbers, run_work, service_arguments, talk_arguments, talk_arguments_with, workers_given}
 
 digits_pass : (digits : List ℕ) → AllDigits 10 digits → list_all (λ d. nat_lt (digit_value d) 10) digits ≡ true
 digits_pass [] h = refl
@@ -78,15 +78,15 @@ flag_read gives f name r parses none value = go (one_text f name) refl ∙ ap (�
     go (Some text) is = flag_in gives text r (parses text) (value text is)
 
 -- the options of `talk` are the arguments that its rows give
-pub talk_arguments-some : (rows : List Row) (numbers : Numbers) (secs moment : ℕ) (journal : Option Text) (words : List Text) → numbers ≡ numbers_given rows → secs ≡ number_under (codes "moment") rows
-    → SomeIff (Some moment) (secs ≤ 253402300799) secs → journal ≡ first_of (codes "journal") rows → Some words ≡ all_of (codes "tenant") rows
-    → Some (record { numbers = numbers; moment = moment; journal = journal; tenants = words }) ≡ talk_arguments rows
-talk_arguments-some rows numbers secs moment journal words all at made beside given =
+pub talk_arguments-some : (rows : List Row) (numbers : Numbers) (secs moment : ℕ) (journal : Option Text) (piece : Option ℕ) (words : List Text) → numbers ≡ numbers_given rows → secs ≡ number_under (codes "moment") rows
+    → SomeIff (Some moment) (secs ≤ 253402300799) secs → journal ≡ first_of (codes "journal") rows → Some piece ≡ piece_set (number_given (codes "pieces") rows) → Some words ≡ all_of (codes "tenant") rows
+    → Some (record { numbers = numbers; moment = moment; journal = journal; piece = piece; tenants = words }) ≡ talk_arguments rows
+talk_arguments-some rows numbers secs moment journal piece words all at made beside sized given =
     let early = le-ltb 253402300799 secs made.0 in
-    rw (← given, ← at, early, ← all, made.1, ← beside) refl
+    rw (← sized, ← given, ← at, early, ← all, made.1, ← beside) refl
 
-pub talk_arguments-none : (rows : List Row) → None ≡ all_of (codes "tenant") rows → None ≡ talk_arguments rows
-talk_arguments-none rows h = ap (talk_arguments_with (number_under (codes "moment") rows) rows) h
+pub talk_arguments-none : (rows : List Row) (piece : Option ℕ) → Some piece ≡ piece_set (number_given (codes "pieces") rows) → None ≡ all_of (codes "tenant") rows → None ≡ talk_arguments rows
+talk_arguments-none rows piece sized h = rw (← sized) (ap (talk_arguments_with (number_under (codes "moment") rows) rows piece) h)
 
 -- the options of a server are the arguments that its rows give
 pub service_arguments-some : (rows : List Row) (numbers : Numbers) (words : List Text) (work : WorkerOptions) (address : Text) (port workers : ℕ) (journal log : Option Text) (metrics : Option ℕ)

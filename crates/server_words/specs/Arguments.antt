@@ -67,26 +67,41 @@ run_numbers rows words =
     numbers_with (unwrap_or (number_given (codes "blocks") rows) (blocks_of_quotas size words))
     (unwrap_or (number_given (codes "max-size") rows) (greatest_quota_bytes size words)) rows
 
--- what `talk` is asked for: the numbers of the settings, the moment of every message, and the words
--- NAME:QUOTA
+-- The size of the pieces in which bodies without a checksum are stored as they come, if one is told. It is from 65,536 to
+-- 1,048,576, and else there are no arguments.
+abbrev pub piece_set : Option ℕ → Option (Option ℕ)
+piece_set None = Some None
+piece_set (Some size) = if nat_lt size 65536 || nat_lt 1048576 size then None else Some (Some size)
+
+-- the bounds of settings, by the size of pieces: wide where there is one, as an upload may then be larger than any body that is
+-- held
+abbrev pub bounds_by : Option ℕ → Bounds
+bounds_by piece = if is_some piece then Wide else Narrow
+
+-- what `talk` is asked for: the numbers of the settings, the moment of every message, the folder of the journal and the size of
+-- pieces, if there are any, and the words NAME:QUOTA
 pub record TalkArguments : Type 0 where
   pub numbers : Numbers
   pub moment : ℕ
   pub journal : Option Text
+  pub piece : Option ℕ
   pub tenants : List Text
 
--- the arguments of `talk`, where there are words NAME:QUOTA, and the moment is at most the last second of the year 9999
-abbrev pub talk_arguments_with : ℕ → List Row → Option (List Text) → Option TalkArguments
-talk_arguments_with moment rows None = None
-talk_arguments_with moment rows (Some words) = if nat_lt 253402300799 moment then None else Some (record {
+-- the arguments of `talk`, where the size of pieces can be, there are words NAME:QUOTA, and the moment is at most the last second
+-- of the year 9999
+abbrev pub talk_arguments_with : ℕ → List Row → Option ℕ → Option (List Text) → Option TalkArguments
+talk_arguments_with moment rows piece None = None
+talk_arguments_with moment rows piece (Some words) = if nat_lt 253402300799 moment then None else Some (record {
   numbers = numbers_given rows;
   moment = moment;
   journal = first_of (codes "journal") rows;
+  piece = piece;
   tenants = words;
 })
 
 abbrev pub talk_arguments : List Row → Option TalkArguments
-talk_arguments rows = talk_arguments_with (number_under (codes "moment") rows) rows (all_of (codes "tenant") rows)
+talk_arguments rows =
+    option_and_then (λ piece. talk_arguments_with (number_under (codes "moment") rows) rows piece (all_of (codes "tenant") rows)) (piece_set (number_given (codes "pieces") rows))
 
 -- The moment that is set for every message, if one is. It is at most the last second of the year 9999, and else there
 -- are no arguments.
@@ -120,12 +135,6 @@ metrics_set (Some port) = if nat_lt 65535 port then None else Some (Some port)
 -- which it can be.
 abbrev pub grace_given : List Row → Option ℕ
 grace_given rows = option_map (λ port. number_under (codes "grace") rows) (number_given (codes "metrics") rows)
-
--- The size of the pieces in which the body of a PATCH is stored as it comes, if one is told. It is from 65,536 to 1,048,576, and
--- else there are no arguments.
-abbrev pub piece_set : Option ℕ → Option (Option ℕ)
-piece_set None = Some None
-piece_set (Some size) = if nat_lt size 65536 || nat_lt 1048576 size then None else Some (Some size)
 
 -- what each worker is asked for, with these of its parts; the options give the others, each under its name
 abbrev pub work_with : List Row → Option ℕ → ℕ → ℕ → ℕ → Option ℕ → Bool → WorkerOptions
@@ -165,11 +174,6 @@ run_work rows max_size =
     option_and_then
     (λ at_once. option_map (λ piece. work_with rows None (2 ^ 64 - 1) at_once (run_body_memory rows max_size) piece true) (piece_set (Some (unwrap_or (number_given (codes "pieces") rows) 262144))))
     (at_once_given true rows)
-
--- the bounds of the settings of a server: wide where bodies are stored in pieces, as an upload may then be larger than any body
--- that is held
-abbrev pub bounds_of : WorkerOptions → Bounds
-bounds_of work = if is_some work.piece then Wide else Narrow
 
 -- the port that is listened at, where the number is one
 abbrev pub port_given : List Row → Option ℕ
@@ -268,6 +272,7 @@ talk_arguments_of options = record {
   numbers = options.numbers;
   moment = options.moment;
   journal = option_map (λ (path : Bor (List ℕ)). path.now) options.journal;
+  piece = options.piece;
   tenants = texts options.tenants.now;
 }
 

@@ -51,6 +51,10 @@ moment_rule = number_rule (codes "moment") 0 253402300799
 abbrev pub journal_rule : Rule
 journal_rule = record (new_rule (codes "journal")) { long = Some (codes "journal"); value_names = 1 }
 
+-- the option --pieces, which takes the size of pieces
+abbrev pub pieces_rule : Rule
+pieces_rule = number_rule (codes "pieces") 65536 1048576
+
 -- the words that stand for themselves: one or more, each a tenant
 abbrev pub tenant_rule : Rule
 tenant_rule = record (new_rule (codes "tenant")) {
@@ -94,8 +98,10 @@ talk_command =
     with_rule
     (with_sizes
     (with_rule
+    (with_rule
     (with_rule (new_app (codes "talk")) (option_rule (codes "moment") (codes "0") 253402300799))
-    journal_rule))
+    journal_rule)
+    pieces_rule))
     tenant_rule
 
 -- the options on how connections are served
@@ -139,7 +145,7 @@ with_many_clients body_memory command =
     (option_between (codes "message-seconds") (codes "0") 0 86400))
     (option_between (codes "least-rate") (codes "0") 0 1073741824))
     body_memory)
-    (number_rule (codes "pieces") 65536 1048576))
+    pieces_rule)
     (number_rule (codes "max-body") 1 16777216)
 
 -- the options on how a service is watched: the file of its log, the port at which numbers and a stop are asked for, and how long

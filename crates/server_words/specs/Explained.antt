@@ -10,9 +10,10 @@ abbrev pub is_least_work : WorkerOptions → Bool
 is_least_work work =
     nat_le work.connections 4096 && (work.at_once == 1 && (work.idle == 60 && (work.message_seconds == 0 && (work.least_rate == 0 && (work.body_memory == 2 ^ 28 && (not (is_some work.piece) && not (is_some work.max_body)))))))
 
--- the command asks for more: for a journal, a log, a port for numbers, another address, or clients at once or for ever
+-- the command asks for more: for a journal, a log, a port for numbers, another address, bodies in pieces, or clients at once or
+-- for ever
 abbrev pub asks_more : CommandArguments → Bool
-asks_more (talk arguments) = is_some arguments.journal
+asks_more (talk arguments) = is_some arguments.journal || is_some arguments.piece
 asks_more (serve arguments) =
     not (bytes_eq arguments.address (codes "127.0.0.1"))
     || (is_some arguments.journal || (is_some arguments.log || (is_some arguments.metrics || not (is_least_work arguments.work))))

@@ -8,7 +8,7 @@ use Rattle.upload_book.specs.declared.settings.Bounds.TheVariants.{Narrow, Wide}
 use Rattle.upload_book.specs.declared.settings.Numbers.{Numbers}
 use Rattle.upload_book.specs.declared.settings_fault.SettingsFault.{SettingsFault}
 use Rattle.upload_book.specs.declared.settings_fault.SettingsFault.TheVariants as settings
-use Rattle.server_words.specs.Arguments.{CommandArguments, bounds_of, talk, serve, check, export}
+use Rattle.server_words.specs.Arguments.{CommandArguments, bounds_by, talk, serve, check, export}
 use Rattle.server_words.specs.Tenants.{is_colon, quota_sum, tenant_in}
 use Rattle.server_words.specs.declared.cause.Cause.{Cause}
 use Rattle.server_words.specs.declared.cause.Cause.TheVariants.{Input, Output, Port, Workers, Accept, Log, Metrics}
@@ -262,8 +262,8 @@ tenant_words (export arguments) = []
 
 -- the bounds of the settings of a command
 abbrev pub bounds_in : CommandArguments → Bounds
-bounds_in (talk arguments) = Narrow
-bounds_in (serve arguments) = bounds_of arguments.work
+bounds_in (talk arguments) = bounds_by arguments.piece
+bounds_in (serve arguments) = bounds_by arguments.work.piece
 bounds_in (check folder) = Narrow
 bounds_in (export arguments) = Narrow
 

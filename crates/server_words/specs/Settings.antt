@@ -2,12 +2,11 @@
 use Rattle.std.specs.Prelude.{ℕ, List, Option, Some, None, Result, Err}
 use Rattle.upload_book.specs.Settings.{Settings, settings_of}
 use Rattle.upload_book.specs.declared.settings.Bounds.{Bounds}
-use Rattle.upload_book.specs.declared.settings.Bounds.TheVariants.{Narrow}
 use Rattle.upload_book.specs.declared.settings.Numbers.{Numbers}
 use Rattle.upload_book.specs.declared.settings.TenantQuota.{TenantQuota}
 use Rattle.upload_book.specs.declared.settings_fault.SettingsFault.{SettingsFault}
 use Rattle.upload_book.specs.declared.settings_fault.SettingsFault.TheVariants.{TenantName}
-use Rattle.server_words.specs.Arguments.{TalkArguments}
+use Rattle.server_words.specs.Arguments.{TalkArguments, bounds_by}
 use Rattle.server_words.specs.Tenants.{tenants_in}
 
 -- the settings of these numbers and tenants under these bounds, or their first fault, which is that of a name where one of the
@@ -20,6 +19,6 @@ settings_with bounds numbers (Some tenants) = settings_of bounds (record { numbe
 abbrev pub settings_given : Bounds → Numbers → List (List ℕ) → Result Settings SettingsFault
 settings_given bounds numbers words = settings_with bounds numbers (tenants_in numbers.block_size words)
 
--- the settings of the arguments of `talk`, or their first fault
+-- the settings of the arguments of `talk`, or their first fault; their bounds are wide where bodies are stored in pieces
 abbrev pub talk_settings : TalkArguments → Result Settings SettingsFault
-talk_settings arguments = settings_given Narrow arguments.numbers arguments.tenants
+talk_settings arguments = settings_given (bounds_by arguments.piece) arguments.numbers arguments.tenants

@@ -1,6 +1,6 @@
 //! How the options are read from what was found in the command line.
 ghost use Rattle.std.specs.Borrow.{Bor};
-ghost use Rattle.std.specs.Prelude.{◌≡◌, ℕ, IfSome, List, codes, false, option_map};
+ghost use Rattle.std.specs.Prelude.{◌≡◌, ◌<◌, ℕ, IfSome, List, codes, false, option_map};
 ghost use Rattle.clap.specs.Walk.{rows_of, texts};
 ghost use Rattle.clap.specs.Words.{all_of, first_of, found_of, subcommand_rows_of};
 ghost use Rattle.server_words.specs.Arguments.{arguments_entered, arguments_of, at_once_given, check, connections_given, export, export_arguments, grace_given, is_by_readiness, is_set, metrics_set, moment_set, number_given, number_under, numbers_given, numbers_with, piece_set, port_given, run_arguments, run_numbers, run_work, serve, serve_arguments, service_arguments, talk, talk_arguments, work_given, work_with, workers_given};
@@ -38,10 +38,12 @@ pub fn command_options<'m, 'a>(matches: &'m ArgMatches<'a>) -> Option<CommandOpt
 fn talk_options<'m, 'a>(found: &'m ArgMatches<'a>) -> Option<CommandOptions<'m, 'a>>
     ensures { option_map arguments_of result ≡ option_map talk (talk_arguments (rows_of (found_of found.now))) }
 {
+    let piece = piece_of(number_given(found, "pieces"))?;
     Some(CommandOptions::Talk(TalkOptions {
         numbers: numbers_of(found),
         moment: Moment::new(number_of(found, "moment"))?,
         journal: found.get_str("journal"),
+        piece,
         tenants: found.get_strs("tenant")?,
     }))
 }
@@ -294,7 +296,8 @@ fn work_with(
 
 /// The size of the pieces in which bodies are stored, if one is told; None where the number is none.
 fn piece_of(told: Option<u64>) -> Option<Option<usize>>
-    ensures { result ≡ piece_set told }
+    ensures set { result ≡ piece_set told }
+    ensures some { IfSome result (λ piece. IfSome piece (λ n. 0 < n)) }
 {
     match told {
         Some(size) if size < 65_536 || size > 1_048_576 => None,

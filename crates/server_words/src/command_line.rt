@@ -2,7 +2,7 @@
 ghost use Rattle.std.specs.Prelude.{◌≡◌, ◌≤◌, IfOk, IsTrue, codes, false, length, map, true};
 ghost use Rattle.clap.specs.Walk.{texts};
 ghost use Rattle.clap.specs.Words.{FailsBy, HasKind, app_of, fault_of, new_app, rule_of, subcommand_of, subcommand_rows_of};
-ghost use Rattle.server_words.specs.CommandLine.{are_of_journal, ask_help_of_journal, check_command, command_in, export_command, faults_in, flag_rule, help_kinds, is_word, journal_alone, journal_program, journal_rule, log_rule, moment_rule, option_between, option_rule, program, number_rule, program_alone, run_command, serve_command, talk_command, tenant_rule, text_rule, with_many_clients, with_run_service, with_run_sizes, with_service, with_sizes, with_watch, word_rule};
+ghost use Rattle.server_words.specs.CommandLine.{are_of_journal, ask_help_of_journal, check_command, command_in, export_command, faults_in, flag_rule, help_kinds, is_word, journal_alone, journal_program, journal_rule, log_rule, moment_rule, option_between, option_rule, pieces_rule, program, number_rule, program_alone, run_command, serve_command, talk_command, tenant_rule, text_rule, with_many_clients, with_run_service, with_run_sizes, with_service, with_sizes, with_watch, word_rule};
 
 use crate::version::VERSION;
 use clap::{Arg, ArgAction, ArgMatches, Command, value_parser};
@@ -295,7 +295,10 @@ fn program_alone<'a>(alloc: Global) -> Result<Command<'a>, AllocError>
 fn talk<'a>(alloc: Global) -> Result<Command<'a>, AllocError>
     ensures { IfOk result (λ c. app_of c ≡ talk_command) }
 {
-    let command = talk_alone(alloc).arg(moment(alloc))?.arg(journal(alloc))?;
+    let command = talk_alone(alloc)
+        .arg(moment(alloc))?
+        .arg(journal(alloc))?
+        .arg(pieces(alloc))?;
     sizes(alloc, command)?.arg(tenants(alloc))
 }
 
@@ -346,10 +349,17 @@ fn serve_alone<'a>(alloc: Global) -> Command<'a>
 fn run<'a>(alloc: Global) -> Result<Command<'a>, AllocError>
     ensures { IfOk result (λ c. app_of c ≡ run_command) }
 {
+    let command = watch(alloc, run_with_clients(alloc)?)?;
+    run_sizes(alloc, command.arg(journal(alloc))?)?.arg(tenants(alloc))
+}
+
+/// The command `run`, with its options on clients alone.
+fn run_with_clients<'a>(alloc: Global) -> Result<Command<'a>, AllocError>
+    ensures { IfOk result (λ c. app_of c
+        ≡ with_many_clients (number_rule (codes "body-memory") 0 18446744073709551615) (with_run_service (new_app (codes "run")))) }
+{
     let served = run_service(alloc, run_alone(alloc))?;
-    let with_clients = many_clients(alloc, served, run_body_memory(alloc))?;
-    let command = watch(alloc, with_clients)?.arg(journal(alloc))?;
-    run_sizes(alloc, command)?.arg(tenants(alloc))
+    many_clients(alloc, served, run_body_memory(alloc))
 }
 
 /// The command `run`, without its arguments.
@@ -428,9 +438,7 @@ fn metrics<'a>(alloc: Global) -> Arg<'a>
     ensures rule { rule_of result ≡ number_rule (codes "metrics") 1 65535 }
     ensures local { result.global ≡ false }
 {
-    Arg::new(alloc, "metrics")
-        .long("metrics")
-        .value_name("PORT")
+    number_alone(alloc, "metrics", "PORT")
         .value_parser(value_parser!(u64).range(1..65_536))
         .help(
             "Answer GET /metrics, for Prometheus, GET /health and, from this machine, POST /stop at this port of the same address, 1 to 65535",
@@ -518,9 +526,7 @@ fn at_once<'a>(alloc: Global) -> Arg<'a>
     ensures rule { rule_of result ≡ number_rule (codes "at-once") 1 16384 }
     ensures local { result.global ≡ false }
 {
-    Arg::new(alloc, "at-once")
-        .long("at-once")
-        .value_name("N")
+    number_alone(alloc, "at-once", "N")
         .value_parser(value_parser!(u64).range(1..16_385))
         .help(
             "How many connections each worker holds at once, 1 to 16384; with --forever 8192 unless set, else 1",
@@ -566,40 +572,32 @@ fn run_body_memory<'a>(alloc: Global) -> Arg<'a>
     ensures rule { rule_of result ≡ number_rule (codes "body-memory") 0 18446744073709551615 }
     ensures local { result.global ≡ false }
 {
-    Arg::new(alloc, "body-memory")
-        .long("body-memory")
-        .value_name("BYTES")
-        .value_parser(value_parser!(u64))
-        .help(
-            "How many bytes of bodies and replies that are under way are held; 268435456 above --max-size unless set",
-        )
+    number_alone(alloc, "body-memory", "BYTES").help(
+        "How many bytes of bodies and replies that are under way are held; 268435456 above --max-size unless set",
+    )
 }
 
 /// The option that has bodies stored in pieces.
 fn pieces<'a>(alloc: Global) -> Arg<'a>
-    ensures rule { rule_of result ≡ number_rule (codes "pieces") 65536 1048576 }
+    ensures rule { rule_of result ≡ pieces_rule }
     ensures local { result.global ≡ false }
 {
-    Arg::new(alloc, "pieces")
-        .long("pieces")
-        .value_name("BYTES")
+    number_alone(alloc, "pieces", "BYTES")
         .value_parser(value_parser!(u64).range(65_536..1_048_577))
         .help(
-            "Store the body of a PATCH without a checksum as it comes, in pieces of so many bytes, 65536 to 1048576; --max-size may then be up to 1099511627776",
+            "Store bodies without a checksum as they come, in pieces of so many bytes, 65536 to 1048576; --max-size may then be up to 1099511627776",
         )
 }
 
-/// The option for how long a body may be that is gathered.
+/// The option for how long a body may be that is not stored in pieces.
 fn max_body<'a>(alloc: Global) -> Arg<'a>
     ensures rule { rule_of result ≡ number_rule (codes "max-body") 1 16777216 }
     ensures local { result.global ≡ false }
 {
-    Arg::new(alloc, "max-body")
-        .long("max-body")
-        .value_name("BYTES")
+    number_alone(alloc, "max-body", "BYTES")
         .value_parser(value_parser!(u64).range(1..16_777_217))
         .help(
-            "The greatest body that is gathered, 1 to 16777216; --max-size unless set, or 16777216 if that is more",
+            "The greatest body, with --pieces the greatest with a checksum, 1 to 16777216; --max-size unless set, or 16777216 if that is more",
         )
 }
 
@@ -608,9 +606,7 @@ fn set_moment<'a>(alloc: Global) -> Arg<'a>
     ensures rule { rule_of result ≡ moment_rule }
     ensures local { result.global ≡ false }
 {
-    Arg::new(alloc, "moment")
-        .long("moment")
-        .value_name("SECONDS")
+    number_alone(alloc, "moment", "SECONDS")
         .value_parser(value_parser!(u64).range(..=253_402_300_799))
         .help(
             "The time of every request, in seconds since 1970-01-01 00:00:00 UTC, in place of the clock's",
@@ -660,13 +656,9 @@ fn run_blocks<'a>(alloc: Global) -> Arg<'a>
     ensures rule { rule_of result ≡ number_rule (codes "blocks") 0 18446744073709551615 }
     ensures local { result.global ≡ false }
 {
-    Arg::new(alloc, "blocks")
-        .long("blocks")
-        .value_name("N")
-        .value_parser(value_parser!(u64))
-        .help(
-            "How many blocks the server has, 1 to 1048576; as many as the quotas sum to unless set",
-        )
+    number_alone(alloc, "blocks", "N").help(
+        "How many blocks the server has, 1 to 1048576; as many as the quotas sum to unless set",
+    )
 }
 
 /// The option for the greatest upload of `run`.
@@ -674,11 +666,9 @@ fn run_max_size<'a>(alloc: Global) -> Arg<'a>
     ensures rule { rule_of result ≡ number_rule (codes "max-size") 0 18446744073709551615 }
     ensures local { result.global ≡ false }
 {
-    Arg::new(alloc, "max-size")
-        .long("max-size")
-        .value_name("BYTES")
-        .value_parser(value_parser!(u64))
-        .help("The greatest upload, 1 to 1099511627776; the largest quota unless set")
+    number_alone(alloc, "max-size", "BYTES").help(
+        "The greatest upload, 1 to 1099511627776; the largest quota unless set",
+    )
 }
 
 /// The option for how many bytes a block has.
@@ -741,9 +731,16 @@ fn number<'a>(alloc: Global, name: &'a str, value: &'a str, default: &'a str) ->
         ≡ option_rule name.entry.now default.entry.now 18446744073709551615 }
     ensures local { result.global ≡ false }
 {
+    number_alone(alloc, name, value).default_value(default)
+}
+
+/// An option that takes a number, and has no default.
+fn number_alone<'a>(alloc: Global, name: &'a str, value: &'a str) -> Arg<'a>
+    ensures rule { rule_of result ≡ number_rule name.entry.now 0 18446744073709551615 }
+    ensures local { result.global ≡ false }
+{
     Arg::new(alloc, name)
         .long(name)
         .value_name(value)
         .value_parser(value_parser!(u64))
-        .default_value(default)
 }

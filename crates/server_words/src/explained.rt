@@ -7,12 +7,12 @@ use crate::options::{CommandOptions, ServeOptions, WorkerOptions};
 
 impl<'m, 'a> CommandOptions<'m, 'a> {
     /// Whether it asks for more than a conversation, or than connections of this machine one after another: for a journal, a
-    /// log, a port for numbers, another address, or clients at once or for ever. Its faults are explained then.
+    /// log, a port for numbers, another address, bodies in pieces, or clients at once or for ever. Its faults are explained then.
     pub fn asks_more(&self) -> bool
         ensures { result ≡ asks_more (arguments_of self.now) }
     {
         match self {
-            CommandOptions::Talk(options) => options.journal.is_some(),
+            CommandOptions::Talk(options) => options.journal.is_some() || options.piece.is_some(),
             CommandOptions::Serve(options) => options.asks_more(),
             CommandOptions::Check(_) | CommandOptions::Export(_) => true,
         }

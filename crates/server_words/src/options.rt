@@ -1,5 +1,6 @@
 //! What the command line asks for: a command with its options.
-ghost use Rattle.std.specs.Prelude.{◌≡◌, None, false};
+ghost use Rattle.std.specs.Prelude.{◌≡◌, ◌<◌, IfSome, None, false};
+ghost use Rattle.std.proofs.Props.{props};
 ghost use Rattle.upload_book.specs.Settings.{is_outside};
 
 use upload_book::{Moment, Numbers};
@@ -22,8 +23,11 @@ pub struct TalkOptions<'m, 'a> {
     pub moment: Moment,
     /// The folder of the journal, where there is one.
     pub journal: Option<&'a str>,
+    /// The size of the pieces in which bodies without a checksum are stored as they come; bodies are gathered where there is none.
+    pub piece: Option<usize>,
     /// Words NAME:QUOTA, as they were given.
     pub tenants: &'m [&'a str],
+    pub ghost pieces_have_bytes: { IfSome piece (λ n. 0 < n) } by { Prim.hlevel props },
 }
 
 /// What the command `serve` or `run` was asked for.
@@ -66,7 +70,7 @@ pub struct WorkerOptions {
     pub least_rate: u64,
     /// How many bytes all workers together may hold of bodies that are half read, and of replies that are half sent.
     pub body_memory: u64,
-    /// The size of the pieces in which the body of a PATCH is stored as it comes; bodies are gathered where there is none.
+    /// The size of the pieces in which bodies without a checksum are stored as they come; bodies are gathered where there is none.
     pub piece: Option<usize>,
     /// The most bytes of a body that is gathered; where there is none, those of the greatest upload, and at most 16,777,216.
     pub max_body: Option<u64>,

@@ -97,9 +97,9 @@ fn bounds_of(command: &CommandOptions) -> Bounds
     ensures { result ≡ bounds_in (arguments_of command.now) }
 {
     match command {
-        CommandOptions::Talk(_) | CommandOptions::Check(_) | CommandOptions::Export(_) =>
-            Bounds::Narrow,
+        CommandOptions::Talk(options) => options.bounds(),
         CommandOptions::Serve(options) => options.work.bounds(),
+        CommandOptions::Check(_) | CommandOptions::Export(_) => Bounds::Narrow,
     }
 }
 

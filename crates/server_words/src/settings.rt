@@ -2,13 +2,13 @@
 ghost use Rattle.std.specs.Prelude.{◌≡◌, Some, Ok, IfOk, IfErr, ok_or};
 ghost use Rattle.clap.specs.Walk.{texts};
 ghost use Rattle.upload_book.specs.Settings.{tenants_of};
-ghost use Rattle.server_words.specs.Arguments.{bounds_of};
+ghost use Rattle.server_words.specs.Arguments.{bounds_by};
 ghost use Rattle.server_words.specs.Fault.{IsFaultOf};
 ghost use Rattle.server_words.specs.Settings.{settings_given};
 ghost use Rattle.server_words.specs.Tenants.{tenants_in};
 
 use crate::fault::RunFault;
-use crate::options::WorkerOptions;
+use crate::options::{TalkOptions, WorkerOptions};
 use crate::tenants::tenant_of;
 use std::alloc::{AllocError, Global};
 use upload_book::{Bounds, Numbers, Settings, SettingsFault};
@@ -16,13 +16,28 @@ use upload_book::{Bounds, Numbers, Settings, SettingsFault};
 impl WorkerOptions {
     /// The bounds of the settings: wide where bodies are stored in pieces.
     pub fn bounds(&self) -> Bounds
-        ensures { result ≡ bounds_of self.now }
+        ensures { result ≡ bounds_by self.now.piece }
     {
-        if self.piece.is_some() {
-            Bounds::Wide
-        } else {
-            Bounds::Narrow
-        }
+        bounds_by(self.piece)
+    }
+}
+
+impl<'m, 'a> TalkOptions<'m, 'a> {
+    /// The bounds of the settings: wide where bodies are stored in pieces.
+    pub fn bounds(&self) -> Bounds
+        ensures { result ≡ bounds_by self.now.piece }
+    {
+        bounds_by(self.piece)
+    }
+}
+
+/// The bounds of the settings where bodies are stored in pieces of this size, or gathered.
+fn bounds_by(piece: Option<usize>) -> Bounds
+    ensures { result ≡ bounds_by piece }
+{
+    match piece {
+        Some(_) => Bounds::Wide,
+        None => Bounds::Narrow,
     }
 }
 

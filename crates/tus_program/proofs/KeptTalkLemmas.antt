@@ -1,13 +1,17 @@
 -- How `talk --journal` ends, by how its conversation does.
-use Rattle.std.proofs.Common.{◌≡◌, ◌⊎◌, ℕ, Bool, true, false, List, [], ◌++◌, Option, Some, Result, Ok, Err, inl, inr, replicate, refl, ◌∙◌, sym, ap, subst, append_assoc, true≢false}
-use Rattle.std.specs.Io.KnownBytes.{Appends, Consumes}
+use Rattle.std.proofs.Common.{◌≡◌, ◌≢◌, ◌⊎◌, ℕ, Bool, true, false, List, [], ◌++◌, Option, Some, None, Result, Ok, Err, inl, inr, replicate, refl, ◌∙◌, sym, ap, subst, append_assoc, true≢false}
+use Rattle.std.specs.Io.KnownBytes.{Appends, Consumes, Keeps}
+use Rattle.std.specs.Prelude.{IfSome}
 use Rattle.std.proofs.lemmas.List.{append-nil}
 use Rattle.sqlite_disk.specs.declared.Disk.{Ghosts}
 use Rattle.http_wire.specs.BodyLimits.{alike}
 use Rattle.http_wire.specs.Conversation.{Conversation}
 use Rattle.http_wire.specs.Exchange.{Exchange}
 use Rattle.http_wire.specs.Fault.{NamesOrMemory}
+use Rattle.http_wire.specs.OnConnection.{wanted}
 use Rattle.http_wire.specs.Turns.{Breaks}
+use Rattle.http_wire.specs.declared.connection.Wants.TheVariants.{Answer}
+use Rattle.http_wire.specs.declared.body_limits.BodyLimits.{BodyLimits}
 use Rattle.http_wire.specs.declared.conversation.Ended.{Ended}
 use Rattle.http_wire.specs.declared.fault.WireFault.{WireFault}
 use Rattle.http_wire.specs.declared.fault.WireFault.TheVariants as wire
@@ -28,10 +32,12 @@ use Rattle.server_words.specs.declared.fault.RunFault.{RunFault}
 use Rattle.server_words.specs.declared.fault.RunFault.TheVariants as run
 use Rattle.journal_folders.specs.ReadJournal.{journal_key}
 use Rattle.tus_program.specs.KeptStep.{KeptState, AnswersKept, FailsKept, StaysFailed, IsStepKept, IsJournalStep, working}
-use Rattle.tus_program.specs.KeptTalk.{KeptTalkEnds, HoldsKept, LosesKept, OutlivesCrash, TalksKept, BreaksKept}
+use Rattle.tus_program.specs.KeptTalk.{KeptTalkEnds, HoldsKeptBy, LosesKeptBy, OutlivesCrash, PassesKeptInPieces, TalksKept, BreaksKept}
 use Rattle.tus_program.specs.Talk.{moments_at}
-use Rattle.tus_program.proofs.SimulationLemmas.{Conversation-like, Breaks-like}
-use Rattle.tus_program.proofs.TalkLemmas.{Keeps-appended, Keeps-consumed, is_ok_by, laid, not_err}
+use Rattle.tus_program.specs.TalkInPieces.{IsOver, TalksInPieces}
+use Rattle.tus_program.proofs.SimulationLemmas.{Conversation-like, Breaks-like, Follows-like}
+use Rattle.tus_program.proofs.TalkInPiecesLemmas.{talks-with}
+use Rattle.tus_program.proofs.TalkLemmas.{is_ok_by, laid, not_err, read_by}
 
 -- the journal has failed
 abbrev failed_with : PlainBook → KeptState
@@ -210,43 +216,99 @@ module _ {D : Type 0} {g : Ghosts D} where
             breaks = subst (λ (at : List ℕ). Breaks IsJournalStep limits at (record { input = x.input; text = x.text; before = working (book_in opened); after = broken.0 }) f) (laid arguments.moment) broken.2;
           }
 
-      loses : (x : Exchange A) (f : WireFault) → has_failed x.before ≡ false → talk_settings arguments ≡ Ok s → IsOpened s journal_key found (kept x.before) → key_in (kept x.before) ≡ journal_key
-          → Consumes reader.before reader.after x.input → Appends writer.before writer.after x.text → Breaks steps (alike (book_in (kept x.before)).settings.numbers.max_size) (replicate 4096 arguments.moment) x f
-          → LosesKept g.seen g.may_leave g.is_clean arguments reader writer
-      loses x f works given is_opened key consumes appends h = record {
-        got = x.input;
-        text = x.text;
-        consumes = consumes;
-        appends = appends;
-        breaks = Breaks-kept x f works given is_opened key h;
-      }
+      -- what passed in pieces on the book that was opened
+      abbrev passes : (n : ℕ) (before after : A) → has_failed before ≡ false → talk_settings arguments ≡ Ok s → IsOpened s journal_key found (kept before) → key_in (kept before) ≡ journal_key
+          → TalksInPieces steps n arguments.moment (book_in (kept before)).settings.numbers.max_size before after reader.before reader.after writer.before writer.after
+          → PassesKeptInPieces g.seen g.may_leave g.is_clean arguments reader writer n (has_failed after)
+      passes n before after works given is_opened key talks =
+          let opened = kept before in
+          let most = (book_in opened).settings.numbers.max_size in
+          let whole = Follows-like steps IsJournalStep (Like opened) (on opened) (alike most) before talks.passed.answered after (working (book_in opened)) (like_first before works) talks.answered in
+          record {
+            settings = s;
+            is_given = given;
+            found = found;
+            opened = disk_in opened;
+            last = disk_in (kept after);
+            before = book_in opened;
+            after = whole.0;
+            outlives = outlives s found opened (kept after) (has_failed after) whole.0 is_opened key whole.1;
+            failed_is = whole.1.failed_is;
+            talks = talks-with steps IsJournalStep n arguments.moment most before after (working (book_in opened)) whole.0 reader.before reader.after writer.before writer.after talks whole.2;
+          }
 
-      -- the conversation was broken off by this fault
-      pub KeptTalkEnds-broken : (T : Type 0) (x : Exchange A) (f : WireFault) → has_failed x.before ≡ false → talk_settings arguments ≡ Ok s → IsOpened s journal_key found (kept x.before) → key_in (kept x.before) ≡ journal_key
-          → NamesOrMemory reader.has_failed writer.has_failed f → Consumes reader.before reader.after x.input → Appends writer.before writer.after x.text
-          → Breaks steps (alike (book_in (kept x.before)).settings.numbers.max_size) (replicate 4096 arguments.moment) x f
-          → KeptTalkEnds g.seen g.may_leave g.is_clean arguments reader writer {T = T} (Err (fault_of_wire f))
-      KeptTalkEnds-broken T x wire.Read works given is_opened key named consumes appends h = (loses x wire.Read works given is_opened key consumes appends h, named.0)
-      KeptTalkEnds-broken T x wire.Write works given is_opened key named consumes appends h = (loses x wire.Write works given is_opened key consumes appends h, named.1)
-      KeptTalkEnds-broken T x wire.Memory works given is_opened key named consumes appends h = record {
-        reader_keeps = Keeps-consumed reader.before reader.after x.input consumes h.0;
-        writer_keeps = Keeps-appended writer.before writer.after x.text appends h.1;
-        reader_alive = named.0;
-        writer_alive = named.1;
-        untouched = not_err _ (talk_settings arguments) s given;
-      }
-      KeptTalkEnds-broken T x wire.Failed works given is_opened key named consumes appends h = absurd h
+      -- over the book that was opened
+      module _ (before after : A) (works : has_failed before ≡ false) (given : talk_settings arguments ≡ Ok s) (is_opened : IsOpened s journal_key found (kept before)) (key : key_in (kept before) ≡ journal_key) where
+        abbrev limits : BodyLimits
+        limits = alike (book_in (kept before)).settings.numbers.max_size
 
-      -- the conversation ended, and no stream has failed
-      pub holds : (before after : A) (e : Ended) → has_failed before ≡ false → talk_settings arguments ≡ Ok s → IsOpened s journal_key found (kept before) → key_in (kept before) ≡ journal_key → IsAlive reader → IsAlive writer
-          → ((input written : List ℕ) → reader.before ≡ Some input → writer.before ≡ Some written → (text : List ℕ) × (writer.after ≡ Some (written ++ text))
-          × Conversation steps (alike (book_in (kept before)).settings.numbers.max_size) (replicate 4096 arguments.moment) (record { input = input; text = text; before = before; after = after }) e)
-          → HoldsKept g.seen g.may_leave g.is_clean arguments reader writer (has_failed after)
-      holds before after e works given is_opened key read wrote known = record {
-        settings = is_ok_by (talk_settings arguments) s given;
-        talks = λ input written has had.
-            let told = known input written has had in
-            (told.0, told.1, Talks-kept (record { input = input; text = told.0; before = before; after = after }) e works given is_opened key told.2);
-        reader_alive = read;
-        writer_alive = wrote;
-      }
+        abbrev Broken : WireFault → Type 0
+        Broken f = (got text : List ℕ) × Consumes reader.before reader.after got × Appends writer.before writer.after text
+            × Breaks steps limits (replicate 4096 arguments.moment) (record { input = got; text = text; before = before; after = after }) f
+
+        abbrev Talked : ℕ → Type 0
+        Talked n = TalksInPieces steps n arguments.moment (book_in (kept before)).settings.numbers.max_size before after reader.before reader.after writer.before writer.after
+
+        loses : (f : WireFault) → NamesOrMemory reader.has_failed writer.has_failed f → f ≢ wire.Memory → (arguments.piece ≡ None → Broken f) → IfSome arguments.piece (λ n. f ≢ wire.Memory → (talks : Talked n) × (f ≡ wire.Read → wanted talks.connection ≢ Answer))
+            → LosesKeptBy g.seen g.may_leave g.is_clean arguments reader writer arguments.piece
+        loses f named not_memory gathers pieces = go arguments.piece gathers pieces
+          where
+            go : (piece : Option ℕ) → (piece ≡ None → Broken f) → IfSome piece (λ n. f ≢ wire.Memory → (talks : Talked n) × (f ≡ wire.Read → wanted talks.connection ≢ Answer)) → LosesKeptBy g.seen g.may_leave g.is_clean arguments reader writer piece
+            go None gathers pieces =
+                let h = gathers refl in
+                record {
+                  got = h.0;
+                  text = h.1;
+                  consumes = h.2;
+                  appends = h.3;
+                  breaks = Breaks-kept (record { input = h.0; text = h.1; before = before; after = after }) f works given is_opened key h.4;
+                }
+            go (Some n) gathers pieces =
+                let told = pieces not_memory in
+                record {
+                  failed = has_failed after;
+                  passes = passes n before after works given is_opened key told.0;
+                  applied = λ failed. told.1 (read_by reader.has_failed writer.has_failed f named failed);
+                }
+
+        -- the conversation was broken off by this fault
+        pub KeptTalkEnds-broken : (T : Type 0) (f : WireFault) → NamesOrMemory reader.has_failed writer.has_failed f → (arguments.piece ≡ None → Broken f) → IfSome arguments.piece (λ n. f ≢ wire.Memory → (talks : Talked n) × (f ≡ wire.Read → wanted talks.connection ≢ Answer))
+            → (f ≡ wire.Memory → Keeps reader.before reader.after × Keeps writer.before writer.after) → KeptTalkEnds g.seen g.may_leave g.is_clean arguments reader writer {T = T} (Err (fault_of_wire f))
+        KeptTalkEnds-broken T wire.Read named gathers pieces memory = (loses wire.Read named (λ e. absurd cc) gathers pieces, named.0)
+        KeptTalkEnds-broken T wire.Write named gathers pieces memory = (loses wire.Write named (λ e. absurd cc) gathers pieces, named.1)
+        KeptTalkEnds-broken T wire.Memory named gathers pieces memory = record {
+          reader_keeps = (memory refl).0;
+          writer_keeps = (memory refl).1;
+          reader_alive = named.0;
+          writer_alive = named.1;
+          untouched = not_err _ (talk_settings arguments) s given;
+        }
+        KeptTalkEnds-broken T wire.Failed named gathers pieces memory = absurd named
+
+        -- the conversation ended, and no stream has failed
+        pub holds : IsAlive reader → IsAlive writer
+            → (arguments.piece ≡ None → (input written : List ℕ) → reader.before ≡ Some input → writer.before ≡ Some written → (e : Ended) × (text : List ℕ) × (writer.after ≡ Some (written ++ text))
+            × Conversation steps limits (replicate 4096 arguments.moment) (record { input = input; text = text; before = before; after = after }) e)
+            → IfSome arguments.piece (λ n. (talks : Talked n) × IsOver talks.passed talks.connection)
+            → HoldsKeptBy g.seen g.may_leave g.is_clean arguments reader writer arguments.piece (has_failed after)
+        holds read wrote known pieces = go arguments.piece known pieces
+          where
+            go : (piece : Option ℕ)
+                → (piece ≡ None → (input written : List ℕ) → reader.before ≡ Some input → writer.before ≡ Some written → (e : Ended) × (text : List ℕ) × (writer.after ≡ Some (written ++ text))
+                × Conversation steps limits (replicate 4096 arguments.moment) (record { input = input; text = text; before = before; after = after }) e)
+                → IfSome piece (λ n. (talks : Talked n) × IsOver talks.passed talks.connection)
+                → HoldsKeptBy g.seen g.may_leave g.is_clean arguments reader writer piece (has_failed after)
+            go None known pieces = record {
+              settings = is_ok_by (talk_settings arguments) s given;
+              talks = λ input written has had.
+                  let told = known refl input written has had in
+                  (told.1, told.2, Talks-kept (record { input = input; text = told.1; before = before; after = after }) told.0 works given is_opened key told.3);
+              reader_alive = read;
+              writer_alive = wrote;
+            }
+            go (Some n) known pieces = record {
+              passes = passes n before after works given is_opened key pieces.0;
+              over = pieces.1;
+              reader_alive = read;
+              writer_alive = wrote;
+            }

@@ -4,4 +4,5 @@ pub mod ReportLemmas
 pub mod RunLemmas
 pub mod ServeLemmas
 pub mod SimulationLemmas
+pub mod TalkInPiecesLemmas
 pub mod TalkLemmas

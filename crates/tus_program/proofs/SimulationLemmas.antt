@@ -2,6 +2,7 @@
 use Rattle.std.proofs.Common.{◌≡◌, ℕ, Bool, true, false, List, [], ◌∷◌, inl, inr, refl, sym, subst}
 use Rattle.http_wire.specs.Conversation.{Course, Conversation, EndsWith, Goes, MessageTurn}
 use Rattle.http_wire.specs.Exchange.{Exchange, last_part}
+use Rattle.http_wire.specs.History.{Answering, Follows}
 use Rattle.http_wire.specs.NextMessage.{NextMessage, message, refused, cut_patch, cut_other, clean_end}
 use Rattle.http_wire.specs.Turns.{Breaks, BreaksOff, FailsIn}
 use Rattle.http_wire.specs.declared.body_limits.BodyLimits.{BodyLimits}
@@ -19,6 +20,14 @@ module _ {A B : Type 0} (steps : A → Request → ℕ → Reply → A → Type 
     (on : (a : A) (p : B) (r : Request) (now : ℕ) (reply : Reply) (b : A) → Like a p → steps a r now reply b → (q : B) × Like b q × others p r now reply q) (limits : BodyLimits) where
   stays : (a b : A) (p : B) → b ≡ a → Like a p → Like b p
   stays a b p same like = subst (λ (c : A). Like c p) (sym same) like
+
+  -- answers that follow each other
+  pub Follows-like : (a : A) (answered : List Answering) (b : A) (p : B) → Like a p → Follows steps a answered b → (q : B) × Like b q × Follows others p answered q
+  Follows-like a [] b p like h = (p, stays a b p h like, refl)
+  Follows-like a (q ∷ answered) b p like h =
+      let made = on a p q.request q.now q.reply h.0 like h.1 in
+      let later = Follows-like h.0 answered b made.0 made.1 h.2 in
+      (later.0, later.1, (made.0, made.2, later.2))
 
   EndsWith-like : (ends : Ended) (last : List ℕ) (x : Exchange A) (e : Ended) (p : B) → Like x.before p → EndsWith ends last x e → (q : B) × Like x.after q × EndsWith ends last (between x p q) e
   EndsWith-like ends last x e p like h = (p, stays x.before x.after p h.same like, record { ended = h.ended; text = h.text; same = refl })

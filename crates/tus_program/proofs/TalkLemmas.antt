@@ -1,8 +1,8 @@
 -- How `talk` ends, by how its conversation does.
-use Rattle.std.proofs.Common.{◌≡◌, ℕ, Bool, List, [], ◌++◌, Option, Some, None, Result, Ok, Err, replicate, refl, ◌∙◌, ap, sym, subst, subst₂}
-use Rattle.std.specs.Prelude.{OnErr, IsOk}
+use Rattle.std.proofs.Common.{◌≡◌, ◌≢◌, ℕ, Bool, List, [], ◌++◌, Option, Some, None, Result, Ok, Err, replicate, true≢false, refl, ◌∙◌, ap, sym, subst, subst₂}
+use Rattle.std.specs.Prelude.{MatchResult, OnErr, OnOk, IfErr, IfSome, IsErrAnd, IsOk, IsTrue}
 use Rattle.std.specs.Io.KnownBytes.{Appends, Consumes, Keeps}
-use Rattle.std.proofs.lemmas.List.{append-nil}
+use Rattle.std.proofs.lemmas.Result.{err_from_is_err_and}
 use Rattle.http_wire.specs.BodyLimits.{alike}
 use Rattle.http_wire.specs.BookStep.{BookStep}
 use Rattle.http_wire.proofs.CarriedLemmas.{Conversation-carried, Breaks-carried}
@@ -13,7 +13,10 @@ use Rattle.upload_book.specs.Book.{StoredBook, plain_of}
 use Rattle.http_wire.specs.Conversation.{Conversation}
 use Rattle.http_wire.specs.Exchange.{Exchange}
 use Rattle.http_wire.specs.Fault.{NamesStream, NamesOrMemory}
+use Rattle.http_wire.specs.History.{Follows}
+use Rattle.http_wire.specs.OnConnection.{wanted}
 use Rattle.http_wire.specs.Turns.{Breaks}
+use Rattle.http_wire.specs.declared.connection.Wants.TheVariants.{Answer}
 use Rattle.http_wire.specs.declared.conversation.Ended.{Ended}
 use Rattle.http_wire.specs.declared.fault.WireFault.{WireFault}
 use Rattle.http_wire.specs.declared.fault.WireFault.TheVariants as wire
@@ -24,19 +27,10 @@ use Rattle.server_words.specs.Arguments.{TalkArguments}
 use Rattle.tus_program.specs.Fault.{fault_of_wire}
 use Rattle.server_words.specs.Settings.{talk_settings}
 use Rattle.journal_folders.specs.StreamUse.{StreamUse, IsAlive}
-use Rattle.tus_program.specs.Talk.{BreaksTalk, LosesTalk, TalkEnds, Talks, moments_at}
-
--- where no byte was read, all are left
-pub Keeps-consumed : (old new : Option (List ℕ)) (got : List ℕ) → Consumes old new got → got ≡ [] → Keeps old new
-Keeps-consumed None new got h none = tt
-Keeps-consumed (Some xs) None got h none = h
-Keeps-consumed (Some xs) (Some ys) got h none = cc
-
--- where no byte was written, those before it stay
-pub Keeps-appended : (old new : Option (List ℕ)) (text : List ℕ) → Appends old new text → text ≡ [] → Keeps old new
-Keeps-appended None new text h none = tt
-Keeps-appended (Some xs) None text h none = h
-Keeps-appended (Some xs) (Some ys) text h none = h ∙ (ap (λ t. xs ++ t) none ∙ append-nil xs)
+use Rattle.server_words.specs.declared.fault.RunFault.{RunFault}
+use Rattle.tus_program.specs.Talk.{BreaksTalk, HoldsBy, LosesBy, PassesInPieces, TalkEnds, Talks, moments_at}
+use Rattle.tus_program.specs.TalkInPieces.{IsOver, TalksInPieces}
+use Rattle.tus_program.proofs.TalkInPiecesLemmas.{Follows-carried, talks-with}
 
 pub laid : (now : ℕ) → replicate 4096 now ≡ moments_at now
 unfolding moments_at
@@ -83,49 +77,104 @@ is_ok_by {T} {E} r v is = subst (λ (r : Result T E). IsOk r) (sym is) refl
 pub not_err : {T E : Type 0} (P : Type 0) (r : Result T E) (v : T) → r ≡ Ok v → OnErr r P
 not_err {T} {E} P r v is = subst (λ (r : Result T E). OnErr r P) (sym is) tt
 
--- the conversation was broken off by this fault
-pub TalkEnds-broken : {R W : Type 0} (T : Type 0) (arguments : TalkArguments) (reader : StreamUse R) (writer : StreamUse W) (x : Exchange StoredBook) (f : WireFault)
-    → talk_settings arguments ≡ Ok (plain_of x.before).settings → plain_of x.before ≡ opening_book (plain_of x.before).settings → NamesOrMemory reader.has_failed writer.has_failed f
-    → Consumes reader.before reader.after x.input → Appends writer.before writer.after x.text → Breaks BookStep (alike (plain_of x.before).settings.numbers.max_size) (replicate 4096 arguments.moment) x f
-    → TalkEnds arguments reader writer {T = T} (Err (fault_of_wire f))
-TalkEnds-broken T arguments reader writer x wire.Read given new named consumes appends h =
-    let lost : LosesTalk arguments reader writer = record {
-      got = x.input;
-      text = x.text;
-      consumes = consumes;
-      appends = appends;
-      breaks = BreaksTalk-from (talk_settings arguments) arguments.moment reader.has_failed writer.has_failed x wire.Read given new named h;
-    } in
-    (lost, named.0)
-TalkEnds-broken T arguments reader writer x wire.Write given new named consumes appends h =
-    let lost : LosesTalk arguments reader writer = record {
-      got = x.input;
-      text = x.text;
-      consumes = consumes;
-      appends = appends;
-      breaks = BreaksTalk-from (talk_settings arguments) arguments.moment reader.has_failed writer.has_failed x wire.Write given new named h;
-    } in
-    (lost, named.1)
-TalkEnds-broken T arguments reader writer x wire.Memory given new named consumes appends h = record {
-  reader_keeps = Keeps-consumed reader.before reader.after x.input consumes h.0;
-  writer_keeps = Keeps-appended writer.before writer.after x.text appends h.1;
-  reader_alive = named.0;
-  writer_alive = named.1;
-  untouched = not_err _ (talk_settings arguments) (plain_of x.before).settings given;
+-- what passed in pieces on the new book passed on one with the settings that were given
+abbrev passes : {R W : Type 0} (arguments : TalkArguments) (reader : StreamUse R) (writer : StreamUse W) (n : ℕ) (before after : StoredBook) → talk_settings arguments ≡ Ok (plain_of before).settings
+    → plain_of before ≡ opening_book (plain_of before).settings
+    → TalksInPieces BookStep n arguments.moment (plain_of before).settings.numbers.max_size before after reader.before reader.after writer.before writer.after → PassesInPieces arguments reader writer n
+passes arguments reader writer n before after given new talks = record {
+  settings = (plain_of before).settings;
+  is_given = given;
+  after = plain_of after;
+  talks = talks-with BookStep IsStep n arguments.moment (plain_of before).settings.numbers.max_size before after (opening_book (plain_of before).settings) (plain_of after) reader.before reader.after writer.before writer.after talks
+      (subst (λ (book : PlainBook). Follows IsStep book talks.passed.answered (plain_of after)) new (Follows-carried BookStep IsStep plain_of carries before talks.passed.answered after talks.answered));
 }
-TalkEnds-broken T arguments reader writer x wire.Failed given new named consumes appends h = absurd h
 
--- the conversation ended, and no stream has failed
-pub TalkEnds-held : {R W T : Type 0} (arguments : TalkArguments) (reader : StreamUse R) (writer : StreamUse W) (before after : StoredBook) (e : Ended) (v : T)
-    → talk_settings arguments ≡ Ok (plain_of before).settings → plain_of before ≡ opening_book (plain_of before).settings → IsAlive reader → IsAlive writer
-    → ((input written : List ℕ) → reader.before ≡ Some input → writer.before ≡ Some written → (text : List ℕ) × (writer.after ≡ Some (written ++ text))
-    × Conversation BookStep (alike (plain_of before).settings.numbers.max_size) (replicate 4096 arguments.moment) (record { input = input; text = text; before = before; after = after }) e)
-    → TalkEnds arguments reader writer (Ok v)
-TalkEnds-held arguments reader writer before after e v given new read wrote known = record {
-  settings = is_ok_by (talk_settings arguments) (plain_of before).settings given;
-  talks = λ input written has had.
-      let found = known input written has had in
-      (found.0, found.1, Talks-from (talk_settings arguments) arguments.moment (record { input = input; text = found.0; before = before; after = after }) e given new found.2);
-  reader_alive = read;
-  writer_alive = wrote;
-}
+-- where the reader has failed, the fault is that of a read
+pub read_by : (reader writer : Bool) (f : WireFault) → NamesOrMemory reader writer f → IsTrue reader → f ≡ wire.Read
+read_by reader writer wire.Read named failed = refl
+read_by reader writer wire.Write named failed = absurd (true≢false (sym failed ∙ named.0))
+read_by reader writer wire.Memory named failed = absurd (true≢false (sym failed ∙ named.0))
+read_by reader writer wire.Failed named failed = absurd named
+
+-- over a new book with the settings that were given
+module _ {R W : Type 0} (T : Type 0) (arguments : TalkArguments) (reader : StreamUse R) (writer : StreamUse W) (before after : StoredBook)
+    (given : talk_settings arguments ≡ Ok (plain_of before).settings) (new : plain_of before ≡ opening_book (plain_of before).settings) where
+  abbrev Broken : WireFault → Type 0
+  Broken f = (got text : List ℕ) × Consumes reader.before reader.after got × Appends writer.before writer.after text
+      × Breaks BookStep (alike (plain_of before).settings.numbers.max_size) (replicate 4096 arguments.moment) (record { input = got; text = text; before = before; after = after }) f
+
+  abbrev Talked : ℕ → Type 0
+  Talked n = TalksInPieces BookStep n arguments.moment (plain_of before).settings.numbers.max_size before after reader.before reader.after writer.before writer.after
+
+  loses : (f : WireFault) → NamesStream reader.has_failed writer.has_failed f → NamesOrMemory reader.has_failed writer.has_failed f → f ≢ wire.Memory → (arguments.piece ≡ None → Broken f) → IfSome arguments.piece (λ n. f ≢ wire.Memory → (talks : Talked n) × (f ≡ wire.Read → wanted talks.connection ≢ Answer))
+      → LosesBy arguments reader writer arguments.piece
+  loses f stream named not_memory gathers pieces = go arguments.piece gathers pieces
+    where
+      go : (piece : Option ℕ) → (piece ≡ None → Broken f) → IfSome piece (λ n. f ≢ wire.Memory → (talks : Talked n) × (f ≡ wire.Read → wanted talks.connection ≢ Answer)) → LosesBy arguments reader writer piece
+      go None gathers pieces =
+          let h = gathers refl in
+          record {
+            got = h.0;
+            text = h.1;
+            consumes = h.2;
+            appends = h.3;
+            breaks = BreaksTalk-from (talk_settings arguments) arguments.moment reader.has_failed writer.has_failed (record { input = h.0; text = h.1; before = before; after = after }) f given new stream h.4;
+          }
+      go (Some n) gathers pieces =
+          let told = pieces not_memory in
+          record {
+            passes = passes arguments reader writer n before after given new told.0;
+            applied = λ failed. told.1 (read_by reader.has_failed writer.has_failed f named failed);
+          }
+
+  -- the conversation was broken off by this fault
+  TalkEnds-broken : (f : WireFault) → NamesOrMemory reader.has_failed writer.has_failed f → (arguments.piece ≡ None → Broken f) → IfSome arguments.piece (λ n. f ≢ wire.Memory → (talks : Talked n) × (f ≡ wire.Read → wanted talks.connection ≢ Answer))
+      → (f ≡ wire.Memory → Keeps reader.before reader.after × Keeps writer.before writer.after) → TalkEnds arguments reader writer {T = T} (Err (fault_of_wire f))
+  TalkEnds-broken wire.Read named gathers pieces memory = (loses wire.Read named named (λ e. absurd cc) gathers pieces, named.0)
+  TalkEnds-broken wire.Write named gathers pieces memory = (loses wire.Write named named (λ e. absurd cc) gathers pieces, named.1)
+  TalkEnds-broken wire.Memory named gathers pieces memory = record {
+    reader_keeps = (memory refl).0;
+    writer_keeps = (memory refl).1;
+    reader_alive = named.0;
+    writer_alive = named.1;
+    untouched = not_err _ (talk_settings arguments) (plain_of before).settings given;
+  }
+  TalkEnds-broken wire.Failed named gathers pieces memory = absurd named
+
+  -- the conversation ended, and no stream has failed
+  TalkEnds-held : (v : T) → IsAlive reader → IsAlive writer
+      → (arguments.piece ≡ None → (input written : List ℕ) → reader.before ≡ Some input → writer.before ≡ Some written → (e : Ended) × (text : List ℕ) × (writer.after ≡ Some (written ++ text))
+      × Conversation BookStep (alike (plain_of before).settings.numbers.max_size) (replicate 4096 arguments.moment) (record { input = input; text = text; before = before; after = after }) e)
+      → IfSome arguments.piece (λ n. (talks : Talked n) × IsOver talks.passed talks.connection) → TalkEnds arguments reader writer (Ok v)
+  TalkEnds-held v read wrote known pieces = go arguments.piece known pieces
+    where
+      go : (piece : Option ℕ)
+          → (piece ≡ None → (input written : List ℕ) → reader.before ≡ Some input → writer.before ≡ Some written → (e : Ended) × (text : List ℕ) × (writer.after ≡ Some (written ++ text))
+          × Conversation BookStep (alike (plain_of before).settings.numbers.max_size) (replicate 4096 arguments.moment) (record { input = input; text = text; before = before; after = after }) e)
+          → IfSome piece (λ n. (talks : Talked n) × IsOver talks.passed talks.connection) → HoldsBy arguments reader writer piece
+      go None known pieces = record {
+        settings = is_ok_by (talk_settings arguments) (plain_of before).settings given;
+        talks = λ input written has had.
+            let found = known refl input written has had in
+            (found.1, found.2, Talks-from (talk_settings arguments) arguments.moment (record { input = input; text = found.1; before = before; after = after }) found.0 given new found.3);
+        reader_alive = read;
+        writer_alive = wrote;
+      }
+      go (Some n) known pieces = record {
+        passes = passes arguments reader writer n before after given new pieces.0;
+        over = pieces.1;
+        reader_alive = read;
+        writer_alive = wrote;
+      }
+
+  -- how it ended, by what became of its fault
+  pub TalkEnds-by : (r : Result T WireFault) (m : Result T RunFault) → MatchResult r (λ v. m ≡ Ok v) (λ f. IsErrAnd m (λ y. y ≡ fault_of_wire f)) → OnOk r (IsAlive reader) → OnOk r (IsAlive writer)
+      → IfErr r (NamesOrMemory reader.has_failed writer.has_failed)
+      → (arguments.piece ≡ None → (input written : List ℕ) → reader.before ≡ Some input → writer.before ≡ Some written → OnOk r ((e : Ended) × (text : List ℕ) × (writer.after ≡ Some (written ++ text))
+      × Conversation BookStep (alike (plain_of before).settings.numbers.max_size) (replicate 4096 arguments.moment) (record { input = input; text = text; before = before; after = after }) e))
+      → (arguments.piece ≡ None → IfErr r Broken) → IfSome arguments.piece (λ n. OnOk r ((talks : Talked n) × IsOver talks.passed talks.connection))
+      → IfSome arguments.piece (λ n. IfErr r (λ f. f ≢ wire.Memory → (talks : Talked n) × (f ≡ wire.Read → wanted talks.connection ≢ Answer))) → (r ≡ Err wire.Memory → Keeps reader.before reader.after × Keeps writer.before writer.after) → TalkEnds arguments reader writer m
+  TalkEnds-by (Ok v) m cases read wrote named known breaks pieces broken memory = subst (λ (m : Result T RunFault). TalkEnds arguments reader writer m) (sym cases) (TalkEnds-held v read wrote known pieces)
+  TalkEnds-by (Err f) m cases read wrote named known breaks pieces broken memory =
+      let made = err_from_is_err_and m cases in
+      subst (λ (m : Result T RunFault). TalkEnds arguments reader writer m) (sym (made.1 ∙ ap Err made.2)) (TalkEnds-broken f named breaks broken (λ e. memory (ap Err e)))

@@ -7,4 +7,5 @@ pub mod Run
 pub mod Serve
 pub mod Sockets
 pub mod Talk
+pub mod TalkInPieces
 pub mod Work

@@ -10,7 +10,7 @@ use Rattle.tus_shared.specs.Desk.{Desk}
 use Rattle.tus_shared.specs.declared.balance.Balance.{Balance}
 use Rattle.upload_book.specs.Settings.{Settings}
 use Rattle.upload_book.specs.declared.settings_fault.SettingsFault.{SettingsFault}
-use Rattle.server_words.specs.Arguments.{ServeArguments, bounds_of}
+use Rattle.server_words.specs.Arguments.{ServeArguments, bounds_by}
 use Rattle.server_words.specs.Settings.{settings_given}
 use Rattle.journal_folders.specs.StreamUse.{StreamUse, IsAlive, IsUntouched}
 use Rattle.server_words.specs.declared.cause.Cause.{Cause}
@@ -25,7 +25,7 @@ use Rattle.tus_program.specs.Sockets.{AreUnstopped, HasFailed, HaveAccepted, Soc
 
 -- the settings of the arguments, or their first fault; their bounds are wide where bodies are stored in pieces
 abbrev pub serve_settings : ServeArguments → Result Settings SettingsFault
-serve_settings arguments = settings_given (bounds_of arguments.work) arguments.numbers arguments.tenants
+serve_settings arguments = settings_given (bounds_by arguments.work.piece) arguments.numbers arguments.tenants
 
 -- the arguments ask for this address and port
 abbrev pub IsPlaceAsked : ServeArguments → SocketAddr → Type 0

@@ -3,6 +3,7 @@
 #![tactic(auto)]
 
 mod at_journal;
+mod conversation;
 mod fault;
 mod keeping;
 mod kept_serve;

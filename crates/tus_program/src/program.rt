@@ -135,8 +135,8 @@ where
     match command_options(matches) {
         Some(CommandOptions::Talk(options)) => {
             let outcome = match options.journal {
-                Some(path) => talk_kept(journals, alloc, &options, path, reader, writer),
-                None => talk(alloc, &options, reader, writer),
+                Some(path) => talk_kept(rt, journals, alloc, &options, path, reader, writer),
+                None => talk(rt, alloc, &options, reader, writer),
             };
             report(outcome, &CommandOptions::Talk(options), is_watched, errors)
         }

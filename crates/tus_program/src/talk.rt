@@ -1,29 +1,29 @@
 //! The command `talk`, after its command line was read.
 ghost use Rattle.std.specs.Prelude.{◌≡◌, false, Ok, IfOk, IfErr};
-ghost use Rattle.clap.specs.Walk.{texts};
 ghost use Rattle.upload_book.specs.Book.{plain_of};
 ghost use Rattle.upload_book.specs.PlainBook.{opening_book};
-ghost use Rattle.upload_book.specs.declared.settings.Bounds.TheVariants.{Narrow};
 ghost use Rattle.server_words.specs.Arguments.{talk_arguments_of};
 ghost use Rattle.server_words.specs.Fault.{IsFaultOf};
-ghost use Rattle.server_words.specs.Settings.{settings_given};
+ghost use Rattle.server_words.specs.Settings.{talk_settings};
 ghost use Rattle.journal_folders.specs.StreamUse.{used};
 ghost use Rattle.tus_program.specs.Talk.{TalkEnds};
 
+use crate::conversation::hold_conversation;
 use crate::fault::fault_of_wire;
-use http_wire::{Sink, Source, converse};
+use http_wire::{Sink, Source};
 use server_words::{RunFault, TalkOptions, settings_with};
 use std::alloc::Global;
-use tus_workers::MESSAGES_MAX;
-use upload_book::{Book, Bounds, Numbers};
+use std::sync::Wait;
+use upload_book::Book;
 
-/// Holds one conversation over `reader` and `writer`, on a new book with the settings of the options. Each message
-/// has the moment of the options, and at most 4,096 are read.
+/// Holds one conversation over `reader` and `writer`, on a new book with the settings of the options, as [`hold_conversation`]
+/// says: bodies are gathered, or come in pieces where the options have a size for them.
 ///
 /// It is `Ok` where the conversation ended, in whatever way. The error is the fault of the settings, and then both streams
 /// are untouched, `RunFault::Wire` with the stream where a read or a write failed, or `RunFault::Memory` where memory was
 /// lacking to begin with, and then nothing was read or written.
-pub fn talk<R: Source, W: Sink>(
+pub fn talk<T: Wait, R: Source, W: Sink>(
+    rt: &T,
     alloc: Global,
     options: &TalkOptions,
     reader: &mut R,
@@ -35,25 +35,16 @@ pub fn talk<R: Source, W: Sink>(
         (used R.remaining R.has_failed reader.old reader.new)
         (used W.contents W.has_failed writer.old writer.new) result }
 {
-    let mut book = new_book(alloc, options.numbers, options.tenants)?;
-    converse(
-        alloc,
-        reader,
-        writer,
-        &mut book,
-        &[options.moment; MESSAGES_MAX],
-    )
-    .map_err(fault_of_wire)?;
-    Ok(())
+    let mut book = new_book(alloc, options)?;
+    hold_conversation(rt, alloc, options, reader, writer, &mut book).map_err(fault_of_wire)
 }
 
-/// The new book with the settings that the numbers and the words give under the narrow bounds, or their first fault, or
-/// `RunFault::Memory`.
-fn new_book(alloc: Global, numbers: Numbers, tenants: &[&str]) -> Result<Book, RunFault>
-    ensures settings { IfOk result (λ book. settings_given Narrow numbers (texts tenants.now) ≡ Ok (plain_of book).settings) }
+/// The new book with the settings of the options, or their first fault, or `RunFault::Memory`.
+fn new_book(alloc: Global, options: &TalkOptions) -> Result<Book, RunFault>
+    ensures settings { IfOk result (λ book. talk_settings (talk_arguments_of options.now) ≡ Ok (plain_of book).settings) }
     ensures new { IfOk result (λ book. plain_of book ≡ opening_book (plain_of book).settings) }
-    ensures fault { IfErr result (IsFaultOf (settings_given Narrow numbers (texts tenants.now))) }
+    ensures fault { IfErr result (IsFaultOf (talk_settings (talk_arguments_of options.now))) }
 {
-    let settings = settings_with(alloc, Bounds::Narrow, numbers, tenants)?;
+    let settings = settings_with(alloc, options.bounds(), options.numbers, options.tenants)?;
     Ok(Book::new(alloc, settings)?)
 }

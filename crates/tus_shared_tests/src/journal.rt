@@ -190,6 +190,7 @@ impl Stands {
                     typed: true,
                     check: None,
                     bytes: Payload::new(b""),
+                    more: 0,
                 },
             },
             Stands::Hello(id) => Change::Append {

@@ -18,7 +18,7 @@ use Rattle.upload_book.specs.declared.operation.Operation.TheVariants as operati
 use Rattle.upload_book.specs.declared.refusal.Refusal.{Refusal}
 use Rattle.upload_book.specs.declared.refusal.Refusal.TheVariants as refusal
 use Rattle.upload_book.specs.declared.settings.Numbers.{Numbers}
-use Rattle.upload_book.specs.FirstChunk.{FirstChunk, no_chunk}
+use Rattle.upload_book.specs.FirstChunk.{FirstChunk, count_all_first, no_chunk}
 use Rattle.upload_book.specs.Look.{look_answer}
 use Rattle.upload_book.specs.NewUpload.{NewUpload}
 use Rattle.upload_book.specs.PlainBook.{PlainBook, tenant_book, with_tenant_book}
@@ -126,7 +126,7 @@ same-refusal n part c d u chunk apart also =
 -- ids are spent, or the blocks that the bytes of a creation add
 abbrev is_spent_creating : Numbers → TenantBook → ℕ → FirstChunk → Bool
 is_spent_creating n part charged first =
-    nat_lt n.last_id part.next || nat_lt n.last_total (account_with (account_in n part charged) (blocks_added n 0 (length first.bytes))).charged
+    nat_lt n.last_id part.next || nat_lt n.last_total (account_with (account_in n part charged) (blocks_added n 0 (count_all_first first))).charged
 
 -- so is a creation, and it is spent however many were charged where the tenant has no id left
 same-creation_refusal : (n : Numbers) (part : TenantBook) (c d : ℕ) (new : NewUpload) (first : FirstChunk) (none_left : Bool) → nat_lt n.last_id part.next ≡ none_left → (none_left ≡ false → creation_refusal n (account_in n part c) part new first ≢ Some refusal.Spent) → (none_left ≡ false → creation_refusal n (account_in n part d) part new first ≢ Some refusal.Spent)

@@ -26,10 +26,11 @@ use Rattle.upload_book.proofs.PiecesOfBookLemmas.{BookGoesOn, BookGoesOn-first}
 use Rattle.tus_steps.specs.declared.method.Method.{Method}
 use Rattle.tus_steps.specs.declared.method.Method.TheVariants as method
 use Rattle.tus_steps.specs.declared.reply.Reply.{Reply}
+use Rattle.tus_steps.specs.declared.reply.Reply.TheVariants as reply
 use Rattle.tus_steps.specs.declared.route.Route.{Route}
 use Rattle.tus_steps.specs.declared.route.Route.TheVariants.{Append}
 use Rattle.tus_steps.specs.Field.{absent, number_in, optional_number_in}
-use Rattle.tus_steps.specs.InPieces.{IsPlainPatch, PieceAt, PiecesAreTheRequest, Takes, count_pieces, first_of, is_patched, rest_of}
+use Rattle.tus_steps.specs.InPieces.{IsPlainPatch, PieceAt, PiecesAreTheRequest, Takes, count_pieces, first_of, is_patched, is_taken, rest_of}
 use Rattle.tus_steps.specs.Isolation.{HasEachPart}
 use Rattle.tus_steps.specs.Method.{is_options, is_patch}
 use Rattle.tus_steps.specs.Operation.{chunk_at, chunk_in, has_version, operation_of, operation_on}
@@ -160,6 +161,23 @@ reaches b r now reply after plain step is =
 
 -- ---- its first piece, and what is left
 
+-- what is left of a PATCH whose piece was taken
+abbrev patch_rest : Request → ℕ → Request
+patch_rest r k = record r { body = drop k r.body; given = r.given + k }
+
+rest-patch : (r : Request) (k : ℕ) (reply : Reply) → is_patched reply ≡ true → rest_of r k reply ≡ patch_rest r k
+rest-patch r k (reply.Options max_size) is = absurd cc
+rest-patch r k (reply.Created tenant id offset expires) is = absurd cc
+rest-patch r k (reply.Head row) is = absurd cc
+rest-patch r k (reply.Content bytes) is = absurd cc
+rest-patch r k (reply.Patched offset expires) is = refl
+rest-patch r k reply.Deleted is = absurd cc
+rest-patch r k (reply.Refused why head at expires) is = absurd cc
+
+-- its reply tells whether the bytes were taken
+taken-patch : (r : Request) (reply : Reply) → IsPlainPatch r → is_taken r reply ≡ is_patched reply
+taken-patch r reply plain = rw plain.method refl
+
 -- a chunk by what a piece changes
 abbrev with_part : Chunk → ℕ → List ℕ → ℕ → Chunk
 with_part chunk offset bytes more = record chunk { offset = offset; bytes = bytes; more = more }
@@ -176,7 +194,7 @@ place_of-min : (place count k : ℕ) → k ≤ count → min place (2 ^ 64 - 1) 
 place_of-min place count k le small = omega arith
 
 rest-chunk : (r : Request) (k offset : ℕ) (told : Option ℕ) → k ≤ length r.body → min (offset + r.given) (2 ^ 64 - 1) + length r.body < 2 ^ 64
-    → chunk_at (rest_of r k) offset told None ≡ later_part (chunk_at r offset told None) (take k r.body) (drop k r.body)
+    → chunk_at (patch_rest r k) offset told None ≡ later_part (chunk_at r offset told None) (take k r.body) (drop k r.body)
 rest-chunk r k offset told le small =
     let place : min (offset + (r.given + k)) (2 ^ 64 - 1) ≡ min (offset + r.given) (2 ^ 64 - 1) + k =
     ap (λ n. min n (2 ^ 64 - 1)) (omega arith) ∙ place_of-min (offset + r.given) (length r.body) k le small in
@@ -189,7 +207,7 @@ record Goes (b : PlainBook) (r : Request) (k early now : ℕ) (reply : Reply) (a
   step : IsStep b (first_of r k) early first middle
   taken : is_patched first ≡ true
   lawful : IsLawful middle
-  rest : IsStep middle (rest_of r k) now reply after
+  rest : IsStep middle (patch_rest r k) now reply after
   only : (c : PlainBook) (other : Reply) → IsStep b (first_of r k) early other c → is_patched other ≡ true → c ≡ middle
 
 goes : (b : PlainBook) (r : Request) (k early now : ℕ) (reply : Reply) (after : PlainBook) → IsLawful b → IsPlainPatch r → k ≤ length r.body → early ≤ now
@@ -203,7 +221,7 @@ goes b r k early now reply after lawful plain le earlier step is = record {
   taken = patched-Ok (first_of r k) (answer_of b name.tenant (append_answer name.id one early b.charged)) on.accepted;
   lawful = on.lawful;
   rest =
-      step-by middle (rest_of r k) now (operation.Append name two) reply after patch.other (patch.appends (drop k r.body) (r.given + k) r.more ∙ ap (λ chunk. Ok (operation.Append name chunk)) (rest-chunk r k patch.offset patch.told le on.ends))
+      step-by middle (patch_rest r k) now (operation.Append name two) reply after patch.other (patch.appends (drop k r.body) (r.given + k) r.more ∙ ap (λ chunk. Ok (operation.Append name chunk)) (rest-chunk r k patch.offset patch.told le on.ends))
       (inl (whole.told ∙ ap (append_reply r) (sym on.answer) ∙ sym (same-reply r (drop k r.body) (r.given + k) r.more (answer_of middle name.tenant (append_answer name.id two now middle.charged))), whole.leaves ∙ sym on.last));
   only = λ c other at taken.
       (accepted b r patch (take k r.body) r.given (r.more + (length r.body - k)) early other c at taken).leaves
@@ -243,7 +261,7 @@ goes b r k early now reply after lawful plain le earlier step is = record {
 -- ---- all pieces
 
 -- what is left of a PATCH is one
-plain-rest : (r : Request) (k : ℕ) → IsPlainPatch r → IsPlainPatch (rest_of r k)
+plain-rest : (r : Request) (k : ℕ) → IsPlainPatch r → IsPlainPatch (patch_rest r k)
 plain-rest r k plain = record { method = plain.method; unchecked = plain.unchecked }
 
 taken : (b : PlainBook) (r : Request) (pieces : List PieceAt) (now : ℕ) (reply : Reply) (after : PlainBook) → IsLawful b → IsPlainPatch r
@@ -255,8 +273,19 @@ taken b r (q ∷ pieces) now reply after lawful plain few moments step is =
     let le : q.len ≤ length r.body = omega (arith, few) in
     let g = goes b r q.len q.now now reply after lawful plain le (All-head (λ (q : PieceAt). q.now ≤ now) q pieces moments) step is in
     let count : count_pieces pieces ≤ length (drop q.len r.body) = omega (arith, few, length-drop q.len r.body) in
-    let others = taken g.middle (rest_of r q.len) pieces now reply after g.lawful (plain-rest r q.len plain) count (All-tail (λ (q : PieceAt). q.now ≤ now) q pieces moments) g.rest is in
-    (others.0, others.1, (g.middle, g.first, le, g.step, g.taken, others.2), others.3)
+    let others = taken g.middle (patch_rest r q.len) pieces now reply after g.lawful (plain-rest r q.len plain) count (All-tail (λ (q : PieceAt). q.now ≤ now) q pieces moments) g.rest is in (
+      others.0,
+      others.1,
+      (
+        g.middle,
+        g.first,
+        le,
+        g.step,
+        taken-patch r g.first plain ∙ g.taken,
+        subst (λ rest. Takes IsStep g.middle rest pieces others.0 others.1) (sym (rest-patch r q.len g.first g.taken)) others.2,
+      ),
+      others.3,
+    )
 
 same : (b : PlainBook) (r : Request) (pieces : List PieceAt) (now : ℕ) (reply : Reply) (after : PlainBook) → IsLawful b → IsPlainPatch r
     → All (λ (q : PieceAt). q.now ≤ now) pieces
@@ -270,8 +299,10 @@ same b r [] now reply after lawful plain moments step is between left last end t
     (again.told ∙ sym whole.told, again.leaves ∙ sym whole.leaves)
 same b r (q ∷ pieces) now reply after lawful plain moments step is between left last end (c, other, le, at, other_taken, takes) ends also =
     let g = goes b r q.len q.now now reply after lawful plain le (All-head (λ (q : PieceAt). q.now ≤ now) q pieces moments) step is in
-    same g.middle (rest_of r q.len) pieces now reply after g.lawful (plain-rest r q.len plain) (All-tail (λ (q : PieceAt). q.now ≤ now) q pieces moments) g.rest is between left last end
-    (subst (λ book. Takes IsStep book (rest_of r q.len) pieces between left) (g.only c other at other_taken) takes) ends also
+    let is_patch = sym (taken-patch r other plain) ∙ other_taken in
+    same g.middle (patch_rest r q.len) pieces now reply after g.lawful (plain-rest r q.len plain) (All-tail (λ (q : PieceAt). q.now ≤ now) q pieces moments) g.rest is between left last end
+    (subst (λ book. Takes IsStep book (patch_rest r q.len) pieces between left) (g.only c other at is_patch)
+    (subst (λ rest. Takes IsStep c rest pieces between left) (rest-patch r q.len other is_patch) takes)) ends also
 
 pub pieces_are_the_request : PiecesAreTheRequest
 pieces_are_the_request = record { taken = taken; same = same }

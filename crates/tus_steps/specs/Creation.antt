@@ -38,7 +38,7 @@ is_with_upload r = nat_lt 0 (length r.body) || has_patch_type r.fields.media
 
 -- these bytes, with which a checksum may have come
 abbrev pub first_chunk : Request → Option Checksum → FirstChunk
-first_chunk r check = record { typed = has_patch_type r.fields.media; check = check; bytes = r.body }
+first_chunk r check = record { typed = has_patch_type r.fields.media; check = check; bytes = r.body; more = r.more }
 
 -- the creation of an upload, for the tenant at a place, with its first bytes where the POST carries them, and where its
 -- fields tell a checksum of these if at all

@@ -67,6 +67,7 @@ impl<'a> Request<'a> {
             typed: self.fields.media.has_patch_type(),
             check: self.fields.checksum.optional_checksum()?,
             bytes: Payload::new(self.body),
+            more: self.more,
         };
         Some(Operation::CreateWith { tenant, new, first })
     }

@@ -1,5 +1,5 @@
 ghost use Rattle.std.specs.Prelude.{◌≡◌};
-ghost use Rattle.tus_steps.specs.Method.{is_get, is_head, is_options, is_patch};
+ghost use Rattle.tus_steps.specs.Method.{is_get, is_head, is_options, is_patch, is_post};
 
 /// The method that a request asks for (tus 1.0.0, Core Protocol).
 #[derive(Clone, Copy, Debug, PartialEq, Eq)]
@@ -40,6 +40,13 @@ impl Method {
         ensures { result ≡ is_options self }
     {
         matches!(self, Method::Options)
+    }
+
+    /// Whether it is POST.
+    pub fn is_post(self) -> bool
+        ensures { result ≡ is_post self }
+    {
+        matches!(self, Method::Post)
     }
 
     /// Whether it is PATCH.

@@ -1,12 +1,13 @@
 ghost use Rattle.std.specs.Prelude.{◌≡◌, Err, Ok};
 ghost use Rattle.tus_steps.specs.Changing.{change_reply};
 ghost use Rattle.tus_steps.specs.declared.reply.Reply.TheVariants.{Deleted};
+ghost use Rattle.tus_steps.specs.InPieces.{as_creation, created_in, is_patched};
 ghost use Rattle.tus_steps.specs.PlacedReply.{reply_in};
 ghost use Rattle.tus_steps.specs.Reply.{content_reply, creation_reply, head_reply, refusing};
 
 use crate::reply::{Place, Reply};
 use crate::request::Request;
-use tus_text::{Tenant, Text};
+use tus_text::{Path, Tenant, Text};
 use upload_book::{Content, Created, HeadRow, Moment, Outcome, Refusal, Refused, RowRef};
 
 /// What a [`Reply`] is, but for the row of a HEAD: so it is small.
@@ -220,6 +221,40 @@ impl PlacedReply {
                 self.kind = ReplyKind::Deleted
             }
             Err(refused) => self.refuse(request, refused.refusal, refused.expires),
+        }
+    }
+
+    /// The id of the upload that was created, where it tells of one.
+    pub fn created(&self) -> Option<u64>
+        ensures { result ≡ created_in (reply_in self.now) }
+    {
+        match &self.kind {
+            ReplyKind::Created { id, .. } => Some(*id),
+            _ => None,
+        }
+    }
+
+    /// Whether it tells that the bytes of a PATCH were taken.
+    pub fn is_patched(&self) -> bool
+        ensures { result ≡ is_patched (reply_in self.now) }
+    {
+        matches!(&self.kind, ReplyKind::Patched { .. })
+    }
+
+    /// Makes the reply to a PATCH of the upload at this path that to its creation.
+    pub fn tell_creation(&mut self, path: &Path)
+        ensures { reply_in self.new ≡ as_creation path.now (reply_in self.old) }
+    {
+        let Path::Upload { tenant, id } = path else {
+            return;
+        };
+        if let ReplyKind::Patched { offset, expires } = &self.kind {
+            self.kind = ReplyKind::Created {
+                tenant: tenant.copied(),
+                id: *id,
+                offset: Some(*offset),
+                expires: *expires,
+            };
         }
     }
 

@@ -1,4 +1,5 @@
-ghost use Rattle.std.specs.Prelude.{◌≡◌, ℕ, ◌<◌, length, option_copied, IfOk, IfSome};
+ghost use Rattle.std.specs.Prelude.{◌≡◌, ℕ, ◌<◌, length, option_copied, IfOk, IfSome, Some};
+ghost use Rattle.tus_steps.specs.InPieces.{upload_path};
 
 use crate::creation::PartIds;
 use crate::field::Field;
@@ -47,6 +48,7 @@ impl<'a> Model for Request<'a> {
 }
 
 impl<'a> Request<'a> {
+    ghost use Rattle.tus_steps.specs.InPieces.{behind};
     ghost use Rattle.tus_steps.specs.Operation.{has_version, chunk_in, operation_on, operation_of, CanBeAsked};
     ghost use Rattle.tus_steps.specs.Reply.{place_of};
     ghost use Rattle.tus_steps.specs.Route.{tenant_name};
@@ -78,6 +80,24 @@ impl<'a> Request<'a> {
         ensures { result ≡ has_version self.now }
     {
         self.method.is_get() || self.fields.version.is_just(VERSION)
+    }
+
+    /// What is asked for behind the first piece of a creation that created the upload of this id: a PATCH of it, from its
+    /// start on.
+    pub fn behind(self, id: u64) -> Request<'a>
+        ensures { result ≡ behind (Some id) self.entry }
+    {
+        Request {
+            method: Method::Patch,
+            path: upload_path(self.path, id),
+            fields: TusFields {
+                offset: Field::One(b"0"),
+                ..self.fields
+            },
+            body: self.body,
+            given: self.given,
+            more: self.more,
+        }
     }
 
     /// The name of the tenant that the path names.
@@ -143,5 +163,15 @@ impl<'a> Request<'a> {
             bytes: Payload::new(self.body),
             more: self.more,
         })
+    }
+}
+
+// The path of an upload of the tenant that a path names.
+fn upload_path(path: Path, id: u64) -> Path
+    ensures { result ≡ upload_path path id }
+{
+    match path {
+        Path::Create { tenant } | Path::Upload { tenant, .. } => Path::Upload { tenant, id },
+        Path::Other => Path::Other,
     }
 }

@@ -1,5 +1,5 @@
 //! A worker that serves many clients at once, over its one desk.
-ghost use Rattle.std.specs.Prelude.{◌≡◌, ◌+◌, ◌≤◌, ◌<◌, ◌^◌, None, Some, IfSome, true, false};
+ghost use Rattle.std.specs.Prelude.{◌≡◌, ◌+◌, ◌≤◌, ◌<◌, ◌^◌, ℕ, None, Some, IfSome, min, true, false, unwrap_or};
 ghost use Rattle.http_wire.specs.BodyLimits.{AreSmall};
 ghost use Rattle.tus_workers.specs.Serving.{SweepsKept};
 
@@ -318,7 +318,7 @@ impl<
             self.tell_of_threads(rounds.second);
             rounds.second = second;
             rounds.has_rung = true;
-            // What came of a PATCH that was cut off is kept, also where nobody is left.
+            // What came of a body that was cut off is kept, also where nobody is left.
             self.send_kept(&mut answerer, rounds, second);
             self.note_compacting(answerer.compact());
         }
@@ -516,28 +516,32 @@ impl<'a, H: Wait + time::Clock + Eprint> Rounds<'a, H> {
 // The size of the pieces in which bodies are stored, if they are.
 fn piece_of(options: &WorkOptions) -> Option<usize>
     ensures some { IfSome result (λ size. 0 < size) }
+    ensures told { (size : ℕ) → 0 < size → options.now.piece ≡ Some size → result ≡ Some size }
+    ensures none { options.now.piece ≡ None → result ≡ None }
+    ensures zero { options.now.piece ≡ Some 0 → result ≡ None }
 {
     options.piece.filter(|size| *size > 0)
 }
 
-// The most bytes of bodies, where an upload has at most `max_size`. A body that is gathered has at most 16 MiB; one that comes in
-// pieces is as long as an upload may be.
+// The most bytes of bodies, where an upload has at most `max_size`. A body with a checksum has at most as many as the option
+// tells, and 16 MiB. One without is as long as an upload may be where there are pieces, and else as one with.
 fn limits_of(options: &WorkOptions, piece: Option<usize>, max_size: u64) -> BodyLimits
     requires size { max_size ≤ 2 ^ 40 }
     ensures small { AreSmall result }
-    ensures gathered { result.other ≤ 2 ^ 24 }
-    ensures patch { piece ≡ None → result.patch ≡ result.other }
+    ensures gathered { result.other ≡ min (min (unwrap_or options.now.max_body max_size) max_size) (2 ^ 24) }
+    ensures whole { piece ≡ None → result.plain ≡ result.other }
+    ensures pieces { IfSome piece (λ size. result.plain ≡ max_size) }
 {
     let other = options
         .max_body
         .unwrap_or(max_size)
         .min(max_size)
         .min(GATHERED_MAX);
-    let patch = match piece {
+    let plain = match piece {
         Some(_) => max_size,
         None => other,
     };
-    BodyLimits { patch, other }
+    BodyLimits { plain, other }
 }
 
 // How many seconds have begun since then: 1 at first, and always where the machine's clock can't be read.

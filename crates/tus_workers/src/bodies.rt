@@ -22,12 +22,12 @@ struct Mailbox {
 }
 
 /// The bodies that are half read or half sent, at all workers of a server. Their memory is bounded for all of them together;
-/// and a request finds by the name of its upload whether a PATCH to it lies half read somewhere.
+/// and a request finds by the name of its upload whether a body for it lies half read somewhere.
 #[derive(Drop)]
 pub(crate) struct Bodies {
     alloc: Global,
     known: Mutex<Known>,
-    // How many PATCHes are half read: where there is none, no request need take the lock.
+    // How many bodies of known uploads are half read: where there is none, no request need take the lock.
     patches: AtomicUsize,
     boxes: Vec<Mailbox>,
     // How many bytes may be held in all.
@@ -93,8 +93,9 @@ impl Bodies {
     }
 
     /// Tells what a client holds after a turn: at this place, if it had one. The place is given at which it stands now. Where
-    /// there is no room for one, the body stands nowhere. A PATCH that is half read for the same upload is asked to end, and
-    /// so is the body that holds most, where all hold too much.
+    /// there is no room for one, the body stands nowhere. One whose upload is another now, as where a creation in pieces has
+    /// created it, gets another place. Where a body gets a place, an older one that is half read for the same upload is asked to
+    /// end. So is the body that holds most, where all hold too much.
     pub fn note<W: Wait>(&self, rt: &W, place: Option<Place>, body: Option<Body>) -> Option<Place> {
         match (place, body) {
             (None, None) => None,
@@ -103,14 +104,26 @@ impl Bodies {
                 self.leave(rt, place);
                 None
             }
-            (Some(place), Some(body)) => {
+            (Some(place), Some(body)) if self.is_for(rt, place, &body.upload) => {
                 self.hold(rt, place, body.held);
                 Some(place)
+            }
+            (Some(place), Some(body)) => {
+                self.leave(rt, place);
+                self.enter(rt, body)
             }
         }
     }
 
-    /// Whether a request for this upload may be answered now: no PATCH to it lies half read, but by its own client. Else that
+    // Whether the body at this place was entered for this upload.
+    fn is_for<W: Wait>(&self, rt: &W, place: Place, upload: &Option<UploadName>) -> bool {
+        match self.known.lock(rt).table.body(place) {
+            Some(body) => body.upload == *upload,
+            None => false,
+        }
+    }
+
+    /// Whether a request for this upload may be answered now: no body for it lies half read, but by its own client. Else that
     /// one is asked to end.
     pub fn may_pass<W: Wait>(&self, rt: &W, name: &UploadName, holder: Holder) -> bool {
         if self.patches.load(Ordering::Acquire) == 0 {

@@ -282,7 +282,7 @@ impl Client {
         if rest == 0 { Next::Ends } else { Next::HasMore }
     }
 
-    /// Tells its connection that no more will come, nor can be sent. What came of a PATCH that is applied when it is cut is
+    /// Tells its connection that no more will come, nor can be sent. What came of a body that is applied when it is cut is
     /// kept.
     pub fn cut<A: Durability, K: Clock>(
         &mut self,

@@ -290,7 +290,7 @@ impl<'a, W: Wait + time::Clock> Connections<'a, W> {
     }
 
     /// Cuts off those that are too late at this second, each after one more turn: bytes may have come, or may have been taken,
-    /// of which no event told yet. What came of a PATCH that is applied when it is cut is kept.
+    /// of which no event told yet. What came of a body that is applied when it is cut is kept.
     pub fn cut_late<A: Durability, K: Clock>(
         &mut self,
         answerer: &mut A,
@@ -331,7 +331,7 @@ impl<'a, W: Wait + time::Clock> Connections<'a, W> {
         }
     }
 
-    /// Cuts off all that are left, since the service is stopped. What came of a PATCH that is applied when it is cut is kept.
+    /// Cuts off all that are left, since the service is stopped. What came of a body that is applied when it is cut is kept.
     pub fn cut_all<A: Durability, K: Clock>(&mut self, answerer: &mut A, clock: &mut K) {
         for key in 0..self.clients.capacity() {
             self.cut(key, Cut::Stopped, answerer, clock);
@@ -469,7 +469,7 @@ fn body_of(client: &Client, settings: &Settings, holder: Holder) -> Option<Body>
     }
 }
 
-// The upload to which it sends the body of a PATCH.
+// The upload to which it sends bytes: that of a PATCH, or the one that a creation in pieces has created.
 fn patched_by(client_connection: &ClientConnection, settings: &Settings) -> Option<UploadName> {
     let message = client_connection.under_way()?;
     let request = message.request();

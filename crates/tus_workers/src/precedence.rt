@@ -1,4 +1,4 @@
-//! A newer request for an upload ends an older PATCH to it that lies half read.
+//! A newer request for an upload ends an older body for it that lies half read.
 
 use crate::bodies::Bodies;
 use connection_turns::Precedence;
@@ -8,7 +8,7 @@ use tus_text::Path;
 use unfinished_bodies::{Holder, UploadName};
 use upload_book::Settings;
 
-/// What a client's requests wait for: a HEAD, a PATCH or a DELETE for an upload to which another client's PATCH lies half
+/// What a client's requests wait for: a HEAD, a PATCH or a DELETE for an upload for which another client's body lies half
 /// read has that one end first, as a cut whose bytes are kept. So a client that lost its line is told the true offset.
 #[derive(Drop)]
 pub(crate) struct NewestFirst<'a, W: Wait> {

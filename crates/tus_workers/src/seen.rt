@@ -61,6 +61,8 @@ pub(crate) struct Record {
     // When this turn began, and the message that is under way, in microseconds.
     now: u64,
     began: Option<u64>,
+    // The request whose body has more pieces to come, as it began.
+    begun: Option<Answered>,
 }
 
 /// What is seen of one client; nothing where nobody watches.
@@ -97,6 +99,7 @@ impl Record {
             before: 0,
             now: 0,
             began: None,
+            begun: None,
         }
     }
 
@@ -127,14 +130,22 @@ impl Record {
         };
     }
 
-    // A request whose body has more pieces to come is told with its last one.
+    // A request whose body has more pieces to come is told with its last one, as it began.
     fn answer(&mut self, connection: &Connection) {
         let Some(mut answered) = self.asked.take() else {
             return;
         };
         if connection.is_in_pieces() {
-            self.began = Some(answered.began);
+            if self.begun.is_none() {
+                self.begun = Some(answered);
+            }
             return;
+        }
+        if let Some(begun) = self.begun.take() {
+            answered = Answered {
+                received: answered.received,
+                ..begun
+            };
         }
         let put = connection.pending_len().saturating_sub(self.before);
         answered.sent = put as u64;

@@ -208,6 +208,13 @@ same_accounts : (charge charge' charged charged' quota : ℕ) → charge ≡ cha
 unfolding record_account
 same_accounts charge charge' charged charged' quota is total = rw (is, total) refl
 
+-- the account of a part that pays so many more
+pub account_more : (n : Numbers) (before after : TenantBook) (charged added : ℕ) → after.quota ≡ before.quota → charge_in n after ≡ charge_in n before + added
+    → account_in n after (charged_after n charged before after) ≡ account_with (account_in n before charged) added
+unfolding record_account
+account_more n before after charged added quota is =
+    ap (λ quota. record_account (charge_in n after) quota (charged_after n charged before after)) quota ∙ same_accounts _ _ _ _ before.quota is (charged_more charged (charge_in n before) (charge_in n after) added is)
+
 -- the account after a PATCH follows from that before it
 pub accounts_follow : AccountsFollow
 unfolding record_account

@@ -8,4 +8,5 @@ pub mod Steps
 pub mod LawsLemmas
 pub mod PiecesLemmas
 pub mod PiecesOfBookLemmas
+pub mod PiecedCreationLemmas
 pub mod ContentsStayLemmas

@@ -33,7 +33,7 @@ use Rattle.upload_book.proofs.Lawful.LawfulAppend.{IsAppendable, IsAppendable-fr
 -- ---- moments
 
 -- an end that is told later stands in place of one that was told before
-renewed-later : (kind : Kind) (early late : Bool) (before : Option ℕ) (first last : ℕ) → first ≤ last → (early ≡ true → late ≡ true)
+pub renewed-later : (kind : Kind) (early late : Bool) (before : Option ℕ) (first last : ℕ) → first ≤ last → (early ≡ true → late ≡ true)
     → renewed kind late (renewed kind early before first) last ≡ renewed kind late before last
 renewed-later Plain early true before first last le grows = refl
 renewed-later Plain true false before first last le grows = absurd (true≢false (sym (grows refl)))
@@ -41,7 +41,7 @@ renewed-later Plain false false before first last le grows = ap (λ end. Some en
 renewed-later Partial early late before first last le grows = ap (λ end. Some end) (omega (arith, le))
 renewed-later Final early late before first last le grows = refl
 
-lifetime_end-later : (n : Numbers) (early now : ℕ) → early ≤ now → lifetime_end n early ≤ lifetime_end n now
+pub lifetime_end-later : (n : Numbers) (early now : ℕ) → early ≤ now → lifetime_end n early ≤ lifetime_end n now
 lifetime_end-later n early now le = omega (arith, le)
 
 -- what has not expired had not expired before

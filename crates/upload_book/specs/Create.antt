@@ -5,7 +5,7 @@ use Rattle.upload_book.specs.Append.{is_too_long}
 use Rattle.upload_book.specs.Checksum.{is_mismatch, is_of_other_algorithm}
 use Rattle.upload_book.specs.declared.board_line.Account.{Account}
 use Rattle.upload_book.specs.declared.create.Created.{Created}
-use Rattle.upload_book.specs.FirstChunk.{FirstChunk, no_chunk}
+use Rattle.upload_book.specs.FirstChunk.{FirstChunk, count_all_first, no_chunk}
 use Rattle.upload_book.specs.NewUpload.{NewUpload}
 use Rattle.upload_book.specs.declared.head_row.Kind.{Kind}
 use Rattle.upload_book.specs.declared.head_row.Kind.TheVariants.{Plain, Partial}
@@ -17,12 +17,13 @@ use Rattle.upload_book.specs.Refusal.{first_that_holds, unless}
 use Rattle.upload_book.specs.TenantBook.{TenantBook, with_new}
 use Rattle.upload_book.specs.Upload.{Upload, is_reached}
 
--- the tests of a creation with these first bytes, for a tenant with this account and part, in their order
+-- The tests of a creation with these first bytes, for a tenant with this account and part, in their order. They see how many
+-- bytes it has in all.
 abbrev pub creation_tests : Numbers → Account → TenantBook → NewUpload → FirstChunk → List (Bool × Refusal)
 creation_tests n account part new first =
-    let after = account_with account (blocks_added n 0 (length first.bytes)) in
+    let after = account_with account (blocks_added n 0 (count_all_first first)) in
     (not first.typed, Media)
-    ∷ (is_too_long n (unwrap_or new.length n.max_size) (length first.bytes), TooLong)
+    ∷ (is_too_long n (unwrap_or new.length n.max_size) (count_all_first first), TooLong)
     ∷ (is_of_other_algorithm first.check, Algorithm)
     ∷ (is_mismatch first.check first.bytes, Mismatch)
     ∷ (nat_le n.uploads (length part.uploads), Uploads)

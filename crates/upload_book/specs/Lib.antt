@@ -27,6 +27,7 @@ pub mod NewFinal
 pub mod NewUpload
 pub mod Operation
 pub mod Order
+pub mod PiecedCreation
 pub mod Pieces
 pub mod PiecesOfBook
 pub mod PlainBook

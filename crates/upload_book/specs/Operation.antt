@@ -9,6 +9,7 @@ use Rattle.upload_book.specs.Chunk.{count_all}
 use Rattle.upload_book.specs.Concat.{concat_answer, part_after_concat}
 use Rattle.upload_book.specs.Content.{content_answer}
 use Rattle.upload_book.specs.Create.{create_answer, part_after_create, part_after_create_empty}
+use Rattle.upload_book.specs.FirstChunk.{count_all_first}
 use Rattle.upload_book.specs.Terminate.{part_after_terminate}
 use Rattle.upload_book.specs.PlainBook.{PlainBook, answer_of, book_after}
 
@@ -28,7 +29,7 @@ book_after_operation b (Terminate name) now = book_after b name.tenant (part_aft
 abbrev pub MayLackMemory : PlainBook → Operation → ℕ → Type 0
 MayLackMemory b (Create tenant new) now = ⊥
 MayLackMemory b (CreateWith tenant new first) now =
-    IsOk (answer_of b tenant (create_answer tenant new first now b.charged)) × (0 < blocks_added b.settings.numbers 0 (length first.bytes))
+    IsOk (answer_of b tenant (create_answer tenant new first now b.charged)) × (0 < blocks_added b.settings.numbers 0 (count_all_first first))
 MayLackMemory b (Concat tenant new) now = IsOk (answer_of b tenant (concat_answer tenant new now))
 MayLackMemory b (Look name) now = ⊥
 MayLackMemory b (Content name) now = IsOkAnd (answer_of b name.tenant (content_answer name.id now)) (λ bytes. bytes ≢ [])

@@ -13,6 +13,7 @@ use Rattle.upload_book.specs.declared.ready.ReadyBack.{ReadyBack}
 use Rattle.upload_book.specs.declared.ready.ReadyChunk.{ReadyChunk}
 use Rattle.upload_book.specs.Concat.{concat_refusal, joined_len}
 use Rattle.upload_book.specs.Create.{creation_refusal, first_end, new_kind}
+use Rattle.upload_book.specs.FirstChunk.{count_all_first}
 use Rattle.upload_book.specs.declared.ready.ReadyEnd.{ReadyEnd}
 use Rattle.upload_book.specs.declared.ready.ReadyFinal.{ReadyFinal}
 use Rattle.upload_book.specs.declared.ready.ReadyNext.{ReadyNext}
@@ -51,7 +52,7 @@ pub record IsReadyForEnd (b : StoredBook) (r : ReadyEnd) : Type 0 where
   pub seen : IsVisibleIn b.store r.name.tenant r.name.id r.now r.place
 
 -- The book is ready for a creation: it refuses nothing, the texts are of their forms, the upload will expire then, and
--- there is a body with room for the first bytes.
+-- there is a body with room for the first bytes, and for all that are to come behind them.
 pub record IsReadyForUpload (b : StoredBook) (r : ReadyUpload) : Type 0 where
   pub there : r.tenant < length b.settings.tenants
   pub metadata : IsTrue (is_kept_metadata r.new.metadata)
@@ -59,7 +60,7 @@ pub record IsReadyForUpload (b : StoredBook) (r : ReadyUpload) : Type 0 where
   pub accepted : creation_refusal b.settings.numbers (account_in b.settings.numbers (tenant_book (plain_of b) r.tenant) b.charged) (tenant_book (plain_of b) r.tenant) r.new r.first ≡ None
   pub expires : r.expires ≡ first_end b.settings.numbers r.new (length r.first.bytes) r.now
   pub empty : r.body ≡ record no_chain { room = r.body.room }
-  pub room : HasRoom b.store.pool r.body (length r.first.bytes)
+  pub room : HasRoom b.store.pool r.body (count_all_first r.first)
 
 -- the pieces of the parts of a concatenation were listed, and there is an empty list with room for them
 pub record IsListed (s : BlockStore) (tenant : ℕ) (r : ReadyFinal) : Type 0 where

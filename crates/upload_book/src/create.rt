@@ -18,6 +18,7 @@ use crate::expiry::{lifetime_end, renewed};
 use crate::head_row::{Kind, Name};
 use crate::moment::Moment;
 use crate::payload::Payload;
+use crate::progress::ends_past;
 use crate::ready::ReadyUpload;
 use crate::refusal::Refusal;
 use crate::settings::Numbers;
@@ -81,6 +82,8 @@ pub struct FirstChunk<'a> {
     /// `Upload-Checksum`, which came with the bytes.
     pub check: Option<Checksum>,
     pub bytes: Payload<'a>,
+    /// How many bytes are to come behind these, each by a PATCH of the upload.
+    pub more: u64,
 }
 
 impl<'a> Model for FirstChunk<'a> {
@@ -92,6 +95,7 @@ impl<'a> Model for FirstChunk<'a> {
       typed = first.typed;
       check = first.check;
       bytes = first.bytes;
+      more = first.more;
     } };
 }
 
@@ -106,6 +110,7 @@ impl<'a> FirstChunk<'a> {
             typed: true,
             check: None,
             bytes: Payload::new(b""),
+            more: 0,
         }
     }
 }
@@ -146,9 +151,10 @@ impl Book {
     /// It is refused by the first of these that applies: Media; TooLong, where the length is above the greatest
     /// size, or the bytes go past the length; Algorithm; Mismatch; Uploads, where the tenant has its greatest
     /// number of uploads, expired ones included; Spent, where the tenant's ids are used up, or the blocks that
-    /// all tenants may be charged; Quota. Where none of them does and there are bytes, it may be refused as
-    /// Memory: there was none for the list of the upload's blocks. A refusal leaves the book as it was, and
-    /// uses no id.
+    /// all tenants may be charged; Quota. Bytes that are to come behind the first count for TooLong, Spent and
+    /// Quota. Where none of them does and the bytes, with those that are to come, take a block or more, it may be
+    /// refused as Memory: there was none for the list of the upload's blocks. A refusal leaves the book as it was,
+    /// and uses no id.
     pub fn create_with(
         &mut self,
         tenant: u8,
@@ -172,7 +178,8 @@ impl Book {
         Ok(self.put_upload(ready))
     }
 
-    // Makes room for a creation's first bytes, or finds why it is refused. It changes nothing.
+    // Makes room for a creation's first bytes, and for all that are to come behind them, or finds why it is refused. It
+    // changes nothing.
     pub(crate) fn ready_for_upload<'a>(
         &self,
         tenant: u8,
@@ -208,8 +215,9 @@ impl Book {
             return Err(refusal);
         }
         let len = first.bytes.len() as u64;
+        let count = len + first.more;
         let expires = new.first_end(numbers, len, now);
-        match self.store.body_for(self.alloc, len) {
+        match self.store.body_for(self.alloc, count) {
             Ok(body) => Ok(ReadyUpload {
                 tenant,
                 new,
@@ -264,6 +272,7 @@ fn creation_refusal(
     first: &FirstChunk,
 ) -> Option<Refusal>
     requires tenant { tenant < length store.now.stored_tenants }
+    requires max_size { numbers.now.max_size < 2 ^ 64 }
     requires blocks { 0 < numbers.now.block_size }
     requires quota { account.now.charge ≤ account.now.quota }
     requires charged { account.now.charged ≤ numbers.now.last_total }
@@ -272,13 +281,15 @@ fn creation_refusal(
 {
     let most = new.length.unwrap_or(numbers.max_size);
     let len = first.bytes.len() as u64;
-    let last_total = numbers.last_total;
-    let added = len.div_ceil(numbers.block_size);
     if !first.typed {
-        Some(Refusal::Media)
-    } else if most > numbers.max_size || len > most {
-        Some(Refusal::TooLong)
-    } else if is_of_other_algorithm(first.check) {
+        return Some(Refusal::Media);
+    }
+    if most > numbers.max_size || ends_past(0, len, first.more, most) {
+        return Some(Refusal::TooLong);
+    }
+    let last_total = numbers.last_total;
+    let added = (len + first.more).div_ceil(numbers.block_size);
+    if is_of_other_algorithm(first.check) {
         Some(Refusal::Algorithm)
     } else if is_mismatch(first.check, &first.bytes) {
         Some(Refusal::Mismatch)

@@ -1,6 +1,7 @@
 //! Laws of the definitions that the contracts cite: each is the contract of a function that does nothing.
 ghost use Rattle.upload_book.specs.ContentsStay.{ContentsStay};
 ghost use Rattle.upload_book.specs.FinalLaws.{FinalsStay};
+ghost use Rattle.upload_book.specs.PiecedCreation.{PiecedCreation};
 ghost use Rattle.upload_book.specs.Pieces.{PiecedPatch};
 ghost use Rattle.upload_book.specs.PiecesOfBook.{PiecedPatchOfBook};
 ghost use Rattle.upload_book.specs.Laws.{AccountsFollow, FollowOrder, HeadsFollow, ResumedPatch, RowsFollow};
@@ -29,6 +30,12 @@ pub fn pieced_patch()
 /// So it is with a book: the pieces are PATCHes of it, one after another, and leave the book that the whole leaves.
 pub fn pieced_patch_of_a_book()
     ensures { PiecedPatchOfBook }
+{}
+
+/// A creation with first bytes may come in two: its first piece, and a PATCH of what is behind it. While the upload stands, with
+/// nothing between them, they come to what the creation comes to as one.
+pub fn pieced_creation()
+    ensures { PiecedCreation }
 {}
 
 /// What a HEAD shows after a PATCH of an upload that was found, or why that is refused, is determined without the

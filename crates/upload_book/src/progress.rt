@@ -118,7 +118,7 @@ pub(crate) fn append_refusal(
 }
 
 // Whether so many bytes after an offset, and more behind them, end past a length.
-fn ends_past(offset: u64, len: u64, more: u64, most: u64) -> bool
+pub(crate) fn ends_past(offset: u64, len: u64, more: u64, most: u64) -> bool
     ensures { result ≡ nat_lt most (offset + (len + more)) }
 {
     match len

@@ -54,7 +54,7 @@ pub(crate) struct ReadyUpload<'a> {
     pub(crate) now: Moment,
     /// When the upload will expire, if it does.
     pub(crate) expires: Option<Moment>,
-    /// A body with room for the first bytes.
+    /// A body with room for the first bytes, and for all that are to come behind them.
     pub(crate) body: Body,
 }
 

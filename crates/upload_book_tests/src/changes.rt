@@ -92,6 +92,7 @@ fn no_bytes<'a>() -> FirstChunk<'a> {
         typed: true,
         check: None,
         bytes: Payload::new(b""),
+        more: 0,
     }
 }
 

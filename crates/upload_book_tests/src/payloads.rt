@@ -56,6 +56,7 @@ fn refused_creation(
             typed: true,
             check: Some(check),
             bytes: Payload::new(b"hello"),
+            more: 0,
         },
     };
     if before {

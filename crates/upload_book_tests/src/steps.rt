@@ -306,6 +306,7 @@ fn first<'a>(typed: bool, check: Option<Checksum>, bytes: &'a [u8]) -> FirstChun
         typed,
         check,
         bytes: Payload::new(bytes),
+        more: 0,
     }
 }
 

@@ -1,5 +1,5 @@
 -- What the reading of a head gives: its layout, or why it is refused.
-use Rattle.std.specs.Prelude.{◌≡◌, ℕ, List, length, Ok, Some, false, Result, Err, ◌++◌, take, drop}
+use Rattle.std.specs.Prelude.{◌≡◌, ℕ, List, length, Ok, Some, None, false, Result, Err, ◌++◌, take, drop}
 use Rattle.httparse.specs.Grammar.{RequestHead}
 use Rattle.httparse.specs.Spans.{span_bytes, IsRequestAt, IsRequestWithin}
 use Rattle.httparse.specs.declared.spans.HeaderSpan.{HeaderSpan}
@@ -33,6 +33,7 @@ pub record ShowsHead (limits : BodyLimits) (head : List ℕ) (h : RequestHead) (
   pub body_len : judged limits h ≡ Ok p.body_len
   pub given : p.given ≡ 0
   pub more : p.more ≡ 0
+  pub created : p.created ≡ None
   pub target : span_bytes head p.target ≡ h.target
   pub fields : map_fields (field_at head) p.fields ≡ tus_fields h
 

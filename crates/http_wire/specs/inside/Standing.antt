@@ -1,6 +1,8 @@
 -- How far the reading of a message has come, and what a look at the bytes that came tells.
 use Rattle.std.specs.Prelude.{◌≡◌, ◌≤◌, ◌<◌, ◌+◌, ◌-◌, ◌^◌, ℕ, true, false, List, [], ◌++◌, length, min, Option, Some, None, Ok, ⊤}
 use Rattle.std.specs.Prelude.{if◌then◌else◌}
+use Rattle.tus_steps.specs.InPieces.{method_behind}
+use Rattle.tus_steps.specs.Method.{is_patch}
 use Rattle.http_wire.specs.Conversation.{continue_text}
 use Rattle.http_wire.specs.HeadText.{head_limit}
 use Rattle.http_wire.specs.Incoming.{is_cut_by_fault, map_incoming}
@@ -62,6 +64,9 @@ pub record IsPieced (space : ℕ) (b : PiecedBody) : Type 0 where
   pub room : b.layout.head_len + b.piece + READ_SIZE ≤ space
   pub within : IsLayoutWithin b.layout.head_len b.layout
   pub plain : IsPlain b.layout
+  pub whole : b.layout.created ≡ None
+  pub first : b.created ≡ None → is_patch b.layout.method ≡ false → b.given ≡ 0
+  pub own : is_patch b.layout.method ≡ true → b.created ≡ None
 
 -- and its head is held
 pub record HasRoomForPiece (a : Ahead) (b : PiecedBody) : Type 0 where
@@ -72,13 +77,17 @@ pub record HasRoomForPiece (a : Ahead) (b : PiecedBody) : Type 0 where
 abbrev pub lent_to : Ahead → PiecedBody → ℕ
 lent_to a b = b.given + (length a.lent - b.layout.head_len)
 
+-- what comes of a body is applied where it is cut: it is for an upload, and is no creation
+abbrev pub IsApplied : PiecedBody → Type 0
+IsApplied b = is_patch (method_behind b.created b.layout.method) ≡ true
+
 -- Which piece of a body is lent. Nothing is held behind one that is not the last. One with more to come has at least the size of
--- a piece.
+-- a piece. One behind which the body was cut is for an upload.
 abbrev pub IsPart : Ahead → PiecedBody → Part → Type 0
 IsPart a b Middle = (lent_to a b < b.layout.body_len) × (a.held ≡ []) × (b.layout.head_len + b.piece ≤ length a.lent)
 IsPart a b Last = lent_to a b ≡ b.layout.body_len
-IsPart a b (Cut cut.Ended) = (lent_to a b < b.layout.body_len) × (a.held ≡ []) × (a.ended ≡ true)
-IsPart a b (Cut cut.Fault) = (lent_to a b < b.layout.body_len) × (a.held ≡ []) × (a.ended ≡ false)
+IsPart a b (Cut cut.Ended) = (lent_to a b < b.layout.body_len) × (a.held ≡ []) × (a.ended ≡ true) × IsApplied b
+IsPart a b (Cut cut.Fault) = (lent_to a b < b.layout.body_len) × (a.held ≡ []) × (a.ended ≡ false) × IsApplied b
 
 -- a piece of a body is lent behind its head
 pub record HasPiece (a : Ahead) (b : PiecedBody) (which : Part) : Type 0 where
@@ -125,17 +134,23 @@ pieced_after stage Continue = pieced stage
 pieced_after stage (Came i) = None
 pieced_after stage (Piece b part) = Some b
 
--- A body that is taken in pieces stays the same. One begins only where bodies are taken in pieces of this size, with nothing taken.
+-- a body that is taken in pieces stays the same, or is given up with nothing taken
+abbrev pub StaysBody : Option PiecedBody → Option PiecedBody → Type 0
+StaysBody None None = ⊤
+StaysBody None (Some b) = ⊥
+StaysBody (Some b) None = (b.given ≡ 0) × (0 < b.piece)
+StaysBody (Some b) (Some c) = c ≡ b
+
+-- the same, but one may begin with nothing taken, where bodies are taken in pieces of this size
 abbrev pub KeepsBody : Option ℕ → Option PiecedBody → Option PiecedBody → Type 0
 KeepsBody piece None None = ⊤
-KeepsBody piece None (Some b) = (b.given ≡ 0) × (piece ≡ Some b.piece)
-KeepsBody piece (Some b) None = ⊥
-KeepsBody piece (Some b) (Some c) = c ≡ b
+KeepsBody piece None (Some b) = (b.given ≡ 0) × (b.created ≡ None) × (piece ≡ Some b.piece)
+KeepsBody piece (Some b) after = StaysBody (Some b) after
 
 -- The body of a message is gathered whole, and not in pieces of this size. Once it came in, no more is lent than the message has.
 abbrev pub GathersIn : Option ℕ → Ahead → Incoming Layout → Type 0
-GathersIn piece a (Message p) = (pieced_by piece p ≡ None) × (length a.lent ≤ p.head_len + p.body_len)
-GathersIn piece a (CutPatch p why) = (pieced_by piece p ≡ None) × (length a.lent ≤ p.head_len + p.body_len)
+GathersIn piece a (Message p) = (pieced_by piece p ≡ None) × (p.created ≡ None) × (length a.lent ≤ p.head_len + p.body_len)
+GathersIn piece a (CutPatch p why) = (pieced_by piece p ≡ None) × (p.created ≡ None) × (length a.lent ≤ p.head_len + p.body_len)
 GathersIn piece a CutOther = ⊤
 GathersIn piece a (Refused why framing) = ⊤
 GathersIn piece a End = ⊤
@@ -143,7 +158,7 @@ GathersIn piece a End = ⊤
 -- the same of a message that is being read
 abbrev pub GathersAt : Option ℕ → Stage → Type 0
 GathersAt piece (Head s) = ⊤
-GathersAt piece (Body p) = pieced_by piece p ≡ None
+GathersAt piece (Body p) = (pieced_by piece p ≡ None) × (p.created ≡ None)
 GathersAt piece (Pieces b) = ⊤
 
 -- the same once a look was taken

@@ -38,7 +38,7 @@ module _ {R W : Type 0} where
   -- reads, the next message begins, unless one that came in is left as it is.
   pub record IsWire (s : Streams R W) (reader : R) (writer : W) (c : OnConnection) (state : State) : Type 0 where
     pub sound : IsSound s (wire_of reader writer c state)
-    pub limits : c.limits.patch ≡ c.limits.other
+    pub limits : c.limits.plain ≡ c.limits.other
     pub gathers : c.piece ≡ None
     pub sent : c.write_buffer ≡ empty_write_buffer
     pub starts : is_open state ≡ true → passed_over c.phase ≡ at_start

@@ -113,6 +113,7 @@ fn layout_of(
                 body_len: body_len as usize,
                 given: 0,
                 more: 0,
+                created: None,
                 target: line.path,
                 fields: fields.tus,
             })

@@ -17,6 +17,8 @@ pub struct Layout {
     /// How many bytes of the body were answered before these, and how many are to come behind them: none but for a piece.
     pub given: usize,
     pub more: usize,
+    /// The id of the upload that the pieces before created: none but for a piece of a creation.
+    pub created: Option<u64>,
     pub target: Span,
     /// Where the fields that count for the steps stand in the head.
     pub fields: TusFields<FieldSpan>,
@@ -24,7 +26,7 @@ pub struct Layout {
 
 impl Layout {
     ghost use Rattle.http_wire.specs.Layout.{field_at};
-    ghost use Rattle.tus_steps.specs.Method.{is_applied_when_cut as applied};
+    ghost use Rattle.tus_steps.specs.Method.{is_applied_when_cut as applied, is_taken_in_pieces as pieced};
 
     /// Whether the request is applied with the bytes that came where its body is cut off: it is a PATCH
     /// without a checksum. That is what makes an upload resumable.
@@ -32,5 +34,12 @@ impl Layout {
         ensures { (head : List ℕ) → result ≡ applied self.now.method (field_at head self.now.fields.checksum) }
     {
         self.method.is_patch() && self.fields.checksum.is_absent()
+    }
+
+    /// Whether the bytes of the request may be taken piece by piece: it is a PATCH or a POST without a checksum.
+    pub fn is_taken_in_pieces(&self) -> bool
+        ensures { (head : List ℕ) → result ≡ pieced self.now.method (field_at head self.now.fields.checksum) }
+    {
+        (self.method.is_patch() || self.method.is_post()) && self.fields.checksum.is_absent()
     }
 }

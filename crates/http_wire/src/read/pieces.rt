@@ -1,11 +1,13 @@
 //! A body that is taken in pieces, as its bytes come.
-ghost use Rattle.std.specs.Prelude.{◌≡◌, ◌<◌, ℕ, List, Option, Some, IfSome};
+ghost use Rattle.std.specs.Prelude.{◌≡◌, ◌<◌, ℕ, List, None, Option, Some, IfSome};
+ghost use Rattle.tus_steps.specs.InPieces.{method_behind};
+ghost use Rattle.tus_steps.specs.Method.{is_patch};
 ghost use Rattle.http_wire.specs.PiecedBody.{IsPlain, IsTaken, piece_at, pieced_by};
 ghost use Rattle.http_wire.specs.declared.body_limits.BodyLimits.{BodyLimits};
 ghost use Rattle.http_wire.specs.declared.read.stage.Stage.TheVariants as variants;
-ghost use Rattle.http_wire.specs.inside.Standing.{GathersAfter, HasRoomForPiece, IsNearer, Leaves, LooksOn, missing, pieced_after};
+ghost use Rattle.http_wire.specs.inside.Standing.{GathersAfter, HasRoomForPiece, IsNearer, Leaves, LooksOn, StaysBody, missing, pieced_after};
 
-use crate::incoming::Cut;
+use crate::incoming::{Cut, Incoming};
 use crate::read::layout::Layout;
 use crate::read::read_buffer::ReadBuffer;
 use crate::read::stage::{Looked, lend_all};
@@ -19,6 +21,8 @@ pub struct PiecedBody {
     pub given: usize,
     /// How many bytes a piece has at least, unless it is the last.
     pub piece: usize,
+    /// The id of the upload that the pieces created, where the message is a creation.
+    pub created: Option<u64>,
 }
 
 /// Which piece of a body came.
@@ -34,21 +38,22 @@ pub enum Part {
 
 impl PiecedBody {
     /// The body of this message, of which nothing was taken, if it is taken in pieces of so many bytes. The message is a PATCH
-    /// without a checksum, and its body has more bytes than a piece.
+    /// or a POST without a checksum, and its body has more bytes than a piece.
     pub fn of(layout: &Layout, piece: Option<usize>) -> Option<PiecedBody>
         ensures body { result ≡ pieced_by piece layout.now }
-        ensures begins { IfSome result (λ b. (b.layout ≡ layout.now) × (b.given ≡ 0) × (piece ≡ Some b.piece)
-            × (b.piece < b.layout.body_len)) }
+        ensures begins { IfSome result (λ b. (b.layout ≡ layout.now) × (b.given ≡ 0) × (b.created ≡ None)
+            × (piece ≡ Some b.piece) × (b.piece < b.layout.body_len)) }
         ensures plain { IfSome result (λ b. IsPlain b.layout) }
     {
         let piece = piece?;
-        if !layout.is_applied_when_cut() || layout.body_len <= piece {
+        if !layout.is_taken_in_pieces() || layout.body_len <= piece {
             return None;
         }
         Some(PiecedBody {
             layout: *layout,
             given: 0,
             piece,
+            created: None,
         })
     }
 
@@ -62,7 +67,16 @@ impl PiecedBody {
             .body_len
             .saturating_sub(self.given)
             .saturating_sub(len);
+        layout.created = self.created;
         layout
+    }
+
+    /// Whether what came of it is applied where it is cut. Of a creation nothing is before its first piece: so no upload is left
+    /// of which its client can't know.
+    pub fn is_applied_when_cut(&self) -> bool
+        ensures { result ≡ is_patch (method_behind self.now.created self.now.layout.method) }
+    {
+        self.created.is_some() || self.layout.method.is_patch()
     }
 }
 
@@ -75,7 +89,7 @@ pub fn look_for_piece(read_buffer: &mut ReadBuffer, body: &PiecedBody) -> Looked
     ensures leaves { Leaves read_buffer.new (variants.Pieces body.now) result }
     ensures nearer { IsNearer (missing read_buffer.old (variants.Pieces body.now)) read_buffer.new
         (variants.Pieces body.now) result }
-    ensures body { pieced_after (variants.Pieces body.now) result ≡ Some body.now }
+    ensures body { StaysBody (Some body.now) (pieced_after (variants.Pieces body.now) result) }
     ensures gathers { (piece : Option ℕ) → GathersAfter piece read_buffer.new (variants.Pieces body.now) result }
     ensures ended { read_buffer.new.ended ≡ read_buffer.old.ended }
 {
@@ -91,6 +105,9 @@ pub fn look_for_piece(read_buffer: &mut ReadBuffer, body: &PiecedBody) -> Looked
     }
     if !read_buffer.is_ended() {
         return Looked::More;
+    }
+    if !body.is_applied_when_cut() {
+        return Looked::Came(Incoming::CutOther);
     }
     lend_all(read_buffer);
     Looked::Piece(*body, Part::Cut(Cut::Ended))

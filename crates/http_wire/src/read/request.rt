@@ -13,7 +13,7 @@ pub fn request_in<'a>(layout: &Layout, text: &'a [u8]) -> Request<'a>
     ensures { result ≡ request_at layout.now text.now }
 {
     let (head, body) = text.split_at(layout.head_len);
-    Request {
+    let request = Request {
         method: layout.method,
         path: read_path(layout.target.of(head)),
         fields: TusFields {
@@ -29,5 +29,9 @@ pub fn request_in<'a>(layout: &Layout, text: &'a [u8]) -> Request<'a>
         body,
         given: layout.given as u64,
         more: layout.more as u64,
+    };
+    match layout.created {
+        Some(id) => request.behind(id),
+        None => request,
     }
 }

@@ -4,7 +4,6 @@ ghost use Rattle.http_wire.specs.BodyLimits.{AreSmall};
 ghost use Rattle.http_wire.specs.Conversation.{continue_text};
 ghost use Rattle.http_wire.specs.HeadText.{head_limit};
 ghost use Rattle.http_wire.specs.Layout.{IsLayoutWithin};
-ghost use Rattle.http_wire.specs.PiecedBody.{pieced_by};
 ghost use Rattle.http_wire.specs.inside.HeadLayout.{BeginsHead};
 ghost use Rattle.http_wire.specs.inside.HeadSearch.{IsHeadFound, IsHeldBy, search_start};
 ghost use Rattle.http_wire.specs.inside.Standing.{Arrives, Comes, Fits, GathersAfter, GathersAt, GathersIn, HasRoom, IsNearer, KeepsBody, Leaves, LooksOn, Standing, missing, pieced, pieced_after};
@@ -105,6 +104,7 @@ impl Stage {
         requires piece { IfSome piece (λ n. 0 < n) }
         requires held { layout.head_len ≤ length read_buffer.old.held }
         requires within { IsLayoutWithin layout.head_len layout }
+        requires whole { layout.created ≡ None }
         ensures looks { (limits : BodyLimits) (bytes : List ℕ) → BeginsHead limits bytes layout read_buffer.old.held
             → LooksOn limits bytes [] read_buffer.new self.new result }
         ensures leaves { Leaves read_buffer.new self.new result }
@@ -155,6 +155,7 @@ fn judge_head(
     ensures long { IfOk result (λ p. (p.head_len ≤ head_limit) × (p.head_len ≤ length read_buffer.now.held)) }
     ensures body { IfOk result (λ p. p.body_len < 2 ^ 62) }
     ensures within { IfOk result (λ p. IsLayoutWithin p.head_len p) }
+    ensures whole { IfOk result (λ p. p.created ≡ None) }
     ensures comes { IfErr result (λ i. (bytes : List ℕ) → IsHeadFound bytes read_buffer.now found
         → Comes limits bytes [] read_buffer.now i) }
     ensures arrives { IfErr result (Arrives read_buffer.now) }
@@ -204,7 +205,7 @@ fn look_for_body(read_buffer: &mut ReadBuffer, layout: &Layout) -> Looked
     ensures nearer { IsNearer (missing read_buffer.old (variants.Body layout.now)) read_buffer.new
         (variants.Body layout.now) result }
     ensures body { pieced_after (variants.Body layout.now) result ≡ None }
-    ensures gathers { (piece : Option ℕ) → pieced_by piece layout.now ≡ None
+    ensures gathers { (piece : Option ℕ) → GathersAt piece (variants.Body layout.now)
         → GathersAfter piece read_buffer.new (variants.Body layout.now) result }
     ensures ended { read_buffer.new.ended ≡ read_buffer.old.ended }
 {

@@ -70,6 +70,7 @@ fn a_creation(rt: HostRuntime) {
             typed: true,
             check: Some(Checksum::Other),
             bytes: Payload::new(b"ab"),
+            more: 0,
         },
     };
     assert_record(&rt, rt.alloc(), &change, CREATION);

@@ -57,6 +57,7 @@ pub(crate) fn creation<'a>(
             typed: true,
             check: None,
             bytes: Payload::new(bytes),
+            more: 0,
         },
     }
 }
@@ -75,6 +76,7 @@ pub(crate) fn deferred(byte: &[u8]) -> Change<'_> {
             typed: true,
             check: None,
             bytes: Payload::new(byte),
+            more: 0,
         },
     }
 }

@@ -3,13 +3,22 @@ use Rattle.std.proofs.Common.{◌≡◌, ℕ, zero, suc, ◌+◌, ◌-◌, ◌<�
 use Rattle.std.specs.List.{All, sum, sum_by}
 use Rattle.std.proofs.lemmas.List.Elements.{All-head, All-tail}
 use Rattle.std.proofs.lemmas.List.Sums.{get_or-le-sum_by, sum_by-cons, sum-map}
+use Rattle.block_bodies.specs.Bodies.{Chain, HasRoom}
+use Rattle.block_pool.specs.Blocks.{Blocks}
 use Rattle.upload_book.specs.Charge.{charge_in}
 use Rattle.upload_book.specs.declared.settings.TenantQuota.{TenantQuota}
 use Rattle.upload_book.specs.Lawful.{IsLawful}
 use Rattle.upload_book.specs.PlainBook.{PlainBook, tenant_book}
 use Rattle.upload_book.specs.TenantBook.{TenantBook, opening_part}
 use Rattle.upload_book.specs.Terminate.{given_back}
+use Rattle.upload_book.proofs.Charge.PriceLemmas.{blocks_for-more}
 use Rattle.upload_book.proofs.Lawful.SettingsLemmas.{quotas-within}
+
+-- where there is room for more bytes there is for fewer
+pub fewer_room : (p : Blocks) (x : Chain) (few many : ℕ) → few ≤ many → HasRoom p x many → HasRoom p x few
+fewer_room p x few many less room =
+    let blocks = blocks_for-more p.block_size (x.len + few) (x.len + many) (omega (arith, less)) in
+    record { listed = omega (arith, blocks, room.listed); free = omega (arith, blocks, room.free) }
 
 -- terms that are no more have a sum that is no more
 pub sum_by-each_le : {X : Type 0} (f g : X → ℕ) (xs : List X) → All (λ x. f x ≤ g x) xs → sum_by f xs ≤ sum_by g xs

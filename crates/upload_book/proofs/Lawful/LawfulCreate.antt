@@ -10,30 +10,35 @@ use Rattle.upload_book.specs.Create.{creation_refusal, created_upload, new_kind}
 use Rattle.upload_book.specs.declared.board_line.Account.{Account}
 use Rattle.upload_book.specs.declared.settings.Numbers.{Numbers}
 use Rattle.upload_book.specs.Expiry.{lifetime_end, renewed}
-use Rattle.upload_book.specs.FirstChunk.{FirstChunk}
+use Rattle.upload_book.specs.FirstChunk.{FirstChunk, count_all_first}
 use Rattle.upload_book.specs.Lawful.{IsTenantOf, IsUploadOf, IsConcatText, is_kept_metadata}
 use Rattle.upload_book.specs.NewUpload.{NewUpload}
 use Rattle.upload_book.specs.TenantBook.{TenantBook, with_new}
 use Rattle.upload_book.specs.Upload.{Upload, offset_of, is_complete, is_reached}
 use Rattle.upload_book.proofs.Charge.ChargeLemmas.{new-own}
 use Rattle.upload_book.proofs.Lawful.FirstRefusal.{test-passed}
-use Rattle.upload_book.proofs.Lawful.LawfulAppend.{ends_within, IsOfKind-renewed}
+use Rattle.upload_book.proofs.Lawful.LawfulAppend.{ends_within, fewer_blocks, fewer_fit, IsOfKind-renewed, not_above}
 use Rattle.upload_book.proofs.Lawful.LawfulSteps.{HasSharedParts-none, IsTenantOf-with_new}
 
 -- what is known of a creation that is not refused
 pub record IsCreatable (n : Numbers) (account : Account) (part : TenantBook) (new : NewUpload) (first : FirstChunk) : Type 0 where
+  pub typed : not first.typed ≡ false
   pub fits : is_too_long n (unwrap_or new.length n.max_size) (length first.bytes) ≡ false
   pub room : length part.uploads < n.uploads
   pub id : part.next ≤ n.last_id
   pub unspent : account.charged + blocks_added n 0 (length first.bytes) ≤ n.last_total
   pub paid : account.charge + blocks_added n 0 (length first.bytes) ≤ account.quota
+  pub all_fit : is_too_long n (unwrap_or new.length n.max_size) (count_all_first first) ≡ false
+  pub all_unspent : account.charged + blocks_added n 0 (count_all_first first) ≤ n.last_total
+  pub all_paid : account.charge + blocks_added n 0 (count_all_first first) ≤ account.quota
 
 -- it is known where no refusal applies
 pub IsCreatable-from_none : (n : Numbers) (account : Account) (part : TenantBook) (new : NewUpload) (first : FirstChunk) → creation_refusal n account part new first ≡ None → IsCreatable n account part new first
 IsCreatable-from_none n account part new first none =
-    let added = blocks_added n 0 (length first.bytes) in
+    let added = blocks_added n 0 (count_all_first first) in
+    let fewer = fewer_blocks n.block_size 0 (length first.bytes) first.more in
     let typed = test-passed (not first.typed) _ _ none in
-    let fits = test-passed (is_too_long n (unwrap_or new.length n.max_size) (length first.bytes)) _ _ typed.1 in
+    let fits = test-passed (is_too_long n (unwrap_or new.length n.max_size) (count_all_first first)) _ _ typed.1 in
     let known = test-passed (is_of_other_algorithm first.check) _ _ fits.1 in
     let same = test-passed (is_mismatch first.check first.bytes) _ _ known.1 in
     let room = test-passed (leb n.uploads (length part.uploads)) _ _ same.1 in
@@ -41,11 +46,15 @@ IsCreatable-from_none n account part new first none =
     let paid = test-passed (ltb account.quota (account.charge + added)) _ _ unspent.1 in
     let both = neither _ _ unspent.0 in
     record {
-      fits = fits.0;
+      typed = typed.0;
+      fits = fewer_fit n (unwrap_or new.length n.max_size) (length first.bytes) (count_all_first first) (omega arith) fits.0;
       room = less n.uploads (length part.uploads) room.0;
       id = at_most n.last_id part.next both.0;
-      unspent = at_most n.last_total (account.charged + added) both.1;
-      paid = at_most account.quota (account.charge + added) paid.0;
+      unspent = omega (arith, fewer, at_most n.last_total (account.charged + added) both.1);
+      paid = omega (arith, fewer, at_most account.quota (account.charge + added) paid.0);
+      all_fit = fits.0;
+      all_unspent = at_most n.last_total (account.charged + added) both.1;
+      all_paid = at_most account.quota (account.charge + added) paid.0;
     }
   where
     neither : (a b : Bool) → (a || b) ≡ false → (a ≡ false) × (b ≡ false)
@@ -57,6 +66,17 @@ IsCreatable-from_none n account part new first none =
 
     at_most : (most k : ℕ) → ltb most k ≡ false → k ≤ most
     at_most most k test = grind (arith, nat_tests)
+
+-- and no refusal applies where it is known of all its bytes, and nothing is said of a checksum
+pub creation_refusal-none : (n : Numbers) (account : Account) (part : TenantBook) (new : NewUpload) (first : FirstChunk) → not first.typed ≡ false → is_too_long n (unwrap_or new.length n.max_size) (count_all_first first) ≡ false
+    → is_of_other_algorithm first.check ≡ false → is_mismatch first.check first.bytes ≡ false → length part.uploads < n.uploads → part.next ≤ n.last_id
+    → account.charged + blocks_added n 0 (count_all_first first) ≤ n.last_total → account.charge + blocks_added n 0 (count_all_first first) ≤ account.quota → creation_refusal n account part new first ≡ None
+creation_refusal-none n account part new first typed fits known same room id unspent paid =
+    let added = blocks_added n 0 (count_all_first first) in
+    rw (typed, fits, known, same, fewer n.uploads (length part.uploads) room, not_above n.last_id part.next id, not_above n.last_total (account.charged + added) unspent, not_above account.quota (account.charge + added) paid) refl
+  where
+    fewer : (most k : ℕ) → k < most → leb most k ≡ false
+    fewer most k less = grind (arith, nat_tests)
 
 -- the texts of a new upload are of their forms
 pub record HasLawfulTexts (new : NewUpload) : Type 0 where

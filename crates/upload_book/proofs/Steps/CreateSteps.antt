@@ -1,13 +1,15 @@
 -- What a book over a store keeps and tells where a creation is not refused.
-use Rattle.std.proofs.Common.{◌≡◌, ℕ, ◌+◌, ◌-◌, ◌<◌, ◌≤◌, Bool, false, ◌∷◌, ◌++◌, drop, length, set, take, Option, None, Result, Ok, Err, OnOk, OnErr, inl, inr, refl, ap, ap₂, sym, subst, ◌∙◌, arith}
+use Rattle.std.proofs.Common.{◌≡◌, ℕ, ◌+◌, ◌-◌, ◌<◌, ◌≤◌, Bool, false, ◌∷◌, ◌++◌, drop, length, set, take, Option, None, unwrap_or, Result, Ok, Err, OnOk, OnErr, inl, inr, refl, ap, ap₂, sym, subst, ◌∙◌, arith}
 use Rattle.std.specs.List.{sum_by}
 use Rattle.std.specs.Prelude.{◌||◌, nat_lt}
+use Rattle.std.proofs.lemmas.Bool.Decides.{nat_tests}
 use Rattle.std.proofs.Math.ListN.{length-map}
 use Rattle.std.specs.Result.{IsOk}
 use Rattle.block_pool.specs.Blocks.{size_of}
 use Rattle.block_bodies.specs.Changes.{SameSizes}
 use Rattle.block_bodies.specs.Bodies.{blocks_for}
 use Rattle.upload_book.specs.Account.{account_in, blocks_added, blocks_between}
+use Rattle.upload_book.specs.Append.{is_too_long}
 use Rattle.upload_book.specs.Book.{StoredBook, IsBook, plain_of}
 use Rattle.upload_book.specs.Charge.{charge_in, charge_with}
 use Rattle.upload_book.specs.Create.{creation_refusal, creation_tests, create_answer, create_empty_answer, created_upload, part_after_create, part_after_create_empty}
@@ -16,7 +18,7 @@ use Rattle.upload_book.specs.declared.operation.Operation.TheVariants.{CreateWit
 use Rattle.upload_book.specs.declared.refusal.Refusal.{Refusal}
 use Rattle.upload_book.specs.declared.refusal.Refusal.TheVariants.{Memory, Spent}
 use Rattle.upload_book.specs.declared.settings.Numbers.{Numbers}
-use Rattle.upload_book.specs.FirstChunk.{FirstChunk, no_chunk}
+use Rattle.upload_book.specs.FirstChunk.{FirstChunk, count_all_first, no_chunk}
 use Rattle.upload_book.specs.Lawful.{IsLawful}
 use Rattle.upload_book.specs.NewUpload.{NewUpload}
 use Rattle.upload_book.specs.Operation.{MayLackMemory}
@@ -32,7 +34,7 @@ use Rattle.upload_book.proofs.Expiries.BookEnds.{HasEnd-new}
 use Rattle.upload_book.proofs.Expiries.ExpirySteps.{IsRenewed, ids-below, next-none}
 use Rattle.upload_book.proofs.Steps.BookSteps.{Follows, IsBook-follows, IsIndex, part-plain, part-within, plain-follows, stored_with}
 use Rattle.upload_book.proofs.Charge.ChargeLemmas.{charge-create}
-use Rattle.upload_book.proofs.Lawful.LawfulAppend.{not_above}
+use Rattle.upload_book.proofs.Lawful.LawfulAppend.{fewer_blocks, not_above}
 use Rattle.upload_book.proofs.Lawful.LawfulCreate.{HasLawfulTexts, IsCreatable, IsCreatable-from_none}
 use Rattle.upload_book.proofs.Lawful.Outcomes.{create_answer-none, part_after_create-none, part_after_create-refused}
 use Rattle.upload_book.proofs.Steps.PatchSteps.{account_at}
@@ -46,6 +48,10 @@ pub record IsCreation (b : StoredBook) (t : ℕ) (new : NewUpload) (first : Firs
   pub texts : HasLawfulTexts new
   pub none : creation_refusal b.settings.numbers (account_at b t) (tenant_book (plain_of b) t) new first ≡ None
 
+-- what fits is within the greatest size
+fits_within : (n : Numbers) (most count : ℕ) → is_too_long n most count ≡ false → count ≤ n.max_size
+fits_within n most count fits = grind (arith, nat_tests)
+
 module _ (b : StoredBook) (t : ℕ) (new : NewUpload) (first : FirstChunk) (now : ℕ) (is : IsCreation b t new first) where
   abbrev part : TenantBook
   part = tenant_book (plain_of b) t
@@ -57,6 +63,10 @@ module _ (b : StoredBook) (t : ℕ) (new : NewUpload) (first : FirstChunk) (now 
   abbrev pub create_blocks : ℕ
   create_blocks = blocks_added b.settings.numbers 0 (length first.bytes)
 
+  -- and with all that are to come behind them
+  abbrev pub all_create_blocks : ℕ
+  all_create_blocks = blocks_added b.settings.numbers 0 (count_all_first first)
+
   can : IsCreatable b.settings.numbers (account_at b t) part new first
   can = IsCreatable-from_none b.settings.numbers (account_at b t) part new first is.none
 
@@ -64,13 +74,24 @@ module _ (b : StoredBook) (t : ℕ) (new : NewUpload) (first : FirstChunk) (now 
   pub create-taken : (taken : ℕ) → taken ≡ blocks_between b.store.pool.block_size 0 (length first.bytes) → taken ≡ create_blocks
   create-taken taken at = at ∙ ap (λ size. blocks_between size 0 (length first.bytes)) is.kept.size
 
-  -- there is room for them,
-  pub create-blocks : sum_by (charge_with b.store.pool.block_size) (plain_in b.store) + blocks_between b.store.pool.block_size 0 (length first.bytes) ≤ size_of b.store.pool
-  create-blocks =
-      let room = room-within (plain_of b) t create_blocks is.kept.lawful (part-within b t is.within) can.paid in
-      let same : sum_by (charge_with b.store.pool.block_size) (plain_in b.store) + blocks_between b.store.pool.block_size 0 (length first.bytes) ≡ sum_by (charge_in b.settings.numbers) (plain_in b.store) + create_blocks =
-      ap (λ size. sum_by (charge_with size) (plain_in b.store) + blocks_between size 0 (length first.bytes)) is.kept.size in
+  pub all_create-taken : (taken : ℕ) → taken ≡ blocks_between b.store.pool.block_size 0 (count_all_first first) → taken ≡ all_create_blocks
+  all_create-taken taken at = at ∙ ap (λ size. blocks_between size 0 (count_all_first first)) is.kept.size
+
+  -- there is room for all,
+  pub all_create-blocks : sum_by (charge_with b.store.pool.block_size) (plain_in b.store) + blocks_between b.store.pool.block_size 0 (count_all_first first) ≤ size_of b.store.pool
+  all_create-blocks =
+      let room = room-within (plain_of b) t all_create_blocks is.kept.lawful (part-within b t is.within) can.all_paid in
+      let same : sum_by (charge_with b.store.pool.block_size) (plain_in b.store) + blocks_between b.store.pool.block_size 0 (count_all_first first) ≡ sum_by (charge_in b.settings.numbers) (plain_in b.store) + all_create_blocks =
+      ap (λ size. sum_by (charge_with size) (plain_in b.store) + blocks_between size 0 (count_all_first first)) is.kept.size in
       omega (arith, room, same, is.kept.blocks)
+
+  -- and so for the first,
+  pub create-blocks : sum_by (charge_with b.store.pool.block_size) (plain_in b.store) + blocks_between b.store.pool.block_size 0 (length first.bytes) ≤ size_of b.store.pool
+  create-blocks = omega (arith, all_create-blocks, fewer_blocks b.store.pool.block_size 0 (length first.bytes) first.more)
+
+  -- all that is to come is within the greatest size,
+  pub all_create-fits : count_all_first first ≤ b.settings.numbers.max_size
+  all_create-fits = fits_within b.settings.numbers (unwrap_or new.length b.settings.numbers.max_size) (count_all_first first) can.all_fit
 
   -- what is charged stays within its bound,
   pub create-charged : b.charged + create_blocks ≤ b.settings.numbers.last_total
@@ -133,8 +154,8 @@ module _ (b : StoredBook) (t : ℕ) (new : NewUpload) (first : FirstChunk) (now 
       create_answer-none t b.settings.numbers part new first now b.charged is.none
       ∙ ap₂ (λ id expires. Ok (told id expires)) (sym given) (sym end)
 
-  -- where they take a block, memory may lack for it
-  pub create-lacks : 0 < create_blocks → IsOk (create_answer t new first now b.charged b.settings.numbers part) × (0 < create_blocks)
+  -- where all take a block, memory may lack for it
+  pub create-lacks : 0 < all_create_blocks → IsOk (create_answer t new first now b.charged b.settings.numbers part) × (0 < all_create_blocks)
   create-lacks some = (subst IsOk (sym (create-answer (part_at b.store t).next made.expires refl refl)) refl, some)
 
 -- the book after a creation, which a refusal leaves as it was

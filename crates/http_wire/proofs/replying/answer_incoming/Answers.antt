@@ -18,7 +18,7 @@ returns-in-Message-clause-answers g c =
       Answers-message g.A.Answer.steps c.args.now read_buffer layout step.0 _ _ layout.framing.close refl step.1,
       answered ∷ [],
       (_, step.1, refl),
-      λ piece before gathers. Answers-message (NotesBy piece) c.args.now read_buffer layout step.0 before _ layout.framing.close refl (NotesBy-one piece before answered (GathersIn-few piece layout read_buffer.lent gathers.0 gathers.1)),
+      λ piece before gathers. Answers-message (NotesBy piece) c.args.now read_buffer layout step.0 before _ layout.framing.close refl (NotesBy-one piece before answered (GathersIn-few piece layout read_buffer.lent gathers.0 gathers.1 gathers.2)),
     )
 
 pub returns-in-Refused-clause-answers : goal.returns-in-Refused-clause-answers
@@ -45,7 +45,7 @@ returns-in-CutPatch-clause-answers g c =
       Answers-cut_patch g.A.Answer.steps c.args.now read_buffer layout c.in-CutPatch.why step.0 _ _ step.1,
       answered ∷ [],
       (_, step.1, refl),
-      λ piece before gathers. Answers-cut_patch (NotesBy piece) c.args.now read_buffer layout c.in-CutPatch.why step.0 before _ (NotesBy-one piece before answered (GathersIn-few piece layout read_buffer.lent gathers.0 gathers.1)),
+      λ piece before gathers. Answers-cut_patch (NotesBy piece) c.args.now read_buffer layout c.in-CutPatch.why step.0 before _ (NotesBy-one piece before answered (GathersIn-few piece layout read_buffer.lent gathers.0 gathers.1 gathers.2)),
     )
 
 pub returns-in-CutOther-clause-answers : goal.returns-in-CutOther-clause-answers

@@ -1,7 +1,7 @@
 use Rattle.std.proofs.Common.{◌∙◌, ap, codes, refl}
 use Rattle.std.proofs.lemmas.Result.{IfOk-weaker}
 use Rattle.clap.specs.Words.{App, Rule, rule_of, with_rule}
-use Rattle.server_words.specs.CommandLine.{number_rule, option_between}
+use Rattle.server_words.specs.CommandLine.{number_rule, option_between, pieces_rule}
 use Rattle.server_words.proofs.CommandLineLemmas.{added}
 use Rattle.server_words.proofs.command_line.many_clients.Goals as goal
 
@@ -14,9 +14,6 @@ message_seconds = option_between (codes "message-seconds") (codes "0") 0 86400
 abbrev least_rate : Rule
 least_rate = option_between (codes "least-rate") (codes "0") 0 1073741824
 
-abbrev pieces : Rule
-pieces = number_rule (codes "pieces") 65536 1048576
-
 abbrev max_body : Rule
 max_body = number_rule (codes "max-body") 1 16777216
 
@@ -27,5 +24,5 @@ returns c =
     let three = added _ _ _ least_rate c.in_ok-arg-3.ensures c.least_rate.ensures.local c.least_rate.ensures.rule ∙ ap (λ (a : App). with_rule a least_rate) two in
     let body_memory = rule_of c.args.body_memory in
     let four = added _ _ _ body_memory c.in_ok-arg-4.ensures c.requires refl ∙ ap (λ (a : App). with_rule a body_memory) three in
-    let five = added _ _ _ pieces c.in_ok-arg-5.ensures c.pieces.ensures.local c.pieces.ensures.rule ∙ ap (λ (a : App). with_rule a pieces) four in
+    let five = added _ _ _ pieces_rule c.in_ok-arg-5.ensures c.pieces.ensures.local c.pieces.ensures.rule ∙ ap (λ (a : App). with_rule a pieces_rule) four in
     IfOk-weaker c.arg-6.result _ _ (λ r h. added _ _ r max_body h c.max_body.ensures.local c.max_body.ensures.rule ∙ ap (λ (a : App). with_rule a max_body) five) c.arg-6.ensures

@@ -9,6 +9,9 @@ returns-in-Ok-clause-head c =
     λ bytes found. BeginsHead-found c.args.limits bytes c.args.read_buffer.now.held c.held.result.now c.in-Whole.len c.in-Ok.layout
     c.held.ensures.bytes within.0 c.in-Ok.ensures.within.head c.in-Ok.ensures.gives (rw c.in-Whole.is at found)
 
+pub returns-in-Ok-clause-whole : goal.returns-in-Ok-clause-whole
+returns-in-Ok-clause-whole c = c.in-Ok.ensures.gives.1.2.created
+
 pub returns-in-Err-clause-comes : goal.returns-in-Err-clause-comes
 returns-in-Err-clause-comes c bytes found =
     let refusal = c.in-Err.refused in (

@@ -19,7 +19,7 @@ use Rattle.upload_book.specs.Account.{blocks_between}
 use Rattle.upload_book.specs.BlockStore.{entry_at, upload_at}
 use Rattle.upload_book.specs.Upload.{offset_of}
 use Rattle.upload_book.specs.inside.Pieces.{own_chain}
-use Rattle.upload_book.proofs.Charge.PriceLemmas.{blocks_for-more}
+use Rattle.upload_book.proofs.Charge.RoomLemmas.{fewer_room}
 use Rattle.upload_book.proofs.Steps.BookSteps.{IsIndex, expiries-room_is, stored_tenants-settings}
 use Rattle.upload_book.proofs.Expiries.ExpirySteps.{AreExpiries-renewed, IsRenewed, renewed-few, renewed-known, renewed-room}
 use Rattle.upload_book.proofs.Steps.PatchSteps.{IsBook-patch, patch-alone, patch-answer, patch-charged, patch-follows, patch-free, patch-renewed, patch-room, patch-taken, plain-patch}
@@ -32,12 +32,6 @@ no_bytes bytes empty is holds = nil_from_length bytes (grind (arith, nat_tests))
 -- or that there are some
 some_bytes : (bytes : List ℕ) (empty : Bool) → empty ≡ eqb (length bytes) 0 → empty ≡ false → 0 < length bytes
 some_bytes bytes empty is fails = grind (arith, nat_tests)
-
--- where there is room for more bytes there is for fewer
-fewer_room : (p : Blocks) (x : Chain) (few many : ℕ) → few ≤ many → HasRoom p x many → HasRoom p x few
-fewer_room p x few many less room =
-    let blocks = blocks_for-more p.block_size (x.len + few) (x.len + many) (omega (arith, less)) in
-    record { listed = omega (arith, blocks, room.listed); free = omega (arith, blocks, room.free) }
 
 -- the book was ready
 ready_as : (b w : StoredBook) (r : ReadyChunk) → b ≡ w → IsReadyForChunk w r → IsReadyForChunk b r

@@ -4,7 +4,7 @@ use Rattle.upload_book.specs.contracts.book.Book.{the_view}
 use Rattle.upload_book.specs.Create.{created_upload, upload_from}
 use Rattle.upload_book.specs.declared.ready.ReadyUpload.{ReadyUpload}
 use Rattle.upload_book.specs.Expiries.{ends_of}
-use Rattle.upload_book.specs.FirstChunk.{FirstChunk}
+use Rattle.upload_book.specs.FirstChunk.{FirstChunk, count_all_first}
 use Rattle.upload_book.specs.declared.settings.Numbers.{Numbers}
 use Rattle.upload_book.specs.PlainBook.{tenant_book}
 use Rattle.upload_book.specs.Ready.{IsReadyForUpload}
@@ -12,6 +12,7 @@ use Rattle.upload_book.specs.BlockStore.{BlockStore, part_at, plain_in}
 use Rattle.upload_book.specs.TenantBook.{TenantBook, with_new}
 use Rattle.upload_book.proofs.Steps.BookSteps.{expiries-room_is, part-plain, stored_tenants-settings}
 use Rattle.upload_book.proofs.Expiries.ExpirySteps.{AreExpiries-renewed, IsRenewed, renewed-few, renewed-known, renewed-room}
+use Rattle.upload_book.proofs.Charge.RoomLemmas.{fewer_room}
 use Rattle.upload_book.proofs.Steps.CreateSteps.{IsCreation, IsBook-create, create-answer, create-blocks, create-charged, create-follows, create-next, create-renewed, create-room, create-taken, plain-create}
 use Rattle.upload_book.proofs.book.Book.put_upload.Goals as goal
 
@@ -55,6 +56,14 @@ create-requires-clause-blocks c =
     let r = c.args.ready in
     let bytes : c.as_slice-bytes.result.now ≡ r.first.bytes = c.as_slice-bytes.ensures ∙ ap (λ (first : FirstChunk). first.bytes) c.first.view_is in
     rw bytes (create-blocks (the_view c.self.inside) r.tenant r.new r.first r.now (creation (the_view c.self.inside) c.args.self.now r c.self.invariant c.self.view_is c.requires))
+
+pub create-requires-clause-listed : goal.create-requires-clause-listed
+create-requires-clause-listed c =
+    let b = the_view c.self.inside in
+    let r = c.args.ready in
+    let bytes : c.as_slice-bytes.result.now ≡ r.first.bytes = c.as_slice-bytes.ensures ∙ ap (λ (first : FirstChunk). first.bytes) c.first.view_is in
+    let ready = ready_as b c.args.self.now r c.self.view_is c.requires in
+    rw bytes (fewer_room b.store.pool r.body (length r.first.bytes) (count_all_first r.first) (omega arith) ready.room)
 
 -- the upload gets its end under the id that was read
 renewed_to : (b : StoredBook) (r : ReadyUpload) (place id : ℕ) → IsCreation b r.tenant r.new r.first → place ≡ r.tenant → id ≡ (part_at b.store place).next → IsReadyForUpload b r

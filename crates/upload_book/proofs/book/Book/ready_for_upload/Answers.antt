@@ -1,4 +1,4 @@
-use Rattle.std.proofs.Common.{◌≡◌, ◌<◌, ℕ, length, None, Option, Some, inl, inr, refl, ap, sym, ◌∙◌, subst, arith}
+use Rattle.std.proofs.Common.{◌≡◌, ◌<◌, ◌+◌, ℕ, length, None, Option, Some, inl, inr, refl, ap, sym, ◌∙◌, subst, arith}
 use Rattle.upload_book.specs.Book.{plain_of, IsBook, StoredBook}
 use Rattle.upload_book.specs.contracts.book.Book.{the_view}
 use Rattle.upload_book.specs.Create.{creation_refusal, first_end}
@@ -6,14 +6,14 @@ use Rattle.upload_book.specs.declared.board_line.Account.{Account}
 use Rattle.upload_book.specs.declared.ready.ReadyUpload.{ReadyUpload}
 use Rattle.upload_book.specs.declared.refusal.Refusal.{Refusal}
 use Rattle.upload_book.specs.declared.settings.Numbers.{Numbers}
-use Rattle.upload_book.specs.FirstChunk.{FirstChunk}
+use Rattle.upload_book.specs.FirstChunk.{FirstChunk, count_all_first}
 use Rattle.upload_book.specs.NewUpload.{NewUpload}
 use Rattle.upload_book.specs.PlainBook.{tenant_book}
 use Rattle.upload_book.specs.Ready.{IsReadyForUpload}
 use Rattle.block_bodies.specs.Bodies.{HasRoom}
 use Rattle.upload_book.specs.BlockStore.{part_at}
 use Rattle.upload_book.proofs.Steps.BookSteps.{part-plain, stored_tenants-settings}
-use Rattle.upload_book.proofs.Steps.CreateSteps.{IsCreation, create-blocks, create-lacks, create-taken}
+use Rattle.upload_book.proofs.Steps.CreateSteps.{IsCreation, all_create-blocks, all_create-fits, all_create-taken, create-lacks}
 use Rattle.upload_book.proofs.Lawful.LawfulCreate.{HasLawfulTexts}
 use Rattle.upload_book.proofs.Lawful.Outcomes.{create_answer-refused}
 use Rattle.upload_book.proofs.Steps.PatchSteps.{account_at}
@@ -60,14 +60,18 @@ returns-in-Some-clause-refused c =
     record { kept = c.self.invariant; is = c.self.view_is; tenant = c.requires.tenant_there; texts = record { metadata = c.requires.metadata; concat = c.requires.concat }; at = c.from-place.ensures; numbers_read = c.numbers-numbers.ensures.value; account_read = c.account-account.ensures; found_is = c.creation_refusal.ensures } in
     inl (rw (← c.self.view_is) (sym (create_answer-refused c.args.tenant b.settings.numbers (tenant_book (plain_of b) c.args.tenant) c.args.new c.args.first c.args.now b.charged c.in-Some.refusal (told r (Some c.in-Some.refusal) c.in-Some.is))))
 
+-- how many bytes the creation has in all, as they were counted
+counted : (first : FirstChunk) (len more : ℕ) {read : ℕ} → len ≡ read → read ≡ length first.bytes → more ≡ first.more → len + more ≡ count_all_first first
+counted first len more is same more_is = omega (arith, is, same, more_is)
+
 pub body_for-requires : goal.body_for-requires
 body_for-requires c =
     let b = the_view c.self.inside in
     let r : IsRead b c.args.self.now c.args.tenant c.from-place.result c.numbers-numbers.result.now c.account-account.result c.args.new c.args.first c.creation_refusal.result =
     record { kept = c.self.invariant; is = c.self.view_is; tenant = c.requires.tenant_there; texts = record { metadata = c.requires.metadata; concat = c.requires.concat }; at = c.from-place.ensures; numbers_read = c.numbers-numbers.ensures.value; account_read = c.account-account.ensures; found_is = c.creation_refusal.ensures } in
-    let count : c.len-len.result ≡ length c.args.first.bytes = c.len-len.ensures.value ∙ ap (λ (first : FirstChunk). length first.bytes) c.first.view_is in
+    let count = counted c.args.first c.len-len.result c.first.inside.more c.len-len.ensures.value (ap (λ (first : FirstChunk). length first.bytes) c.first.view_is) (ap (λ (first : FirstChunk). first.more) c.first.view_is) in
     let is = creation r c.in_default.is in
-    record { blocks = rw count (create-blocks b c.args.tenant c.args.new c.args.first c.args.now is) }
+    record { blocks = rw count (all_create-blocks b c.args.tenant c.args.new c.args.first c.args.now is) }
 
 pub returns-in-Ok-clause-ready : goal.returns-in-Ok-clause-ready
 returns-in-Ok-clause-ready c =
@@ -75,6 +79,7 @@ returns-in-Ok-clause-ready c =
     let r : IsRead b c.args.self.now c.args.tenant c.from-place.result c.numbers-numbers.result.now c.account-account.result c.args.new c.args.first c.creation_refusal.result =
     record { kept = c.self.invariant; is = c.self.view_is; tenant = c.requires.tenant_there; texts = record { metadata = c.requires.metadata; concat = c.requires.concat }; at = c.from-place.ensures; numbers_read = c.numbers-numbers.ensures.value; account_read = c.account-account.ensures; found_is = c.creation_refusal.ensures } in
     let count : c.len-len.result ≡ length c.args.first.bytes = c.len-len.ensures.value ∙ ap (λ (first : FirstChunk). length first.bytes) c.first.view_is in
+    let all = counted c.args.first c.len-len.result c.first.inside.more c.len-len.ensures.value (ap (λ (first : FirstChunk). length first.bytes) c.first.view_is) (ap (λ (first : FirstChunk). first.more) c.first.view_is) in
     let is = creation r c.in_default.is in
     let ready : ReadyUpload = record { tenant = c.args.tenant; new = c.args.new; first = c.args.first; now = c.args.now; expires = c.first_end-expires.result; body = c.in-Ok.body } in
     subst (λ (b : StoredBook). IsReadyForUpload b ready) c.self.view_is (record {
@@ -84,7 +89,7 @@ returns-in-Ok-clause-ready c =
       accepted = is.none;
       expires = ends r c.args.now c.len-len.result c.first_end-expires.result count c.first_end-expires.ensures;
       empty = c.in-Ok.ensures.empty;
-      room = subst (λ n. HasRoom b.store.pool c.in-Ok.body n) count c.in-Ok.ensures.listed;
+      room = subst (λ n. HasRoom b.store.pool c.in-Ok.body n) all c.in-Ok.ensures.listed;
     })
 
 pub returns-in-Err-clause-refused : goal.returns-in-Err-clause-refused
@@ -92,7 +97,7 @@ returns-in-Err-clause-refused c =
     let b = the_view c.self.inside in
     let r : IsRead b c.args.self.now c.args.tenant c.from-place.result c.numbers-numbers.result.now c.account-account.result c.args.new c.args.first c.creation_refusal.result =
     record { kept = c.self.invariant; is = c.self.view_is; tenant = c.requires.tenant_there; texts = record { metadata = c.requires.metadata; concat = c.requires.concat }; at = c.from-place.ensures; numbers_read = c.numbers-numbers.ensures.value; account_read = c.account-account.ensures; found_is = c.creation_refusal.ensures } in
-    let count : c.len-len.result ≡ length c.args.first.bytes = c.len-len.ensures.value ∙ ap (λ (first : FirstChunk). length first.bytes) c.first.view_is in
+    let count = counted c.args.first c.len-len.result c.first.inside.more c.len-len.ensures.value (ap (λ (first : FirstChunk). length first.bytes) c.first.view_is) (ap (λ (first : FirstChunk). first.more) c.first.view_is) in
     let is = creation r c.in_default.is in
-    let some = subst (λ n. 0 < n) (create-taken b c.args.tenant c.args.new c.args.first c.args.now is _ refl) (rw count at c.in-Err.ensures.memory) in
+    let some = subst (λ n. 0 < n) (all_create-taken b c.args.tenant c.args.new c.args.first c.args.now is _ refl) (rw count at c.in-Err.ensures.memory) in
     inr (rw (← c.self.view_is) (create-lacks b c.args.tenant c.args.new c.args.first c.args.now is some, refl))

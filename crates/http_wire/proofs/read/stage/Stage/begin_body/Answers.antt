@@ -36,3 +36,6 @@ returns-else-layout-2-clause-looks c limits bytes begins =
 
 pub returns-in-Err-clause-gathers : goal.returns-in-Err-clause-gathers
 returns-in-Err-clause-gathers c = c.in-Err.ensures.gathers c.args.piece
+
+pub returns-else-layout-clause-gathers : goal.returns-else-layout-clause-gathers
+returns-else-layout-clause-gathers c = c.look_for_piece.ensures.gathers c.args.piece

@@ -34,3 +34,6 @@ returns-in-Pieces-clause-looks c bytes said stands =
 
 pub returns-in-Err-clause-gathers : goal.returns-in-Err-clause-gathers
 returns-in-Err-clause-gathers c _ = c.in-Err.ensures.gathers c.args.piece
+
+pub returns-in-Pieces-clause-gathers : goal.returns-in-Pieces-clause-gathers
+returns-in-Pieces-clause-gathers c _ = c.look_for_piece.ensures.gathers c.args.piece

@@ -1,0 +1,225 @@
+-- A creation that comes in pieces.
+use Rattle.std.proofs.Common.{◌≡◌, ℕ, ◌+◌, ◌-◌, ◌<◌, ◌≤◌, Bool, true, false, true≢false, cond, not, eqb, ltb, leb, nat_le, List, [], ◌∷◌, ◌++◌, length, take, drop, max, Option, Some, None, unwrap_or, Result, Ok, Err, refl, inl, inr, sym, ap, subst, ◌∙◌, arith, append-nil, length-append}
+use Rattle.std.specs.List.{All}
+use Rattle.std.specs.Option.{option_map_or}
+use Rattle.std.specs.Result.{IsOk}
+use Rattle.std.proofs.lemmas.Bool.{eq-eqb}
+use Rattle.std.proofs.lemmas.Bool.Decides.{eqb_tells, nat_tests}
+use Rattle.std.proofs.lemmas.List.{take-append-drop}
+use Rattle.std.proofs.lemmas.List.Elements.{All-head, All-tail}
+use Rattle.upload_book.specs.Account.{account_in, account_with, blocks_added}
+use Rattle.upload_book.specs.Append.{append_answer, differ, is_too_long, or_else, part_after_append, upload_with}
+use Rattle.upload_book.specs.Charge.{charge_in}
+use Rattle.upload_book.specs.Chunk.{Chunk, count_all}
+use Rattle.upload_book.specs.Create.{create_answer, created_upload, creation_refusal, new_kind, part_after_create}
+use Rattle.upload_book.specs.declared.board_line.Account.{Account}
+use Rattle.upload_book.specs.declared.head_row.Kind.{Kind}
+use Rattle.upload_book.specs.declared.head_row.Kind.TheVariants.{Plain, Partial}
+use Rattle.upload_book.specs.declared.refusal.Refusal.{Refusal}
+use Rattle.upload_book.specs.declared.settings.Numbers.{Numbers}
+use Rattle.upload_book.specs.Expiry.{has_expired, lifetime_end, renewed}
+use Rattle.upload_book.specs.FirstChunk.{FirstChunk, count_all_first}
+use Rattle.upload_book.specs.Laws.{charged_after}
+use Rattle.upload_book.specs.Lawful.{IsTenantOf}
+use Rattle.upload_book.specs.NewUpload.{NewUpload}
+use Rattle.upload_book.specs.PiecedCreation.{PiecedCreation, begun_with, ended_by}
+use Rattle.upload_book.specs.Refusal.{unless}
+use Rattle.upload_book.specs.TenantBook.{Entry, TenantBook, kept_in, visible_upload, with_changed, with_kept, with_new}
+use Rattle.upload_book.specs.Upload.{Upload, content_of, is_reached, offset_of}
+use Rattle.upload_book.proofs.Charge.ChargeLemmas.{charge-create, new-own}
+use Rattle.upload_book.proofs.Charge.PriceLemmas.{blocks_between-two}
+use Rattle.upload_book.proofs.Expiries.BookEnds.{kept_in-added}
+use Rattle.upload_book.proofs.Expiries.ExpirySteps.{ids-below}
+use Rattle.upload_book.proofs.Lawful.LawfulAppend.{IsAppendable, not_above}
+use Rattle.upload_book.proofs.Lawful.LawfulCreate.{IsCreatable, IsCreatable-from_none, creation_refusal-none}
+use Rattle.upload_book.proofs.Lawful.Outcomes.{create_answer-none, part_after_create-none}
+use Rattle.upload_book.proofs.LawsLemmas.{account_more, answer_accepted, answer_of_upload, complete_later, part_accepted}
+use Rattle.upload_book.proofs.PiecesLemmas.{lifetime_end-later, renewed-later}
+
+-- an accepted creation is refused by nothing
+unrefused : (tenant : ℕ) (n : Numbers) (part : TenantBook) (new : NewUpload) (first : FirstChunk) (now charged : ℕ) → IsOk (create_answer tenant new first now charged n part) → creation_refusal n (account_in n part charged) part new first ≡ None
+unrefused tenant n part new first now charged accepted = by (creation_refusal n (account_in n part charged) part new first) refl
+  where
+    by : (why : Option Refusal) → creation_refusal n (account_in n part charged) part new first ≡ why → creation_refusal n (account_in n part charged) part new first ≡ None
+    by None is = is
+    by (Some why) is = absurd (true≢false (sym (rw is at accepted)))
+
+or_else-none : (known : Option ℕ) → or_else known None ≡ known
+or_else-none None = refl
+or_else-none (Some most) = refl
+
+differ-none : (known : Option ℕ) → differ known None ≡ false
+differ-none None = refl
+differ-none (Some most) = refl
+
+-- what stands under the id that was given last, changed
+with_kept-added : (entries : List (Entry Upload)) (id : ℕ) (u w : Upload) → All (λ (e : Entry Upload). e.id < id) entries
+    → with_kept (entries ++ record { id = id; kept = u } ∷ []) id w ≡ entries ++ record { id = id; kept = w } ∷ []
+with_kept-added [] id u w below = rw (eq-eqb id id refl) refl
+with_kept-added (e ∷ entries) id u w below = elim (eqb_tells e.id id) [
+  | inl same ↦ absurd (omega (arith, same.1, All-head (λ (e : Entry Upload). e.id < id) e entries below))
+  | inr apart ↦ rw apart.0 (ap (λ rest. e ∷ rest) (with_kept-added entries id u w (All-tail (λ (e : Entry Upload). e.id < id) e entries below)))
+]
+
+-- an id that is given is above 0 and below the next
+above_zero : (id : ℕ) → 0 < id → ltb 0 id ≡ true
+above_zero id some = grind (arith, nat_tests)
+
+below_next : (id : ℕ) → ltb id (id + 1) ≡ true
+below_next id = grind (arith, nat_tests)
+
+same_offset : (a b : ℕ) → b ≡ a → not (eqb a b) ≡ false
+same_offset a b is = grind (arith, nat_tests)
+
+-- a new upload is seen while its lifetime lasts
+fresh-new : (partial complete : Bool) (end now : ℕ) → now < end → has_expired now (renewed (new_kind partial) complete None end) ≡ false
+fresh-new true complete end now before = grind (arith, nat_tests)
+fresh-new false true end now before = refl
+fresh-new false false end now before = grind (arith, nat_tests)
+
+-- an end by the numbers that tell whether the upload is complete
+renewed-end : (kind : Kind) (complete complete' : Bool) (before before' : Option ℕ) (end : ℕ) → complete ≡ complete' → before ≡ before' → renewed kind complete before end ≡ renewed kind complete' before' end
+renewed-end kind complete complete' before before' end is same = rw (is, same) refl
+
+module _ (n : Numbers) (part : TenantBook) (tenant charged : ℕ) (new : NewUpload) (first : FirstChunk) (k early now : ℕ) (sound : IsTenantOf n part) (le : early ≤ now) (lasts : now < lifetime_end n early) (accepted : IsOk (create_answer tenant new first now charged n part)) where
+  abbrev pub account : Account
+  account = account_in n part charged
+
+  abbrev pub begun : FirstChunk
+  begun = begun_with first k
+
+  abbrev pub rest : Chunk
+  rest = ended_by first k
+
+  abbrev pub bytes : List ℕ
+  bytes = take k first.bytes
+
+  abbrev pub later : List ℕ
+  later = drop k first.bytes
+
+  whole : bytes ++ later ≡ first.bytes
+  whole = take-append-drop k first.bytes
+
+  count : length bytes + length later ≡ length first.bytes
+  count = sym (length-append bytes later) ∙ ap (length {A = ℕ}) whole
+
+  none : creation_refusal n account part new first ≡ None
+  none = unrefused tenant n part new first now charged accepted
+
+  can : IsCreatable n account part new first
+  can = IsCreatable-from_none n account part new first none
+
+  all : count_all_first begun ≡ count_all_first first
+  all = omega (arith, count)
+
+  -- the first piece is accepted
+  none-begun : creation_refusal n account part new begun ≡ None
+  none-begun = creation_refusal-none n account part new begun can.typed (rw all can.all_fit) refl refl can.room can.id (rw all can.all_unspent) (rw all can.all_paid)
+
+  abbrev pub v : Upload
+  v = created_upload n new bytes early
+
+  abbrev pub middle : TenantBook
+  middle = with_new part v
+
+  is_middle : part_after_create new begun early charged n part ≡ middle
+  is_middle = part_after_create-none n part new begun early charged none-begun
+
+  abbrev pub more : ℕ
+  more = charged_after n charged part middle
+
+  pays : charge_in n middle ≡ charge_in n part + blocks_added n 0 (length bytes)
+  pays = charge-create n part new bytes early sound
+
+  account_is : account_in n middle more ≡ account_with account (blocks_added n 0 (length bytes))
+  account_is = account_more n part middle charged (blocks_added n 0 (length bytes)) refl pays
+
+  start : offset_of v ≡ length bytes
+  start = ap (length {A = ℕ}) (append-nil bytes)
+
+  behind : offset_of v ≡ 0 + length bytes
+  behind = omega (arith, start)
+
+  end : offset_of v + length later ≡ length first.bytes
+  end = omega (arith, start, count)
+
+  all_end : offset_of v + count_all rest ≡ count_all_first first
+  all_end = omega (arith, start, count)
+
+  -- the upload is seen
+  seen : visible_upload middle part.next now ≡ Ok v
+  seen =
+      let there = kept_in-added part.uploads part.next v (ids-below n part sound) in
+      let fresh = fresh-new new.partial (is_reached new.length (length bytes)) (lifetime_end n early) now lasts in
+      rw (above_zero part.next sound.first, below_next part.next, there, fresh) refl
+
+  added : blocks_added n 0 (length bytes) + blocks_added n (offset_of v) (length later) ≡ blocks_added n 0 (length first.bytes)
+  added =
+      ap (λ offset. blocks_added n 0 (length bytes) + blocks_added n offset (length later)) behind ∙ blocks_between-two n.block_size 0 (length bytes) (length later) ∙ ap (blocks_added n 0) count
+
+  all_added : blocks_added n 0 (length bytes) + blocks_added n (offset_of v) (count_all rest) ≡ blocks_added n 0 (count_all_first first)
+  all_added =
+      ap (λ offset. blocks_added n 0 (length bytes) + blocks_added n offset (count_all rest)) behind ∙ blocks_between-two n.block_size 0 (length bytes) (count_all rest)
+      ∙ ap (blocks_added n 0) (omega (arith, count))
+
+  -- and the rest is accepted
+  can_rest : IsAppendable n (account_in n middle more) v rest
+  can_rest = subst (λ account. IsAppendable n account v rest) (sym account_is) (record {
+    own = new-own new.partial;
+    typed = refl;
+    offset = same_offset (length bytes) (offset_of v) start;
+    fixed = differ-none new.length;
+    fits = rw (or_else-none new.length, end) can.fits;
+    known = refl;
+    same = refl;
+    unspent = omega (arith, added, can.unspent);
+    paid = omega (arith, added, can.paid);
+    all_fit = rw (or_else-none new.length, all_end) can.all_fit;
+    all_unspent = omega (arith, all_added, can.all_unspent);
+    all_paid = omega (arith, all_added, can.all_paid);
+  })
+
+  abbrev pub w : Upload
+  w = created_upload n new first.bytes now
+
+  -- the upload is as one that was created whole
+  same_upload : upload_with n v rest now ≡ w
+  same_upload = rw (or_else-none new.length, content) (ap (λ expires. record w { expires = expires }) expiry)
+    where
+      content : content_of v ++ later ≡ first.bytes
+      content = ap (λ l. l ++ later) (append-nil bytes) ∙ whole
+
+      expiry : renewed (new_kind new.partial) (is_reached new.length (offset_of v + length later)) v.expires (lifetime_end n now) ≡ w.expires
+      expiry =
+          renewed-end (new_kind new.partial) (is_reached new.length (offset_of v + length later)) (is_reached new.length (length first.bytes)) v.expires v.expires (lifetime_end n now) (ap (is_reached new.length) end) refl
+          ∙ renewed-later (new_kind new.partial) (is_reached new.length (length bytes)) (is_reached new.length (length first.bytes)) None (lifetime_end n early) (lifetime_end n now)
+          (lifetime_end-later n early now le) (complete_later n new.length (length bytes) (length first.bytes) (omega (arith, count)) can.fits)
+
+  answered : append_answer part.next rest now more n middle ≡ Ok (record { offset = length first.bytes; expires = w.expires })
+  unfolding answer_of_upload
+  answered =
+      answer_accepted n middle part.next rest now more v seen can_rest ∙ ap answer_of_upload same_upload
+      ∙ ap (λ offset. Ok (record { offset = offset; expires = w.expires })) (ap (length {A = ℕ}) (append-nil first.bytes))
+
+  left : part_after_append part.next rest now more n middle ≡ part_after_create new first now charged n part
+  left =
+      part_accepted n middle part.next rest now more v seen can_rest
+      ∙ ap (with_changed middle part.next) same_upload
+      ∙ ap (λ uploads. record middle { uploads = uploads }) (with_kept-added part.uploads part.next v w (ids-below n part sound))
+      ∙ sym (part_after_create-none n part new first now charged none)
+
+  pub begun_accepted : IsOk (create_answer tenant new begun early charged n part)
+  begun_accepted = rw (create_answer-none tenant n part new begun early charged none-begun) refl
+
+  pub rest_answered : append_answer part.next rest now (charged_after n charged part (part_after_create new begun early charged n part)) n (part_after_create new begun early charged n part) ≡ Ok (record { offset = length first.bytes; expires = w.expires })
+  rest_answered = ap (λ m. append_answer part.next rest now (charged_after n charged part m) n m) is_middle ∙ answered
+
+  pub rest_left : part_after_append part.next rest now (charged_after n charged part (part_after_create new begun early charged n part)) n (part_after_create new begun early charged n part) ≡ part_after_create new first now charged n part
+  rest_left = ap (λ m. part_after_append part.next rest now (charged_after n charged part m) n m) is_middle ∙ left
+
+pub pieced_creation : PiecedCreation
+pieced_creation n part tenant charged new first k early now sound le lasts accepted = (
+  begun_accepted n part tenant charged new first k early now sound le lasts accepted,
+  rest_answered n part tenant charged new first k early now sound le lasts accepted,
+  rest_left n part tenant charged new first k early now sound le lasts accepted,
+)
