@@ -1,5 +1,5 @@
 -- Turns of a connection, one step after another.
-use Rattle.std.proofs.Common.{◌≡◌, ◌≢◌, ℕ, List, [], ◌∷◌, ◌++◌, Option, Some, None, Result, Ok, Err, IfOk, OnErr, true, length, take, ◌≤◌, ◌+◌, ◌-◌, arith, nat_lt, ltb-true, inl, inr, refl, sym, ap₂, ◌∙◌, subst, append-nil, append_assoc, length-append}
+use Rattle.std.proofs.Common.{◌≡◌, ◌≢◌, ℕ, List, [], ◌∷◌, ◌++◌, Option, Some, None, Result, Ok, Err, IfOk, OnErr, length, take, ◌<◌, ◌≤◌, ◌+◌, ◌-◌, arith, inl, inr, refl, sym, ap₂, ◌∙◌, subst, append-nil, append_assoc, length-append}
 use Rattle.std.specs.Io.KnownBytes.{Appends, Consumes, Keeps}
 use Rattle.tus_steps.specs.Request.{Request}
 use Rattle.tus_steps.specs.declared.reply.Reply.{Reply}
@@ -15,11 +15,11 @@ use Rattle.connection_turns.specs.declared.turn.Step.TheVariants as step
 use Rattle.connection_turns.specs.inside.Steps.{answer_step, messages_of}
 
 -- how many messages are left after a step, which answers one only where one is left
-pub left-after : (most left : ℕ) (s : Step) → left ≤ most → (s ≡ step.Answered → nat_lt 0 left ≡ true) → (most - left) + messages_of s ≡ most - (left - messages_of s)
+pub left-after : (most left : ℕ) (s : Step) → left ≤ most → (s ≡ step.Answered → 0 < left) → (most - left) + messages_of s ≡ most - (left - messages_of s)
 left-after most left (step.Read n) le some = omega (arith, le)
 left-after most left (step.Sent n) le some = omega (arith, le)
 left-after most left step.Again le some = omega (arith, le)
-left-after most left step.Answered le some = omega (arith, le, ltb-true 0 left (some refl))
+left-after most left step.Answered le some = omega (arith, le, some refl)
 left-after most left step.Took le some = omega (arith, le)
 left-after most left (step.Stops outcome) le some = omega (arith, le)
 

@@ -1,7 +1,7 @@
 -- How fast a client goes, and for what it is cut off. A bound of 0 is none.
 use Rattle.std.specs.Prelude.{ℕ, ◌+◌, ◌*◌, ◌-◌, ◌^◌, Bool, true, false, ◌&&◌, Option, Some, None, nat_lt, nat_le, min, unwrap_or}
 use Rattle.std.specs.Prelude.{if◌then◌else◌}
-use Rattle.connection_turns.specs.declared.pace.Bounds.{Bounds}
+use Rattle.connection_turns.specs.declared.pace.ClientBounds.{ClientBounds}
 use Rattle.connection_turns.specs.declared.pace.Busy.{Busy}
 use Rattle.connection_turns.specs.declared.pace.Busy.TheVariants as busy
 use Rattle.connection_turns.specs.declared.pace.Late.{Late}
@@ -55,16 +55,16 @@ noted second bytes busy answered p = record {
 }
 
 -- a message took too long, or else its bytes come too slowly
-abbrev pub slowness : ℕ → Bounds → Option Window → Option Late
+abbrev pub slowness : ℕ → ClientBounds → Option Window → Option Late
 slowness second b None = None
 slowness second b (Some w) = if is_slow b.least_rate w second then Some late.Rate else None
 
-abbrev pub delay : ℕ → Bounds → Option ℕ → Option Window → Option Late
+abbrev pub delay : ℕ → ClientBounds → Option ℕ → Option Window → Option Late
 delay second b None w = slowness second b w
 delay second b (Some begun) w = if is_over b.message_seconds begun second then Some late.Message else slowness second b w
 
 -- for what a client is cut off at this second, if for anything
-abbrev pub lateness : ℕ → Bounds → Pace → Option Late
+abbrev pub lateness : ℕ → ClientBounds → Pace → Option Late
 lateness second b p = if is_over b.idle p.moved second then Some late.Idle else delay second b p.begun p.window
 
 -- it is counted anew once ten seconds have passed

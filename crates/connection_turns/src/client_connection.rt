@@ -10,7 +10,7 @@ use crate::holding::Durability;
 use crate::observer::Observer;
 use crate::pace::Busy;
 use crate::sending::{Sent, send_pending};
-use crate::turn::{Outcome, Precedence, Share, Streams, Turned, take_turn};
+use crate::turn::{Precedence, Share, Streams, TurnOutcome, Turned, take_turn};
 use crate::unread::{ROOM_KEPT, may_be_unread};
 use http_wire::{BodyLimits, Buffers, Clock, Connection, Ended, Message};
 use std::alloc::{AllocError, Global};
@@ -38,8 +38,8 @@ pub struct ClientConnection {
 
 impl ClientConnection {
     /// A client of which nothing was read. Its bodies have at most as many bytes as `limits` tell, each below 2^62. It has at most
-    /// `left` messages. Where there is a `piece`, above 0, bodies of PATCHes are taken in pieces of so many bytes, as
-    /// [`Connection::by_pieces`] says.
+    /// `left` messages. Where there is a `piece`, above 0, bodies without a checksum are taken in pieces of so many bytes,
+    /// as [`Connection::by_pieces`] says.
     pub fn new(limits: BodyLimits, piece: Option<usize>, left: usize) -> Self
         requires limits { AreSmall limits }
         requires some { IfSome piece (λ n. 0 < n) }
@@ -58,7 +58,7 @@ impl ClientConnection {
 
     /// Takes a turn of its connection, as [`take_turn`] says, with all messages that are left, and puts the connection away
     /// where the client is silent then. Its buffers are of `free` where there are some, and go back there. The outcome is
-    /// `Outcome::NoMemory` where there was no memory for new ones, and then nothing passed.
+    /// `TurnOutcome::NoMemory` where there was no memory for new ones, and then nothing passed.
     pub fn attend<
         R: Read + Drop,
         W: Write + Drop,
@@ -90,7 +90,7 @@ impl ClientConnection {
         let opened = open(self.connection.take(), alloc, free, self.limits, self.piece);
         let Ok(mut connection) = opened else {
             return Turned {
-                outcome: Outcome::NoMemory,
+                outcome: TurnOutcome::NoMemory,
                 moved: 0,
                 left: self.left,
                 streams,
@@ -124,7 +124,7 @@ impl ClientConnection {
     {
         let Some(mut connection) = self.connection.take() else {
             return Sent {
-                outcome: Outcome::HasMore,
+                outcome: TurnOutcome::HasMore,
                 moved: 0,
                 writer,
             };

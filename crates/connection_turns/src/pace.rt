@@ -7,7 +7,7 @@ const WINDOW_SECONDS: u64 = 11;
 
 /// What a client may take at most. 0 is no bound.
 #[derive(Clone, Copy)]
-pub struct Bounds {
+pub struct ClientBounds {
     /// For how many seconds it may neither send nor take a byte.
     pub idle: u64,
     /// How many seconds one message of it may take, head and body; of a body in pieces, each piece.
@@ -102,7 +102,7 @@ impl Pace {
 
     /// For what it is to be cut off at this second, if for anything: the first of the three that applies. Seconds are counted
     /// where they have passed in full, so that nobody is cut off before the time. A rate is judged once ten have.
-    pub fn lateness(&self, second: u64, bounds: Bounds) -> Option<Late>
+    pub fn lateness(&self, second: u64, bounds: ClientBounds) -> Option<Late>
         ensures { result ≡ lateness second bounds self.now }
     {
         if is_over(bounds.idle, self.moved, second) {

@@ -3,14 +3,14 @@ ghost use Rattle.std.specs.Prelude.{◌≡◌};
 ghost use Rattle.connection_turns.specs.Sending.{IsAfterSending};
 ghost use Rattle.connection_turns.specs.Turn.{SendsOn};
 
-use crate::turn::{Outcome, Step, TURN_STEPS, bytes_in, is_spent, send};
+use crate::turn::{Step, TURN_STEPS, TurnOutcome, bytes_in, is_spent, send};
 use http_wire::Connection;
 use std::io::Write;
 
 /// What came of sending, with the writer for the next time.
 #[derive(Drop)]
 pub struct Sent<W> {
-    pub outcome: Outcome,
+    pub outcome: TurnOutcome,
     /// How many bytes were written.
     pub moved: usize,
     pub writer: W,
@@ -45,7 +45,7 @@ pub fn send_pending<W: Write + Drop>(connection: &mut Connection, writer: W) -> 
         moved = moved.saturating_add(bytes_in(step));
     }
     Sent {
-        outcome: Outcome::HasMore,
+        outcome: TurnOutcome::HasMore,
         moved,
         writer,
     }

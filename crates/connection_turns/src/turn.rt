@@ -1,5 +1,5 @@
 //! A turn of a connection over streams that would block: it does what the connection wants as far as that goes.
-ghost use Rattle.std.specs.Prelude.{◌≡◌, ◌≢◌, ◌≤◌, ◌-◌, ◌⊎◌, [], List, ℕ, false, true, OnErr};
+ghost use Rattle.std.specs.Prelude.{◌≡◌, ◌≢◌, ◌<◌, ◌≤◌, ◌-◌, ◌⊎◌, [], List, ℕ, false, true, OnErr};
 ghost use Rattle.std.specs.Io.KnownBytes.{Consumes};
 ghost use Rattle.http_wire.specs.OnConnection.{body_in, wanted};
 ghost use Rattle.http_wire.specs.History.{HasHistory, History, took};
@@ -27,7 +27,7 @@ const READ_SIZE: usize = 16_384;
 
 /// Where a turn ended.
 #[derive(Clone, Copy, Debug, PartialEq, Eq)]
-pub enum Outcome {
+pub enum TurnOutcome {
     /// A read would have blocked: it waits for bytes, or the end of the input.
     AwaitsBytes,
     /// A write would have blocked: it waits for room.
@@ -48,6 +48,10 @@ pub enum Outcome {
 
 /// What tells whether a request may be answered now, or something else has to end first.
 pub trait Precedence {
+    /// Whether every request may be answered now, so that none need be read for this.
+    fn may_all_pass(&self) -> bool;
+
+    /// Whether this request may be answered now.
     fn may_pass(&self, request: &Request) -> bool;
 }
 
@@ -56,6 +60,10 @@ pub trait Precedence {
 pub struct AsTheyCome;
 
 impl Precedence for AsTheyCome {
+    fn may_all_pass(&self) -> bool {
+        true
+    }
+
     fn may_pass(&self, _request: &Request) -> bool {
         true
     }
@@ -71,7 +79,7 @@ pub struct Streams<R, W> {
 /// A turn that was taken, with the streams for the next.
 #[derive(Drop)]
 pub struct Turned<R, W> {
-    pub outcome: Outcome,
+    pub outcome: TurnOutcome,
     /// How many bytes were read and written.
     pub moved: usize,
     /// How many messages may still be answered.
@@ -99,14 +107,14 @@ pub(crate) enum Step {
     Answered,
     // A piece of a body was answered, and more of the body is to come.
     Took,
-    Stops(Outcome),
+    Stops(TurnOutcome),
 }
 
 // What a step may be.
 #[derive(Clone, Copy)]
 struct Allowed {
-    // Some message may still be answered.
-    answer: bool,
+    // So many messages may still be answered.
+    left: usize,
     // More bytes may have come than were read.
     read: bool,
     // What is pending may be sent.
@@ -140,10 +148,10 @@ pub fn take_turn<
         (on_turn connection.old answerer.old clock.old (R.remaining streams.reader) (W.contents streams.writer))
         (on_turn connection.new answerer.new clock.new (R.remaining result.streams.reader) (W.contents result.streams.writer)) }
     ensures held { A.holds_back answerer.old ≡ true → W.contents result.streams.writer ≡ W.contents streams.writer }
-    ensures bytes { result.outcome ≡ Outcome.AwaitsBytes → wanted connection.new ≡ Wants.Read }
-    ensures room { result.outcome ≡ Outcome.AwaitsRoom → connection.new.write_buffer.pending ≢ [] }
-    ensures over { result.outcome ≡ Outcome.Over → connection.new.write_buffer.pending ≡ [] }
-    ensures turn { result.outcome ≡ Outcome.AwaitsTurn → wanted connection.new ≡ Wants.Answer }
+    ensures bytes { result.outcome ≡ TurnOutcome.AwaitsBytes → wanted connection.new ≡ Wants.Read }
+    ensures room { result.outcome ≡ TurnOutcome.AwaitsRoom → connection.new.write_buffer.pending ≢ [] }
+    ensures over { result.outcome ≡ TurnOutcome.Over → connection.new.write_buffer.pending ≡ [] }
+    ensures turn { result.outcome ≡ TurnOutcome.AwaitsTurn → wanted connection.new ≡ Wants.Answer }
     ensures left { result.left ≤ share.messages }
     ensures limits { connection.new.limits ≡ connection.old.limits }
     ensures piece { connection.new.piece ≡ connection.old.piece }
@@ -156,14 +164,14 @@ pub fn take_turn<
     for _ in 0..TURN_STEPS {
         if is_spent(moved, share.messages.saturating_sub(left)) {
             return Turned {
-                outcome: Outcome::HasMore,
+                outcome: TurnOutcome::HasMore,
                 moved,
                 left,
                 streams,
             };
         }
         let allowed = Allowed {
-            answer: left > 0,
+            left,
             read: may_read,
             send: !holds_back,
         };
@@ -185,7 +193,7 @@ pub fn take_turn<
         may_read = share.reads_on || (may_read && !has_read_all(step));
     }
     Turned {
-        outcome: Outcome::HasMore,
+        outcome: TurnOutcome::HasMore,
         moved,
         left,
         streams,
@@ -246,20 +254,20 @@ fn take_step<R: Read + Drop, W: Write + Drop, A: Durability, K: Clock, P: Preced
         (on_turn connection.old answerer.old clock.old (R.remaining streams.reader) (W.contents streams.writer))
         (on_turn connection.new answerer.new clock.new (R.remaining result.0.reader) (W.contents result.0.writer)) }
     ensures held { allowed.send ≡ false → W.contents result.0.writer ≡ W.contents streams.writer }
-    ensures bytes { result.1 ≡ Step.Stops Outcome.AwaitsBytes → wanted connection.new ≡ Wants.Read }
-    ensures room { result.1 ≡ Step.Stops Outcome.AwaitsRoom → connection.new.write_buffer.pending ≢ [] }
-    ensures over { result.1 ≡ Step.Stops Outcome.Over → connection.new.write_buffer.pending ≡ [] }
-    ensures turn { result.1 ≡ Step.Stops Outcome.AwaitsTurn → wanted connection.new ≡ Wants.Answer }
-    ensures more { result.1 ≢ Step.Stops Outcome.HasMore }
-    ensures allowed { result.1 ≡ Step.Answered → allowed.answer ≡ true }
+    ensures bytes { result.1 ≡ Step.Stops TurnOutcome.AwaitsBytes → wanted connection.new ≡ Wants.Read }
+    ensures room { result.1 ≡ Step.Stops TurnOutcome.AwaitsRoom → connection.new.write_buffer.pending ≢ [] }
+    ensures over { result.1 ≡ Step.Stops TurnOutcome.Over → connection.new.write_buffer.pending ≡ [] }
+    ensures turn { result.1 ≡ Step.Stops TurnOutcome.AwaitsTurn → wanted connection.new ≡ Wants.Answer }
+    ensures more { result.1 ≢ Step.Stops TurnOutcome.HasMore }
+    ensures allowed { result.1 ≡ Step.Answered → 0 < allowed.left }
     ensures limits { connection.new.limits ≡ connection.old.limits }
     ensures piece { connection.new.piece ≡ connection.old.piece }
 {
     let Streams { reader, writer } = streams;
-    match wants_now(connection, allowed.answer) {
+    match wants_of(connection, allowed.left) {
         Wants::Read if !allowed.read => (
             Streams { reader, writer },
-            Step::Stops(Outcome::AwaitsBytes),
+            Step::Stops(TurnOutcome::AwaitsBytes),
         ),
         Wants::Read => {
             let (reader, step) = receive(connection, reader);
@@ -267,7 +275,7 @@ fn take_step<R: Read + Drop, W: Write + Drop, A: Durability, K: Clock, P: Preced
         }
         Wants::Write if !allowed.send => (
             Streams { reader, writer },
-            Step::Stops(Outcome::AwaitsKeeping),
+            Step::Stops(TurnOutcome::AwaitsKeeping),
         ),
         Wants::Write => {
             let (writer, step) = send(connection, writer);
@@ -275,7 +283,10 @@ fn take_step<R: Read + Drop, W: Write + Drop, A: Durability, K: Clock, P: Preced
         }
         Wants::Answer => {
             if !may_pass(connection, precedence) {
-                return (Streams { reader, writer }, Step::Stops(Outcome::AwaitsTurn));
+                return (
+                    Streams { reader, writer },
+                    Step::Stops(TurnOutcome::AwaitsTurn),
+                );
             }
             let now = clock.moment();
             observer.asks(connection);
@@ -283,7 +294,7 @@ fn take_step<R: Read + Drop, W: Write + Drop, A: Durability, K: Clock, P: Preced
             observer.has_answered(connection);
             (Streams { reader, writer }, step_of_answer(connection))
         }
-        Wants::Nothing => (Streams { reader, writer }, Step::Stops(Outcome::Over)),
+        Wants::Nothing => (Streams { reader, writer }, Step::Stops(TurnOutcome::Over)),
     }
 }
 
@@ -300,6 +311,9 @@ fn step_of_answer(connection: &Connection) -> Step
 
 // Whether what came in may be answered now.
 fn may_pass<P: Precedence>(connection: &Connection, precedence: &P) -> bool {
+    if precedence.may_all_pass() {
+        return true;
+    }
     if let Some(piece) = connection.piece() {
         return precedence.may_pass(&piece.request());
     }
@@ -309,25 +323,26 @@ fn may_pass<P: Precedence>(connection: &Connection, precedence: &P) -> bool {
     }
 }
 
-// What a connection wants that may have another message answered or not. Where it may not, it reads no more, and only sends
-// what is pending.
-fn wants_now(connection: &mut Connection, may_answer: bool) -> Wants
+/// What a connection wants of which so many messages may still be answered. Where there are none, it reads no more, and only sends
+/// what is pending.
+pub fn wants_of(connection: &mut Connection, left: usize) -> Wants
     ensures history { (p : History) → HasHistory p connection.old → HasHistory p connection.new }
     ensures read { result ≡ Wants.Read → wanted connection.new ≡ Wants.Read }
     ensures write { result ≡ Wants.Write → connection.new.write_buffer.pending ≢ [] }
     ensures answer { result ≡ Wants.Answer → wanted connection.new ≡ Wants.Answer }
-    ensures allowed { result ≡ Wants.Answer → may_answer ≡ true }
-    ensures nothing { result ≡ Wants.Nothing → connection.new.write_buffer.pending ≡ [] }
+    ensures some { result ≡ Wants.Answer → 0 < left }
+    ensures some_read { result ≡ Wants.Read → 0 < left }
+    ensures nothing { result ≡ Wants.Nothing → (wanted connection.new ≡ Wants.Nothing) ⊎ (left ≡ 0) }
+    ensures sent { result ≡ Wants.Nothing → connection.new.write_buffer.pending ≡ [] }
     ensures limits { connection.new.limits ≡ connection.old.limits }
     ensures piece { connection.new.piece ≡ connection.old.piece }
 {
-    if may_answer {
-        return connection.wants();
-    }
-    if connection.pending_len() == 0 {
-        Wants::Nothing
-    } else {
+    if left > 0 {
+        connection.wants()
+    } else if connection.pending_len() > 0 {
         Wants::Write
+    } else {
+        Wants::Nothing
     }
 }
 
@@ -336,8 +351,8 @@ fn receive<R: Read + Drop>(connection: &mut Connection, reader: R) -> (R, Step)
     requires { wanted connection.old ≡ Wants.Read }
     ensures takes { (p : History) → HasHistory p connection.old → (got : List ℕ)
         × Consumes (R.remaining reader) (R.remaining result.0) got × HasHistory (took p got) connection.new }
-    ensures blocked { result.1 ≡ Step.Stops Outcome.AwaitsBytes → wanted connection.new ≡ Wants.Read }
-    ensures other { (outcome : Outcome) → result.1 ≡ Step.Stops outcome → outcome ≡ Outcome.AwaitsBytes }
+    ensures blocked { result.1 ≡ Step.Stops TurnOutcome.AwaitsBytes → wanted connection.new ≡ Wants.Read }
+    ensures other { (outcome : TurnOutcome) → result.1 ≡ Step.Stops outcome → outcome ≡ TurnOutcome.AwaitsBytes }
     ensures moves { result.1 ≢ Step.Answered }
     ensures limits { connection.new.limits ≡ connection.old.limits }
     ensures piece { connection.new.piece ≡ connection.old.piece }
@@ -352,8 +367,8 @@ fn receive<R: Read + Drop>(connection: &mut Connection, reader: R) -> (R, Step)
 fn step_of_read(connection: &mut Connection, read: io::Result<usize>) -> Step
     requires { OnErr read (wanted connection.old ≡ Wants.Read) }
     ensures history { (p : History) → HasHistory p connection.old → HasHistory p connection.new }
-    ensures blocked { result ≡ Step.Stops Outcome.AwaitsBytes → wanted connection.new ≡ Wants.Read }
-    ensures other { (outcome : Outcome) → result ≡ Step.Stops outcome → outcome ≡ Outcome.AwaitsBytes }
+    ensures blocked { result ≡ Step.Stops TurnOutcome.AwaitsBytes → wanted connection.new ≡ Wants.Read }
+    ensures other { (outcome : TurnOutcome) → result ≡ Step.Stops outcome → outcome ≡ TurnOutcome.AwaitsBytes }
     ensures moves { result ≢ Step.Answered }
     ensures limits { connection.new.limits ≡ connection.old.limits }
     ensures piece { connection.new.piece ≡ connection.old.piece }
@@ -361,7 +376,7 @@ fn step_of_read(connection: &mut Connection, read: io::Result<usize>) -> Step
     match read {
         Ok(count) => Step::Read(count),
         Err(error) => match error.kind() {
-            ErrorKind::WouldBlock => Step::Stops(Outcome::AwaitsBytes),
+            ErrorKind::WouldBlock => Step::Stops(TurnOutcome::AwaitsBytes),
             ErrorKind::Interrupted => Step::Again,
             _ => {
                 connection.fail();
@@ -375,8 +390,8 @@ fn step_of_read(connection: &mut Connection, read: io::Result<usize>) -> Step
 pub(crate) fn send<W: Write + Drop>(connection: &mut Connection, writer: W) -> (W, Step)
     requires { connection.old.write_buffer.pending ≢ [] }
     ensures gives { SendsOn connection.old connection.new (W.contents writer) (W.contents result.0) }
-    ensures blocked { result.1 ≡ Step.Stops Outcome.AwaitsRoom → connection.new.write_buffer.pending ≢ [] }
-    ensures other { (outcome : Outcome) → result.1 ≡ Step.Stops outcome → (outcome ≡ Outcome.AwaitsRoom) ⊎ (outcome ≡ Outcome.Failed) }
+    ensures blocked { result.1 ≡ Step.Stops TurnOutcome.AwaitsRoom → connection.new.write_buffer.pending ≢ [] }
+    ensures other { (outcome : TurnOutcome) → result.1 ≡ Step.Stops outcome → (outcome ≡ TurnOutcome.AwaitsRoom) ⊎ (outcome ≡ TurnOutcome.Failed) }
     ensures moves { result.1 ≢ Step.Answered }
     ensures limits { connection.new.limits ≡ connection.old.limits }
     ensures piece { connection.new.piece ≡ connection.old.piece }
@@ -384,12 +399,12 @@ pub(crate) fn send<W: Write + Drop>(connection: &mut Connection, writer: W) -> (
     let mut tapped = Tapped::new(writer);
     let written = connection.write_to(&mut tapped);
     let step = match written {
-        Ok(0) => Step::Stops(Outcome::Failed),
+        Ok(0) => Step::Stops(TurnOutcome::Failed),
         Ok(count) => Step::Sent(count),
         Err(error) => match error.kind() {
-            ErrorKind::WouldBlock => Step::Stops(Outcome::AwaitsRoom),
+            ErrorKind::WouldBlock => Step::Stops(TurnOutcome::AwaitsRoom),
             ErrorKind::Interrupted => Step::Again,
-            _ => Step::Stops(Outcome::Failed),
+            _ => Step::Stops(TurnOutcome::Failed),
         },
     };
     (tapped.inner, step)

@@ -1,4 +1,4 @@
-use crate::pace::Bounds;
+use crate::pace::ClientBounds;
 use upload_book::Moment;
 
 /// What each worker was asked for.
@@ -11,11 +11,11 @@ pub struct WorkOptions {
     /// How many of them it holds at once, 1 or more.
     pub at_once: usize,
     /// What a client may take at most.
-    pub bounds: Bounds,
-    /// The size of the pieces in which the body of a PATCH is stored as it comes; bodies are gathered where there is none. 0 is
-    /// none.
+    pub bounds: ClientBounds,
+    /// The size of the pieces in which bodies without a checksum are stored as they come; bodies are gathered where there is none.
+    /// 0 is none.
     pub piece: Option<usize>,
-    /// The most bytes of a body that is gathered, where they are fewer than those of the greatest upload and 16,777,216.
+    /// The most bytes of a body that may not come in pieces, where they are fewer than those of the greatest upload and 16,777,216.
     pub max_body: Option<u64>,
     /// How many bytes all workers together may hold of bodies that are half read, and of replies that are half sent.
     pub body_memory: u64,

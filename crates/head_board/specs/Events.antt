@@ -5,7 +5,7 @@ use Rattle.upload_book.specs.declared.board_line.BoardLine.{BoardLine}
 use Rattle.upload_book.specs.Events.{ChangeEvent, book_after_all, book_after_event}
 use Rattle.upload_book.specs.declared.head_note.HeadNote.{HeadNote}
 use Rattle.upload_book.specs.HeadNotes.{IsNoteOf}
-use Rattle.upload_book.specs.Laws.{LeadsTo}
+use Rattle.upload_book.specs.laws.Steps.{LeadsTo}
 use Rattle.upload_book.specs.PlainBook.{PlainBook, opening_book}
 use Rattle.upload_book.specs.Ready.{change_in, moment_in}
 use Rattle.upload_book.specs.Settings.{Settings}

@@ -44,7 +44,7 @@ answering request now reply = record { request = request; now = now; reply = rep
 -- the lengths and moments of pieces that were taken
 pieces_in : (r : Request) (n given : ℕ) (answered : List Answering) (bytes : List ℕ) → AreGiven r n given answered bytes → List PieceAt
 pieces_in r n given [] bytes is = []
-pieces_in r n given (q ∷ answered) bytes is = record { len = length is.0; now = q.now } ∷ pieces_in (behind (created_in q.reply) r) n (given + length is.0) answered is.1 is.5
+pieces_in r n given (q ∷ answered) bytes is = record { len = length is.0; now = q.now } ∷ pieces_in (behind (created_in q.reply) r) n (given + length is.0) answered is.1 is.6
 
 -- they are taken of the request that they begin
 given-taken : (r : Request) (n given : ℕ) (before answered : List Answering) (bytes last : List ℕ) (is : AreGiven r n given answered bytes) → given + (length bytes + length last) ≡ n
@@ -63,16 +63,17 @@ given-taken r n given before (q ∷ answered) bytes last is all =
     let left = behind_pieces next answered in
     let rest : rest_of (from_place r given (bytes ++ last)) (length piece) q.reply ≡ from_place next (given + length piece) (later ++ last) =
     ap (λ l. rest_of (from_place r given l) (length piece) q.reply) whole ∙ rest_of-piece r given piece (later ++ last) q.reply in
-    let others = given-taken next n (given + length piece) (before ++ q ∷ []) answered later last is.5 (omega (arith, all, count)) in
+    let others = given-taken next n (given + length piece) (before ++ q ∷ []) answered later last is.6 (omega (arith, all, count)) in
     let ends : from_place left (given + length piece + length later) last ≡ from_place left (given + length bytes) last = same_numbers left last last _ _ 0 0 refl (omega (arith, count)) refl in (
       before ++ q ∷ [],
       q.reply,
+      is.5,
       omega (arith, ap length whole, length-append piece (later ++ last)),
       ap (λ request. before ++ answering request q.now q.reply ∷ []) (sym first),
       is.3,
-      subst (λ request. Takes Notes (before ++ q ∷ []) request (pieces_in next n (given + length piece) answered later is.5) (before ++ (q ∷ answered)) (from_place left (given + length bytes) last)) (sym rest)
-          (subst (λ end. Takes Notes (before ++ q ∷ []) (from_place next (given + length piece) (later ++ last)) (pieces_in next n (given + length piece) answered later is.5) (before ++ (q ∷ answered)) end) ends
-          (subst (λ after. Takes Notes (before ++ q ∷ []) (from_place next (given + length piece) (later ++ last)) (pieces_in next n (given + length piece) answered later is.5) after (from_place left (given + length piece + length later) last)) (append_assoc before (q ∷ []) answered) others)),
+      subst (λ request. Takes Notes (before ++ q ∷ []) request (pieces_in next n (given + length piece) answered later is.6) (before ++ (q ∷ answered)) (from_place left (given + length bytes) last)) (sym rest)
+          (subst (λ end. Takes Notes (before ++ q ∷ []) (from_place next (given + length piece) (later ++ last)) (pieces_in next n (given + length piece) answered later is.6) (before ++ (q ∷ answered)) end) ends
+          (subst (λ after. Takes Notes (before ++ q ∷ []) (from_place next (given + length piece) (later ++ last)) (pieces_in next n (given + length piece) answered later is.6) after (from_place left (given + length piece + length later) last)) (append_assoc before (q ∷ []) answered) others)),
     )
 
 -- they have the sizes of the pieces that were answered
@@ -81,8 +82,8 @@ unfolding pieces_in
 pieces-long m r n given [] bytes is long = All-nil (λ (q : PieceAt). m ≤ q.len)
 pieces-long m r n given (q ∷ answered) bytes is long =
     let at_least = λ (q : Answering). m ≤ length q.request.body in
-    All-cons (λ (q : PieceAt). m ≤ q.len) (record { len = length is.0; now = q.now }) (pieces_in (behind (created_in q.reply) r) n (given + length is.0) answered is.1 is.5) (subst (λ (r : Request). m ≤ length r.body) is.2 (All-head at_least q answered long))
-    (pieces-long m (behind (created_in q.reply) r) n (given + length is.0) answered is.1 is.5 (All-tail at_least q answered long))
+    All-cons (λ (q : PieceAt). m ≤ q.len) (record { len = length is.0; now = q.now }) (pieces_in (behind (created_in q.reply) r) n (given + length is.0) answered is.1 is.6) (subst (λ (r : Request). m ≤ length r.body) is.2 (All-head at_least q answered long))
+    (pieces-long m (behind (created_in q.reply) r) n (given + length is.0) answered is.1 is.6 (All-tail at_least q answered long))
 
 any-long : (answered : List Answering) → AreLong 0 answered
 any-long [] = All-nil (λ (q : Answering). 0 ≤ length q.request.body)

@@ -10,12 +10,12 @@ use Rattle.tus_steps.specs.declared.reply.Reply.{Reply}
 use Rattle.tus_steps.specs.declared.reply.Reply.TheVariants as reply
 use Rattle.http_wire.specs.BodyLimits.{AreSmall}
 use Rattle.http_wire.specs.Conversation.{continue_text}
-use Rattle.http_wire.specs.History.{Answering, AreGiven, AreLong, History, NotesBy, NotesInPieces, StandsAfter, StoodInPieces, StopsWith, behind_pieces, noted, noted_before, noted_piece, piece_of}
+use Rattle.http_wire.specs.History.{Answering, AreGiven, History, IsLastSize, NotesBy, NotesInPieces, StandsAfter, StoodInPieces, StopsWith, behind_pieces, noted, noted_before, noted_piece, piece_of}
 use Rattle.http_wire.specs.Incoming.{FramedRequest}
 use Rattle.http_wire.specs.Layout.{request_at}
 use Rattle.http_wire.specs.NextMessage.{closing}
 use Rattle.http_wire.specs.OnConnection.{OnConnection, body_in, phase_after}
-use Rattle.http_wire.specs.PiecedBody.{piece_at, piece_in}
+use Rattle.http_wire.specs.PiecedBody.{piece_in}
 use Rattle.http_wire.specs.ReplyText.{reply_text}
 use Rattle.http_wire.specs.Turns.{TakesTurn}
 use Rattle.http_wire.specs.declared.incoming.Cut.{Cut}
@@ -192,7 +192,7 @@ module _ (p : History) (c : OnConnection) (b : PiecedBody) (which : Part) (piece
         (IsTaken-accepted c.limits h.start h.said h.gone c.read_buffer.lent b (created_with b.created reply) (IsTaken-kept c.limits h.start h.said h.gone b (c.read_buffer.lent ++ c.read_buffer.held) (c.read_buffer.lent ++ []) h.taken (ap (λ l. c.read_buffer.lent ++ l) (sym none))) within) held;
     given = subst (λ l. AreGiven (request_at b.layout l) b.layout.body_len 0 (h.pieces ++ answer_to b c.read_buffer now reply ∷ []) (h.gone ++ bytes)) (sym (ap (take n) held ∙ same_head))
         (AreGiven-push (request_at b.layout head) b.layout.body_len 0 h.pieces h.gone bytes (answer_to b c.read_buffer now reply) given (next ∙ ap (λ k. piece_of (behind_pieces (request_at b.layout head) h.pieces) b.layout.body_len k bytes) (sym zero))
-        taken_of);
+        taken_of (omega (arith, length-drop n c.read_buffer.lent, whole, pieced.some)));
     asks = subst (λ l. behind_pieces (request_at b.layout l) (h.pieces ++ answer_to b c.read_buffer now reply ∷ []) ≡ behind (created_with b.created reply) (request_at b.layout l)) (sym (ap (take n) held ∙ same_head))
         (behind_pieces-push (request_at b.layout head) h.pieces (answer_to b c.read_buffer now reply) ∙ ap (behind (created_in reply)) asks ∙ behind-taken b.created (request_at b.layout head) reply (subst (λ (r : Request). is_taken r reply ≡ true) asks taken_of));
     sized = All-push (λ (q : Answering). b.piece ≤ length q.request.body) h.pieces (answer_to b c.read_buffer now reply) h.sized (omega (arith, length-drop n c.read_buffer.lent, whole));
@@ -208,10 +208,10 @@ module _ (p : History) (c : OnConnection) (b : PiecedBody) (which : Part) (piece
       taken_of = subst (λ (r : Request). is_taken r reply ≡ true) next accepted
 
   -- the connection ends with a piece
-  pub History-stopped : (now : ℕ) (reply : Reply) (o : OnOutbox) (put : List ℕ) (why : Option Cut) → c.piece ≡ Some b.piece → lent_to c.read_buffer b < b.layout.body_len → c.read_buffer.held ≡ [] → o.pending ≡ c.write_buffer.pending ++ put
+  pub History-stopped : (now : ℕ) (reply : Reply) (o : OnOutbox) (put : List ℕ) (why : Option Cut) → c.piece ≡ Some b.piece → lent_to c.read_buffer b < b.layout.body_len → c.read_buffer.held ≡ [] → IsLastSize b.piece why (length c.read_buffer.lent - n) → o.pending ≡ c.write_buffer.pending ++ put
       → StopsWith c.read_buffer.ended why b.layout (answer_to b c.read_buffer now reply) (continue_text b.layout.is_waiting ++ put)
       → StandsAfter (noted p now (answer_to b c.read_buffer now reply ∷ [])) (onto c c.read_buffer (Stopped why) o) (Stopped why)
-  History-stopped now reply o put why size more none pending stops = record {
+  History-stopped now reply o put why size more none last_size pending stops = record {
     start = h.start;
     text = h.text;
     said = h.said ++ put;
@@ -228,9 +228,13 @@ module _ (p : History) (c : OnConnection) (b : PiecedBody) (which : Part) (piece
     sent = sent-more p c o h.text h.said put h.sent pending;
     long = length-take-le n c.read_buffer.lent within;
     begins = subst (λ l. BeginsHead c.limits h.start b.layout (head ++ (h.gone ++ l))) (ap (λ l. bytes ++ l) none ∙ append-nil bytes) begins;
-    plain = plain-request (piece_at b (length c.read_buffer.lent - n)) c.read_buffer.lent pieced.plain;
+    plain = plain-request b.layout head pieced.plain;
+    size = b.piece;
+    by_size = size;
+    longer = pieced.long;
     given = given;
-    sized = subst (λ s. IfSome s (λ n. AreLong n h.pieces)) (sym size) h.sized;
+    sized = h.sized;
+    last_size = subst (IsLastSize b.piece why) (sym (length-drop n c.read_buffer.lent)) last_size;
     piece = next;
     more = omega (arith, more);
     stops = subst (StopsWith c.read_buffer.ended why b.layout (answer_to b c.read_buffer now reply)) (ap (λ l. l ++ put) (sym h.taken.waits)) stops;
@@ -263,17 +267,17 @@ module _ (f : Layout → FramedRequest) where
           (History-accepted p c b part.Middle has.body h has.lent now reply a o has.part.1 has.part.2 is (ap (λ (a : Ahead). a.held) answers.read_buffer) answers.pending)
       middle false is has answers h =
           left q (Stopped None) (Stopped None) refl refl answers.phase answers.read_buffer
-          (History-stopped p c b part.Middle has.body h has.lent now reply o (reply_text reply now (closing b.layout.framing)) None piece has.part.0 has.part.1 answers.pending (is, refl))
+          (History-stopped p c b part.Middle has.body h has.lent now reply o (reply_text reply now (closing b.layout.framing)) None piece has.part.0 has.part.1 (omega (arith, has.part.2)) answers.pending (is, refl))
 
       parted : (why : Cut) → HasPiece c.read_buffer b (part.Cut why) → EndsBody [] (Stopped (Some why)) c.read_buffer a c.write_buffer.pending o.pending q
           → StoodInPieces p (record c { phase = Piece b (part.Cut why) }) b (c.read_buffer.lent ++ c.read_buffer.held)
           → StandsAfter (noted_before (body_in (map_phase f q)) p now answered) (onto c a (map_phase f q) o) (map_phase f q)
       parted cut.Ended has answers h =
           left q (Stopped (Some cut.Ended)) (Stopped (Some cut.Ended)) refl refl answers.phase answers.read_buffer
-          (History-stopped p c b (part.Cut cut.Ended) has.body h has.lent now reply o [] (Some cut.Ended) piece has.part.0 has.part.1 answers.pending (has.part.2, has.part.3, append-nil (continue_text b.layout.is_waiting)))
+          (History-stopped p c b (part.Cut cut.Ended) has.body h has.lent now reply o [] (Some cut.Ended) piece has.part.0 has.part.1 (omega (arith, has.part.2, has.lent, has.body.some)) answers.pending (has.part.3, has.part.4, append-nil (continue_text b.layout.is_waiting)))
       parted cut.Fault has answers h =
           left q (Stopped (Some cut.Fault)) (Stopped (Some cut.Fault)) refl refl answers.phase answers.read_buffer
-          (History-stopped p c b (part.Cut cut.Fault) has.body h has.lent now reply o [] (Some cut.Fault) piece has.part.0 has.part.1 answers.pending (has.part.2, has.part.3, append-nil (continue_text b.layout.is_waiting)))
+          (History-stopped p c b (part.Cut cut.Fault) has.body h has.lent now reply o [] (Some cut.Fault) piece has.part.0 has.part.1 (omega (arith, has.part.2, has.lent, has.body.some)) answers.pending (has.part.3, has.part.4, append-nil (continue_text b.layout.is_waiting)))
 
       go : (which : Part) → HasPiece c.read_buffer b which → AnswersPiece now b which reply c.read_buffer a c.write_buffer.pending o.pending q
           → StoodInPieces p (record c { phase = Piece b which }) b (c.read_buffer.lent ++ c.read_buffer.held)

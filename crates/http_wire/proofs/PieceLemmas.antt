@@ -3,7 +3,7 @@ use Rattle.std.proofs.Common.{◌≡◌, ◌≤◌, ◌<◌, ◌+◌, ◌-◌, �
 use Rattle.std.proofs.lemmas.Bool.{ltb-false}
 use Rattle.std.proofs.lemmas.List.Elements.{All-head}
 use Rattle.std.proofs.lemmas.List.{take-append-drop, take-append-le, drop-append-le, take_at, drop_at, take_all, drop_all, take-take, length-take-le, length-drop}
-use Rattle.tus_steps.specs.Field.{FieldText, is_absent}
+use Rattle.tus_steps.specs.Field.{is_absent}
 use Rattle.tus_steps.specs.InPieces.{MayComeInPieces, behind, created_in, fields_behind, is_taken, method_behind}
 use Rattle.tus_steps.specs.Method.{is_applied_when_cut, is_patch, is_post, is_taken_in_pieces}
 use Rattle.tus_steps.specs.TusFields.{map_fields}
@@ -164,18 +164,19 @@ piece-lent b lent fresh =
 
 -- one piece more was accepted
 pub AreGiven-push : (r : Request) (n given : ℕ) (answered : List Answering) (bytes piece : List ℕ) (q : Answering) → AreGiven r n given answered bytes → q.request ≡ piece_of (behind_pieces r answered) n (given + length bytes) piece
-    → is_taken (behind_pieces r answered) q.reply ≡ true → AreGiven r n given (answered ++ q ∷ []) (bytes ++ piece)
-AreGiven-push r n given [] bytes piece q is next accepted =
+    → is_taken (behind_pieces r answered) q.reply ≡ true → 0 < length piece → AreGiven r n given (answered ++ q ∷ []) (bytes ++ piece)
+AreGiven-push r n given [] bytes piece q is next accepted some =
     let none : given + length bytes ≡ given = rw is (omega arith) in
-    (piece, [], next ∙ ap (λ k. piece_of r n k piece) none, accepted, ap (λ l. l ++ piece) is ∙ sym (append-nil piece), refl)
-AreGiven-push r n given (a ∷ answered) bytes piece q taken next accepted =
+    (piece, [], next ∙ ap (λ k. piece_of r n k piece) none, accepted, ap (λ l. l ++ piece) is ∙ sym (append-nil piece), some, refl)
+AreGiven-push r n given (a ∷ answered) bytes piece q taken next accepted some =
     let more : given + length bytes ≡ (given + length taken.0) + length taken.1 = omega (arith, ap length taken.4, length-append taken.0 taken.1) in (
       taken.0,
       taken.1 ++ piece,
       taken.2,
       taken.3,
       ap (λ l. l ++ piece) taken.4 ∙ append_assoc taken.0 taken.1 piece,
-      AreGiven-push (behind (created_in a.reply) r) n (given + length taken.0) answered taken.1 piece q taken.5 (next ∙ ap (λ k. piece_of (behind_pieces (behind (created_in a.reply) r) answered) n k piece) more) accepted,
+      taken.5,
+      AreGiven-push (behind (created_in a.reply) r) n (given + length taken.0) answered taken.1 piece q taken.6 (next ∙ ap (λ k. piece_of (behind_pieces (behind (created_in a.reply) r) answered) n k piece) more) accepted some,
     )
 
 -- what is asked for behind one piece more

@@ -24,7 +24,8 @@ pub record Takes (got : List ℕ) (old new : OnConnection) : Type 0 where
   pub limits : new.limits ≡ old.limits
   pub piece : new.piece ≡ old.piece
 
--- a read failed: a PATCH that is applied when it is cut is owed its step, and else the conversation is over
+-- a read failed: a PATCH that is applied when it is cut, or a creation behind its first piece, is owed its step, and else the
+-- conversation is over
 abbrev pub BreaksTo : BodyLimits → List ℕ → List ℕ → Ahead → Phase FramedRequest → Type 0
 BreaksTo limits bytes said a (Looking s) = ⊥
 BreaksTo limits bytes said a (Waiting s) = ⊥

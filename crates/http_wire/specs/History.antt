@@ -1,5 +1,5 @@
 -- The history of a connection: what was taken from its client and handed out to it, and what was answered.
-use Rattle.std.specs.Prelude.{◌≡◌, ◌⊎◌, ◌≤◌, ◌<◌, ◌+◌, ◌-◌, ℕ, Bool, true, false, List, [], ◌∷◌, ◌++◌, length, take, Option, Some, None, IfSome, All, Ok, Err}
+use Rattle.std.specs.Prelude.{◌≡◌, ◌⊎◌, ◌≤◌, ◌<◌, ◌+◌, ◌-◌, ℕ, Bool, true, false, List, [], ◌∷◌, ◌++◌, length, take, Option, Some, None, All, Ok, Err}
 use Rattle.tus_steps.specs.InPieces.{InPieces, MayComeInPieces, PieceAt, behind, created_in, is_taken}
 use Rattle.tus_steps.specs.Method.{is_patch}
 use Rattle.tus_steps.specs.Request.{Request}
@@ -58,12 +58,12 @@ abbrev pub behind_pieces : Request → List Answering → Request
 behind_pieces r [] = r
 behind_pieces r (q ∷ answered) = behind_pieces (behind (created_in q.reply) r) answered
 
--- pieces of it were taken, one after another, from a place on; together they are these bytes
+-- pieces of it were taken, one after another, from a place on; each has some bytes, and together they are these
 abbrev pub AreGiven : Request → ℕ → ℕ → List Answering → List ℕ → Type 0
 AreGiven r n given [] bytes = bytes ≡ []
 AreGiven r n given (q ∷ answered) bytes =
     (piece later : List ℕ) × (q.request ≡ piece_of r n given piece) × (is_taken r q.reply ≡ true) × (bytes ≡ piece ++ later)
-    × AreGiven (behind (created_in q.reply) r) n (given + length piece) answered later
+    × (0 < length piece) × AreGiven (behind (created_in q.reply) r) n (given + length piece) answered later
 
 module _ {A : Type 0} (steps : A → Request → ℕ → Reply → A → Type 0) where
   -- these answers are steps, one after another, from one state to another
@@ -72,7 +72,7 @@ module _ {A : Type 0} (steps : A → Request → ℕ → Reply → A → Type 0)
   Follows a (q ∷ answered) b = (c : A) × steps a q.request q.now q.reply c × Follows c answered b
 
 -- What has passed: all bytes that reads brought, all that were sent, and what was answered. `moments` has those at which messages
--- and refusals were answered, a PATCH that was cut included. `all_moments` has those of all pieces too.
+-- and refusals were answered, one that was cut and applied included. `all_moments` has those of all pieces too.
 pub record History : Type 0 where
   pub taken : List ℕ
   pub handed : List ℕ
@@ -148,9 +148,14 @@ StopsWith at_end None p last text =
 StopsWith at_end (Some cut.Ended) p last text = (at_end ≡ true) × (is_patch last.request.method ≡ true) × (text ≡ continue_text p.is_waiting)
 StopsWith at_end (Some cut.Fault) p last text = (at_end ≡ false) × (is_patch last.request.method ≡ true) × (text ≡ continue_text p.is_waiting)
 
+-- the last piece has at least this size where it was refused, and fewer bytes where the body was cut
+abbrev pub IsLastSize : ℕ → Option Cut → ℕ → Type 0
+IsLastSize size None len = size ≤ len
+IsLastSize size (Some why) len = len < size
+
 -- Whole messages were taken and answered, and then pieces of the next, which is a PATCH or a POST without a checksum. All but the
--- last piece were accepted. The last has all bytes that came behind those, and more was to come. With it the connection ends so, at
--- its moment.
+-- last piece were accepted, and had the size of a piece. The last has all bytes that came behind those, and more was to come: it
+-- has the size too where it was refused, and fewer where the body was cut behind it. With it the connection ends so, at its moment.
 pub record StoppedInPieces (p : History) (c : OnConnection) (why : Option Cut) : Type 0 where
   pub start : List ℕ
   pub text : List ℕ
@@ -168,9 +173,13 @@ pub record StoppedInPieces (p : History) (c : OnConnection) (why : Option Cut) :
   pub sent : p.handed ++ c.write_buffer.pending ≡ text ++ said
   pub long : length head ≡ layout.head_len
   pub begins : BeginsHead c.limits start layout (head ++ (gone ++ last.request.body))
-  pub plain : MayComeInPieces last.request
+  pub plain : MayComeInPieces (request_at layout head)
+  pub size : ℕ
+  pub by_size : c.piece ≡ Some size
+  pub longer : size < layout.body_len
   pub given : AreGiven (request_at layout head) layout.body_len 0 pieces gone
-  pub sized : IfSome c.piece (λ n. AreLong n pieces)
+  pub sized : AreLong size pieces
+  pub last_size : IsLastSize size why (length last.request.body)
   pub piece : last.request ≡ piece_of (behind_pieces (request_at layout head) pieces) layout.body_len (length gone) last.request.body
   pub more : 0 < last.request.more
   pub stops : StopsWith c.read_buffer.ended why layout last said

@@ -6,8 +6,8 @@ use Rattle.tus_text.specs.Date.{expires_text}
 use Rattle.upload_book.specs.declared.refusal.Refusal.{Refusal}
 use Rattle.upload_book.specs.declared.refusal.Refusal.TheVariants as refusal
 use Rattle.upload_book.specs.Refusal.{status_of, word_of}
-use Rattle.tus_steps.specs.declared.reply.Place.{Place}
-use Rattle.tus_steps.specs.declared.reply.Place.TheVariants as place
+use Rattle.tus_steps.specs.declared.reply.PathKind.{PathKind}
+use Rattle.tus_steps.specs.declared.reply.PathKind.TheVariants as place
 use Rattle.tus_steps.specs.declared.reply.Reply.{Reply}
 use Rattle.tus_steps.specs.declared.reply.Reply.TheVariants.{Options, Created, Head, Content, Patched, Deleted, Refused}
 use Rattle.http_wire.specs.Refusal as wire
@@ -115,7 +115,7 @@ algorithms_in (Options max_size) = codes "sha1"
 algorithms_in _ = []
 
 -- the methods that are served at a place
-abbrev pub allowed_at : Place → List ℕ
+abbrev pub allowed_at : PathKind → List ℕ
 allowed_at place.Create = codes "POST, OPTIONS"
 allowed_at place.Upload = codes "HEAD, GET, PATCH, DELETE, OPTIONS"
 allowed_at place.Other = []

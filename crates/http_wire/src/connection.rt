@@ -68,7 +68,7 @@ pub enum Wants {
 /// and does that: it reads into it, writes what is pending, or answers what came in. Each call makes at most one read or one
 /// write, and waits only where the stream or the answerer does. After a write that failed it is let go.
 ///
-/// It gathers each body, or takes those of PATCHes without a checksum in pieces. Then a piece is owed an answer as a message is,
+/// It gathers each body, or takes those of PATCHes and POSTs without a checksum in pieces. Then a piece is owed an answer as a message is,
 /// and may be answered once it has come.
 ///
 /// A contract sees what it holds, how far it has come, and what is to be sent. It sees the most bytes of bodies too, and how many
@@ -126,9 +126,9 @@ impl Connection {
     }
 
     /// The same, but it may take bodies in pieces. Bodies have at most as many bytes as `limits` tell, each below 2^62. The body of
-    /// a PATCH without a checksum is taken so if it has more bytes than `piece`, which is above 0. A piece is taken once so many
-    /// bytes have come, and has at most 16,384 more. The last piece is taken once the rest has come. Where there is no `piece`,
-    /// each body is gathered.
+    /// a PATCH or a POST without a checksum is taken so if it has more bytes than `piece`, which is above 0. A piece is taken once
+    /// so many bytes have come, and has at most 16,384 more. The last piece is taken once the rest has come. Where there is no
+    /// `piece`, each body is gathered.
     pub fn by_pieces(buffers: Buffers, limits: BodyLimits, piece: Option<usize>) -> Self
         requires limits { AreSmall limits }
         requires some { IfSome piece (λ n. 0 < n) }
@@ -297,7 +297,8 @@ impl Connection {
     }
 
     /// Tells that a read failed, where it wants to read: nothing more will come. A PATCH that is applied when it is cut is
-    /// owed its step; of any other message nothing is, and the conversation is over, with `WireFault::Read`.
+    /// owed its step, as is a creation behind its first piece. Of any other message nothing is, and the conversation is over, with
+    /// `WireFault::Read`.
     pub fn fail(&mut self)
         requires { wanted self.old ≡ Wants.Read }
         ensures breaks { (bytes said : List ℕ) → Stands bytes said self.old

@@ -50,7 +50,7 @@ nonzero_at bytes = do
   n ← number_at bytes
   if n.0 == 0 then None else Some (n.0, n.1)
 
--- a flag, and how many bytes are still to come: none behind a whole PATCH
+-- a flag, and how many bytes are still to come: none behind a whole body
 unfoldable pub flag_more_at : List ℕ → Option ((Bool × ℕ) × List ℕ)
 flag_more_at [] = None
 flag_more_at (zero ∷ rest) = Some ((false, 0), rest)

@@ -3,20 +3,4 @@
 #![tactic(auto)]
 
 #[cfg(test)]
-mod file;
-#[cfg(test)]
-mod frames;
-#[cfg(test)]
-mod keeper;
-#[cfg(test)]
-mod kept;
-#[cfg(test)]
-mod records;
-#[cfg(test)]
-mod replay;
-#[cfg(test)]
-mod torn_disk;
-
-/// The key of the journals here.
-#[cfg(test)]
-pub(crate) const KEY: u64 = 7;
+mod tests;

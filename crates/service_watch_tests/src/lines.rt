@@ -7,49 +7,19 @@ use tus_steps::Method;
 use upload_book::Moment;
 
 /// A path from outside, and how the line shows it.
-#[derive(Clone, Copy)]
-struct Row {
-    path: &'static [u8],
-    shown: &'static [u8],
-}
-
-static PATHS: [Row; 9] = [
-    Row {
-        path: b"/files/a/1",
-        shown: b"/files/a/1",
-    },
-    Row {
-        path: b"",
-        shown: b"-",
-    },
-    Row {
-        path: b"/a b",
-        shown: b"/a%20b",
-    },
-    Row {
-        path: b"/\n\"Thu, 01 Jan 1970 00:00:00 GMT\" 1",
-        shown: b"/%0A%22Thu,%2001%20Jan%201970%2000:00:00%20GMT%22%201",
-    },
-    Row {
-        path: b"/\r\x1b[31m",
-        shown: b"/%0D%1B[31m",
-    },
-    Row {
-        path: b"/100%\\",
-        shown: b"/100%25%5C",
-    },
-    Row {
-        path: b"/\xc3\xa9",
-        shown: b"/%C3%A9",
-    },
-    Row {
-        path: b"\x00\x7f\x80\xff",
-        shown: b"%00%7F%80%FF",
-    },
-    Row {
-        path: b"!~",
-        shown: b"!~",
-    },
+static PATHS: [(&[u8], &[u8]); 9] = [
+    (b"/files/a/1", b"/files/a/1"),
+    (b"", b"-"),
+    (b"/a b", b"/a%20b"),
+    (
+        b"/\n\"Thu, 01 Jan 1970 00:00:00 GMT\" 1",
+        b"/%0A%22Thu,%2001%20Jan%201970%2000:00:00%20GMT%22%201",
+    ),
+    (b"/\r\x1b[31m", b"/%0D%1B[31m"),
+    (b"/100%\\", b"/100%25%5C"),
+    (b"/\xc3\xa9", b"/%C3%A9"),
+    (b"\x00\x7f\x80\xff", b"%00%7F%80%FF"),
+    (b"!~", b"!~"),
 ];
 
 const FRONT: &[u8] = b"\"Fri, 27 Nov 2026 00:00:00 GMT\" 127.0.0.1:4000 acme PATCH ";
@@ -79,22 +49,22 @@ fn line<'a>(moment: Moment, path: &'a [u8]) -> RequestLine<'a> {
     }
 }
 
-fn assert_shown(rt: &impl Abort, alloc: Global, row: Row) {
+fn assert_shown(rt: &impl Abort, alloc: Global, path: &[u8], expected: &[u8]) {
     let mut log = Log::new(alloc);
-    assert!(rt; log.put_request(&line(moment(rt, 1_795_737_600), row.path)));
+    assert!(rt; log.put_request(&line(moment(rt, 1_795_737_600), path)));
     let Some(rest) = log.waiting().strip_prefix(FRONT) else {
         panic!(rt; "another front");
     };
     let Some(shown) = rest.strip_suffix(REST) else {
         panic!(rt; "another rest");
     };
-    assert!(rt; shown == row.shown);
+    assert!(rt; shown == expected);
 }
 
 #[test]
 fn paths_from_outside(rt: HostRuntime) -> Result<(), Fail> {
-    for row in &PATHS {
-        assert_shown(&rt, rt.alloc(), *row);
+    for (path, shown) in &PATHS {
+        assert_shown(&rt, rt.alloc(), path, shown);
     }
     Ok(())
 }
@@ -107,6 +77,9 @@ fn assert_waits(rt: &impl Abort, log: &Log, text: &[u8]) {
 fn assert_text(rt: &impl Abort, text: &[u8], other: &[u8]) {
     assert!(rt; text == other);
 }
+
+const REFUSED: &[u8] =
+    b"\"Thu, 01 Jan 1970 00:00:00 GMT\" [::1]:9 - - - - head 0 18446744073709551615 1 unsent\n";
 
 #[test]
 fn a_request_without_a_head(rt: HostRuntime) -> Result<(), Fail> {
@@ -125,13 +98,11 @@ fn a_request_without_a_head(rt: HostRuntime) -> Result<(), Fail> {
         was_sent: false,
     };
     assert!(rt; log.put_request(&line));
-    assert_waits(
-        &rt,
-        &log,
-        b"\"Thu, 01 Jan 1970 00:00:00 GMT\" [::1]:9 - - - - head 0 18446744073709551615 1 unsent\n",
-    );
+    assert_waits(&rt, &log, REFUSED);
     Ok(())
 }
+
+const CUT: &[u8] = b"\"Thu, 01 Jan 1970 00:00:00 GMT\" 127.0.0.1:1 cut idle\n";
 
 #[test]
 fn a_connection_that_was_cut(rt: HostRuntime) -> Result<(), Fail> {
@@ -142,11 +113,7 @@ fn a_connection_that_was_cut(rt: HostRuntime) -> Result<(), Fail> {
         cut: Cut::Idle,
     };
     assert!(rt; log.put_cut(&line));
-    assert_waits(
-        &rt,
-        &log,
-        b"\"Thu, 01 Jan 1970 00:00:00 GMT\" 127.0.0.1:1 cut idle\n",
-    );
+    assert_waits(&rt, &log, CUT);
     log.lose(1);
     assert_waits(&rt, &log, b"");
     assert!(rt; log.lost() == 1);

@@ -5,12 +5,12 @@ ghost use Rattle.connection_turns.specs.Turn.{CarriesOn, SendsOn, on_turn};
 ghost use Rattle.http_wire.specs.BodyLimits.{alike};
 ghost use Rattle.http_wire.specs.Conversation.{Conversation};
 ghost use Rattle.http_wire.specs.Fault.{NamesOrMemory, NamesStream};
-ghost use Rattle.http_wire.specs.History.{HasHistory, History};
 ghost use Rattle.http_wire.specs.OnConnection.{wanted};
 ghost use Rattle.http_wire.specs.Turns.{Breaks};
 ghost use Rattle.http_wire.specs.declared.conversation.Ended.{Ended};
 ghost use Rattle.tus_program.specs.TalkInPieces.{IsOver, TalksInPieces};
 
+use connection_turns::wants_of;
 use http_wire::{
     Answer, BodyLimits, Buffers, Clock, Connection, Sink, Source, Wants, WireFault, converse,
 };
@@ -159,29 +159,6 @@ fn carry_on<T: Wait, R: Source, W: Sink, A: Answer, K: Clock>(
         }
     }
     unreachable!()
-}
-
-/// What a connection wants of which so many messages may still be answered. Where there are none, it reads no more, and only sends
-/// what is pending.
-fn wants_of(connection: &mut Connection, left: usize) -> Wants
-    ensures history { (p : History) → HasHistory p connection.old → HasHistory p connection.new }
-    ensures read { result ≡ Wants.Read → wanted connection.new ≡ Wants.Read }
-    ensures write { result ≡ Wants.Write → connection.new.write_buffer.pending ≢ [] }
-    ensures answer { result ≡ Wants.Answer → wanted connection.new ≡ Wants.Answer }
-    ensures some { result ≡ Wants.Answer → 0 < left }
-    ensures some_read { result ≡ Wants.Read → 0 < left }
-    ensures nothing { result ≡ Wants.Nothing → (wanted connection.new ≡ Wants.Nothing) ⊎ (left ≡ 0) }
-    ensures sent { result ≡ Wants.Nothing → connection.new.write_buffer.pending ≡ [] }
-    ensures limits { connection.new.limits ≡ connection.old.limits }
-    ensures piece { connection.new.piece ≡ connection.old.piece }
-{
-    if left > 0 {
-        connection.wants()
-    } else if connection.pending_len() > 0 {
-        Wants::Write
-    } else {
-        Wants::Nothing
-    }
 }
 
 /// Reads once. Where that fails, the connection is told, and what came of a body in pieces is answered, which counts as a message;

@@ -20,6 +20,7 @@ use crate::fault::{fault_of_opening, fault_of_wire};
 use crate::kept_serve::serve_kept;
 use crate::lines::{listening_line, put_balance};
 use crate::work::work_of;
+use access_log::{LogTarget, Watching};
 use connection_turns::WorkOptions;
 use http_wire::{Sink, WireFault, put_all};
 use journal_folders::{Folder, Journals, check_settings, open_renewed};
@@ -36,8 +37,8 @@ use std::thread::Threads;
 use std::time;
 use tus_shared::{Charges, Desk, Opened, Shared, settle};
 use tus_workers::{
-    Accept, Keeping, Listener, LogTarget, NoJournal, ServerState, Watching, Worker, any_failed,
-    dismiss, hire, within_descriptors, work_all,
+    Accept, Keeping, Listener, NoJournal, ServerState, Worker, any_failed, dismiss, hire,
+    within_descriptors, work_all,
 };
 use upload_book::Settings;
 
@@ -435,7 +436,7 @@ fn watched<
         let log = log_at(rt, options.log)?;
         let metrics = metrics_at(rt, place, options.metrics)?;
         let pages = File::open(rt, "/proc/self/statm").ok();
-        server_state.watch_by(Watching::new(rt, alloc, log, metrics, pages));
+        server_state.watch_by(Watching::new(rt, alloc, log, pages), metrics);
     }
     Ok(server_state)
 }

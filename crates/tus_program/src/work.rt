@@ -2,7 +2,7 @@
 ghost use Rattle.std.specs.Prelude.{◌≡◌};
 ghost use Rattle.tus_program.specs.Work.{work_of};
 
-use connection_turns::{Bounds, WorkOptions};
+use connection_turns::{ClientBounds, WorkOptions};
 use server_words::WorkerOptions;
 
 /// What each worker is given to do, by what the command line asks of it.
@@ -13,7 +13,7 @@ pub fn work_of(options: &WorkerOptions) -> WorkOptions
         moment: options.moment,
         connections: options.connections,
         at_once: options.at_once,
-        bounds: Bounds {
+        bounds: ClientBounds {
             idle: options.idle,
             message_seconds: options.message_seconds,
             least_rate: options.least_rate,

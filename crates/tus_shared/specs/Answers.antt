@@ -5,7 +5,7 @@ use mathlib.Core.List.{IsPrefix}
 use Rattle.upload_book.specs.declared.change.Change.{Change}
 use Rattle.upload_book.specs.declared.head_row.HeadRow.{HeadRow}
 use Rattle.upload_book.specs.declared.head_row.Name.{Name}
-use Rattle.upload_book.specs.declared.operation.Operation.TheVariants.{Look}
+use Rattle.upload_book.specs.Operation.{Look}
 use Rattle.upload_book.specs.declared.refusal.Refusal.{Refusal}
 use Rattle.upload_book.specs.declared.refusal.Refusal.TheVariants.{Board}
 use Rattle.upload_book.specs.declared.sweep.Swept.{Swept}

@@ -8,7 +8,7 @@ use Rattle.upload_book.specs.declared.change.Change.{Change}
 use Rattle.upload_book.specs.declared.change.Outcome.{Outcome}
 use Rattle.upload_book.specs.declared.head_row.HeadRow.{HeadRow}
 use Rattle.upload_book.specs.declared.head_row.Name.{Name}
-use Rattle.upload_book.specs.declared.operation.Operation.TheVariants.{Append, Look}
+use Rattle.upload_book.specs.Operation.{Append, Look}
 use Rattle.upload_book.specs.declared.refusal.Refusal.{Refusal}
 use Rattle.upload_book.specs.declared.sweep.Swept.{Swept}
 use Rattle.upload_book.specs.Lawful.{IsLawful}

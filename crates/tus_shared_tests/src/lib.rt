@@ -3,16 +3,4 @@
 #![tactic(auto)]
 
 #[cfg(test)]
-mod batches;
-#[cfg(test)]
-mod journal;
-#[cfg(test)]
-mod openings;
-#[cfg(test)]
-mod requests;
-#[cfg(test)]
-mod steps;
-#[cfg(test)]
-mod stops;
-#[cfg(test)]
-mod uploads;
+mod tests;

@@ -10,8 +10,8 @@ use Rattle.tus_text.specs.declared.concat.Concat.TheVariants.{Partial, Final}
 use Rattle.tus_text.specs.declared.path.Path.{Path}
 use Rattle.tus_text.specs.declared.path.Path.TheVariants as path
 use Rattle.upload_book.specs.Chunk.{Chunk}
-use Rattle.upload_book.specs.declared.operation.Operation.{Operation}
-use Rattle.upload_book.specs.declared.operation.Operation.TheVariants as operation
+use Rattle.upload_book.specs.Operation.{Operation}
+use Rattle.upload_book.specs.Operation as operation
 use Rattle.upload_book.specs.declared.refusal.Refusal.{Refusal}
 use Rattle.upload_book.specs.declared.refusal.Refusal.TheVariants as refusal
 use Rattle.upload_book.specs.NewFinal.{NewFinal}
@@ -20,13 +20,11 @@ use Rattle.upload_book.specs.Settings.{Settings, tenant_place}
 use Rattle.tus_steps.specs.Creation.{concat_creation, creation_by, creation_of, first_chunk, is_with_upload, new_final_in, new_upload_in}
 use Rattle.tus_steps.specs.declared.method.Method.{Method}
 use Rattle.tus_steps.specs.declared.method.Method.TheVariants.{Post, Head, Get, Patch, Delete, Options, Other}
-use Rattle.tus_steps.specs.declared.route.Route.{Route}
-use Rattle.tus_steps.specs.declared.route.Route.TheVariants.{Create, Look, Content, Append, Terminate}
+use Rattle.tus_steps.specs.Route.{Route, Create, Look, Content, Append, Terminate, route, tenant_name}
 use Rattle.tus_steps.specs.Field.{FieldText, absent, one, many, optional_checksum_in}
 use Rattle.tus_steps.specs.Method.{is_patch}
-use Rattle.tus_steps.specs.Operation.{chunk_in, found_or, has_version, operation_of, operation_on}
+use Rattle.tus_steps.specs.Operation.{chunk_in, has_version, operation_at, operation_of, operation_on}
 use Rattle.tus_steps.specs.Request.{Request}
-use Rattle.tus_steps.specs.Route.{route, tenant_name}
 
 -- an operation, of the tenant at a place
 abbrev pub moved : ℕ → Operation → Operation
@@ -121,14 +119,10 @@ pub record AsksFor (r : Request) (name : List ℕ) : Type 0 where
   pub each : (s : Settings) (t : ℕ) → tenant_place s name ≡ Some t → operation_of s r ≡ moved_to t of
   pub at : IfOk of (AppendsByPatch r)
 
--- the last two tests
-abbrev pub asked_at : Request → ℕ → Result Operation Refusal
-asked_at r t = found_or refusal.Method (route r.path r.method) (λ on. ok_or (operation_on r t on) refusal.Field)
-
--- what they give
+-- what the last two tests give
 record AskedAt (r : Request) : Type 0 where
   of : Result Operation Refusal
-  each : (t : ℕ) → asked_at r t ≡ moved_to t of
+  each : (t : ℕ) → operation_at r t ≡ moved_to t of
   at : IfOk of (AppendsByPatch r)
 
 ok_or-apart : (r : Request) (ops : ℕ → Option Operation) (of : Option Operation) → ((t : ℕ) → ops t ≡ option_map (moved t) of) → IfSome of (AppendsByPatch r)

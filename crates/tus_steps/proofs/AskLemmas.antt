@@ -1,14 +1,23 @@
 -- How a request comes to ask for an operation, test by test.
 use Rattle.std.proofs.Common.{◌≡◌, ℕ, Bool, true, false, cond, List, Option, Some, None, Result, Ok, Err, refl}
-use Rattle.std.specs.Prelude.{ok_or}
-use Rattle.upload_book.specs.declared.operation.Operation.{Operation}
+use Rattle.std.specs.Prelude.{ok_or, option_map}
+use Rattle.upload_book.specs.Operation.{Operation}
 use Rattle.upload_book.specs.declared.refusal.Refusal.{Refusal}
 use Rattle.upload_book.specs.declared.refusal.Refusal.TheVariants as refusal
 use Rattle.upload_book.specs.Settings.{Settings, tenant_place}
-use Rattle.tus_steps.specs.declared.route.Route.{Route}
+use Rattle.tus_steps.specs.Asked.{asked_for, asked_or}
+use Rattle.tus_steps.specs.Route.{Route, route, tenant_name}
 use Rattle.tus_steps.specs.Operation.{found_or, has_version, operation_of, operation_on}
 use Rattle.tus_steps.specs.Request.{Request}
-use Rattle.tus_steps.specs.Route.{route, tenant_name}
+
+-- what was found to be asked for, and why nothing was
+pub asked-found : (found : Option Operation) (why : Refusal) → ok_or (option_map asked_for found) why ≡ asked_or (ok_or found why)
+asked-found None why = refl
+asked-found (Some op) why = refl
+
+pub refused-for : (found : Result Operation Refusal) (why : Refusal) → asked_or found ≡ Err why → found ≡ Err why
+refused-for (Ok op) why is = absurd cc
+refused-for (Err other) why is = cc
 
 -- the request names a tenant of the settings, and a route there on which its fields tell the operation
 pub record Asks (s : Settings) (r : Request) (op : Operation) : Type 0 where

@@ -1,8 +1,8 @@
 -- What was found of a request is what it asks for, and its step.
-use Rattle.std.proofs.Common.{◌≡◌, ◌≢◌, ℕ, [], ◌∷◌, arith, true, false, List, length, Option, None, IfSome, Result, Ok, Err, IfOk, IfErr, OnOk, OnErr, inl, inr, refl, sym, ap, ◌∙◌, subst}
+use Rattle.std.proofs.Common.{◌≡◌, ◌≢◌, ℕ, [], ◌∷◌, arith, true, false, List, length, Option, None, Result, Ok, Err, IfOk, IfErr, OnOk, OnErr, inl, inr, refl, sym, ap, ◌∙◌, subst}
 use Rattle.std.proofs.lemmas.Bool.{cases_Bool}
 use Rattle.std.specs.Result.{IsOkAnd}
-use Rattle.upload_book.specs.Change.{CanBeMade, MayLackFor, book_after_change, change_answer, change_lacking}
+use Rattle.upload_book.specs.Change.{MayLackFor, book_after_change, change_answer, change_lacking}
 use Rattle.upload_book.specs.Content.{LacksRoom, content_answer}
 use Rattle.upload_book.specs.declared.append.Refused.{Refused}
 use Rattle.upload_book.specs.declared.change.Change.{Change}
@@ -10,8 +10,8 @@ use Rattle.upload_book.specs.declared.change.Change.TheVariants as change
 use Rattle.upload_book.specs.declared.change.Outcome.{Outcome}
 use Rattle.upload_book.specs.declared.change.Outcome.TheVariants as outcome
 use Rattle.upload_book.specs.declared.head_row.Name.{Name}
-use Rattle.upload_book.specs.declared.operation.Operation.{Operation}
-use Rattle.upload_book.specs.declared.operation.Operation.TheVariants as operation
+use Rattle.upload_book.specs.Operation.{Operation}
+use Rattle.upload_book.specs.Operation as operation
 use Rattle.upload_book.specs.declared.refusal.Refusal.{Refusal}
 use Rattle.upload_book.specs.declared.refusal.Refusal.TheVariants as refusal
 use Rattle.upload_book.specs.Look.{look_answer}
@@ -19,7 +19,7 @@ use Rattle.upload_book.specs.PlainBook.{PlainBook, answer_of}
 use Rattle.upload_book.specs.Refusal.{IsAnswer}
 use Rattle.upload_book.specs.Settings.{Settings}
 use Rattle.upload_book.proofs.Restoring.PieceSteps.{piece-settings}
-use Rattle.tus_steps.specs.Asked.{asked_by, asked_for, asked_in, change_in}
+use Rattle.tus_steps.specs.Asked.{CanBeAsked, asked_by, asked_for, asked_in, asked_or, change_in}
 use Rattle.tus_steps.specs.Changing.{IsFound, IsStepOf, change_reply}
 use Rattle.tus_steps.specs.declared.asked.Asked.{Asked}
 use Rattle.tus_steps.specs.declared.asked.Asked.TheVariants as asked
@@ -51,12 +51,18 @@ found-refused s r why other asks = record {
 }
 
 -- and one for an operation
-pub found-asked : (s : Settings) (r : Request) (op : Operation) → is_options r.method ≡ false → operation_of s r ≡ Ok op → IfSome (change_in (asked_for op)) (λ (a : ChangeOf). CanBeMade (length s.tenants) a.change) → IsFound s r (asked_for op)
-found-asked s r op other asks ready = record {
+found-for : (s : Settings) (r : Request) (op : Operation) → is_options r.method ≡ false → operation_of s r ≡ Ok op → CanBeAsked (length s.tenants) (asked_for op) → IsFound s r (asked_for op)
+found-for s r op other asks ready = record {
   is = rw (other, asks) refl;
   ready = ready;
   step = λ b now lawful same. change-step b r now lawful other op (ap (λ (s : Settings). operation_of s r) same ∙ asks);
 }
+
+pub found-asked : (s : Settings) (r : Request) (found : Result Operation Refusal) (asks : Asked) → is_options r.method ≡ false → operation_of s r ≡ found → asked_or found ≡ Ok asks → CanBeAsked (length s.tenants) asks → IsFound s r asks
+found-asked s r (Ok op) asks other of is ready =
+    let same : asked_for op ≡ asks = cc in
+    subst (IsFound s r) same (found-for s r op other of (subst (CanBeAsked (length s.tenants)) (sym same) ready))
+found-asked s r (Err why) asks other of is ready = absurd cc
 
 -- what is no change has none
 pub asks-none : (asks : Asked) → ((change : ChangeOf) → asks ≡ asked.Change change → ⊥) → change_in asks ≡ None

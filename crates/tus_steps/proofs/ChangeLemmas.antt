@@ -12,8 +12,8 @@ use Rattle.upload_book.specs.declared.change.Outcome.{Outcome}
 use Rattle.upload_book.specs.declared.change.Outcome.TheVariants as outcome
 use Rattle.upload_book.specs.declared.create.Created.{Created}
 use Rattle.upload_book.specs.declared.head_row.Name.{Name}
-use Rattle.upload_book.specs.declared.operation.Operation.{Operation}
-use Rattle.upload_book.specs.declared.operation.Operation.TheVariants as operation
+use Rattle.upload_book.specs.Operation.{Operation}
+use Rattle.upload_book.specs.Operation as operation
 use Rattle.upload_book.specs.declared.refusal.Refusal.{Refusal}
 use Rattle.upload_book.specs.declared.terminate.Removed.{Removed}
 use Rattle.upload_book.specs.FirstChunk.{FirstChunk, no_chunk}

@@ -8,5 +8,6 @@ pub mod NextLemmas
 pub mod HistoryLemmas
 pub mod LawsLemmas
 pub mod ChangeLemmas
+pub mod CreationPiecesLemmas
 pub mod AskedLemmas
 pub mod PiecesLemmas

@@ -8,8 +8,8 @@ use Rattle.upload_book.specs.Concat.{concat_answer, concat_refusal, part_after_c
 use Rattle.upload_book.specs.Create.{create_answer, creation_refusal, part_after_create}
 use Rattle.upload_book.specs.declared.append.Refused.{Refused}
 use Rattle.upload_book.specs.declared.head_row.HeadRow.{HeadRow}
-use Rattle.upload_book.specs.declared.operation.Operation.{Operation}
-use Rattle.upload_book.specs.declared.operation.Operation.TheVariants as operation
+use Rattle.upload_book.specs.Operation.{Operation}
+use Rattle.upload_book.specs.Operation as operation
 use Rattle.upload_book.specs.declared.refusal.Refusal.{Refusal}
 use Rattle.upload_book.specs.declared.settings.Numbers.{Numbers}
 use Rattle.upload_book.specs.Content.{content_answer}

@@ -6,14 +6,13 @@ use Rattle.tus_text.specs.Concat.{concat_of}
 use Rattle.tus_text.specs.declared.concat.Concat.{Concat}
 use Rattle.tus_text.specs.declared.concat.Concat.TheVariants.{Partial, Final}
 use Rattle.tus_text.specs.declared.checksum.Checksum.{Checksum}
-use Rattle.upload_book.specs.declared.operation.Operation.{Operation}
-use Rattle.upload_book.specs.declared.operation.Operation.TheVariants as operation
+use Rattle.upload_book.specs.Operation.{Operation}
+use Rattle.upload_book.specs.Operation as operation
 use Rattle.upload_book.specs.declared.refusal.Refusal.TheVariants as refusal
 use Rattle.upload_book.specs.NewUpload.{NewUpload}
 use Rattle.upload_book.specs.Refusal.{first_that_holds}
 use Rattle.tus_steps.specs.Creation.{concat_creation, creation_by, creation_of, first_chunk, is_with_upload, new_final_in, new_upload_in}
-use Rattle.tus_steps.specs.declared.route.Route.{Route}
-use Rattle.tus_steps.specs.declared.route.Route.TheVariants.{Create, Look, Content, Append, Terminate}
+use Rattle.tus_steps.specs.Route.{Route, Create, Look, Content, Append, Terminate}
 use Rattle.tus_steps.specs.Field.{FieldText, absent, one, many, optional_checksum_in}
 use Rattle.tus_steps.specs.Operation.{chunk_in, found_or, operation_on}
 use Rattle.tus_steps.specs.Request.{Request}

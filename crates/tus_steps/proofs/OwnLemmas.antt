@@ -13,8 +13,8 @@ use Rattle.upload_book.specs.Concat.{concat_answer, concat_refusal, part_after_c
 use Rattle.upload_book.specs.Content.{content_answer}
 use Rattle.upload_book.specs.Create.{create_answer, create_empty_answer, created_upload, creation_refusal, creation_tests, part_after_create, part_after_create_empty}
 use Rattle.upload_book.specs.declared.create.Created.{Created}
-use Rattle.upload_book.specs.declared.operation.Operation.{Operation}
-use Rattle.upload_book.specs.declared.operation.Operation.TheVariants as operation
+use Rattle.upload_book.specs.Operation.{Operation}
+use Rattle.upload_book.specs.Operation as operation
 use Rattle.upload_book.specs.declared.refusal.Refusal.{Refusal}
 use Rattle.upload_book.specs.declared.refusal.Refusal.TheVariants as refusal
 use Rattle.upload_book.specs.declared.settings.Numbers.{Numbers}

@@ -12,11 +12,11 @@ use Rattle.upload_book.specs.Chunk.{Chunk}
 use Rattle.upload_book.specs.declared.append.Appended.{Appended}
 use Rattle.upload_book.specs.declared.append.Refused.{Refused}
 use Rattle.upload_book.specs.declared.head_row.Name.{Name}
-use Rattle.upload_book.specs.declared.operation.Operation.{Operation}
-use Rattle.upload_book.specs.declared.operation.Operation.TheVariants as operation
-use Rattle.upload_book.specs.Laws.{later_part}
+use Rattle.upload_book.specs.Operation.{Operation}
+use Rattle.upload_book.specs.Operation as operation
+use Rattle.upload_book.specs.laws.Steps.{later_part}
 use Rattle.upload_book.specs.Lawful.{IsLawful}
-use Rattle.upload_book.specs.Pieces.{first_piece}
+use Rattle.upload_book.specs.laws.PiecedPatch.{first_piece}
 use Rattle.upload_book.specs.PlainBook.{PlainBook, answer_of, book_after}
 use Rattle.upload_book.specs.declared.refusal.Refusal.{Refusal}
 use Rattle.upload_book.specs.declared.settings.TenantQuota.{TenantQuota}
@@ -27,16 +27,14 @@ use Rattle.tus_steps.specs.declared.method.Method.{Method}
 use Rattle.tus_steps.specs.declared.method.Method.TheVariants as method
 use Rattle.tus_steps.specs.declared.reply.Reply.{Reply}
 use Rattle.tus_steps.specs.declared.reply.Reply.TheVariants as reply
-use Rattle.tus_steps.specs.declared.route.Route.{Route}
-use Rattle.tus_steps.specs.declared.route.Route.TheVariants.{Append}
+use Rattle.tus_steps.specs.Route.{Route, Append, route, tenant_name}
 use Rattle.tus_steps.specs.Field.{absent, number_in, optional_number_in}
-use Rattle.tus_steps.specs.InPieces.{IsPlainPatch, PieceAt, PiecesAreTheRequest, Takes, count_pieces, first_of, is_patched, is_taken, rest_of}
+use Rattle.tus_steps.specs.InPieces.{HaveBytes, IsPlainPatch, PieceAt, Takes, count_pieces, first_of, is_patched, is_taken, rest_of}
 use Rattle.tus_steps.specs.Isolation.{HasEachPart}
 use Rattle.tus_steps.specs.Method.{is_options, is_patch}
 use Rattle.tus_steps.specs.Operation.{chunk_at, chunk_in, has_version, operation_of, operation_on}
 use Rattle.tus_steps.specs.Reply.{append_reply}
 use Rattle.tus_steps.specs.Request.{Request}
-use Rattle.tus_steps.specs.Route.{route, tenant_name}
 use Rattle.tus_steps.specs.Step.{IsOperationStep, IsStep, IsStepBy}
 use Rattle.tus_steps.proofs.AskLemmas.{asks}
 use Rattle.tus_steps.proofs.PlaceLemmas.{place-within}
@@ -45,7 +43,7 @@ use Rattle.tus_steps.proofs.StepLemmas.{step-by}
 -- ---- what a PATCH asks for
 
 -- a request with other bytes of its body
-abbrev with_body : Request → List ℕ → ℕ → ℕ → Request
+abbrev pub with_body : Request → List ℕ → ℕ → ℕ → Request
 with_body r body given more = record r { body = body; given = given; more = more }
 
 -- a PATCH that reaches the book, by its head: it is one of this upload with any bytes of its body
@@ -78,11 +76,11 @@ route-patch p method.Delete on patch is = absurd cc
 route-patch p method.Options on patch is = absurd cc
 route-patch p method.Other on patch is = absurd cc
 
-map-Some : {A B : Type 0} (f : A → B) (found : Option A) (y : B) → option_map f found ≡ Some y → (x : A) × (found ≡ Some x)
+pub map-Some : {A B : Type 0} (f : A → B) (found : Option A) (y : B) → option_map f found ≡ Some y → (x : A) × (found ≡ Some x)
 map-Some f None y is = absurd cc
 map-Some f (Some x) y is = (x, refl)
 
-and_then-Some : {A B : Type 0} (f : A → Option B) (found : Option A) (y : B) → option_and_then f found ≡ Some y → (x : A) × (found ≡ Some x) × (f x ≡ Some y)
+pub and_then-Some : {A B : Type 0} (f : A → Option B) (found : Option A) (y : B) → option_and_then f found ≡ Some y → (x : A) × (found ≡ Some x) × (f x ≡ Some y)
 and_then-Some f None y is = absurd cc
 and_then-Some f (Some x) y is = (x, refl, is)
 
@@ -162,10 +160,10 @@ reaches b r now reply after plain step is =
 -- ---- its first piece, and what is left
 
 -- what is left of a PATCH whose piece was taken
-abbrev patch_rest : Request → ℕ → Request
+abbrev pub patch_rest : Request → ℕ → Request
 patch_rest r k = record r { body = drop k r.body; given = r.given + k }
 
-rest-patch : (r : Request) (k : ℕ) (reply : Reply) → is_patched reply ≡ true → rest_of r k reply ≡ patch_rest r k
+pub rest-patch : (r : Request) (k : ℕ) (reply : Reply) → is_patched reply ≡ true → rest_of r k reply ≡ patch_rest r k
 rest-patch r k (reply.Options max_size) is = absurd cc
 rest-patch r k (reply.Created tenant id offset expires) is = absurd cc
 rest-patch r k (reply.Head row) is = absurd cc
@@ -175,7 +173,7 @@ rest-patch r k reply.Deleted is = absurd cc
 rest-patch r k (reply.Refused why head at expires) is = absurd cc
 
 -- its reply tells whether the bytes were taken
-taken-patch : (r : Request) (reply : Reply) → IsPlainPatch r → is_taken r reply ≡ is_patched reply
+pub taken-patch : (r : Request) (reply : Reply) → IsPlainPatch r → is_taken r reply ≡ is_patched reply
 taken-patch r reply plain = rw plain.method refl
 
 -- a chunk by what a piece changes
@@ -261,24 +259,25 @@ goes b r k early now reply after lawful plain le earlier step is = record {
 -- ---- all pieces
 
 -- what is left of a PATCH is one
-plain-rest : (r : Request) (k : ℕ) → IsPlainPatch r → IsPlainPatch (patch_rest r k)
+pub plain-rest : (r : Request) (k : ℕ) → IsPlainPatch r → IsPlainPatch (patch_rest r k)
 plain-rest r k plain = record { method = plain.method; unchecked = plain.unchecked }
 
-taken : (b : PlainBook) (r : Request) (pieces : List PieceAt) (now : ℕ) (reply : Reply) (after : PlainBook) → IsLawful b → IsPlainPatch r
-    → count_pieces pieces ≤ length r.body → All (λ (q : PieceAt). q.now ≤ now) pieces
+pub taken : (b : PlainBook) (r : Request) (pieces : List PieceAt) (now : ℕ) (reply : Reply) (after : PlainBook) → IsLawful b → IsPlainPatch r
+    → HaveBytes pieces → count_pieces pieces ≤ length r.body → All (λ (q : PieceAt). q.now ≤ now) pieces
     → IsStep b r now reply after → is_patched reply ≡ true
     → (between : PlainBook) × (left : Request) × Takes IsStep b r pieces between left × IsStep between left now reply after
-taken b r [] now reply after lawful plain few moments step is = (b, r, (refl, refl), step)
-taken b r (q ∷ pieces) now reply after lawful plain few moments step is =
+taken b r [] now reply after lawful plain some few moments step is = (b, r, (refl, refl), step)
+taken b r (q ∷ pieces) now reply after lawful plain some few moments step is =
     let le : q.len ≤ length r.body = omega (arith, few) in
     let g = goes b r q.len q.now now reply after lawful plain le (All-head (λ (q : PieceAt). q.now ≤ now) q pieces moments) step is in
     let count : count_pieces pieces ≤ length (drop q.len r.body) = omega (arith, few, length-drop q.len r.body) in
-    let others = taken g.middle (patch_rest r q.len) pieces now reply after g.lawful (plain-rest r q.len plain) count (All-tail (λ (q : PieceAt). q.now ≤ now) q pieces moments) g.rest is in (
+    let others = taken g.middle (patch_rest r q.len) pieces now reply after g.lawful (plain-rest r q.len plain) (All-tail (λ (q : PieceAt). 0 < q.len) q pieces some) count (All-tail (λ (q : PieceAt). q.now ≤ now) q pieces moments) g.rest is in (
       others.0,
       others.1,
       (
         g.middle,
         g.first,
+        All-head (λ (q : PieceAt). 0 < q.len) q pieces some,
         le,
         g.step,
         taken-patch r g.first plain ∙ g.taken,
@@ -287,7 +286,7 @@ taken b r (q ∷ pieces) now reply after lawful plain few moments step is =
       others.3,
     )
 
-same : (b : PlainBook) (r : Request) (pieces : List PieceAt) (now : ℕ) (reply : Reply) (after : PlainBook) → IsLawful b → IsPlainPatch r
+pub same : (b : PlainBook) (r : Request) (pieces : List PieceAt) (now : ℕ) (reply : Reply) (after : PlainBook) → IsLawful b → IsPlainPatch r
     → All (λ (q : PieceAt). q.now ≤ now) pieces
     → IsStep b r now reply after → is_patched reply ≡ true
     → (between : PlainBook) (left : Request) (last : Reply) (end : PlainBook) → Takes IsStep b r pieces between left → IsStep between left now last end
@@ -297,12 +296,9 @@ same b r [] now reply after lawful plain moments step is between left last end t
     let whole = accepted b r patch r.body r.given r.more now reply after step is in
     let again = accepted b r patch r.body r.given r.more now last end (subst (λ book. IsStep book r now last end) takes.0 (subst (λ request. IsStep between request now last end) takes.1 ends)) also in
     (again.told ∙ sym whole.told, again.leaves ∙ sym whole.leaves)
-same b r (q ∷ pieces) now reply after lawful plain moments step is between left last end (c, other, le, at, other_taken, takes) ends also =
+same b r (q ∷ pieces) now reply after lawful plain moments step is between left last end (c, other, some, le, at, other_taken, takes) ends also =
     let g = goes b r q.len q.now now reply after lawful plain le (All-head (λ (q : PieceAt). q.now ≤ now) q pieces moments) step is in
     let is_patch = sym (taken-patch r other plain) ∙ other_taken in
     same g.middle (patch_rest r q.len) pieces now reply after g.lawful (plain-rest r q.len plain) (All-tail (λ (q : PieceAt). q.now ≤ now) q pieces moments) g.rest is between left last end
     (subst (λ book. Takes IsStep book (patch_rest r q.len) pieces between left) (g.only c other at is_patch)
     (subst (λ rest. Takes IsStep c rest pieces between left) (rest-patch r q.len other is_patch) takes)) ends also
-
-pub pieces_are_the_request : PiecesAreTheRequest
-pieces_are_the_request = record { taken = taken; same = same }

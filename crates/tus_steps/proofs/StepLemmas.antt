@@ -2,7 +2,7 @@
 use Rattle.std.proofs.Common.{◌≡◌, ℕ, false, Option, Some, None, Ok, Err, IfOk, IfSome, refl, subst}
 use Rattle.std.specs.Prelude.{ok_or}
 use Rattle.upload_book.specs.Concat.{concat_answer, concat_refusal, part_after_concat}
-use Rattle.upload_book.specs.declared.operation.Operation.{Operation}
+use Rattle.upload_book.specs.Operation.{Operation}
 use Rattle.upload_book.specs.declared.refusal.Refusal.{Refusal}
 use Rattle.upload_book.specs.declared.settings.Numbers.{Numbers}
 use Rattle.upload_book.specs.NewFinal.{NewFinal}

@@ -1,14 +1,14 @@
 -- A request that changes the book, where that is done in two halves (tus 1.0.0, Core Protocol, Creation, Concatenation
 -- and Termination).
-use Rattle.std.specs.Prelude.{◌≡◌, ℕ, length, Option, Some, None, IfSome, Result, Ok, Err}
-use Rattle.upload_book.specs.Change.{CanBeMade, MayLackFor, book_after_change, change_answer, change_lacking}
+use Rattle.std.specs.Prelude.{◌≡◌, ℕ, length, Option, Some, None, Result, Ok, Err}
+use Rattle.upload_book.specs.Change.{MayLackFor, book_after_change, change_answer, change_lacking}
 use Rattle.upload_book.specs.declared.append.Refused.{Refused}
 use Rattle.upload_book.specs.declared.change.Outcome.{Outcome}
 use Rattle.upload_book.specs.declared.change.Outcome.TheVariants.{Appended, Created, Removed, Restored, Swept}
 use Rattle.upload_book.specs.Lawful.{IsLawful}
 use Rattle.upload_book.specs.PlainBook.{PlainBook}
 use Rattle.upload_book.specs.Settings.{Settings}
-use Rattle.tus_steps.specs.Asked.{asked_in, change_in}
+use Rattle.tus_steps.specs.Asked.{CanBeAsked, asked_in, change_in}
 use Rattle.tus_steps.specs.declared.asked.Asked.{Asked}
 use Rattle.tus_steps.specs.declared.requested_change.ChangeOf.{ChangeOf}
 use Rattle.tus_steps.specs.declared.reply.Reply.{Reply}
@@ -46,5 +46,5 @@ IsChangeStep b r now None = (reply : Reply) (after : PlainBook) → IsStep b r n
 -- each lawful one it is the request's step at every moment; a request that asks for none leaves the book.
 pub record IsFound (s : Settings) (r : Request) (asked : Asked) : Type 0 where
   pub is : asked ≡ asked_in s r
-  pub ready : IfSome (change_in asked) (λ found. CanBeMade (length s.tenants) found.change)
+  pub ready : CanBeAsked (length s.tenants) asked
   pub step : (b : PlainBook) (now : ℕ) → IsLawful b → b.settings ≡ s → IsChangeStep b r now (change_in asked)

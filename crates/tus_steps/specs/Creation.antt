@@ -7,8 +7,8 @@ use Rattle.tus_text.specs.declared.checksum.Checksum.{Checksum}
 use Rattle.tus_text.specs.declared.concat.Concat.{Concat}
 use Rattle.tus_text.specs.declared.concat.Concat.TheVariants.{Partial, Final}
 use Rattle.tus_text.specs.declared.concat.PartPath.{PartPath}
-use Rattle.upload_book.specs.declared.operation.Operation.{Operation}
-use Rattle.upload_book.specs.declared.operation.Operation.TheVariants as operation
+use Rattle.upload_book.specs.Operation.{Operation}
+use Rattle.upload_book.specs.Operation as operation
 use Rattle.upload_book.specs.FirstChunk.{FirstChunk}
 use Rattle.upload_book.specs.NewFinal.{NewFinal}
 use Rattle.upload_book.specs.NewUpload.{NewUpload}

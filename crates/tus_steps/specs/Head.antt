@@ -1,6 +1,6 @@
 -- A HEAD among the requests: it is answered by what is told of its upload alone (tus 1.0.0, Core Protocol, HEAD).
 use Rattle.std.specs.Prelude.{◌≡◌, ℕ, true, false, None, Ok, Err, ⊤}
-use Rattle.upload_book.specs.declared.operation.Operation.TheVariants as operation
+use Rattle.upload_book.specs.Operation as operation
 use Rattle.upload_book.specs.declared.refusal.Refusal.{Refusal}
 use Rattle.upload_book.specs.Look.{look_answer}
 use Rattle.upload_book.specs.PlainBook.{PlainBook, answer_of}

@@ -1,7 +1,8 @@
 -- A request that is answered piece by piece, as the bytes of its body come.
-use Rattle.std.specs.Prelude.{◌≡◌, ◌≤◌, ◌+◌, ◌-◌, ◌&&◌, ℕ, Bool, true, false, not, List, [], ◌∷◌, length, take, drop, All, codes, Option, Some, None, is_some, if◌then◌else◌}
+use Rattle.std.specs.Prelude.{◌≡◌, ◌<◌, ◌≤◌, ◌+◌, ◌-◌, ◌&&◌, ℕ, Bool, true, false, not, List, [], ◌∷◌, length, take, drop, All, codes, Option, Some, None, is_some, if◌then◌else◌}
 use Rattle.tus_text.specs.declared.path.Path.{Path}
 use Rattle.tus_text.specs.declared.path.Path.TheVariants as path
+use Rattle.upload_book.specs.Expiry.{lifetime_end}
 use Rattle.upload_book.specs.Lawful.{IsLawful}
 use Rattle.upload_book.specs.PlainBook.{PlainBook}
 use Rattle.tus_steps.specs.declared.reply.Reply.{Reply}
@@ -10,7 +11,7 @@ use Rattle.tus_steps.specs.declared.method.Method.{Method}
 use Rattle.tus_steps.specs.declared.method.Method.TheVariants.{Patch}
 use Rattle.tus_steps.specs.declared.tus_fields.TusFields.{TusFields}
 use Rattle.tus_steps.specs.Field.{FieldText, absent, one}
-use Rattle.tus_steps.specs.Method.{is_patch, is_taken_in_pieces}
+use Rattle.tus_steps.specs.Method.{is_patch, is_post, is_taken_in_pieces}
 use Rattle.tus_steps.specs.Request.{Request}
 use Rattle.tus_steps.specs.Step.{IsStep}
 
@@ -86,6 +87,10 @@ pub record PieceAt : Type 0 where
   pub len : ℕ
   pub now : ℕ
 
+-- each piece has some bytes
+abbrev pub HaveBytes : List PieceAt → Type 0
+HaveBytes pieces = All (λ (q : PieceAt). 0 < q.len) pieces
+
 -- how many bytes pieces have in all
 abbrev pub count_pieces : List PieceAt → ℕ
 count_pieces [] = 0
@@ -96,7 +101,7 @@ module _ {A : Type 0} (steps : A → Request → ℕ → Reply → A → Type 0)
   abbrev pub Takes : A → Request → List PieceAt → A → Request → Type 0
   Takes a r [] b left = (b ≡ a) × (left ≡ r)
   Takes a r (q ∷ pieces) b left =
-      (c : A) × (reply : Reply) × (q.len ≤ length r.body) × steps a (first_of r q.len) q.now reply c × (is_taken r reply ≡ true)
+      (c : A) × (reply : Reply) × (0 < q.len) × (q.len ≤ length r.body) × steps a (first_of r q.len) q.now reply c × (is_taken r reply ≡ true)
       × Takes c (rest_of r q.len reply) pieces b left
 
   -- The request is answered at a moment: as one; or its first bytes were taken in pieces before, and what was left then got
@@ -119,13 +124,20 @@ pub record IsPlainPatch (r : Request) : Type 0 where
   pub method : is_patch r.method ≡ true
   pub unchecked : r.fields.checksum ≡ absent
 
--- A PATCH that is accepted as one at a moment. However it is cut, with pieces at no later moment and nothing between: each of
--- them is accepted, and the rest gets the reply to the whole, and leaves the book that the whole leaves. If the rest is
--- accepted it gets no other reply.
+-- a POST without a checksum, none of whose bytes were given before
+pub record IsPlainCreation (r : Request) : Type 0 where
+  pub method : is_post r.method ≡ true
+  pub unchecked : r.fields.checksum ≡ absent
+  pub whole : r.given ≡ 0
+
+-- A PATCH that is accepted as one at a moment. However it is cut, with pieces of some bytes each at no later moment and nothing
+-- between: each of them is accepted, and the rest gets the reply to the whole, and leaves the book that the whole leaves. If the
+-- rest is accepted it gets no other reply. So it is with a creation, while the upload lasts that its first piece created: behind
+-- it the others are PATCHes of the upload, and by the last reply all of it gets the reply to the whole.
 pub record PiecesAreTheRequest : Type 0 where
   pub taken :
       (b : PlainBook) (r : Request) (pieces : List PieceAt) (now : ℕ) (reply : Reply) (after : PlainBook) → IsLawful b → IsPlainPatch r
-      → count_pieces pieces ≤ length r.body → All (λ (q : PieceAt). q.now ≤ now) pieces
+      → HaveBytes pieces → count_pieces pieces ≤ length r.body → All (λ (q : PieceAt). q.now ≤ now) pieces
       → IsStep b r now reply after → is_patched reply ≡ true
       → (between : PlainBook) × (left : Request) × Takes IsStep b r pieces between left × IsStep between left now reply after
   pub same :
@@ -134,3 +146,9 @@ pub record PiecesAreTheRequest : Type 0 where
       → IsStep b r now reply after → is_patched reply ≡ true
       → (between : PlainBook) (left : Request) (last : Reply) (end : PlainBook) → Takes IsStep b r pieces between left → IsStep between left now last end
       → is_patched last ≡ true → (last ≡ reply) × (end ≡ after)
+  pub created :
+      (b : PlainBook) (r : Request) (q : PieceAt) (pieces : List PieceAt) (now : ℕ) (reply : Reply) (after : PlainBook) → IsLawful b → IsPlainCreation r
+      → HaveBytes (q ∷ pieces) → count_pieces (q ∷ pieces) ≤ length r.body → All (λ (p : PieceAt). p.now ≤ now) (q ∷ pieces) → now < lifetime_end b.settings.numbers q.now
+      → IsStep b r now reply after → is_some (created_in reply) ≡ true
+      → (between : PlainBook) × (left : Request) × (last : Reply) × Takes IsStep b r (q ∷ pieces) between left × IsStep between left now last after
+      × (reply_to_all r left last ≡ reply)

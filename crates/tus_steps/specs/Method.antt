@@ -26,7 +26,7 @@ is_post _ = false
 
 -- a request whose body was cut off is applied with the bytes that came, if it is a PATCH (tus 1.0.0, Core
 -- Protocol, PATCH: as much of the data as possible is to be stored) without a checksum, which would be that of
--- all its bytes; any other changes nothing
+-- all its bytes; any other changes nothing, but for what came of it in pieces
 abbrev pub is_applied_when_cut : Method → FieldText → Bool
 is_applied_when_cut method checksum = is_patch method && is_absent checksum
 

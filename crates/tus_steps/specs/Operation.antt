@@ -1,23 +1,18 @@
 -- What a request asks of the book, or why it is refused before the book is asked (tus 1.0.0, Core Protocol).
-use Rattle.std.specs.Prelude.{ℕ, ◌+◌, ◌-◌, ◌^◌, min, Bool, ◌||◌, length, Option, Some, None, option_map, option_and_then, Result, Err, ok_or, codes, IsTrue, ◌<◌, ◌≤◌, ⊤, if◌then◌else◌}
+use Rattle.std.specs.Prelude.{ℕ, ◌+◌, ◌-◌, ◌^◌, min, Bool, ◌||◌, Option, Some, None, option_map, option_and_then, Result, Err, ok_or, codes, if◌then◌else◌}
 use Rattle.tus_text.specs.declared.checksum.Checksum.{Checksum}
 use Rattle.upload_book.specs.Chunk.{Chunk}
-use Rattle.upload_book.specs.declared.operation.Operation.{Operation}
-use Rattle.upload_book.specs.declared.operation.Operation.TheVariants as operation
-use Rattle.upload_book.specs.declared.head_row.Kind.TheVariants.{Final}
+use Rattle.upload_book.specs.Operation.{Operation}
+use Rattle.upload_book.specs.Operation as operation
 use Rattle.upload_book.specs.declared.refusal.Refusal.{Refusal}
 use Rattle.upload_book.specs.declared.refusal.Refusal.TheVariants as refusal
-use Rattle.upload_book.specs.Create.{new_kind}
-use Rattle.upload_book.specs.Lawful.{IsConcatText, is_kept_metadata}
 use Rattle.upload_book.specs.Settings.{Settings, tenant_place}
-use Rattle.tus_steps.specs.declared.route.Route.{Route}
-use Rattle.tus_steps.specs.declared.route.Route.TheVariants.{Create, Look, Content, Append, Terminate}
+use Rattle.tus_steps.specs.Route.{Route, Create, Look, Content, Append, Terminate, route, tenant_name}
 use Rattle.tus_steps.specs.Creation.{creation_in}
 use Rattle.tus_steps.specs.Field.{is_just, number_in, optional_checksum_in, optional_number_in}
 use Rattle.tus_steps.specs.Media.{has_patch_type}
 use Rattle.tus_steps.specs.Method.{is_get}
 use Rattle.tus_steps.specs.Request.{Request}
-use Rattle.tus_steps.specs.Route.{route, tenant_name}
 
 -- the request names the version 1.0.0 of the protocol, or is a GET, which is none of the protocol
 abbrev pub has_version : Request → Bool
@@ -53,24 +48,17 @@ abbrev pub found_or : {A B : Type 0} → Refusal → Option A → (A → Result 
 found_or why None next = Err why
 found_or why (Some x) next = next x
 
+-- the operation that the method is at the path, of the tenant at a place; or which of the two allows none: the method, or fields
+abbrev pub operation_at : Request → ℕ → Result Operation Refusal
+operation_at r tenant =
+    found_or refusal.Method (route r.path r.method) (λ on.
+    ok_or (operation_on r tenant on) refusal.Field)
+
 -- The operation that a request other than OPTIONS asks for, or the first reason why it asks for none: its
 -- version, its path, its tenant, its method, its fields.
 abbrev pub operation_of : Settings → Request → Result Operation Refusal
 operation_of s r =
     if has_version r
     then found_or refusal.Path (tenant_name r.path) (λ name.
-    found_or refusal.Tenant (tenant_place s name) (λ tenant.
-    found_or refusal.Method (route r.path r.method) (λ on.
-    ok_or (operation_on r tenant on) refusal.Field)))
+    found_or refusal.Tenant (tenant_place s name) (operation_at r))
     else Err refusal.Version
-
--- the book may be asked for it: a creation is of one of its tenants, with texts of their forms, and a concatenation
--- of 1 to 32 parts
-abbrev pub CanBeAsked : ℕ → Operation → Type 0
-CanBeAsked tenants (operation.Create tenant new) =
-    (tenant < tenants) × IsTrue (is_kept_metadata new.metadata) × IsConcatText (new_kind new.partial) new.concat
-CanBeAsked tenants (operation.CreateWith tenant new first) =
-    (tenant < tenants) × IsTrue (is_kept_metadata new.metadata) × IsConcatText (new_kind new.partial) new.concat
-CanBeAsked tenants (operation.Concat tenant new) =
-    (tenant < tenants) × (0 < length new.parts) × (length new.parts ≤ 32) × IsTrue (is_kept_metadata new.metadata) × IsConcatText Final new.concat
-CanBeAsked tenants _ = ⊤

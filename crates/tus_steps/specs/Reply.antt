@@ -8,8 +8,8 @@ use Rattle.upload_book.specs.declared.create.Created.{Created}
 use Rattle.upload_book.specs.declared.head_row.HeadRow.{HeadRow}
 use Rattle.upload_book.specs.declared.refusal.Refusal.{Refusal}
 use Rattle.upload_book.specs.declared.terminate.Removed.{Removed}
-use Rattle.tus_steps.specs.declared.reply.Place.{Place}
-use Rattle.tus_steps.specs.declared.reply.Place.TheVariants as place
+use Rattle.tus_steps.specs.declared.reply.PathKind.{PathKind}
+use Rattle.tus_steps.specs.declared.reply.PathKind.TheVariants as place
 use Rattle.tus_steps.specs.declared.reply.Reply.{Reply}
 use Rattle.tus_steps.specs.declared.reply.Reply.TheVariants as reply
 use Rattle.tus_steps.specs.Method.{is_head}
@@ -17,7 +17,7 @@ use Rattle.tus_steps.specs.Request.{Request}
 use Rattle.tus_steps.specs.Route.{tenant_name}
 
 -- what a path names, as far as a reply tells it
-abbrev pub place_of : Path → Place
+abbrev pub place_of : Path → PathKind
 place_of (path.Create tenant) = place.Create
 place_of (path.Upload tenant id) = place.Upload
 place_of path.Other = place.Other

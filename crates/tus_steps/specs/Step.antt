@@ -1,8 +1,7 @@
 -- The step of a request on the plain book: its reply, and the book after it.
 use Rattle.std.specs.Prelude.{◌≡◌, ◌⊎◌, ℕ, length, Some, None, Result, Ok, Err, MatchBool}
 use Rattle.upload_book.specs.declared.head_row.Name.{Name}
-use Rattle.upload_book.specs.declared.operation.Operation.{Operation}
-use Rattle.upload_book.specs.declared.operation.Operation.TheVariants.{Create, CreateWith, Concat, Look, Content, Append, Terminate}
+use Rattle.upload_book.specs.Operation.{Operation, Create, CreateWith, Concat, Look, Content, Append, Terminate, book_after_operation, MayLackMemory}
 use Rattle.upload_book.specs.declared.refusal.Refusal.{Refusal}
 use Rattle.upload_book.specs.declared.refusal.Refusal.TheVariants as refusal
 use Rattle.upload_book.specs.Append.{append_answer, append_lacking}
@@ -10,7 +9,6 @@ use Rattle.upload_book.specs.Concat.{concat_answer}
 use Rattle.upload_book.specs.Content.{LacksRoom, content_answer}
 use Rattle.upload_book.specs.Create.{create_answer, create_empty_answer}
 use Rattle.upload_book.specs.Look.{look_answer}
-use Rattle.upload_book.specs.Operation.{book_after_operation, MayLackMemory}
 use Rattle.upload_book.specs.PlainBook.{PlainBook, answer_of}
 use Rattle.upload_book.specs.Refusal.{IsAnswer}
 use Rattle.upload_book.specs.Terminate.{terminate_answer}

@@ -1,19 +1,17 @@
-ghost use Rattle.std.specs.Prelude.{◌≡◌, ℕ, None, IfSome, vec_capacity};
-ghost use Rattle.tus_steps.specs.Asked.{asked_for as asked_for_operation, asked_in, change_in};
+ghost use Rattle.std.specs.Prelude.{◌≡◌, None, vec_capacity};
+ghost use Rattle.tus_steps.specs.Asked.{asked_in, change_in};
 ghost use Rattle.tus_steps.specs.Changing.{IsFound};
 ghost use Rattle.tus_steps.specs.declared.asked.Asked.TheVariants as asks;
-ghost use Rattle.tus_steps.specs.Operation.{CanBeAsked};
 ghost use Rattle.tus_steps.specs.PlacedReply.{reply_in};
 ghost use Rattle.tus_steps.specs.Step.{IsContentReply, IsStep};
 ghost use Rattle.upload_book.specs.Book.{plain_of};
-ghost use Rattle.upload_book.specs.Change.{CanBeMade};
 ghost use Rattle.upload_book.specs.declared.head_row.Name.{Name};
 
 use crate::creation::PartIds;
 use crate::placed_reply::{PlacedReply, ReplyKind};
 use crate::request::Request;
 use crate::requested_change::ChangeOf;
-use upload_book::{Book, Change, FirstChunk, Moment, Name, Operation, Refusal, Settings};
+use upload_book::{Book, Change, Moment, Name, Refusal, Settings};
 
 /// What a request asks for, as it is found before any book is at hand.
 #[derive(Drop)]
@@ -28,6 +26,18 @@ pub enum Asked<'a> {
     Content(Name),
     /// To change the book.
     Change(ChangeOf<'a>),
+}
+
+impl<'a> Asked<'a> {
+    // To make a change whose reply tells no offset beside the change's own.
+    pub(crate) fn change(change: Change<'a>) -> Asked<'a>
+        ensures { result ≡ asks.Change (record { change = change.entry; offset = None }) }
+    {
+        Asked::Change(ChangeOf {
+            change,
+            offset: None,
+        })
+    }
 }
 
 /// Finds what a request asks for, by its own fields and the settings alone; a concatenation borrows from `ids`. So a
@@ -49,34 +59,10 @@ where
     if request.method.is_options() {
         return Asked::Options;
     }
-    match request.operation(settings, ids) {
-        Ok(operation) => asked_for(operation),
+    match request.asked(settings, ids) {
+        Ok(asked) => asked,
         Err(refusal) => Asked::Refused(refusal),
     }
-}
-
-// What an operation is.
-fn asked_for<'a>(operation: Operation<'a>) -> Asked<'a>
-    ensures value { result ≡ asked_for_operation operation.entry }
-    ensures ready { (tenants : ℕ) → CanBeAsked tenants operation.entry
-        → IfSome (change_in result) (λ asked. CanBeMade tenants asked.change) }
-{
-    let (change, offset) = match operation {
-        Operation::Look(name) => return Asked::Look(name),
-        Operation::Content(name) => return Asked::Content(name),
-        Operation::Create { tenant, new } => {
-            let first = FirstChunk::none();
-            (Change::Create { tenant, new, first }, None)
-        }
-        Operation::CreateWith { tenant, new, first } => {
-            let offset = first.bytes.len() as u64;
-            (Change::Create { tenant, new, first }, Some(offset))
-        }
-        Operation::Concat { tenant, new } => (Change::Concat { tenant, new }, None),
-        Operation::Append { name, chunk } => (Change::Append { name, chunk }, None),
-        Operation::Terminate(name) => (Change::Terminate(name), None),
-    };
-    Asked::Change(ChangeOf { change, offset })
 }
 
 /// Answers a request that asks for no change, by what [`asked_of`] found of it under the book's settings: the reply is

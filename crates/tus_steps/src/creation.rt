@@ -1,15 +1,17 @@
-ghost use Rattle.std.specs.Prelude.{◌≡◌, ℕ, ◌<◌, ◌≤◌, length, map, option_and_then, IfSome, IsTrue};
+ghost use Rattle.std.specs.Prelude.{◌≡◌, ℕ, ◌<◌, ◌≤◌, length, map, option_and_then, option_map, IfSome, IsTrue};
 ghost use Rattle.tus_text.specs.Concat.{concat_of};
 ghost use Rattle.upload_book.specs.Create.{new_kind};
 ghost use Rattle.upload_book.specs.Lawful.{is_kept_metadata, IsConcatText};
+ghost use Rattle.tus_steps.specs.Asked.{CanBeAsked, asked_for};
 ghost use Rattle.tus_steps.specs.Creation.{length_told, new_upload_in, part_id, new_final_in, concat_creation, creation_in, creation_of, is_with_upload};
-ghost use Rattle.tus_steps.specs.Operation.{CanBeAsked};
 
+use crate::asked::Asked;
 use crate::field::Field;
 use crate::request::Request;
+use crate::requested_change::ChangeOf;
 use arrayvec::ArrayVec;
 use tus_text::{Concat, PARTS_MAX, PartPath, read_concat};
-use upload_book::{FirstChunk, NewFinal, NewUpload, Operation, Payload};
+use upload_book::{Change, FirstChunk, NewFinal, NewUpload, Payload};
 
 /// Room for the parts of a final upload, each by its id, or by none where it is of another tenant.
 pub type PartIds = ArrayVec<Option<u64>, PARTS_MAX>;
@@ -17,10 +19,10 @@ pub type PartIds = ArrayVec<Option<u64>, PARTS_MAX>;
 impl<'a> Request<'a> {
     // The creation that a POST asks for, of the tenant at this place, where its fields tell one. The parts
     // of a final upload are put into `ids`.
-    pub(crate) fn creation<'b>(&self, tenant: u8, ids: &'b mut PartIds) -> Option<Operation<'b>>
+    pub(crate) fn creation<'b>(&self, tenant: u8, ids: &'b mut PartIds) -> Option<Asked<'b>>
     where
         'a: 'b,
-        ensures value { result ≡ creation_in self.now tenant }
+        ensures value { result ≡ option_map asked_for (creation_in self.now tenant) }
         ensures ready { (tenants : ℕ) → tenant < tenants → IfSome result (CanBeAsked tenants) }
     {
         match self.fields.concat {
@@ -36,32 +38,33 @@ impl<'a> Request<'a> {
         tenant: u8,
         text: &'b [u8],
         ids: &'b mut PartIds,
-    ) -> Option<Operation<'b>>
+    ) -> Option<Asked<'b>>
     where
         'a: 'b,
-        ensures value { result ≡ option_and_then (concat_creation self.now tenant text.now) (concat_of text.now) }
+        ensures value { result ≡ option_map asked_for (option_and_then (concat_creation self.now tenant text.now) (concat_of text.now)) }
         ensures ready { (tenants : ℕ) → tenant < tenants → IfSome result (CanBeAsked tenants) }
     {
         match read_concat(text)? {
             Concat::Partial => self.creation_of(tenant, self.new_upload(true, b"partial")?),
-            Concat::Final(parts) => Some(Operation::Concat {
+            Concat::Final(parts) => Some(Asked::change(Change::Concat {
                 tenant,
                 new: self.new_final(text, parts.as_slice(), ids)?,
-            }),
+            })),
         }
     }
 
     // The creation of an upload, with its first bytes where the POST carries them.
-    fn creation_of<'b>(&self, tenant: u8, new: NewUpload<'b>) -> Option<Operation<'b>>
+    fn creation_of<'b>(&self, tenant: u8, new: NewUpload<'b>) -> Option<Asked<'b>>
     where
         'a: 'b,
         requires metadata { IsTrue (is_kept_metadata new.metadata) }
         requires concat { IsConcatText (new_kind new.partial) new.concat }
-        ensures value { result ≡ creation_of self.now tenant new.entry }
+        ensures value { result ≡ option_map asked_for (creation_of self.now tenant new.entry) }
         ensures ready { (tenants : ℕ) → tenant < tenants → IfSome result (CanBeAsked tenants) }
     {
         if !self.is_with_upload() {
-            return Some(Operation::Create { tenant, new });
+            let first = FirstChunk::none();
+            return Some(Asked::change(Change::Create { tenant, new, first }));
         }
         let first = FirstChunk {
             typed: self.fields.media.has_patch_type(),
@@ -69,7 +72,9 @@ impl<'a> Request<'a> {
             bytes: Payload::new(self.body),
             more: self.more,
         };
-        Some(Operation::CreateWith { tenant, new, first })
+        let offset = Some(first.bytes.len() as u64);
+        let change = Change::Create { tenant, new, first };
+        Some(Asked::Change(ChangeOf { change, offset }))
     }
 
     // Whether a POST carries the first bytes of its upload: it has a body, or the content type of a PATCH.

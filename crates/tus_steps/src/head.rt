@@ -3,10 +3,11 @@ ghost use Rattle.tus_steps.specs.Head.{IsHeadOf, IsHeadStep};
 ghost use Rattle.tus_steps.specs.Reply.{head_reply as reply_to};
 ghost use Rattle.upload_book.specs.PlainBook.{PlainBook};
 
+use crate::asked::Asked;
 use crate::creation::PartIds;
-use crate::reply::{Place, Reply};
+use crate::reply::{PathKind, Reply};
 use crate::request::Request;
-use upload_book::{HeadRow, Name, Operation, Refusal, Settings};
+use upload_book::{HeadRow, Name, Refusal, Settings};
 
 /// What a request is to one who can tell where uploads stand, and nothing else.
 #[derive(Drop)]
@@ -30,8 +31,8 @@ pub fn head_of(settings: &Settings, request: &Request) -> HeadOf
         return HeadOf::NotHead;
     }
     let mut ids = PartIds::new();
-    match request.operation(settings, &mut ids) {
-        Ok(Operation::Look(name)) => HeadOf::Of(name),
+    match request.asked(settings, &mut ids) {
+        Ok(Asked::Look(name)) => HeadOf::Of(name),
         Ok(_) => unreachable!("a HEAD asks for nothing else"),
         Err(refusal) => HeadOf::Refused(Reply::refusing(request, refusal, None)),
     }
@@ -46,7 +47,7 @@ pub fn head_reply(outcome: Result<HeadRow, Refusal>) -> Reply
         Err(refusal) => Reply::Refused {
             refusal,
             head: true,
-            place: Place::Upload,
+            place: PathKind::Upload,
             expires: None,
         },
     }

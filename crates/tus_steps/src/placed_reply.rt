@@ -5,7 +5,7 @@ ghost use Rattle.tus_steps.specs.InPieces.{as_creation, created_in, is_patched};
 ghost use Rattle.tus_steps.specs.PlacedReply.{reply_in};
 ghost use Rattle.tus_steps.specs.Reply.{content_reply, creation_reply, head_reply, refusing};
 
-use crate::reply::{Place, Reply};
+use crate::reply::{PathKind, Reply};
 use crate::request::Request;
 use tus_text::{Path, Tenant, Text};
 use upload_book::{Content, Created, HeadRow, Moment, Outcome, Refusal, Refused, RowRef};
@@ -45,7 +45,7 @@ pub enum ReplyKind {
     Refused {
         refusal: Refusal,
         head: bool,
-        place: Place,
+        place: PathKind,
         expires: Option<Moment>,
     },
 }
@@ -184,7 +184,7 @@ impl PlacedReply {
         self.kind = ReplyKind::Refused {
             refusal,
             head: true,
-            place: Place::Upload,
+            place: PathKind::Upload,
             expires: None,
         };
     }

@@ -4,7 +4,7 @@ use upload_book::{Content, HeadRow, Moment, Refusal};
 
 /// What the path of a request names, as far as a reply tells it.
 #[derive(Clone, Copy, Debug, PartialEq, Eq)]
-pub enum Place {
+pub enum PathKind {
     /// Where a tenant's uploads are created.
     Create,
     /// An upload.
@@ -50,7 +50,7 @@ pub enum Reply {
     Refused {
         refusal: Refusal,
         head: bool,
-        place: Place,
+        place: PathKind,
         expires: Option<Moment>,
     },
 }

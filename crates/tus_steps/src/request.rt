@@ -1,15 +1,15 @@
-ghost use Rattle.std.specs.Prelude.{◌≡◌, ℕ, ◌<◌, length, option_copied, IfOk, IfSome, Some};
+ghost use Rattle.std.specs.Prelude.{◌≡◌, ℕ, ◌<◌, length, option_copied, IfOk, Some};
 ghost use Rattle.tus_steps.specs.InPieces.{upload_path};
 
+use crate::asked::Asked;
 use crate::creation::PartIds;
 use crate::field::Field;
 use crate::method::Method;
-use crate::reply::Place;
-use crate::route::Route;
+use crate::reply::PathKind;
 use crate::tus_fields::TusFields;
 use std::marker::Model;
 use tus_text::{Path, Tenant};
-use upload_book::{Chunk, Name, Operation, Payload, Refusal, Settings};
+use upload_book::{Change, Chunk, Name, Payload, Refusal, Settings};
 
 /// The only version of the protocol that is spoken.
 const VERSION: &[u8] = b"1.0.0";
@@ -48,22 +48,22 @@ impl<'a> Model for Request<'a> {
 }
 
 impl<'a> Request<'a> {
+    ghost use Rattle.tus_steps.specs.Asked.{CanBeAsked, asked_or};
     ghost use Rattle.tus_steps.specs.InPieces.{behind};
-    ghost use Rattle.tus_steps.specs.Operation.{has_version, chunk_in, operation_on, operation_of, CanBeAsked};
+    ghost use Rattle.tus_steps.specs.Operation.{has_version, chunk_in, operation_at, operation_of};
     ghost use Rattle.tus_steps.specs.Reply.{place_of};
     ghost use Rattle.tus_steps.specs.Route.{tenant_name};
 
-    /// The operation that the request asks for, which borrows from `ids` where it is a concatenation. It is
-    /// refused, in this order, as Version, Path, Tenant, Method and Field. OPTIONS is answered before this
-    /// is asked.
-    pub fn operation<'b>(
+    /// What the request asks for, which borrows from `ids` where it is a concatenation. It is refused, in this order, as
+    /// Version, Path, Tenant, Method and Field. OPTIONS is answered before this is asked.
+    pub(crate) fn asked<'b>(
         &self,
         settings: &Settings,
         ids: &'b mut PartIds,
-    ) -> Result<Operation<'b>, Refusal>
+    ) -> Result<Asked<'b>, Refusal>
     where
         'a: 'b,
-        ensures value { result ≡ operation_of settings.now self.now }
+        ensures value { result ≡ asked_or (operation_of settings.now self.now) }
         ensures ready { IfOk result (CanBeAsked (length settings.now.tenants)) }
     {
         if !self.has_version() {
@@ -71,8 +71,7 @@ impl<'a> Request<'a> {
         }
         let name = self.tenant_name().ok_or(Refusal::Path)?;
         let tenant = settings.tenant(name.as_slice()).ok_or(Refusal::Tenant)?;
-        let route = Route::of(&self.path, self.method).ok_or(Refusal::Method)?;
-        self.operation_on(tenant, route, ids).ok_or(Refusal::Field)
+        self.asked_at(tenant, ids)
     }
 
     // Whether the request names the version, or is a GET, which needs none.
@@ -112,37 +111,40 @@ impl<'a> Request<'a> {
     }
 
     /// What the path names, as far as a reply tells it.
-    pub fn place(&self) -> Place
+    pub fn place(&self) -> PathKind
         ensures { result ≡ place_of self.now.path }
     {
         match self.path {
-            Path::Create { .. } => Place::Create,
-            Path::Upload { .. } => Place::Upload,
-            Path::Other => Place::Other,
+            Path::Create { .. } => PathKind::Create,
+            Path::Upload { .. } => PathKind::Upload,
+            Path::Other => PathKind::Other,
         }
     }
 
-    // The operation on this route, where the fields tell what it needs.
-    fn operation_on<'b>(
-        &self,
-        tenant: u8,
-        route: Route,
-        ids: &'b mut PartIds,
-    ) -> Option<Operation<'b>>
+    // What the method asks for at the path, of the tenant at this place.
+    fn asked_at<'b>(&self, tenant: u8, ids: &'b mut PartIds) -> Result<Asked<'b>, Refusal>
     where
         'a: 'b,
-        ensures value { result ≡ operation_on self.now tenant route }
-        ensures ready { (tenants : ℕ) → tenant < tenants → IfSome result (CanBeAsked tenants) }
+        ensures value { result ≡ asked_or (operation_at self.now tenant) }
+        ensures ready { (tenants : ℕ) → tenant < tenants → IfOk result (CanBeAsked tenants) }
     {
-        match route {
-            Route::Create => self.creation(tenant, ids),
-            Route::Look(id) => Some(Operation::Look(Name { tenant, id })),
-            Route::Content(id) => Some(Operation::Content(Name { tenant, id })),
-            Route::Terminate(id) => Some(Operation::Terminate(Name { tenant, id })),
-            Route::Append(id) => Some(Operation::Append {
-                name: Name { tenant, id },
-                chunk: self.chunk()?,
-            }),
+        let id = match (&self.path, self.method) {
+            (Path::Create { .. }, Method::Post) => {
+                return self.creation(tenant, ids).ok_or(Refusal::Field);
+            }
+            (Path::Upload { id, .. }, _) => *id,
+            _ => return Err(Refusal::Method),
+        };
+        let name = Name { tenant, id };
+        match self.method {
+            Method::Head => Ok(Asked::Look(name)),
+            Method::Get => Ok(Asked::Content(name)),
+            Method::Patch => Ok(Asked::change(Change::Append {
+                name,
+                chunk: self.chunk().ok_or(Refusal::Field)?,
+            })),
+            Method::Delete => Ok(Asked::change(Change::Terminate(name))),
+            _ => Err(Refusal::Method),
         }
     }
 

@@ -3,18 +3,4 @@
 #![tactic(auto)]
 
 #[cfg(test)]
-mod asked;
-#[cfg(test)]
-mod books;
-#[cfg(test)]
-mod heads;
-#[cfg(test)]
-mod requests;
-#[cfg(test)]
-mod rows;
-#[cfg(test)]
-mod runs;
-#[cfg(test)]
-mod steps;
-#[cfg(test)]
-mod told;
+mod tests;

@@ -1,2 +1,1 @@
 pub mod DescriptorLemmas
-pub mod QuestionLemmas

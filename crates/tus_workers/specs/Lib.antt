@@ -1,4 +1,2 @@
--- What bytes at the port for numbers ask for.
-pub mod Question
 -- What a worker serves.
 pub mod Serving

@@ -10,13 +10,13 @@ use crate::connections::Connections;
 use crate::door::{Door, Entry, LISTENER};
 use crate::keeping::{Compacting, Keeping};
 use crate::machine_clock::MachineClock;
-use crate::metrics_door::{ASKERS_MAX, MetricsDoor};
 use crate::server_state::ServerState;
 use crate::stream::MESSAGES_MAX;
 use crate::sweeping::sweep_expired;
-use crate::watch::Watch;
 use crate::worker::Worker;
 use crate::workers::Workers;
+use access_log::Watch;
+use admin_port::{ASKERS_MAX, MetricsDoor};
 use connection_turns::{ClientConnection, Durability, WorkOptions};
 use core::mem::replace_with;
 use http_wire::{BodyLimits, Clock};
@@ -239,8 +239,7 @@ impl<
 
     // Where numbers are asked for, at the first worker that asks for it. Where it can't be had, that is said.
     fn open_metrics(&self, door: &Door) -> Option<MetricsDoor> {
-        let watching = self.server_state.watching.as_ref()?;
-        let listener = watching.take_metrics(self.rt)?;
+        let listener = self.server_state.take_metrics(self.rt)?;
         match MetricsDoor::open(self.alloc, listener, door.registry()) {
             Ok(metrics) => Some(metrics),
             Err(_) => {

@@ -6,7 +6,7 @@ use std::net::Net;
 use std::sync::atomic::{AtomicUsize, Ordering};
 use std::sync::{Mutex, Wait};
 use std::{io, mem};
-use unfinished_bodies::{Body, Holder, Place, Unfinished, UploadName};
+use unfinished_bodies::{Body, BodyPlace, Holder, Unfinished, UploadName};
 
 /// The token of what other workers wake this one by. No client has it, since there are fewer keys.
 const WAKER: Token = Token(usize::MAX - 1);
@@ -15,7 +15,7 @@ const WAKER: Token = Token(usize::MAX - 1);
 #[derive(Drop)]
 struct Mailbox {
     // The places of the bodies that it is to cut off.
-    asked: Mutex<Vec<Place>>,
+    asked: Mutex<Vec<BodyPlace>>,
     // What tells it of events, until it has begun, and what others wake it by.
     poll: Mutex<Option<Poll>>,
     waker: Option<Waker>,
@@ -38,13 +38,13 @@ pub(crate) struct Bodies {
 #[derive(Drop)]
 struct Known {
     table: Unfinished,
-    greatest: Option<Place>,
+    greatest: Option<BodyPlace>,
 }
 
 /// A body to cut off.
 #[derive(Clone, Copy)]
 struct Order {
-    place: Place,
+    place: BodyPlace,
     worker: usize,
 }
 
@@ -96,7 +96,12 @@ impl Bodies {
     /// there is no room for one, the body stands nowhere. One whose upload is another now, as where a creation in pieces has
     /// created it, gets another place. Where a body gets a place, an older one that is half read for the same upload is asked to
     /// end. So is the body that holds most, where all hold too much.
-    pub fn note<W: Wait>(&self, rt: &W, place: Option<Place>, body: Option<Body>) -> Option<Place> {
+    pub fn note<W: Wait>(
+        &self,
+        rt: &W,
+        place: Option<BodyPlace>,
+        body: Option<Body>,
+    ) -> Option<BodyPlace> {
         match (place, body) {
             (None, None) => None,
             (None, Some(body)) => self.enter(rt, body),
@@ -116,19 +121,21 @@ impl Bodies {
     }
 
     // Whether the body at this place was entered for this upload.
-    fn is_for<W: Wait>(&self, rt: &W, place: Place, upload: &Option<UploadName>) -> bool {
+    fn is_for<W: Wait>(&self, rt: &W, place: BodyPlace, upload: &Option<UploadName>) -> bool {
         match self.known.lock(rt).table.body(place) {
             Some(body) => body.upload == *upload,
             None => false,
         }
     }
 
+    /// Whether a body for some known upload lies half read at a worker.
+    pub fn has_half_read(&self) -> bool {
+        self.patches.load(Ordering::Acquire) > 0
+    }
+
     /// Whether a request for this upload may be answered now: no body for it lies half read, but by its own client. Else that
     /// one is asked to end.
     pub fn may_pass<W: Wait>(&self, rt: &W, name: &UploadName, holder: Holder) -> bool {
-        if self.patches.load(Ordering::Acquire) == 0 {
-            return true;
-        }
         let found = self.known.lock(rt).table.of_upload(*name);
         match found {
             Some((place, body)) if body.holder != holder => {
@@ -140,7 +147,7 @@ impl Bodies {
     }
 
     /// The places of the bodies that this worker is asked to cut off, each once.
-    pub fn take_asked<W: Wait>(&self, rt: &W, worker: usize) -> Vec<Place> {
+    pub fn take_asked<W: Wait>(&self, rt: &W, worker: usize) -> Vec<BodyPlace> {
         match self.boxes.get(worker) {
             Some(mailbox) => mem::replace(&mut *mailbox.asked.lock(rt), Vec::new(self.alloc)),
             None => Vec::new(self.alloc),
@@ -148,12 +155,12 @@ impl Bodies {
     }
 
     /// Whether the body at this place was asked to end since all together hold too much.
-    pub fn is_greatest<W: Wait>(&self, rt: &W, place: Place) -> bool {
+    pub fn is_greatest<W: Wait>(&self, rt: &W, place: BodyPlace) -> bool {
         self.known.lock(rt).greatest == Some(place)
     }
 
     /// The client that holds the body at this place, where that was asked to end and is at this worker.
-    pub fn client_to_cut<W: Wait>(&self, rt: &W, worker: usize, place: Place) -> Option<usize> {
+    pub fn client_to_cut<W: Wait>(&self, rt: &W, worker: usize, place: BodyPlace) -> Option<usize> {
         let known = self.known.lock(rt);
         let body = known.table.body(place)?;
         if known.table.is_asked(place) && body.holder.worker == worker {
@@ -163,7 +170,7 @@ impl Bodies {
         }
     }
 
-    fn enter<W: Wait>(&self, rt: &W, body: Body) -> Option<Place> {
+    fn enter<W: Wait>(&self, rt: &W, body: Body) -> Option<BodyPlace> {
         let older = match &body.upload {
             Some(name) => self.known.lock(rt).table.of_upload(*name),
             None => None,
@@ -181,7 +188,7 @@ impl Bodies {
         Some(place)
     }
 
-    fn hold<W: Wait>(&self, rt: &W, place: Place, held: u64) {
+    fn hold<W: Wait>(&self, rt: &W, place: BodyPlace, held: u64) {
         let greatest = self.hold_within(rt, place, held);
         if let Some(place) = greatest {
             self.ask(rt, place);
@@ -190,7 +197,7 @@ impl Bodies {
 
     // Notes how many bytes a body holds. The body that holds most is given where all hold too much, unless one was given that
     // has not ended yet.
-    fn hold_within<W: Wait>(&self, rt: &W, place: Place, held: u64) -> Option<Place> {
+    fn hold_within<W: Wait>(&self, rt: &W, place: BodyPlace, held: u64) -> Option<BodyPlace> {
         let mut known = self.known.lock(rt);
         known.table.hold(place, held);
         if known.table.held() <= u128::from(self.most) || known.is_cutting() {
@@ -202,7 +209,7 @@ impl Bodies {
     }
 
     // A body has come to its end. Who waits for that is woken.
-    fn leave<W: Wait>(&self, rt: &W, place: Place) {
+    fn leave<W: Wait>(&self, rt: &W, place: BodyPlace) {
         let (was_asked, left) = self.take_out(rt, place);
         if let Some(body) = left
             && body.upload.is_some()
@@ -222,14 +229,14 @@ impl Bodies {
     }
 
     // The body at this place, which is there no more, and whether it was asked to end.
-    fn take_out<W: Wait>(&self, rt: &W, place: Place) -> (bool, Option<Body>) {
+    fn take_out<W: Wait>(&self, rt: &W, place: BodyPlace) -> (bool, Option<Body>) {
         let mut known = self.known.lock(rt);
         let was_asked = known.table.is_asked(place);
         (was_asked, known.table.leave(place))
     }
 
     // Asks the worker of a body to cut it off, unless it was asked for that before.
-    fn ask<W: Wait>(&self, rt: &W, place: Place) {
+    fn ask<W: Wait>(&self, rt: &W, place: BodyPlace) {
         let Some(order) = self.order(rt, place) else {
             return;
         };
@@ -241,7 +248,7 @@ impl Bodies {
     }
 
     // What is asked for of a body that nobody asked for yet.
-    fn order<W: Wait>(&self, rt: &W, place: Place) -> Option<Order> {
+    fn order<W: Wait>(&self, rt: &W, place: BodyPlace) -> Option<Order> {
         let mut known = self.known.lock(rt);
         let body = known.table.body(place)?;
         if known.table.ask_to_cut(place) {

@@ -1,9 +1,10 @@
 //! A client with its stream, as its worker holds it.
 
-use crate::seen::Seen;
+use crate::witness::Witness;
+use access_log::Seen;
 use connection_turns::{
-    AsTheyCome, Bounds, Busy, ClientConnection, Durability, Late, Observer, Outcome, Pace,
-    Precedence, Streams, Turned,
+    AsTheyCome, Busy, ClientBounds, ClientConnection, Durability, Late, Observer, Pace, Precedence,
+    Streams, TurnOutcome, Turned,
 };
 use http_wire::{Buffers, Clock};
 use mio::net::TcpStream;
@@ -12,7 +13,7 @@ use std::alloc::Global;
 use std::io;
 use std::io::{ErrorKind, Read, Write};
 use std::net::Shutdown;
-use unfinished_bodies::Place;
+use unfinished_bodies::BodyPlace;
 
 /// For how many seconds the rest of a refused input is read, and how many bytes of it.
 const LINGER_SECONDS: u64 = 5;
@@ -81,7 +82,7 @@ pub(crate) struct Client {
     // How fast its conversation goes, or, where that is over, since when.
     pace: Pace,
     /// Where its half-read body, or the rest of its reply, stands in the table of all workers.
-    pub place: Option<Place>,
+    pub place: Option<BodyPlace>,
     // Whether its input has ended, or its stream failed, so far as events told.
     has_closed: bool,
     /// Whether it stands on a list of its worker's, by which its next turn comes.
@@ -90,8 +91,8 @@ pub(crate) struct Client {
     pub has_gone_on: bool,
     /// Whether it ended since a write failed, or memory was lacking.
     pub has_failed: bool,
-    /// What was seen of its requests.
-    pub seen: Seen,
+    /// Who sees its turns, and what was seen of its requests.
+    pub witness: Witness,
 }
 
 impl Client {
@@ -112,7 +113,7 @@ impl Client {
             is_listed: false,
             has_gone_on: false,
             has_failed: false,
-            seen,
+            witness: Witness::new(seen),
         }
     }
 
@@ -178,15 +179,15 @@ impl Client {
         };
         self.standing = Standing::Talks;
         match outcome {
-            Outcome::AwaitsBytes | Outcome::AwaitsRoom => Next::Waits,
-            Outcome::HasMore => Next::HasMore,
-            Outcome::AwaitsTurn => {
+            TurnOutcome::AwaitsBytes | TurnOutcome::AwaitsRoom => Next::Waits,
+            TurnOutcome::HasMore => Next::HasMore,
+            TurnOutcome::AwaitsTurn => {
                 self.standing = Standing::Waits(since);
                 Next::WaitsForTurn
             }
-            Outcome::AwaitsKeeping => Next::WaitsForKeeping,
-            Outcome::Over => self.end(free, second),
-            Outcome::Failed | Outcome::NoMemory => {
+            TurnOutcome::AwaitsKeeping => Next::WaitsForKeeping,
+            TurnOutcome::Over => self.end(free, second),
+            TurnOutcome::Failed | TurnOutcome::NoMemory => {
                 self.has_failed = true;
                 Next::Ends
             }
@@ -201,7 +202,7 @@ impl Client {
         clock: &mut K,
         precedence: &P,
         second: u64,
-    ) -> Outcome {
+    ) -> TurnOutcome {
         let streams = Streams {
             reader: &self.stream,
             writer: &self.stream,
@@ -215,13 +216,13 @@ impl Client {
             clock,
             precedence,
             self.has_closed,
-            &mut self.seen,
+            &mut self.witness,
         );
         let has_answered = self.client_connection.left() != left;
         let busy = self.client_connection.busy();
         self.has_gone_on = has_answered || busy != was_busy;
         self.pace.note(second, moved as u64, busy, has_answered);
-        if self.seen.take_stored() && busy == Busy::Body {
+        if self.witness.take_stored() && busy == Busy::Body {
             self.pace.begin_piece(second);
         }
         outcome
@@ -230,7 +231,7 @@ impl Client {
     /// Sends at this second what was held back, as far as that goes.
     pub fn send(&mut self, free: &mut Vec<Buffers>, second: u64) -> Next {
         let sent = self.client_connection.send(free, &self.stream);
-        self.seen.has_sent(sent.moved);
+        self.witness.has_sent(sent.moved);
         self.has_gone_on = false;
         self.pace.note(
             second,
@@ -239,8 +240,8 @@ impl Client {
             false,
         );
         match sent.outcome {
-            Outcome::AwaitsRoom => Next::Waits,
-            Outcome::Failed => {
+            TurnOutcome::AwaitsRoom => Next::Waits,
+            TurnOutcome::Failed => {
                 self.has_failed = true;
                 Next::Ends
             }
@@ -306,13 +307,13 @@ impl Client {
             clock,
             &AsTheyCome,
             true,
-            &mut self.seen,
+            &mut self.witness,
         );
         let _ = self.client_connection.leaves_unread(free);
     }
 
     /// Whether it is to be cut off at this second.
-    pub fn is_late(&self, second: u64, bounds: Bounds) -> bool {
+    pub fn is_late(&self, second: u64, bounds: ClientBounds) -> bool {
         match self.standing {
             Standing::Talks => self.pace.lateness(second, bounds).is_some(),
             Standing::Waits(_) => false,
@@ -321,7 +322,7 @@ impl Client {
     }
 
     /// For what it is to be cut off at this second, while it is talked with.
-    pub fn lateness(&self, second: u64, bounds: Bounds) -> Option<Late> {
+    pub fn lateness(&self, second: u64, bounds: ClientBounds) -> Option<Late> {
         match self.standing {
             Standing::Talks => self.pace.lateness(second, bounds),
             _ => None,

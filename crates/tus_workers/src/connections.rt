@@ -4,9 +4,8 @@ ghost use mathlib.Core.List.{IsPrefix};
 use crate::bodies::Bodies;
 use crate::client::{Client, Next};
 use crate::precedence::{NewestFirst, upload_of};
-use crate::seen::Seen;
-use crate::watch::Watch;
-use connection_turns::{Bounds, Busy, ClientConnection, Durability, Late};
+use access_log::{Seen, Watch};
+use connection_turns::{Busy, ClientBounds, ClientConnection, Durability, Late};
 use http_wire::{Buffers, Clock};
 use mio::Registry;
 use mio::net::TcpStream;
@@ -28,7 +27,7 @@ pub(crate) struct Connections<'a, W: Wait> {
     bodies: &'a Bodies,
     // Which worker it is.
     number: usize,
-    bounds: Bounds,
+    bounds: ClientBounds,
     settings: Settings,
     clients: Slab<Client>,
     free: Vec<Buffers>,
@@ -53,7 +52,7 @@ impl<'a, W: Wait + time::Clock> Connections<'a, W> {
         alloc: Global,
         bodies: &'a Bodies,
         number: usize,
-        bounds: Bounds,
+        bounds: ClientBounds,
         settings: Settings,
         most: usize,
         watch: Option<Watch<'a>>,
@@ -400,14 +399,14 @@ fn seen_at(watch: &mut Option<Watch>, stream: &TcpStream) -> Seen {
             watch.accept();
             watch.record(stream.peer_addr().ok())
         }
-        None => Seen::new(None),
+        None => Seen::unwatched(),
     }
 }
 
 // Tells what is seen of a client that its turn begins.
 fn begin_turn<W: time::Clock>(watch: &Option<Watch>, rt: &W, client: &mut Client) {
     if let Some(watch) = watch {
-        client.seen.begin_turn(watch.micros(rt));
+        client.witness.seen.begin_turn(watch.micros(rt));
     }
 }
 
@@ -422,10 +421,16 @@ fn gather<W: time::Clock>(
 ) {
     if let Some(watch) = watch {
         if client.has_failed {
-            watch.cut(client, Cut::Failed);
+            watch.cut(&client.witness.seen, Cut::Failed);
         }
         let micros = watch.micros(rt);
-        watch.gather(settings, client, micros, unsent, has_ended);
+        watch.gather(
+            settings,
+            &mut client.witness.seen,
+            micros,
+            unsent,
+            has_ended,
+        );
     }
 }
 
@@ -434,7 +439,7 @@ fn note_cut(watch: &mut Option<Watch>, client: &Client, why: Cut) {
     if let Some(watch) = watch
         && client.client_connection().is_some()
     {
-        watch.cut(client, why);
+        watch.cut(&client.witness.seen, why);
     }
 }
 

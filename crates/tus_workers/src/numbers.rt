@@ -1,24 +1,19 @@
 //! The numbers that somebody asks a worker for.
 
 use crate::keeping::Keeping;
-use crate::metrics_door::reply_with;
-use crate::question::Question;
-use crate::watching::Watching;
 use crate::workers::Workers;
+use access_log::Watching;
+use admin_port::{Question, reply_with};
 use head_board::Totals;
 use service_watch::{Snapshot, TenantNumbers, metrics_text};
 use std::alloc::{AllocError, Global};
-use std::fs::File;
-use std::io::{Eprint, Read, Seek, SeekFrom};
+use std::io::Eprint;
 use std::sync::Wait;
 use std::sync::atomic::Ordering;
 use std::sync::ledger::Ledger;
-use std::{str, time};
+use std::time;
 use tus_shared::{Charges, Desk};
 use upload_book::{Accounts, Settings};
-
-/// The bytes of a page of memory on x86-64, the only processor that the toolchain builds for.
-const PAGE_SIZE: u64 = 4_096;
 
 impl<
     'a,
@@ -90,8 +85,7 @@ impl<
     ) -> Result<Vec<u8>, AllocError> {
         let journal = self.keeping.numbers(self.rt);
         let tenants = tenants_of(self.alloc, settings, totals)?;
-        let mut counts = watching.counts.lock(self.rt);
-        counts.lost_lines = counts.lost_lines.saturating_add(watching.take_lost());
+        let counts = watching.lock_counts(self.rt);
         metrics_text(
             self.alloc,
             &Snapshot {
@@ -102,7 +96,7 @@ impl<
                 blocks_charged: totals.accounts.charged,
                 blocks_released: totals.accounts.released,
                 journal,
-                resident: resident_bytes(&watching.pages),
+                resident: watching.resident_bytes(),
             },
         )
     }
@@ -133,15 +127,4 @@ fn tenants_of(
         })?;
     }
     Ok(tenants)
-}
-
-// The bytes of the process that are in memory, where the system tells them: the second number of the file, in pages.
-fn resident_bytes(pages: &Option<File>) -> Option<u64> {
-    let mut file = pages.as_ref()?;
-    let mut bytes = [0; 128];
-    file.seek(SeekFrom::Start(0)).ok()?;
-    let count = file.read(&mut bytes).ok()?;
-    let text = str::from_utf8(bytes.get(..count)?).ok()?;
-    let number = text.split(' ').nth(1)?.parse::<u64>().ok()?;
-    number.checked_mul(PAGE_SIZE)
 }

@@ -21,10 +21,11 @@ pub(crate) struct NewestFirst<'a, W: Wait> {
 }
 
 impl<W: Wait> Precedence for NewestFirst<'_, W> {
+    fn may_all_pass(&self) -> bool {
+        self.has_waited || !self.bodies.has_half_read()
+    }
+
     fn may_pass(&self, request: &Request) -> bool {
-        if self.has_waited {
-            return true;
-        }
         match request.method {
             Method::Head | Method::Patch | Method::Delete => {
                 match upload_of(self.settings, request) {

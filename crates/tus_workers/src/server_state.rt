@@ -1,13 +1,13 @@
 //! What the workers of a server know of each other.
 
 use crate::bodies::Bodies;
-use crate::watching::Watching;
+use access_log::Watching;
 use connection_turns::WorkOptions;
 use std::alloc::{AllocError, Global};
 use std::io::Eprint;
-use std::net::Net;
-use std::sync::Wait;
+use std::net::{Net, TcpListener};
 use std::sync::atomic::{AtomicBool, AtomicU64, Ordering};
+use std::sync::{Mutex, Wait};
 use std::{io, time};
 
 /// The most bodies that stand in the table of all workers.
@@ -34,6 +34,8 @@ pub struct ServerState {
     is_stopping: AtomicBool,
     // How they are watched, if they are.
     pub(crate) watching: Option<Watching>,
+    // Where numbers are asked for, until a worker has taken it.
+    metrics: Mutex<Option<TcpListener>>,
 }
 
 impl ServerState {
@@ -52,12 +54,20 @@ impl ServerState {
             is_over: AtomicBool::new(false),
             is_stopping: AtomicBool::new(false),
             watching: None,
+            metrics: Mutex::new(None),
         })
     }
 
-    /// Has the workers watched. It is to be called before they begin, and the options say that they are.
-    pub fn watch_by(&mut self, watching: Watching) {
+    /// Has the workers watched, and asked for numbers at the listener `metrics`, where there is one. It is to be called before
+    /// they begin, and the options say that they are.
+    pub fn watch_by(&mut self, watching: Watching, metrics: Option<TcpListener>) {
         self.watching = Some(watching);
+        self.metrics = Mutex::new(metrics);
+    }
+
+    /// The listener at which numbers are asked for. It is there once.
+    pub(crate) fn take_metrics<W: Wait>(&self, rt: &W) -> Option<TcpListener> {
+        self.metrics.lock(rt).take()
     }
 
     /// Makes what tells the workers of events, where they hold many clients. It is to be called before they begin. The error is

@@ -4,20 +4,4 @@
 #![tactic(auto)]
 
 #[cfg(test)]
-mod at_once;
-#[cfg(test)]
-mod client_connection;
-#[cfg(test)]
-mod connections;
-#[cfg(test)]
-mod held_back;
-#[cfg(test)]
-mod opening;
-#[cfg(test)]
-mod paces;
-#[cfg(test)]
-mod script;
-#[cfg(test)]
-mod streams;
-#[cfg(test)]
-mod texts;
+mod tests;

@@ -3,7 +3,7 @@ use Rattle.std.specs.Prelude.{◌≡◌, ◌≢◌, ℕ, ◌+◌, ◌<◌, ◌�
 use Rattle.std.specs.Option.{option_map}
 use Rattle.unfinished_bodies.specs.declared.bodies.Body.{Body}
 use Rattle.unfinished_bodies.specs.declared.bodies.Entry.{Entry}
-use Rattle.unfinished_bodies.specs.declared.bodies.Place.{Place}
+use Rattle.unfinished_bodies.specs.declared.bodies.BodyPlace.{BodyPlace}
 use Rattle.unfinished_bodies.specs.declared.bodies.UploadName.{UploadName}
 
 -- the slots with their entries, how many bodies may lie in them, and how many were ever entered
@@ -26,11 +26,11 @@ numbered n None = None
 numbered n (Some e) = if e.number == n then Some e else None
 
 -- the entry at a place; none where its body has left, though another lies in the slot now
-abbrev pub entry_at : List (Option Entry) → Place → Option Entry
+abbrev pub entry_at : List (Option Entry) → BodyPlace → Option Entry
 entry_at slots p = numbered p.number (in_slot slots p.slot)
 
 -- the body at a place
-abbrev pub body_at : List (Option Entry) → Place → Option Body
+abbrev pub body_at : List (Option Entry) → BodyPlace → Option Body
 body_at slots p = option_map (λ e. e.body) (entry_at slots p)
 
 -- how many bodies are in the table
@@ -43,7 +43,7 @@ pub record HasRoom (t : Table) : Type 0 where
   pub number_left : t.entered + 1 < 2 ^ 64
 
 -- a body is new at a place, under the next number, and nobody has asked to cut it; all others stay
-pub record Enters (old new : Table) (p : Place) (body : Body) : Type 0 where
+pub record Enters (old new : Table) (p : BodyPlace) (body : Body) : Type 0 where
   pub vacant : in_slot old.slots p.slot ≡ None
   pub number : p.number ≡ old.entered + 1
   pub there : in_slot new.slots p.slot ≡ Some (record { number = p.number; body = body; asked = false })
@@ -76,23 +76,23 @@ asked_in t slot None = t
 asked_in t slot (Some e) = with_slot t slot (Some (record e { asked = true }))
 
 -- the newest body of those for one upload
-pub record IsNewestOf (t : Table) (name : UploadName) (p : Place) (body : Body) : Type 0 where
+pub record IsNewestOf (t : Table) (name : UploadName) (p : BodyPlace) (body : Body) : Type 0 where
   pub there : body_at t.slots p ≡ Some body
   pub named : body.upload ≡ Some name
-  pub newest : (q : Place) (other : Body) → body_at t.slots q ≡ Some other → other.upload ≡ Some name → q.number ≤ p.number
+  pub newest : (q : BodyPlace) (other : Body) → body_at t.slots q ≡ Some other → other.upload ≡ Some name → q.number ≤ p.number
 
 -- no body is for this upload
 abbrev pub HasNoneOf : Table → UploadName → Type 0
-HasNoneOf t name = (q : Place) (other : Body) → body_at t.slots q ≡ Some other → other.upload ≢ Some name
+HasNoneOf t name = (q : BodyPlace) (other : Body) → body_at t.slots q ≡ Some other → other.upload ≢ Some name
 
 -- a body than which none holds more
-pub record IsLargest (t : Table) (p : Place) (body : Body) : Type 0 where
+pub record IsLargest (t : Table) (p : BodyPlace) (body : Body) : Type 0 where
   pub there : body_at t.slots p ≡ Some body
-  pub largest : (q : Place) (other : Body) → body_at t.slots q ≡ Some other → other.held ≤ body.held
+  pub largest : (q : BodyPlace) (other : Body) → body_at t.slots q ≡ Some other → other.held ≤ body.held
 
 -- no body is in the table
 abbrev pub HasNone : Table → Type 0
-HasNone t = (q : Place) → body_at t.slots q ≡ None
+HasNone t = (q : BodyPlace) → body_at t.slots q ≡ None
 
 -- the bytes that the body in a slot holds
 abbrev pub held_in : Option Entry → ℕ

@@ -38,7 +38,7 @@ pub struct Body {
 /// Where a body lies in the table. A place is given to one body only: once this has left, the place leads
 /// to nothing for ever.
 #[derive(Clone, Copy, PartialEq, Eq, Debug)]
-pub struct Place {
+pub struct BodyPlace {
     slot: usize,
     number: u64,
 }
@@ -114,7 +114,7 @@ impl Unfinished {
 
     /// Enters a body, which is then the newest of its upload. `None` where `most` bodies are in the table
     /// (or 2^64 - 1 were entered since it was made), and then nothing changes.
-    pub fn enter(&mut self, body: Body) -> Option<Place>
+    pub fn enter(&mut self, body: Body) -> Option<BodyPlace>
         ensures room { IsSome result ↔ HasRoom self.old }
         ensures entered { IfSome result (λ place. Enters self.old self.new place body) }
         ensures unchanged { IfNone result (self.new ≡ self.old) }
@@ -133,11 +133,11 @@ impl Unfinished {
         });
         self.chains.link(bucket, slot);
         self.entered = number;
-        Some(Place { slot, number })
+        Some(BodyPlace { slot, number })
     }
 
     /// The body at a place holds so many bytes now. Nothing changes where it has left.
-    pub fn hold(&mut self, place: Place, held: u64)
+    pub fn hold(&mut self, place: BodyPlace, held: u64)
         ensures { self.new ≡ held_to self.old place.slot held (entry_at self.old.slots place) }
     {
         if let Some(entry) = find(&self.slots, place) {
@@ -147,7 +147,7 @@ impl Unfinished {
     }
 
     /// Takes out the body at a place, as it was entered and with what it held last. `None` where it has left.
-    pub fn leave(&mut self, place: Place) -> Option<Body>
+    pub fn leave(&mut self, place: BodyPlace) -> Option<Body>
         ensures value { result ≡ body_at self.old.slots place }
         ensures after { self.new ≡ without self.old place.slot (entry_at self.old.slots place) }
     {
@@ -160,7 +160,7 @@ impl Unfinished {
     }
 
     /// The body at a place. `None` where it has left.
-    pub fn body(&self, place: Place) -> Option<Body>
+    pub fn body(&self, place: BodyPlace) -> Option<Body>
         ensures { result ≡ body_at self.now.slots place }
     {
         let entry = find(&self.slots, place)?;
@@ -168,7 +168,7 @@ impl Unfinished {
     }
 
     /// The newest body for an upload, of those that are in the table, and its place. `None` where there is none.
-    pub fn of_upload(&self, name: UploadName) -> Option<(Place, Body)>
+    pub fn of_upload(&self, name: UploadName) -> Option<(BodyPlace, Body)>
         ensures newest { IfSome result (λ found. IsNewestOf self.now name found.0 found.1) }
         ensures none { IfNone result (HasNoneOf self.now name) }
     {
@@ -178,7 +178,7 @@ impl Unfinished {
             let entry = &self.slots[slot];
             if is_for(entry, name) {
                 let number = entry.number;
-                return Some((Place { slot, number }, entry.body));
+                return Some((BodyPlace { slot, number }, entry.body));
             }
             next = self.chains.older[slot];
         }
@@ -187,13 +187,13 @@ impl Unfinished {
 
     /// A body than which none holds more bytes, and its place. `None` where the table is empty. It looks at
     /// every slot.
-    pub fn largest(&self) -> Option<(Place, Body)>
+    pub fn largest(&self) -> Option<(BodyPlace, Body)>
         ensures largest { IfSome result (λ found. IsLargest self.now found.0 found.1) }
         ensures none { IfNone result (HasNone self.now) }
     {
         let largest = largest_slot(&self.slots, self.slots.capacity())?;
         let entry = &self.slots[largest.slot];
-        let place = Place {
+        let place = BodyPlace {
             slot: largest.slot,
             number: entry.number,
         };
@@ -209,7 +209,7 @@ impl Unfinished {
 
     /// Asks that the body at a place be cut. `true` the first time, `false` where it was asked before or
     /// has left.
-    pub fn ask_to_cut(&mut self, place: Place) -> bool
+    pub fn ask_to_cut(&mut self, place: BodyPlace) -> bool
         ensures first { IsTrue result ↔ IsSomeAnd (entry_at self.old.slots place) (λ e. e.asked ≡ false) }
         ensures after { self.new ≡ asked_in self.old place.slot (entry_at self.old.slots place) }
     {
@@ -223,7 +223,7 @@ impl Unfinished {
     }
 
     /// Whether the body at a place was asked to be cut. `false` where it has left.
-    pub fn is_asked(&self, place: Place) -> bool
+    pub fn is_asked(&self, place: BodyPlace) -> bool
         ensures { IsTrue result ↔ IsSomeAnd (entry_at self.now.slots place) (λ e. e.asked ≡ true) }
     {
         match find(&self.slots, place) {
@@ -234,7 +234,7 @@ impl Unfinished {
 }
 
 // The entry at a place.
-fn find(slots: &Slab<Entry>, place: Place) -> Option<Entry>
+fn find(slots: &Slab<Entry>, place: BodyPlace) -> Option<Entry>
     ensures { result ≡ entry_at slots.now.slots place }
 {
     let entry = *slots.get(place.slot)?;

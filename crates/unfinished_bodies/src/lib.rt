@@ -4,4 +4,4 @@
 mod bodies;
 mod chains;
 
-pub use bodies::{Body, Holder, Place, Unfinished, UploadName};
+pub use bodies::{Body, BodyPlace, Holder, Unfinished, UploadName};

@@ -1,7 +1,7 @@
 //! Each call once, and each thing that a caller may hand in wrong.
 use std::process::Abort;
 use std::test::Fail;
-use unfinished_bodies::{Body, Holder, Place, Unfinished, UploadName};
+use unfinished_bodies::{Body, BodyPlace, Holder, Unfinished, UploadName};
 
 const NAME: UploadName = UploadName { tenant: 7, id: 9 };
 
@@ -15,14 +15,14 @@ fn body(client: usize, held: u64) -> Body {
 }
 
 // Enters a body where there is room.
-fn enter(rt: &impl Abort, table: &mut Unfinished, body: Body) -> Place {
+fn enter(rt: &impl Abort, table: &mut Unfinished, body: Body) -> BodyPlace {
     let Some(place) = table.enter(body) else {
         panic!(rt; "no room");
     };
     place
 }
 
-fn assert_newest(rt: &impl Abort, table: &Unfinished, place: Place, body: Body) {
+fn assert_newest(rt: &impl Abort, table: &Unfinished, place: BodyPlace, body: Body) {
     let Some((found, newest)) = table.of_upload(NAME) else {
         panic!(rt; "no body for the upload");
     };
@@ -30,7 +30,7 @@ fn assert_newest(rt: &impl Abort, table: &Unfinished, place: Place, body: Body) 
     assert!(rt; newest == body);
 }
 
-fn assert_largest(rt: &impl Abort, table: &Unfinished, place: Place, body: Body) {
+fn assert_largest(rt: &impl Abort, table: &Unfinished, place: BodyPlace, body: Body) {
     let Some((found, largest)) = table.largest() else {
         panic!(rt; "no body at all");
     };
@@ -38,7 +38,7 @@ fn assert_largest(rt: &impl Abort, table: &Unfinished, place: Place, body: Body)
     assert!(rt; largest == body);
 }
 
-fn assert_leaves(rt: &impl Abort, table: &mut Unfinished, place: Place, body: Body) {
+fn assert_leaves(rt: &impl Abort, table: &mut Unfinished, place: BodyPlace, body: Body) {
     let Some(left) = table.leave(place) else {
         panic!(rt; "the body had left");
     };

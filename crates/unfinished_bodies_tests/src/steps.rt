@@ -2,12 +2,12 @@
 use std::alloc::AllocError;
 use std::process::Abort;
 use std::test::Fail;
-use unfinished_bodies::{Body, Holder, Place, Unfinished, UploadName};
+use unfinished_bodies::{Body, BodyPlace, Holder, Unfinished, UploadName};
 
 // A body of the list, the oldest first: where it lies in the table, and whether it was asked to be cut.
 #[derive(Clone, Copy)]
 struct Listed {
-    place: Place,
+    place: BodyPlace,
     body: Body,
     asked: bool,
 }
@@ -90,7 +90,7 @@ fn leave(rt: &impl Abort, table: &mut Unfinished, list: &mut Vec<Listed>, at: us
 }
 
 // The newest body of the list for an upload.
-fn newest(list: &[Listed], name: UploadName) -> Option<(Place, Body)> {
+fn newest(list: &[Listed], name: UploadName) -> Option<(BodyPlace, Body)> {
     let mut found = None;
     for listed in list {
         if listed.body.upload == Some(name) {

@@ -10,7 +10,7 @@ use Rattle.upload_book.specs.Append.{append_refusal, part_after_append, upload_w
 use Rattle.upload_book.specs.Change.{book_after_change}
 use Rattle.upload_book.specs.Chunk.{Chunk}
 use Rattle.upload_book.specs.Concat.{concat_refusal, final_upload, part_after_concat, parts_found}
-use Rattle.upload_book.specs.ContentsStay.{BookHasOnly, ContentsStay, HasOnly, IsLive}
+use Rattle.upload_book.specs.laws.ContentsStay.{BookHasOnly, ContentsStay, HasOnly, IsLive}
 use Rattle.upload_book.specs.Create.{created_upload, creation_refusal, part_after_create}
 use Rattle.upload_book.specs.declared.board_line.Account.{Account}
 use Rattle.upload_book.specs.declared.change.Change.{Change}

@@ -16,7 +16,7 @@ use Rattle.upload_book.specs.declared.head_row.Kind.TheVariants.{Plain, Partial,
 use Rattle.upload_book.specs.declared.refusal.Refusal.{Refusal}
 use Rattle.upload_book.specs.declared.settings.Numbers.{Numbers}
 use Rattle.upload_book.specs.Expiry.{lifetime_end, renewed, has_expired}
-use Rattle.upload_book.specs.Laws.{AccountsFollow, ResumedPatch, RowsFollow, charged_after, first_part, later_part, row_in}
+use Rattle.upload_book.specs.laws.Steps.{AccountsFollow, ResumedPatch, RowsFollow, charged_after, first_part, later_part, row_in}
 use Rattle.upload_book.specs.Lawful.{IsUploadOf, IsOfKind}
 use Rattle.upload_book.specs.Look.{row_of}
 use Rattle.upload_book.specs.Refusal.{unless}

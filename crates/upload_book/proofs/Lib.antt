@@ -9,4 +9,5 @@ pub mod LawsLemmas
 pub mod PiecesLemmas
 pub mod PiecesOfBookLemmas
 pub mod PiecedCreationLemmas
+pub mod PiecedCreationOfBookLemmas
 pub mod ContentsStayLemmas

@@ -19,10 +19,10 @@ use Rattle.upload_book.specs.declared.refusal.Refusal.{Refusal}
 use Rattle.upload_book.specs.declared.settings.Numbers.{Numbers}
 use Rattle.upload_book.specs.Expiry.{has_expired, lifetime_end, renewed}
 use Rattle.upload_book.specs.FirstChunk.{FirstChunk, count_all_first}
-use Rattle.upload_book.specs.Laws.{charged_after}
+use Rattle.upload_book.specs.laws.Steps.{charged_after}
 use Rattle.upload_book.specs.Lawful.{IsTenantOf}
 use Rattle.upload_book.specs.NewUpload.{NewUpload}
-use Rattle.upload_book.specs.PiecedCreation.{PiecedCreation, begun_with, ended_by}
+use Rattle.upload_book.specs.laws.PiecedCreation.{PiecedCreation, begun_with, ended_by}
 use Rattle.upload_book.specs.Refusal.{unless}
 use Rattle.upload_book.specs.TenantBook.{Entry, TenantBook, kept_in, visible_upload, with_changed, with_kept, with_new}
 use Rattle.upload_book.specs.Upload.{Upload, content_of, is_reached, offset_of}
@@ -32,7 +32,7 @@ use Rattle.upload_book.proofs.Expiries.BookEnds.{kept_in-added}
 use Rattle.upload_book.proofs.Expiries.ExpirySteps.{ids-below}
 use Rattle.upload_book.proofs.Lawful.LawfulAppend.{IsAppendable, not_above}
 use Rattle.upload_book.proofs.Lawful.LawfulCreate.{IsCreatable, IsCreatable-from_none, creation_refusal-none}
-use Rattle.upload_book.proofs.Lawful.Outcomes.{create_answer-none, part_after_create-none}
+use Rattle.upload_book.proofs.Lawful.Outcomes.{create_answer-none, part_after_create-none, unless-Err}
 use Rattle.upload_book.proofs.LawsLemmas.{account_more, answer_accepted, answer_of_upload, complete_later, part_accepted}
 use Rattle.upload_book.proofs.PiecesLemmas.{lifetime_end-later, renewed-later}
 
@@ -44,13 +44,14 @@ unrefused tenant n part new first now charged accepted = by (creation_refusal n 
     by None is = is
     by (Some why) is = absurd (true≢false (sym (rw is at accepted)))
 
-or_else-none : (known : Option ℕ) → or_else known None ≡ known
-or_else-none None = refl
-or_else-none (Some most) = refl
+-- a length that is told again is no other
+or_else-same : (known : Option ℕ) → or_else known known ≡ known
+or_else-same None = refl
+or_else-same (Some most) = refl
 
-differ-none : (known : Option ℕ) → differ known None ≡ false
-differ-none None = refl
-differ-none (Some most) = refl
+differ-same : (known : Option ℕ) → differ known known ≡ false
+differ-same None = refl
+differ-same (Some most) = rw (eq-eqb most most refl) refl
 
 -- what stands under the id that was given last, changed
 with_kept-added : (entries : List (Entry Upload)) (id : ℕ) (u w : Upload) → All (λ (e : Entry Upload). e.id < id) entries
@@ -89,7 +90,7 @@ module _ (n : Numbers) (part : TenantBook) (tenant charged : ℕ) (new : NewUplo
   begun = begun_with first k
 
   abbrev pub rest : Chunk
-  rest = ended_by first k
+  rest = ended_by new first k
 
   abbrev pub bytes : List ℕ
   bytes = take k first.bytes
@@ -106,14 +107,14 @@ module _ (n : Numbers) (part : TenantBook) (tenant charged : ℕ) (new : NewUplo
   none : creation_refusal n account part new first ≡ None
   none = unrefused tenant n part new first now charged accepted
 
-  can : IsCreatable n account part new first
+  pub can : IsCreatable n account part new first
   can = IsCreatable-from_none n account part new first none
 
   all : count_all_first begun ≡ count_all_first first
   all = omega (arith, count)
 
   -- the first piece is accepted
-  none-begun : creation_refusal n account part new begun ≡ None
+  pub none-begun : creation_refusal n account part new begun ≡ None
   none-begun = creation_refusal-none n account part new begun can.typed (rw all can.all_fit) refl refl can.room can.id (rw all can.all_unspent) (rw all can.all_paid)
 
   abbrev pub v : Upload
@@ -122,7 +123,7 @@ module _ (n : Numbers) (part : TenantBook) (tenant charged : ℕ) (new : NewUplo
   abbrev pub middle : TenantBook
   middle = with_new part v
 
-  is_middle : part_after_create new begun early charged n part ≡ middle
+  pub is_middle : part_after_create new begun early charged n part ≡ middle
   is_middle = part_after_create-none n part new begun early charged none-begun
 
   abbrev pub more : ℕ
@@ -162,19 +163,26 @@ module _ (n : Numbers) (part : TenantBook) (tenant charged : ℕ) (new : NewUplo
       ap (λ offset. blocks_added n 0 (length bytes) + blocks_added n offset (count_all rest)) behind ∙ blocks_between-two n.block_size 0 (length bytes) (count_all rest)
       ∙ ap (blocks_added n 0) (omega (arith, count))
 
+  -- the part pays more, and then as much as for the whole
+  pub grows : charge_in n part ≤ charge_in n middle
+  grows = omega (arith, pays)
+
+  pub grows_on : charge_in n middle ≤ charge_in n (part_after_create new first now charged n part)
+  grows_on = rw (part_after_create-none n part new first now charged none) (omega (arith, pays, added, charge-create n part new first.bytes now sound))
+
   -- and the rest is accepted
   can_rest : IsAppendable n (account_in n middle more) v rest
   can_rest = subst (λ account. IsAppendable n account v rest) (sym account_is) (record {
     own = new-own new.partial;
     typed = refl;
     offset = same_offset (length bytes) (offset_of v) start;
-    fixed = differ-none new.length;
-    fits = rw (or_else-none new.length, end) can.fits;
+    fixed = differ-same new.length;
+    fits = rw (or_else-same new.length, end) can.fits;
     known = refl;
     same = refl;
     unspent = omega (arith, added, can.unspent);
     paid = omega (arith, added, can.paid);
-    all_fit = rw (or_else-none new.length, all_end) can.all_fit;
+    all_fit = rw (or_else-same new.length, all_end) can.all_fit;
     all_unspent = omega (arith, all_added, can.all_unspent);
     all_paid = omega (arith, all_added, can.all_paid);
   })
@@ -184,7 +192,7 @@ module _ (n : Numbers) (part : TenantBook) (tenant charged : ℕ) (new : NewUplo
 
   -- the upload is as one that was created whole
   same_upload : upload_with n v rest now ≡ w
-  same_upload = rw (or_else-none new.length, content) (ap (λ expires. record w { expires = expires }) expiry)
+  same_upload = rw (or_else-same new.length, content) (ap (λ expires. record w { expires = expires }) expiry)
     where
       content : content_of v ++ later ≡ first.bytes
       content = ap (λ l. l ++ later) (append-nil bytes) ∙ whole
@@ -217,9 +225,29 @@ module _ (n : Numbers) (part : TenantBook) (tenant charged : ℕ) (new : NewUplo
   pub rest_left : part_after_append part.next rest now (charged_after n charged part (part_after_create new begun early charged n part)) n (part_after_create new begun early charged n part) ≡ part_after_create new first now charged n part
   rest_left = ap (λ m. part_after_append part.next rest now (charged_after n charged part m) n m) is_middle ∙ left
 
+-- without a checksum the first bytes are refused for what the whole is
+same_refusal : (n : Numbers) (account : Account) (part : TenantBook) (new : NewUpload) (first : FirstChunk) (k : ℕ) → first.check ≡ None → creation_refusal n account part new (begun_with first k) ≡ creation_refusal n account part new first
+same_refusal n account part new first k unchecked =
+    let all : length (take k first.bytes) + (length (drop k first.bytes) + first.more) ≡ length first.bytes + first.more =
+    omega (arith, length-append (take k first.bytes) (drop k first.bytes), ap (length {A = ℕ}) (take-append-drop k first.bytes)) in
+    rw (unchecked, all) refl
+
+refused : (n : Numbers) (part : TenantBook) (tenant charged : ℕ) (new : NewUpload) (first : FirstChunk) (k now : ℕ) (why : Refusal) → first.check ≡ None
+    → create_answer tenant new first now charged n part ≡ Err why
+    → (create_answer tenant new (begun_with first k) now charged n part ≡ Err why) × (part_after_create new (begun_with first k) now charged n part ≡ part)
+refused n part tenant charged new first k now why unchecked is =
+    let account = account_in n part charged in
+    let same = same_refusal n account part new first k unchecked in
+    let by : creation_refusal n account part new first ≡ Some why =
+    unless-Err (creation_refusal n account part new first) (record { name = record { tenant = tenant; id = part.next }; expires = (created_upload n new first.bytes now).expires }) why is in
+    (rw (same, by) refl, rw (same, by) refl)
+
 pub pieced_creation : PiecedCreation
-pieced_creation n part tenant charged new first k early now sound le lasts accepted = (
-  begun_accepted n part tenant charged new first k early now sound le lasts accepted,
-  rest_answered n part tenant charged new first k early now sound le lasts accepted,
-  rest_left n part tenant charged new first k early now sound le lasts accepted,
-)
+pieced_creation = record {
+  accepted = λ n part tenant charged new first k early now sound le lasts accepted. (
+    begun_accepted n part tenant charged new first k early now sound le lasts accepted,
+    rest_answered n part tenant charged new first k early now sound le lasts accepted,
+    rest_left n part tenant charged new first k early now sound le lasts accepted,
+  );
+  refused = refused;
+}

@@ -18,9 +18,9 @@ use Rattle.upload_book.specs.declared.head_row.Kind.TheVariants.{Plain, Partial,
 use Rattle.upload_book.specs.declared.refusal.Refusal.{Refusal}
 use Rattle.upload_book.specs.declared.settings.Numbers.{Numbers}
 use Rattle.upload_book.specs.Expiry.{lifetime_end, renewed, has_expired}
-use Rattle.upload_book.specs.Laws.{charged_after, first_part, later_part}
+use Rattle.upload_book.specs.laws.Steps.{charged_after, first_part, later_part}
 use Rattle.upload_book.specs.Lawful.{IsTenantOf, IsUploadOf}
-use Rattle.upload_book.specs.Pieces.{Patched, Piece, PiecedPatch, as_one, first_piece, goes_on, in_pieces}
+use Rattle.upload_book.specs.laws.PiecedPatch.{Patched, Piece, PiecedPatch, as_one, first_piece, goes_on, in_pieces}
 use Rattle.upload_book.specs.Refusal.{unless}
 use Rattle.upload_book.specs.TenantBook.{TenantBook, kept_in, visible_upload, with_changed}
 use Rattle.upload_book.specs.Upload.{Upload, content_of, offset_of, is_reached, head_row_of}

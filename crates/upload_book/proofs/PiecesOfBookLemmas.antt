@@ -13,10 +13,10 @@ use Rattle.upload_book.specs.declared.append.Appended.{Appended}
 use Rattle.upload_book.specs.declared.append.Refused.{Refused}
 use Rattle.upload_book.specs.declared.head_row.Name.{Name}
 use Rattle.upload_book.specs.declared.settings.Numbers.{Numbers}
-use Rattle.upload_book.specs.Laws.{later_part}
+use Rattle.upload_book.specs.laws.Steps.{later_part}
 use Rattle.upload_book.specs.Lawful.{IsLawful}
-use Rattle.upload_book.specs.Pieces.{Piece, first_piece}
-use Rattle.upload_book.specs.PiecesOfBook.{PatchedBook, PiecedPatchOfBook, book_goes_on, book_in_pieces}
+use Rattle.upload_book.specs.laws.PiecedPatch.{Piece, first_piece}
+use Rattle.upload_book.specs.laws.PiecedPatchOfBook.{PatchedBook, PiecedPatchOfBook, book_goes_on, book_in_pieces}
 use Rattle.upload_book.specs.PlainBook.{PlainBook, answer_of, book_after, tenant_book, with_tenant_book}
 use Rattle.upload_book.specs.TenantBook.{TenantBook, opening_part}
 use Rattle.upload_book.specs.Upload.{offset_of}
@@ -27,7 +27,7 @@ use Rattle.upload_book.proofs.PiecesLemmas.{GoesOn, GoesOn-first}
 use Rattle.upload_book.proofs.Steps.BookLemmas.{IsLawful-append, IsTenantOf-book, book_with}
 
 -- a part after a part that pays no less leaves the totals of one change
-with_tenant_book-twice : (b : PlainBook) (t : ℕ) (middle last : TenantBook) → t < length b.tenants
+pub with_tenant_book-twice : (b : PlainBook) (t : ℕ) (middle last : TenantBook) → t < length b.tenants
     → charge_in b.settings.numbers (tenant_book b t) ≤ charge_in b.settings.numbers middle → charge_in b.settings.numbers middle ≤ charge_in b.settings.numbers last
     → with_tenant_book (with_tenant_book b t middle) t last ≡ with_tenant_book b t last
 with_tenant_book-twice b t middle last within grows grows_on =

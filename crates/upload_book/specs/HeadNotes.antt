@@ -11,7 +11,7 @@ use Rattle.upload_book.specs.declared.head_note.NotedChange.TheVariants.{Created
 use Rattle.upload_book.specs.declared.head_row.HeadRow.{HeadRow}
 use Rattle.upload_book.specs.Change.{book_after_change, line_of}
 use Rattle.upload_book.specs.Heads.{Heads, head_part_at, heads_of}
-use Rattle.upload_book.specs.Laws.{LeadsTo}
+use Rattle.upload_book.specs.laws.Steps.{LeadsTo}
 use Rattle.upload_book.specs.PlainBook.{PlainBook}
 use Rattle.upload_book.specs.TenantBook.{kept_in}
 

@@ -1,17 +1,29 @@
--- The operations of the book as one: the book after each, and which may lack memory.
+-- The operations of the book as one type: the book after each, and which may lack memory.
 use Rattle.std.specs.Prelude.{◌≢◌, ℕ, ◌<◌, [], length, IsOk}
 use Rattle.std.specs.Result.{IsOkAnd}
-use Rattle.upload_book.specs.declared.operation.Operation.{Operation}
-use Rattle.upload_book.specs.declared.operation.Operation.TheVariants.{Create, CreateWith, Concat, Look, Content, Append, Terminate}
+use Rattle.upload_book.specs.declared.head_row.Name.{Name}
 use Rattle.upload_book.specs.Account.{blocks_added}
 use Rattle.upload_book.specs.Append.{append_answer, part_after_append}
-use Rattle.upload_book.specs.Chunk.{count_all}
+use Rattle.upload_book.specs.Chunk.{Chunk, count_all}
 use Rattle.upload_book.specs.Concat.{concat_answer, part_after_concat}
 use Rattle.upload_book.specs.Content.{content_answer}
 use Rattle.upload_book.specs.Create.{create_answer, part_after_create, part_after_create_empty}
-use Rattle.upload_book.specs.FirstChunk.{count_all_first}
+use Rattle.upload_book.specs.FirstChunk.{FirstChunk, count_all_first}
+use Rattle.upload_book.specs.NewFinal.{NewFinal}
+use Rattle.upload_book.specs.NewUpload.{NewUpload}
 use Rattle.upload_book.specs.Terminate.{part_after_terminate}
 use Rattle.upload_book.specs.PlainBook.{PlainBook, answer_of, book_after}
+
+-- What is asked of the book, but for the moment: a creation for the tenant at a place in the settings, without first bytes or
+-- with them; a concatenation for one; a HEAD, a GET, a PATCH and a DELETE of the upload of a name.
+pub data Operation : Type 0 where
+  Create : ℕ → NewUpload → Operation
+  CreateWith : ℕ → NewUpload → FirstChunk → Operation
+  Concat : ℕ → NewFinal → Operation
+  Look : Name → Operation
+  Content : Name → Operation
+  Append : Name → Chunk → Operation
+  Terminate : Name → Operation
 
 -- the book after an operation at a moment: a HEAD and a GET leave it
 abbrev pub book_after_operation : PlainBook → Operation → ℕ → PlainBook

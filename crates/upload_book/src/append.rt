@@ -2,7 +2,7 @@ ghost use Rattle.std.specs.Prelude.{◌≡◌, ◌<◌, [], Ok, Err, IfOk, IfErr
 ghost use Rattle.upload_book.specs.Append.{append_answer, append_lacking, part_after_append};
 ghost use Rattle.upload_book.specs.Book.{plain_of};
 ghost use Rattle.upload_book.specs.Operation.{MayLackMemory};
-ghost use Rattle.upload_book.specs.declared.operation.Operation.TheVariants as operation;
+ghost use Rattle.upload_book.specs.Operation as operation;
 ghost use Rattle.upload_book.specs.PlainBook.{answer_of, book_after};
 ghost use Rattle.upload_book.specs.Ready.{IsReadyForChunk};
 ghost use Rattle.upload_book.specs.inside.Places.{IsVisibleIn};

@@ -4,7 +4,7 @@ ghost use Rattle.upload_book.specs.Concat.{concat_answer, concat_tests, part_aft
 ghost use Rattle.upload_book.specs.declared.head_row.Kind.TheVariants.{Final};
 ghost use Rattle.upload_book.specs.Lawful.{IsConcatText, is_kept_metadata};
 ghost use Rattle.upload_book.specs.Operation.{MayLackMemory};
-ghost use Rattle.upload_book.specs.declared.operation.Operation.TheVariants as operation;
+ghost use Rattle.upload_book.specs.Operation as operation;
 ghost use Rattle.upload_book.specs.PlainBook.{answer_of, book_after};
 ghost use Rattle.upload_book.specs.Ready.{IsReadyForFinal};
 ghost use Rattle.upload_book.specs.Refusal.{IsAnswer, first_that_holds};

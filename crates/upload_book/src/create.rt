@@ -1,7 +1,7 @@
 ghost use Rattle.std.specs.Prelude.{◌≡◌, ◌<◌, ◌≤◌, ◌^◌, Ok, Err, length, IfOk, IfErr, IsTrue, OnOk, OnErr};
 ghost use Rattle.upload_book.specs.Book.{plain_of};
 ghost use Rattle.upload_book.specs.Create.{new_kind, creation_refusal, create_answer, create_empty_answer, first_end, part_after_create, part_after_create_empty};
-ghost use Rattle.upload_book.specs.declared.operation.Operation.TheVariants as operation;
+ghost use Rattle.upload_book.specs.Operation as operation;
 ghost use Rattle.upload_book.specs.declared.refusal.Refusal.TheVariants.{Memory};
 ghost use Rattle.upload_book.specs.Lawful.{IsConcatText, is_kept_metadata};
 ghost use Rattle.upload_book.specs.Operation.{MayLackMemory};

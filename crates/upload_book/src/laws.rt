@@ -1,10 +1,10 @@
 //! Laws of the definitions that the contracts cite: each is the contract of a function that does nothing.
-ghost use Rattle.upload_book.specs.ContentsStay.{ContentsStay};
-ghost use Rattle.upload_book.specs.FinalLaws.{FinalsStay};
-ghost use Rattle.upload_book.specs.PiecedCreation.{PiecedCreation};
-ghost use Rattle.upload_book.specs.Pieces.{PiecedPatch};
-ghost use Rattle.upload_book.specs.PiecesOfBook.{PiecedPatchOfBook};
-ghost use Rattle.upload_book.specs.Laws.{AccountsFollow, FollowOrder, HeadsFollow, ResumedPatch, RowsFollow};
+ghost use Rattle.upload_book.specs.laws.ContentsStay.{ContentsStay};
+ghost use Rattle.upload_book.specs.laws.FinalsStay.{FinalsStay};
+ghost use Rattle.upload_book.specs.laws.PiecedCreation.{PiecedCreation, PiecedCreationOfBook};
+ghost use Rattle.upload_book.specs.laws.PiecedPatch.{PiecedPatch};
+ghost use Rattle.upload_book.specs.laws.PiecedPatchOfBook.{PiecedPatchOfBook};
+ghost use Rattle.upload_book.specs.laws.Steps.{AccountsFollow, FollowOrder, HeadsFollow, ResumedPatch, RowsFollow};
 ghost use Rattle.upload_book.specs.snapshot.RestoreLaws.{PiecesLeave};
 ghost use Rattle.upload_book.specs.snapshot.Snapshot.{SnapshotsRestore};
 
@@ -36,6 +36,11 @@ pub fn pieced_patch_of_a_book()
 /// nothing between them, they come to what the creation comes to as one.
 pub fn pieced_creation()
     ensures { PiecedCreation }
+{}
+
+/// The same of a lawful book: both are accepted, the PATCH tells what the creation tells, and the book is the same after it.
+pub fn pieced_creation_of_a_book()
+    ensures { PiecedCreationOfBook }
 {}
 
 /// What a HEAD shows after a PATCH of an upload that was found, or why that is refused, is determined without the

@@ -82,12 +82,12 @@ abbrev pub IsApplied : PiecedBody → Type 0
 IsApplied b = is_patch (method_behind b.created b.layout.method) ≡ true
 
 -- Which piece of a body is lent. Nothing is held behind one that is not the last. One with more to come has at least the size of
--- a piece. One behind which the body was cut is for an upload.
+-- a piece, and one behind which the body was cut has less, and is for an upload.
 abbrev pub IsPart : Ahead → PiecedBody → Part → Type 0
 IsPart a b Middle = (lent_to a b < b.layout.body_len) × (a.held ≡ []) × (b.layout.head_len + b.piece ≤ length a.lent)
 IsPart a b Last = lent_to a b ≡ b.layout.body_len
-IsPart a b (Cut cut.Ended) = (lent_to a b < b.layout.body_len) × (a.held ≡ []) × (a.ended ≡ true) × IsApplied b
-IsPart a b (Cut cut.Fault) = (lent_to a b < b.layout.body_len) × (a.held ≡ []) × (a.ended ≡ false) × IsApplied b
+IsPart a b (Cut cut.Ended) = (lent_to a b < b.layout.body_len) × (a.held ≡ []) × (length a.lent < b.layout.head_len + b.piece) × (a.ended ≡ true) × IsApplied b
+IsPart a b (Cut cut.Fault) = (lent_to a b < b.layout.body_len) × (a.held ≡ []) × (length a.lent < b.layout.head_len + b.piece) × (a.ended ≡ false) × IsApplied b
 
 -- a piece of a body is lent behind its head
 pub record HasPiece (a : Ahead) (b : PiecedBody) (which : Part) : Type 0 where

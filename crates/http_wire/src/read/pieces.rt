@@ -1,9 +1,11 @@
 //! A body that is taken in pieces, as its bytes come.
-ghost use Rattle.std.specs.Prelude.{◌≡◌, ◌<◌, ℕ, List, None, Option, Some, IfSome};
+ghost use Rattle.std.specs.Prelude.{◌≡◌, ◌<◌, ◌+◌, ℕ, List, None, Option, Some, IfSome, length};
 ghost use Rattle.tus_steps.specs.InPieces.{method_behind};
 ghost use Rattle.tus_steps.specs.Method.{is_patch};
 ghost use Rattle.http_wire.specs.PiecedBody.{IsPlain, IsTaken, piece_at, pieced_by};
 ghost use Rattle.http_wire.specs.declared.body_limits.BodyLimits.{BodyLimits};
+ghost use Rattle.http_wire.specs.declared.incoming.Incoming.TheVariants.{CutOther};
+ghost use Rattle.http_wire.specs.declared.read.stage.Looked.TheVariants.{Came};
 ghost use Rattle.http_wire.specs.declared.read.stage.Stage.TheVariants as variants;
 ghost use Rattle.http_wire.specs.inside.Standing.{GathersAfter, HasRoomForPiece, IsNearer, Leaves, LooksOn, StaysBody, missing, pieced_after};
 
@@ -81,7 +83,8 @@ impl PiecedBody {
 }
 
 /// Looks for a piece of a body for which there is room: as many bytes as a piece has, or the rest of the body. All bytes that
-/// came are lent with the head, so that none is moved, but for those behind the body.
+/// came are lent with the head, so that none is moved, but for those behind the body. A cut one has fewer bytes than a piece, and
+/// so has a creation that is given up.
 pub fn look_for_piece(read_buffer: &mut ReadBuffer, body: &PiecedBody) -> Looked
     requires { HasRoomForPiece read_buffer.old body.now }
     ensures looks { (limits : BodyLimits) (bytes said gone : List ℕ) → IsTaken limits bytes said gone body.now read_buffer.old.held
@@ -91,6 +94,7 @@ pub fn look_for_piece(read_buffer: &mut ReadBuffer, body: &PiecedBody) -> Looked
         (variants.Pieces body.now) result }
     ensures body { StaysBody (Some body.now) (pieced_after (variants.Pieces body.now) result) }
     ensures gathers { (piece : Option ℕ) → GathersAfter piece read_buffer.new (variants.Pieces body.now) result }
+    ensures few { result ≡ Came CutOther → length read_buffer.old.held < body.now.layout.head_len + body.now.piece }
     ensures ended { read_buffer.new.ended ≡ read_buffer.old.ended }
 {
     let came = read_buffer.held().len() - body.layout.head_len;

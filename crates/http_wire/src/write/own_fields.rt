@@ -5,7 +5,7 @@ ghost use Rattle.tus_steps.specs.PlacedReply.{reply_in};
 
 use crate::write::page::{FIELDS_MAX, LINE_MAX, OPENING_MAX, Page, SHORT_MAX};
 use itoa::Buffer;
-use tus_steps::{Place, PlacedReply, ReplyKind};
+use tus_steps::{PathKind, PlacedReply, ReplyKind};
 use upload_book::{Moment, Refusal};
 
 /// Puts the fields of a reply of the steps.
@@ -82,12 +82,12 @@ fn allowed_in(reply: &PlacedReply) -> &'static [u8]
     match &reply.kind {
         ReplyKind::Refused {
             refusal: Refusal::Method,
-            place: Place::Create,
+            place: PathKind::Create,
             ..
         } => b"POST, OPTIONS",
         ReplyKind::Refused {
             refusal: Refusal::Method,
-            place: Place::Upload,
+            place: PathKind::Upload,
             ..
         } => b"HEAD, GET, PATCH, DELETE, OPTIONS",
         _ => b"",

@@ -13,7 +13,7 @@ use Rattle.upload_book.specs.declared.head_row.HeadRow.{HeadRow}
 use Rattle.upload_book.specs.declared.settings.Numbers.{Numbers}
 use Rattle.upload_book.specs.Heads.{HeadPart, accounts_of, head_part, head_part_at, heads_of, parts_after}
 use Rattle.upload_book.specs.HeadSteps.{IsWithin, MayChange}
-use Rattle.upload_book.specs.Laws.{LeadsTo}
+use Rattle.upload_book.specs.laws.Steps.{LeadsTo}
 use Rattle.upload_book.specs.Lawful.{IsLawful, IsTenantOf}
 use Rattle.upload_book.specs.PlainBook.{PlainBook, tenant_book, with_tenant_book}
 use Rattle.upload_book.specs.TenantBook.{Entry, TenantBook, kept_in, opening_part, visible_upload, with_changed, with_kept, with_new}

@@ -14,7 +14,7 @@ use Rattle.upload_book.specs.declared.refusal.Refusal.{Refusal}
 use Rattle.upload_book.specs.declared.settings.Numbers.{Numbers}
 use Rattle.upload_book.specs.Heads.{HeadPart, head_part, head_part_at, heads_of, with_row}
 use Rattle.upload_book.specs.HeadSteps.{MayBecome}
-use Rattle.upload_book.specs.Laws.{LeadsTo}
+use Rattle.upload_book.specs.laws.Steps.{LeadsTo}
 use Rattle.upload_book.specs.Lawful.{IsLawful}
 use Rattle.upload_book.specs.PlainBook.{PlainBook, tenant_book, with_tenant_book}
 use Rattle.upload_book.specs.TenantBook.{TenantBook, is_given, kept_in, visible_upload, with_changed}

@@ -3,7 +3,7 @@ use Rattle.std.proofs.Common.{ℕ, length}
 use Rattle.upload_book.specs.Change.{CanBeMade, book_after_change, head_change}
 use Rattle.upload_book.specs.declared.change.Change.{Change}
 use Rattle.upload_book.specs.declared.change.Change.TheVariants.{Append, Concat, Create, Restore, Sweep, Terminate}
-use Rattle.upload_book.specs.Laws.{HeadsFollow}
+use Rattle.upload_book.specs.laws.Steps.{HeadsFollow}
 use Rattle.upload_book.specs.Lawful.{IsLawful}
 use Rattle.upload_book.specs.PlainBook.{PlainBook}
 use Rattle.upload_book.proofs.Heads.HeadParts.{IsFollowed}

@@ -21,7 +21,7 @@ use Rattle.upload_book.specs.declared.settings.Numbers.{Numbers}
 use Rattle.upload_book.specs.declared.settings.TenantQuota.{TenantQuota}
 use Rattle.upload_book.specs.HeadNotes.{change_told, line_told}
 use Rattle.upload_book.specs.Heads.{Heads, accounts_of}
-use Rattle.upload_book.specs.Laws.{LeadsTo}
+use Rattle.upload_book.specs.laws.Steps.{LeadsTo}
 use Rattle.upload_book.specs.Lawful.{IsLawful}
 use Rattle.upload_book.specs.PlainBook.{PlainBook, tenant_book, with_tenant_book}
 use Rattle.upload_book.specs.Ready.{IsReadyForPiece, IsReadyForStep, piece_in, step_change}

@@ -19,7 +19,7 @@ use Rattle.upload_book.specs.declared.settings.Numbers.{Numbers}
 use Rattle.upload_book.specs.declared.settings.TenantQuota.{TenantQuota}
 use Rattle.upload_book.specs.Events.{ChangeEvent, HasUpload, IsJoinedBy, StandsAs, book_after_all, book_after_event}
 use Rattle.upload_book.specs.Expiry.{has_expired}
-use Rattle.upload_book.specs.FinalLaws.{FinalsStay, IsMadeIn, IsPutBackBy}
+use Rattle.upload_book.specs.laws.FinalsStay.{FinalsStay, IsMadeIn, IsPutBackBy}
 use Rattle.upload_book.specs.FirstChunk.{FirstChunk}
 use Rattle.upload_book.specs.NewFinal.{NewFinal}
 use Rattle.upload_book.specs.NewUpload.{NewUpload}

@@ -13,7 +13,7 @@ use Rattle.upload_book.specs.declared.refusal.Refusal.TheVariants.{Gone, Unknown
 use Rattle.upload_book.specs.declared.restored.Restored.{Restored}
 use Rattle.upload_book.specs.declared.restored.Restored.TheVariants as piece
 use Rattle.upload_book.specs.Expiry.{has_expired}
-use Rattle.upload_book.specs.Laws.{FollowOrder}
+use Rattle.upload_book.specs.laws.Steps.{FollowOrder}
 use Rattle.upload_book.specs.PlainBook.{PlainBook}
 use Rattle.upload_book.specs.Refusal.{unless}
 use Rattle.upload_book.specs.snapshot.Restore.{MayLackPiece, piece_refusal}

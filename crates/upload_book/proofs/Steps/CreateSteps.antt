@@ -14,14 +14,13 @@ use Rattle.upload_book.specs.Book.{StoredBook, IsBook, plain_of}
 use Rattle.upload_book.specs.Charge.{charge_in, charge_with}
 use Rattle.upload_book.specs.Create.{creation_refusal, creation_tests, create_answer, create_empty_answer, created_upload, part_after_create, part_after_create_empty}
 use Rattle.upload_book.specs.declared.create.Created.{Created}
-use Rattle.upload_book.specs.declared.operation.Operation.TheVariants.{CreateWith}
+use Rattle.upload_book.specs.Operation.{CreateWith, MayLackMemory}
 use Rattle.upload_book.specs.declared.refusal.Refusal.{Refusal}
 use Rattle.upload_book.specs.declared.refusal.Refusal.TheVariants.{Memory, Spent}
 use Rattle.upload_book.specs.declared.settings.Numbers.{Numbers}
 use Rattle.upload_book.specs.FirstChunk.{FirstChunk, count_all_first, no_chunk}
 use Rattle.upload_book.specs.Lawful.{IsLawful}
 use Rattle.upload_book.specs.NewUpload.{NewUpload}
-use Rattle.upload_book.specs.Operation.{MayLackMemory}
 use Rattle.upload_book.specs.PlainBook.{PlainBook, answer_of, book_after, tenant_book, with_tenant_book}
 use Rattle.upload_book.specs.Refusal.{IsAnswer, first_that_holds}
 use Rattle.upload_book.specs.BlockStore.{BlockStore, plain_in, part_at, stored_tenant_at}

@@ -1,4 +1,4 @@
-use Rattle.tus_steps.proofs.PiecesLemmas.{pieces_are_the_request}
+use Rattle.tus_steps.proofs.CreationPiecesLemmas.{pieces_are_the_request}
 use Rattle.tus_steps.proofs.laws.pieces_are_the_request.Goals as goal
 
 pub returns : goal.returns

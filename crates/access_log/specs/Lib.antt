@@ -1,0 +1,2 @@
+-- Lines of a log that wait to be written.
+pub mod Lines

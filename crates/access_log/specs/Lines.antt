@@ -1,0 +1,17 @@
+-- Lines of a log that wait to be written, each of which ends with LF.
+use Rattle.std.specs.Prelude.{◌≡◌, ◌≤◌, ◌⊎◌, ◌++◌, ℕ, List, [], ◌∷◌, drop, filter, length, nat_eq, take}
+
+-- how many lines end in a text
+abbrev pub line_count : List ℕ → ℕ
+line_count text = length (filter (λ byte. nat_eq byte 10) text)
+
+-- a text ends with LF, or is empty
+abbrev pub IsWhole : List ℕ → Type 0
+IsWhole text = (text ≡ []) ⊎ ((front : List ℕ) × (text ≡ front ++ 10 ∷ []))
+
+-- Of some lines the first ones, whole, and as many as have so many bytes together at most.
+pub record FirstLines (most : ℕ) (lines put : List ℕ) : Type 0 where
+  pub fits : length put ≤ most
+  pub first : put ≡ take (length put) lines
+  pub whole : IsWhole put
+  pub no_more : line_count (drop (length put) (take most lines)) ≡ 0

@@ -1,0 +1,2 @@
+-- What bytes at the port for numbers ask for.
+pub mod Question

@@ -1,0 +1,10 @@
+//! Each module tests a part, or helps those that do.
+
+mod asked;
+mod books;
+mod heads;
+mod requests;
+mod rows;
+mod runs;
+mod steps;
+mod told;

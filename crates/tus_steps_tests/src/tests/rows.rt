@@ -1,0 +1,45 @@
+//! Rows: requests one after another at a book, and what each is told.
+use crate::tests::books::book;
+use crate::tests::requests::Sent;
+use crate::tests::told::{Told, told_by};
+use std::alloc::Global;
+use std::process::Abort;
+use std::test::Fail;
+use tus_steps::answer;
+use upload_book::{Book, Moment};
+
+/// A request at a moment in seconds, and what its reply tells.
+pub(crate) struct Row<'a> {
+    pub(crate) now: u64,
+    pub(crate) sent: Sent<'a>,
+    pub(crate) told: Told<'a>,
+}
+
+/// A table of rows, each `now Method target [field: value, ..] body => told;`.
+macro_rules! rows {
+    ($($now:literal $method:ident $target:literal [$($name:ident: $field:expr),*] $body:literal => $told:expr;)*) => {
+        [$(Row {
+            now: $now,
+            sent: crate::tests::requests::sent!($method $target [$($name: $field),*] $body),
+            told: $told,
+        }),*]
+    };
+}
+
+pub(crate) use rows;
+
+/// Asks a new book what the rows ask, in turn.
+pub(crate) fn check(rt: &impl Abort, alloc: Global, rows: &[Row]) -> Result<(), Fail> {
+    let mut book = book(alloc)?;
+    for (place, row) in rows.iter().enumerate() {
+        check_row(rt, &mut book, place, row);
+    }
+    Ok(())
+}
+
+// Asks a book what the row at a place asks.
+fn check_row(rt: &impl Abort, book: &mut Book, place: usize, row: &Row) {
+    let now = Moment::new(row.now).expect(rt, "a moment");
+    let reply = answer(book, &row.sent.request(), now);
+    assert!(rt; told_by(&reply) == row.told, "row {place}");
+}

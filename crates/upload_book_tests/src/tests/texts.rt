@@ -1,0 +1,137 @@
+//! Texts that a book keeps, and names that are no upload's.
+
+use crate::tests::books::{
+    ACME, BETA, NUMBERS, acme, create, end, moment, new_book, new_final, part, send,
+};
+use std::process::Abort;
+use tus_text::check_metadata;
+use upload_book::{
+    Book, Chunk, Created, Kind, Moment, Name, NewFinal, NewUpload, Payload, Refusal, Refused,
+};
+
+const METADATA: &[u8] = b"a YQ==,b";
+
+// A complete partial upload of beta with texts.
+fn partial(rt: &impl Abort, book: &mut Book) -> Created {
+    assert!(rt; check_metadata(METADATA));
+    let beta = book.settings().tenant(BETA).expect(rt, "beta");
+    let new = NewUpload {
+        partial: true,
+        length: Some(0),
+        metadata: METADATA,
+        concat: b"partial",
+    };
+    let made = book.create(beta, new, moment(rt, 1000));
+    made.expect(rt, "a partial upload")
+}
+
+// A final upload of acme's first one twice, with texts.
+fn twice(rt: &impl Abort, book: &mut Book) -> Created {
+    assert!(rt; check_metadata(METADATA));
+    let acme = book.settings().tenant(ACME).expect(rt, "acme");
+    let parts = [Some(1), Some(1)];
+    let new = NewFinal {
+        metadata: METADATA,
+        ..new_final(rt, &parts)
+    };
+    let made = book.concat(acme, new, moment(rt, 1000));
+    made.expect(rt, "a final upload")
+}
+
+// An upload that was just made has this kind, the texts that it was made with, and the end that it was told.
+fn assert_shown(rt: &impl Abort, book: &Book, made: Created, kind: Kind, concat: &[u8]) {
+    let row = book.look(&made.name, moment(rt, 1000));
+    let row = row.expect(rt, "an upload");
+    assert!(rt; row.kind == kind && row.expires == made.expires);
+    assert!(rt; row.metadata.as_slice() == METADATA);
+    assert!(rt; row.concat.as_slice() == concat);
+}
+
+#[test]
+fn a_partial_upload_keeps_its_texts(rt: HostRuntime) {
+    let mut book = new_book(&rt, rt.alloc(), NUMBERS);
+    let made = partial(&rt, &mut book);
+    assert!(rt; made.name == Name { tenant: 1, id: 1 } && made.expires == Moment::new(4600));
+    assert_shown(&rt, &book, made, Kind::Partial, b"partial");
+}
+
+#[test]
+fn a_final_upload_keeps_its_texts(rt: HostRuntime) {
+    let mut book = new_book(&rt, rt.alloc(), NUMBERS);
+    part(&rt, &mut book, b"");
+    let made = twice(&rt, &mut book);
+    assert!(rt; made.name == acme(2) && made.expires.is_none());
+    assert_shown(&rt, &book, made, Kind::Final, b"final;/files/acme/1");
+}
+
+// Asserts that no upload of this name can be seen, read or ended.
+fn assert_unknown(rt: &impl Abort, book: &mut Book, name: &Name) {
+    let now = moment(rt, 1000);
+    assert!(rt; book.look(name, now).err() == Some(Refusal::Unknown));
+    assert!(rt; book.content(name, now, book.no_room()).err() == Some(Refusal::Unknown));
+    assert!(rt; book.terminate(name, now).err() == Some(Refusal::Unknown));
+}
+
+// Asserts that no upload of this name takes a byte.
+fn assert_no_append(rt: &impl Abort, book: &mut Book, name: &Name) {
+    let chunk = Chunk {
+        offset: 0,
+        length: None,
+        typed: true,
+        check: None,
+        bytes: Payload::new(b"x"),
+        more: 0,
+    };
+    let refused = Refused {
+        refusal: Refusal::Unknown,
+        expires: None,
+    };
+    assert!(rt; book.append(name, chunk, moment(rt, 1000)) == Err(refused));
+}
+
+// A third tenant has no upload, and is refused as an unknown one is.
+#[test]
+fn a_tenant_that_is_not_there(rt: HostRuntime) {
+    let mut book = new_book(&rt, rt.alloc(), NUMBERS);
+    let name = Name { tenant: 2, id: 1 };
+    assert_unknown(&rt, &mut book, &name);
+    assert_no_append(&rt, &mut book, &name);
+}
+
+// A GET of acme's first upload hands over these bytes, whatever the vector had into which they are copied.
+fn assert_handed_over(rt: &impl Abort, book: &Book, room: Vec<u8>, bytes: &[u8]) {
+    let content = book.content(&acme(1), moment(rt, 1000), room);
+    let content = content.expect(rt, "a content").into_vec();
+    assert!(rt; content.as_slice() == bytes);
+}
+
+#[test]
+fn a_content_is_handed_over(rt: HostRuntime) {
+    let mut book = new_book(&rt, rt.alloc(), NUMBERS);
+    part(&rt, &mut book, b"abcde");
+    assert_handed_over(&rt, &book, book.no_room(), b"abcde");
+    let used = Vec::from_slice(rt.alloc(), b"others");
+    assert_handed_over(&rt, &book, used.expect(&rt, "memory"), b"abcde");
+}
+
+// Acme's first upload, which has five of its nine bytes.
+fn unfinished(rt: &impl Abort, book: &mut Book) {
+    create(rt, book, ACME, Some(9));
+    send(rt, book, 1, b"abcde");
+}
+
+// Why there are no bytes of an upload so far.
+fn refused_so_far(rt: &impl Abort, book: &Book, name: &Name) -> Option<Refusal> {
+    book.so_far(name, moment(rt, 1000), book.no_room()).err()
+}
+
+#[test]
+fn the_bytes_so_far(rt: HostRuntime) {
+    let mut book = new_book(&rt, rt.alloc(), NUMBERS);
+    unfinished(&rt, &mut book);
+    let bytes = book.so_far(&acme(1), moment(&rt, 1000), book.no_room());
+    assert!(rt; bytes.expect(&rt, "the bytes").as_slice() == b"abcde".as_slice());
+    assert!(rt; refused_so_far(&rt, &book, &acme(2)) == Some(Refusal::Unknown));
+    end(&rt, &mut book, 1);
+    assert!(rt; refused_so_far(&rt, &book, &acme(1)) == Some(Refusal::Gone));
+}
