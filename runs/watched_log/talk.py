@@ -5,7 +5,9 @@ import re
 import tempfile
 from clients import Server, creation, everything, patch, request
 
+# A request whose target would be a line of the log, and a HEAD that is refused by a reply without a body.
 HOSTILE = b'GET /files/acme/1\x0a"Thu, 01 Jan 1970 00:00:00 GMT" 1.2.3.4:5 acme GET / HTTP/1.1\r\nHost: x\r\n\r\n'
+NO_HOST = b'HEAD /files/acme/1 HTTP/1.1\r\n\r\n'
 
 # Of an upload that never was, of a tenant that is none, of no upload, and of a tenant.
 REFUSED = ['/files/acme/9', '/files/nobody/1', '/nowhere', '/files/acme']
@@ -17,9 +19,10 @@ with tempfile.TemporaryDirectory() as folder:
         client.sendall(creation('acme', 5) + request('HEAD', '/files/acme/1') + patch('/files/acme/1', 0, b'hello')
                        + patch('/files/acme/1', 9, b'x') + request('GET', '/files/acme/1', 'Connection: close'))
         everything(client)
-    with server.connect() as client:
-        client.sendall(HOSTILE)
-        everything(client)
+    for refused in [HOSTILE, NO_HOST]:
+        with server.connect() as client:
+            client.sendall(refused)
+            everything(client)
     with server.connect() as client:
         client.sendall(patch('/files/acme/1', 5, b'he', length=5))
         everything(client)

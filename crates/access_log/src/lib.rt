@@ -2,7 +2,6 @@
 //! the thread that writes the lines.
 #![tactic(auto)]
 
-mod head_word;
 mod log_writer;
 mod resident;
 mod seen;
@@ -10,6 +9,6 @@ mod watch;
 mod watching;
 
 pub use log_writer::LogTarget;
-pub use seen::{Seen, SeenRequest};
+pub use seen::{Seen, SeenReply, SeenRequest};
 pub use watch::Watch;
 pub use watching::Watching;

@@ -104,7 +104,7 @@ struct Waiting {
 }
 
 impl Waiting {
-    // Puts as many of the first lines as there is room for, and gives how many bytes these have.
+    // Puts as many of the first lines as there is room for, or none where memory is lacking, and gives how many bytes these have.
     fn put(&mut self, lines: &[u8]) -> usize
         ensures puts { self.new.lines.items ≡ self.old.lines.items ++ take result lines.now }
         ensures whole { IsWhole (take result lines.now) }
@@ -137,7 +137,7 @@ struct Queue {
 }
 
 impl Queue {
-    // Puts as many of the first lines as there is room for, and gives how many are lost.
+    // Puts as many of the first lines as there is room and memory for, and gives how many are lost.
     fn put<W: Wait>(&self, rt: &W, lines: &[u8]) -> u64 {
         let mut waiting = self.waiting.lock(rt);
         let put = waiting.put(lines);

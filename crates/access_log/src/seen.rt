@@ -1,25 +1,15 @@
 //! What is seen of the requests of one client, until it is told.
-ghost use Rattle.std.specs.Prelude.{◌≤◌, IfSome, vec_len};
+ghost use Rattle.std.specs.Prelude.{◌≡◌, ◌≢◌, ◌≤◌, Some, vec_len};
+ghost use Rattle.tus_steps.specs.declared.method.Method.TheVariants.{Post};
 
-use crate::head_word::head_refusal;
-use service_watch::{WORD_MAX, Word};
+use service_watch::Word;
 use std::alloc::Global;
 use std::net::SocketAddr;
 use tus_steps::Method;
 use tus_text::Path;
-use upload_book::Settings;
-
-/// What every reply begins with, before its status.
-const VERSION: &[u8] = b"HTTP/1.1 ";
-
-/// What stands between the head of a reply and its body.
-const EMPTY_LINE: &[u8] = b"\r\n\r\n";
 
 /// The most bytes of a target that are told.
 const TARGET_MAX: usize = 1_024;
-
-/// The least status of a refusal.
-const REFUSED: u16 = 400;
 
 /// A request that came in, or a part of one, as it is to be answered.
 #[derive(Clone, Copy)]
@@ -34,6 +24,17 @@ pub struct SeenRequest<'a> {
     pub received: u64,
 }
 
+/// What a reply tells.
+#[derive(Drop)]
+pub struct SeenReply {
+    /// Its status.
+    pub status: u16,
+    /// The status where it answers the last piece of a creation, which gets the reply to the creation.
+    pub creation_status: u16,
+    /// The word of its refusal; empty where it refuses nothing.
+    pub word: Word,
+}
+
 /// One request that was answered.
 #[derive(Drop)]
 pub(crate) struct Answered {
@@ -44,7 +45,7 @@ pub(crate) struct Answered {
     pub target: Vec<u8>,
     /// The status of its reply; none where it gets none.
     pub status: Option<u16>,
-    /// The word of its refusal, as the body of the reply tells it. That to a HEAD has none: its word is found when it is told.
+    /// The word of its refusal; empty where it was not refused.
     pub word: Word,
     /// How many bytes came of its body, and how many its reply has.
     pub received: u64,
@@ -82,14 +83,22 @@ pub struct Seen {
 }
 
 impl Answered {
-    /// Finds the word of a HEAD that was refused. The word of any other request stays.
-    pub fn name_refusal(&mut self, settings: &Settings) {
-        let (Some(Method::Head), Some(status)) = (self.method, self.status) else {
-            return;
+    // Notes what its reply tells. A creation is told as one, also where its reply is that to its last piece.
+    fn note(&mut self, reply: SeenReply)
+        ensures created { self.old.method ≡ Some Post → self.new.status ≡ Some reply.creation_status }
+        ensures other { self.old.method ≢ Some Post → self.new.status ≡ Some reply.status }
+        ensures word { self.new.word ≡ reply.word }
+    {
+        let SeenReply {
+            status,
+            creation_status,
+            word,
+        } = reply;
+        self.status = match self.method {
+            Some(Method::Post) => Some(creation_status),
+            _ => Some(status),
         };
-        if let Some(refusal) = head_refusal(settings, &self.path, status) {
-            self.word = Word::of(refusal.word().as_bytes());
-        }
+        self.word = word;
     }
 }
 
@@ -131,8 +140,9 @@ impl Record {
         self.began.take().unwrap_or(self.now)
     }
 
-    // A request whose body has more pieces to come is told with its last one, as it began.
-    fn answer(&mut self, is_in_pieces: bool, pending: &[u8], pending_len: usize) {
+    // A request whose body has more pieces to come is told with its last one, as it began. A reply that is not sent, as that to a
+    // PATCH that was cut, is not told.
+    fn answer(&mut self, is_in_pieces: bool, reply: Option<SeenReply>, pending: usize) {
         let Some(mut answered) = self.asked.take() else {
             return;
         };
@@ -148,11 +158,11 @@ impl Record {
                 ..begun
             };
         }
-        let put = pending_len.saturating_sub(self.before);
-        answered.sent = put as u64;
-        if let Some(reply) = pending.get(self.before..) {
-            answered.status = status_of(reply);
-            answered.word = word_of(answered.status, reply);
+        answered.sent = pending.saturating_sub(self.before) as u64;
+        if let Some(reply) = reply
+            && answered.sent > 0
+        {
+            answered.note(reply);
         }
         if self.answered.push(answered).is_err() {
             self.lost = self.lost.saturating_add(1);
@@ -224,12 +234,12 @@ impl Seen {
         }
     }
 
-    /// What was to be answered was. Now `pending_len` bytes are pending, the first of which are `pending`. The reply, if there is
-    /// one, stands behind those that were pending when it was asked. Where this was a piece of a body with more to come
-    /// (`is_in_pieces`), the request is told with its last one. Where memory is lacking, it is counted as lost.
-    pub fn has_answered(&mut self, is_in_pieces: bool, pending: &[u8], pending_len: usize) {
+    /// What was to be answered was, by this reply if it got one, and now so many bytes are pending. Where these are no more than
+    /// when it was asked, the reply is not sent, as that to a PATCH that was cut. Where this was a piece of a body with more to
+    /// come (`is_in_pieces`), the request is told with its last one. Where memory is lacking, it is counted as lost.
+    pub fn has_answered(&mut self, is_in_pieces: bool, reply: Option<SeenReply>, pending: usize) {
         if let Some(record) = &mut self.record {
-            record.answer(is_in_pieces, pending, pending_len);
+            record.answer(is_in_pieces, reply, pending);
         }
     }
 }
@@ -283,53 +293,4 @@ fn copied(path: &Path) -> Path {
         },
         Path::Other => Path::Other,
     }
-}
-
-// The status of a reply.
-fn status_of(reply: &[u8]) -> Option<u16> {
-    match reply.strip_prefix(VERSION)? {
-        [a, b, c, ..] => Some(digit(*a)? * 100 + digit(*b)? * 10 + digit(*c)?),
-        _ => None,
-    }
-}
-
-fn digit(byte: u8) -> Option<u16>
-    ensures { IfSome result (λ d. d ≤ 9) }
-{
-    if byte.is_ascii_digit() {
-        Some(u16::from(byte - b'0'))
-    } else {
-        None
-    }
-}
-
-// The word of a refusal, which is the body of its reply but for LF.
-fn word_of(status: Option<u16>, reply: &[u8]) -> Word {
-    match status {
-        Some(status) if status >= REFUSED => word_in(reply),
-        _ => Word::empty(),
-    }
-}
-
-fn word_in(reply: &[u8]) -> Word {
-    let Some(place) = place_of_body(reply) else {
-        return Word::empty();
-    };
-    match without_line_feed(reply.get(place..).unwrap_or(b"")) {
-        Some(word) if word.len() <= WORD_MAX => Word::of(word),
-        _ => Word::empty(),
-    }
-}
-
-// What stands before the LF that ends a body.
-fn without_line_feed(body: &[u8]) -> Option<&[u8]> {
-    body.strip_suffix(b"\n")
-}
-
-// Where the body of a reply begins.
-fn place_of_body(reply: &[u8]) -> Option<usize> {
-    let place = reply
-        .windows(EMPTY_LINE.len())
-        .position(|part| part == EMPTY_LINE)?;
-    Some(place.saturating_add(EMPTY_LINE.len()))
 }

@@ -3,7 +3,7 @@
 use crate::seen::{Answered, Record, Seen};
 use crate::watching::Watching;
 use service_watch::{
-    Counts, Cut, CutLine, Log, RequestLine, WORD_MAX, Word, count_named, count_reply, method_name,
+    Counts, Cut, CutLine, Log, RequestLine, Word, count_named, count_reply, method_name,
 };
 use std::alloc::{AllocError, Global};
 use std::net::SocketAddr;
@@ -11,7 +11,7 @@ use std::sync::Wait;
 use std::time::Instant;
 use std::{mem, time};
 use tus_text::Path;
-use upload_book::{Moment, Settings};
+use upload_book::Moment;
 
 /// Something that is to be told.
 #[derive(Drop)]
@@ -91,16 +91,9 @@ impl<'a> Watch<'a> {
     }
 
     /// Takes what was seen of a client after a turn that ended at this microsecond of the worker's clock, of whose replies so many
-    /// bytes are not sent yet. A request is told once all of its reply was sent, or the connection has ended. By the settings it
-    /// finds why a HEAD was refused. Where memory is lacking, a request is counted as lost.
-    pub fn gather(
-        &mut self,
-        settings: &Settings,
-        seen: &mut Seen,
-        micros: u64,
-        unsent: u64,
-        has_ended: bool,
-    ) {
+    /// bytes are not sent yet. A request is told once all of its reply was sent, or the connection has ended. Where memory is
+    /// lacking, a request is counted as lost.
+    pub fn gather(&mut self, seen: &mut Seen, micros: u64, unsent: u64, has_ended: bool) {
         let Some(record) = &mut seen.record else {
             return;
         };
@@ -120,8 +113,7 @@ impl<'a> Watch<'a> {
             return;
         }
         let peer = record.peer;
-        for (place, mut answered) in record.answered.drain(..told).enumerate() {
-            answered.name_refusal(settings);
+        for (place, answered) in record.answered.drain(..told).enumerate() {
             let micros = micros.saturating_sub(answered.began);
             let was_sent = place < sent && answered.status.is_some();
             self.finish(Finished::Request {

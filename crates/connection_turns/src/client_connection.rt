@@ -38,8 +38,8 @@ pub struct ClientConnection {
 
 impl ClientConnection {
     /// A client of which nothing was read. Its bodies have at most as many bytes as `limits` tell, each below 2^62. It has at most
-    /// `left` messages. Where there is a `piece`, above 0, bodies without a checksum are taken in pieces of so many bytes,
-    /// as [`Connection::by_pieces`] says.
+    /// `left` messages. Where there is a `piece`, above 0, longer bodies of PATCH and POST without a checksum are taken in pieces
+    /// of so many bytes, as [`Connection::by_pieces`] says.
     pub fn new(limits: BodyLimits, piece: Option<usize>, left: usize) -> Self
         requires limits { AreSmall limits }
         requires some { IfSome piece (λ n. 0 < n) }

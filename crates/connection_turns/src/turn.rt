@@ -330,6 +330,7 @@ pub fn wants_of(connection: &mut Connection, left: usize) -> Wants
     ensures read { result ≡ Wants.Read → wanted connection.new ≡ Wants.Read }
     ensures write { result ≡ Wants.Write → connection.new.write_buffer.pending ≢ [] }
     ensures answer { result ≡ Wants.Answer → wanted connection.new ≡ Wants.Answer }
+    ensures wants { 0 < left → result ≡ wanted connection.new }
     ensures some { result ≡ Wants.Answer → 0 < left }
     ensures some_read { result ≡ Wants.Read → 0 < left }
     ensures nothing { result ≡ Wants.Nothing → (wanted connection.new ≡ Wants.Nothing) ⊎ (left ≡ 0) }

@@ -154,8 +154,9 @@ IsLastSize size None len = size ≤ len
 IsLastSize size (Some why) len = len < size
 
 -- Whole messages were taken and answered, and then pieces of the next, which is a PATCH or a POST without a checksum. All but the
--- last piece were accepted, and had the size of a piece. The last has all bytes that came behind those, and more was to come: it
--- has the size too where it was refused, and fewer where the body was cut behind it. With it the connection ends so, at its moment.
+-- last piece were accepted, and had at least the size of a piece. The last has all bytes that came behind those, and more was to
+-- come: it has that size too where it was refused, and fewer where the body was cut behind it. With it the connection ends so, at
+-- its moment.
 pub record StoppedInPieces (p : History) (c : OnConnection) (why : Option Cut) : Type 0 where
   pub start : List ℕ
   pub text : List ℕ

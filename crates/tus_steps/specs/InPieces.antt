@@ -132,8 +132,8 @@ pub record IsPlainCreation (r : Request) : Type 0 where
 
 -- A PATCH that is accepted as one at a moment. However it is cut, with pieces of some bytes each at no later moment and nothing
 -- between: each of them is accepted, and the rest gets the reply to the whole, and leaves the book that the whole leaves. If the
--- rest is accepted it gets no other reply. So it is with a creation, while the upload lasts that its first piece created: behind
--- it the others are PATCHes of the upload, and by the last reply all of it gets the reply to the whole.
+-- rest is accepted it gets no other reply. The pieces of a creation can be accepted in the same way, while the upload lasts that
+-- its first piece created: behind it the others are PATCHes of the upload, and by the last reply all gets the reply to the whole.
 pub record PiecesAreTheRequest : Type 0 where
   pub taken :
       (b : PlainBook) (r : Request) (pieces : List PieceAt) (now : ℕ) (reply : Reply) (after : PlainBook) → IsLawful b → IsPlainPatch r

@@ -39,7 +39,7 @@ pub fn other_neighbours()
     ensures { OtherNeighbours }
 {}
 
-/// A PATCH without a checksum may be taken in pieces. However it is cut, with nothing between, its pieces are its whole step:
+/// A PATCH or a creation without a checksum may be taken in pieces. However it is cut, with nothing between, its pieces are its whole step:
 /// where it is accepted as one at the moment of the last, each is accepted, and the last reply and the book are those of the
 /// whole.
 pub fn pieces_are_the_request()

@@ -1,2 +1,3 @@
--- What a worker serves.
+-- What a worker serves, and what is noted of a reply.
+pub mod Noting
 pub mod Serving

@@ -10,6 +10,7 @@ use crate::connections::Connections;
 use crate::door::{Door, Entry, LISTENER};
 use crate::keeping::{Compacting, Keeping};
 use crate::machine_clock::MachineClock;
+use crate::noting::{NotedReply, Noting};
 use crate::server_state::ServerState;
 use crate::stream::MESSAGES_MAX;
 use crate::sweeping::sweep_expired;
@@ -45,8 +46,8 @@ const MANNERS_MILLIS: u64 = 1;
 
 /// What a worker has besides its door and its desk.
 #[derive(Drop)]
-struct Rounds<'a, H: Wait + time::Clock> {
-    connections: Connections<'a, H>,
+struct Rounds<'a, 'n, H: Wait + time::Clock> {
+    connections: Connections<'a, 'n, H>,
     // Where numbers are asked for, if it is at this worker.
     metrics: Option<MetricsDoor>,
     clock: MachineClock<'a, H>,
@@ -89,7 +90,8 @@ impl<
         ensures unasked { self.now.options.grace ≡ None → A.is_stopped worker.new.acceptor ≡ false }
     {
         let poll = self.server_state.bodies.take_poll(self.rt, number);
-        let prepared = self.prepare_connections(number, worker.desk.settings());
+        let noted = NotedReply::new(None);
+        let prepared = self.prepare_connections(number, worker.desk.settings(), &noted);
         let (Some(poll), Ok((mut rounds, mut events))) = (poll, prepared) else {
             self.say("tus-server: a worker ended, since it found no memory for its clients");
             worker.acceptor.give_up();
@@ -101,12 +103,14 @@ impl<
         }
     }
 
-    // The clients of this worker, of which there are none yet, and the room for events. The error is that there is no memory.
-    fn prepare_connections(
+    // The clients of this worker, of which there are none yet, and the room for events. What a reply tells is put to `noted`. The
+    // error is that there is no memory.
+    fn prepare_connections<'n>(
         &self,
         number: usize,
         settings: &Settings,
-    ) -> Result<(Rounds<'a, H>, Events), AllocError> {
+        noted: &'n NotedReply,
+    ) -> Result<(Rounds<'a, 'n, H>, Events), AllocError> {
         let events = Events::with_capacity(self.alloc, EVENTS_MAX)?;
         let connections = Connections::new(
             self.rt,
@@ -117,6 +121,7 @@ impl<
             settings.copied(),
             self.options.at_once,
             self.watch(),
+            noted,
         )?;
         let rounds = Rounds {
             connections,
@@ -147,7 +152,7 @@ impl<
         &self,
         worker: &mut Worker<C, R, M, A>,
         door: &mut Door,
-        rounds: &mut Rounds<'a, H>,
+        rounds: &mut Rounds<'a, '_, H>,
         events: &mut Events,
     ) -> bool
         requires unstopped { A.is_stopped worker.old.acceptor ≡ false }
@@ -189,7 +194,7 @@ impl<
         &self,
         worker: &mut Worker<C, R, M, A>,
         door: &mut Door,
-        rounds: &mut Rounds<'a, H>,
+        rounds: &mut Rounds<'a, '_, H>,
         events: &mut Events,
     ) -> bool
         ensures acceptor { worker.new.acceptor ≡ worker.old.acceptor }
@@ -213,7 +218,7 @@ impl<
     }
 
     // Waits for events. It is false where the system tells of none, which is said, or all workers are to end.
-    fn goes_on(&self, door: &mut Door, rounds: &Rounds<'a, H>, events: &mut Events) -> bool
+    fn goes_on(&self, door: &mut Door, rounds: &Rounds<'a, '_, H>, events: &mut Events) -> bool
         ensures { door.new.left ≡ door.old.left }
     {
         if self.server_state.are_to_end() {
@@ -229,7 +234,7 @@ impl<
 
     // Whether nobody needs this worker any more: it has no clients, and where numbers are asked for here, the other workers
     // have ended, and each reply was sent.
-    fn may_leave(&self, rounds: &Rounds<'a, H>) -> bool {
+    fn may_leave(&self, rounds: &Rounds<'a, '_, H>) -> bool {
         rounds.connections.len() == 0
             && match &rounds.metrics {
                 Some(metrics) => self.server_state.has_one_left() && !metrics.owes(),
@@ -254,7 +259,7 @@ impl<
         &self,
         desk: &mut Desk<C, R, M>,
         door: &Door,
-        rounds: &mut Rounds<'a, H>,
+        rounds: &mut Rounds<'a, '_, H>,
         events: &Events,
     ) {
         let (Some(metrics), Some(watching)) = (&mut rounds.metrics, &self.server_state.watching)
@@ -272,7 +277,7 @@ impl<
     }
 
     // For how many milliseconds it may wait for events.
-    fn patience(&self, door: &Door, rounds: &Rounds<'a, H>) -> u64 {
+    fn patience(&self, door: &Door, rounds: &Rounds<'a, '_, H>) -> u64 {
         let may_come = rounds.stopped.is_none()
             && door.has_rung()
             && rounds.connections.len() < self.options.at_once;
@@ -286,7 +291,7 @@ impl<
     }
 
     // Serves the clients that are ready by the desk that the worker has.
-    fn serve_all(&self, desk: &mut Desk<C, R, M>, rounds: &mut Rounds<'a, H>, events: &Events) {
+    fn serve_all(&self, desk: &mut Desk<C, R, M>, rounds: &mut Rounds<'a, '_, H>, events: &Events) {
         replace_with(desk, (), |desk, _| {
             (self.serve_ready(desk, rounds, events), ())
         });
@@ -298,30 +303,31 @@ impl<
     fn serve_ready(
         &self,
         desk: Desk<C, R, M>,
-        rounds: &mut Rounds<'a, H>,
+        rounds: &mut Rounds<'a, '_, H>,
         events: &Events,
     ) -> Desk<C, R, M> {
         let second = second_since(self.rt, &rounds.start);
         let mut at = AtDesk::new(self.rt, desk, self.shared, &NoGate);
         at.asked = rounds.asked;
-        let mut answerer = AtKeptDesk::new(at, self.keeping);
+        let kept = AtKeptDesk::new(at, self.keeping);
+        let mut answerer = Noting::new(kept, rounds.connections.noted);
         rounds.turn_ready(events, &mut answerer, second);
-        self.send_kept(&mut answerer, rounds, second);
+        self.send_kept(&mut answerer.inner, rounds, second);
         if rounds.is_over(second, self.options.grace) {
             rounds.connections.cut_all(&mut answerer, &mut rounds.clock);
-            self.send_kept(&mut answerer, rounds, second);
+            self.send_kept(&mut answerer.inner, rounds, second);
         }
         if second != rounds.second {
             rounds.pass_second(&mut answerer, second);
-            answerer.sweep_once(rounds.clock.moment());
+            answerer.inner.sweep_once(rounds.clock.moment());
             self.tell_of_threads(rounds.second);
             rounds.second = second;
             rounds.has_rung = true;
             // What came of a body that was cut off is kept, also where nobody is left.
-            self.send_kept(&mut answerer, rounds, second);
-            self.note_compacting(answerer.compact());
+            self.send_kept(&mut answerer.inner, rounds, second);
+            self.note_compacting(answerer.inner.compact());
         }
-        let at = answerer.into_desk();
+        let at = answerer.into_inner().into_desk();
         rounds.asked = at.asked;
         rounds.note_sweeps(at.sweeps);
         at.into_desk()
@@ -332,7 +338,7 @@ impl<
     fn send_kept(
         &self,
         answerer: &mut AtKeptDesk<'a, C, R, M, H, B, NoGate, K>,
-        rounds: &mut Rounds<'a, H>,
+        rounds: &mut Rounds<'a, '_, H>,
         second: u64,
     ) {
         if !answerer.holds_back() {
@@ -369,7 +375,7 @@ impl<
         &self,
         worker: &mut Worker<C, R, M, A>,
         door: &mut Door,
-        rounds: &mut Rounds<'a, H>,
+        rounds: &mut Rounds<'a, '_, H>,
     )
         requires unstopped { A.is_stopped worker.old.acceptor ≡ false }
         requires within { A.accepted worker.old.acceptor + door.old.left < 2 ^ 64 }
@@ -427,7 +433,7 @@ impl<
     }
 
     // Whether it has more clients than others, by more than one.
-    fn has_more_than_others(&self, rounds: &Rounds<'a, H>) -> bool {
+    fn has_more_than_others(&self, rounds: &Rounds<'a, '_, H>) -> bool {
         let clients = rounds.connections.len() as u64;
         let all = self.server_state.open.load(Ordering::Relaxed);
         let workers = self.server_state.workers;
@@ -435,7 +441,7 @@ impl<
     }
 
     // Tells the others how many clients it has.
-    fn tell_of_clients(&self, rounds: &mut Rounds<'a, H>) {
+    fn tell_of_clients(&self, rounds: &mut Rounds<'a, '_, H>) {
         let clients = rounds.connections.len() as u64;
         let open = &self.server_state.open;
         if clients > rounds.told {
@@ -461,7 +467,7 @@ impl<
     }
 }
 
-impl<'a, H: Wait + time::Clock + Eprint> Rounds<'a, H> {
+impl<'a, 'n, H: Wait + time::Clock + Eprint> Rounds<'a, 'n, H> {
     // Notes that uploads that had expired were ended so often.
     fn note_sweeps(&mut self, sweeps: u64) {
         if let Some(watch) = &mut self.connections.watch {

@@ -1,7 +1,6 @@
 //! A client with its stream, as its worker holds it.
 
 use crate::witness::Witness;
-use access_log::Seen;
 use connection_turns::{
     AsTheyCome, Busy, ClientBounds, ClientConnection, Durability, Late, Observer, Pace, Precedence,
     Streams, TurnOutcome, Turned,
@@ -75,7 +74,7 @@ impl Write for Gone {
 
 /// A client, with its stream.
 #[derive(Drop)]
-pub(crate) struct Client {
+pub(crate) struct Client<'n> {
     stream: TcpStream,
     client_connection: ClientConnection,
     standing: Standing,
@@ -92,16 +91,16 @@ pub(crate) struct Client {
     /// Whether it ended since a write failed, or memory was lacking.
     pub has_failed: bool,
     /// Who sees its turns, and what was seen of its requests.
-    pub witness: Witness,
+    pub witness: Witness<'n>,
 }
 
-impl Client {
-    /// A client that came at this second.
+impl<'n> Client<'n> {
+    /// A client that came at this second, whose turns this witness sees.
     pub fn new(
         stream: TcpStream,
         client_connection: ClientConnection,
         second: u64,
-        seen: Seen,
+        witness: Witness<'n>,
     ) -> Self {
         Client {
             stream,
@@ -113,7 +112,7 @@ impl Client {
             is_listed: false,
             has_gone_on: false,
             has_failed: false,
-            witness: Witness::new(seen),
+            witness,
         }
     }
 

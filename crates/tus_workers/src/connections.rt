@@ -3,7 +3,9 @@ ghost use mathlib.Core.List.{IsPrefix};
 
 use crate::bodies::Bodies;
 use crate::client::{Client, Next};
+use crate::noting::NotedReply;
 use crate::precedence::{NewestFirst, upload_of};
+use crate::witness::Witness;
 use access_log::{Seen, Watch};
 use connection_turns::{Busy, ClientBounds, ClientConnection, Durability, Late};
 use http_wire::{Buffers, Clock};
@@ -21,7 +23,7 @@ use upload_book::Settings;
 
 /// The clients of one worker, under keys that are the tokens of their streams.
 #[derive(Drop)]
-pub(crate) struct Connections<'a, W: Wait> {
+pub(crate) struct Connections<'a, 'n, W: Wait> {
     rt: &'a W,
     alloc: Global,
     bodies: &'a Bodies,
@@ -29,7 +31,7 @@ pub(crate) struct Connections<'a, W: Wait> {
     number: usize,
     bounds: ClientBounds,
     settings: Settings,
-    clients: Slab<Client>,
+    clients: Slab<Client<'n>>,
     free: Vec<Buffers>,
     // The keys of those that have more to do, of which no event need tell, and a list to put such keys to while these are
     // taken up.
@@ -43,9 +45,11 @@ pub(crate) struct Connections<'a, W: Wait> {
     is_ending: bool,
     /// What was seen and is not told yet; none where nobody watches.
     pub watch: Option<Watch<'a>>,
+    /// What the last reply tells.
+    pub noted: &'n NotedReply,
 }
 
-impl<'a, W: Wait + time::Clock> Connections<'a, W> {
+impl<'a, 'n, W: Wait + time::Clock> Connections<'a, 'n, W> {
     /// No clients, at the worker with this number. The error is that there is no memory for so many.
     pub fn new(
         rt: &'a W,
@@ -56,6 +60,7 @@ impl<'a, W: Wait + time::Clock> Connections<'a, W> {
         settings: Settings,
         most: usize,
         watch: Option<Watch<'a>>,
+        noted: &'n NotedReply,
     ) -> Result<Self, AllocError> {
         Ok(Connections {
             rt,
@@ -72,6 +77,7 @@ impl<'a, W: Wait + time::Clock> Connections<'a, W> {
             held: Vec::new(alloc),
             is_ending: false,
             watch,
+            noted,
         })
     }
 
@@ -93,10 +99,10 @@ impl<'a, W: Wait + time::Clock> Connections<'a, W> {
         client_connection: ClientConnection,
         second: u64,
     ) {
-        let seen = seen_at(&mut self.watch, &stream);
+        let witness = Witness::new(seen_at(&mut self.watch, &stream), self.noted);
         let Ok(key) = self
             .clients
-            .insert(Client::new(stream, client_connection, second, seen))
+            .insert(Client::new(stream, client_connection, second, witness))
         else {
             return;
         };
@@ -162,14 +168,7 @@ impl<'a, W: Wait + time::Clock> Connections<'a, W> {
         );
         note_body(self.rt, self.bodies, &self.settings, client, holder);
         let unsent = client.unsent();
-        gather(
-            &mut self.watch,
-            self.rt,
-            &self.settings,
-            client,
-            unsent,
-            next == Next::Ends,
-        );
+        gather(&mut self.watch, self.rt, client, unsent, next == Next::Ends);
         self.go_after(key, next);
     }
 
@@ -253,14 +252,7 @@ impl<'a, W: Wait + time::Clock> Connections<'a, W> {
         let next = client.send(&mut self.free, second);
         note_body(self.rt, self.bodies, &self.settings, client, holder);
         let unsent = client.unsent();
-        gather(
-            &mut self.watch,
-            self.rt,
-            &self.settings,
-            client,
-            unsent,
-            next == Next::Ends,
-        );
+        gather(&mut self.watch, self.rt, client, unsent, next == Next::Ends);
         self.go_after(key, next);
     }
 
@@ -370,14 +362,7 @@ impl<'a, W: Wait + time::Clock> Connections<'a, W> {
             note_cut(&mut self.watch, client, why);
             let unsent = client.unsent();
             client.cut(self.alloc, &mut self.free, answerer, clock);
-            gather(
-                &mut self.watch,
-                self.rt,
-                &self.settings,
-                client,
-                unsent,
-                true,
-            );
+            gather(&mut self.watch, self.rt, client, unsent, true);
             self.remove(key);
         }
     }
@@ -414,7 +399,6 @@ fn begin_turn<W: time::Clock>(watch: &Option<Watch>, rt: &W, client: &mut Client
 fn gather<W: time::Clock>(
     watch: &mut Option<Watch>,
     rt: &W,
-    settings: &Settings,
     client: &mut Client,
     unsent: u64,
     has_ended: bool,
@@ -424,13 +408,7 @@ fn gather<W: time::Clock>(
             watch.cut(&client.witness.seen, Cut::Failed);
         }
         let micros = watch.micros(rt);
-        watch.gather(
-            settings,
-            &mut client.witness.seen,
-            micros,
-            unsent,
-            has_ended,
-        );
+        watch.gather(&mut client.witness.seen, micros, unsent, has_ended);
     }
 }
 

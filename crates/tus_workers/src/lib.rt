@@ -13,6 +13,7 @@ mod descriptors;
 mod door;
 mod keeping;
 mod machine_clock;
+mod noting;
 mod numbers;
 mod precedence;
 mod server_state;

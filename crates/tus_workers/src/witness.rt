@@ -1,5 +1,6 @@
 //! Who sees the turns of a client.
 
+use crate::noting::{NotedReply, seen_refusal};
 use access_log::{Seen, SeenRequest};
 use connection_turns::Observer;
 use http_wire::{Connection, Incoming, Message};
@@ -7,18 +8,21 @@ use std::mem;
 
 /// Who sees the turns of one client.
 #[derive(Drop)]
-pub(crate) struct Witness {
+pub(crate) struct Witness<'n> {
     /// What is told of them in the access log.
     pub seen: Seen,
+    // What the last reply tells, as who answered has noted it.
+    noted: &'n NotedReply,
     // Whether a piece of a body was stored, with more of the body to come, and nobody asked for that yet.
     has_stored: bool,
 }
 
-impl Witness {
-    /// Nothing has happened yet, and what will is noted in `seen`.
-    pub fn new(seen: Seen) -> Self {
+impl<'n> Witness<'n> {
+    /// Nothing has happened yet, and what will is noted in `seen`. What a reply tells is found in `noted`.
+    pub fn new(seen: Seen, noted: &'n NotedReply) -> Self {
         Witness {
             seen,
+            noted,
             has_stored: false,
         }
     }
@@ -41,7 +45,7 @@ impl Witness {
     }
 }
 
-impl Observer for Witness {
+impl Observer for Witness<'_> {
     fn has_read(&mut self, bytes: usize) {
         self.seen.has_read(bytes);
     }
@@ -61,7 +65,10 @@ impl Observer for Witness {
             | (None, Some(Incoming::Message(message) | Incoming::CutPatch(message, _))) => {
                 self.ask(&message, pending);
             }
-            (None, Some(Incoming::Refused(_, _))) => self.seen.asks_unreadable(pending),
+            (None, Some(Incoming::Refused(refusal, _))) => {
+                self.noted.set(Some(seen_refusal(refusal)));
+                self.seen.asks_unreadable(pending);
+            }
             (None, _) => self.seen.asks_nothing(pending),
         }
     }
@@ -69,6 +76,8 @@ impl Observer for Witness {
     fn has_answered(&mut self, connection: &Connection) {
         let is_in_pieces = connection.is_in_pieces();
         self.has_stored |= is_in_pieces;
-        self.seen.has_answered(is_in_pieces, connection.pending(), connection.pending_len());
+        let reply = self.noted.replace(None);
+        self.seen
+            .has_answered(is_in_pieces, reply, connection.pending_len());
     }
 }

@@ -1,20 +1,18 @@
 -- A creation that comes in pieces.
-use Rattle.std.proofs.Common.{◌≡◌, ℕ, ◌+◌, ◌-◌, ◌<◌, ◌≤◌, Bool, true, false, true≢false, cond, not, eqb, ltb, leb, nat_le, List, [], ◌∷◌, ◌++◌, length, take, drop, max, Option, Some, None, unwrap_or, Result, Ok, Err, refl, inl, inr, sym, ap, subst, ◌∙◌, arith, append-nil, length-append}
+use Rattle.std.proofs.Common.{◌≡◌, ℕ, ◌+◌, ◌-◌, ◌<◌, ◌≤◌, Bool, true, false, true≢false, not, eqb, ltb, List, [], ◌∷◌, ◌++◌, length, take, drop, Option, Some, None, Ok, Err, refl, inl, inr, sym, ap, subst, ◌∙◌, arith, append-nil, length-append}
 use Rattle.std.specs.List.{All}
-use Rattle.std.specs.Option.{option_map_or}
 use Rattle.std.specs.Result.{IsOk}
 use Rattle.std.proofs.lemmas.Bool.{eq-eqb}
 use Rattle.std.proofs.lemmas.Bool.Decides.{eqb_tells, nat_tests}
 use Rattle.std.proofs.lemmas.List.{take-append-drop}
 use Rattle.std.proofs.lemmas.List.Elements.{All-head, All-tail}
 use Rattle.upload_book.specs.Account.{account_in, account_with, blocks_added}
-use Rattle.upload_book.specs.Append.{append_answer, differ, is_too_long, or_else, part_after_append, upload_with}
+use Rattle.upload_book.specs.Append.{append_answer, differ, or_else, part_after_append, upload_with}
 use Rattle.upload_book.specs.Charge.{charge_in}
 use Rattle.upload_book.specs.Chunk.{Chunk, count_all}
 use Rattle.upload_book.specs.Create.{create_answer, created_upload, creation_refusal, new_kind, part_after_create}
 use Rattle.upload_book.specs.declared.board_line.Account.{Account}
 use Rattle.upload_book.specs.declared.head_row.Kind.{Kind}
-use Rattle.upload_book.specs.declared.head_row.Kind.TheVariants.{Plain, Partial}
 use Rattle.upload_book.specs.declared.refusal.Refusal.{Refusal}
 use Rattle.upload_book.specs.declared.settings.Numbers.{Numbers}
 use Rattle.upload_book.specs.Expiry.{has_expired, lifetime_end, renewed}
@@ -23,14 +21,13 @@ use Rattle.upload_book.specs.laws.Steps.{charged_after}
 use Rattle.upload_book.specs.Lawful.{IsTenantOf}
 use Rattle.upload_book.specs.NewUpload.{NewUpload}
 use Rattle.upload_book.specs.laws.PiecedCreation.{PiecedCreation, begun_with, ended_by}
-use Rattle.upload_book.specs.Refusal.{unless}
-use Rattle.upload_book.specs.TenantBook.{Entry, TenantBook, kept_in, visible_upload, with_changed, with_kept, with_new}
+use Rattle.upload_book.specs.TenantBook.{Entry, TenantBook, visible_upload, with_changed, with_kept, with_new}
 use Rattle.upload_book.specs.Upload.{Upload, content_of, is_reached, offset_of}
 use Rattle.upload_book.proofs.Charge.ChargeLemmas.{charge-create, new-own}
 use Rattle.upload_book.proofs.Charge.PriceLemmas.{blocks_between-two}
 use Rattle.upload_book.proofs.Expiries.BookEnds.{kept_in-added}
 use Rattle.upload_book.proofs.Expiries.ExpirySteps.{ids-below}
-use Rattle.upload_book.proofs.Lawful.LawfulAppend.{IsAppendable, not_above}
+use Rattle.upload_book.proofs.Lawful.LawfulAppend.{IsAppendable}
 use Rattle.upload_book.proofs.Lawful.LawfulCreate.{IsCreatable, IsCreatable-from_none, creation_refusal-none}
 use Rattle.upload_book.proofs.Lawful.Outcomes.{create_answer-none, part_after_create-none, unless-Err}
 use Rattle.upload_book.proofs.LawsLemmas.{account_more, answer_accepted, answer_of_upload, complete_later, part_accepted}

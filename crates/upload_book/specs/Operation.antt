@@ -1,5 +1,5 @@
 -- The operations of the book as one type: the book after each, and which may lack memory.
-use Rattle.std.specs.Prelude.{◌≢◌, ℕ, ◌<◌, [], length, IsOk}
+use Rattle.std.specs.Prelude.{◌≢◌, ℕ, ◌<◌, [], IsOk}
 use Rattle.std.specs.Result.{IsOkAnd}
 use Rattle.upload_book.specs.declared.head_row.Name.{Name}
 use Rattle.upload_book.specs.Account.{blocks_added}

@@ -33,7 +33,7 @@ pub fn pieced_patch_of_a_book()
 {}
 
 /// A creation with first bytes may come in two: its first piece, and a PATCH of what is behind it. While the upload stands, with
-/// nothing between them, they come to what the creation comes to as one.
+/// nothing between them, they come to what the creation comes to as one, if that is accepted.
 pub fn pieced_creation()
     ensures { PiecedCreation }
 {}
