@@ -1,13 +1,13 @@
 -- The free list after a block's count has changed.
-use Rattle.std.proofs.Common.{◌≡◌, ℕ, zero, suc, ◌+◌, ◌*◌, ◌<◌, ◌≤◌, List, [], ◌∷◌, ◌++◌, length, get_or, set, replicate, cond, eqb, ltb, count_by, refl, ap, sym, ◌∙◌, subst, ⊎_elim, arith, length-set}
-use Rattle.std.specs.List.{All}
-use Rattle.std.proofs.lemmas.List.{length_push, get_or-set_same, get_or-set_other, get_or_push, get_or-replicate, length-replicate, take_at}
-use Rattle.std.proofs.lemmas.List.Sums.{sum_by-set, sum_by-cons, sum_by_push, count_by-le-length}
+use Rattle.std.proofs.Common.{◌≡◌, ℕ, ◌+◌, ◌*◌, ◌<◌, ◌≤◌, List, [], ◌∷◌, ◌++◌, length, get_or, set, replicate, cond, eqb, count_by, refl, ap, ap₂, sym, ◌∙◌, subst, ⊎_elim, arith, length-append, length-set}
+use Rattle.std.proofs.lemmas.List.{length_push, get_or-set_same, get_or-set_other, get_or_append_left, get_or_push, length-replicate, take_at}
+use Rattle.std.proofs.lemmas.Grind.{common_steps}
+use Rattle.std.proofs.lemmas.List.Sums.{sum_by-set, sum_by_push, count_by-le-length}
 use Rattle.std.proofs.lemmas.List.Elements.{All-nil, All-push, All-get_or, All-take}
-use Rattle.std.proofs.lemmas.Bool.{cases_eq, cases_lt, lt-ltb, le-ltb, eq-eqb, ne_eqb}
-use Rattle.block_pool.specs.Blocks.{places_of, IsWithinLimits}
+use Rattle.std.proofs.lemmas.Bool.{cases_eq, cases_lt, eq-eqb, ne_eqb}
+use Rattle.block_pool.specs.Blocks.{over, places_of, IsWithinLimits}
 use Rattle.block_pool.specs.FreeList.{IsFreeList, IsStored}
-use Rattle.block_pool.proofs.Stored.{below}
+use Rattle.block_pool.proofs.Stored.{below, length-over}
 
 -- 1 for a free block, 0 for another
 abbrev free_of : ℕ → ℕ
@@ -35,6 +35,9 @@ free_blocks-below counts b h =
     let l : b < length counts = below counts b h in
     let change : free_blocks (set counts b 0) + free_of (get_or counts b 0) ≡ free_blocks counts + 1 = free_blocks-set counts b 0 l in
     omega (arith, free_of-held (get_or counts b 0) h, count_by-le-length (λ c. eqb c 0) (set counts b 0), length-set counts b 0)
+
+pub free_blocks-few : (counts : List ℕ) → free_blocks counts ≤ length counts
+free_blocks-few counts = count_by-le-length (λ c. eqb c 0) counts
 
 places_of-push : (list : List ℕ) (b x : ℕ) → places_of x (list ++ b ∷ []) ≡ places_of x list + cond (eqb b x) 1 0
 places_of-push list b x = sum_by_push (λ y. cond (eqb y x) 1 0) list b
@@ -100,75 +103,94 @@ IsFreeList-release counts free b f one =
       many = omega (arith, f.many, length_push free b, free_blocks-set counts b 0 l, z);
     }
 
-ltb-next : (b next : ℕ) → (b ≡ next → ⊥) → ltb b (next + 1) ≡ ltb b next
-ltb-next b next ne = ⊎_elim
-    (λ l. lt-ltb b (next + 1) (omega arith) ∙ sym (lt-ltb b next l))
-    (λ l. le-ltb b (next + 1) (omega arith) ∙ sym (le-ltb b next l))
-    (cases_lt b next)
-
-free_blocks-replicate : (n : ℕ) → free_blocks (replicate n 0) ≡ n
-free_blocks-replicate zero = refl
-free_blocks-replicate (suc n) = sum_by-cons free_of 0 (replicate n 0) ∙ ap (λ k. 1 + k) (free_blocks-replicate n) ∙ omega arith
-
--- the list of all blocks, while it is made: it names the blocks from `next` on
-pub record ListsFrom (blocks next : ℕ) (free : List ℕ) : Type 0 where
-  pub within : All (λ b. b < blocks) free
-  pub once : (b : ℕ) → b < blocks → places_of b free ≡ cond (ltb b next) 0 1
-  pub many : length free + next ≡ blocks
-
-pub ListsFrom-none : (blocks : ℕ) → ListsFrom blocks blocks []
-ListsFrom-none blocks = record {
-  within = All-nil (λ b. b < blocks);
-  once = λ b l. ap (λ t. cond t 0 1) (sym (lt-ltb b blocks l));
-  many = omega arith;
-}
-
-pub ListsFrom-more : (blocks next : ℕ) (free : List ℕ) → ListsFrom blocks (next + 1) free → ListsFrom blocks next (free ++ next ∷ [])
-ListsFrom-more blocks next free f = record {
-  within = All-push (λ b. b < blocks) free next f.within (omega (arith, f.many));
-  once = λ b l. ⊎_elim
-      (λ (e : b ≡ next). rw e
-      (places_of-push_same free next
-      ∙ ap (λ n. n + 1) (f.once next (omega (arith, f.many)) ∙ ap (λ t. cond t 0 1) (lt-ltb next (next + 1) (omega arith)))
-      ∙ ap (λ t. cond t 0 1) (sym (le-ltb next next (omega arith)))))
-      (λ ne. places_of-push_other free next b ne ∙ f.once b l ∙ ap (λ t. cond t 0 1) (ltb-next b next ne))
-      (cases_eq b next);
-  many = omega (arith, f.many, length_push free next);
-}
-
-pub IsFreeList-all : (blocks : ℕ) (free : List ℕ) → ListsFrom blocks 0 free → IsFreeList (replicate blocks 0) free
-IsFreeList-all blocks free f = record {
-  within = rw (length-replicate {A = ℕ} blocks 0) f.within;
-  once = λ b l.
-      let l' : b < blocks = rw (length-replicate {A = ℕ} blocks 0) at l in
-      f.once b l' ∙ ap (λ t. cond t 0 1) (le-ltb b 0 (omega arith)) ∙ sym (ap free_of (get_or-replicate blocks b 0 0 l'));
-  many = omega (arith, f.many, free_blocks-replicate blocks);
-}
+-- the first block that was never taken is held now
+pub IsFreeList-first : (counts free : List ℕ) → IsFreeList counts free → free ≡ [] → IsFreeList (counts ++ 1 ∷ []) free
+IsFreeList-first counts free f none = rw none (record {
+  within = All-nil (λ b. b < length (counts ++ 1 ∷ []));
+  once = λ x k. sym (⊎_elim
+      (λ l. ap free_of (get_or_append_left counts (1 ∷ []) 0 x l) ∙ sym (f.once x l) ∙ ap (places_of x) none)
+      (λ past. ap free_of (get_or_push counts 1 0 x (omega (arith, past, k, length_push counts 1))))
+      (cases_lt x (length counts)));
+  many = sym (sum_by_push free_of counts 1 ∙ omega (arith, f.many, ap (λ l. length l) none));
+})
 
 -- the pool's lists after a new count and a new free list
-pub stored_after : (size : ℕ) (counts bytes free free' : List ℕ) (room room' b c : ℕ) → IsStored size counts bytes free room → room ≤ room' → IsFreeList (set counts b c) free' → IsStored size (set counts b c) bytes free' room'
-stored_after size counts bytes free free' room room' b c s more f =
-    let P : ℕ → Type 0 = λ n. IsWithinLimits n size in
+pub stored_after : (size many : ℕ) (counts bytes free free' : List ℕ) (counts_room bytes_room free_room room' b c : ℕ) → IsStored size many counts bytes free counts_room bytes_room free_room → free_room ≤ room' → IsFreeList (set counts b c) free'
+    → IsStored size many (set counts b c) bytes free' counts_room bytes_room room'
+stored_after size many counts bytes free free' counts_room bytes_room free_room room' b c s more f =
     let len : length (set counts b c) ≡ length counts = length-set counts b c in
     record {
-      limits = subst P (sym len) s.limits;
+      limits = s.limits;
+      few = omega (arith, s.few, len);
       every_byte = s.every_byte ∙ ap (λ n. n * size) (sym len);
       free_list = f;
-      free_room = omega (arith, s.free_room);
+      counts_fit = s.counts_fit;
+      bytes_fit = s.bytes_fit;
+      free_fit = omega (arith, s.free_fit);
     }
 
-pub IsStored-held : (size : ℕ) (counts bytes free : List ℕ) (room b c : ℕ) → IsStored size counts bytes free room → 0 < get_or counts b 0 → 0 < c → IsStored size (set counts b c) bytes free room
-IsStored-held size counts bytes free room b c s h new = stored_after size counts bytes free free room room b c s (omega arith) (IsFreeList-held counts free b c s.free_list h new)
+pub IsStored-held : (size many : ℕ) (counts bytes free : List ℕ) (counts_room bytes_room free_room b c : ℕ) → IsStored size many counts bytes free counts_room bytes_room free_room → 0 < get_or counts b 0 → 0 < c
+    → IsStored size many (set counts b c) bytes free counts_room bytes_room free_room
+IsStored-held size many counts bytes free counts_room bytes_room free_room b c s h new =
+    stored_after size many counts bytes free free counts_room bytes_room free_room free_room b c s (omega arith) (IsFreeList-held counts free b c s.free_list h new)
 
--- the lists of a pool in which every block is free
-pub IsStored-free : (blocks size : ℕ) (counts bytes free : List ℕ) (room : ℕ) → IsWithinLimits blocks size → counts ≡ replicate blocks 0 → bytes ≡ replicate (blocks * size) 0
-    → IsFreeList (replicate blocks 0) free → blocks ≤ room → IsStored size counts bytes free room
-IsStored-free blocks size counts bytes free room limits no_counts no_bytes listed more =
-    let many : length (replicate {A = ℕ} blocks 0) ≡ blocks = length-replicate {A = ℕ} blocks 0 in
-    let P : ℕ → Type 0 = λ n. IsWithinLimits n size in
-    rw (no_counts, no_bytes) (record {
-      limits = subst P (sym many) limits;
-      every_byte = length-replicate {A = ℕ} (blocks * size) 0 ∙ ap (λ n. n * size) (sym many);
-      free_list = listed;
-      free_room = omega (arith, many);
-    })
+-- other bytes
+pub stored-over : (size many : ℕ) (counts bytes free : List ℕ) (counts_room bytes_room free_room at : ℕ) (new : List ℕ) → IsStored size many counts bytes free counts_room bytes_room free_room → at + length new ≤ length bytes
+    → IsStored size many counts (over bytes at new) free counts_room bytes_room free_room
+stored-over size many counts bytes free counts_room bytes_room free_room at new s fits = record {
+  limits = s.limits;
+  few = s.few;
+  every_byte = length-over bytes at new fits ∙ s.every_byte;
+  free_list = s.free_list;
+  counts_fit = s.counts_fit;
+  bytes_fit = s.bytes_fit;
+  free_fit = s.free_fit;
+}
+
+-- the first block that was never taken has a count and bytes
+pub stored-first : (size many : ℕ) (counts bytes free : List ℕ) (counts_room bytes_room free_room counts_room' bytes_room' : ℕ) → IsStored size many counts bytes free counts_room bytes_room free_room
+    → free ≡ [] → length counts < many → counts_room ≤ counts_room' → bytes_room ≤ bytes_room'
+    → IsStored size many (counts ++ 1 ∷ []) (bytes ++ replicate size 0) free counts_room' bytes_room' free_room
+stored-first size many counts bytes free counts_room bytes_room free_room counts_room' bytes_room' s none left more more_bytes = record {
+  limits = s.limits;
+  few = omega (arith, left, length_push counts 1);
+  every_byte = length-append bytes (replicate size 0) ∙ ap₂ (λ a b. a + b) s.every_byte (length-replicate {A = ℕ} size 0) ∙ next_row (length counts) ∙ ap (λ n. n * size) (sym (length_push counts 1));
+  free_list = IsFreeList-first counts free s.free_list none;
+  counts_fit = omega (arith, s.counts_fit);
+  bytes_fit = omega (arith, s.bytes_fit);
+  free_fit = s.free_fit;
+}
+  where
+    next_row : (n : ℕ) → n * size + size ≡ (n + 1) * size
+    next_row n = omega arith
+
+-- the same with another list of the free blocks, which names the same
+pub stored-same : (size many : ℕ) (counts bytes free free' : List ℕ) (counts_room bytes_room free_room free_room' : ℕ) → IsStored size many counts bytes free counts_room bytes_room free_room → free' ≡ free → free_room ≤ free_room'
+    → IsStored size many counts bytes free' counts_room bytes_room free_room'
+stored-same size many counts bytes free free' counts_room bytes_room free_room free_room' s same more = record {
+  limits = s.limits;
+  few = s.few;
+  every_byte = s.every_byte;
+  free_list = subst (IsFreeList counts) (sym same) s.free_list;
+  counts_fit = s.counts_fit;
+  bytes_fit = s.bytes_fit;
+  free_fit = omega (arith, s.free_fit);
+}
+
+-- there is room for the bytes of one block more
+pub row-fits : (size many n : ℕ) → n < many → n * size + size ≤ many * size
+row-fits size many n l =
+    let within : (n + 1) * size ≤ many * size = grind (arith, common_steps) in
+    omega arith
+
+-- a pool of which no block was taken
+pub stored-none : (size many : ℕ) (counts_room bytes_room free_room : ℕ) → IsWithinLimits many size → many ≤ counts_room → many * size ≤ bytes_room → many ≤ free_room → IsStored size many [] [] [] counts_room bytes_room free_room
+stored-none size many counts_room bytes_room free_room limits counts_fit bytes_fit free_fit = record {
+  limits = limits;
+  few = omega arith;
+  every_byte = omega arith;
+  free_list = record { within = All-nil (λ b. b < 0); once = λ b l. absurd (omega (arith, l)); many = refl };
+  counts_fit = counts_fit;
+  bytes_fit = bytes_fit;
+  free_fit = free_fit;
+}

@@ -1,11 +1,11 @@
 -- What a pool's lists show as blocks: the counts, the bytes, and both after a change of one of the lists.
-use Rattle.std.proofs.Common.{◌≡◌, ℕ, zero, suc, ◌+◌, ◌*◌, ◌-◌, ◌<◌, ◌≤◌, List, [], ◌∷◌, ◌++◌, length, get_or, set, replicate, take, drop, cond, eqb, count_by, refl, ap, sym, ◌∙◌, subst, ⊎_elim, arith, rules, length-append, length-take, length-drop}
-use Rattle.std.proofs.lemmas.List.{drop-drop, get_or-set_same, get_or_past, get_or_read, same_lists, places}
+use Rattle.std.proofs.Common.{◌≡◌, ℕ, zero, suc, ◌+◌, ◌*◌, ◌-◌, ◌<◌, ◌≤◌, List, [], ◌∷◌, ◌++◌, length, get_or, set, replicate, take, drop, cond, eqb, count_by, refl, ap, sym, ◌∙◌, subst, ⊎_elim, arith, rules, length-append, length-set, length-take, length-drop}
+use Rattle.std.proofs.lemmas.List.{drop-drop, get_or-set_same, drop-append-le, get_or_append_left, get_or_past, get_or_read, length-replicate, same_lists, take-append-le, places}
 use Rattle.std.proofs.lemmas.Grind.{common_steps}
 use Rattle.std.proofs.lemmas.List.Sums.{sum_by-cons}
 use Rattle.std.proofs.lemmas.Bool.{cases_lt, cases_eq, ne_eqb}
-use Rattle.block_pool.specs.Blocks.{Block, Blocks, free_block, over, size_of, count_at, bytes_at, with_block, held, released, written, Takes, IsPool, IsWithinLimits}
-use Rattle.block_pool.specs.FreeList.{block_of, blocks_of, IsStored}
+use Rattle.block_pool.specs.Blocks.{Block, Blocks, all_free, free_block, over, size_of, count_at, bytes_at, free_in, with_block, held, released, written, Takes, IsPool, IsWithinLimits}
+use Rattle.block_pool.specs.FreeList.{block_of, blocks_of, counts_of_all}
 
 pub count-block_of : (size count : ℕ) (bytes : List ℕ) → (block_of size count bytes).count ≡ count
 count-block_of size zero bytes = refl
@@ -78,17 +78,16 @@ take-over_front size zero old at new h = refl
 take-over_front size (suc n) old at new h = ap (λ bytes. record { count = suc n; bytes = bytes }) (take-over_past old size at new h)
 
 -- other bytes in one block
-pub blocks_of-over : (size : ℕ) (counts bytes : List ℕ) (b at : ℕ) (new : List ℕ) → b < length counts → 0 < get_or counts b 0 → at + length new ≤ size → length bytes ≡ length counts * size
+pub blocks_of-over : (size : ℕ) (counts bytes : List ℕ) (b at : ℕ) (new : List ℕ) → b < length counts → 0 < get_or counts b 0 → at + length new ≤ size → b * size + size ≤ length bytes
     → blocks_of size counts (over bytes (b * size + at) new) ≡ set (blocks_of size counts bytes) b (record { count = get_or counts b 0; bytes = over (take size (drop (b * size) bytes)) at new })
 blocks_of-over size [] bytes b at new h pos k e = absurd (omega arith)
 blocks_of-over size (c ∷ cs) bytes zero at new h pos k e =
-    let whole : size ≤ length bytes = grind (arith) in
+    let whole : size ≤ length bytes = omega arith in
     let start : 0 * size + at ≡ at = omega arith in
     rw (start, ← first_start size, block_of-held size c (over bytes at new) pos, take-over bytes size at new k whole, drop-over bytes size at new k whole)
 blocks_of-over size (c ∷ cs) bytes (suc b) at new h pos k e =
     let inner : b < length cs = omega arith in
-    let rest : length (drop size bytes) ≡ length cs * size = omega (arith, length-drop size bytes) in
-    let below : (b + 1) * size ≤ length cs * size = grind (arith, common_steps) in
+    let rest : b * size + size ≤ length (drop size bytes) = omega (arith, length-drop size bytes, next_start size b) in
     let room : size + (b * size + at) + length new ≤ length bytes = omega arith in
     let start : suc b * size + at ≡ size + (b * size + at) = omega arith in
     let same : take size (drop (b * size) (drop size bytes)) ≡ take size (drop (suc b * size) bytes) = ap (λ d. take size d) (drop-drop (b * size) size bytes ∙ ap (λ n. drop n bytes) (next_start size b)) in
@@ -97,6 +96,53 @@ blocks_of-over size (c ∷ cs) bytes (suc b) at new h pos k e =
 
 pub below : (counts : List ℕ) (b : ℕ) → 0 < get_or counts b 0 → b < length counts
 below counts b h = ⊎_elim (λ l. l) (λ past. absurd (let e : get_or counts b 0 ≡ 0 = get_or_past counts b 0 past in omega arith)) (cases_lt b (length counts))
+
+-- ---- the counts of all blocks, of which the last were never taken
+
+zeros : (k b : ℕ) → get_or (replicate {A = ℕ} k 0) b 0 ≡ 0
+zeros zero b = refl
+zeros (suc k) zero = refl
+zeros (suc k) (suc b) = zeros k b
+
+get_or-zeros : (counts : List ℕ) (k b : ℕ) → get_or (counts ++ replicate k 0) b 0 ≡ get_or counts b 0
+get_or-zeros [] k b = zeros k b
+get_or-zeros (c ∷ cs) k zero = refl
+get_or-zeros (c ∷ cs) k (suc b) = get_or-zeros cs k b
+
+set-zeros : (counts : List ℕ) (k b c : ℕ) → b < length counts → set (counts ++ replicate k 0) b c ≡ set counts b c ++ replicate k 0
+set-zeros [] k b c l = absurd (omega arith)
+set-zeros (x ∷ cs) k zero c l = refl
+set-zeros (x ∷ cs) k (suc b) c l = ap (λ rest. x ∷ rest) (set-zeros cs k b c (omega arith))
+
+set-first_zero : (counts : List ℕ) (k c : ℕ) → set (counts ++ replicate (suc k) 0) (length counts) c ≡ (counts ++ c ∷ []) ++ replicate k 0
+set-first_zero [] k c = refl
+set-first_zero (x ∷ cs) k c = ap (λ rest. x ∷ rest) (set-first_zero cs k c)
+
+-- a count is that of a block that was taken, or 0
+pub all-count : (many : ℕ) (counts : List ℕ) (b : ℕ) → get_or (counts_of_all many counts) b 0 ≡ get_or counts b 0
+all-count many counts b = get_or-zeros counts (many - length counts) b
+
+-- who is held was taken
+pub all-below : (many : ℕ) (counts : List ℕ) (b : ℕ) → 0 < get_or (counts_of_all many counts) b 0 → b < length counts
+all-below many counts b h = below counts b (rw (← all-count many counts b) h)
+
+pub length-all : (many : ℕ) (counts : List ℕ) → length counts ≤ many → length (counts_of_all many counts) ≡ many
+length-all many counts few = omega (arith, length-append counts (replicate (many - length counts) 0), length-replicate {A = ℕ} (many - length counts) 0, few)
+
+-- a new count of a block that was taken
+pub all-set : (many : ℕ) (counts : List ℕ) (b c : ℕ) → b < length counts → counts_of_all many (set counts b c) ≡ set (counts_of_all many counts) b c
+all-set many counts b c l =
+    ap (λ n. set counts b c ++ replicate (many - n) 0) (length-set counts b c) ∙ sym (set-zeros counts (many - length counts) b c l)
+
+-- the first count of a block that is taken for the first time
+pub all-push : (many : ℕ) (counts : List ℕ) (c : ℕ) → length counts < many → counts_of_all many (counts ++ c ∷ []) ≡ set (counts_of_all many counts) (length counts) c
+all-push many counts c few =
+    let left : many - length counts ≡ suc (many - length (counts ++ c ∷ [])) = omega (arith, length-append counts (c ∷ []), few) in
+    sym (ap (λ k. set (counts ++ replicate k 0) (length counts) c) left ∙ set-first_zero counts (many - length (counts ++ c ∷ [])) c)
+
+-- a count that was read from the counts of those that were taken
+pub all-read : (many : ℕ) (counts : List ℕ) (b x : ℕ) → b < length counts → x ≡ get_or counts b x → x ≡ get_or (counts_of_all many counts) b x
+all-read many counts b x l r = r ∙ sym (get_or_append_left counts (replicate (many - length counts) 0) x b l)
 
 -- what a contract sees of the lists
 abbrev pub shown : ℕ → List ℕ → List ℕ → Blocks
@@ -107,9 +153,6 @@ shown-count size counts bytes p b e = sym (count-blocks_of size counts bytes b) 
 
 pub shown-held : (size : ℕ) (counts bytes : List ℕ) (p : Blocks) (b : ℕ) → shown size counts bytes ≡ p → 0 < count_at p b → 0 < get_or counts b 0
 shown-held size counts bytes p b e h = rw (shown-count size counts bytes p b e) h
-
-pub shown-below : (size : ℕ) (counts bytes : List ℕ) (p : Blocks) (b : ℕ) → shown size counts bytes ≡ p → 0 < count_at p b → b < length counts
-shown-below size counts bytes p b e h = below counts b (shown-held size counts bytes p b e h)
 
 pub shown-size : (size : ℕ) (counts bytes : List ℕ) (p : Blocks) (n : ℕ) → shown size counts bytes ≡ p → n ≡ p.block_size → n ≡ size
 shown-size size counts bytes p n e h = h ∙ sym (ap (λ (q : Blocks). q.block_size) e)
@@ -123,105 +166,165 @@ shown-set size counts bytes b c pos new =
     ∙ ap (λ (x : Block). set (blocks_of size counts bytes) b x)
     (block_of-held size c (drop (b * size) bytes) new ∙ ap (λ bs. record { count = c; bytes = bs }) (sym (bytes-blocks_of size counts bytes b pos))))
 
--- a count that was read from the list
-pub shown-read : (size : ℕ) (counts bytes : List ℕ) (p : Blocks) (b x : ℕ) → shown size counts bytes ≡ p → 0 < count_at p b → x ≡ get_or counts b x → x ≡ count_at p b
-shown-read size counts bytes p b x e h r =
-    get_or_read counts b x (shown-below size counts bytes p b e h) r 0 ∙ shown-count size counts bytes p b e
+pub shown-size_of : (size : ℕ) (counts bytes : List ℕ) (p : Blocks) (many : ℕ) → shown size counts bytes ≡ p → length counts ≡ many → many ≡ size_of p
+shown-size_of size counts bytes p many e long = sym (sym (ap (λ (q : Blocks). size_of q) e) ∙ length-blocks_of size counts bytes ∙ long)
 
--- a count that was read at the place of a block of the pool
-pub shown-read_at : (size : ℕ) (counts bytes : List ℕ) (p : Blocks) (b place x : ℕ) → shown size counts bytes ≡ p → b < size_of p → x ≡ get_or counts place x → place ≡ b → x ≡ count_at p b
-shown-read_at size counts bytes p b place x e l r same =
-    let long : size_of p ≡ length counts = sym (ap (λ (q : Blocks). size_of q) e) ∙ length-blocks_of size counts bytes in
-    get_or_read counts b x (omega (arith, long)) (r ∙ ap (λ i. get_or counts i x) same) 0 ∙ shown-count size counts bytes p b e
+blocks_of-free : (size n : ℕ) (bytes : List ℕ) → blocks_of size (replicate n 0) bytes ≡ replicate n free_block
+blocks_of-free size zero bytes = refl
+blocks_of-free size (suc n) bytes = ap (λ blocks. free_block ∷ blocks) (blocks_of-free size n (drop size bytes))
 
-pub shown-hold : (size : ℕ) (counts bytes : List ℕ) (p : Blocks) (b x : ℕ) → shown size counts bytes ≡ p → 0 < count_at p b → x ≡ get_or counts b x → shown size (set counts b (x + 1)) bytes ≡ held p b
-shown-hold size counts bytes p b x e h r =
-    let pos : 0 < get_or counts b 0 = shown-held size counts bytes p b e h in
-    shown-set size counts bytes b (x + 1) pos (omega arith)
-    ∙ ap (λ (q : Blocks). with_block q b (record { count = x + 1; bytes = bytes_at q b })) e
-    ∙ ap (λ n. with_block p b (record { count = n + 1; bytes = bytes_at p b })) (shown-read size counts bytes p b x e h r)
+-- no block was taken
+pub shown-none : (size many : ℕ) → shown size (counts_of_all many []) [] ≡ all_free many size
+shown-none size many =
+    let every : many - 0 ≡ many = omega arith in
+    ap (λ (blocks : List Block). record { block_size = size; blocks = blocks }) (blocks_of-free size (many - 0) [] ∙ ap (λ n. replicate n free_block) every)
 
-pub shown-release : (size : ℕ) (counts bytes : List ℕ) (p : Blocks) (b x : ℕ) → shown size counts bytes ≡ p → 0 < count_at p b → x ≡ get_or counts b x → shown size (set counts b (x - 1)) bytes ≡ released p b
-shown-release size counts bytes p b x e h r =
-    let pos : 0 < get_or counts b 0 = shown-held size counts bytes p b e h in
-    let count : x ≡ count_at p b = shown-read size counts bytes p b x e h r in
-    rw count (⊎_elim
-    (λ (one : count_at p b ≡ 1). rw one
-    (ap (λ (blocks : List Block). record { block_size = size; blocks = blocks }) (blocks_of-set size counts bytes b 0) ∙ ap (λ (q : Blocks). with_block q b free_block) e))
-    (λ (more : count_at p b ≡ 1 → ⊥). rw (ne_eqb (count_at p b) 1 more)
-    (shown-set size counts bytes b (count_at p b - 1) pos (omega arith)
-    ∙ ap (λ (q : Blocks). with_block q b (record { count = count_at p b - 1; bytes = bytes_at q b })) e))
-    (cases_eq (count_at p b) 1))
+block_of-more : (size c : ℕ) (bytes more : List ℕ) → size ≤ length bytes → block_of size c (bytes ++ more) ≡ block_of size c bytes
+block_of-more size zero bytes more l = refl
+block_of-more size (suc n) bytes more l = ap (λ bs. record { count = suc n; bytes = bs }) (take-append-le size bytes more l)
 
-pub length-piece : (size n b : ℕ) (bytes : List ℕ) → b < n → length bytes ≡ n * size → length (take size (drop (b * size) bytes)) ≡ size
-length-piece size n b bytes l every =
-    let within : (b + 1) * size ≤ n * size = grind (arith, common_steps) in
-    omega (arith, length-take size (drop (b * size) bytes), length-drop (b * size) bytes)
-
-pub shown-take : (size : ℕ) (counts bytes : List ℕ) (p : Blocks) (b : ℕ) → shown size counts bytes ≡ p → b < length counts → get_or counts b 0 ≡ 0 → length bytes ≡ length counts * size
-    → Takes p (shown size (set counts b 1) bytes) b
-shown-take size counts bytes p b e l z every =
-    let now : get_or (set counts b 1) b 0 ≡ 1 = get_or-set_same counts b 1 0 l in
-    let piece : bytes_at (shown size (set counts b 1) bytes) b ≡ take size (drop (b * size) bytes) = bytes-blocks_of size (set counts b 1) bytes b (omega arith) in
-    let P : Blocks → Type 0 = λ q. Takes q (shown size (set counts b 1) bytes) b in
-    subst P e (record {
-      within = rw (length-blocks_of size counts bytes) l;
-      free = count-blocks_of size counts bytes b ∙ z;
-      whole = ap (λ bs. length bs) piece ∙ length-piece size (length counts) b bytes l every;
-      after = ap (λ (blocks : List Block). record { block_size = size; blocks = blocks }) (blocks_of-set size counts bytes b 1)
-          ∙ ap (λ bs. with_block (shown size counts bytes) b (record { count = 1; bytes = bs })) (sym piece);
-    })
-
-pub shown-write : (size : ℕ) (counts bytes : List ℕ) (p : Blocks) (b at : ℕ) (new : List ℕ) → shown size counts bytes ≡ p → count_at p b ≡ 1 → at + length new ≤ p.block_size → length bytes ≡ length counts * size
-    → shown size counts (over bytes (b * size + at) new) ≡ written p b at new
-shown-write size counts bytes p b at new e one fits every =
-    let held : 0 < count_at p b = omega arith in
-    let pos : 0 < get_or counts b 0 = shown-held size counts bytes p b e held in
-    let size_is : size ≡ p.block_size = ap (λ (q : Blocks). q.block_size) e in
-    let fits_here : at + length new ≤ size = omega arith in
-    ap (λ (blocks : List Block). record { block_size = size; blocks = blocks })
-    (blocks_of-over size counts bytes b at new (below counts b pos) pos fits_here every
-    ∙ ap (λ n. set (blocks_of size counts bytes) b (record { count = n; bytes = over (take size (drop (b * size) bytes)) at new })) (sym (count-blocks_of size counts bytes b))
-    ∙ ap (λ bs. set (blocks_of size counts bytes) b (record { count = count_at (shown size counts bytes) b; bytes = over bs at new })) (sym (bytes-blocks_of size counts bytes b pos)))
-    ∙ ap (λ (q : Blocks). written q b at new) e
-
-pub shown-pool : (size : ℕ) (counts bytes : List ℕ) (p : Blocks) → shown size counts bytes ≡ p → IsWithinLimits (length counts) size → length bytes ≡ length counts * size → IsPool p
-shown-pool size counts bytes p e limits every =
-    let P : ℕ → Type 0 = λ n. IsWithinLimits n size in
-    subst IsPool e (record {
-      limits = subst P (sym (length-blocks_of size counts bytes)) limits;
-      whole = λ b h.
-          let pos : 0 < get_or counts b 0 = rw (← count-blocks_of size counts bytes b) h in
-          ap (λ bs. length bs) (bytes-blocks_of size counts bytes b pos) ∙ length-piece size (length counts) b bytes (below counts b pos) every;
-    })
+-- bytes behind those of the blocks that were taken change none of them
+blocks_of-more : (size k : ℕ) (counts bytes more : List ℕ) → length bytes ≡ length counts * size → blocks_of size (counts ++ replicate k 0) (bytes ++ more) ≡ blocks_of size (counts ++ replicate k 0) bytes
+blocks_of-more size k [] bytes more every = blocks_of-free size k (bytes ++ more) ∙ sym (blocks_of-free size k bytes)
+blocks_of-more size k (c ∷ cs) bytes more every =
+    let whole : size ≤ length bytes = grind (arith) in
+    let rest : length (drop size bytes) ≡ length cs * size = omega (arith, length-drop size bytes) in
+    rw (block_of-more size c bytes more whole, drop-append-le size bytes more whole) (ap (λ blocks. block_of size c bytes ∷ blocks) (blocks_of-more size k cs (drop size bytes) more rest))
 
 pub piece-fits : (size n b : ℕ) (bytes : List ℕ) → b < n → length bytes ≡ n * size → b * size + size ≤ length bytes
 piece-fits size n b bytes l every =
     let within : (b + 1) * size ≤ n * size = grind (arith, common_steps) in
     omega arith
 
-pub write-fits : (size : ℕ) (counts bytes : List ℕ) (p : Blocks) (b at n : ℕ) → shown size counts bytes ≡ p → 0 < count_at p b → at + n ≤ p.block_size → length bytes ≡ length counts * size → b * size + at + n ≤ length bytes
-write-fits size counts bytes p b at n e h fits every =
-    let size_is : size ≡ p.block_size = ap (λ (q : Blocks). q.block_size) e in
-    omega (arith, piece-fits size (length counts) b bytes (shown-below size counts bytes p b e h) every)
+length-piece : (size b : ℕ) (bytes : List ℕ) → b * size + size ≤ length bytes → length (take size (drop (b * size) bytes)) ≡ size
+length-piece size b bytes fits = omega (arith, length-take size (drop (b * size) bytes), length-drop (b * size) bytes)
 
-pub stored-over : (size : ℕ) (counts bytes free : List ℕ) (room at : ℕ) (new : List ℕ) → IsStored size counts bytes free room → at + length new ≤ length bytes → IsStored size counts (over bytes at new) free room
-stored-over size counts bytes free room at new s fits = record {
-  limits = s.limits;
-  every_byte = length-over bytes at new fits ∙ s.every_byte;
-  free_list = s.free_list;
-  free_room = s.free_room;
-}
+-- a free block is taken
+shown-take : (size : ℕ) (counts bytes : List ℕ) (p : Blocks) (b : ℕ) → shown size counts bytes ≡ p → b < length counts → get_or counts b 0 ≡ 0 → b * size + size ≤ length bytes
+    → Takes p (shown size (set counts b 1) bytes) b
+shown-take size counts bytes p b e l z fits =
+    let now : get_or (set counts b 1) b 0 ≡ 1 = get_or-set_same counts b 1 0 l in
+    let piece : bytes_at (shown size (set counts b 1) bytes) b ≡ take size (drop (b * size) bytes) = bytes-blocks_of size (set counts b 1) bytes b (omega arith) in
+    let P : Blocks → Type 0 = λ q. Takes q (shown size (set counts b 1) bytes) b in
+    subst P e (record {
+      within = rw (length-blocks_of size counts bytes) l;
+      free = count-blocks_of size counts bytes b ∙ z;
+      whole = ap (λ bs. length bs) piece ∙ length-piece size b bytes fits;
+      after = ap (λ (blocks : List Block). record { block_size = size; blocks = blocks }) (blocks_of-set size counts bytes b 1)
+          ∙ ap (λ bs. with_block (shown size counts bytes) b (record { count = 1; bytes = bs })) (sym piece);
+    })
 
-pub shown-bytes : (size : ℕ) (counts bytes : List ℕ) (p : Blocks) (b : ℕ) → shown size counts bytes ≡ p → 0 < count_at p b → take (b * size + size - b * size) (drop (b * size) bytes) ≡ bytes_at p b
-shown-bytes size counts bytes p b e h =
-    let n : b * size + size - b * size ≡ size = omega arith in
-    ap (λ k. take k (drop (b * size) bytes)) n
-    ∙ sym (bytes-blocks_of size counts bytes b (shown-held size counts bytes p b e h))
-    ∙ ap (λ (q : Blocks). bytes_at q b) e
+-- A pool of so many blocks, of which those with counts were taken.
+module _ (size many : ℕ) (counts bytes : List ℕ) (p : Blocks) (e : shown size (counts_of_all many counts) bytes ≡ p) where
+  pub taken-count : (b : ℕ) → get_or counts b 0 ≡ count_at p b
+  taken-count b = sym (all-count many counts b) ∙ shown-count size (counts_of_all many counts) bytes p b e
 
-pub blocks_of-free : (size n : ℕ) (bytes : List ℕ) → blocks_of size (replicate n 0) bytes ≡ replicate n free_block
-blocks_of-free size zero bytes = refl
-blocks_of-free size (suc n) bytes = ap (λ blocks. free_block ∷ blocks) (blocks_of-free size n (drop size bytes))
+  pub taken-held : (b : ℕ) → 0 < count_at p b → 0 < get_or counts b 0
+  taken-held b h = rw (taken-count b) h
+
+  pub taken-below : (b : ℕ) → 0 < count_at p b → b < length counts
+  taken-below b h = below counts b (taken-held b h)
+
+  -- a count that was read from the list
+  pub taken-read : (b x : ℕ) → 0 < count_at p b → x ≡ get_or counts b x → x ≡ count_at p b
+  taken-read b x h r = get_or_read counts b x (taken-below b h) r 0 ∙ taken-count b
+
+  -- a count that was read at the place of a block, and that of one that was never taken
+  pub taken-read_at : (b place x : ℕ) → place < length counts → x ≡ get_or counts place x → place ≡ b → x ≡ count_at p b
+  taken-read_at b place x l r same = get_or_read counts place x l r 0 ∙ ap (λ i. get_or counts i 0) same ∙ taken-count b
+
+  pub taken-none : (b : ℕ) → length counts ≤ b → 0 ≡ count_at p b
+  taken-none b past = sym (get_or_past counts b 0 past) ∙ taken-count b
+
+  pub taken-hold : (b x : ℕ) → 0 < count_at p b → x ≡ get_or counts b x → shown size (counts_of_all many (set counts b (x + 1))) bytes ≡ held p b
+  taken-hold b x h r =
+      let pos : 0 < get_or (counts_of_all many counts) b 0 = shown-held size (counts_of_all many counts) bytes p b e h in
+      ap (λ counts. shown size counts bytes) (all-set many counts b (x + 1) (taken-below b h))
+      ∙ shown-set size (counts_of_all many counts) bytes b (x + 1) pos (omega arith)
+      ∙ ap (λ (q : Blocks). with_block q b (record { count = x + 1; bytes = bytes_at q b })) e
+      ∙ ap (λ n. with_block p b (record { count = n + 1; bytes = bytes_at p b })) (taken-read b x h r)
+
+  pub taken-release : (b x : ℕ) → 0 < count_at p b → x ≡ get_or counts b x → shown size (counts_of_all many (set counts b (x - 1))) bytes ≡ released p b
+  taken-release b x h r =
+      let pos : 0 < get_or (counts_of_all many counts) b 0 = shown-held size (counts_of_all many counts) bytes p b e h in
+      let count : x ≡ count_at p b = taken-read b x h r in
+      ap (λ counts. shown size counts bytes) (all-set many counts b (x - 1) (taken-below b h))
+      ∙ rw count (⊎_elim
+      (λ (one : count_at p b ≡ 1). rw one
+      (ap (λ (blocks : List Block). record { block_size = size; blocks = blocks }) (blocks_of-set size (counts_of_all many counts) bytes b 0) ∙ ap (λ (q : Blocks). with_block q b free_block) e))
+      (λ (more : count_at p b ≡ 1 → ⊥). rw (ne_eqb (count_at p b) 1 more)
+      (shown-set size (counts_of_all many counts) bytes b (count_at p b - 1) pos (omega arith)
+      ∙ ap (λ (q : Blocks). with_block q b (record { count = count_at p b - 1; bytes = bytes_at q b })) e))
+      (cases_eq (count_at p b) 1))
+
+  pub taken-fits : length bytes ≡ length counts * size → (b : ℕ) → 0 < count_at p b → b * size + size ≤ length bytes
+  taken-fits every b h = piece-fits size (length counts) b bytes (taken-below b h) every
+
+  pub write-fits : length bytes ≡ length counts * size → (b at n : ℕ) → 0 < count_at p b → at + n ≤ p.block_size → b * size + at + n ≤ length bytes
+  write-fits every b at n h fits =
+      let size_is : size ≡ p.block_size = ap (λ (q : Blocks). q.block_size) e in
+      omega (arith, taken-fits every b h)
+
+  pub taken-write : length bytes ≡ length counts * size → (b at : ℕ) (new : List ℕ) → count_at p b ≡ 1 → at + length new ≤ p.block_size
+      → shown size (counts_of_all many counts) (over bytes (b * size + at) new) ≡ written p b at new
+  taken-write every b at new one fits =
+      let held : 0 < count_at p b = omega arith in
+      let pos : 0 < get_or (counts_of_all many counts) b 0 = shown-held size (counts_of_all many counts) bytes p b e held in
+      let size_is : size ≡ p.block_size = ap (λ (q : Blocks). q.block_size) e in
+      let fits_here : at + length new ≤ size = omega arith in
+      ap (λ (blocks : List Block). record { block_size = size; blocks = blocks })
+      (blocks_of-over size (counts_of_all many counts) bytes b at new (below (counts_of_all many counts) b pos) pos fits_here (taken-fits every b held)
+      ∙ ap (λ n. set (blocks_of size (counts_of_all many counts) bytes) b (record { count = n; bytes = over (take size (drop (b * size) bytes)) at new })) (sym (count-blocks_of size (counts_of_all many counts) bytes b))
+      ∙ ap (λ bs. set (blocks_of size (counts_of_all many counts) bytes) b (record { count = count_at (shown size (counts_of_all many counts) bytes) b; bytes = over bs at new })) (sym (bytes-blocks_of size (counts_of_all many counts) bytes b pos)))
+      ∙ ap (λ (q : Blocks). written q b at new) e
+
+  pub taken-bytes : (b : ℕ) → 0 < count_at p b → take (b * size + size - b * size) (drop (b * size) bytes) ≡ bytes_at p b
+  taken-bytes b h =
+      let n : b * size + size - b * size ≡ size = omega arith in
+      ap (λ k. take k (drop (b * size) bytes)) n
+      ∙ sym (bytes-blocks_of size (counts_of_all many counts) bytes b (shown-held size (counts_of_all many counts) bytes p b e h))
+      ∙ ap (λ (q : Blocks). bytes_at q b) e
+
+  -- a block that was taken before and is free is taken again
+  pub taken-again : length bytes ≡ length counts * size → (b : ℕ) → b < length counts → get_or counts b 0 ≡ 0 → Takes p (shown size (counts_of_all many (set counts b 1)) bytes) b
+  taken-again every b l z =
+      let within : b < length (counts_of_all many counts) = omega (arith, l, length-append counts (replicate (many - length counts) 0)) in
+      subst (λ counts. Takes p (shown size counts bytes) b) (sym (all-set many counts b 1 l))
+      (shown-take size (counts_of_all many counts) bytes p b e within (all-count many counts b ∙ z) (piece-fits size (length counts) b bytes l every))
+
+  -- the first block that was never taken is taken
+  pub taken-first : length bytes ≡ length counts * size → length counts < many → Takes p (shown size (counts_of_all many (counts ++ 1 ∷ [])) (bytes ++ replicate size 0)) (length counts)
+  taken-first every left =
+      let within : length counts < length (counts_of_all many counts) = omega (arith, left, length-all many counts (omega (arith, left))) in
+      let same : shown size (counts_of_all many counts) (bytes ++ replicate size 0) ≡ p =
+      ap (λ (blocks : List Block). record { block_size = size; blocks = blocks }) (blocks_of-more size (many - length counts) counts bytes (replicate size 0) every) ∙ e in
+      let fits : length counts * size + size ≤ length (bytes ++ replicate size 0) = omega (arith, length-append bytes (replicate size 0), length-replicate {A = ℕ} size 0, every) in
+      subst (λ counts'. Takes p (shown size counts' (bytes ++ replicate size 0)) (length counts)) (sym (all-push many counts 1 left))
+      (shown-take size (counts_of_all many counts) (bytes ++ replicate size 0) p (length counts) same within (all-count many counts (length counts) ∙ get_or_past counts (length counts) 0 (omega arith)) fits)
+
+  -- how many blocks are free
+  pub free-all : count_by (λ c. eqb c 0) counts + (many - length counts) ≡ free_in p
+  free-all =
+      sym (count_by-zeros (many - length counts) counts) ∙ sym (free-blocks_of size (counts_of_all many counts) bytes) ∙ ap (λ (q : Blocks). free_in q) e
+    where
+      count_zeros : (k : ℕ) → count_by (λ c. eqb c 0) (replicate k 0) ≡ k
+      count_zeros zero = refl
+      count_zeros (suc k) = sum_by-cons (λ n. cond (eqb n 0) 1 0) 0 (replicate k 0) ∙ ap (λ n. 1 + n) (count_zeros k) ∙ omega arith
+
+      count_by-zeros : (k : ℕ) (counts : List ℕ) → count_by (λ c. eqb c 0) (counts ++ replicate k 0) ≡ count_by (λ c. eqb c 0) counts + k
+      count_by-zeros k [] = count_zeros k ∙ omega arith
+      count_by-zeros k (c ∷ cs) =
+          sum_by-cons (λ n. cond (eqb n 0) 1 0) c (cs ++ replicate k 0) ∙ ap (λ n. cond (eqb c 0) 1 0 + n) (count_by-zeros k cs)
+          ∙ omega (arith, sum_by-cons (λ n. cond (eqb n 0) 1 0) c cs)
+
+  pub taken-pool : length counts ≤ many → IsWithinLimits many size → length bytes ≡ length counts * size → IsPool p
+  taken-pool few limits every =
+      let P : ℕ → Type 0 = λ n. IsWithinLimits n size in
+      subst IsPool e (record {
+        limits = subst P (sym (length-blocks_of size (counts_of_all many counts) bytes ∙ length-all many counts few)) limits;
+        whole = λ b h.
+            let pos : 0 < get_or (counts_of_all many counts) b 0 = rw (← count-blocks_of size (counts_of_all many counts) bytes b) h in
+            ap (λ bs. length bs) (bytes-blocks_of size (counts_of_all many counts) bytes b pos) ∙ length-piece size b bytes (piece-fits size (length counts) b bytes (all-below many counts b pos) every);
+      })
 
 pub ruleset stored = (length-blocks_of, count-blocks_of, free-blocks_of)

@@ -1,5 +1,6 @@
--- How a pool keeps its blocks: one list of counts, all bytes in one list, and a list that names the free blocks.
-use Rattle.std.specs.Prelude.{◌≡◌, ℕ, zero, suc, ◌<◌, ◌≤◌, ◌*◌, ◌==◌, List, [], ◌∷◌, length, take, drop, count_by, slice_index, All, if◌then◌else◌}
+-- How a pool keeps its blocks: of those that were taken at some time one list of counts, all bytes in one list, and a list that
+-- names the free ones. They come first, and of the others nothing is kept.
+use Rattle.std.specs.Prelude.{◌≡◌, ℕ, zero, suc, ◌<◌, ◌≤◌, ◌*◌, ◌-◌, ◌==◌, List, [], ◌∷◌, ◌++◌, length, take, drop, replicate, count_by, slice_index, All, if◌then◌else◌}
 use Rattle.block_pool.specs.Blocks.{Block, free_block, places_of, IsWithinLimits}
 
 -- a block of this count whose bytes come first in the list
@@ -12,15 +13,22 @@ abbrev pub blocks_of : ℕ → List ℕ → List ℕ → List Block
 blocks_of size [] bytes = []
 blocks_of size (count ∷ counts) bytes = block_of size count bytes ∷ blocks_of size counts (drop size bytes)
 
+-- the counts of so many blocks, of which the first have these, and nobody holds the others
+abbrev pub counts_of_all : ℕ → List ℕ → List ℕ
+counts_of_all many counts = counts ++ replicate (many - length counts) 0
+
 -- the list names each block of count 0 once, and no other
 pub record IsFreeList (counts free : List ℕ) : Type 0 where
   pub within : All (λ b. b < length counts) free
   pub once : (b : ℕ) → b < length counts → places_of b free ≡ (if slice_index counts b == 0 then 1 else 0)
   pub many : length free ≡ count_by (λ c. c == 0) counts
 
--- the lists belong to one pool, and the free list has room for every block
-pub record IsStored (size : ℕ) (counts bytes free : List ℕ) (room : ℕ) : Type 0 where
-  pub limits : IsWithinLimits (length counts) size
+-- the lists belong to one pool of so many blocks, and have room for every block
+pub record IsStored (size many : ℕ) (counts bytes free : List ℕ) (counts_room bytes_room free_room : ℕ) : Type 0 where
+  pub limits : IsWithinLimits many size
+  pub few : length counts ≤ many
   pub every_byte : length bytes ≡ length counts * size
   pub free_list : IsFreeList counts free
-  pub free_room : length counts ≤ room
+  pub counts_fit : many ≤ counts_room
+  pub bytes_fit : many * size ≤ bytes_room
+  pub free_fit : many ≤ free_room

@@ -1,6 +1,5 @@
 ghost use Rattle.std.specs.Prelude.{◌≡◌, ◌+◌, ◌-◌, ◌*◌, ◌^◌, ◌<◌, ◌≤◌, ◌↔◌, ◌++◌, length, IfSome, IfNone, IfOk, IsTrue, replicate, vec_len, vec_capacity};
 ghost use Rattle.block_pool.specs.Blocks.{IsPool, IsWithinLimits, Takes, size_of, count_at, bytes_at, free_in, all_free, held, over, released, written};
-ghost use Rattle.block_pool.specs.FreeList.{IsFreeList};
 
 use crate::block_id::BlockId;
 use std::alloc::{AllocError, Global};
@@ -18,28 +17,34 @@ pub const POOL_BYTES_MAX: u64 = 1_073_741_824;
 /// Blocks of one size, their bytes in one piece of memory, each with a count of its holders. A contract
 /// sees the counts, and the bytes of the blocks that somebody holds.
 ///
-/// No call but `new` takes memory, and each other call takes the same time however many blocks there are.
+/// No call but `new` takes memory, and each call takes the same time however many blocks there are. The memory of a block is
+/// touched once the block is taken: those that were taken before come first, and of the others none has a count or bytes.
 #[derive(Drop)]
 pub struct Pool {
     block_bytes: u32,
+    // How many blocks there are.
+    blocks: u32,
+    // The counts of the blocks that were taken at some time, and their bytes.
     counts: Vec<u64>,
     bytes: Vec<u8>,
+    // Which of these are free.
     free: Vec<BlockId>,
 }
 
 impl Model for Pool {
     ghost use Rattle.std.specs.Prelude.{vec_capacity};
     ghost use Rattle.block_pool.specs.Blocks.{Blocks};
-    ghost use Rattle.block_pool.specs.FreeList.{blocks_of, IsStored};
+    ghost use Rattle.block_pool.specs.FreeList.{blocks_of, counts_of_all, IsStored};
 
     ghost Value = { Blocks };
 
     ghost view = { λ p. record {
       block_size = p.block_bytes;
-      blocks = blocks_of p.block_bytes p.counts.items p.bytes.items;
+      blocks = blocks_of p.block_bytes (counts_of_all p.blocks p.counts.items) p.bytes.items;
     } };
 
-    ghost invariant = { λ p. IsStored p.block_bytes p.counts.items p.bytes.items p.free.items (vec_capacity p.free) };
+    ghost invariant = { λ p. IsStored p.block_bytes p.blocks p.counts.items p.bytes.items p.free.items
+        (vec_capacity p.counts) (vec_capacity p.bytes) (vec_capacity p.free) };
 }
 
 impl Pool {
@@ -56,20 +61,18 @@ impl Pool {
     }
 
     /// Makes a pool of so many blocks with so many bytes each, which [`Pool::is_within_limits`] accepts.
-    /// Every block is free. All memory that the pool will ever need is taken and zeroed here; an
+    /// Every block is free. All memory that the pool will ever need is taken here, and none of it is touched; an
     /// `AllocError` says that there was too little.
     pub fn new(alloc: Global, blocks: u32, block_size: u32) -> Result<Pool, AllocError>
         requires { IsWithinLimits blocks block_size }
         ensures { IfOk result (λ p. p ≡ all_free blocks block_size) }
     {
-        let counts = filled(alloc, blocks as usize, 0)?;
-        let bytes = filled(alloc, blocks as usize * block_size as usize, 0)?;
-        let free = every_block(alloc, blocks)?;
         Ok(Pool {
             block_bytes: block_size,
-            counts,
-            bytes,
-            free,
+            blocks,
+            counts: Vec::with_capacity(alloc, blocks as usize)?,
+            bytes: Vec::with_capacity(alloc, blocks as usize * block_size as usize)?,
+            free: Vec::with_capacity(alloc, blocks as usize)?,
         })
     }
 
@@ -78,14 +81,15 @@ impl Pool {
         ensures value { result ≡ size_of self.now }
         ensures pool { IsPool self.now }
     {
-        self.counts.len() as u32
+        self.blocks
     }
 
     /// How many blocks nobody holds.
     pub fn free(&self) -> u32
         ensures { result ≡ free_in self.now }
     {
-        self.free.len() as u32
+        let untaken = self.blocks as usize - self.counts.len();
+        (untaken + self.free.len()) as u32
     }
 
     /// How many bytes each block has.
@@ -101,7 +105,12 @@ impl Pool {
         requires { block < size_of self.now }
         ensures { result ≡ count_at self.now block }
     {
-        self.counts[block.number() as usize]
+        let at = block.number() as usize;
+        if at < self.counts.len() {
+            self.counts[at]
+        } else {
+            0
+        }
     }
 
     /// Takes a free block, which is then held once. `None` comes exactly where no block is free, and then
@@ -111,10 +120,18 @@ impl Pool {
         ensures none { IfNone result (free_in self.old ≡ 0) }
         ensures unchanged { IfNone result (self.new ≡ self.old) }
     {
-        let block = self.free.pop()?;
-        let place = block.number() as usize;
-        self.counts[place] = 1;
-        Some(block)
+        if let Some(block) = self.free.pop() {
+            let place = block.number() as usize;
+            self.counts[place] = 1;
+            return Some(block);
+        }
+        let taken = self.counts.len();
+        if taken == self.blocks as usize {
+            return None;
+        }
+        self.counts.push_reserved(1);
+        put_zeros(&mut self.bytes, self.block_bytes as usize);
+        Some(BlockId::new(taken as u32))
     }
 
     /// Holds once more a block that somebody holds, fewer than 2^64 - 1 times.
@@ -165,31 +182,22 @@ impl Pool {
     }
 }
 
-// A list of equal values. `resize` fills it in one run, where `vec!` would copy value by value.
-fn filled<T: Copy + Drop>(alloc: Global, n: usize, value: T) -> Result<Vec<T>, AllocError>
-    ensures { IfOk result (λ v. v.items ≡ replicate n value) }
+// Puts so many zeros behind bytes, where there is room for them.
+fn put_zeros(bytes: &mut Vec<u8>, count: usize)
+    requires { vec_len bytes.old + count ≤ vec_capacity bytes.old }
+    ensures items { bytes.new.items ≡ bytes.old.items ++ replicate count 0 }
+    ensures room { vec_capacity bytes.old ≤ vec_capacity bytes.new }
 {
-    let mut list = Vec::with_capacity(alloc, n)?;
-    list.resize(n, value)?;
-    Ok(list)
-}
-
-// The numbers of all blocks, so that the one that is taken first has the lowest.
-fn every_block(alloc: Global, blocks: u32) -> Result<Vec<BlockId>, AllocError>
-    ensures free_list { IfOk result (λ v. IsFreeList (replicate blocks 0) v.items) }
-    ensures room { IfOk result (λ v. blocks ≤ vec_capacity v) }
-{
-    let mut free = Vec::with_capacity(alloc, blocks as usize)?;
-    for number in (0..blocks).rev() {
-        free.push_reserved(BlockId::new(number));
-    }
-    Ok(free)
+    let len = bytes.len() + count;
+    let put = bytes.resize(len, 0);
+    prove!(put.is_ok());
 }
 
 // Writes bytes in the place of others, from a place on.
 fn write_over(all: &mut Vec<u8>, at: usize, bytes: &[u8])
     requires { at + length bytes.now ≤ vec_len all.old }
-    ensures { all.new.items ≡ over all.old.items at bytes.now }
+    ensures items { all.new.items ≡ over all.old.items at bytes.now }
+    ensures room { vec_capacity all.new ≡ vec_capacity all.old }
 {
     all[at..at + bytes.len()].copy_from_slice(bytes);
 }
