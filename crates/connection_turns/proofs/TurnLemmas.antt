@@ -1,12 +1,13 @@
 -- Turns of a connection, one step after another.
-use Rattle.std.proofs.Common.{◌≡◌, ◌≢◌, ℕ, List, [], ◌∷◌, ◌++◌, Option, Some, None, Result, Ok, Err, IfOk, OnErr, length, take, ◌<◌, ◌≤◌, ◌+◌, ◌-◌, arith, inl, inr, refl, sym, ap₂, ◌∙◌, subst, append-nil, append_assoc, length-append}
+use Rattle.std.proofs.Common.{◌≡◌, ◌≢◌, ℕ, List, [], ◌∷◌, ◌++◌, Option, Some, None, Result, Ok, Err, IfOk, OnErr, length, take, ◌<◌, ◌≤◌, ◌+◌, ◌-◌, arith, inl, inr, refl, sym, ap₂, ◌∙◌, subst, subst₂, append-nil, append_assoc, length-append}
+use Rattle.std.proofs.lemmas.List.{map-append}
 use Rattle.std.specs.Io.KnownBytes.{Appends, Consumes, Keeps}
 use Rattle.tus_steps.specs.Request.{Request}
 use Rattle.tus_steps.specs.declared.reply.Reply.{Reply}
 use Rattle.http_wire.specs.Clock.{Tells}
 use Rattle.http_wire.specs.ConnectionCalls.{Sends, Takes}
 use Rattle.http_wire.specs.OnConnection.{OnConnection, body_in}
-use Rattle.http_wire.specs.History.{Answering, Follows, HasHistory, History, gave, noted_before, nothing_yet, took}
+use Rattle.http_wire.specs.History.{Answering, Follows, HasHistory, History, IsAnsweredAt, answer_moments, gave, noted_before, nothing_yet, took}
 use Rattle.http_wire.specs.declared.read.pieces.PiecedBody.{PiecedBody}
 use Rattle.http_wire.proofs.AheadLemmas.{Appends-more, Appends-none, Consumes-from_keeps, Consumes-more, Consumes-none}
 use Rattle.connection_turns.specs.Turn.{AreAmong, AreTimed, Around, CarriesOn, OnTurn, Passes, SendsOn, and_then, on_turn}
@@ -136,6 +137,11 @@ answered-all : (body : Option PiecedBody) (now : ℕ) (answered : List Answering
 answered-all None now answered = refl
 answered-all (Some b) now answered = refl
 
+-- an answer's moment is the one that it adds
+answered-among : (now : ℕ) (answered : List Answering) → IsAnsweredAt now answered → AreAmong (answer_moments answered) (now ∷ [])
+answered-among now [] h = tt
+answered-among now (q ∷ answered) h = inl (h.0, subst (λ (l : List Answering). AreAmong (answer_moments l) []) (sym h.1) tt)
+
 count-answered : (body : Option PiecedBody) (now : ℕ) (answered : List Answering) → length (answered-by body now answered).moments ≡ messages_of (answer_step body)
 count-answered None now answered = refl
 count-answered (Some b) now answered = refl
@@ -154,7 +160,7 @@ module _ {A K : Type 0} (steps : A → Request → ℕ → Reply → A → Type 
   pub CarriesOn-same : (old new : OnConnection) (a : A) (k : K) (u w : Option (List ℕ)) → ((p : History) → HasHistory p old → HasHistory p new) → CarriesOn steps tells piece 0 (on_turn old a k u w) (on_turn new a k u w)
   CarriesOn-same old new a k u w kept = λ p h. (
     nothing_yet,
-    record { taken = Consumes-none u; handed = Appends-none w; told = refl; timed = AreTimed-none piece; counted = refl; answered = refl },
+    record { taken = Consumes-none u; handed = Appends-none w; told = refl; timed = AreTimed-none piece; counted = refl; noted = tt; answered = refl },
     subst (λ q. HasHistory q new) (sym (and_then-none p)) (kept p h),
   )
 
@@ -162,7 +168,7 @@ module _ {A K : Type 0} (steps : A → Request → ℕ → Reply → A → Type 
   pub CarriesOn-none : (n : ℕ) (c : OnConnection) (a : A) (k : K) (u w : Option (List ℕ)) → n ≡ 0 → CarriesOn steps tells piece n (on_turn c a k u w) (on_turn c a k u w)
   CarriesOn-none n c a k u w none = λ p h. (
     nothing_yet,
-    record { taken = Consumes-none u; handed = Appends-none w; told = refl; timed = AreTimed-none piece; counted = sym none; answered = refl },
+    record { taken = Consumes-none u; handed = Appends-none w; told = refl; timed = AreTimed-none piece; counted = sym none; noted = tt; answered = refl },
     subst (λ q. HasHistory q c) (sym (and_then-none p)) h,
   )
 
@@ -172,7 +178,7 @@ module _ {A K : Type 0} (steps : A → Request → ℕ → Reply → A → Type 
   CarriesOn-took n old new a k u v w takes none = λ p h.
       let t = takes p h in (
         record nothing_yet { taken = t.0 },
-        record { taken = t.1; handed = Appends-none w; told = refl; timed = AreTimed-none piece; counted = sym none; answered = refl },
+        record { taken = t.1; handed = Appends-none w; told = refl; timed = AreTimed-none piece; counted = sym none; noted = tt; answered = refl },
         subst (λ q. HasHistory q new) (sym (and_then-took p t.0)) t.2,
       )
 
@@ -182,13 +188,13 @@ module _ {A K : Type 0} (steps : A → Request → ℕ → Reply → A → Type 
   CarriesOn-gave n old new a k u v w gives none = λ p h.
       let t = gives p h in (
         record nothing_yet { handed = t.0 },
-        record { taken = Consumes-none u; handed = t.1; told = refl; timed = AreTimed-none piece; counted = sym none; answered = refl },
+        record { taken = Consumes-none u; handed = t.1; told = refl; timed = AreTimed-none piece; counted = sym none; noted = tt; answered = refl },
         subst (λ q. HasHistory q new) (sym (and_then-gave p t.0)) t.2,
       )
 
   -- by an answer
   pub CarriesOn-answered : (n : ℕ) (old new : OnConnection) (a b : A) (k l : K) (u w : Option (List ℕ)) (now : ℕ) → tells k now l
-      → ((p : History) → HasHistory p old → (answered : List Answering) × Follows steps a answered b × HasHistory (noted_before (body_in new.phase) p now answered) new)
+      → ((p : History) → HasHistory p old → (answered : List Answering) × Follows steps a answered b × IsAnsweredAt now answered × HasHistory (noted_before (body_in new.phase) p now answered) new)
       → (piece ≡ None → body_in new.phase ≡ None) → n ≡ messages_of (answer_step (body_in new.phase)) → CarriesOn steps tells piece n (on_turn old a k u w) (on_turn new b l u w)
   CarriesOn-answered n old new a b k l u w now told answers gathers count = λ p h.
       let t = answers p h in
@@ -200,9 +206,10 @@ module _ {A K : Type 0} (steps : A → Request → ℕ → Reply → A → Type 
           told = subst (λ ms. Tells tells k ms l) (sym (told-one body now t.0)) (l, told, refl);
           timed = AreTimed-answered piece body now t.0 gathers;
           counted = count-answered body now t.0 ∙ sym count;
+          noted = subst₂ (λ answered moments. AreAmong (answer_moments answered) moments) (sym (answered-all body now t.0)) (sym (told-one body now t.0)) (answered-among now t.0 t.2);
           answered = subst (λ q. Follows steps a q b) (sym (answered-all body now t.0)) t.1;
         },
-        subst (λ q. HasHistory q new) (sym (and_then-noted p body now t.0)) t.2,
+        subst (λ q. HasHistory q new) (sym (and_then-noted p body now t.0)) t.3,
       )
 
   -- by one turn and another
@@ -217,6 +224,8 @@ module _ {A K : Type 0} (steps : A → Request → ℕ → Reply → A → Type 
           counted = length-append f.0.moments s.0.moments ∙ ap₂ (λ x y. x + y) f.1.counted s.1.counted ∙ sum;
           told = Tells-then tells a.around.clock f.0.all_moments b.around.clock s.0.all_moments c.around.clock f.1.told s.1.told;
           timed = AreTimed-then piece f.0.moments f.0.all_moments s.0.moments s.0.all_moments f.1.timed s.1.timed;
+          noted = subst (λ l. AreAmong l (f.0.all_moments ++ s.0.all_moments)) (sym (map-append (λ (q : Answering). q.now) f.0.answered s.0.answered))
+          (among-then (answer_moments f.0.answered) f.0.all_moments (answer_moments s.0.answered) s.0.all_moments f.1.noted s.1.noted);
           answered = Follows-then steps a.around.answerer f.0.answered b.around.answerer s.0.answered c.around.answerer f.1.answered s.1.answered;
         },
         subst (λ q. HasHistory q c.connection) (and_then-more p f.0 s.0) s.2,

@@ -5,7 +5,7 @@ use Rattle.tus_steps.specs.Request.{Request}
 use Rattle.tus_steps.specs.declared.reply.Reply.{Reply}
 use Rattle.http_wire.specs.Clock.{Tells}
 use Rattle.http_wire.specs.OnConnection.{IsFresh, OnConnection}
-use Rattle.http_wire.specs.History.{Follows, HasHistory, History, gave}
+use Rattle.http_wire.specs.History.{Follows, HasHistory, History, answer_moments, gave}
 use Rattle.http_wire.specs.declared.body_limits.BodyLimits.{BodyLimits}
 
 -- what stands around a connection: what answers on it, the clock, and, where they are known, the bytes that its reader has left
@@ -50,13 +50,14 @@ AreTimed (Some n) moments told = AreAmong moments told
 
 module _ {A K : Type 0} (steps : A → Request → ℕ → Reply → A → Type 0) (tells : K → ℕ → K → Type 0) where
   -- This passed meanwhile: the bytes came from the reader and went to the writer, the clock told all moments, those of messages
-  -- are so many, and the answers are steps.
+  -- are so many, and the answers are steps, each at a moment of its own.
   pub record Passes (piece : Option ℕ) (count : ℕ) (old new : Around A K) (more : History) : Type 0 where
     pub taken : Consumes old.unread new.unread more.taken
     pub handed : Appends old.written new.written more.handed
     pub told : Tells tells old.clock more.all_moments new.clock
     pub timed : AreTimed piece more.moments more.all_moments
     pub counted : length more.moments ≡ count
+    pub noted : AreAmong (answer_moments more.answered) more.all_moments
     pub answered : Follows steps old.answerer more.answered new.answerer
 
   -- Whatever had passed on the connection, it has passed still, and then what passed meanwhile, with so many messages.

@@ -1,10 +1,10 @@
 -- A body that comes in pieces.
-use Rattle.std.proofs.Common.{◌≡◌, ◌≤◌, ◌+◌, ℕ, false, List, [], ◌∷◌, ◌++◌, length, take, drop, All, refl, ap, sym, subst, ◌∙◌, arith, append-nil, append_assoc, length-append}
+use Rattle.std.proofs.Common.{◌≡◌, ◌<◌, ◌≤◌, ◌+◌, ℕ, false, List, [], ◌∷◌, ◌++◌, length, take, drop, All, refl, ap, sym, subst, ◌∙◌, arith, append-nil, append_assoc, length-append}
 use Rattle.std.proofs.lemmas.List.Elements.{All-nil, All-cons, All-head, All-tail}
 use Rattle.std.proofs.lemmas.List.{take_at, drop_at, take_all}
 use Rattle.tus_steps.specs.Request.{Request}
 use Rattle.tus_steps.specs.declared.reply.Reply.{Reply}
-use Rattle.tus_steps.specs.InPieces.{PieceAt, Takes, behind, created_in, first_of, reply_to_all, rest_of}
+use Rattle.tus_steps.specs.InPieces.{InPieces, PieceAt, Takes, behind, created_in, first_of, reply_to_all, rest_of}
 use Rattle.http_wire.specs.InPieces.{PiecesAreATurn}
 use Rattle.http_wire.specs.Layout.{request_at}
 use Rattle.http_wire.specs.History.{Answering, AreGiven, AreLong, Notes, NotesInPieces, behind_pieces, piece_of}
@@ -89,9 +89,17 @@ any-long : (answered : List Answering) → AreLong 0 answered
 any-long [] = All-nil (λ (q : Answering). 0 ≤ length q.request.body)
 any-long (q ∷ answered) = All-cons (λ (q : Answering). 0 ≤ length q.request.body) q answered (omega arith) (any-long answered)
 
+-- a request is noted in pieces, each of at least so many bytes but the last, which has these
+abbrev IsNotedBy : ℕ → List ℕ → List Answering → Request → ℕ → Reply → List Answering → Type 0
+IsNotedBy m last before r now reply after = (step : InPieces Notes before r now reply after) × All (λ (q : PieceAt). m ≤ q.len) step.pieces × (step.left.body ≡ last)
+
+-- the last has some
+pub noted-last : (m : ℕ) (last : List ℕ) (before : List Answering) (r : Request) (now : ℕ) (reply : Reply) (after : List Answering) → 0 < length last → IsNotedBy m last before r now reply after → NotesInPieces m before r now reply after
+noted-last m last before r now reply after some step = (step.0, step.1, subst (λ (bytes : List ℕ). 0 < length bytes) (sym step.2) some)
+
 -- a body that came in pieces is answered in pieces
 answered-in_pieces : (m : ℕ) (r : Request) (n now : ℕ) (before answered : List Answering) (gone last : List ℕ) (reply : Reply) → AreGiven r n 0 answered gone → length gone + length last ≡ n → AreLong m answered
-    → NotesInPieces m before (from_place r 0 (gone ++ last)) now (reply_to_all r (behind_pieces r answered) reply) ((before ++ answered) ++ answering (piece_of (behind_pieces r answered) n (length gone) last) now reply ∷ [])
+    → IsNotedBy m last before (from_place r 0 (gone ++ last)) now (reply_to_all r (behind_pieces r answered) reply) ((before ++ answered) ++ answering (piece_of (behind_pieces r answered) n (length gone) last) now reply ∷ [])
 answered-in_pieces m r n now before answered gone last reply is all long =
     let next = behind_pieces r answered in
     let left : from_place next (0 + length gone) last ≡ piece_of next n (length gone) last = same_numbers next last last _ _ _ _ refl (omega arith) (omega (arith, all)) in (
@@ -105,6 +113,7 @@ answered-in_pieces m r n now before answered gone last reply is all long =
         told = refl;
       },
       pieces-long m r n 0 answered gone is long,
+      refl,
     )
 
 -- the request of a whole message, by that of its head alone
@@ -118,10 +127,10 @@ request-whole p head body long none no_more =
 -- is answered in pieces.
 pub whole-step : (m : ℕ) (limits : BodyLimits) (bytes : List ℕ) (p : Layout) (head gone last left : List ℕ) (before answered : List Answering) (now : ℕ) (reply : Reply)
     → BeginsHead limits bytes p (head ++ ((gone ++ last) ++ left)) → length head ≡ p.head_len → length gone + length last ≡ p.body_len → AreGiven (request_at p head) p.body_len 0 answered gone → AreLong m answered
-    → NotesInPieces m before (request_at p (head ++ (gone ++ last))) now (reply_to_all (request_at p head) (behind_pieces (request_at p head) answered) reply)
+    → IsNotedBy m last before (request_at p (head ++ (gone ++ last))) now (reply_to_all (request_at p head) (behind_pieces (request_at p head) answered) reply)
     ((before ++ answered) ++ answering (piece_of (behind_pieces (request_at p head) answered) p.body_len (length gone) last) now reply ∷ [])
 whole-step m limits bytes p head gone last left before answered now reply begins long all given sized =
-    subst (λ request. NotesInPieces m before request now (reply_to_all (request_at p head) (behind_pieces (request_at p head) answered) reply) ((before ++ answered) ++ answering (piece_of (behind_pieces (request_at p head) answered) p.body_len (length gone) last) now reply ∷ []))
+    subst (λ request. IsNotedBy m last before request now (reply_to_all (request_at p head) (behind_pieces (request_at p head) answered) reply) ((before ++ answered) ++ answering (piece_of (behind_pieces (request_at p head) answered) p.body_len (length gone) last) now reply ∷ []))
     (sym (request-whole p head (gone ++ last) long begins.shows.given begins.shows.more)) (answered-in_pieces m (request_at p head) p.body_len now before answered gone last reply given all sized)
 
 -- and it is what the bytes begin with, whatever follows them

@@ -37,7 +37,7 @@ use Rattle.http_wire.specs.inside.Standing.{HasPiece, IsPieced, lent_to}
 use Rattle.http_wire.specs.inside.TurnFinish.{ended_after}
 use Rattle.http_wire.proofs.ConversationLemmas.{Conversation-closed}
 use Rattle.http_wire.proofs.HistoryLemmas.{History-turned, body-after, onto, sent-more}
-use Rattle.http_wire.proofs.InPiecesLemmas.{whole-message, whole-step}
+use Rattle.http_wire.proofs.InPiecesLemmas.{noted-last, whole-message, whole-step}
 use Rattle.http_wire.proofs.PhaseLemmas.{IsConnection-after, map-after}
 use Rattle.http_wire.proofs.PieceLemmas.{AreGiven-push, IsTaken-accepted, IsTaken-kept, behind_pieces-push, lent-head, lent-rest, piece-lent, plain-request}
 use Rattle.http_wire.specs.declared.body_limits.BodyLimits.{BodyLimits}
@@ -154,7 +154,7 @@ module _ (p : History) (c : OnConnection) (b : PiecedBody) (which : Part) (piece
       step = NotesBy-pieces c.piece b.piece h.before after request now told piece (plain-request b.layout (head ++ (h.gone ++ bytes)) pieced.plain)
           (omega (arith, ap length (drop_at head (h.gone ++ bytes) n long), length-append h.gone bytes, count, pieced.long))
           (subst (NotesInPieces b.piece h.before request now told) (rw (h.answered, next) refl)
-          (whole-step b.piece c.limits h.start b.layout head h.gone bytes c.read_buffer.held h.before h.pieces now reply parted long count given h.sized))
+          (noted-last b.piece bytes h.before request now told _ (omega (arith, count, h.taken.given, pieced.given)) (whole-step b.piece c.limits h.start b.layout head h.gone bytes c.read_buffer.held h.before h.pieces now reply parted long count given h.sized)))
 
       wrote : h.said ++ reply_text told now b.layout.framing ≡ continue_text b.layout.is_waiting ++ reply_text told now b.layout.framing
       wrote = ap (λ l. l ++ reply_text told now b.layout.framing) h.taken.waits

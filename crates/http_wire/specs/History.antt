@@ -1,5 +1,5 @@
 -- The history of a connection: what was taken from its client and handed out to it, and what was answered.
-use Rattle.std.specs.Prelude.{◌≡◌, ◌⊎◌, ◌≤◌, ◌<◌, ◌+◌, ◌-◌, ℕ, Bool, true, false, List, [], ◌∷◌, ◌++◌, length, take, Option, Some, None, All, Ok, Err}
+use Rattle.std.specs.Prelude.{◌≡◌, ◌⊎◌, ◌≤◌, ◌<◌, ◌+◌, ◌-◌, ⊤, ℕ, Bool, true, false, List, [], ◌∷◌, ◌++◌, length, map, take, Option, Some, None, All, Ok, Err}
 use Rattle.tus_steps.specs.InPieces.{InPieces, MayComeInPieces, PieceAt, behind, created_in, is_taken}
 use Rattle.tus_steps.specs.Method.{is_patch}
 use Rattle.tus_steps.specs.Request.{Request}
@@ -29,13 +29,22 @@ pub record Answering : Type 0 where
   pub now : ℕ
   pub reply : Reply
 
+-- At one moment at most one request is answered, and at that moment.
+abbrev pub IsAnsweredAt : ℕ → List Answering → Type 0
+IsAnsweredAt now [] = ⊤
+IsAnsweredAt now (q ∷ answered) = (q.now ≡ now) × (answered ≡ [])
+
+-- the moments of answers
+abbrev pub answer_moments : List Answering → List ℕ
+answer_moments answered = map {A = Answering} {B = ℕ} (λ (q : Answering). q.now) answered
+
 -- steps that only note what was answered
 abbrev pub Notes : List Answering → Request → ℕ → Reply → List Answering → Type 0
 Notes before request now reply after = after ≡ before ++ record { request = request; now = now; reply = reply } ∷ []
 
--- The same of a request that is noted piece by piece. Each piece but the last has at least so many bytes.
+-- The same of a request that is noted piece by piece. Each piece but the last has at least so many bytes, and the last has some.
 abbrev pub NotesInPieces : ℕ → List Answering → Request → ℕ → Reply → List Answering → Type 0
-NotesInPieces n before request now reply after = (step : InPieces Notes before request now reply after) × All (λ (q : PieceAt). n ≤ q.len) step.pieces
+NotesInPieces n before request now reply after = (step : InPieces Notes before request now reply after) × All (λ (q : PieceAt). n ≤ q.len) step.pieces × (0 < length step.left.body)
 
 -- The same where bodies may be taken in pieces of some size. A request is noted as one. A PATCH or a POST without a checksum
 -- whose body has more bytes than a piece is noted piece by piece instead.

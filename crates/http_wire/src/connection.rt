@@ -9,7 +9,7 @@ ghost use Rattle.http_wire.specs.Layout.{IsLayoutWithin, framed_at};
 ghost use Rattle.http_wire.specs.Message.{framed};
 ghost use Rattle.http_wire.specs.OnConnection.{HasNoMessage, IsFresh, IsIdle, OnConnection, Stands, StandsIn, at_start, body_held, body_in, ended_in, is_looking, left, left_in, looking_again, owed_in, passed_over, phase_after, piece_owed, turn_end, under_way, unless_pending, wanted, wanted_in};
 ghost use Rattle.http_wire.specs.PiecedBody.{piece_in};
-ghost use Rattle.http_wire.specs.History.{Answering, Follows, HasHistory, History, noted_before, nothing_yet};
+ghost use Rattle.http_wire.specs.History.{Answering, Follows, HasHistory, History, IsAnsweredAt, noted_before, nothing_yet};
 ghost use Rattle.http_wire.specs.ReadOnWire.{TellsEnd, read_limit};
 ghost use Rattle.http_wire.specs.ReplyText.{refusal_text, reply_text};
 ghost use Rattle.http_wire.specs.Streams.{took_nothing};
@@ -364,6 +364,7 @@ impl Connection {
         ensures pieces { AnswersOwed A.steps now answerer.old answerer.new self.old self.new self.old.phase }
         ensures history { (p : History) → HasHistory p self.old → (answered : List Answering)
             × Follows A.steps answerer.old answered answerer.new
+            × IsAnsweredAt now answered
             × HasHistory (noted_before (body_in self.new.phase) p now answered) self.new }
         ensures phase { IfSome (owed_in self.old.phase) (λ i. self.new.phase ≡ phase_after (turn_end i)) }
         ensures read_buffer { IfSome (owed_in self.old.phase) (λ i. self.new.read_buffer ≡ self.old.read_buffer) }

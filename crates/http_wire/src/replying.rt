@@ -3,7 +3,7 @@ ghost use Rattle.std.specs.Prelude.{◌≡◌, ◌++◌, List, ℕ, Option, true
 ghost use Rattle.http_wire.specs.Incoming.{map_incoming};
 ghost use Rattle.http_wire.specs.Layout.{IsMessage, framed_at, request_at};
 ghost use Rattle.http_wire.specs.OnConnection.{turn_end};
-ghost use Rattle.http_wire.specs.History.{Answering, Follows, NotesBy};
+ghost use Rattle.http_wire.specs.History.{Answering, Follows, IsAnsweredAt, NotesBy};
 ghost use Rattle.http_wire.specs.ReplyText.{reply_text};
 ghost use Rattle.http_wire.specs.inside.IncomingLayout.{IsLent};
 ghost use Rattle.http_wire.specs.inside.Standing.{GathersIn};
@@ -37,6 +37,7 @@ pub fn answer_incoming<A: Answer>(
         × AnswersTurn A.steps now buffers.old.read_buffer (map_incoming (framed_at buffers.old.read_buffer.lent) incoming.now)
         put answerer.old answerer.new result
         × (answered : List Answering) × Follows A.steps answerer.old answered answerer.new
+        × IsAnsweredAt now answered
         × ((piece : Option ℕ) (before : List Answering) → GathersIn piece buffers.old.read_buffer incoming.now
         → AnswersTurn (NotesBy piece) now buffers.old.read_buffer
         (map_incoming (framed_at buffers.old.read_buffer.lent) incoming.now) put before (before ++ answered) result) }

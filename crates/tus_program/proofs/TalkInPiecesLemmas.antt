@@ -6,7 +6,7 @@ use Rattle.std.proofs.lemmas.List.{append-nil}
 use Rattle.std.proofs.lemmas.List.Elements.{All-cons, All-head, All-nil, All-tail}
 use Rattle.http_wire.specs.Clock.{Tells}
 use Rattle.http_wire.specs.ConnectionCalls.{Takes}
-use Rattle.http_wire.specs.History.{Answering, Follows, HasHistory, History, nothing_yet}
+use Rattle.http_wire.specs.History.{Answering, Follows, HasHistory, History, answer_moments, nothing_yet}
 use Rattle.http_wire.specs.Fault.{NamesOrMemory, NamesStream}
 use Rattle.http_wire.specs.Incoming.{FramedRequest}
 use Rattle.http_wire.specs.NextMessage.{closing}
@@ -135,6 +135,7 @@ module _ {A : Type 0} (steps : A → Request → ℕ → Reply → A → Type 0)
           taken = h.1.taken;
           handed = h.1.handed;
           messages = among-at now h.0.moments h.0.all_moments h.1.timed all;
+          noted = among-at now (answer_moments h.0.answered) h.0.all_moments h.1.noted all;
           all = all;
           few = subst (λ (k : ℕ). k ≤ 4096) (sym h.1.counted) few;
           answered = h.1.answered;
@@ -171,6 +172,7 @@ module _ {A B : Type 0} (steps : A → Request → ℕ → Reply → A → Type 
     taken = talks.taken;
     handed = talks.handed;
     messages = talks.messages;
+    noted = talks.noted;
     all = talks.all;
     few = talks.few;
     answered = answered;

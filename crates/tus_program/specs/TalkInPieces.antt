@@ -1,7 +1,7 @@
 -- A conversation of `talk` whose bodies come in pieces.
 use Rattle.std.specs.Prelude.{◌≡◌, ◌≤◌, ◌^◌, ◌⊎◌, ℕ, List, [], All, length, min, Option, Some}
 use Rattle.std.specs.Io.KnownBytes.{Appends, Consumes}
-use Rattle.http_wire.specs.History.{Follows, HasHistory, History}
+use Rattle.http_wire.specs.History.{Follows, HasHistory, History, answer_moments}
 use Rattle.http_wire.specs.OnConnection.{OnConnection, wanted}
 use Rattle.http_wire.specs.declared.body_limits.BodyLimits.{BodyLimits}
 use Rattle.http_wire.specs.declared.connection.Wants.TheVariants.{Nothing}
@@ -20,7 +20,8 @@ AreAt now moments = All (λ (m : ℕ). m ≡ now) moments
 module _ {A : Type 0} (steps : A → Request → ℕ → Reply → A → Type 0) where
   -- This passed on a connection whose bodies come in pieces of n bytes, where an upload has at most so many. What was taken came
   -- from the reader, and what was handed out went to the writer, whose bytes are told before and after, where they are known. All
-  -- messages and pieces had one moment, and at most 4,096 were messages. Their answers are steps, from one state to another.
+  -- messages and pieces had one moment, and at most 4,096 were messages. Their answers are steps at that moment, from one state
+  -- to another.
   pub record TalksInPieces (n now most : ℕ) (before after : A) (unread left written told : Option (List ℕ)) : Type 0 where
     pub connection : OnConnection
     pub limits : connection.limits ≡ limits_in_pieces most
@@ -31,6 +32,7 @@ module _ {A : Type 0} (steps : A → Request → ℕ → Reply → A → Type 0)
     pub handed : Appends written told passed.handed
     pub messages : AreAt now passed.moments
     pub all : AreAt now passed.all_moments
+    pub noted : AreAt now (answer_moments passed.answered)
     pub few : length passed.moments ≤ 4096
     pub answered : Follows steps before passed.answered after
 

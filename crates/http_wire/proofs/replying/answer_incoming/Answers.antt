@@ -18,6 +18,7 @@ returns-in-Message-clause-answers g c =
       Answers-message g.A.Answer.steps c.args.now read_buffer layout step.0 _ _ layout.framing.close refl step.1,
       answered ∷ [],
       (_, step.1, refl),
+      (refl, refl),
       λ piece before gathers. Answers-message (NotesBy piece) c.args.now read_buffer layout step.0 before _ layout.framing.close refl (NotesBy-one piece before answered (GathersIn-few piece layout read_buffer.lent gathers.0 gathers.1 gathers.2)),
     )
 
@@ -30,6 +31,7 @@ returns-in-Refused-clause-answers g c =
       Answers-refused g.A.Answer.steps c.args.now read_buffer c.in-Refused.refusal c.in-Refused.framing _,
       [],
       refl,
+      tt,
       λ piece before _. Answers-unnoted (NotesBy piece) c.args.now read_buffer _ _ before _ (Answers-refused (NotesBy piece) c.args.now read_buffer c.in-Refused.refusal c.in-Refused.framing before),
     )
 
@@ -45,15 +47,16 @@ returns-in-CutPatch-clause-answers g c =
       Answers-cut_patch g.A.Answer.steps c.args.now read_buffer layout c.in-CutPatch.why step.0 _ _ step.1,
       answered ∷ [],
       (_, step.1, refl),
+      (refl, refl),
       λ piece before gathers. Answers-cut_patch (NotesBy piece) c.args.now read_buffer layout c.in-CutPatch.why step.0 before _ (NotesBy-one piece before answered (GathersIn-few piece layout read_buffer.lent gathers.0 gathers.1 gathers.2)),
     )
 
 pub returns-in-CutOther-clause-answers : goal.returns-in-CutOther-clause-answers
 returns-in-CutOther-clause-answers g c =
     let read_buffer = c.args.buffers.now.read_buffer in
-    rw c.in-CutOther.is ([], sym (append-nil _), Answers-cut_other g.A.Answer.steps c.args.now read_buffer _, [], refl, λ piece before _. Answers-unnoted (NotesBy piece) c.args.now read_buffer _ _ before _ (Answers-cut_other (NotesBy piece) c.args.now read_buffer before))
+    rw c.in-CutOther.is ([], sym (append-nil _), Answers-cut_other g.A.Answer.steps c.args.now read_buffer _, [], refl, tt, λ piece before _. Answers-unnoted (NotesBy piece) c.args.now read_buffer _ _ before _ (Answers-cut_other (NotesBy piece) c.args.now read_buffer before))
 
 pub returns-in-End-clause-answers : goal.returns-in-End-clause-answers
 returns-in-End-clause-answers g c =
     let read_buffer = c.args.buffers.now.read_buffer in
-    rw c.in-End.is ([], sym (append-nil _), Answers-end g.A.Answer.steps c.args.now read_buffer _, [], refl, λ piece before _. Answers-unnoted (NotesBy piece) c.args.now read_buffer _ _ before _ (Answers-end (NotesBy piece) c.args.now read_buffer before))
+    rw c.in-End.is ([], sym (append-nil _), Answers-end g.A.Answer.steps c.args.now read_buffer _, [], refl, tt, λ piece before _. Answers-unnoted (NotesBy piece) c.args.now read_buffer _ _ before _ (Answers-end (NotesBy piece) c.args.now read_buffer before))

@@ -9,7 +9,7 @@ use Rattle.connection_turns.proofs.client_connection.ClientConnection.attend.Goa
 pub returns-in_default-clause-carries : goal.returns-in_default-clause-carries
 returns-in_default-clause-carries g c p h = (
   nothing_yet,
-  record { taken = Consumes-none _; handed = Appends-none _; told = refl; timed = AreTimed-none c.args.self.now.piece; counted = omega arith; answered = refl },
+  record { taken = Consumes-none _; handed = Appends-none _; told = refl; timed = AreTimed-none c.args.self.now.piece; counted = omega arith; noted = tt; answered = refl },
   History-nothing c.args.self.now.limits c.args.self.now.piece p _ _ (sym c.take.ensures.value ∙ c.in_default.ensures.none) c.take.ensures.after h,
 )
 

@@ -29,7 +29,8 @@ returns-in-Owing-clause-history g c =
     λ p h. (
       a.3,
       a.4,
-      History-owing p c.args.now i a.0 a.3 old _ _ _ (subst (AnswersTurn (NotesBy piece) c.args.now read_buffer i a.0 p.answered (p.answered ++ a.3)) turn.ensures.end (a.5 piece p.answered gathered)) a.1 turn.ensures.read_buffer phase
+      a.5,
+      History-owing p c.args.now i a.0 a.3 old _ _ _ (subst (AnswersTurn (NotesBy piece) c.args.now read_buffer i a.0 p.answered (p.answered ++ a.3)) turn.ensures.end (a.6 piece p.answered gathered)) a.1 turn.ensures.read_buffer phase
           (subst (λ q. HasHistory p (record old { phase = map_phase f q })) c.in-Owing.is (subst (HasHistory p) (sym c.self.view_is) h)),
     )
 
@@ -50,6 +51,7 @@ returns-in-Piece-clause-history g c =
     λ p h. (
       answer_to body read_buffer c.args.now a.0 ∷ [],
       (_, a.1, refl),
+      (refl, refl),
       History-piece _ p c.args.now body c.in-Piece.part a.0 old _ _ _ (subst (IsPhase read_buffer) c.in-Piece.is c.self.invariant.phase) size a.2
           (subst (λ q. HasHistory p (record old { phase = map_phase f q })) c.in-Piece.is (subst (HasHistory p) (sym c.self.view_is) h)),
     )
