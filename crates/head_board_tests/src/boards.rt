@@ -5,7 +5,7 @@ ghost use Rattle.head_board.specs.Events.{book_at};
 ghost use Rattle.upload_book.specs.Book.{plain_of};
 ghost use Rattle.upload_book.specs.Change.{CanBeMade};
 
-use crate::settings::{moment, settings};
+use crate::moments::moment;
 use crate::tables::{assert_shown, name};
 use head_board::{Board, Coming, HeadReader, Opened, SeenEvents};
 use std::alloc::{AllocError, Global};
@@ -13,6 +13,7 @@ use std::process::Abort;
 use std::sync::Wait;
 use std::test::Fail;
 use upload_book::{Book, Change, FirstChunk, HeadRow, NewUpload, Payload, Refusal};
+use worked_example::settings;
 
 // A place for the rows of a reader.
 fn place(alloc: Global) -> Result<Box<HeadRow>, AllocError> {

@@ -5,6 +5,6 @@
 #[cfg(test)]
 mod boards;
 #[cfg(test)]
-mod settings;
+mod moments;
 #[cfg(test)]
 mod tables;

@@ -2,7 +2,7 @@
 
 ghost use Rattle.std.specs.Prelude.{◌≡◌};
 
-use crate::settings::{moment, settings};
+use crate::moments::moment;
 use head_board::HeadTable;
 use std::process::Abort;
 use std::test::Fail;
@@ -10,6 +10,7 @@ use upload_book::NotedChange::{Created, Gone, Grown, Next, Swept, Totals};
 use upload_book::{
     Accounts, Growth, HeadNote, Kind, Moment, Name, NotedChange, Numbers, Refusal, RowRef, Settings,
 };
+use worked_example::settings;
 
 // The note of a change, after which so much was charged.
 fn note(change: NotedChange, charged: u64) -> HeadNote {

@@ -12,6 +12,7 @@ mod hostile;
 mod limits;
 mod malformed;
 mod memory;
+mod message_parts;
 mod methods;
 mod plain;
 mod replies;

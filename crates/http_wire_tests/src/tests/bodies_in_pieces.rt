@@ -1,18 +1,20 @@
 //! Bodies that a connection takes in pieces. A PATCH or a creation that is accepted gets the reply that it gets as one; a piece
 //! that is refused closes the connection, and those before it are kept.
 
-use crate::tests::checksums::PATCH_CHECKED;
+use crate::tests::checksums::CREATED_WITH;
 use crate::tests::connections::{answer_next, assert_wants, take_in, take_out};
 use crate::tests::conversations::{
-    BODY_SIZE, COMPLETED, CONTINUE, CREATED, OFFSET, PATCH, PATCH_OLD, PATCH_PAST, PATCH_REST,
-    PATCH_WAITING, PATCHED, PATCHED_CLOSE, POST, WRONG_OFFSET,
+    BODY_SIZE, COMPLETED, CONTINUE, OFFSET, PATCH_OLD, PATCH_PAST, PATCH_REST, PATCH_WAITING,
+    PATCHED_CLOSE, WRONG_OFFSET,
 };
 use crate::tests::driven::{Arriving, Leaving, Pieces, spoken_over};
+use crate::tests::message_parts::{FROM_0, HELLO, OF_10, SUM, TO_ACME, TO_FIRST, TYPED};
 use crate::tests::rows::{Row, rows};
 use crate::tests::spoken::{Expected, Spoken, assert_spoken, at_1000, joined, new_book, offset_of};
 use http_wire::{BodyLimits, Buffers, Connection, Ended, Wants};
 use std::alloc::Global;
 use std::process::Abort;
+use worked_example::{CREATED, PATCH, PATCHED, POST};
 
 const TOO_LONG_CLOSE: &[u8] =
     b"HTTP/1.1 413 Content Too Large\r\nDate: Thu, 01 Jan 1970 00:16:40 GMT\r\n\
@@ -23,38 +25,6 @@ const OFFSET_CLOSE: &[u8] = b"HTTP/1.1 409 Conflict\r\nDate: Thu, 01 Jan 1970 00
 Tus-Resumable: 1.0.0\r\nUpload-Expires: Thu, 01 Jan 1970 01:16:40 GMT\r\n\
 Content-Type: text/plain\r\nContent-Length: 7\r\nConnection: close\r\n\r\noffset\n";
 
-/// The first 3 bytes of the body of `PATCH`, and its head.
-const PATCH_CUT: &[u8] = b"PATCH /files/acme/1 HTTP/1.1\r\nHost: x\r\nTus-Resumable: 1.0.0\r\n\
-Content-Type: application/offset+octet-stream\r\nUpload-Offset: 0\r\nContent-Length: 5\r\n\r\n\
-hel";
-
-const PATCH_ALL: &[u8] = b"PATCH /files/acme/1 HTTP/1.1\r\nHost: x\r\nTus-Resumable: 1.0.0\r\n\
-Content-Type: application/offset+octet-stream\r\nUpload-Offset: 0\r\nContent-Length: 10\r\n\r\n\
-helloworld";
-
-const PATCH_CHECKED_LONG: &[u8] = b"PATCH /files/acme/1 HTTP/1.1\r\nHost: x\r\n\
-Tus-Resumable: 1.0.0\r\nContent-Type: application/offset+octet-stream\r\nUpload-Offset: 0\r\n\
-Upload-Checksum: sha1 qvTGHdzF6KLavt4PO0gs2a6pQ00=\r\nContent-Length: 6\r\n\r\n";
-
-/// A creation of an upload of 10 bytes, with its first 5.
-const POST_WITH: &[u8] = b"POST /files/acme HTTP/1.1\r\nHost: x\r\nTus-Resumable: 1.0.0\r\n\
-Upload-Length: 10\r\nContent-Type: application/offset+octet-stream\r\nContent-Length: 5\r\n\r\nhello";
-
-const POST_WITH_WAITING: &[u8] = b"POST /files/acme HTTP/1.1\r\nHost: x\r\nTus-Resumable: 1.0.0\r\n\
-Expect: 100-continue\r\nUpload-Length: 10\r\nContent-Type: application/offset+octet-stream\r\n\
-Content-Length: 5\r\n\r\nhello";
-
-const POST_WITH_HEAD: &[u8] = b"POST /files/acme HTTP/1.1\r\nHost: x\r\nTus-Resumable: 1.0.0\r\n\
-Upload-Length: 10\r\nContent-Type: application/offset+octet-stream\r\nContent-Length: 5\r\n\r\n";
-
-/// One with more bytes than the length that it tells.
-const POST_WITH_PAST: &[u8] = b"POST /files/acme HTTP/1.1\r\nHost: x\r\nTus-Resumable: 1.0.0\r\n\
-Upload-Length: 4\r\nContent-Type: application/offset+octet-stream\r\nContent-Length: 5\r\n\r\nhello";
-
-const CREATED_WITH: &[u8] = b"HTTP/1.1 201 Created\r\nDate: Thu, 01 Jan 1970 00:16:40 GMT\r\n\
-Tus-Resumable: 1.0.0\r\nLocation: /files/acme/1\r\nUpload-Offset: 5\r\n\
-Upload-Expires: Thu, 01 Jan 1970 01:16:40 GMT\r\nContent-Length: 0\r\n\r\n";
-
 const CREATION_TOO_LONG_CLOSE: &[u8] =
     b"HTTP/1.1 413 Content Too Large\r\nDate: Thu, 01 Jan 1970 00:16:40 GMT\r\n\
 Tus-Resumable: 1.0.0\r\nContent-Type: text/plain\r\nContent-Length: 9\r\nConnection: close\r\n\r\ntoo-long\n";
@@ -64,18 +34,18 @@ static ROWS: [Row; 15] = rows! {
     "two bodies": [POST, PATCH, PATCH_REST] => [CREATED, PATCHED, COMPLETED], Input, Some(10);
     "a client that waits to go on": [POST, PATCH_WAITING, PATCH_REST] => [CREATED, CONTINUE, PATCHED, COMPLETED], Input, Some(10);
     "a last reply": [POST, PATCH_OLD] => [CREATED, PATCHED_CLOSE], Closed, Some(5);
-    "a cut in the second piece": [POST, PATCH_CUT] => [CREATED], Cut, Some(3);
+    "a cut in the second piece": [POST, TO_FIRST, TYPED, FROM_0, b"Content-Length: 5\r\n\r\nhel"] => [CREATED], Cut, Some(3);
     "a body that is no longer than a piece": [POST, WRONG_OFFSET, PATCH] => [CREATED, OFFSET, PATCHED], Input, Some(5);
     "a first piece of a body that is too long": [POST, PATCH, PATCH_PAST] => [CREATED, PATCHED, TOO_LONG_CLOSE], Closed, Some(5);
     "an offset that is not the upload's": [POST, PATCH, PATCH] => [CREATED, PATCHED, OFFSET_CLOSE], Closed, Some(5);
-    "a checksum, which is of the whole body": [POST, PATCH_CHECKED] => [CREATED, PATCHED], Input, Some(5);
-    "more bytes than a body may have that is gathered": [POST, PATCH_ALL] => [CREATED, COMPLETED], Input, Some(10);
-    "more bytes with a checksum": [POST, PATCH_CHECKED_LONG] => [CREATED, BODY_SIZE], Closed, Some(0);
-    "a creation with its upload": [POST_WITH, PATCH_REST] => [CREATED_WITH, COMPLETED], Input, Some(10);
-    "a creation with its upload, whose client waits to go on": [POST_WITH_WAITING] => [CONTINUE, CREATED_WITH], Input, Some(5);
-    "a creation that is cut in its first piece": [POST_WITH_HEAD, b"h"] => [], Cut, None;
-    "a creation that is cut in its second piece": [POST_WITH_HEAD, b"hel"] => [], Cut, Some(3);
-    "a creation with more bytes than its upload may have": [POST_WITH_PAST] => [CREATION_TOO_LONG_CLOSE], Closed, None;
+    "a checksum, which is of the whole body": [POST, TO_FIRST, TYPED, FROM_0, SUM, HELLO] => [CREATED, PATCHED], Input, Some(5);
+    "more bytes than a body may have that is gathered": [POST, TO_FIRST, TYPED, FROM_0, b"Content-Length: 10\r\n\r\nhelloworld"] => [CREATED, COMPLETED], Input, Some(10);
+    "more bytes with a checksum": [POST, TO_FIRST, TYPED, FROM_0, SUM, b"Content-Length: 6\r\n\r\n"] => [CREATED, BODY_SIZE], Closed, Some(0);
+    "a creation with its upload": [TO_ACME, OF_10, TYPED, HELLO, PATCH_REST] => [CREATED_WITH, COMPLETED], Input, Some(10);
+    "a creation with its upload, whose client waits to go on": [TO_ACME, b"Expect: 100-continue\r\n", OF_10, TYPED, HELLO] => [CONTINUE, CREATED_WITH], Input, Some(5);
+    "a creation that is cut in its first piece": [TO_ACME, OF_10, TYPED, b"Content-Length: 5\r\n\r\nh"] => [], Cut, None;
+    "a creation that is cut in its second piece": [TO_ACME, OF_10, TYPED, b"Content-Length: 5\r\n\r\nhel"] => [], Cut, Some(3);
+    "a creation with more bytes than its upload may have": [TO_ACME, b"Upload-Length: 4\r\n", TYPED, HELLO] => [CREATION_TOO_LONG_CLOSE], Closed, None;
 };
 
 /// How long a body may be that is gathered: shorter than some that come in pieces.

@@ -1,13 +1,12 @@
 //! Conversations in which parts are joined to final uploads.
 
-use crate::tests::conversations::{
-    CREATED, CREATION_TOO_LONG, DELETE, DELETED, GONE, HEAD, PATCHED,
-};
+use crate::tests::conversations::{CREATION_TOO_LONG, DELETE, DELETED, GONE};
 use crate::tests::creations::FIELD;
 use crate::tests::spoken::{Expected, assert_both, at, put};
 use http_wire::Ended;
 use std::alloc::Global;
 use std::process::Abort;
+use worked_example::{CREATED, HEAD, PATCHED};
 
 /// A message, and what is written for it.
 type Turn = (&'static [u8], &'static [u8]);

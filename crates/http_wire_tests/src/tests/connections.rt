@@ -4,7 +4,7 @@
 ghost use Rattle.std.specs.Prelude.{◌≡◌};
 ghost use Rattle.http_wire.specs.OnConnection.{wanted};
 
-use crate::tests::conversations::{CREATED, FIRST_UPLOAD, POST, REPLIES};
+use crate::tests::conversations::{FIRST_UPLOAD, REPLIES};
 use crate::tests::driven::{Arriving, Leaving, Pieces, drive, spoken_over};
 use crate::tests::hostile::{Dice, NUMBERS as HOSTILE_NUMBERS, moments, text_of};
 use crate::tests::plain::{InPieces, plain_conversation};
@@ -16,6 +16,7 @@ use http_wire::{BodyLimits, Buffers, Connection, Ended, Tapped, Wants, WireFault
 use std::alloc::Global;
 use std::process::Abort;
 use upload_book::{Book, Moment};
+use worked_example::{CREATED, POST};
 
 /// All that there is, as one piece.
 const WHOLE: Pieces = Pieces::Each(usize::MAX);

@@ -7,26 +7,7 @@ use http_wire::Ended;
 use std::alloc::Global;
 use std::process::Abort;
 use upload_book::Moment;
-
-pub const POST: &[u8] = b"POST /files/acme HTTP/1.1\r\nHost: x\r\nTus-Resumable: 1.0.0\r\n\
-Upload-Length: 10\r\n\r\n";
-
-pub const PATCH: &[u8] = b"PATCH /files/acme/1 HTTP/1.1\r\nHost: x\r\nTus-Resumable: 1.0.0\r\n\
-Content-Type: application/offset+octet-stream\r\nUpload-Offset: 0\r\nContent-Length: 5\r\n\r\n\
-hello";
-
-pub const HEAD: &[u8] = b"HEAD /files/acme/1 HTTP/1.1\r\nHost: x\r\nTus-Resumable: 1.0.0\r\n\r\n";
-
-pub const CREATED: &[u8] = b"HTTP/1.1 201 Created\r\nDate: Thu, 01 Jan 1970 00:16:40 GMT\r\n\
-Tus-Resumable: 1.0.0\r\nLocation: /files/acme/1\r\n\
-Upload-Expires: Thu, 01 Jan 1970 01:16:40 GMT\r\nContent-Length: 0\r\n\r\n";
-
-pub const PATCHED: &[u8] = b"HTTP/1.1 204 No Content\r\nDate: Thu, 01 Jan 1970 00:16:40 GMT\r\n\
-Tus-Resumable: 1.0.0\r\nUpload-Offset: 5\r\n\
-Upload-Expires: Thu, 01 Jan 1970 01:16:40 GMT\r\n\r\n";
-
-pub const LOOKED: &[u8] = b"HTTP/1.1 200 OK\r\nDate: Thu, 01 Jan 1970 00:16:40 GMT\r\n\
-Tus-Resumable: 1.0.0\r\nUpload-Offset: 5\r\nUpload-Length: 10\r\nCache-Control: no-store\r\n\r\n";
+use worked_example::{CREATED, HEAD, LOOKED, PATCH, PATCHED, POST};
 
 pub const NONE: &[u8] = b"";
 

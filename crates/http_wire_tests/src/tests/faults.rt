@@ -3,11 +3,11 @@
 
 ghost use Rattle.std.specs.Prelude.{◌≤◌, length};
 
-use crate::tests::conversations::{CREATED, FIRST_UPLOAD, HEAD, NONE, PATCH, PATCH_WAITING, POST};
+use crate::tests::conversations::{FIRST_UPLOAD, NONE, PATCH_WAITING};
 use crate::tests::memory::{Input, Output};
 use crate::tests::spoken::{
-    Expected, NUMBERS, Spoken, assert_spoken, at, at_1000, charge_of, joined, new_book, plain_talk,
-    talk, talk_of,
+    Expected, Spoken, assert_spoken, at, at_1000, charge_of, joined, new_book, plain_talk, talk,
+    talk_of,
 };
 use crate::tests::wires::{MemoryWire, is_at_end, new_wire, serve_on, take_turn, written_on};
 use http_wire::{Ended, Framing, WireFault, WireRefusal};
@@ -15,6 +15,7 @@ use std::alloc::Global;
 use std::process::Abort;
 use tus_steps::{PlacedReply, Reply};
 use upload_book::Book;
+use worked_example::{CREATED, HEAD, NUMBERS, PATCH, POST};
 
 /// A reader of these bytes, one a read, of which the read after `reads` of them fails.
 fn failing_input(bytes: &[u8], reads: usize) -> Input<'_> {

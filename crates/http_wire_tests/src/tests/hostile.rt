@@ -2,10 +2,11 @@
 //! program, byte for byte. The seeds are fixed, so every run tries the same ones.
 
 use crate::tests::memory::Input;
-use crate::tests::spoken::{NUMBERS as OTHERS, assert_talk_with, at, is_in, plain_talk, put};
+use crate::tests::spoken::{assert_talk_with, at, is_in, plain_talk, put};
 use std::alloc::Global;
 use std::process::Abort;
 use upload_book::{Moment, Numbers};
+use worked_example::NUMBERS as OTHERS;
 
 /// How many conversations are tried.
 const CONVERSATIONS: u64 = 3_000;

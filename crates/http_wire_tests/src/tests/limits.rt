@@ -1,4 +1,4 @@
-use crate::tests::conversations::{CREATED, HEAD, LOOKED, PATCH, PATCHED, POST, assert_looked};
+use crate::tests::conversations::assert_looked;
 use crate::tests::memory::{Input, Output};
 use crate::tests::rows::{Row, check_rows, rows};
 use crate::tests::spoken::{joined, put};
@@ -6,6 +6,7 @@ use crate::tests::wires::MemoryWire;
 use http_wire::{Incoming, Tapped, Wire};
 use std::alloc::Global;
 use std::process::Abort;
+use worked_example::{CREATED, HEAD, LOOKED, PATCH, PATCHED, POST};
 
 /// The HEAD of the first upload with a field beside Host and Tus-Resumable for each pair of letters, whose
 /// name no other has.

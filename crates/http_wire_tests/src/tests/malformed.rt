@@ -7,74 +7,26 @@ use crate::tests::concatenations::{
     ABCDE, CREATED_2, DELETE_2, FINAL_2, FINAL_3, FINAL_OF_1, PART_OF_5,
 };
 use crate::tests::conversations::{
-    BODY_SIZE, CREATED, CREATION_TOO_LONG, DELETED, FIRST_UPLOAD, HEAD, HEAD_SIZE, LENGTH,
-    MALFORMED, PATCH, PATCHED, POST, REPLIES, VERSION,
+    BODY_SIZE, CREATION_TOO_LONG, DELETED, FIRST_UPLOAD, HEAD_SIZE, LENGTH, MALFORMED, REPLIES,
+    VERSION,
 };
 use crate::tests::creations::FIELD;
+use crate::tests::message_parts::{A, END, FROM_0, OF_10, TO_ACME, TO_FIRST, TYPED};
 use crate::tests::methods::MEDIA;
 use crate::tests::rows::{Row, check_rows, rows};
-use crate::tests::spoken::{Expected, NUMBERS, assert_both, at_1000, joined};
+use crate::tests::spoken::{Expected, assert_both, at_1000, joined};
 use http_wire::Ended;
 use std::alloc::Global;
 use std::process::Abort;
 use upload_book::Numbers;
+use worked_example::{CREATED, HEAD, NUMBERS, PATCH, PATCHED, POST};
 
-const POST_TWO_LENGTHS: &[u8] = b"POST /files/acme HTTP/1.1\r\nHost: x\r\nTus-Resumable: 1.0.0\r\n\
-Upload-Length: 5\r\n\
-Upload-Length: 5\r\n\r\n";
-
-const PATCH_TWO_OFFSETS: &[u8] =
-    b"PATCH /files/acme/1 HTTP/1.1\r\nHost: x\r\nTus-Resumable: 1.0.0\r\n\
-Content-Type: application/offset+octet-stream\r\n\
-Upload-Offset: 0\r\n\
-Upload-Offset: 0\r\n\
-Content-Length: 1\r\n\r\na";
-
-const POST_TWO_VERSIONS: &[u8] = b"POST /files/acme HTTP/1.1\r\nHost: x\r\nTus-Resumable: 1.0.0\r\n\
-Tus-Resumable: 1.0.0\r\n\
-Upload-Length: 10\r\n\r\n";
-
-const POST_TWO_OVERRIDES: &[u8] =
-    b"POST /files/acme HTTP/1.1\r\nHost: x\r\nTus-Resumable: 1.0.0\r\n\
-X-HTTP-Method-Override: POST\r\n\
-X-HTTP-Method-Override: POST\r\n\
-Upload-Length: 10\r\n\r\n";
+const BY_POST: &[u8] = b"X-HTTP-Method-Override: POST\r\n";
 
 const METHOD: &[u8] =
     b"HTTP/1.1 405 Method Not Allowed\r\nDate: Thu, 01 Jan 1970 00:16:40 GMT\r\nTus-Resumable: 1.0.0\r\n\
 Allow: POST, OPTIONS\r\n\
 Content-Type: text/plain\r\nContent-Length: 7\r\n\r\nmethod\n";
-
-const PATCH_TWO_TYPES: &[u8] =
-    b"PATCH /files/acme/1 HTTP/1.1\r\nHost: x\r\nTus-Resumable: 1.0.0\r\n\
-Content-Type: application/offset+octet-stream\r\n\
-Content-Type: application/offset+octet-stream\r\n\
-Upload-Offset: 0\r\n\
-Content-Length: 1\r\n\r\na";
-
-const POST_GREATEST_NUMBER: &[u8] =
-    b"POST /files/acme HTTP/1.1\r\nHost: x\r\nTus-Resumable: 1.0.0\r\n\
-Upload-Length: 18446744073709551615\r\n\r\n";
-
-const POST_PAST_NUMBERS: &[u8] = b"POST /files/acme HTTP/1.1\r\nHost: x\r\nTus-Resumable: 1.0.0\r\n\
-Upload-Length: 18446744073709551616\r\n\r\n";
-
-const BODY_OF_GREATEST: &[u8] = b"POST /files/acme HTTP/1.1\r\nHost: x\r\nTus-Resumable: 1.0.0\r\n\
-Upload-Length: 10\r\n\
-Content-Length: 18446744073709551615\r\n\r\n";
-
-const BODY_OF_PAST_NUMBERS: &[u8] =
-    b"POST /files/acme HTTP/1.1\r\nHost: x\r\nTus-Resumable: 1.0.0\r\n\
-Upload-Length: 10\r\n\
-Content-Length: 18446744073709551616\r\n\r\n";
-
-const BODY_OF_SIGNED: &[u8] = b"POST /files/acme HTTP/1.1\r\nHost: x\r\nTus-Resumable: 1.0.0\r\n\
-Upload-Length: 10\r\n\
-Content-Length: +5\r\n\r\n";
-
-const BODY_OF_LISTED: &[u8] = b"POST /files/acme HTTP/1.1\r\nHost: x\r\nTus-Resumable: 1.0.0\r\n\
-Upload-Length: 10\r\n\
-Content-Length: 5, 5\r\n\r\n";
 
 const HEAD_GREATEST_ID: &[u8] =
     b"HEAD /files/acme/18446744073709551615 HTTP/1.1\r\nHost: x\r\nTus-Resumable: 1.0.0\r\n\r\n";
@@ -100,54 +52,27 @@ const NO_PATH: &[u8] =
     b"HTTP/1.1 404 Not Found\r\nDate: Thu, 01 Jan 1970 00:16:40 GMT\r\nTus-Resumable: 1.0.0\r\n\
 Content-Type: text/plain\r\nContent-Length: 5\r\n\r\npath\n";
 
-const ZERO_IN_A_VALUE: &[u8] = b"POST /files/acme HTTP/1.1\r\nHost: x\r\nTus-Resumable: 1.0.0\r\n\
-Upload-Length: 1\x000\r\n\r\n";
-
 const HTTP_1_2: &[u8] = b"POST /files/acme HTTP/1.2\r\nHost: x\r\nTus-Resumable: 1.0.0\r\n\
 Upload-Length: 10\r\n\r\n";
 
-const PART_OF_0: &[u8] = b"POST /files/acme HTTP/1.1\r\nHost: x\r\nTus-Resumable: 1.0.0\r\n\
-Upload-Length: 0\r\n\
-Upload-Concat: partial\r\n\r\n";
+/// A field without its line end.
+const OF_32_PARTS: &[u8] = b"Upload-Concat: final; \
+/files/acme/1 /files/acme/1 /files/acme/1 /files/acme/1 /files/acme/1 /files/acme/1 \
+/files/acme/1 /files/acme/1 /files/acme/1 /files/acme/1 /files/acme/1 /files/acme/1 \
+/files/acme/1 /files/acme/1 /files/acme/1 /files/acme/1 /files/acme/1 /files/acme/1 \
+/files/acme/1 /files/acme/1 /files/acme/1 /files/acme/1 /files/acme/1 /files/acme/1 \
+/files/acme/1 /files/acme/1 /files/acme/1 /files/acme/1 /files/acme/1 /files/acme/1 \
+/files/acme/1 /files/acme/1";
 
-const FINAL_OF_33: &[u8] = b"POST /files/acme HTTP/1.1\r\nHost: x\r\nTus-Resumable: 1.0.0\r\n\
-Upload-Concat: final; \
-/files/acme/1 /files/acme/1 /files/acme/1 /files/acme/1 /files/acme/1 /files/acme/1 \
-/files/acme/1 /files/acme/1 /files/acme/1 /files/acme/1 /files/acme/1 /files/acme/1 \
-/files/acme/1 /files/acme/1 /files/acme/1 /files/acme/1 /files/acme/1 /files/acme/1 \
-/files/acme/1 /files/acme/1 /files/acme/1 /files/acme/1 /files/acme/1 /files/acme/1 \
-/files/acme/1 /files/acme/1 /files/acme/1 /files/acme/1 /files/acme/1 /files/acme/1 \
-/files/acme/1 /files/acme/1 /files/acme/1\r\n\r\n";
-
-const FINAL_OF_32: &[u8] = b"POST /files/acme HTTP/1.1\r\nHost: x\r\nTus-Resumable: 1.0.0\r\n\
-Upload-Concat: final; \
-/files/acme/1 /files/acme/1 /files/acme/1 /files/acme/1 /files/acme/1 /files/acme/1 \
-/files/acme/1 /files/acme/1 /files/acme/1 /files/acme/1 /files/acme/1 /files/acme/1 \
-/files/acme/1 /files/acme/1 /files/acme/1 /files/acme/1 /files/acme/1 /files/acme/1 \
-/files/acme/1 /files/acme/1 /files/acme/1 /files/acme/1 /files/acme/1 /files/acme/1 \
-/files/acme/1 /files/acme/1 /files/acme/1 /files/acme/1 /files/acme/1 /files/acme/1 \
-/files/acme/1 /files/acme/1\r\n\r\n";
-
-const LOOKED_32: &[u8] =
+/// The beginning of what a HEAD gets of a final upload without bytes.
+const LOOKED_EMPTY: &[u8] =
     b"HTTP/1.1 200 OK\r\nDate: Thu, 01 Jan 1970 00:16:40 GMT\r\nTus-Resumable: 1.0.0\r\n\
-Upload-Offset: 0\r\nUpload-Length: 0\r\n\
-Upload-Concat: final; \
-/files/acme/1 /files/acme/1 /files/acme/1 /files/acme/1 /files/acme/1 /files/acme/1 \
-/files/acme/1 /files/acme/1 /files/acme/1 /files/acme/1 /files/acme/1 /files/acme/1 \
-/files/acme/1 /files/acme/1 /files/acme/1 /files/acme/1 /files/acme/1 /files/acme/1 \
-/files/acme/1 /files/acme/1 /files/acme/1 /files/acme/1 /files/acme/1 /files/acme/1 \
-/files/acme/1 /files/acme/1 /files/acme/1 /files/acme/1 /files/acme/1 /files/acme/1 \
-/files/acme/1 /files/acme/1\r\nCache-Control: no-store\r\n\r\n";
+Upload-Offset: 0\r\nUpload-Length: 0\r\n";
 
 const HEAD_2: &[u8] = b"HEAD /files/acme/2 HTTP/1.1\r\nHost: x\r\nTus-Resumable: 1.0.0\r\n\r\n";
 
 const FINAL_4: &[u8] = b"HTTP/1.1 201 Created\r\nDate: Thu, 01 Jan 1970 00:16:40 GMT\r\n\
 Tus-Resumable: 1.0.0\r\nLocation: /files/acme/4\r\nContent-Length: 0\r\n\r\n";
-
-const PATCH_A: &[u8] = b"PATCH /files/acme/1 HTTP/1.1\r\nHost: x\r\nTus-Resumable: 1.0.0\r\n\
-Content-Type: application/offset+octet-stream\r\n\
-Upload-Offset: 0\r\n\
-Content-Length: 1\r\n\r\na";
 
 const GONE_AT_4600: &[u8] =
     b"HTTP/1.1 410 Gone\r\nDate: Thu, 01 Jan 1970 01:16:40 GMT\r\nTus-Resumable: 1.0.0\r\n\
@@ -174,23 +99,19 @@ const SPENT: &[u8] =
     b"HTTP/1.1 507 Insufficient Storage\r\nDate: Thu, 01 Jan 1970 00:16:40 GMT\r\nTus-Resumable: 1.0.0\r\n\
 Content-Type: text/plain\r\nContent-Length: 6\r\n\r\nspent\n";
 
-/// It announces 8 bytes, and 5 of them come.
-const PATCH_CUT: &[u8] = b"PATCH /files/acme/1 HTTP/1.1\r\nHost: x\r\nTus-Resumable: 1.0.0\r\n\
-Content-Type: application/offset+octet-stream\r\nUpload-Offset: 0\r\nContent-Length: 8\r\n\r\nhello";
-
 /// Fields that come twice, numbers at the ends of their ranges, and messages that break off or are no HTTP.
 static MALFORMED_ROWS: [Row; 15] = rows! {
-    "the bytes of a cut body are kept": [POST, PATCH_CUT] => [CREATED], Cut, Some(5);
-    "two lengths, and two offsets": [POST_TWO_LENGTHS, POST, PATCH_TWO_OFFSETS] => [FIELD, CREATED, FIELD], Input, Some(0);
-    "two versions, and two overrides, also where both name the method that the request has": [POST_TWO_VERSIONS, POST_TWO_OVERRIDES] => [VERSION, METHOD], Input, None;
-    "two content types of a PATCH": [POST, PATCH_TWO_TYPES] => [CREATED, MEDIA], Input, Some(0);
-    "the greatest number as a length, and one past it": [POST_GREATEST_NUMBER, POST_PAST_NUMBERS] => [CREATION_TOO_LONG, FIELD], Input, None;
-    "the greatest number of bytes of a body": [BODY_OF_GREATEST, POST] => [BODY_SIZE], Closed, None;
-    "a number of bytes past 64 bits": [BODY_OF_PAST_NUMBERS, POST] => [LENGTH], Closed, None;
-    "a number of bytes with a sign": [BODY_OF_SIGNED, POST] => [LENGTH], Closed, None;
-    "two numbers of bytes in one field": [BODY_OF_LISTED, POST] => [LENGTH], Closed, None;
+    "the bytes of a cut body are kept": [POST, TO_FIRST, TYPED, FROM_0, b"Content-Length: 8\r\n\r\nhello"] => [CREATED], Cut, Some(5);
+    "two lengths, and two offsets": [TO_ACME, OF_10, OF_10, END, POST, TO_FIRST, TYPED, FROM_0, FROM_0, A] => [FIELD, CREATED, FIELD], Input, Some(0);
+    "two versions, and two overrides, also where both name the method that the request has": [TO_ACME, b"Tus-Resumable: 1.0.0\r\n", OF_10, END, TO_ACME, BY_POST, BY_POST, OF_10, END] => [VERSION, METHOD], Input, None;
+    "two content types of a PATCH": [POST, TO_FIRST, TYPED, TYPED, FROM_0, A] => [CREATED, MEDIA], Input, Some(0);
+    "the greatest number as a length, and one past it": [TO_ACME, b"Upload-Length: 18446744073709551615\r\n\r\n", TO_ACME, b"Upload-Length: 18446744073709551616\r\n\r\n"] => [CREATION_TOO_LONG, FIELD], Input, None;
+    "the greatest number of bytes of a body": [TO_ACME, OF_10, b"Content-Length: 18446744073709551615\r\n\r\n", POST] => [BODY_SIZE], Closed, None;
+    "a number of bytes past 64 bits": [TO_ACME, OF_10, b"Content-Length: 18446744073709551616\r\n\r\n", POST] => [LENGTH], Closed, None;
+    "a number of bytes with a sign": [TO_ACME, OF_10, b"Content-Length: +5\r\n\r\n", POST] => [LENGTH], Closed, None;
+    "two numbers of bytes in one field": [TO_ACME, OF_10, b"Content-Length: 5, 5\r\n\r\n", POST] => [LENGTH], Closed, None;
     "the greatest id, which was never given, and one past it, which is no path": [HEAD_GREATEST_ID, HEAD_PAST_IDS, GET_GREATEST_ID, GET_PAST_IDS] => [NOT_FOUND, NOT_FOUND, UNKNOWN, NO_PATH], Input, None;
-    "a byte 0 in a value": [ZERO_IN_A_VALUE, POST] => [MALFORMED], Closed, None;
+    "a byte 0 in a value": [TO_ACME, b"Upload-Length: 1\x000\r\n\r\n", POST] => [MALFORMED], Closed, None;
     "another version of HTTP": [HTTP_1_2, POST] => [MALFORMED], Closed, None;
     "16,384 bytes of a head without an end" {times: 16_384}: [b"a"] => [HEAD_SIZE], Closed, None;
     "16,384 line ends" {times: 16_384}: [b"\n"] => [HEAD_SIZE], Closed, None;
@@ -199,8 +120,8 @@ static MALFORMED_ROWS: [Row; 15] = rows! {
 
 /// What is at a limit or one past it: parts, the end of an upload, and the last charge and id.
 static LIMIT_ROWS: [Row; 4] = rows! {
-    "a final upload of 33 parts, and one of 32 times a part of no bytes": [PART_OF_0, FINAL_OF_33, FINAL_OF_32, HEAD_2] => [CREATED, FIELD, FINAL_2, LOOKED_32], Input, Some(0);
-    "an upload is gone at its end, is there a second before it, and a PATCH then lets it live longer" {secs: &[1000, 4600, 4599, 4599, 4600]}: [POST, HEAD, HEAD, PATCH_A, HEAD] => [CREATED, GONE_AT_4600, LOOKED_AT_4599, PATCHED_AT_4599, LOOKED_AT_4600], Input, Some(1);
+    "a final upload of 33 parts, and one of 32 times a part of no bytes": [TO_ACME, b"Upload-Length: 0\r\nUpload-Concat: partial\r\n\r\n", TO_ACME, OF_32_PARTS, b" /files/acme/1\r\n\r\n", TO_ACME, OF_32_PARTS, END, END, HEAD_2] => [CREATED, FIELD, FINAL_2, LOOKED_EMPTY, OF_32_PARTS, b"\r\nCache-Control: no-store\r\n\r\n"], Input, Some(0);
+    "an upload is gone at its end, is there a second before it, and a PATCH then lets it live longer" {secs: &[1000, 4600, 4599, 4599, 4600]}: [POST, HEAD, HEAD, TO_FIRST, TYPED, FROM_0, A, HEAD] => [CREATED, GONE_AT_4600, LOOKED_AT_4599, PATCHED_AT_4599, LOOKED_AT_4600], Input, Some(1);
     "final uploads are not charged, however few blocks may be charged yet" {numbers: Numbers { last_total: 4, ..NUMBERS }}: [PART_OF_5, ABCDE, FINAL_OF_1, FINAL_OF_1, DELETE_2, FINAL_OF_1] => [CREATED, PATCHED, FINAL_2, FINAL_3, DELETED, FINAL_4], Input, Some(5);
     "ids that end" {numbers: Numbers { last_id: 2, ..NUMBERS }}: [POST, POST, POST] => [CREATED, CREATED_2, SPENT], Input, Some(0);
 };

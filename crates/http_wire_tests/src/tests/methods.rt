@@ -1,5 +1,5 @@
-use crate::tests::conversations::{CREATED, PATCHED, POST};
 use crate::tests::rows::{Row, check_rows, rows};
+use worked_example::{CREATED, PATCHED, POST};
 
 const OPTIONS_NO_VERSION: &[u8] = b"OPTIONS /files/acme HTTP/1.1\r\nHost: x\r\n\r\n";
 

@@ -1,11 +1,12 @@
 //! Tables of conversations: what is sent and what is written for it, held against the wire, with 1, 7 and all bytes a read,
 //! and against the plain program.
 
-use crate::tests::spoken::{Expected, NUMBERS, assert_both_with, at_1000, joined, repeated};
+use crate::tests::spoken::{Expected, assert_both_with, at_1000, joined, repeated};
 use http_wire::Ended;
 use std::alloc::Global;
 use std::process::Abort;
 use upload_book::{Moment, Numbers};
+use worked_example::NUMBERS;
 
 /// What a client sends to a new book and what is written for it, how the conversation ends, and how many bytes the first
 /// upload of acme has then.

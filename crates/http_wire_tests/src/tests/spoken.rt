@@ -7,7 +7,8 @@ use crate::tests::plain::plain_conversation;
 use http_wire::{Ended, Tapped, WireFault, conversation_of, converse};
 use std::alloc::Global;
 use std::process::Abort;
-use upload_book::{Book, Moment, Name, Numbers, Settings};
+use upload_book::{Book, Moment, Name, Numbers};
+use worked_example::{NUMBERS, settings_of};
 
 /// What a conversation wrote, how it ended, how many bytes the first upload of acme has then, where
 /// there is one, and what was not read of the input.
@@ -79,17 +80,6 @@ pub fn is_in(bytes: &[u8], text: &[u8]) -> bool {
         .any(|window| window == bytes)
 }
 
-/// The numbers of a book, unless a test says others.
-pub const NUMBERS: Numbers = Numbers {
-    blocks: 12,
-    block_size: 4,
-    lifetime: 3600,
-    max_size: 64,
-    uploads: 64,
-    last_id: u64::MAX - 1,
-    last_total: u64::MAX,
-};
-
 /// A book with no upload.
 pub fn new_book(rt: &impl Abort, alloc: Global) -> Book {
     book_with(rt, alloc, NUMBERS)
@@ -97,8 +87,8 @@ pub fn new_book(rt: &impl Abort, alloc: Global) -> Book {
 
 /// A book of these numbers with no upload.
 pub fn book_with(rt: &impl Abort, alloc: Global, numbers: Numbers) -> Book {
-    let settings = Settings::new(numbers, &[(b"acme", 8), (b"beta", 4)]);
-    Book::new(alloc, settings.expect(rt, "settings")).expect(rt, "memory")
+    let settings = settings_of(numbers).expect(rt, "settings");
+    Book::new(alloc, settings).expect(rt, "memory")
 }
 
 /// How many blocks a tenant pays.

@@ -1,12 +1,13 @@
 //! What a connection wants at each point of a conversation, and after a read that failed or gave the end.
 
 use crate::tests::connections::{answer_next, assert_wants, take_in, take_out};
-use crate::tests::conversations::{CHUNKED, CONTINUE, CREATED, LOOKED, NONE, PATCH, PATCHED, POST};
+use crate::tests::conversations::{CHUNKED, CONTINUE, NONE};
 use crate::tests::spoken::{at, joined, new_book, offset_of};
 use http_wire::{Connection, Ended, Incoming, Wants, WireFault, WireRefusal};
 use std::alloc::Global;
 use std::process::Abort;
 use upload_book::Book;
+use worked_example::{CREATED, LOOKED, PATCH, PATCHED, POST};
 
 /// What happens to a connection.
 #[derive(Clone, Copy)]

@@ -2,9 +2,7 @@
 
 ghost use Rattle.std.specs.Prelude.{⊤};
 
-use crate::tests::conversations::{
-    CHUNKED, CODING, CREATED, FIRST_UPLOAD, HEAD, LOOKED, PATCH, PATCHED, POST, REPLIES,
-};
+use crate::tests::conversations::{CHUNKED, CODING};
 use crate::tests::memory::{Input, Output};
 use crate::tests::spoken::{Expected, assert_spoken, at, joined, known_talk, new_book};
 use http_wire::{
@@ -14,6 +12,7 @@ use std::alloc::Global;
 use std::process::Abort;
 use tus_steps::{PlacedReply, Request, answer};
 use upload_book::{Book, Moment};
+use worked_example::{CREATED, HEAD, LOOKED, PATCH, PATCHED, POST};
 
 /// A wire over a reader and a writer in memory.
 pub type MemoryWire<'a> = Wire<Tapped<Input<'a>>, Tapped<Output>>;
@@ -164,53 +163,57 @@ fn assert_steps(
     assert!(rt; written_on(wire) == written, "written");
 }
 
-static MESSAGE: [(&str, Step); 3] = [
-    ("a message", Step::Answers),
-    ("the end", Step::Ends),
-    ("the end again", Step::Ends),
+/// Messages of which a read brings so many bytes, what is done on their wire, and what is written.
+struct Scene {
+    sent: &'static [&'static [u8]],
+    piece: usize,
+    steps: &'static [(&'static str, Step)],
+    written: &'static [&'static [u8]],
+}
+
+static SCENES: [Scene; 3] = [
+    Scene {
+        sent: &[POST],
+        piece: usize::MAX,
+        steps: &[
+            ("a message", Step::Answers),
+            ("the end", Step::Ends),
+            ("the end again", Step::Ends),
+        ],
+        written: &[CREATED],
+    },
+    Scene {
+        sent: &[POST, PATCH, HEAD],
+        piece: 7,
+        steps: &[
+            ("two turns", Step::Serves(2, Ok(Ended::Moments))),
+            ("the last message", Step::TakesTurn(Ok(None))),
+            ("the end", Step::TakesTurn(Ok(Some(Ended::Input)))),
+            ("the end again", Step::TakesTurn(Ok(Some(Ended::Input)))),
+        ],
+        written: &[CREATED, PATCHED, LOOKED],
+    },
+    Scene {
+        sent: &[CHUNKED],
+        piece: usize::MAX,
+        steps: &[("a coding", Step::Refuses), ("the end", Step::Ends)],
+        written: &[CODING],
+    },
 ];
 
 #[test]
-fn a_message_and_its_reply(rt: HostRuntime) {
-    let clock = &mut at(1000);
-    assert_steps(
-        &rt,
-        rt.alloc(),
-        &[POST],
-        usize::MAX,
-        clock,
-        &MESSAGE,
-        &[CREATED],
-    );
-}
-
-static TURNS: [(&str, Step); 4] = [
-    ("two turns", Step::Serves(2, Ok(Ended::Moments))),
-    ("the last message", Step::TakesTurn(Ok(None))),
-    ("the end", Step::TakesTurn(Ok(Some(Ended::Input)))),
-    ("the end again", Step::TakesTurn(Ok(Some(Ended::Input)))),
-];
-
-#[test]
-fn turns_on_a_wire(rt: HostRuntime) {
-    let clock = &mut at(1000);
-    assert_steps(&rt, rt.alloc(), &FIRST_UPLOAD, 7, clock, &TURNS, &REPLIES);
-}
-
-static REFUSAL: [(&str, Step); 2] = [("a coding", Step::Refuses), ("the end", Step::Ends)];
-
-#[test]
-fn a_refusal_and_the_end(rt: HostRuntime) {
-    let clock = &mut at(1000);
-    assert_steps(
-        &rt,
-        rt.alloc(),
-        &[CHUNKED],
-        usize::MAX,
-        clock,
-        &REFUSAL,
-        &[CODING],
-    );
+fn steps_on_a_wire(rt: HostRuntime) {
+    for scene in &SCENES {
+        assert_steps(
+            &rt,
+            rt.alloc(),
+            scene.sent,
+            scene.piece,
+            &mut at(1000),
+            scene.steps,
+            scene.written,
+        );
+    }
 }
 
 /// A clock that is an hour later each time it is asked, from this hour after second 1000 on.

@@ -1,7 +1,7 @@
 //! Desks that answer batches at once.
 
 use crate::tests::requests::Asked::{Delete, Get, Patch};
-use crate::tests::requests::{Answer, Asked, answer_by, answer_of, moment, settings, turn};
+use crate::tests::requests::{Answer, Asked, answer_by, answer_of, moment, turn};
 use crate::tests::stage::{Scene, played};
 use std::alloc::Global;
 use std::process::Abort;
@@ -11,6 +11,7 @@ use std::thread;
 use tus_shared::{Gate, Stop, Turn};
 use tus_steps::Reply;
 use upload_book::{Book, Name, Refusal};
+use worked_example::settings;
 
 /// The first upload of acme.
 pub const FIRST: &[u8] = b"/files/acme/1";

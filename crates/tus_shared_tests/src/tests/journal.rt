@@ -4,7 +4,7 @@
 ghost use Rattle.std.specs.Prelude.{◌≡◌, IsSome};
 
 use crate::tests::requests::Asked::{Delete, Get, Head, Patch, Post};
-use crate::tests::requests::{Answer, Asked, answer_by, moment, settings, turn};
+use crate::tests::requests::{Answer, Asked, answer_by, moment, turn};
 use journal_frames::Frames;
 use journal_records::{PartIds, Record, Segments, read_record};
 use std::alloc::Global;
@@ -17,6 +17,7 @@ use tus_shared::{AgainFault, Charges, Desk, NoGate, Opened, Records, SeenEvents,
 use upload_book::{
     Change, Chunk, FirstChunk, Name, NewUpload, Payload, Refusal, Refused, Settings,
 };
+use worked_example::settings;
 
 // The key of the journal.
 const KEY: u64 = 7;
@@ -451,26 +452,15 @@ static REFUSES: [Step; 8] = [
 ];
 
 #[test]
-fn each_change_queues_its_record(rt: HostRuntime) -> Result<(), Fail> {
-    play_at(&rt, rt.alloc(), &QUEUES)
-}
-
-#[test]
-fn a_change_needs_room_for_its_record(rt: HostRuntime) -> Result<(), Fail> {
-    play_at(&rt, rt.alloc(), &NEEDS_ROOM)
-}
-
-#[test]
-fn a_desk_knows_what_is_kept(rt: HostRuntime) -> Result<(), Fail> {
-    play_at(&rt, rt.alloc(), &KNOWS_WHAT_IS_KEPT)
-}
-
-#[test]
-fn changes_are_made_again(rt: HostRuntime) -> Result<(), Fail> {
-    play_at(&rt, rt.alloc(), &MAKES_AGAIN)
-}
-
-#[test]
-fn what_is_not_made_again(rt: HostRuntime) -> Result<(), Fail> {
-    play_at(&rt, rt.alloc(), &REFUSES)
+fn desks_with_a_journal(rt: HostRuntime) -> Result<(), Fail> {
+    for steps in [
+        &QUEUES[..],
+        &NEEDS_ROOM,
+        &KNOWS_WHAT_IS_KEPT,
+        &MAKES_AGAIN,
+        &REFUSES,
+    ] {
+        play_at(&rt, rt.alloc(), steps)?;
+    }
+    Ok(())
 }

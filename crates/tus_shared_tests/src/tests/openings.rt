@@ -1,6 +1,5 @@
 //! How many desks there may be, and the words of faults.
 
-use crate::tests::requests::settings;
 use crate::tests::stage::{Scene, played};
 use std::alloc::Global;
 use std::process::Abort;
@@ -9,6 +8,7 @@ use std::test::Fail;
 use std::thread::Threads;
 use tus_shared::{AgainFault, OpenFault, WorkFault};
 use upload_book::{Refusal, Refused};
+use worked_example::settings;
 
 // How many desks an opening gives that asks for so many.
 fn opened<W: Threads + Wait + Abort + Sync>(

@@ -1,32 +1,11 @@
-//! What desks are asked, and what they tell: 4-byte blocks, 12 of them, two tenants, a lifetime of an hour and
-//! uploads of at most 64 bytes.
+//! What desks are asked, and what they tell.
 
 use std::process::Abort;
-use std::test::Fail;
 use tus_shared::Turn;
 use tus_steps::{Field, Method, Reply, Request, TusFields};
 use tus_text::read_path;
-use upload_book::{HeadRow, Moment, Numbers, Refusal, Settings};
-
-pub const NUMBERS: Numbers = Numbers {
-    blocks: 12,
-    block_size: 4,
-    lifetime: 3600,
-    max_size: 64,
-    uploads: 64,
-    last_id: u64::MAX - 1,
-    last_total: u64::MAX,
-};
-
-/// acme with 8 blocks and beta with 4.
-pub fn settings() -> Result<Settings, Fail> {
-    settings_of(NUMBERS)
-}
-
-/// The same with other numbers.
-pub fn settings_of(numbers: Numbers) -> Result<Settings, Fail> {
-    Ok(Settings::new(numbers, &[(b"acme", 8), (b"beta", 4)])?)
-}
+use upload_book::{HeadRow, Moment, Refusal};
+use worked_example::FIELDS;
 
 pub fn moment(rt: &impl Abort, secs: u64) -> Moment {
     Moment::new(secs).expect(rt, "a moment")
@@ -74,20 +53,6 @@ impl Asked {
     }
 }
 
-// The fields of a request that names the version alone.
-fn fields() -> TusFields<Field<'static>> {
-    TusFields {
-        version: Field::One(b"1.0.0"),
-        length: Field::Absent,
-        defer: Field::Absent,
-        offset: Field::Absent,
-        metadata: Field::Absent,
-        concat: Field::Absent,
-        checksum: Field::Absent,
-        media: Field::Absent,
-    }
-}
-
 fn creation(length: Field<'static>, concat: Field<'static>) -> Request<'static> {
     Request {
         method: Method::Post,
@@ -95,7 +60,7 @@ fn creation(length: Field<'static>, concat: Field<'static>) -> Request<'static> 
         fields: TusFields {
             length,
             concat,
-            ..fields()
+            ..FIELDS
         },
         body: b"",
         given: 0,
@@ -110,7 +75,7 @@ fn upload(length: &'static [u8], body: &'static [u8]) -> Request<'static> {
         fields: TusFields {
             length: Field::One(length),
             media: Field::One(b"application/offset+octet-stream"),
-            ..fields()
+            ..FIELDS
         },
         body,
         given: 0,
@@ -131,7 +96,7 @@ fn patch(
             offset: Field::One(offset),
             checksum,
             media: Field::One(b"application/offset+octet-stream"),
-            ..fields()
+            ..FIELDS
         },
         body,
         given: 0,
@@ -143,7 +108,7 @@ fn bare(method: Method, target: &[u8]) -> Request<'static> {
     Request {
         method,
         path: read_path(target),
-        fields: fields(),
+        fields: FIELDS,
         body: b"",
         given: 0,
         more: 0,

@@ -1,6 +1,6 @@
 //! Tables of calls at two desks, each with what it tells and what is settled after it.
 
-use crate::tests::requests::{Answer, Asked, NUMBERS, settings_of};
+use crate::tests::requests::{Answer, Asked};
 use crate::tests::stage::{Scene, played};
 use std::alloc::Global;
 use std::process::Abort;
@@ -8,6 +8,7 @@ use std::sync::Wait;
 use std::test::Fail;
 use std::thread::Threads;
 use upload_book::Numbers;
+use worked_example::{NUMBERS, settings_of};
 
 /// A call at a desk.
 #[derive(Clone, Copy)]

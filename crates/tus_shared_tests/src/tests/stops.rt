@@ -3,7 +3,7 @@
 //! Batches after others come to the desks in the same places.
 
 use crate::tests::batches::{assert_answers, wait_for};
-use crate::tests::requests::{Answer, moment, settings};
+use crate::tests::requests::{Answer, moment};
 use crate::tests::stage::{Scene, played};
 use std::process::Abort;
 use std::sync::atomic::{AtomicU64, Ordering};
@@ -12,6 +12,7 @@ use std::thread;
 use tus_shared::{Gate, Stop};
 use tus_steps::Reply;
 use upload_book::{Book, Name};
+use worked_example::settings;
 
 // The digit of a stop: 1 before the lock, 2 with it, 3 with the reply.
 fn digit_of(stop: Stop) -> u64 {

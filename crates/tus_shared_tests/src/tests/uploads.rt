@@ -4,11 +4,11 @@ use crate::tests::requests::Answer::{Bytes, Created, Deleted, Patched, Refused, 
 use crate::tests::requests::Asked::{
     Checked, Delete, Get, Head, Join, Partial, Patch, Post, Upload,
 };
-use crate::tests::requests::NUMBERS;
 use crate::tests::steps::Call::{Ask, Look, Sweep};
 use crate::tests::steps::{Step, run, run_with, steps};
 use std::test::Fail;
 use upload_book::{Numbers, Refusal};
+use worked_example::NUMBERS;
 
 const FIRST: &[u8] = b"/files/acme/1";
 

@@ -1,6 +1,6 @@
 //! What is found of a request before any book is at hand, and how one that changes nothing is answered by it.
 use crate::tests::books::{at, book};
-use crate::tests::requests::{CREATION, FIELDS, HEAD, Sent, TYPED, sent};
+use crate::tests::requests::{CREATION, HEAD, Sent, TYPED, sent};
 use crate::tests::told::{Told, told_by};
 use std::process::Abort;
 use std::test::Fail;

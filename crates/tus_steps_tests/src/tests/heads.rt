@@ -1,6 +1,6 @@
 //! How a HEAD is found among requests, and answered by what its upload shows.
 use crate::tests::books::{at, book};
-use crate::tests::requests::{CREATION, FIELDS, HEAD, Sent, sent};
+use crate::tests::requests::{CREATION, HEAD, Sent, sent};
 use crate::tests::told::{Told, told_by};
 use std::process::Abort;
 use std::test::Fail;

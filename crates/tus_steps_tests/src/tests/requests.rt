@@ -24,18 +24,6 @@ impl<'a> Sent<'a> {
     }
 }
 
-/// The fields of a request that names the version alone.
-pub(crate) const FIELDS: TusFields<Field<'static>> = TusFields {
-    version: Field::One(b"1.0.0"),
-    length: Field::Absent,
-    defer: Field::Absent,
-    offset: Field::Absent,
-    metadata: Field::Absent,
-    concat: Field::Absent,
-    checksum: Field::Absent,
-    media: Field::Absent,
-};
-
 /// The content type of a PATCH.
 pub(crate) const TYPED: Field<'static> = Field::One(b"application/offset+octet-stream");
 
@@ -45,7 +33,7 @@ macro_rules! sent {
         Sent {
             method: Method::$method,
             target: $target,
-            fields: TusFields { $($name: $field,)* ..FIELDS },
+            fields: TusFields { $($name: $field,)* ..worked_example::FIELDS },
             body: $body,
         }
     };

@@ -28,18 +28,18 @@ macro_rules! rows {
 
 pub(crate) use rows;
 
-/// Asks a new book what the rows ask, in turn.
-pub(crate) fn check(rt: &impl Abort, alloc: Global, rows: &[Row]) -> Result<(), Fail> {
+/// Asks a new book what the rows of a table of this name ask, in turn.
+pub(crate) fn check(rt: &impl Abort, alloc: Global, table: &str, rows: &[Row]) -> Result<(), Fail> {
     let mut book = book(alloc)?;
     for (place, row) in rows.iter().enumerate() {
-        check_row(rt, &mut book, place, row);
+        assert!(rt; is_told(rt, &mut book, row), "{table}: row {place}");
     }
     Ok(())
 }
 
-// Asks a book what the row at a place asks.
-fn check_row(rt: &impl Abort, book: &mut Book, place: usize, row: &Row) {
+// Whether a book tells what the row says.
+fn is_told(rt: &impl Abort, book: &mut Book, row: &Row) -> bool {
     let now = Moment::new(row.now).expect(rt, "a moment");
     let reply = answer(book, &row.sent.request(), now);
-    assert!(rt; told_by(&reply) == row.told, "row {place}");
+    told_by(&reply) == row.told
 }

@@ -1,6 +1,6 @@
 //! Runs: worked rows, and random events of three tenants.
 use crate::tests::books::{at, book};
-use crate::tests::requests::{FIELDS, Sent, TYPED};
+use crate::tests::requests::{Sent, TYPED};
 use crate::tests::rows::{Row, rows};
 use crate::tests::told::Told::{Created, Patched, Refused, Row as Shown};
 use crate::tests::told::{Told, told_by};
@@ -10,6 +10,7 @@ use std::test::Fail;
 use tus_steps::{Field, Method, Reply, Request, RunFault, TusFields, run};
 use tus_text::{Path, read_path};
 use upload_book::{Book, Moment, Numbers, Refusal, Settings};
+use worked_example::FIELDS;
 
 // Runs what the rows ask at a book.
 fn check_run(rt: &impl Abort, alloc: Global, book: &mut Book, rows: &[Row]) -> Result<(), Fail> {

@@ -1,7 +1,7 @@
 //! Many clients at one worker, each on a connection of this machine.
 
 use crate::tests::serving::{Scene, served};
-use crate::tests::texts::{HEAD, MISSED};
+use crate::tests::texts::MISSED;
 use std::alloc::{AllocError, Global};
 use std::io;
 use std::io::{Read, Write};
@@ -9,6 +9,7 @@ use std::net::{Net, Shutdown, TcpStream};
 use std::process::Abort;
 use std::test::Fail;
 use std::time::Duration;
+use worked_example::HEAD;
 
 /// What clients there are, and how many of them may be served at once.
 #[derive(Clone, Copy)]

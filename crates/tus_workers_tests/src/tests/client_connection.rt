@@ -1,7 +1,7 @@
 //! Clients that a worker holds, over streams in memory that would block.
 
-use crate::tests::opening::{moment, settings};
-use crate::tests::texts::{CREATED, CUT_PATCH, HEAD, LOOKED, PATCH, PATCHED, POST};
+use crate::tests::opening::moment;
+use crate::tests::texts::CUT_PATCH;
 use connection_turns::{
     AsTheyCome, Busy, ClientConnection, Precedence, Streams, TurnOutcome, Turned, Unwatched,
 };
@@ -14,6 +14,7 @@ use std::process::Abort;
 use std::test::Fail;
 use tus_steps::Request;
 use upload_book::Book;
+use worked_example::{CREATED, HEAD, LOOKED, PATCH, PATCHED, POST, settings};
 
 /// A reader of some bytes, which would block before each piece of them, and at their end.
 #[derive(Drop)]

@@ -4,8 +4,7 @@ ghost use Rattle.http_wire.specs.BookStep.{BookStep};
 ghost use Rattle.upload_book.specs.Book.{plain_of};
 
 use crate::tests::client_connection::{Arriving, Leaving, text_of};
-use crate::tests::opening::{moment, settings};
-use crate::tests::texts::{CREATED, HEAD, LOOKED, PATCH, PATCHED, POST};
+use crate::tests::opening::moment;
 use connection_turns::{
     AsTheyCome, ClientConnection, Durability, Streams, TurnOutcome, Turned, Unwatched,
 };
@@ -13,6 +12,7 @@ use http_wire::{Answer, BodyLimits};
 use std::test::Fail;
 use tus_steps::{PlacedReply, Request, answer_in_place};
 use upload_book::{Book, Moment};
+use worked_example::{CREATED, HEAD, LOOKED, PATCH, PATCHED, POST, settings};
 
 /// A book that holds back its replies.
 #[derive(Drop)]

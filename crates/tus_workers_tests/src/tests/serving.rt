@@ -4,12 +4,10 @@ ghost use Rattle.std.specs.Prelude.{◌≡◌, None};
 
 use crate::tests::at_once::{Connections, assert_answered, connected};
 use crate::tests::connections::{assert_content, assert_replies, client};
-use crate::tests::opening::{assert_balance, moment, settings};
+use crate::tests::opening::{assert_balance, moment};
 use crate::tests::script::Script;
 use crate::tests::streams::{Row, serve_row};
-use crate::tests::texts::{
-    BETA_CREATED, BETA_PATCH, BETA_PATCHED, BETA_POST, CREATED, PATCH, PATCHED, POST,
-};
+use crate::tests::texts::{BETA_CREATED, BETA_PATCH, BETA_PATCHED, BETA_POST};
 use connection_turns::{ClientBounds, WorkOptions};
 use http_wire::Buffers;
 use std::alloc::Global;
@@ -27,6 +25,7 @@ use tus_workers::{
     Listener, NoJournal, ServerState, SocketListener, any_failed, dismiss, hire, work_all,
 };
 use upload_book::Settings;
+use worked_example::{CREATED, PATCH, PATCHED, POST, settings};
 
 /// What is served at the desks of a new store.
 #[derive(Clone, Copy)]

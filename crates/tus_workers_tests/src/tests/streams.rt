@@ -3,9 +3,7 @@
 ghost use Rattle.std.specs.Prelude.{◌≡◌};
 
 use crate::tests::serving::{Scene, served};
-use crate::tests::texts::{
-    CREATED, CUT_PATCH, DELETE, GONE, HEAD, LOOKED, LOOKED_CUT, PATCH, PATCHED, POST,
-};
+use crate::tests::texts::{CUT_PATCH, DELETE, GONE, LOOKED_CUT};
 use http_wire::{Buffers, Clock, Ended, Tapped, WireFault};
 use std::alloc::Global;
 use std::io;
@@ -17,6 +15,7 @@ use std::test::Fail;
 use tus_shared::{Charges, Desk, NoGate, Shared};
 use tus_workers::{ServedStream, serve_stream};
 use upload_book::Moment;
+use worked_example::{CREATED, HEAD, LOOKED, PATCH, PATCHED, POST};
 
 /// The last second that a moment may be.
 const LAST_SECOND: u64 = 253_402_300_799;

@@ -9,29 +9,20 @@ use std::alloc::Global;
 use std::process::Abort;
 use tus_text::{Checksum, Concat, read_concat};
 use upload_book::{
-    Appended, Book, Chunk, Moment, Name, NewFinal, NewUpload, Numbers, Payload, Refused, Settings,
+    Appended, Book, Chunk, Moment, Name, NewFinal, NewUpload, Numbers, Payload, Refused,
 };
+use worked_example::settings_of;
 
 pub const ACME: &[u8] = b"acme";
 
 pub const BETA: &[u8] = b"beta";
-
-pub const NUMBERS: Numbers = Numbers {
-    blocks: 12,
-    block_size: 4,
-    lifetime: 3600,
-    max_size: 64,
-    uploads: 64,
-    last_id: u64::MAX - 1,
-    last_total: u64::MAX,
-};
 
 /// The same numbers but for these fields.
 macro_rules! numbers {
     ($($name:ident: $value:expr),*) => {
         upload_book::Numbers {
             $($name: $value,)*
-            ..$crate::tests::books::NUMBERS
+            ..worked_example::NUMBERS
         }
     };
 }
@@ -52,8 +43,8 @@ pub const NOTHING: Checksum = Checksum::Sha1([
 
 /// A book of acme with 8 blocks and beta with 4.
 pub fn new_book(rt: &impl Abort, alloc: Global, numbers: Numbers) -> Book {
-    let settings = Settings::new(numbers, &[(ACME, 8), (BETA, 4)]);
-    Book::new(alloc, settings.expect(rt, "settings")).expect(rt, "a book")
+    let settings = settings_of(numbers).expect(rt, "settings");
+    Book::new(alloc, settings).expect(rt, "a book")
 }
 
 pub fn moment(rt: &impl Abort, secs: u64) -> Moment {

@@ -5,7 +5,7 @@ ghost use Rattle.upload_book.specs.Book.{plain_of};
 ghost use Rattle.upload_book.specs.Change.{CanBeMade};
 ghost use Rattle.upload_book.specs.Ready.{IsReady};
 
-use crate::tests::books::{ACME, NUMBERS, acme, moment, new_book, new_upload};
+use crate::tests::books::{ACME, acme, moment, new_book, new_upload};
 use crate::tests::plain::PlainBook;
 use crate::tests::steps::{Told, appended};
 use std::process::Abort;
@@ -13,6 +13,7 @@ use upload_book::{
     Accounts, BoardLine, Book, Change, Chunk, FirstChunk, HeadChange, Kind, Moment, Name, Outcome,
     Payload, Ready, Refusal, Refused,
 };
+use worked_example::NUMBERS;
 
 // What becomes of acme's first upload, which has ten bytes when it is complete.
 #[derive(Clone, Copy)]

@@ -1,8 +1,9 @@
 //! How many hold each block.
 
-use crate::tests::books::{NUMBERS, acme, join, moment, new_book, part};
+use crate::tests::books::{acme, join, moment, new_book, part};
 use std::process::Abort;
 use upload_book::Book;
+use worked_example::NUMBERS;
 
 // How many hold the first, the second and a third block of an upload's first segment, and the second of its second.
 fn held(book: &Book, id: u64) -> [Option<u64>; 4] {

@@ -1,12 +1,11 @@
 //! The bytes that a request sends, and their digest: computed by the book, or before it is asked.
 
-use crate::tests::books::{
-    ACME, HELLO, NOTHING, NUMBERS, acme, create, moment, new_book, new_upload,
-};
+use crate::tests::books::{ACME, HELLO, NOTHING, acme, create, moment, new_book, new_upload};
 use std::alloc::Global;
 use std::process::Abort;
 use tus_text::{Checksum, Text};
 use upload_book::{Change, Chunk, FirstChunk, HeadRow, Kind, Payload, Refusal};
+use worked_example::NUMBERS;
 
 #[test]
 fn a_payload_has_its_digest(rt: HostRuntime) {

@@ -10,6 +10,7 @@ use upload_book::{
     Appended, Book, Chunk, Content, Created, FirstChunk, HeadRow, Kind, Moment, Name, Numbers,
     Payload, Refusal, Refused, Removed, Swept,
 };
+use worked_example::NUMBERS;
 
 /// A call of a book.
 #[derive(Clone, Copy)]
@@ -73,20 +74,42 @@ pub struct Step {
     pub after: [u64; 5],
 }
 
-/// A table of steps, each `secs tenant call => told, after;`.
-macro_rules! steps {
-    ($($secs:literal $tenant:ident $call:expr => $told:expr, $after:expr;)*) => {
-        [$(Step {
-            secs: $secs,
-            tenant: $tenant,
-            call: $call,
-            told: $told,
-            after: $after,
+/// Steps that a book of these numbers is taken through.
+#[derive(Clone, Copy)]
+pub struct Table {
+    pub name: &'static str,
+    pub numbers: Numbers,
+    pub steps: &'static [Step],
+}
+
+/// A table without steps.
+pub const NO_TABLE: Table = Table {
+    name: "",
+    numbers: NUMBERS,
+    steps: &[],
+};
+
+/// Tables, each `name => { steps }` or `name by numbers => { steps }`, of steps `secs tenant call => told, after;`.
+macro_rules! tables {
+    ($($name:literal $(by $numbers:expr)? => {
+        $($secs:literal $tenant:ident $call:expr => $told:expr, $after:expr;)*
+    })*) => {
+        [$($crate::tests::steps::Table {
+            name: $name,
+            $(numbers: $numbers,)?
+            steps: &[$($crate::tests::steps::Step {
+                secs: $secs,
+                tenant: $tenant,
+                call: $call,
+                told: $told,
+                after: $after,
+            }),*],
+            ..$crate::tests::steps::NO_TABLE
         }),*]
     };
 }
 
-pub(crate) use steps;
+pub(crate) use tables;
 
 fn secs(expires: Option<Moment>) -> Option<u64> {
     expires.map(|end| end.secs())
@@ -143,6 +166,13 @@ fn removed<'a>(answer: Result<Removed, Refusal>) -> Told<'a> {
 
 fn swept<'a>(answer: Swept) -> Told<'a> {
     Told::Swept(answer.uploads, answer.blocks, answer.released)
+}
+
+// Where a step stands: in the table of this name, at this place.
+#[derive(Clone, Copy)]
+struct At {
+    table: &'static str,
+    place: usize,
 }
 
 /// A book, and the plain one beside it.
@@ -232,11 +262,11 @@ impl Pair {
     }
 
     // Asserts what a GET gives.
-    fn assert_content(&self, rt: &impl Abort, place: usize, name: Name, now: Moment, told: Told) {
+    fn assert_content(&self, rt: &impl Abort, at: At, name: Name, now: Moment, told: Told) {
         let answer = self.book.content(&name, now, self.book.no_room());
         let plainly = self.plain.content(rt, &name, now);
         let wrong = wrong_in([bytes(&answer), plain_bytes(&plainly)], told);
-        assert_right(rt, place, wrong);
+        assert_right(rt, at, wrong);
     }
 
     // The uploads that expire, in order.
@@ -359,14 +389,15 @@ fn wrong_in(answers: [Told; 2], told: Told) -> Option<&'static str> {
 }
 
 // Asserts that nothing of a call is wrong.
-fn assert_right(rt: &impl Abort, place: usize, wrong: Option<&'static str>) {
+fn assert_right(rt: &impl Abort, at: At, wrong: Option<&'static str>) {
+    let At { table, place } = at;
     if let Some(what) = wrong {
-        panic!(rt; "call {place}: {what}");
+        panic!(rt; "{table}, call {place}: {what}");
     }
 }
 
 // What the call of a step answers, of a book and of the plain one.
-fn answers(rt: &impl Abort, pair: &mut Pair, place: usize, step: &Step) -> [Told<'static>; 2] {
+fn answers(rt: &impl Abort, pair: &mut Pair, at: At, step: &Step) -> [Told<'static>; 2] {
     let now = moment(rt, step.secs);
     let tenant = step.tenant;
     match step.call {
@@ -382,17 +413,12 @@ fn answers(rt: &impl Abort, pair: &mut Pair, place: usize, step: &Step) -> [Told
         }
         Call::Partial(length) => pair.create(rt, tenant, Kind::Partial, length, now),
         Call::Join(parts) => pair.concat(rt, tenant, parts, now),
-        _ => later_answers(rt, pair, place, step),
+        _ => later_answers(rt, pair, at, step),
     }
 }
 
 // The same of a call that is no creation.
-fn later_answers(
-    rt: &impl Abort,
-    pair: &mut Pair,
-    place: usize,
-    step: &Step,
-) -> [Told<'static>; 2] {
+fn later_answers(rt: &impl Abort, pair: &mut Pair, at: At, step: &Step) -> [Told<'static>; 2] {
     let now = moment(rt, step.secs);
     let settings = pair.book.settings();
     let tenant = settings.tenant(step.tenant).expect(rt, "a tenant");
@@ -411,30 +437,41 @@ fn later_answers(
         Call::Untyped(id, bytes) => pair.append(rt, Name { tenant, id }, untyped(bytes), now),
         Call::Head(id) => pair.look(Name { tenant, id }, now),
         Call::Get(id) => {
-            pair.assert_content(rt, place, Name { tenant, id }, now, step.told);
+            pair.assert_content(rt, at, Name { tenant, id }, now, step.told);
             [step.told, step.told]
         }
         Call::Delete(id) => pair.terminate(Name { tenant, id }, now),
         Call::Sweep => pair.sweep(now),
         Call::Expiries => [step.told, step.told],
-        _ => panic!(rt; "call {place} is a creation"),
+        _ => panic!(rt; "{}: call {} is a creation", at.table, at.place),
     }
 }
 
 // Takes the pair through one step.
-fn take(rt: &impl Abort, pair: &mut Pair, place: usize, step: &Step) {
-    let answers = answers(rt, pair, place, step);
-    assert_right(rt, place, wrong_in(answers, step.told));
-    assert_right(rt, place, pair.wrong_after(rt, step));
+fn take(rt: &impl Abort, pair: &mut Pair, at: At, step: &Step) {
+    let answers = answers(rt, pair, at, step);
+    assert_right(rt, at, wrong_in(answers, step.told));
+    assert_right(rt, at, pair.wrong_after(rt, step));
 }
 
-/// Takes a new book, and a new plain one, through the steps of a table.
-pub fn run(rt: &impl Abort, alloc: Global, numbers: Numbers, steps: &[Step]) {
+/// Takes a new book of these numbers, and a new plain one, through the steps of a table.
+pub fn run(rt: &impl Abort, alloc: Global, numbers: Numbers, table: &Table) {
     let mut pair = Pair {
         book: new_book(rt, alloc, numbers),
         plain: PlainBook::new(alloc, numbers, [8, 4]),
     };
-    for (place, step) in steps.iter().enumerate() {
-        take(rt, &mut pair, place, step);
+    for (place, step) in table.steps.iter().enumerate() {
+        let at = At {
+            table: table.name,
+            place,
+        };
+        take(rt, &mut pair, at, step);
+    }
+}
+
+/// Takes new books through these tables, each by its own numbers.
+pub fn check(rt: &impl Abort, alloc: Global, tables: &[Table]) {
+    for table in tables {
+        run(rt, alloc, table.numbers, table);
     }
 }

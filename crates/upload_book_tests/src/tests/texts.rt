@@ -1,13 +1,12 @@
 //! Texts that a book keeps, and names that are no upload's.
 
-use crate::tests::books::{
-    ACME, BETA, NUMBERS, acme, create, end, moment, new_book, new_final, part, send,
-};
+use crate::tests::books::{ACME, BETA, acme, create, end, moment, new_book, new_final, part, send};
 use std::process::Abort;
 use tus_text::check_metadata;
 use upload_book::{
     Book, Chunk, Created, Kind, Moment, Name, NewFinal, NewUpload, Payload, Refusal, Refused,
 };
+use worked_example::NUMBERS;
 
 const METADATA: &[u8] = b"a YQ==,b";
 

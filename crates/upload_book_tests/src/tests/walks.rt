@@ -1,8 +1,9 @@
 //! The uploads of a book as pieces of a snapshot of it.
-use crate::tests::books::{ACME, NUMBERS, new_book};
+use crate::tests::books::{ACME, new_book};
 use crate::tests::restores::{joined, requested};
 use std::process::Abort;
 use upload_book::{Book, KeptSegment, KeptUpload, Kind, Moment};
+use worked_example::NUMBERS;
 
 /// An upload as a piece: its id, what it is for, its length, its segments, and the second at which it expires.
 type Piece<'a> = (

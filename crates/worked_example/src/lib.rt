@@ -1,0 +1,42 @@
+//! What the tests of several crates share: the numbers, the tenants and the messages of the worked example, and what
+//! each of its requests tells. No program stands on it.
+#![tactic(auto)]
+
+mod messages;
+
+pub use messages::{CREATED, HEAD, LOOKED, PATCH, PATCHED, POST};
+use tus_steps::{Field, TusFields};
+use upload_book::{Numbers, Settings, SettingsFault};
+
+/// 12 blocks of 4 bytes, a lifetime of an hour, and uploads of at most 64 bytes.
+pub const NUMBERS: Numbers = Numbers {
+    blocks: 12,
+    block_size: 4,
+    lifetime: 3600,
+    max_size: 64,
+    uploads: 64,
+    last_id: u64::MAX - 1,
+    last_total: u64::MAX,
+};
+
+/// The settings of these numbers, with acme, which has 8 blocks, and beta, which has 4.
+pub fn settings() -> Result<Settings, SettingsFault> {
+    settings_of(NUMBERS)
+}
+
+/// The settings of other numbers with the same tenants, or the first fault of these numbers.
+pub fn settings_of(numbers: Numbers) -> Result<Settings, SettingsFault> {
+    Settings::new(numbers, &[(b"acme", 8), (b"beta", 4)])
+}
+
+/// The fields of a request that tells its version and nothing else.
+pub const FIELDS: TusFields<Field<'static>> = TusFields {
+    version: Field::One(b"1.0.0"),
+    length: Field::Absent,
+    defer: Field::Absent,
+    offset: Field::Absent,
+    metadata: Field::Absent,
+    concat: Field::Absent,
+    checksum: Field::Absent,
+    media: Field::Absent,
+};
