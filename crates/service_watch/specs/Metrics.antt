@@ -6,6 +6,8 @@ use Rattle.service_watch.specs.declared.counts.Bucket.{Bucket}
 use Rattle.service_watch.specs.declared.counts.Histogram.{Histogram}
 use Rattle.service_watch.specs.declared.counts.NamedCount.{NamedCount}
 use Rattle.service_watch.specs.declared.counts.ReplyCount.{ReplyCount}
+use Rattle.service_watch.specs.declared.exposition.Figure.{Figure}
+use Rattle.service_watch.specs.declared.exposition.Figure.TheVariants.{Paid, Quota, Uploads}
 use Rattle.service_watch.specs.declared.snapshot.TenantNumbers.{TenantNumbers}
 
 -- ---- the format
@@ -143,6 +145,12 @@ histogram name help h = record {
   kind = codes "histogram";
   samples = map bucket_sample h.buckets ++ histogram_ends h;
 }
+
+-- one of a tenant's numbers
+abbrev pub figure : Figure → TenantNumbers → ℕ
+figure Paid t = t.paid
+figure Quota t = t.quota
+figure Uploads t = t.uploads
 
 -- a number for each tenant
 abbrev pub of_tenants : List ℕ → List ℕ → (TenantNumbers → ℕ) → List TenantNumbers → Family

@@ -2,7 +2,7 @@
 ghost use Rattle.std.specs.Prelude.{◌≡◌, ◌++◌, map, decimal, OnOk, codes, [], ◌∷◌};
 ghost use Rattle.std.specs.List.{flat_map};
 ghost use Rattle.service_watch.specs.Metrics as spec;
-ghost use Rattle.service_watch.specs.Metrics.{bound_sample, bucket_sample, by_name, by_reply, count_sample, counter, family_text, gauge, help_line, histogram_ends, label_byte, label_text, label_value, labelled, labels_text, lead_text, named_sample, of_tenants, plain, reply_labels, reply_sample, sample_text, seconds_counter, seconds_sample, sum_sample, type_line};
+ghost use Rattle.service_watch.specs.Metrics.{bound_sample, bucket_sample, by_name, by_reply, count_sample, counter, family_text, figure, gauge, help_line, histogram_ends, label_byte, label_text, label_value, labelled, labels_text, lead_text, named_sample, of_tenants, plain, reply_labels, reply_sample, sample_text, seconds_counter, seconds_sample, sum_sample, type_line};
 
 use crate::counts::{Bucket, Histogram, NamedCount, ReplyCount};
 use crate::put::put_number;
@@ -124,43 +124,38 @@ pub(crate) fn put_histogram(
     put_histogram_ends(out, name, histogram)
 }
 
-/// Puts what each tenant pays.
-pub(crate) fn put_paid(
-    out: &mut Vec<u8>,
-    name: &[u8],
-    help: &[u8],
-    tenants: &[TenantNumbers],
-) -> Result<(), AllocError>
-    ensures { OnOk result (out.new.items ≡ out.old.items ++ family_text (of_tenants name.now help.now (λ t. t.paid) tenants.now)) }
-{
-    put_lead(out, name, help, b"gauge")?;
-    put_each_paid(out, name, tenants)
+/// Which of a tenant's numbers is told.
+#[derive(Clone, Copy)]
+pub(crate) enum Figure {
+    Paid,
+    Quota,
+    Uploads,
 }
 
-/// Puts what each tenant may pay.
-pub(crate) fn put_quotas(
-    out: &mut Vec<u8>,
-    name: &[u8],
-    help: &[u8],
-    tenants: &[TenantNumbers],
-) -> Result<(), AllocError>
-    ensures { OnOk result (out.new.items ≡ out.old.items ++ family_text (of_tenants name.now help.now (λ t. t.quota) tenants.now)) }
-{
-    put_lead(out, name, help, b"gauge")?;
-    put_each_quota(out, name, tenants)
+impl Figure {
+    fn of(self, tenant: &TenantNumbers) -> u64
+        ensures { result ≡ figure self tenant.now }
+    {
+        match self {
+            Figure::Paid => tenant.paid,
+            Figure::Quota => tenant.quota,
+            Figure::Uploads => tenant.uploads,
+        }
+    }
 }
 
-/// Puts how many uploads each tenant has.
-pub(crate) fn put_uploads(
+/// Puts a family of one number of each tenant.
+pub(crate) fn put_of_tenants(
     out: &mut Vec<u8>,
     name: &[u8],
     help: &[u8],
+    told: Figure,
     tenants: &[TenantNumbers],
 ) -> Result<(), AllocError>
-    ensures { OnOk result (out.new.items ≡ out.old.items ++ family_text (of_tenants name.now help.now (λ t. t.uploads) tenants.now)) }
+    ensures { OnOk result (out.new.items ≡ out.old.items ++ family_text (of_tenants name.now help.now (figure told) tenants.now)) }
 {
     put_lead(out, name, help, b"gauge")?;
-    put_each_uploads(out, name, tenants)
+    put_each_tenant(out, name, told, tenants)
 }
 
 #[tactic(auto, unfolding(crate::specs::Metrics::sample_text, crate::specs::Metrics::labels_text))]
@@ -206,47 +201,24 @@ fn put_named_counts(
     Ok(())
 }
 
-// Puts what each tenant pays.
-fn put_each_paid(
+// Puts a sample for each tenant.
+fn put_each_tenant(
     out: &mut Vec<u8>,
     name: &[u8],
+    told: Figure,
     tenants: &[TenantNumbers],
 ) -> Result<(), AllocError>
     ensures { OnOk result (out.new.items ≡ out.old.items
-        ++ flat_map (sample_text name.now) (map (λ t. labelled (codes "tenant") t.name t.paid) tenants.now)) }
+        ++ flat_map (sample_text name.now) (map (λ t. labelled (codes "tenant") t.name (figure told t)) tenants.now)) }
 {
     for tenant in tenants {
-        put_labelled(out, name, b"tenant", tenant.name.as_slice(), tenant.paid)?;
-    }
-    Ok(())
-}
-
-// Puts what each tenant may pay.
-fn put_each_quota(
-    out: &mut Vec<u8>,
-    name: &[u8],
-    tenants: &[TenantNumbers],
-) -> Result<(), AllocError>
-    ensures { OnOk result (out.new.items ≡ out.old.items
-        ++ flat_map (sample_text name.now) (map (λ t. labelled (codes "tenant") t.name t.quota) tenants.now)) }
-{
-    for tenant in tenants {
-        put_labelled(out, name, b"tenant", tenant.name.as_slice(), tenant.quota)?;
-    }
-    Ok(())
-}
-
-// Puts how many uploads each tenant has.
-fn put_each_uploads(
-    out: &mut Vec<u8>,
-    name: &[u8],
-    tenants: &[TenantNumbers],
-) -> Result<(), AllocError>
-    ensures { OnOk result (out.new.items ≡ out.old.items
-        ++ flat_map (sample_text name.now) (map (λ t. labelled (codes "tenant") t.name t.uploads) tenants.now)) }
-{
-    for tenant in tenants {
-        put_labelled(out, name, b"tenant", tenant.name.as_slice(), tenant.uploads)?;
+        put_labelled(
+            out,
+            name,
+            b"tenant",
+            tenant.name.as_slice(),
+            told.of(tenant),
+        )?;
     }
     Ok(())
 }

@@ -5,8 +5,8 @@ ghost use Rattle.service_watch.specs.Metrics.{family_text};
 
 use crate::counts::{Histogram, NamedCount, ReplyCount};
 use crate::exposition::{
-    put_by_name, put_by_reply, put_counter, put_gauge, put_histogram, put_paid, put_quotas,
-    put_seconds_counter, put_uploads,
+    Figure, put_by_name, put_by_reply, put_counter, put_gauge, put_histogram, put_of_tenants,
+    put_seconds_counter,
 };
 use crate::snapshot::TenantNumbers;
 use std::alloc::{AllocError, Global};
@@ -76,10 +76,11 @@ pub(crate) fn put_tenant_blocks(
 ) -> Result<(), AllocError>
     ensures { OnOk result (out.new.items ≡ out.old.items ++ family_text (families.tenant_blocks tenants.now)) }
 {
-    put_paid(
+    put_of_tenants(
         out,
         b"cadrusmo_tenant_blocks",
         b"Blocks that a tenant pays.",
+        Figure::Paid,
         tenants,
     )
 }
@@ -91,10 +92,11 @@ pub(crate) fn put_tenant_quota(
 ) -> Result<(), AllocError>
     ensures { OnOk result (out.new.items ≡ out.old.items ++ family_text (families.tenant_quota tenants.now)) }
 {
-    put_quotas(
+    put_of_tenants(
         out,
         b"cadrusmo_tenant_quota_blocks",
         b"Blocks that a tenant may pay.",
+        Figure::Quota,
         tenants,
     )
 }
@@ -106,10 +108,11 @@ pub(crate) fn put_tenant_uploads(
 ) -> Result<(), AllocError>
     ensures { OnOk result (out.new.items ≡ out.old.items ++ family_text (families.tenant_uploads tenants.now)) }
 {
-    put_uploads(
+    put_of_tenants(
         out,
         b"cadrusmo_tenant_uploads",
         b"Uploads that a tenant has.",
+        Figure::Uploads,
         tenants,
     )
 }
