@@ -6,7 +6,7 @@ mod messages;
 
 pub use messages::{CREATED, HEAD, LOOKED, PATCH, PATCHED, POST};
 use tus_steps::{Field, TusFields};
-use upload_book::{Numbers, Settings, SettingsFault};
+use upload_book::{Chunk, FirstChunk, Numbers, Payload, Settings, SettingsFault};
 
 /// 12 blocks of 4 bytes, a lifetime of an hour, and uploads of at most 64 bytes.
 pub const NUMBERS: Numbers = Numbers {
@@ -40,3 +40,25 @@ pub const FIELDS: TusFields<Field<'static>> = TusFields {
     checksum: Field::Absent,
     media: Field::Absent,
 };
+
+/// The first five bytes of an upload, as a PATCH brings them.
+pub fn hello<'a>() -> Chunk<'a> {
+    Chunk {
+        offset: 0,
+        length: None,
+        typed: true,
+        check: None,
+        bytes: Payload::new(b"hello"),
+        more: 0,
+    }
+}
+
+/// What a creation without bytes brings.
+pub fn no_bytes<'a>() -> FirstChunk<'a> {
+    FirstChunk {
+        typed: true,
+        check: None,
+        bytes: Payload::new(b""),
+        more: 0,
+    }
+}

@@ -1,14 +1,15 @@
 //! Bodies that a connection takes in pieces. A PATCH or a creation that is accepted gets the reply that it gets as one; a piece
 //! that is refused closes the connection, and those before it are kept.
 
-use crate::tests::checksums::CREATED_WITH;
 use crate::tests::connections::{answer_next, assert_wants, take_in, take_out};
 use crate::tests::conversations::{
     BODY_SIZE, COMPLETED, CONTINUE, OFFSET, PATCH_OLD, PATCH_PAST, PATCH_REST, PATCH_WAITING,
     PATCHED_CLOSE, WRONG_OFFSET,
 };
 use crate::tests::driven::{Arriving, Leaving, Pieces, spoken_over};
-use crate::tests::message_parts::{FROM_0, HELLO, OF_10, SUM, TO_ACME, TO_FIRST, TYPED};
+use crate::tests::message_parts::{
+    CREATED_FIRST, EXPIRES, FROM_0, FROM_5, HELLO, NO_BODY, OF_10, SUM, TO_ACME, TO_FIRST, TYPED,
+};
 use crate::tests::rows::{Row, rows};
 use crate::tests::spoken::{Expected, Spoken, assert_spoken, at_1000, joined, new_book, offset_of};
 use http_wire::{BodyLimits, Buffers, Connection, Ended, Wants};
@@ -41,8 +42,8 @@ static ROWS: [Row; 15] = rows! {
     "a checksum, which is of the whole body": [POST, TO_FIRST, TYPED, FROM_0, SUM, HELLO] => [CREATED, PATCHED], Input, Some(5);
     "more bytes than a body may have that is gathered": [POST, TO_FIRST, TYPED, FROM_0, b"Content-Length: 10\r\n\r\nhelloworld"] => [CREATED, COMPLETED], Input, Some(10);
     "more bytes with a checksum": [POST, TO_FIRST, TYPED, FROM_0, SUM, b"Content-Length: 6\r\n\r\n"] => [CREATED, BODY_SIZE], Closed, Some(0);
-    "a creation with its upload": [TO_ACME, OF_10, TYPED, HELLO, PATCH_REST] => [CREATED_WITH, COMPLETED], Input, Some(10);
-    "a creation with its upload, whose client waits to go on": [TO_ACME, b"Expect: 100-continue\r\n", OF_10, TYPED, HELLO] => [CONTINUE, CREATED_WITH], Input, Some(5);
+    "a creation with its upload": [TO_ACME, OF_10, TYPED, HELLO, PATCH_REST] => [CREATED_FIRST, FROM_5, EXPIRES, NO_BODY, COMPLETED], Input, Some(10);
+    "a creation with its upload, whose client waits to go on": [TO_ACME, b"Expect: 100-continue\r\n", OF_10, TYPED, HELLO] => [CONTINUE, CREATED_FIRST, FROM_5, EXPIRES, NO_BODY], Input, Some(5);
     "a creation that is cut in its first piece": [TO_ACME, OF_10, TYPED, b"Content-Length: 5\r\n\r\nh"] => [], Cut, None;
     "a creation that is cut in its second piece": [TO_ACME, OF_10, TYPED, b"Content-Length: 5\r\n\r\nhel"] => [], Cut, Some(3);
     "a creation with more bytes than its upload may have": [TO_ACME, b"Upload-Length: 4\r\n", TYPED, HELLO] => [CREATION_TOO_LONG_CLOSE], Closed, None;

@@ -1,13 +1,12 @@
 use crate::tests::conversations::OFFSET;
-use crate::tests::message_parts::{A, END, FROM_0, HELLO, OF_5, OF_10, TO_ACME, TO_FIRST, TYPED};
+use crate::tests::message_parts::{
+    A, CREATED_FIRST, END, FROM_0, FROM_5, HELLO, NO_BODY, NO_STORE, OF_5, OF_10, TO_ACME,
+    TO_FIRST, TYPED,
+};
 use crate::tests::rows::{Row, check_rows, rows};
 use worked_example::{CREATED, HEAD};
 
 const DEFERRED: &[u8] = b"Upload-Defer-Length: 1\r\n";
-
-const FROM_5: &[u8] = b"Upload-Offset: 5\r\n";
-
-const NO_BODY: &[u8] = b"Content-Length: 0\r\n\r\n";
 
 const TWO_KEYS: &[u8] = b"Upload-Metadata: a ,b\r\n";
 
@@ -28,9 +27,6 @@ Tus-Resumable: 1.0.0\r\nContent-Type: text/plain\r\nContent-Length: 13\r\n\r\nle
 pub const FIELD: &[u8] = b"HTTP/1.1 400 Bad Request\r\nDate: Thu, 01 Jan 1970 00:16:40 GMT\r\n\
 Tus-Resumable: 1.0.0\r\nContent-Type: text/plain\r\nContent-Length: 6\r\n\r\nfield\n";
 
-const CREATED_COMPLETE: &[u8] = b"HTTP/1.1 201 Created\r\nDate: Thu, 01 Jan 1970 00:16:40 GMT\r\n\
-Tus-Resumable: 1.0.0\r\nLocation: /files/acme/1\r\nContent-Length: 0\r\n\r\n";
-
 const PATCHED_NONE: &[u8] = b"HTTP/1.1 204 No Content\r\nDate: Thu, 01 Jan 1970 00:16:40 GMT\r\n\
 Tus-Resumable: 1.0.0\r\nUpload-Offset: 0\r\n\r\n";
 
@@ -43,8 +39,6 @@ Tus-Resumable: 1.0.0\r\nContent-Type: application/octet-stream\r\nContent-Length
 const LOOKED_WITH: &[u8] = b"HTTP/1.1 200 OK\r\nDate: Thu, 01 Jan 1970 00:16:40 GMT\r\n\
 Tus-Resumable: 1.0.0\r\nUpload-Offset: 0\r\nUpload-Length: 10\r\n";
 
-const NO_STORE: &[u8] = b"Cache-Control: no-store\r\n\r\n";
-
 pub const LOOKED_NEW: &[u8] = b"HTTP/1.1 200 OK\r\nDate: Thu, 01 Jan 1970 00:16:40 GMT\r\n\
 Tus-Resumable: 1.0.0\r\nUpload-Offset: 0\r\nUpload-Length: 10\r\nCache-Control: no-store\r\n\r\n";
 
@@ -52,7 +46,7 @@ static CREATIONS: [Row; 8] = rows! {
     "a length that is told later, and a refused PATCH that tells one": [TO_ACME, DEFERRED, END, HEAD, TO_FIRST, TYPED, b"Upload-Offset: 1\r\nUpload-Length: 9\r\n", A, HEAD] => [CREATED, LOOKED_DEFERRED, OFFSET, LOOKED_DEFERRED], Input, Some(0);
     "a told length is fixed": [TO_ACME, DEFERRED, END, TO_FIRST, TYPED, FROM_0, OF_5, HELLO, TO_FIRST, TYPED, FROM_5, b"Upload-Length: 6\r\n", NO_BODY, TO_FIRST, TYPED, FROM_5, OF_5, NO_BODY] => [CREATED, COMPLETED_FIVE, LENGTH_FIXED, COMPLETED_FIVE], Input, Some(5);
     "lengths that are not told": [TO_ACME, b"Upload-Defer-Length: 2\r\n", END, TO_ACME, OF_5, DEFERRED, END, TO_ACME, END] => [FIELD, FIELD, FIELD], Input, None;
-    "an upload of no bytes": [TO_ACME, b"Upload-Length: 0\r\n", END, TO_FIRST, TYPED, FROM_0, NO_BODY, GET] => [CREATED_COMPLETE, PATCHED_NONE, NO_CONTENT], Input, Some(0);
+    "an upload of no bytes": [TO_ACME, b"Upload-Length: 0\r\n", END, TO_FIRST, TYPED, FROM_0, NO_BODY, GET] => [CREATED_FIRST, NO_BODY, PATCHED_NONE, NO_CONTENT], Input, Some(0);
     "metadata is given back as it was sent": [TO_ACME, OF_10, TWO_KEYS, END, HEAD] => [CREATED, LOOKED_WITH, TWO_KEYS, NO_STORE], Input, Some(0);
     "metadata with a value is given back as it was sent": [TO_ACME, OF_10, KEY_AND_VALUE, END, HEAD] => [CREATED, LOOKED_WITH, KEY_AND_VALUE, NO_STORE], Input, Some(0);
     "metadata that is none": [TO_ACME, OF_10, b"Upload-Metadata: a YQ==,a\r\n", END, TO_ACME, OF_10, b"Upload-Metadata: a YQ\r\n", END, TO_ACME, OF_10, b"Upload-Metadata: a,,b\r\n", END, TO_ACME, OF_10, NO_METADATA, NO_METADATA, END] => [FIELD, FIELD, FIELD, FIELD], Input, None;

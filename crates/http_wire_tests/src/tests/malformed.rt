@@ -11,7 +11,9 @@ use crate::tests::conversations::{
     VERSION,
 };
 use crate::tests::creations::FIELD;
-use crate::tests::message_parts::{A, END, FROM_0, OF_10, TO_ACME, TO_FIRST, TYPED};
+use crate::tests::message_parts::{
+    A, END, FROM_0, NO_STORE, OF_10, PLAIN, TO_ACME, TO_FIRST, TYPED,
+};
 use crate::tests::methods::MEDIA;
 use crate::tests::rows::{Row, check_rows, rows};
 use crate::tests::spoken::{Expected, assert_both, at_1000, joined};
@@ -28,21 +30,13 @@ const METHOD: &[u8] =
 Allow: POST, OPTIONS\r\n\
 Content-Type: text/plain\r\nContent-Length: 7\r\n\r\nmethod\n";
 
-const HEAD_GREATEST_ID: &[u8] =
-    b"HEAD /files/acme/18446744073709551615 HTTP/1.1\r\nHost: x\r\nTus-Resumable: 1.0.0\r\n\r\n";
+const GREATEST_ID: &[u8] = b"/files/acme/18446744073709551615";
 
-const HEAD_PAST_IDS: &[u8] =
-    b"HEAD /files/acme/18446744073709551616 HTTP/1.1\r\nHost: x\r\nTus-Resumable: 1.0.0\r\n\r\n";
+const PAST_IDS: &[u8] = b"/files/acme/18446744073709551616";
 
 const NOT_FOUND: &[u8] =
     b"HTTP/1.1 404 Not Found\r\nDate: Thu, 01 Jan 1970 00:16:40 GMT\r\nTus-Resumable: 1.0.0\r\n\
 Cache-Control: no-store\r\n\r\n";
-
-const GET_GREATEST_ID: &[u8] =
-    b"GET /files/acme/18446744073709551615 HTTP/1.1\r\nHost: x\r\nTus-Resumable: 1.0.0\r\n\r\n";
-
-const GET_PAST_IDS: &[u8] =
-    b"GET /files/acme/18446744073709551616 HTTP/1.1\r\nHost: x\r\nTus-Resumable: 1.0.0\r\n\r\n";
 
 const UNKNOWN: &[u8] =
     b"HTTP/1.1 404 Not Found\r\nDate: Thu, 01 Jan 1970 00:16:40 GMT\r\nTus-Resumable: 1.0.0\r\n\
@@ -69,8 +63,6 @@ const LOOKED_EMPTY: &[u8] =
     b"HTTP/1.1 200 OK\r\nDate: Thu, 01 Jan 1970 00:16:40 GMT\r\nTus-Resumable: 1.0.0\r\n\
 Upload-Offset: 0\r\nUpload-Length: 0\r\n";
 
-const HEAD_2: &[u8] = b"HEAD /files/acme/2 HTTP/1.1\r\nHost: x\r\nTus-Resumable: 1.0.0\r\n\r\n";
-
 const FINAL_4: &[u8] = b"HTTP/1.1 201 Created\r\nDate: Thu, 01 Jan 1970 00:16:40 GMT\r\n\
 Tus-Resumable: 1.0.0\r\nLocation: /files/acme/4\r\nContent-Length: 0\r\n\r\n";
 
@@ -78,22 +70,16 @@ const GONE_AT_4600: &[u8] =
     b"HTTP/1.1 410 Gone\r\nDate: Thu, 01 Jan 1970 01:16:40 GMT\r\nTus-Resumable: 1.0.0\r\n\
 Cache-Control: no-store\r\n\r\n";
 
-const LOOKED_AT_4599: &[u8] =
-    b"HTTP/1.1 200 OK\r\nDate: Thu, 01 Jan 1970 01:16:39 GMT\r\nTus-Resumable: 1.0.0\r\n\
-Upload-Offset: 0\r\n\
-Upload-Length: 10\r\n\
-Cache-Control: no-store\r\n\r\n";
+const OK_AT_4599: &[u8] =
+    b"HTTP/1.1 200 OK\r\nDate: Thu, 01 Jan 1970 01:16:39 GMT\r\nTus-Resumable: 1.0.0\r\n";
+
+const OK_AT_4600: &[u8] =
+    b"HTTP/1.1 200 OK\r\nDate: Thu, 01 Jan 1970 01:16:40 GMT\r\nTus-Resumable: 1.0.0\r\n";
 
 const PATCHED_AT_4599: &[u8] =
     b"HTTP/1.1 204 No Content\r\nDate: Thu, 01 Jan 1970 01:16:39 GMT\r\nTus-Resumable: 1.0.0\r\n\
 Upload-Offset: 1\r\n\
 Upload-Expires: Thu, 01 Jan 1970 02:16:39 GMT\r\n\r\n";
-
-const LOOKED_AT_4600: &[u8] =
-    b"HTTP/1.1 200 OK\r\nDate: Thu, 01 Jan 1970 01:16:40 GMT\r\nTus-Resumable: 1.0.0\r\n\
-Upload-Offset: 1\r\n\
-Upload-Length: 10\r\n\
-Cache-Control: no-store\r\n\r\n";
 
 const SPENT: &[u8] =
     b"HTTP/1.1 507 Insufficient Storage\r\nDate: Thu, 01 Jan 1970 00:16:40 GMT\r\nTus-Resumable: 1.0.0\r\n\
@@ -110,7 +96,7 @@ static MALFORMED_ROWS: [Row; 15] = rows! {
     "a number of bytes past 64 bits": [TO_ACME, OF_10, b"Content-Length: 18446744073709551616\r\n\r\n", POST] => [LENGTH], Closed, None;
     "a number of bytes with a sign": [TO_ACME, OF_10, b"Content-Length: +5\r\n\r\n", POST] => [LENGTH], Closed, None;
     "two numbers of bytes in one field": [TO_ACME, OF_10, b"Content-Length: 5, 5\r\n\r\n", POST] => [LENGTH], Closed, None;
-    "the greatest id, which was never given, and one past it, which is no path": [HEAD_GREATEST_ID, HEAD_PAST_IDS, GET_GREATEST_ID, GET_PAST_IDS] => [NOT_FOUND, NOT_FOUND, UNKNOWN, NO_PATH], Input, None;
+    "the greatest id, which was never given, and one past it, which is no path": [b"HEAD ", GREATEST_ID, PLAIN, b"HEAD ", PAST_IDS, PLAIN, b"GET ", GREATEST_ID, PLAIN, b"GET ", PAST_IDS, PLAIN] => [NOT_FOUND, NOT_FOUND, UNKNOWN, NO_PATH], Input, None;
     "a byte 0 in a value": [TO_ACME, b"Upload-Length: 1\x000\r\n\r\n", POST] => [MALFORMED], Closed, None;
     "another version of HTTP": [HTTP_1_2, POST] => [MALFORMED], Closed, None;
     "16,384 bytes of a head without an end" {times: 16_384}: [b"a"] => [HEAD_SIZE], Closed, None;
@@ -120,8 +106,8 @@ static MALFORMED_ROWS: [Row; 15] = rows! {
 
 /// What is at a limit or one past it: parts, the end of an upload, and the last charge and id.
 static LIMIT_ROWS: [Row; 4] = rows! {
-    "a final upload of 33 parts, and one of 32 times a part of no bytes": [TO_ACME, b"Upload-Length: 0\r\nUpload-Concat: partial\r\n\r\n", TO_ACME, OF_32_PARTS, b" /files/acme/1\r\n\r\n", TO_ACME, OF_32_PARTS, END, END, HEAD_2] => [CREATED, FIELD, FINAL_2, LOOKED_EMPTY, OF_32_PARTS, b"\r\nCache-Control: no-store\r\n\r\n"], Input, Some(0);
-    "an upload is gone at its end, is there a second before it, and a PATCH then lets it live longer" {secs: &[1000, 4600, 4599, 4599, 4600]}: [POST, HEAD, HEAD, TO_FIRST, TYPED, FROM_0, A, HEAD] => [CREATED, GONE_AT_4600, LOOKED_AT_4599, PATCHED_AT_4599, LOOKED_AT_4600], Input, Some(1);
+    "a final upload of 33 parts, and one of 32 times a part of no bytes": [TO_ACME, b"Upload-Length: 0\r\nUpload-Concat: partial\r\n\r\n", TO_ACME, OF_32_PARTS, b" /files/acme/1\r\n\r\n", TO_ACME, OF_32_PARTS, END, END, b"HEAD /files/acme/2", PLAIN] => [CREATED, FIELD, FINAL_2, LOOKED_EMPTY, OF_32_PARTS, END, NO_STORE], Input, Some(0);
+    "an upload is gone at its end, is there a second before it, and a PATCH then lets it live longer" {secs: &[1000, 4600, 4599, 4599, 4600]}: [POST, HEAD, HEAD, TO_FIRST, TYPED, FROM_0, A, HEAD] => [CREATED, GONE_AT_4600, OK_AT_4599, FROM_0, OF_10, NO_STORE, PATCHED_AT_4599, OK_AT_4600, b"Upload-Offset: 1\r\n", OF_10, NO_STORE], Input, Some(1);
     "final uploads are not charged, however few blocks may be charged yet" {numbers: Numbers { last_total: 4, ..NUMBERS }}: [PART_OF_5, ABCDE, FINAL_OF_1, FINAL_OF_1, DELETE_2, FINAL_OF_1] => [CREATED, PATCHED, FINAL_2, FINAL_3, DELETED, FINAL_4], Input, Some(5);
     "ids that end" {numbers: Numbers { last_id: 2, ..NUMBERS }}: [POST, POST, POST] => [CREATED, CREATED_2, SPENT], Input, Some(0);
 };

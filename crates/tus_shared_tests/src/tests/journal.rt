@@ -14,10 +14,8 @@ use std::sync::Wait;
 use std::sync::ledger::{Blank, Ledger};
 use std::test::Fail;
 use tus_shared::{AgainFault, Charges, Desk, NoGate, Opened, Records, SeenEvents, Shared};
-use upload_book::{
-    Change, Chunk, FirstChunk, Name, NewUpload, Payload, Refusal, Refused, Settings,
-};
-use worked_example::settings;
+use upload_book::{Change, Name, NewUpload, Refusal, Refused, Settings};
+use worked_example::{hello, no_bytes, settings};
 
 // The key of the journal.
 const KEY: u64 = 7;
@@ -187,23 +185,11 @@ impl Stands {
                     metadata: b"",
                     concat: b"",
                 },
-                first: FirstChunk {
-                    typed: true,
-                    check: None,
-                    bytes: Payload::new(b""),
-                    more: 0,
-                },
+                first: no_bytes(),
             },
             Stands::Hello(id) => Change::Append {
                 name: Name { tenant: 0, id },
-                chunk: Chunk {
-                    offset: 0,
-                    length: None,
-                    typed: true,
-                    check: None,
-                    bytes: Payload::new(b"hello"),
-                    more: 0,
-                },
+                chunk: hello(),
             },
         }
     }

@@ -31,20 +31,41 @@ pub struct Step {
     pub settled: [u64; 4],
 }
 
-/// A table of steps, each `desk secs call => answer, settled;`.
-macro_rules! steps {
-    ($($desk:literal $secs:literal $call:expr => $answer:expr, $settled:expr;)*) => {
-        [$(Step {
-            desk: $desk,
-            secs: $secs,
-            call: $call,
-            answer: $answer,
-            settled: $settled,
+/// Steps at two desks of a store of these numbers.
+pub struct Table {
+    pub name: &'static str,
+    pub numbers: Numbers,
+    pub steps: &'static [Step],
+}
+
+/// A table without steps.
+pub const NO_TABLE: Table = Table {
+    name: "",
+    numbers: NUMBERS,
+    steps: &[],
+};
+
+/// Tables, each `name => { steps }` or `name by numbers => { steps }`, of steps `desk secs call => answer, settled;`.
+macro_rules! tables {
+    ($($name:literal $(by $numbers:expr)? => {
+        $($desk:literal $secs:literal $call:expr => $answer:expr, $settled:expr;)*
+    })*) => {
+        [$($crate::tests::steps::Table {
+            name: $name,
+            $(numbers: $numbers,)?
+            steps: &[$($crate::tests::steps::Step {
+                desk: $desk,
+                secs: $secs,
+                call: $call,
+                answer: $answer,
+                settled: $settled,
+            }),*],
+            ..$crate::tests::steps::NO_TABLE
         }),*]
     };
 }
 
-pub(crate) use steps;
+pub(crate) use tables;
 
 /// How a desk is asked for its reply to a request.
 #[derive(Clone, Copy, Debug)]
@@ -54,45 +75,45 @@ pub enum Way {
     Batch,
 }
 
-/// Where a step stands: its place in the table, and the way in which its request is asked.
+/// Where a step stands: in the table of this name, at this place, and the way in which its request is asked.
 #[derive(Clone, Copy)]
-pub struct At {
+pub struct At<'a> {
+    pub table: &'a str,
     pub place: usize,
     pub way: Way,
 }
 
 /// What a desk tells is what the step here says, by each way in which it is asked.
 pub fn assert_tells(rt: &impl Abort, answer: Answer, expected: Answer, at: At) {
-    let At { place, way } = at;
-    assert!(rt; answer == expected, "step {place}, by {way:?}");
+    let At { table, place, way } = at;
+    assert!(rt; answer == expected, "{table}, step {place}, by {way:?}");
 }
 
-/// Takes two desks through the steps of a table, in each way in which a desk answers. What stands behind the lock
-/// is seen when they are settled, so they are opened anew for each beginning of the table, and settled after it.
-pub fn run<W: Threads + Wait + Abort + Sync>(
-    rt: &W,
-    alloc: Global,
-    steps: &[Step],
-) -> Result<(), Fail> {
-    run_with(rt, alloc, NUMBERS, steps)
-}
-
-/// The same with other numbers of the settings.
-pub fn run_with<W: Threads + Wait + Abort + Sync>(
-    rt: &W,
-    alloc: Global,
-    numbers: Numbers,
-    steps: &[Step],
-) -> Result<(), Fail> {
+// Takes two desks through the steps of a table, in each way in which a desk answers. What stands behind the lock is seen
+// when they are settled, so they are opened anew for each beginning of the table, and settled after it.
+fn run<W: Threads + Wait + Abort + Sync>(rt: &W, alloc: Global, table: &Table) -> Result<(), Fail> {
+    let name = table.name;
     for way in [Way::Call, Way::Answer, Way::Batch] {
-        for (place, step) in steps.iter().enumerate() {
-            let table = Scene::Table(way, &steps[..place + 1]);
-            let settled = played(rt, alloc, settings_of(numbers)?, 2, &table)?;
+        for (place, step) in table.steps.iter().enumerate() {
+            let scene = Scene::Table(name, way, &table.steps[..place + 1]);
+            let settled = played(rt, alloc, settings_of(table.numbers)?, 2, &scene)?;
             assert!(rt;
                 settled.numbers == step.settled,
-                "after step {place}, by {way:?}"
+                "{name}: after step {place}, by {way:?}"
             );
         }
+    }
+    Ok(())
+}
+
+/// Takes two desks through each of these tables.
+pub fn check<W: Threads + Wait + Abort + Sync>(
+    rt: &W,
+    alloc: Global,
+    tables: &[Table],
+) -> Result<(), Fail> {
+    for table in tables {
+        run(rt, alloc, table)?;
     }
     Ok(())
 }

@@ -10,10 +10,10 @@ use crate::tests::plain::PlainBook;
 use crate::tests::steps::{Told, appended};
 use std::process::Abort;
 use upload_book::{
-    Accounts, BoardLine, Book, Change, Chunk, FirstChunk, HeadChange, Kind, Moment, Name, Outcome,
-    Payload, Ready, Refusal, Refused,
+    Accounts, BoardLine, Book, Change, HeadChange, Kind, Moment, Name, Outcome, Ready, Refusal,
+    Refused,
 };
-use worked_example::NUMBERS;
+use worked_example::{NUMBERS, hello, no_bytes};
 
 // What becomes of acme's first upload, which has ten bytes when it is complete.
 #[derive(Clone, Copy)]
@@ -76,26 +76,6 @@ static STEPS: [Step; 11] = [
     Step::Makes(Told::RefusedPatch(Refusal::Offset, Some(4600))),
     Step::Has([5, 2, 10]),
 ];
-
-fn hello<'a>() -> Chunk<'a> {
-    Chunk {
-        offset: 0,
-        length: None,
-        typed: true,
-        check: None,
-        bytes: Payload::new(b"hello"),
-        more: 0,
-    }
-}
-
-fn no_bytes<'a>() -> FirstChunk<'a> {
-    FirstChunk {
-        typed: true,
-        check: None,
-        bytes: Payload::new(b""),
-        more: 0,
-    }
-}
 
 // Prepares a change of the first upload.
 fn prepare(book: &mut Book, asked: Asked, now: Moment) -> Result<Ready<'static>, Refused>
