@@ -3,10 +3,12 @@
 use crate::tests::books::{ACME, BETA};
 use crate::tests::steps::Call::{Delete, Get, Head, Patch, Post};
 use crate::tests::steps::Told::{Appended, Bytes, Created, Refused, Removed, Row};
-use crate::tests::steps::{Table, check, tables};
+use crate::tests::steps::{Step, check, steps};
 use upload_book::{Kind, Refusal};
+use worked_example::{Table, tables};
 
-static ENDS: [Table; 3] = tables! {
+static ENDS: [Table<Step>; 3] = tables! {
+    steps;
     "an upload is ended" => {
         1000 ACME Post(Some(10)) => Created(1, Some(4600)), [0, 0, 12, 0, 0];
         1000 ACME Patch(1, 0, b"hello") => Appended(5, Some(4600)), [2, 0, 10, 2, 0];

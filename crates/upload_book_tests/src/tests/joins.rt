@@ -1,14 +1,16 @@
 //! Final uploads: what they are made of, what they cost, and what becomes of their blocks.
 
-use crate::tests::books::{ACME, BETA, numbers};
+use crate::tests::books::{ACME, BETA};
 use crate::tests::steps::Call::{Delete, Get, Head, Join, Partial, Patch, Post};
 use crate::tests::steps::Told::{Appended, Bytes, Created, Refused, RefusedPatch, Removed, Row};
-use crate::tests::steps::{Table, check, run, tables};
+use crate::tests::steps::{Step, check, run, steps};
 use upload_book::{Kind, Refusal};
+use worked_example::{Table, numbers, tables};
 
 const THIRTY_TWO: [Option<u64>; 32] = [Some(1); 32];
 
-static JOINS: [Table; 10] = tables! {
+static JOINS: [Table<Step>; 10] = tables! {
+    steps;
     "two partial uploads and a final one over them, which keeps its bytes when they end" => {
         1000 ACME Partial(Some(5)) => Created(1, Some(4600)), [0, 0, 12, 0, 0];
         1000 ACME Patch(1, 0, b"abcde") => Appended(5, Some(4600)), [2, 0, 10, 2, 0];
@@ -104,7 +106,7 @@ static JOINS: [Table; 10] = tables! {
         1000 ACME Head(2) => Row(Kind::Final, 60, Some(60), None), [8, 0, 4, 8, 0];
         1000 ACME Delete(1) => Removed(0, 0), [8, 0, 4, 8, 0];
     }
-    "with room for two uploads and two ids, each refusal comes before the next in the order" by numbers!(uploads: 2, last_id: 2) => {
+    "with room for two uploads and two ids, each refusal comes before the next in the order" (uploads: 2, last_id: 2) => {
         1000 ACME Partial(Some(30)) => Created(1, Some(4600)), [0, 0, 12, 0, 0];
         1000 ACME Patch(1, 0, b"abcdefghijklmnopqrstuvwxyz0123") => Appended(30, Some(4600)), [8, 0, 4, 8, 0];
         1000 ACME Partial(Some(1)) => Created(2, Some(4600)), [8, 0, 4, 8, 0];
@@ -138,7 +140,8 @@ fn joins(rt: HostRuntime) {
     check(&rt, rt.alloc(), &JOINS);
 }
 
-static JOINS_SPEND_NOTHING: [Table; 1] = tables! {
+static JOINS_SPEND_NOTHING: [Table<Step>; 1] = tables! {
+    steps;
     "a join charges nothing, so it is not refused where the total of charges is used up" => {
         1000 ACME Partial(Some(5)) => Created(1, Some(4600)), [0, 0, 12, 0, 0];
         1000 ACME Patch(1, 0, b"abcde") => Appended(5, Some(4600)), [2, 0, 10, 2, 0];

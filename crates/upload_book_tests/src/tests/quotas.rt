@@ -1,12 +1,14 @@
 //! What uploads cost, and what quotas and totals refuse.
 
-use crate::tests::books::{ACME, BETA, numbers};
+use crate::tests::books::{ACME, BETA};
 use crate::tests::steps::Call::{Delete, Get, Head, Patch, Post};
 use crate::tests::steps::Told::{Appended, Bytes, Created, RefusedPatch, Removed, Row};
-use crate::tests::steps::{Table, check, tables};
+use crate::tests::steps::{Step, check, steps};
 use upload_book::{Kind, Refusal};
+use worked_example::{Table, tables};
 
-static QUOTAS: [Table; 6] = tables! {
+static QUOTAS: [Table<Step>; 6] = tables! {
+    steps;
     "the last block of a quota is filled to its last byte, and no further" => {
         1000 ACME Post(Some(33)) => Created(1, Some(4600)), [0, 0, 12, 0, 0];
         1000 ACME Patch(1, 0, b"abcdefghijklmnopqrstuvwxyz0123") => Appended(30, Some(4600)), [8, 0, 4, 8, 0];
@@ -24,7 +26,7 @@ static QUOTAS: [Table; 6] = tables! {
         1000 ACME Head(1) => Row(Kind::Plain, 32, Some(40), Some(4600)), [8, 4, 0, 12, 0];
         1000 BETA Head(1) => Row(Kind::Plain, 16, Some(20), Some(4600)), [8, 4, 0, 12, 0];
     }
-    "what was charged once counts for ever, also where the blocks are free again" by numbers!(last_total: 2) => {
+    "what was charged once counts for ever, also where the blocks are free again" (last_total: 2) => {
         1000 ACME Post(Some(10)) => Created(1, Some(4600)), [0, 0, 12, 0, 0];
         1000 BETA Post(Some(10)) => Created(1, Some(4600)), [0, 0, 12, 0, 0];
         1000 ACME Patch(1, 0, b"hello") => Appended(5, Some(4600)), [2, 0, 10, 2, 0];
@@ -34,21 +36,21 @@ static QUOTAS: [Table; 6] = tables! {
         1000 ACME Delete(1) => Removed(2, 2), [0, 0, 12, 2, 2];
         1000 BETA Patch(1, 0, b"x") => RefusedPatch(Refusal::Spent, Some(4600)), [0, 0, 12, 2, 2];
     }
-    "past the length before past the total, and that before past the quota" by numbers!(last_total: 8) => {
+    "past the length before past the total, and that before past the quota" (last_total: 8) => {
         1000 ACME Post(Some(32)) => Created(1, Some(4600)), [0, 0, 12, 0, 0];
         1000 ACME Patch(1, 0, b"abcdefghijklmnopqrstuvwxyz012345") => Appended(32, None), [8, 0, 4, 8, 0];
         1000 ACME Post(Some(1)) => Created(2, Some(4600)), [8, 0, 4, 8, 0];
         1000 ACME Patch(2, 0, b"x") => RefusedPatch(Refusal::Spent, Some(4600)), [8, 0, 4, 8, 0];
         1000 ACME Patch(2, 0, b"xy") => RefusedPatch(Refusal::TooLong, Some(4600)), [8, 0, 4, 8, 0];
     }
-    "past the length before past the quota" by numbers!(last_total: 9) => {
+    "past the length before past the quota" (last_total: 9) => {
         1000 ACME Post(Some(32)) => Created(1, Some(4600)), [0, 0, 12, 0, 0];
         1000 ACME Patch(1, 0, b"abcdefghijklmnopqrstuvwxyz012345") => Appended(32, None), [8, 0, 4, 8, 0];
         1000 ACME Post(Some(1)) => Created(2, Some(4600)), [8, 0, 4, 8, 0];
         1000 ACME Patch(2, 0, b"x") => RefusedPatch(Refusal::Quota, Some(4600)), [8, 0, 4, 8, 0];
         1000 ACME Patch(2, 0, b"xy") => RefusedPatch(Refusal::TooLong, Some(4600)), [8, 0, 4, 8, 0];
     }
-    "an empty PATCH costs nothing, also where quota and total are used up" by numbers!(last_total: 8) => {
+    "an empty PATCH costs nothing, also where quota and total are used up" (last_total: 8) => {
         1000 ACME Post(Some(28)) => Created(1, Some(4600)), [0, 0, 12, 0, 0];
         1000 ACME Patch(1, 0, b"abcdefghijklmnopqrstuvwxyz01") => Appended(28, None), [7, 0, 5, 7, 0];
         1000 ACME Post(Some(10)) => Created(2, Some(4600)), [7, 0, 5, 7, 0];

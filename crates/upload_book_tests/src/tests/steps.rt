@@ -10,7 +10,7 @@ use upload_book::{
     Appended, Book, Chunk, Content, Created, FirstChunk, HeadRow, Kind, Moment, Name, Numbers,
     Payload, Refusal, Refused, Removed, Swept,
 };
-use worked_example::NUMBERS;
+use worked_example::Table;
 
 /// A call of a book.
 #[derive(Clone, Copy)]
@@ -74,42 +74,20 @@ pub struct Step {
     pub after: [u64; 5],
 }
 
-/// Steps that a book of these numbers is taken through.
-#[derive(Clone, Copy)]
-pub struct Table {
-    pub name: &'static str,
-    pub numbers: Numbers,
-    pub steps: &'static [Step],
-}
-
-/// A table without steps.
-pub const NO_TABLE: Table = Table {
-    name: "",
-    numbers: NUMBERS,
-    steps: &[],
-};
-
-/// Tables, each `name => { steps }` or `name by numbers => { steps }`, of steps `secs tenant call => told, after;`.
-macro_rules! tables {
-    ($($name:literal $(by $numbers:expr)? => {
-        $($secs:literal $tenant:ident $call:expr => $told:expr, $after:expr;)*
-    })*) => {
-        [$($crate::tests::steps::Table {
-            name: $name,
-            $(numbers: $numbers,)?
-            steps: &[$($crate::tests::steps::Step {
-                secs: $secs,
-                tenant: $tenant,
-                call: $call,
-                told: $told,
-                after: $after,
-            }),*],
-            ..$crate::tests::steps::NO_TABLE
+/// Steps, each `secs tenant call => told, after;`.
+macro_rules! steps {
+    ($($secs:literal $tenant:ident $call:expr => $told:expr, $after:expr;)*) => {
+        [$($crate::tests::steps::Step {
+            secs: $secs,
+            tenant: $tenant,
+            call: $call,
+            told: $told,
+            after: $after,
         }),*]
     };
 }
 
-pub(crate) use tables;
+pub(crate) use steps;
 
 fn secs(expires: Option<Moment>) -> Option<u64> {
     expires.map(|end| end.secs())
@@ -455,7 +433,7 @@ fn take(rt: &impl Abort, pair: &mut Pair, at: At, step: &Step) {
 }
 
 /// Takes a new book of these numbers, and a new plain one, through the steps of a table.
-pub fn run(rt: &impl Abort, alloc: Global, numbers: Numbers, table: &Table) {
+pub fn run(rt: &impl Abort, alloc: Global, numbers: Numbers, table: &Table<Step>) {
     let mut pair = Pair {
         book: new_book(rt, alloc, numbers),
         plain: PlainBook::new(alloc, numbers, [8, 4]),
@@ -470,7 +448,7 @@ pub fn run(rt: &impl Abort, alloc: Global, numbers: Numbers, table: &Table) {
 }
 
 /// Takes new books through these tables, each by its own numbers.
-pub fn check(rt: &impl Abort, alloc: Global, tables: &[Table]) {
+pub fn check(rt: &impl Abort, alloc: Global, tables: &[Table<Step>]) {
     for table in tables {
         run(rt, alloc, table.numbers, table);
     }

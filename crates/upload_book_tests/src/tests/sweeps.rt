@@ -3,13 +3,14 @@
 use crate::tests::books::{ACME, BETA, create, moment};
 use crate::tests::steps::Call::{Delete, Expiries, Get, Head, Join, Partial, Patch, Post, Sweep};
 use crate::tests::steps::Told::{Appended, Bytes, Created, Expire, Refused, Removed, Row, Swept};
-use crate::tests::steps::{Table, check, tables};
+use crate::tests::steps::{Step, check, steps};
 use std::process::Abort;
 use std::test::Fail;
 use upload_book::{Book, Kind, Refusal, Settings};
-use worked_example::NUMBERS;
+use worked_example::{NUMBERS, Table, tables};
 
-static SWEEPS: [Table; 9] = tables! {
+static SWEEPS: [Table<Step>; 9] = tables! {
+    steps;
     "an expired upload costs its blocks until a sweep ends it" => {
         1000 ACME Post(Some(10)) => Created(1, Some(4600)), [0, 0, 12, 0, 0];
         1000 ACME Patch(1, 0, b"hello") => Appended(5, Some(4600)), [2, 0, 10, 2, 0];

@@ -1,6 +1,6 @@
 //! Single uploads: how they take their bytes, when they expire, and what is refused.
 
-use crate::tests::books::{ACME, BETA, HELLO, NOTHING, numbers};
+use crate::tests::books::{ACME, BETA, HELLO, NOTHING};
 use crate::tests::steps::Call::{
     Checked, Delete, Get, Head, Patch, PatchOf, Post, PostChecked, PostUntyped, PostWith, Sweep,
     Untyped,
@@ -8,11 +8,13 @@ use crate::tests::steps::Call::{
 use crate::tests::steps::Told::{
     Appended, Bytes, Created, Refused, RefusedPatch, Removed, Row, Swept,
 };
-use crate::tests::steps::{Table, check, tables};
+use crate::tests::steps::{Step, check, steps};
 use tus_text::Checksum;
 use upload_book::{Kind, Refusal};
+use worked_example::{Table, tables};
 
-static UPLOADS: [Table; 13] = tables! {
+static UPLOADS: [Table<Step>; 13] = tables! {
+    steps;
     "five bytes, a wrong offset, bytes past the length, and the other five" => {
         1000 ACME Post(Some(10)) => Created(1, Some(4600)), [0, 0, 12, 0, 0];
         1000 ACME Patch(1, 0, b"hello") => Appended(5, Some(4600)), [2, 0, 10, 2, 0];
@@ -103,7 +105,7 @@ static UPLOADS: [Table; 13] = tables! {
         1000 ACME PostChecked(Some(20), HELLO, b"0123456789012") => Refused(Refusal::Mismatch), [5, 4, 3, 9, 0];
         1000 ACME Delete(2) => Removed(2, 2), [3, 4, 5, 9, 2];
     }
-    "blocks that all tenants may be charged in all are used up by a creation too" by numbers!(last_total: 3) => {
+    "blocks that all tenants may be charged in all are used up by a creation too" (last_total: 3) => {
         1000 ACME PostWith(Some(10), b"hello") => Created(1, Some(4600)), [2, 0, 10, 2, 0];
         1000 BETA PostWith(Some(10), b"hello") => Refused(Refusal::Spent), [2, 0, 10, 2, 0];
         1000 BETA PostWith(Some(10), b"hell") => Created(1, Some(4600)), [2, 1, 9, 3, 0];
@@ -113,13 +115,13 @@ static UPLOADS: [Table; 13] = tables! {
         1000 ACME Post(Some(64)) => Created(1, Some(4600)), [0, 0, 12, 0, 0];
         1000 ACME Head(2) => Refused(Refusal::Unknown), [0, 0, 12, 0, 0];
     }
-    "an id is used up, also where its upload has ended" by numbers!(last_id: 2) => {
+    "an id is used up, also where its upload has ended" (last_id: 2) => {
         1000 ACME Post(Some(1)) => Created(1, Some(4600)), [0, 0, 12, 0, 0];
         1000 ACME Delete(1) => Removed(0, 0), [0, 0, 12, 0, 0];
         1000 ACME Post(Some(1)) => Created(2, Some(4600)), [0, 0, 12, 0, 0];
         1000 ACME Post(Some(1)) => Refused(Refusal::Spent), [0, 0, 12, 0, 0];
     }
-    "an expired upload counts until a sweep ends it, and one that was ended does not; damaged bytes are told first" by numbers!(uploads: 1) => {
+    "an expired upload counts until a sweep ends it, and one that was ended does not; damaged bytes are told first" (uploads: 1) => {
         1000 ACME Post(Some(1)) => Created(1, Some(4600)), [0, 0, 12, 0, 0];
         4600 ACME Post(Some(1)) => Refused(Refusal::Uploads), [0, 0, 12, 0, 0];
         4600 ACME PostChecked(Some(5), Checksum::Other, b"hello") => Refused(Refusal::Algorithm), [0, 0, 12, 0, 0];
