@@ -322,8 +322,8 @@ where
     })
 }
 
-/// What the workers share, which watches them where the options ask for that. The error is that there is no memory, or that one
-/// of the files and sockets for it can't be had.
+/// What the workers share, which has them watched where the options ask for a log or a port for numbers. The error is that there
+/// is no memory, or that one of the files and sockets for it can't be had.
 fn server_state_for<
     H: Threads
         + Wait
@@ -343,8 +343,13 @@ fn server_state_for<
 ) -> Result<ServerState, RunFault>
     ensures { IfErr result (λ fault. is_before_listening fault ≡ true) }
 {
-    let server_state = ServerState::new(alloc, options.workers, work)?;
-    let mut server_state = watched(rt, alloc, server_state, options, place)?;
+    let mut server_state = ServerState::new(alloc, options.workers, work)?;
+    if options.log.is_some() || options.metrics.is_some() {
+        let log = log_at(rt, options.log)?;
+        let metrics = metrics_at(rt, place, options.metrics)?;
+        let pages = File::open(rt, "/proc/self/statm").ok();
+        server_state.watch_by(Watching::new(rt, alloc, log, pages), metrics);
+    }
     server_state.watch(rt)?;
     Ok(server_state)
 }
@@ -409,36 +414,6 @@ where
         Some(_) => None,
         None => Some(listener),
     }
-}
-
-/// Has the workers watched, where the options ask for a log or a port for numbers. The error is that the file of the log can't
-/// be opened, or that the port can't be had.
-fn watched<
-    H: Threads
-        + Wait
-        + Net<Stream = TcpStream, Listener = TcpListener>
-        + time::Clock
-        + Eprint
-        + Files<File = File>
-        + Send
-        + Copy
-        + 'static,
->(
-    rt: &H,
-    alloc: Global,
-    mut server_state: ServerState,
-    options: &ServeOptions,
-    place: SocketAddr,
-) -> Result<ServerState, RunFault>
-    ensures { IfErr result IsOfWatching }
-{
-    if options.log.is_some() || options.metrics.is_some() {
-        let log = log_at(rt, options.log)?;
-        let metrics = metrics_at(rt, place, options.metrics)?;
-        let pages = File::open(rt, "/proc/self/statm").ok();
-        server_state.watch_by(Watching::new(rt, alloc, log, pages), metrics);
-    }
-    Ok(server_state)
 }
 
 /// Where the lines of the log go, if there is one. The error is that its file can't be opened.

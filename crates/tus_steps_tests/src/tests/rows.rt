@@ -1,5 +1,4 @@
 //! Rows: requests one after another at a book, and what each is told.
-use crate::tests::books::book;
 use crate::tests::requests::Sent;
 use crate::tests::told::{Told, told_by};
 use std::alloc::Global;
@@ -7,6 +6,7 @@ use std::process::Abort;
 use std::test::Fail;
 use tus_steps::answer;
 use upload_book::{Book, Moment};
+use worked_example::{Table, settings_of};
 
 /// A request at a moment in seconds, and what its reply tells.
 pub(crate) struct Row<'a> {
@@ -28,13 +28,24 @@ macro_rules! rows {
 
 pub(crate) use rows;
 
-/// Asks a new book what the rows of a table of this name ask, in turn.
-pub(crate) fn check(rt: &impl Abort, alloc: Global, table: &str, rows: &[Row]) -> Result<(), Fail> {
-    let mut book = book(alloc)?;
-    for (place, row) in rows.iter().enumerate() {
-        assert!(rt; is_told(rt, &mut book, row), "{table}: row {place}");
+/// Asks a new book what the rows of each table ask, in turn.
+pub(crate) fn check(
+    rt: &impl Abort,
+    alloc: Global,
+    tables: &[Table<Row<'static>>],
+) -> Result<(), Fail> {
+    for table in tables {
+        let mut book = Book::new(alloc, settings_of(table.numbers)?)?;
+        check_rows(rt, &mut book, table.name, table.steps);
     }
     Ok(())
+}
+
+// Asks a book what the rows of a table of this name ask.
+fn check_rows(rt: &impl Abort, book: &mut Book, table: &str, rows: &[Row]) {
+    for (place, row) in rows.iter().enumerate() {
+        assert!(rt; is_told(rt, book, row), "{table}: row {place}");
+    }
 }
 
 // Whether a book tells what the row says.

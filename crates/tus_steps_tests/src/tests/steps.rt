@@ -8,23 +8,10 @@ use std::test::Fail;
 use tus_steps::Field::{Absent, Many, One};
 use tus_steps::{Method, TusFields};
 use upload_book::Refusal;
+use worked_example::{Table, tables};
 
-// Rows of which each is asked after those before it.
-struct Table {
-    name: &'static str,
-    rows: &'static [Row<'static>],
-}
-
-macro_rules! tables {
-    ($($name:literal => { $($row:tt)* })*) => {
-        [$(Table {
-            name: $name,
-            rows: &rows! { $($row)* },
-        }),*]
-    };
-}
-
-static TABLES: [Table; 11] = tables! {
+static TABLES: [Table<Row>; 11] = tables! {
+    rows;
     "an upload grows to its end" => {
         1000 Post b"/files/acme" [length: One(b"10")] b"" => Created(1, None, Some(4600));
         1000 Patch b"/files/acme/1" [offset: One(b"0"), media: TYPED] b"hello" => Patched(5, Some(4600));
@@ -137,8 +124,5 @@ static TABLES: [Table; 11] = tables! {
 
 #[test]
 fn steps(rt: HostRuntime) -> Result<(), Fail> {
-    for table in &TABLES {
-        check(&rt, rt.alloc(), table.name, table.rows)?;
-    }
-    Ok(())
+    check(&rt, rt.alloc(), &TABLES)
 }
