@@ -1,5 +1,5 @@
 //! What values of Upload-Checksum say.
-use std::process::Abort;
+use crate::rows::assert_rows;
 use tus_text::{Checksum, DIGEST_LEN, read_checksum};
 
 // The digest of `hello`, as sha1sum has it.
@@ -34,13 +34,11 @@ static CHECKSUMS: [(&[u8], Option<Checksum>); 20] = [
     (b"sha1 qvTGHdzF6KLavt4PO0gs2a6pQ00A", None),
 ];
 
-fn assert_checksum(rt: &impl Abort, text: &[u8], checksum: Option<Checksum>, row: usize) {
-    assert!(rt; read_checksum(text) == checksum, "row {row}");
+fn is_checksum(text: &[u8], checksum: Option<Checksum>) -> bool {
+    read_checksum(text) == checksum
 }
 
 #[test]
 fn checksums(rt: HostRuntime) {
-    for (row, (text, checksum)) in CHECKSUMS.iter().enumerate() {
-        assert_checksum(&rt, text, *checksum, row);
-    }
+    assert_rows(&rt, &CHECKSUMS, is_checksum);
 }

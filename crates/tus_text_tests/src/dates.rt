@@ -1,5 +1,6 @@
 //! Dates: as they are written, as the plain program writes them, and as they are read.
 use crate::plain::plain_expires;
+use crate::rows::assert_rows;
 use std::process::Abort;
 use tus_text::{read_expires, write_expires};
 
@@ -10,8 +11,8 @@ static DATES: [(u64, &[u8]); 4] = [
     (253_402_300_799, b"Fri, 31 Dec 9999 23:59:59 GMT"),
 ];
 
-fn assert_read(rt: &impl Abort, text: &[u8], secs: Option<u64>, row: usize) {
-    assert!(rt; read_expires(text) == secs, "row {row}");
+fn is_read(text: &[u8], secs: Option<u64>) -> bool {
+    read_expires(text) == secs
 }
 
 fn assert_written(rt: &impl Abort, secs: u64, text: &[u8], row: usize) {
@@ -24,7 +25,7 @@ fn assert_written(rt: &impl Abort, secs: u64, text: &[u8], row: usize) {
 fn dates(rt: HostRuntime) {
     for (row, (secs, text)) in DATES.iter().enumerate() {
         assert_written(&rt, *secs, text, row);
-        assert_read(&rt, text, Some(*secs), row);
+        assert!(rt; is_read(text, Some(*secs)), "row {row}");
     }
 }
 
@@ -42,7 +43,5 @@ static OTHER_FORMATS: [(&[u8], Option<u64>); 9] = [
 
 #[test]
 fn dates_of_other_formats(rt: HostRuntime) {
-    for (row, (text, secs)) in OTHER_FORMATS.iter().enumerate() {
-        assert_read(&rt, text, *secs, row);
-    }
+    assert_rows(&rt, &OTHER_FORMATS, is_read);
 }

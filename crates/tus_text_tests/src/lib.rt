@@ -19,4 +19,6 @@ mod paths;
 #[cfg(test)]
 mod plain;
 #[cfg(test)]
+mod rows;
+#[cfg(test)]
 mod tenants;

@@ -1,6 +1,6 @@
 //! Values of Upload-Metadata, by the reader and by the plain program.
 use crate::plain::plain_metadata;
-use std::process::Abort;
+use crate::rows::assert_rows;
 use tus_text::check_metadata;
 
 static METADATA: [(&[u8], bool); 25] = [
@@ -31,24 +31,21 @@ static METADATA: [(&[u8], bool); 25] = [
     (b"a\tYQ==,a\tYQ==", false),
 ];
 
-fn assert_metadata(rt: &impl Abort, text: &[u8], is_metadata: bool, row: usize) {
-    assert!(rt; check_metadata(text) == is_metadata, "row {row}");
-    assert!(rt; plain_metadata(text) == is_metadata, "row {row}");
+fn is_metadata(text: &[u8], is_some: bool) -> bool {
+    check_metadata(text) == is_some && plain_metadata(text) == is_some
 }
 
 #[test]
 fn metadata(rt: HostRuntime) {
-    for (row, (text, is_metadata)) in METADATA.iter().enumerate() {
-        assert_metadata(&rt, text, *is_metadata, row);
-    }
+    assert_rows(&rt, &METADATA, is_metadata);
 }
 
 static MANY_BYTES: [u8; 1_025] = [b'a'; 1_025];
 
 #[test]
 fn metadata_of_many_bytes(rt: HostRuntime) {
-    assert_metadata(&rt, &MANY_BYTES[1..], true, 0);
-    assert_metadata(&rt, &MANY_BYTES, false, 1);
+    assert!(rt; is_metadata(&MANY_BYTES[1..], true));
+    assert!(rt; is_metadata(&MANY_BYTES, false));
 }
 
 // 341 keys of two letters, `aa` to `nc`, with commas between them.

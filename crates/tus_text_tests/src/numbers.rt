@@ -1,6 +1,6 @@
 //! Numbers, by the reader and by the plain program.
 use crate::plain::plain_number;
-use std::process::Abort;
+use crate::rows::assert_rows;
 use tus_text::read_number;
 
 static NUMBERS: [(&[u8], Option<u64>); 14] = [
@@ -20,16 +20,13 @@ static NUMBERS: [(&[u8], Option<u64>); 14] = [
     (b"0000000000000000000000000000007", Some(7)),
 ];
 
-fn assert_number(rt: &impl Abort, text: &[u8], number: Option<u64>, row: usize) {
-    assert!(rt; read_number(text) == number, "row {row}");
-    assert!(rt; plain_number(text) == number, "row {row}");
+fn is_number(text: &[u8], number: Option<u64>) -> bool {
+    read_number(text) == number && plain_number(text) == number
 }
 
 #[test]
 fn numbers(rt: HostRuntime) {
-    for (row, (text, number)) in NUMBERS.iter().enumerate() {
-        assert_number(&rt, text, *number, row);
-    }
+    assert_rows(&rt, &NUMBERS, is_number);
 }
 
 #[test]

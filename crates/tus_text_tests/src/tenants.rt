@@ -1,5 +1,5 @@
 //! Names of tenants, and the texts that keep them.
-use std::process::Abort;
+use crate::rows::assert_rows;
 use tus_text::{Tenant, is_tenant_name};
 
 static TENANTS: [(&[u8], bool); 7] = [
@@ -12,15 +12,13 @@ static TENANTS: [(&[u8], bool); 7] = [
     (b"a/b", false),
 ];
 
-fn assert_name(rt: &impl Abort, name: &[u8], is_name: bool, row: usize) {
-    assert!(rt; is_tenant_name(name) == is_name, "row {row}");
+fn is_name(name: &[u8], is_one: bool) -> bool {
+    is_tenant_name(name) == is_one
 }
 
 #[test]
 fn tenants(rt: HostRuntime) {
-    for (row, (name, is_name)) in TENANTS.iter().enumerate() {
-        assert_name(&rt, name, *is_name, row);
-    }
+    assert_rows(&rt, &TENANTS, is_name);
 }
 
 #[test]
