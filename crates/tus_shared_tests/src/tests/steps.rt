@@ -7,8 +7,7 @@ use std::process::Abort;
 use std::sync::Wait;
 use std::test::Fail;
 use std::thread::Threads;
-use upload_book::Numbers;
-use worked_example::{NUMBERS, settings_of};
+use worked_example::{Table, settings_of};
 
 /// A call at a desk.
 #[derive(Clone, Copy)]
@@ -31,41 +30,20 @@ pub struct Step {
     pub settled: [u64; 4],
 }
 
-/// Steps at two desks of a store of these numbers.
-pub struct Table {
-    pub name: &'static str,
-    pub numbers: Numbers,
-    pub steps: &'static [Step],
-}
-
-/// A table without steps.
-pub const NO_TABLE: Table = Table {
-    name: "",
-    numbers: NUMBERS,
-    steps: &[],
-};
-
-/// Tables, each `name => { steps }` or `name by numbers => { steps }`, of steps `desk secs call => answer, settled;`.
-macro_rules! tables {
-    ($($name:literal $(by $numbers:expr)? => {
-        $($desk:literal $secs:literal $call:expr => $answer:expr, $settled:expr;)*
-    })*) => {
-        [$($crate::tests::steps::Table {
-            name: $name,
-            $(numbers: $numbers,)?
-            steps: &[$($crate::tests::steps::Step {
-                desk: $desk,
-                secs: $secs,
-                call: $call,
-                answer: $answer,
-                settled: $settled,
-            }),*],
-            ..$crate::tests::steps::NO_TABLE
+/// Steps, each `desk secs call => answer, settled;`.
+macro_rules! steps {
+    ($($desk:literal $secs:literal $call:expr => $answer:expr, $settled:expr;)*) => {
+        [$($crate::tests::steps::Step {
+            desk: $desk,
+            secs: $secs,
+            call: $call,
+            answer: $answer,
+            settled: $settled,
         }),*]
     };
 }
 
-pub(crate) use tables;
+pub(crate) use steps;
 
 /// How a desk is asked for its reply to a request.
 #[derive(Clone, Copy, Debug)]
@@ -91,7 +69,11 @@ pub fn assert_tells(rt: &impl Abort, answer: Answer, expected: Answer, at: At) {
 
 // Takes two desks through the steps of a table, in each way in which a desk answers. What stands behind the lock is seen
 // when they are settled, so they are opened anew for each beginning of the table, and settled after it.
-fn run<W: Threads + Wait + Abort + Sync>(rt: &W, alloc: Global, table: &Table) -> Result<(), Fail> {
+fn run<W: Threads + Wait + Abort + Sync>(
+    rt: &W,
+    alloc: Global,
+    table: &Table<Step>,
+) -> Result<(), Fail> {
     let name = table.name;
     for way in [Way::Call, Way::Answer, Way::Batch] {
         for (place, step) in table.steps.iter().enumerate() {
@@ -110,7 +92,7 @@ fn run<W: Threads + Wait + Abort + Sync>(rt: &W, alloc: Global, table: &Table) -
 pub fn check<W: Threads + Wait + Abort + Sync>(
     rt: &W,
     alloc: Global,
-    tables: &[Table],
+    tables: &[Table<Step>],
 ) -> Result<(), Fail> {
     for table in tables {
         run(rt, alloc, table)?;

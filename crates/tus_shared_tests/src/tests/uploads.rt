@@ -5,10 +5,10 @@ use crate::tests::requests::Asked::{
     Checked, Delete, Get, Head, Join, Partial, Patch, Post, Upload,
 };
 use crate::tests::steps::Call::{Ask, Look, Sweep};
-use crate::tests::steps::{Table, check, tables};
+use crate::tests::steps::{Step, check, steps};
 use std::test::Fail;
-use upload_book::{Numbers, Refusal};
-use worked_example::NUMBERS;
+use upload_book::Refusal;
+use worked_example::{Table, tables};
 
 const FIRST: &[u8] = b"/files/acme/1";
 
@@ -21,7 +21,8 @@ const THIRTY: &[u8] = b"abcdefghijklmnopqrstuvwxyzabcd";
 // The SHA-1 of `hello` (RFC 4648, section 4), as sha1sum has it.
 const HELLO_SUM: &[u8] = b"sha1 qvTGHdzF6KLavt4PO0gs2a6pQ00=";
 
-static UPLOADS: [Table; 11] = tables! {
+static UPLOADS: [Table<Step>; 11] = tables! {
+    steps;
     "one desk begins what the other ends, and each sees what the other did" => {
         0 1000 Ask(Post(b"10")) => Created(1, None, Some(4600)), [0, 0, 0, 12];
         0 1000 Ask(Patch(FIRST, b"0", b"hello")) => Patched(5, Some(4600)), [2, 0, 2, 10];
@@ -98,16 +99,16 @@ static UPLOADS: [Table; 11] = tables! {
         0 1000 Ask(Patch(FIRST, b"32", b"f")) => Refused(Refusal::Quota, Some(4600)), [8, 0, 8, 4];
         0 1000 Look(0, 1) => Row(32, Some(33), b"", Some(4600)), [8, 0, 8, 4];
     }
-    "there is room for one upload" by Numbers { uploads: 1, ..NUMBERS } => {
+    "there is room for one upload" (uploads: 1) => {
         0 1000 Ask(Post(b"10")) => Created(1, None, Some(4600)), [0, 0, 0, 12];
         1 1000 Ask(Post(b"10")) => Refused(Refusal::Uploads, None), [0, 0, 0, 12];
     }
-    "there is one id" by Numbers { last_id: 1, ..NUMBERS } => {
+    "there is one id" (last_id: 1) => {
         0 1000 Ask(Post(b"10")) => Created(1, None, Some(4600)), [0, 0, 0, 12];
         1 1000 Ask(Delete(FIRST)) => Deleted, [0, 0, 0, 12];
         0 1000 Ask(Post(b"10")) => Refused(Refusal::Spent, None), [0, 0, 0, 12];
     }
-    "two blocks are ever charged" by Numbers { last_total: 2, ..NUMBERS } => {
+    "two blocks are ever charged" (last_total: 2) => {
         0 1000 Ask(Post(b"10")) => Created(1, None, Some(4600)), [0, 0, 0, 12];
         0 1000 Ask(Post(b"10")) => Created(2, None, Some(4600)), [0, 0, 0, 12];
         0 1000 Ask(Patch(FIRST, b"0", b"hello")) => Patched(5, Some(4600)), [2, 0, 2, 10];
