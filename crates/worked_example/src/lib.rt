@@ -3,13 +3,10 @@
 #![tactic(auto)]
 
 mod messages;
-mod tables;
 
 pub use messages::{CREATED, HEAD, LOOKED, PATCH, PATCHED, POST};
-pub use tables::Table;
 use tus_steps::{Field, TusFields};
-pub use upload_book::Numbers;
-use upload_book::{Chunk, FirstChunk, Payload, Settings, SettingsFault};
+use upload_book::{Chunk, FirstChunk, Numbers, Payload, Settings, SettingsFault};
 
 /// 12 blocks of 4 bytes, a lifetime of an hour, and uploads of at most 64 bytes.
 pub const NUMBERS: Numbers = Numbers {

@@ -34,8 +34,8 @@ pub enum Scene<'a> {
     /// Two desks fill an upload, and once more, as they came back from the first batches, another one. Then what takes the
     /// lock is looked at.
     Stops,
-    /// Two desks are taken through these steps of the table of this name, each of them in this way.
-    Table(&'a str, Way, &'a [Step]),
+    /// Two desks are taken through these steps, each of them in this way.
+    Table(Way, &'a [Step]),
 }
 
 /// What is settled after a scene.
@@ -111,14 +111,9 @@ impl<
                 self.fill(b"/files/acme/2");
                 self.assert_heads_take_no_lock();
             }
-            Scene::Table(table, way, steps) => {
+            Scene::Table(way, steps) => {
                 for (place, step) in steps.iter().enumerate() {
-                    let at = At {
-                        table,
-                        place,
-                        way: *way,
-                    };
-                    self.take(step, at);
+                    self.take(step, At { place, way: *way });
                 }
             }
         }

@@ -7,7 +7,8 @@ use std::process::Abort;
 use std::sync::Wait;
 use std::test::Fail;
 use std::thread::Threads;
-use worked_example::{Table, settings_of};
+use upload_book::Numbers;
+use worked_example::{NUMBERS, settings_of};
 
 /// A call at a desk.
 #[derive(Clone, Copy)]
@@ -30,10 +31,10 @@ pub struct Step {
     pub settled: [u64; 4],
 }
 
-/// Steps, each `desk secs call => answer, settled;`.
+/// A table of steps, each `desk secs call => answer, settled;`.
 macro_rules! steps {
     ($($desk:literal $secs:literal $call:expr => $answer:expr, $settled:expr;)*) => {
-        [$($crate::tests::steps::Step {
+        [$(Step {
             desk: $desk,
             secs: $secs,
             call: $call,
@@ -53,49 +54,45 @@ pub enum Way {
     Batch,
 }
 
-/// Where a step stands: in the table of this name, at this place, and the way in which its request is asked.
+/// Where a step stands: its place in the table, and the way in which its request is asked.
 #[derive(Clone, Copy)]
-pub struct At<'a> {
-    pub table: &'a str,
+pub struct At {
     pub place: usize,
     pub way: Way,
 }
 
 /// What a desk tells is what the step here says, by each way in which it is asked.
 pub fn assert_tells(rt: &impl Abort, answer: Answer, expected: Answer, at: At) {
-    let At { table, place, way } = at;
-    assert!(rt; answer == expected, "{table}, step {place}, by {way:?}");
+    let At { place, way } = at;
+    assert!(rt; answer == expected, "step {place}, by {way:?}");
 }
 
-// Takes two desks through the steps of a table, in each way in which a desk answers. What stands behind the lock is seen
-// when they are settled, so they are opened anew for each beginning of the table, and settled after it.
-fn run<W: Threads + Wait + Abort + Sync>(
+/// Takes two desks through the steps of a table, in each way in which a desk answers. What stands behind the lock
+/// is seen when they are settled, so they are opened anew for each beginning of the table, and settled after it.
+pub fn run<W: Threads + Wait + Abort + Sync>(
     rt: &W,
     alloc: Global,
-    table: &Table<Step>,
+    steps: &[Step],
 ) -> Result<(), Fail> {
-    let name = table.name;
+    run_with(rt, alloc, NUMBERS, steps)
+}
+
+/// The same with other numbers of the settings.
+pub fn run_with<W: Threads + Wait + Abort + Sync>(
+    rt: &W,
+    alloc: Global,
+    numbers: Numbers,
+    steps: &[Step],
+) -> Result<(), Fail> {
     for way in [Way::Call, Way::Answer, Way::Batch] {
-        for (place, step) in table.steps.iter().enumerate() {
-            let scene = Scene::Table(name, way, &table.steps[..place + 1]);
-            let settled = played(rt, alloc, settings_of(table.numbers)?, 2, &scene)?;
+        for (place, step) in steps.iter().enumerate() {
+            let table = Scene::Table(way, &steps[..place + 1]);
+            let settled = played(rt, alloc, settings_of(numbers)?, 2, &table)?;
             assert!(rt;
                 settled.numbers == step.settled,
-                "{name}: after step {place}, by {way:?}"
+                "after step {place}, by {way:?}"
             );
         }
-    }
-    Ok(())
-}
-
-/// Takes two desks through each of these tables.
-pub fn check<W: Threads + Wait + Abort + Sync>(
-    rt: &W,
-    alloc: Global,
-    tables: &[Table<Step>],
-) -> Result<(), Fail> {
-    for table in tables {
-        run(rt, alloc, table)?;
     }
     Ok(())
 }

@@ -10,80 +10,62 @@ use tus_workers::{Accept, Listener};
 
 /// A listener of which each acceptor gives one connection and then fails. None is told of connections.
 #[derive(Drop)]
-pub struct Script {
-    listener: TcpListener,
-    asked: SocketAddr,
-    place: SocketAddr,
+pub struct Script<L> {
+    listener: L,
 }
 
 #[derive(Drop)]
-pub struct ScriptedAcceptor {
-    listener: TcpListener,
-    accepted: u64,
-    failed: bool,
-    stopped: bool,
+pub struct ScriptedAcceptor<A> {
+    acceptor: A,
+    has_given: bool,
 }
 
-impl Listener for Script {
-    type Acceptor = ScriptedAcceptor;
+impl<L: Listener> Listener for Script<L> {
+    type Acceptor = ScriptedAcceptor<L::Acceptor>;
 
-    ghost asked = { λ s. s.asked };
+    ghost asked = { λ s. L.asked s.listener };
 
-    ghost place = { λ s. s.place };
+    ghost place = { λ s. L.place s.listener };
 
     fn listen<N: Net<Stream = TcpStream, Listener = TcpListener>>(
         net: &N,
         wanted: SocketAddr,
     ) -> io::Result<Self> {
-        let listener = TcpListener::bind(net, wanted)?;
-        let place = listener.local_addr()?;
-        Ok(Script {
-            listener,
-            asked: wanted,
-            place,
-        })
+        let listener = L::listen(net, wanted)?;
+        Ok(Script { listener })
     }
 
     fn place(&self) -> SocketAddr {
-        self.place
+        self.listener.place()
     }
 
-    fn acceptor(&self) -> io::Result<ScriptedAcceptor> {
+    fn acceptor(&self) -> io::Result<ScriptedAcceptor<L::Acceptor>> {
+        let acceptor = self.listener.acceptor()?;
         Ok(ScriptedAcceptor {
-            listener: self.listener.try_clone()?,
-            accepted: 0,
-            failed: false,
-            stopped: false,
+            acceptor,
+            has_given: false,
         })
     }
 }
 
-impl Accept for ScriptedAcceptor {
-    ghost accepted = { λ a. a.accepted };
+impl<A: Accept> Accept for ScriptedAcceptor<A> {
+    ghost accepted = { λ a. A.accepted a.acceptor };
 
-    ghost has_failed = { λ a. a.failed };
+    ghost has_failed = { λ a. A.has_failed a.acceptor };
 
-    ghost is_stopped = { λ a. a.stopped };
+    ghost is_stopped = { λ a. A.is_stopped a.acceptor };
 
     fn accept(&mut self) -> io::Result<TcpStream> {
-        if self.accepted > 0 {
-            self.failed = true;
+        if self.has_given {
+            self.acceptor.give_up();
             return Err(io::Error::from(ErrorKind::Other));
         }
-        match self.listener.accept() {
-            Ok((stream, _)) => {
-                self.accepted += 1;
-                Ok(stream)
-            }
-            Err(error) => {
-                self.failed = true;
-                Err(error)
-            }
-        }
+        self.has_given = true;
+        self.acceptor.accept()
     }
 
     fn failed(&self) -> bool {
-        self.failed
+        self.acceptor.failed()
     }
 
     fn listen_with(&mut self, _registry: &Registry, _token: Token) -> io::Result<()> {
@@ -99,10 +81,10 @@ impl Accept for ScriptedAcceptor {
     }
 
     fn give_up(&mut self) {
-        self.failed = true;
+        self.acceptor.give_up();
     }
 
     fn stop(&mut self) {
-        self.stopped = true;
+        self.acceptor.stop();
     }
 }

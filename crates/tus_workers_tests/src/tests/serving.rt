@@ -67,7 +67,7 @@ impl<
         match scene {
             Scene::AtOnce(connections) => self.serve_all(*connections),
             Scene::Both => self.serve_both::<SocketListener>(1, false),
-            Scene::BothUntilAFault => self.serve_both::<Script>(3, true),
+            Scene::BothUntilAFault => self.serve_both::<Script<SocketListener>>(3, true),
             Scene::Rows(rows) => self.serve_rows(rows),
         }
     }

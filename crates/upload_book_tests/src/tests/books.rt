@@ -17,6 +17,18 @@ pub const ACME: &[u8] = b"acme";
 
 pub const BETA: &[u8] = b"beta";
 
+/// The numbers of the worked example but for these fields.
+macro_rules! numbers {
+    ($($name:ident: $value:expr),*) => {
+        upload_book::Numbers {
+            $($name: $value,)*
+            ..worked_example::NUMBERS
+        }
+    };
+}
+
+pub(crate) use numbers;
+
 /// The digest of `hello` by SHA-1, as sha1sum has it.
 pub const HELLO: Checksum = Checksum::Sha1([
     0xaa, 0xf4, 0xc6, 0x1d, 0xdc, 0xc5, 0xe8, 0xa2, 0xda, 0xbe, 0xde, 0x0f, 0x3b, 0x48, 0x2c, 0xd9,

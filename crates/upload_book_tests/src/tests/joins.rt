@@ -1,163 +1,224 @@
 //! Final uploads: what they are made of, what they cost, and what becomes of their blocks.
 
-use crate::tests::books::{ACME, BETA};
+use crate::tests::books::{ACME, BETA, numbers};
 use crate::tests::steps::Call::{Delete, Get, Head, Join, Partial, Patch, Post};
 use crate::tests::steps::Told::{Appended, Bytes, Created, Refused, RefusedPatch, Removed, Row};
-use crate::tests::steps::{Step, check, run, steps};
+use crate::tests::steps::{Step, run, steps};
 use upload_book::{Kind, Refusal};
-use worked_example::{Table, numbers, tables};
+use worked_example::NUMBERS;
 
-const THIRTY_TWO: [Option<u64>; 32] = [Some(1); 32];
-
-static JOINS: [Table<Step>; 10] = tables! {
-    steps;
-    "two partial uploads and a final one over them, which keeps its bytes when they end" => {
-        1000 ACME Partial(Some(5)) => Created(1, Some(4600)), [0, 0, 12, 0, 0];
-        1000 ACME Patch(1, 0, b"abcde") => Appended(5, Some(4600)), [2, 0, 10, 2, 0];
-        1000 ACME Partial(Some(2)) => Created(2, Some(4600)), [2, 0, 10, 2, 0];
-        1000 ACME Patch(2, 0, b"fg") => Appended(2, Some(4600)), [3, 0, 9, 3, 0];
-        1000 ACME Join(&[Some(1), Some(2)]) => Created(3, None), [3, 0, 9, 3, 0];
-        1000 ACME Head(3) => Row(Kind::Final, 7, Some(7), None), [3, 0, 9, 3, 0];
-        1000 ACME Patch(3, 7, b"") => RefusedPatch(Refusal::IsFinal, None), [3, 0, 9, 3, 0];
-        1000 ACME Delete(1) => Removed(0, 0), [3, 0, 9, 3, 0];
-        1000 ACME Delete(2) => Removed(0, 0), [3, 0, 9, 3, 0];
-        1000 ACME Get(3) => Bytes(b"abcdefg"), [3, 0, 9, 3, 0];
-        1000 ACME Delete(3) => Removed(3, 3), [0, 0, 12, 3, 3];
-        1000 ACME Get(3) => Refused(Refusal::Gone), [0, 0, 12, 3, 3];
-    }
-    "parts in another order than they were sent, and one part twice" => {
-        1000 ACME Partial(Some(5)) => Created(1, Some(4600)), [0, 0, 12, 0, 0];
-        1000 ACME Patch(1, 0, b"abcde") => Appended(5, Some(4600)), [2, 0, 10, 2, 0];
-        1000 ACME Join(&[Some(1), Some(1)]) => Created(2, None), [2, 0, 10, 2, 0];
-        1000 ACME Partial(Some(2)) => Created(3, Some(4600)), [2, 0, 10, 2, 0];
-        1000 ACME Patch(3, 0, b"fg") => Appended(2, Some(4600)), [3, 0, 9, 3, 0];
-        1000 ACME Join(&[Some(3), Some(1), Some(3)]) => Created(4, None), [3, 0, 9, 3, 0];
-        1000 ACME Delete(1) => Removed(0, 0), [3, 0, 9, 3, 0];
-        1000 ACME Get(2) => Bytes(b"abcdeabcde"), [3, 0, 9, 3, 0];
-        1000 ACME Get(4) => Bytes(b"fgabcdefg"), [3, 0, 9, 3, 0];
-        1000 ACME Delete(4) => Removed(0, 0), [3, 0, 9, 3, 0];
-        1000 ACME Delete(2) => Removed(2, 2), [1, 0, 11, 3, 2];
-    }
-    "two final uploads of one part, which its tenant pays once until the last of the three ends" => {
-        1000 ACME Partial(Some(5)) => Created(1, Some(4600)), [0, 0, 12, 0, 0];
-        1000 ACME Patch(1, 0, b"abcde") => Appended(5, Some(4600)), [2, 0, 10, 2, 0];
-        1000 ACME Join(&[Some(1)]) => Created(2, None), [2, 0, 10, 2, 0];
-        1000 ACME Join(&[Some(1)]) => Created(3, None), [2, 0, 10, 2, 0];
-        1000 ACME Delete(1) => Removed(0, 0), [2, 0, 10, 2, 0];
-        1000 ACME Delete(2) => Removed(0, 0), [2, 0, 10, 2, 0];
-        1000 ACME Get(3) => Bytes(b"abcde"), [2, 0, 10, 2, 0];
-        1000 ACME Delete(3) => Removed(2, 2), [0, 0, 12, 2, 2];
-        1000 ACME Head(3) => Refused(Refusal::Gone), [0, 0, 12, 2, 2];
-    }
-    "a part goes on living beside its final upload, and each end of either changes nothing of the other" => {
-        1000 ACME Partial(Some(5)) => Created(1, Some(4600)), [0, 0, 12, 0, 0];
-        1000 ACME Patch(1, 0, b"abcde") => Appended(5, Some(4600)), [2, 0, 10, 2, 0];
-        1000 ACME Join(&[Some(1)]) => Created(2, None), [2, 0, 10, 2, 0];
-        2000 ACME Patch(1, 5, b"") => Appended(5, Some(5600)), [2, 0, 10, 2, 0];
-        2000 ACME Patch(1, 5, b"f") => RefusedPatch(Refusal::TooLong, Some(5600)), [2, 0, 10, 2, 0];
-        2000 ACME Head(2) => Row(Kind::Final, 5, Some(5), None), [2, 0, 10, 2, 0];
-        2000 ACME Delete(2) => Removed(0, 0), [2, 0, 10, 2, 0];
-        2000 ACME Get(1) => Bytes(b"abcde"), [2, 0, 10, 2, 0];
-        2000 ACME Join(&[Some(1)]) => Created(3, None), [2, 0, 10, 2, 0];
-        2000 ACME Head(2) => Refused(Refusal::Gone), [2, 0, 10, 2, 0];
-    }
-    "as many parts as there may be" => {
-        1000 ACME Partial(Some(2)) => Created(1, Some(4600)), [0, 0, 12, 0, 0];
-        1000 ACME Patch(1, 0, b"ab") => Appended(2, Some(4600)), [1, 0, 11, 1, 0];
-        1000 ACME Join(&THIRTY_TWO) => Created(2, None), [1, 0, 11, 1, 0];
-        1000 ACME Head(2) => Row(Kind::Final, 64, Some(64), None), [1, 0, 11, 1, 0];
-        1000 ACME Delete(1) => Removed(0, 0), [1, 0, 11, 1, 0];
-        1000 ACME Get(2) => Bytes(b"abababababababababababababababababababababababababababababababab"), [1, 0, 11, 1, 0];
-        1000 ACME Delete(2) => Removed(1, 1), [0, 0, 12, 1, 1];
-    }
-    "as many parts without bytes" => {
-        1000 ACME Partial(Some(0)) => Created(1, Some(4600)), [0, 0, 12, 0, 0];
-        1000 ACME Join(&THIRTY_TWO) => Created(2, None), [0, 0, 12, 0, 0];
-        1000 ACME Head(2) => Row(Kind::Final, 0, Some(0), None), [0, 0, 12, 0, 0];
-        1000 ACME Get(2) => Bytes(b""), [0, 0, 12, 0, 0];
-        1000 ACME Delete(2) => Removed(0, 0), [0, 0, 12, 0, 0];
-    }
-    "uploads that are no parts: not complete, no partial one, of another tenant, never given, expired or ended" => {
-        1000 ACME Partial(Some(5)) => Created(1, Some(4600)), [0, 0, 12, 0, 0];
-        1000 ACME Post(Some(0)) => Created(2, None), [0, 0, 12, 0, 0];
-        1000 BETA Partial(Some(0)) => Created(1, Some(4600)), [0, 0, 12, 0, 0];
-        1000 ACME Join(&[Some(1)]) => Refused(Refusal::PartOpen), [0, 0, 12, 0, 0];
-        1000 ACME Join(&[Some(2)]) => Refused(Refusal::Part), [0, 0, 12, 0, 0];
-        1000 ACME Join(&[None]) => Refused(Refusal::Part), [0, 0, 12, 0, 0];
-        1000 ACME Join(&[Some(9)]) => Refused(Refusal::Part), [0, 0, 12, 0, 0];
-        1000 ACME Join(&[Some(1), Some(2)]) => Refused(Refusal::Part), [0, 0, 12, 0, 0];
-        1000 ACME Patch(1, 0, b"abc") => Appended(3, Some(4600)), [1, 0, 11, 1, 0];
-        1000 ACME Join(&[Some(1)]) => Refused(Refusal::PartOpen), [1, 0, 11, 1, 0];
-        1000 ACME Patch(1, 3, b"de") => Appended(5, Some(4600)), [2, 0, 10, 2, 0];
-        4600 ACME Join(&[Some(1)]) => Refused(Refusal::Part), [2, 0, 10, 2, 0];
-        1000 ACME Join(&[Some(1)]) => Created(3, None), [2, 0, 10, 2, 0];
-        1000 ACME Join(&[Some(3)]) => Refused(Refusal::Part), [2, 0, 10, 2, 0];
-        1000 ACME Delete(1) => Removed(0, 0), [2, 0, 10, 2, 0];
-        1000 ACME Join(&[Some(1)]) => Refused(Refusal::Part), [2, 0, 10, 2, 0];
-        1000 ACME Partial(None) => Created(4, Some(4600)), [2, 0, 10, 2, 0];
-        1000 ACME Patch(4, 0, b"f") => Appended(1, Some(4600)), [3, 0, 9, 3, 0];
-        1000 ACME Join(&[Some(4)]) => Refused(Refusal::PartOpen), [3, 0, 9, 3, 0];
-    }
-    "the bytes of parts are counted as often as they are named, against the greatest size, and never against the quota" => {
-        1000 ACME Partial(Some(30)) => Created(1, Some(4600)), [0, 0, 12, 0, 0];
-        1000 ACME Patch(1, 0, b"abcdefghijklmnopqrstuvwxyz0123") => Appended(30, Some(4600)), [8, 0, 4, 8, 0];
-        1000 ACME Join(&[Some(1), Some(1), Some(1)]) => Refused(Refusal::TooLong), [8, 0, 4, 8, 0];
-        1000 ACME Join(&[Some(1), Some(1)]) => Created(2, None), [8, 0, 4, 8, 0];
-        1000 ACME Head(2) => Row(Kind::Final, 60, Some(60), None), [8, 0, 4, 8, 0];
-        1000 ACME Delete(1) => Removed(0, 0), [8, 0, 4, 8, 0];
-    }
-    "with room for two uploads and two ids, each refusal comes before the next in the order" (uploads: 2, last_id: 2) => {
-        1000 ACME Partial(Some(30)) => Created(1, Some(4600)), [0, 0, 12, 0, 0];
-        1000 ACME Patch(1, 0, b"abcdefghijklmnopqrstuvwxyz0123") => Appended(30, Some(4600)), [8, 0, 4, 8, 0];
-        1000 ACME Partial(Some(1)) => Created(2, Some(4600)), [8, 0, 4, 8, 0];
-        1000 ACME Join(&[Some(1), Some(1), Some(1)]) => Refused(Refusal::TooLong), [8, 0, 4, 8, 0];
-        1000 ACME Join(&[Some(1), Some(2), Some(1), Some(1)]) => Refused(Refusal::PartOpen), [8, 0, 4, 8, 0];
-        1000 ACME Join(&[Some(1), Some(2), Some(1), Some(3)]) => Refused(Refusal::Part), [8, 0, 4, 8, 0];
-        1000 ACME Join(&[Some(2)]) => Refused(Refusal::PartOpen), [8, 0, 4, 8, 0];
-        1000 ACME Join(&[Some(1)]) => Refused(Refusal::Uploads), [8, 0, 4, 8, 0];
-        1000 ACME Delete(2) => Removed(0, 0), [8, 0, 4, 8, 0];
-        1000 ACME Join(&[Some(1)]) => Refused(Refusal::Spent), [8, 0, 4, 8, 0];
-    }
-    "a pool without a free block: a join needs none, and it is free again when the last holder of each block has ended" => {
-        1000 BETA Post(Some(16)) => Created(1, Some(4600)), [0, 0, 12, 0, 0];
-        1000 BETA Patch(1, 0, b"0123456789abcdef") => Appended(16, None), [0, 4, 8, 4, 0];
-        1000 ACME Partial(Some(32)) => Created(1, Some(4600)), [0, 4, 8, 4, 0];
-        1000 ACME Patch(1, 0, b"abcdefghijklmnopqrstuvwxyz012345") => Appended(32, Some(4600)), [8, 4, 0, 12, 0];
-        1000 ACME Join(&[Some(1)]) => Created(2, None), [8, 4, 0, 12, 0];
-        1000 ACME Post(Some(1)) => Created(3, Some(4600)), [8, 4, 0, 12, 0];
-        1000 ACME Delete(1) => Removed(0, 0), [8, 4, 0, 12, 0];
-        1000 ACME Patch(3, 0, b"x") => RefusedPatch(Refusal::Quota, Some(4600)), [8, 4, 0, 12, 0];
-        1000 ACME Get(2) => Bytes(b"abcdefghijklmnopqrstuvwxyz012345"), [8, 4, 0, 12, 0];
-        1000 ACME Delete(2) => Removed(8, 8), [0, 4, 8, 12, 8];
-        1000 ACME Patch(3, 0, b"x") => Appended(1, None), [1, 4, 7, 13, 8];
-        1000 BETA Delete(1) => Removed(4, 4), [1, 0, 11, 13, 12];
-        1000 ACME Delete(3) => Removed(1, 1), [0, 0, 12, 13, 13];
-    }
+// Two partial uploads and a final one over them, which keeps its bytes when they end.
+static PARTIALS_AND_FINAL: [Step; 12] = steps! {
+    1000 ACME Partial(Some(5)) => Created(1, Some(4600)), [0, 0, 12, 0, 0];
+    1000 ACME Patch(1, 0, b"abcde") => Appended(5, Some(4600)), [2, 0, 10, 2, 0];
+    1000 ACME Partial(Some(2)) => Created(2, Some(4600)), [2, 0, 10, 2, 0];
+    1000 ACME Patch(2, 0, b"fg") => Appended(2, Some(4600)), [3, 0, 9, 3, 0];
+    1000 ACME Join(&[Some(1), Some(2)]) => Created(3, None), [3, 0, 9, 3, 0];
+    1000 ACME Head(3) => Row(Kind::Final, 7, Some(7), None), [3, 0, 9, 3, 0];
+    1000 ACME Patch(3, 7, b"") => RefusedPatch(Refusal::IsFinal, None), [3, 0, 9, 3, 0];
+    1000 ACME Delete(1) => Removed(0, 0), [3, 0, 9, 3, 0];
+    1000 ACME Delete(2) => Removed(0, 0), [3, 0, 9, 3, 0];
+    1000 ACME Get(3) => Bytes(b"abcdefg"), [3, 0, 9, 3, 0];
+    1000 ACME Delete(3) => Removed(3, 3), [0, 0, 12, 3, 3];
+    1000 ACME Get(3) => Refused(Refusal::Gone), [0, 0, 12, 3, 3];
 };
 
 #[test]
-fn joins(rt: HostRuntime) {
-    check(&rt, rt.alloc(), &JOINS);
+fn partials_and_final(rt: HostRuntime) {
+    run(&rt, rt.alloc(), NUMBERS, &PARTIALS_AND_FINAL);
 }
 
-static JOINS_SPEND_NOTHING: [Table<Step>; 1] = tables! {
-    steps;
-    "a join charges nothing, so it is not refused where the total of charges is used up" => {
-        1000 ACME Partial(Some(5)) => Created(1, Some(4600)), [0, 0, 12, 0, 0];
-        1000 ACME Patch(1, 0, b"abcde") => Appended(5, Some(4600)), [2, 0, 10, 2, 0];
-        1000 ACME Join(&[Some(1)]) => Created(2, None), [2, 0, 10, 2, 0];
-        1000 ACME Join(&[Some(1)]) => Created(3, None), [2, 0, 10, 2, 0];
-        1000 ACME Delete(2) => Removed(0, 0), [2, 0, 10, 2, 0];
-        1000 ACME Join(&[Some(1)]) => Created(4, None), [2, 0, 10, 2, 0];
-        1000 ACME Get(4) => Bytes(b"abcde"), [2, 0, 10, 2, 0];
-    }
+// Parts in another order than they were sent, and one part twice.
+static PARTS_IN_ORDER: [Step; 11] = steps! {
+    1000 ACME Partial(Some(5)) => Created(1, Some(4600)), [0, 0, 12, 0, 0];
+    1000 ACME Patch(1, 0, b"abcde") => Appended(5, Some(4600)), [2, 0, 10, 2, 0];
+    1000 ACME Join(&[Some(1), Some(1)]) => Created(2, None), [2, 0, 10, 2, 0];
+    1000 ACME Partial(Some(2)) => Created(3, Some(4600)), [2, 0, 10, 2, 0];
+    1000 ACME Patch(3, 0, b"fg") => Appended(2, Some(4600)), [3, 0, 9, 3, 0];
+    1000 ACME Join(&[Some(3), Some(1), Some(3)]) => Created(4, None), [3, 0, 9, 3, 0];
+    1000 ACME Delete(1) => Removed(0, 0), [3, 0, 9, 3, 0];
+    1000 ACME Get(2) => Bytes(b"abcdeabcde"), [3, 0, 9, 3, 0];
+    1000 ACME Get(4) => Bytes(b"fgabcdefg"), [3, 0, 9, 3, 0];
+    1000 ACME Delete(4) => Removed(0, 0), [3, 0, 9, 3, 0];
+    1000 ACME Delete(2) => Removed(2, 2), [1, 0, 11, 3, 2];
+};
+
+#[test]
+fn parts_in_order(rt: HostRuntime) {
+    run(&rt, rt.alloc(), NUMBERS, &PARTS_IN_ORDER);
+}
+
+// Two final uploads of one part, which its tenant pays once until the last of the three ends.
+static TWO_FINALS_OF_ONE_PART: [Step; 9] = steps! {
+    1000 ACME Partial(Some(5)) => Created(1, Some(4600)), [0, 0, 12, 0, 0];
+    1000 ACME Patch(1, 0, b"abcde") => Appended(5, Some(4600)), [2, 0, 10, 2, 0];
+    1000 ACME Join(&[Some(1)]) => Created(2, None), [2, 0, 10, 2, 0];
+    1000 ACME Join(&[Some(1)]) => Created(3, None), [2, 0, 10, 2, 0];
+    1000 ACME Delete(1) => Removed(0, 0), [2, 0, 10, 2, 0];
+    1000 ACME Delete(2) => Removed(0, 0), [2, 0, 10, 2, 0];
+    1000 ACME Get(3) => Bytes(b"abcde"), [2, 0, 10, 2, 0];
+    1000 ACME Delete(3) => Removed(2, 2), [0, 0, 12, 2, 2];
+    1000 ACME Head(3) => Refused(Refusal::Gone), [0, 0, 12, 2, 2];
+};
+
+#[test]
+fn two_finals_of_one_part(rt: HostRuntime) {
+    run(&rt, rt.alloc(), NUMBERS, &TWO_FINALS_OF_ONE_PART);
+}
+
+// A part goes on living beside its final upload, and each end of either changes nothing of the other.
+static A_PART_BESIDE_ITS_FINAL: [Step; 10] = steps! {
+    1000 ACME Partial(Some(5)) => Created(1, Some(4600)), [0, 0, 12, 0, 0];
+    1000 ACME Patch(1, 0, b"abcde") => Appended(5, Some(4600)), [2, 0, 10, 2, 0];
+    1000 ACME Join(&[Some(1)]) => Created(2, None), [2, 0, 10, 2, 0];
+    2000 ACME Patch(1, 5, b"") => Appended(5, Some(5600)), [2, 0, 10, 2, 0];
+    2000 ACME Patch(1, 5, b"f") => RefusedPatch(Refusal::TooLong, Some(5600)), [2, 0, 10, 2, 0];
+    2000 ACME Head(2) => Row(Kind::Final, 5, Some(5), None), [2, 0, 10, 2, 0];
+    2000 ACME Delete(2) => Removed(0, 0), [2, 0, 10, 2, 0];
+    2000 ACME Get(1) => Bytes(b"abcde"), [2, 0, 10, 2, 0];
+    2000 ACME Join(&[Some(1)]) => Created(3, None), [2, 0, 10, 2, 0];
+    2000 ACME Head(2) => Refused(Refusal::Gone), [2, 0, 10, 2, 0];
+};
+
+#[test]
+fn a_part_beside_its_final(rt: HostRuntime) {
+    run(&rt, rt.alloc(), NUMBERS, &A_PART_BESIDE_ITS_FINAL);
+}
+
+const THIRTY_TWO: [Option<u64>; 32] = [Some(1); 32];
+
+static THIRTY_TWO_PARTS: [Step; 7] = steps! {
+    1000 ACME Partial(Some(2)) => Created(1, Some(4600)), [0, 0, 12, 0, 0];
+    1000 ACME Patch(1, 0, b"ab") => Appended(2, Some(4600)), [1, 0, 11, 1, 0];
+    1000 ACME Join(&THIRTY_TWO) => Created(2, None), [1, 0, 11, 1, 0];
+    1000 ACME Head(2) => Row(Kind::Final, 64, Some(64), None), [1, 0, 11, 1, 0];
+    1000 ACME Delete(1) => Removed(0, 0), [1, 0, 11, 1, 0];
+    1000 ACME Get(2) => Bytes(b"abababababababababababababababababababababababababababababababab"), [1, 0, 11, 1, 0];
+    1000 ACME Delete(2) => Removed(1, 1), [0, 0, 12, 1, 1];
+};
+
+static THIRTY_TWO_EMPTY_PARTS: [Step; 5] = steps! {
+    1000 ACME Partial(Some(0)) => Created(1, Some(4600)), [0, 0, 12, 0, 0];
+    1000 ACME Join(&THIRTY_TWO) => Created(2, None), [0, 0, 12, 0, 0];
+    1000 ACME Head(2) => Row(Kind::Final, 0, Some(0), None), [0, 0, 12, 0, 0];
+    1000 ACME Get(2) => Bytes(b""), [0, 0, 12, 0, 0];
+    1000 ACME Delete(2) => Removed(0, 0), [0, 0, 12, 0, 0];
+};
+
+#[test]
+fn as_many_parts_as_there_may_be(rt: HostRuntime) {
+    run(&rt, rt.alloc(), NUMBERS, &THIRTY_TWO_PARTS);
+    run(&rt, rt.alloc(), NUMBERS, &THIRTY_TWO_EMPTY_PARTS);
+}
+
+// An upload that is not complete, that is no partial one, of another tenant, or never given, expired or ended.
+static NO_PARTS: [Step; 19] = steps! {
+    1000 ACME Partial(Some(5)) => Created(1, Some(4600)), [0, 0, 12, 0, 0];
+    1000 ACME Post(Some(0)) => Created(2, None), [0, 0, 12, 0, 0];
+    1000 BETA Partial(Some(0)) => Created(1, Some(4600)), [0, 0, 12, 0, 0];
+    1000 ACME Join(&[Some(1)]) => Refused(Refusal::PartOpen), [0, 0, 12, 0, 0];
+    1000 ACME Join(&[Some(2)]) => Refused(Refusal::Part), [0, 0, 12, 0, 0];
+    1000 ACME Join(&[None]) => Refused(Refusal::Part), [0, 0, 12, 0, 0];
+    1000 ACME Join(&[Some(9)]) => Refused(Refusal::Part), [0, 0, 12, 0, 0];
+    1000 ACME Join(&[Some(1), Some(2)]) => Refused(Refusal::Part), [0, 0, 12, 0, 0];
+    1000 ACME Patch(1, 0, b"abc") => Appended(3, Some(4600)), [1, 0, 11, 1, 0];
+    1000 ACME Join(&[Some(1)]) => Refused(Refusal::PartOpen), [1, 0, 11, 1, 0];
+    1000 ACME Patch(1, 3, b"de") => Appended(5, Some(4600)), [2, 0, 10, 2, 0];
+    4600 ACME Join(&[Some(1)]) => Refused(Refusal::Part), [2, 0, 10, 2, 0];
+    1000 ACME Join(&[Some(1)]) => Created(3, None), [2, 0, 10, 2, 0];
+    1000 ACME Join(&[Some(3)]) => Refused(Refusal::Part), [2, 0, 10, 2, 0];
+    1000 ACME Delete(1) => Removed(0, 0), [2, 0, 10, 2, 0];
+    1000 ACME Join(&[Some(1)]) => Refused(Refusal::Part), [2, 0, 10, 2, 0];
+    1000 ACME Partial(None) => Created(4, Some(4600)), [2, 0, 10, 2, 0];
+    1000 ACME Patch(4, 0, b"f") => Appended(1, Some(4600)), [3, 0, 9, 3, 0];
+    1000 ACME Join(&[Some(4)]) => Refused(Refusal::PartOpen), [3, 0, 9, 3, 0];
+};
+
+#[test]
+fn no_parts(rt: HostRuntime) {
+    run(&rt, rt.alloc(), NUMBERS, &NO_PARTS);
+}
+
+// The bytes of parts are counted as often as they are named, against the greatest size, and never against the quota.
+static LONG_PARTS: [Step; 6] = steps! {
+    1000 ACME Partial(Some(30)) => Created(1, Some(4600)), [0, 0, 12, 0, 0];
+    1000 ACME Patch(1, 0, b"abcdefghijklmnopqrstuvwxyz0123") => Appended(30, Some(4600)), [8, 0, 4, 8, 0];
+    1000 ACME Join(&[Some(1), Some(1), Some(1)]) => Refused(Refusal::TooLong), [8, 0, 4, 8, 0];
+    1000 ACME Join(&[Some(1), Some(1)]) => Created(2, None), [8, 0, 4, 8, 0];
+    1000 ACME Head(2) => Row(Kind::Final, 60, Some(60), None), [8, 0, 4, 8, 0];
+    1000 ACME Delete(1) => Removed(0, 0), [8, 0, 4, 8, 0];
+};
+
+#[test]
+fn long_parts(rt: HostRuntime) {
+    run(&rt, rt.alloc(), NUMBERS, &LONG_PARTS);
+}
+
+// With room for two uploads and two ids, each refusal comes before the next in the order.
+static REFUSED_IN_ORDER: [Step; 10] = steps! {
+    1000 ACME Partial(Some(30)) => Created(1, Some(4600)), [0, 0, 12, 0, 0];
+    1000 ACME Patch(1, 0, b"abcdefghijklmnopqrstuvwxyz0123") => Appended(30, Some(4600)), [8, 0, 4, 8, 0];
+    1000 ACME Partial(Some(1)) => Created(2, Some(4600)), [8, 0, 4, 8, 0];
+    1000 ACME Join(&[Some(1), Some(1), Some(1)]) => Refused(Refusal::TooLong), [8, 0, 4, 8, 0];
+    1000 ACME Join(&[Some(1), Some(2), Some(1), Some(1)]) => Refused(Refusal::PartOpen), [8, 0, 4, 8, 0];
+    1000 ACME Join(&[Some(1), Some(2), Some(1), Some(3)]) => Refused(Refusal::Part), [8, 0, 4, 8, 0];
+    1000 ACME Join(&[Some(2)]) => Refused(Refusal::PartOpen), [8, 0, 4, 8, 0];
+    1000 ACME Join(&[Some(1)]) => Refused(Refusal::Uploads), [8, 0, 4, 8, 0];
+    1000 ACME Delete(2) => Removed(0, 0), [8, 0, 4, 8, 0];
+    1000 ACME Join(&[Some(1)]) => Refused(Refusal::Spent), [8, 0, 4, 8, 0];
+};
+
+#[test]
+fn joins_refused_in_order(rt: HostRuntime) {
+    run(
+        &rt,
+        rt.alloc(),
+        numbers!(uploads: 2, last_id: 2),
+        &REFUSED_IN_ORDER,
+    );
+}
+
+// A join charges nothing, so it is not refused where the total of charges is used up.
+static JOINS_SPEND_NOTHING: [Step; 7] = steps! {
+    1000 ACME Partial(Some(5)) => Created(1, Some(4600)), [0, 0, 12, 0, 0];
+    1000 ACME Patch(1, 0, b"abcde") => Appended(5, Some(4600)), [2, 0, 10, 2, 0];
+    1000 ACME Join(&[Some(1)]) => Created(2, None), [2, 0, 10, 2, 0];
+    1000 ACME Join(&[Some(1)]) => Created(3, None), [2, 0, 10, 2, 0];
+    1000 ACME Delete(2) => Removed(0, 0), [2, 0, 10, 2, 0];
+    1000 ACME Join(&[Some(1)]) => Created(4, None), [2, 0, 10, 2, 0];
+    1000 ACME Get(4) => Bytes(b"abcde"), [2, 0, 10, 2, 0];
 };
 
 #[test]
 fn joins_spend_nothing(rt: HostRuntime) {
-    for table in &JOINS_SPEND_NOTHING {
-        for last_total in [2, 4] {
-            run(&rt, rt.alloc(), numbers!(last_total: last_total), table);
-        }
+    for last_total in [2, 4] {
+        run(
+            &rt,
+            rt.alloc(),
+            numbers!(last_total: last_total),
+            &JOINS_SPEND_NOTHING,
+        );
     }
+}
+
+// A pool without a free block: a join needs none. It is free again when the last holder of each block has ended.
+static A_FULL_POOL: [Step; 13] = steps! {
+    1000 BETA Post(Some(16)) => Created(1, Some(4600)), [0, 0, 12, 0, 0];
+    1000 BETA Patch(1, 0, b"0123456789abcdef") => Appended(16, None), [0, 4, 8, 4, 0];
+    1000 ACME Partial(Some(32)) => Created(1, Some(4600)), [0, 4, 8, 4, 0];
+    1000 ACME Patch(1, 0, b"abcdefghijklmnopqrstuvwxyz012345") => Appended(32, Some(4600)), [8, 4, 0, 12, 0];
+    1000 ACME Join(&[Some(1)]) => Created(2, None), [8, 4, 0, 12, 0];
+    1000 ACME Post(Some(1)) => Created(3, Some(4600)), [8, 4, 0, 12, 0];
+    1000 ACME Delete(1) => Removed(0, 0), [8, 4, 0, 12, 0];
+    1000 ACME Patch(3, 0, b"x") => RefusedPatch(Refusal::Quota, Some(4600)), [8, 4, 0, 12, 0];
+    1000 ACME Get(2) => Bytes(b"abcdefghijklmnopqrstuvwxyz012345"), [8, 4, 0, 12, 0];
+    1000 ACME Delete(2) => Removed(8, 8), [0, 4, 8, 12, 8];
+    1000 ACME Patch(3, 0, b"x") => Appended(1, None), [1, 4, 7, 13, 8];
+    1000 BETA Delete(1) => Removed(4, 4), [1, 0, 11, 13, 12];
+    1000 ACME Delete(3) => Removed(1, 1), [0, 0, 12, 13, 13];
+};
+
+#[test]
+fn a_full_pool(rt: HostRuntime) {
+    run(&rt, rt.alloc(), NUMBERS, &A_FULL_POOL);
 }

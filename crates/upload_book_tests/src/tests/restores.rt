@@ -5,7 +5,7 @@ ghost use Rattle.upload_book.specs.Book.{plain_of};
 ghost use Rattle.upload_book.specs.declared.head_row.Kind.TheVariants.{Final};
 ghost use Rattle.upload_book.specs.snapshot.Restore.{CanBePutBack, HasSegments, IsRestorable};
 
-use crate::tests::books::{ACME, acme, create, end, join, moment, new_book, part, send};
+use crate::tests::books::{ACME, acme, create, end, join, moment, new_book, numbers, part, send};
 use crate::tests::plain::PlainRow;
 use crate::tests::restores::Piece::{Joined, Next, Own, Totals};
 use std::alloc::Global;
@@ -15,7 +15,7 @@ use upload_book::{
     Accounts, BoardLine, Book, Change, HeadChange, HeadRow, Kind, Moment, Numbers, Outcome,
     Refusal, Restored, RestoredSegment, RestoredUpload,
 };
-use worked_example::{NUMBERS, numbers};
+use worked_example::NUMBERS;
 
 /// A piece that is put back.
 enum Piece {

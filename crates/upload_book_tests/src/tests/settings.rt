@@ -1,10 +1,11 @@
 //! Moments, settings and words.
 
+use crate::tests::books::numbers;
 use std::alloc::Global;
 use std::process::Abort;
 use std::test::Fail;
 use upload_book::{Bounds, Moment, Numbers, Refusal, Settings, SettingsFault};
-use worked_example::{NUMBERS, numbers};
+use worked_example::NUMBERS;
 
 // The seconds of the moment at this second, where there is one.
 fn secs(at: u64) -> Option<u64> {

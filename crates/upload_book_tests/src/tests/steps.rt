@@ -10,7 +10,6 @@ use upload_book::{
     Appended, Book, Chunk, Content, Created, FirstChunk, HeadRow, Kind, Moment, Name, Numbers,
     Payload, Refusal, Refused, Removed, Swept,
 };
-use worked_example::Table;
 
 /// A call of a book.
 #[derive(Clone, Copy)]
@@ -74,10 +73,10 @@ pub struct Step {
     pub after: [u64; 5],
 }
 
-/// Steps, each `secs tenant call => told, after;`.
+/// A table of steps, each `secs tenant call => told, after;`.
 macro_rules! steps {
     ($($secs:literal $tenant:ident $call:expr => $told:expr, $after:expr;)*) => {
-        [$($crate::tests::steps::Step {
+        [$(Step {
             secs: $secs,
             tenant: $tenant,
             call: $call,
@@ -144,13 +143,6 @@ fn removed<'a>(answer: Result<Removed, Refusal>) -> Told<'a> {
 
 fn swept<'a>(answer: Swept) -> Told<'a> {
     Told::Swept(answer.uploads, answer.blocks, answer.released)
-}
-
-// Where a step stands: in the table of this name, at this place.
-#[derive(Clone, Copy)]
-struct At {
-    table: &'static str,
-    place: usize,
 }
 
 /// A book, and the plain one beside it.
@@ -240,11 +232,11 @@ impl Pair {
     }
 
     // Asserts what a GET gives.
-    fn assert_content(&self, rt: &impl Abort, at: At, name: Name, now: Moment, told: Told) {
+    fn assert_content(&self, rt: &impl Abort, place: usize, name: Name, now: Moment, told: Told) {
         let answer = self.book.content(&name, now, self.book.no_room());
         let plainly = self.plain.content(rt, &name, now);
         let wrong = wrong_in([bytes(&answer), plain_bytes(&plainly)], told);
-        assert_right(rt, at, wrong);
+        assert_right(rt, place, wrong);
     }
 
     // The uploads that expire, in order.
@@ -367,15 +359,14 @@ fn wrong_in(answers: [Told; 2], told: Told) -> Option<&'static str> {
 }
 
 // Asserts that nothing of a call is wrong.
-fn assert_right(rt: &impl Abort, at: At, wrong: Option<&'static str>) {
-    let At { table, place } = at;
+fn assert_right(rt: &impl Abort, place: usize, wrong: Option<&'static str>) {
     if let Some(what) = wrong {
-        panic!(rt; "{table}, call {place}: {what}");
+        panic!(rt; "call {place}: {what}");
     }
 }
 
 // What the call of a step answers, of a book and of the plain one.
-fn answers(rt: &impl Abort, pair: &mut Pair, at: At, step: &Step) -> [Told<'static>; 2] {
+fn answers(rt: &impl Abort, pair: &mut Pair, place: usize, step: &Step) -> [Told<'static>; 2] {
     let now = moment(rt, step.secs);
     let tenant = step.tenant;
     match step.call {
@@ -391,12 +382,17 @@ fn answers(rt: &impl Abort, pair: &mut Pair, at: At, step: &Step) -> [Told<'stat
         }
         Call::Partial(length) => pair.create(rt, tenant, Kind::Partial, length, now),
         Call::Join(parts) => pair.concat(rt, tenant, parts, now),
-        _ => later_answers(rt, pair, at, step),
+        _ => later_answers(rt, pair, place, step),
     }
 }
 
 // The same of a call that is no creation.
-fn later_answers(rt: &impl Abort, pair: &mut Pair, at: At, step: &Step) -> [Told<'static>; 2] {
+fn later_answers(
+    rt: &impl Abort,
+    pair: &mut Pair,
+    place: usize,
+    step: &Step,
+) -> [Told<'static>; 2] {
     let now = moment(rt, step.secs);
     let settings = pair.book.settings();
     let tenant = settings.tenant(step.tenant).expect(rt, "a tenant");
@@ -415,41 +411,30 @@ fn later_answers(rt: &impl Abort, pair: &mut Pair, at: At, step: &Step) -> [Told
         Call::Untyped(id, bytes) => pair.append(rt, Name { tenant, id }, untyped(bytes), now),
         Call::Head(id) => pair.look(Name { tenant, id }, now),
         Call::Get(id) => {
-            pair.assert_content(rt, at, Name { tenant, id }, now, step.told);
+            pair.assert_content(rt, place, Name { tenant, id }, now, step.told);
             [step.told, step.told]
         }
         Call::Delete(id) => pair.terminate(Name { tenant, id }, now),
         Call::Sweep => pair.sweep(now),
         Call::Expiries => [step.told, step.told],
-        _ => panic!(rt; "{}: call {} is a creation", at.table, at.place),
+        _ => panic!(rt; "call {place} is a creation"),
     }
 }
 
 // Takes the pair through one step.
-fn take(rt: &impl Abort, pair: &mut Pair, at: At, step: &Step) {
-    let answers = answers(rt, pair, at, step);
-    assert_right(rt, at, wrong_in(answers, step.told));
-    assert_right(rt, at, pair.wrong_after(rt, step));
+fn take(rt: &impl Abort, pair: &mut Pair, place: usize, step: &Step) {
+    let answers = answers(rt, pair, place, step);
+    assert_right(rt, place, wrong_in(answers, step.told));
+    assert_right(rt, place, pair.wrong_after(rt, step));
 }
 
-/// Takes a new book of these numbers, and a new plain one, through the steps of a table.
-pub fn run(rt: &impl Abort, alloc: Global, numbers: Numbers, table: &Table<Step>) {
+/// Takes a new book, and a new plain one, through the steps of a table.
+pub fn run(rt: &impl Abort, alloc: Global, numbers: Numbers, steps: &[Step]) {
     let mut pair = Pair {
         book: new_book(rt, alloc, numbers),
         plain: PlainBook::new(alloc, numbers, [8, 4]),
     };
-    for (place, step) in table.steps.iter().enumerate() {
-        let at = At {
-            table: table.name,
-            place,
-        };
-        take(rt, &mut pair, at, step);
-    }
-}
-
-/// Takes new books through these tables, each by its own numbers.
-pub fn check(rt: &impl Abort, alloc: Global, tables: &[Table<Step>]) {
-    for table in tables {
-        run(rt, alloc, table.numbers, table);
+    for (place, step) in steps.iter().enumerate() {
+        take(rt, &mut pair, place, step);
     }
 }

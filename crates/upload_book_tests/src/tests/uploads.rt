@@ -1,6 +1,6 @@
 //! Single uploads: how they take their bytes, when they expire, and what is refused.
 
-use crate::tests::books::{ACME, BETA, HELLO, NOTHING};
+use crate::tests::books::{ACME, BETA, HELLO, NOTHING, numbers};
 use crate::tests::steps::Call::{
     Checked, Delete, Get, Head, Patch, PatchOf, Post, PostChecked, PostUntyped, PostWith, Sweep,
     Untyped,
@@ -8,132 +8,204 @@ use crate::tests::steps::Call::{
 use crate::tests::steps::Told::{
     Appended, Bytes, Created, Refused, RefusedPatch, Removed, Row, Swept,
 };
-use crate::tests::steps::{Step, check, steps};
+use crate::tests::steps::{Step, run, steps};
 use tus_text::Checksum;
 use upload_book::{Kind, Refusal};
-use worked_example::{Table, tables};
+use worked_example::NUMBERS;
 
-static UPLOADS: [Table<Step>; 13] = tables! {
-    steps;
-    "five bytes, a wrong offset, bytes past the length, and the other five" => {
-        1000 ACME Post(Some(10)) => Created(1, Some(4600)), [0, 0, 12, 0, 0];
-        1000 ACME Patch(1, 0, b"hello") => Appended(5, Some(4600)), [2, 0, 10, 2, 0];
-        1000 ACME Patch(1, 3, b"x") => RefusedPatch(Refusal::Offset, Some(4600)), [2, 0, 10, 2, 0];
-        1000 ACME Patch(1, 5, b"worlds") => RefusedPatch(Refusal::TooLong, Some(4600)), [2, 0, 10, 2, 0];
-        1000 ACME Head(1) => Row(Kind::Plain, 5, Some(10), Some(4600)), [2, 0, 10, 2, 0];
-        1000 ACME Get(1) => Refused(Refusal::Unfinished), [2, 0, 10, 2, 0];
-        1000 ACME Patch(1, 5, b"world") => Appended(10, None), [3, 0, 9, 3, 0];
-        9000 ACME Head(1) => Row(Kind::Plain, 10, Some(10), None), [3, 0, 9, 3, 0];
-        9000 ACME Get(1) => Bytes(b"helloworld"), [3, 0, 9, 3, 0];
-    }
-    "an upload without bytes" => {
-        1000 ACME Post(Some(0)) => Created(1, None), [0, 0, 12, 0, 0];
-        1000 ACME Patch(1, 0, b"") => Appended(0, None), [0, 0, 12, 0, 0];
-        1000 ACME Head(1) => Row(Kind::Plain, 0, Some(0), None), [0, 0, 12, 0, 0];
-        9000 ACME Get(1) => Bytes(b""), [0, 0, 12, 0, 0];
-        9000 ACME Sweep => Swept(0, 0, 0), [0, 0, 12, 0, 0];
-    }
-    "a PATCH at an earlier moment leaves the end, and no end is past the year 9999" => {
-        1000 ACME Post(Some(10)) => Created(1, Some(4600)), [0, 0, 12, 0, 0];
-        500 ACME Patch(1, 0, b"a") => Appended(1, Some(4600)), [1, 0, 11, 1, 0];
-        2000 ACME Patch(1, 1, b"b") => Appended(2, Some(5600)), [1, 0, 11, 1, 0];
-        253_402_300_799 ACME Post(Some(10)) => Created(2, Some(253_402_300_799)), [1, 0, 11, 1, 0];
-        253_402_300_799 ACME Head(2) => Refused(Refusal::Gone), [1, 0, 11, 1, 0];
-    }
-    "an upload expires" => {
-        1000 ACME Post(Some(10)) => Created(1, Some(4600)), [0, 0, 12, 0, 0];
-        4599 ACME Head(1) => Row(Kind::Plain, 0, Some(10), Some(4600)), [0, 0, 12, 0, 0];
-        4600 ACME Head(1) => Refused(Refusal::Gone), [0, 0, 12, 0, 0];
-        4600 ACME Patch(1, 0, b"hello") => RefusedPatch(Refusal::Gone, None), [0, 0, 12, 0, 0];
-        1000 ACME Head(2) => Refused(Refusal::Unknown), [0, 0, 12, 0, 0];
-        1000 BETA Head(1) => Refused(Refusal::Unknown), [0, 0, 12, 0, 0];
-    }
-    "a length that is told late: with a refused PATCH it is not kept, and once kept it stays" => {
-        1000 ACME Post(None) => Created(1, Some(4600)), [0, 0, 12, 0, 0];
-        1000 ACME PatchOf(1, 1, 9, b"") => RefusedPatch(Refusal::Offset, Some(4600)), [0, 0, 12, 0, 0];
-        1000 ACME Head(1) => Row(Kind::Plain, 0, None, Some(4600)), [0, 0, 12, 0, 0];
-        1000 ACME PatchOf(1, 0, 5, b"abcde") => Appended(5, None), [2, 0, 10, 2, 0];
-        1000 ACME PatchOf(1, 5, 6, b"") => RefusedPatch(Refusal::LengthFixed, None), [2, 0, 10, 2, 0];
-        1000 ACME PatchOf(1, 5, 5, b"") => Appended(5, None), [2, 0, 10, 2, 0];
-        1000 ACME Head(1) => Row(Kind::Plain, 5, Some(5), None), [2, 0, 10, 2, 0];
-    }
-    "contents" => {
-        1000 ACME Post(Some(5)) => Created(1, Some(4600)), [0, 0, 12, 0, 0];
-        1000 ACME Post(Some(0)) => Created(2, None), [0, 0, 12, 0, 0];
-        1000 ACME Post(None) => Created(3, Some(4600)), [0, 0, 12, 0, 0];
-        1000 ACME Get(1) => Refused(Refusal::Unfinished), [0, 0, 12, 0, 0];
-        9000 ACME Get(2) => Bytes(b""), [0, 0, 12, 0, 0];
-        4599 ACME Get(3) => Refused(Refusal::Unfinished), [0, 0, 12, 0, 0];
-        4600 ACME Get(3) => Refused(Refusal::Gone), [0, 0, 12, 0, 0];
-        1000 ACME Get(4) => Refused(Refusal::Unknown), [0, 0, 12, 0, 0];
-        1000 ACME Patch(1, 0, b"abcde") => Appended(5, None), [2, 0, 10, 2, 0];
-        9000 ACME Get(1) => Bytes(b"abcde"), [2, 0, 10, 2, 0];
-    }
-    "without its content type, a PATCH is refused after an upload that is not there, and before a wrong offset" => {
-        1000 ACME Post(Some(10)) => Created(1, Some(4600)), [0, 0, 12, 0, 0];
-        1000 ACME Patch(1, 0, b"a") => Appended(1, Some(4600)), [1, 0, 11, 1, 0];
-        1000 ACME Untyped(1, b"hello") => RefusedPatch(Refusal::Media, Some(4600)), [1, 0, 11, 1, 0];
-        1000 ACME Untyped(2, b"hello") => RefusedPatch(Refusal::Unknown, None), [1, 0, 11, 1, 0];
-        1000 ACME Untyped(0, b"hello") => RefusedPatch(Refusal::Unknown, None), [1, 0, 11, 1, 0];
-        1000 BETA Untyped(1, b"hello") => RefusedPatch(Refusal::Unknown, None), [1, 0, 11, 1, 0];
-    }
-    "a checksum is asked after the length and before the quota: only bytes of that digest are kept" => {
-        1000 ACME Post(Some(64)) => Created(1, Some(4600)), [0, 0, 12, 0, 0];
-        1000 ACME Checked(1, 0, HELLO, b"hellp") => RefusedPatch(Refusal::Mismatch, Some(4600)), [0, 0, 12, 0, 0];
-        1000 ACME Checked(1, 0, Checksum::Other, b"hello") => RefusedPatch(Refusal::Algorithm, Some(4600)), [0, 0, 12, 0, 0];
-        2000 ACME Checked(1, 0, HELLO, b"hello") => Appended(5, Some(5600)), [2, 0, 10, 2, 0];
-        2000 ACME Checked(1, 5, NOTHING, b"") => Appended(5, Some(5600)), [2, 0, 10, 2, 0];
-        2000 ACME Checked(1, 5, HELLO, b"") => RefusedPatch(Refusal::Mismatch, Some(5600)), [2, 0, 10, 2, 0];
-        2000 ACME Checked(1, 5, Checksum::Other, b"012345678901234567890123456789012345678901234567890123456789") => RefusedPatch(Refusal::TooLong, Some(5600)), [2, 0, 10, 2, 0];
-        2000 ACME Checked(1, 5, HELLO, b"01234567890123456789012345678") => RefusedPatch(Refusal::Mismatch, Some(5600)), [2, 0, 10, 2, 0];
-        2000 ACME Patch(1, 5, b"01234567890123456789012345678") => RefusedPatch(Refusal::Quota, Some(5600)), [2, 0, 10, 2, 0];
-    }
-    "the first bytes of an upload come with its creation, and are paid; a refused creation uses no id" => {
-        1000 ACME PostUntyped(Some(4), b"hello") => Refused(Refusal::Media), [0, 0, 12, 0, 0];
-        1000 ACME PostWith(Some(4), b"hello") => Refused(Refusal::TooLong), [0, 0, 12, 0, 0];
-        1000 ACME PostWith(Some(65), b"hello") => Refused(Refusal::TooLong), [0, 0, 12, 0, 0];
-        1000 ACME PostChecked(Some(10), Checksum::Other, b"hello") => Refused(Refusal::Algorithm), [0, 0, 12, 0, 0];
-        1000 ACME PostChecked(Some(10), HELLO, b"hellp") => Refused(Refusal::Mismatch), [0, 0, 12, 0, 0];
-        1000 ACME PostChecked(Some(10), HELLO, b"hello") => Created(1, Some(4600)), [2, 0, 10, 2, 0];
-        1000 ACME Patch(1, 5, b"world") => Appended(10, None), [3, 0, 9, 3, 0];
-        9000 ACME Get(1) => Bytes(b"helloworld"), [3, 0, 9, 3, 0];
-        1000 ACME PostWith(Some(5), b"abcde") => Created(2, None), [5, 0, 7, 5, 0];
-        1000 ACME PostWith(None, b"") => Created(3, Some(4600)), [5, 0, 7, 5, 0];
-        1000 ACME PostWith(Some(20), b"0123456789012") => Refused(Refusal::Quota), [5, 0, 7, 5, 0];
-        1000 BETA PostWith(Some(20), b"01234567890123456") => Refused(Refusal::Quota), [5, 0, 7, 5, 0];
-        1000 BETA PostWith(Some(20), b"0123456789012345") => Created(1, Some(4600)), [5, 4, 3, 9, 0];
-        1000 ACME PostChecked(Some(20), HELLO, b"0123456789012") => Refused(Refusal::Mismatch), [5, 4, 3, 9, 0];
-        1000 ACME Delete(2) => Removed(2, 2), [3, 4, 5, 9, 2];
-    }
-    "blocks that all tenants may be charged in all are used up by a creation too" (last_total: 3) => {
-        1000 ACME PostWith(Some(10), b"hello") => Created(1, Some(4600)), [2, 0, 10, 2, 0];
-        1000 BETA PostWith(Some(10), b"hello") => Refused(Refusal::Spent), [2, 0, 10, 2, 0];
-        1000 BETA PostWith(Some(10), b"hell") => Created(1, Some(4600)), [2, 1, 9, 3, 0];
-    }
-    "a refused creation uses no id" => {
-        1000 ACME Post(Some(65)) => Refused(Refusal::TooLong), [0, 0, 12, 0, 0];
-        1000 ACME Post(Some(64)) => Created(1, Some(4600)), [0, 0, 12, 0, 0];
-        1000 ACME Head(2) => Refused(Refusal::Unknown), [0, 0, 12, 0, 0];
-    }
-    "an id is used up, also where its upload has ended" (last_id: 2) => {
-        1000 ACME Post(Some(1)) => Created(1, Some(4600)), [0, 0, 12, 0, 0];
-        1000 ACME Delete(1) => Removed(0, 0), [0, 0, 12, 0, 0];
-        1000 ACME Post(Some(1)) => Created(2, Some(4600)), [0, 0, 12, 0, 0];
-        1000 ACME Post(Some(1)) => Refused(Refusal::Spent), [0, 0, 12, 0, 0];
-    }
-    "an expired upload counts until a sweep ends it, and one that was ended does not; damaged bytes are told first" (uploads: 1) => {
-        1000 ACME Post(Some(1)) => Created(1, Some(4600)), [0, 0, 12, 0, 0];
-        4600 ACME Post(Some(1)) => Refused(Refusal::Uploads), [0, 0, 12, 0, 0];
-        4600 ACME PostChecked(Some(5), Checksum::Other, b"hello") => Refused(Refusal::Algorithm), [0, 0, 12, 0, 0];
-        4600 ACME PostChecked(Some(5), HELLO, b"hellp") => Refused(Refusal::Mismatch), [0, 0, 12, 0, 0];
-        4600 ACME Sweep => Swept(1, 0, 0), [0, 0, 12, 0, 0];
-        4600 ACME Post(Some(1)) => Created(2, Some(8200)), [0, 0, 12, 0, 0];
-        4600 ACME Delete(2) => Removed(0, 0), [0, 0, 12, 0, 0];
-        4600 ACME Post(Some(1)) => Created(3, Some(8200)), [0, 0, 12, 0, 0];
-    }
+// Five bytes, a wrong offset, bytes past the length, and the other five.
+static IN_TWO_PIECES: [Step; 9] = steps! {
+    1000 ACME Post(Some(10)) => Created(1, Some(4600)), [0, 0, 12, 0, 0];
+    1000 ACME Patch(1, 0, b"hello") => Appended(5, Some(4600)), [2, 0, 10, 2, 0];
+    1000 ACME Patch(1, 3, b"x") => RefusedPatch(Refusal::Offset, Some(4600)), [2, 0, 10, 2, 0];
+    1000 ACME Patch(1, 5, b"worlds") => RefusedPatch(Refusal::TooLong, Some(4600)), [2, 0, 10, 2, 0];
+    1000 ACME Head(1) => Row(Kind::Plain, 5, Some(10), Some(4600)), [2, 0, 10, 2, 0];
+    1000 ACME Get(1) => Refused(Refusal::Unfinished), [2, 0, 10, 2, 0];
+    1000 ACME Patch(1, 5, b"world") => Appended(10, None), [3, 0, 9, 3, 0];
+    9000 ACME Head(1) => Row(Kind::Plain, 10, Some(10), None), [3, 0, 9, 3, 0];
+    9000 ACME Get(1) => Bytes(b"helloworld"), [3, 0, 9, 3, 0];
 };
 
 #[test]
-fn uploads(rt: HostRuntime) {
-    check(&rt, rt.alloc(), &UPLOADS);
+fn an_upload_in_two_pieces(rt: HostRuntime) {
+    run(&rt, rt.alloc(), NUMBERS, &IN_TWO_PIECES);
+}
+
+static WITHOUT_BYTES: [Step; 5] = steps! {
+    1000 ACME Post(Some(0)) => Created(1, None), [0, 0, 12, 0, 0];
+    1000 ACME Patch(1, 0, b"") => Appended(0, None), [0, 0, 12, 0, 0];
+    1000 ACME Head(1) => Row(Kind::Plain, 0, Some(0), None), [0, 0, 12, 0, 0];
+    9000 ACME Get(1) => Bytes(b""), [0, 0, 12, 0, 0];
+    9000 ACME Sweep => Swept(0, 0, 0), [0, 0, 12, 0, 0];
+};
+
+#[test]
+fn an_upload_without_bytes(rt: HostRuntime) {
+    run(&rt, rt.alloc(), NUMBERS, &WITHOUT_BYTES);
+}
+
+// A PATCH at an earlier moment leaves the end, and no end is past the year 9999.
+static ENDS_RISE: [Step; 5] = steps! {
+    1000 ACME Post(Some(10)) => Created(1, Some(4600)), [0, 0, 12, 0, 0];
+    500 ACME Patch(1, 0, b"a") => Appended(1, Some(4600)), [1, 0, 11, 1, 0];
+    2000 ACME Patch(1, 1, b"b") => Appended(2, Some(5600)), [1, 0, 11, 1, 0];
+    253_402_300_799 ACME Post(Some(10)) => Created(2, Some(253_402_300_799)), [1, 0, 11, 1, 0];
+    253_402_300_799 ACME Head(2) => Refused(Refusal::Gone), [1, 0, 11, 1, 0];
+};
+
+#[test]
+fn the_expiry_is_never_lowered(rt: HostRuntime) {
+    run(&rt, rt.alloc(), NUMBERS, &ENDS_RISE);
+}
+
+static EXPIRED: [Step; 6] = steps! {
+    1000 ACME Post(Some(10)) => Created(1, Some(4600)), [0, 0, 12, 0, 0];
+    4599 ACME Head(1) => Row(Kind::Plain, 0, Some(10), Some(4600)), [0, 0, 12, 0, 0];
+    4600 ACME Head(1) => Refused(Refusal::Gone), [0, 0, 12, 0, 0];
+    4600 ACME Patch(1, 0, b"hello") => RefusedPatch(Refusal::Gone, None), [0, 0, 12, 0, 0];
+    1000 ACME Head(2) => Refused(Refusal::Unknown), [0, 0, 12, 0, 0];
+    1000 BETA Head(1) => Refused(Refusal::Unknown), [0, 0, 12, 0, 0];
+};
+
+#[test]
+fn an_upload_expires(rt: HostRuntime) {
+    run(&rt, rt.alloc(), NUMBERS, &EXPIRED);
+}
+
+// A length that is told late: with a refused PATCH it is not kept, and once kept it stays.
+static LENGTH_TOLD_LATE: [Step; 7] = steps! {
+    1000 ACME Post(None) => Created(1, Some(4600)), [0, 0, 12, 0, 0];
+    1000 ACME PatchOf(1, 1, 9, b"") => RefusedPatch(Refusal::Offset, Some(4600)), [0, 0, 12, 0, 0];
+    1000 ACME Head(1) => Row(Kind::Plain, 0, None, Some(4600)), [0, 0, 12, 0, 0];
+    1000 ACME PatchOf(1, 0, 5, b"abcde") => Appended(5, None), [2, 0, 10, 2, 0];
+    1000 ACME PatchOf(1, 5, 6, b"") => RefusedPatch(Refusal::LengthFixed, None), [2, 0, 10, 2, 0];
+    1000 ACME PatchOf(1, 5, 5, b"") => Appended(5, None), [2, 0, 10, 2, 0];
+    1000 ACME Head(1) => Row(Kind::Plain, 5, Some(5), None), [2, 0, 10, 2, 0];
+};
+
+#[test]
+fn an_upload_is_told_its_length(rt: HostRuntime) {
+    run(&rt, rt.alloc(), NUMBERS, &LENGTH_TOLD_LATE);
+}
+
+static CONTENTS: [Step; 10] = steps! {
+    1000 ACME Post(Some(5)) => Created(1, Some(4600)), [0, 0, 12, 0, 0];
+    1000 ACME Post(Some(0)) => Created(2, None), [0, 0, 12, 0, 0];
+    1000 ACME Post(None) => Created(3, Some(4600)), [0, 0, 12, 0, 0];
+    1000 ACME Get(1) => Refused(Refusal::Unfinished), [0, 0, 12, 0, 0];
+    9000 ACME Get(2) => Bytes(b""), [0, 0, 12, 0, 0];
+    4599 ACME Get(3) => Refused(Refusal::Unfinished), [0, 0, 12, 0, 0];
+    4600 ACME Get(3) => Refused(Refusal::Gone), [0, 0, 12, 0, 0];
+    1000 ACME Get(4) => Refused(Refusal::Unknown), [0, 0, 12, 0, 0];
+    1000 ACME Patch(1, 0, b"abcde") => Appended(5, None), [2, 0, 10, 2, 0];
+    9000 ACME Get(1) => Bytes(b"abcde"), [2, 0, 10, 2, 0];
+};
+
+#[test]
+fn contents(rt: HostRuntime) {
+    run(&rt, rt.alloc(), NUMBERS, &CONTENTS);
+}
+
+// Without its content type, a PATCH is refused after an upload that is not there, and before a wrong offset.
+static WITHOUT_TYPE: [Step; 6] = steps! {
+    1000 ACME Post(Some(10)) => Created(1, Some(4600)), [0, 0, 12, 0, 0];
+    1000 ACME Patch(1, 0, b"a") => Appended(1, Some(4600)), [1, 0, 11, 1, 0];
+    1000 ACME Untyped(1, b"hello") => RefusedPatch(Refusal::Media, Some(4600)), [1, 0, 11, 1, 0];
+    1000 ACME Untyped(2, b"hello") => RefusedPatch(Refusal::Unknown, None), [1, 0, 11, 1, 0];
+    1000 ACME Untyped(0, b"hello") => RefusedPatch(Refusal::Unknown, None), [1, 0, 11, 1, 0];
+    1000 BETA Untyped(1, b"hello") => RefusedPatch(Refusal::Unknown, None), [1, 0, 11, 1, 0];
+};
+
+#[test]
+fn refused_patches(rt: HostRuntime) {
+    run(&rt, rt.alloc(), NUMBERS, &WITHOUT_TYPE);
+}
+
+// A checksum is asked after the length and before the quota: only bytes of that digest are kept.
+static CHECKSUMS: [Step; 9] = steps! {
+    1000 ACME Post(Some(64)) => Created(1, Some(4600)), [0, 0, 12, 0, 0];
+    1000 ACME Checked(1, 0, HELLO, b"hellp") => RefusedPatch(Refusal::Mismatch, Some(4600)), [0, 0, 12, 0, 0];
+    1000 ACME Checked(1, 0, Checksum::Other, b"hello") => RefusedPatch(Refusal::Algorithm, Some(4600)), [0, 0, 12, 0, 0];
+    2000 ACME Checked(1, 0, HELLO, b"hello") => Appended(5, Some(5600)), [2, 0, 10, 2, 0];
+    2000 ACME Checked(1, 5, NOTHING, b"") => Appended(5, Some(5600)), [2, 0, 10, 2, 0];
+    2000 ACME Checked(1, 5, HELLO, b"") => RefusedPatch(Refusal::Mismatch, Some(5600)), [2, 0, 10, 2, 0];
+    2000 ACME Checked(1, 5, Checksum::Other, b"012345678901234567890123456789012345678901234567890123456789") => RefusedPatch(Refusal::TooLong, Some(5600)), [2, 0, 10, 2, 0];
+    2000 ACME Checked(1, 5, HELLO, b"01234567890123456789012345678") => RefusedPatch(Refusal::Mismatch, Some(5600)), [2, 0, 10, 2, 0];
+    2000 ACME Patch(1, 5, b"01234567890123456789012345678") => RefusedPatch(Refusal::Quota, Some(5600)), [2, 0, 10, 2, 0];
+};
+
+#[test]
+fn checksums(rt: HostRuntime) {
+    run(&rt, rt.alloc(), NUMBERS, &CHECKSUMS);
+}
+
+// The first bytes of an upload come with its creation, and are paid; a refused creation uses no id.
+static WITH_UPLOAD: [Step; 15] = steps! {
+    1000 ACME PostUntyped(Some(4), b"hello") => Refused(Refusal::Media), [0, 0, 12, 0, 0];
+    1000 ACME PostWith(Some(4), b"hello") => Refused(Refusal::TooLong), [0, 0, 12, 0, 0];
+    1000 ACME PostWith(Some(65), b"hello") => Refused(Refusal::TooLong), [0, 0, 12, 0, 0];
+    1000 ACME PostChecked(Some(10), Checksum::Other, b"hello") => Refused(Refusal::Algorithm), [0, 0, 12, 0, 0];
+    1000 ACME PostChecked(Some(10), HELLO, b"hellp") => Refused(Refusal::Mismatch), [0, 0, 12, 0, 0];
+    1000 ACME PostChecked(Some(10), HELLO, b"hello") => Created(1, Some(4600)), [2, 0, 10, 2, 0];
+    1000 ACME Patch(1, 5, b"world") => Appended(10, None), [3, 0, 9, 3, 0];
+    9000 ACME Get(1) => Bytes(b"helloworld"), [3, 0, 9, 3, 0];
+    1000 ACME PostWith(Some(5), b"abcde") => Created(2, None), [5, 0, 7, 5, 0];
+    1000 ACME PostWith(None, b"") => Created(3, Some(4600)), [5, 0, 7, 5, 0];
+    1000 ACME PostWith(Some(20), b"0123456789012") => Refused(Refusal::Quota), [5, 0, 7, 5, 0];
+    1000 BETA PostWith(Some(20), b"01234567890123456") => Refused(Refusal::Quota), [5, 0, 7, 5, 0];
+    1000 BETA PostWith(Some(20), b"0123456789012345") => Created(1, Some(4600)), [5, 4, 3, 9, 0];
+    1000 ACME PostChecked(Some(20), HELLO, b"0123456789012") => Refused(Refusal::Mismatch), [5, 4, 3, 9, 0];
+    1000 ACME Delete(2) => Removed(2, 2), [3, 4, 5, 9, 2];
+};
+
+// Blocks that all tenants may be charged in all are used up by a creation too.
+static SPENT_BY_CREATIONS: [Step; 3] = steps! {
+    1000 ACME PostWith(Some(10), b"hello") => Created(1, Some(4600)), [2, 0, 10, 2, 0];
+    1000 BETA PostWith(Some(10), b"hello") => Refused(Refusal::Spent), [2, 0, 10, 2, 0];
+    1000 BETA PostWith(Some(10), b"hell") => Created(1, Some(4600)), [2, 1, 9, 3, 0];
+};
+
+#[test]
+fn creations_with_upload(rt: HostRuntime) {
+    run(&rt, rt.alloc(), NUMBERS, &WITH_UPLOAD);
+    run(
+        &rt,
+        rt.alloc(),
+        numbers!(last_total: 3),
+        &SPENT_BY_CREATIONS,
+    );
+}
+
+// A refused creation uses no id.
+static TOO_LONG: [Step; 3] = steps! {
+    1000 ACME Post(Some(65)) => Refused(Refusal::TooLong), [0, 0, 12, 0, 0];
+    1000 ACME Post(Some(64)) => Created(1, Some(4600)), [0, 0, 12, 0, 0];
+    1000 ACME Head(2) => Refused(Refusal::Unknown), [0, 0, 12, 0, 0];
+};
+
+// An id is used up, also where its upload has ended.
+static TWO_IDS: [Step; 4] = steps! {
+    1000 ACME Post(Some(1)) => Created(1, Some(4600)), [0, 0, 12, 0, 0];
+    1000 ACME Delete(1) => Removed(0, 0), [0, 0, 12, 0, 0];
+    1000 ACME Post(Some(1)) => Created(2, Some(4600)), [0, 0, 12, 0, 0];
+    1000 ACME Post(Some(1)) => Refused(Refusal::Spent), [0, 0, 12, 0, 0];
+};
+
+// An expired upload counts until a sweep ends it, and one that was ended does not. Damaged bytes are told as such first.
+static ONE_UPLOAD: [Step; 8] = steps! {
+    1000 ACME Post(Some(1)) => Created(1, Some(4600)), [0, 0, 12, 0, 0];
+    4600 ACME Post(Some(1)) => Refused(Refusal::Uploads), [0, 0, 12, 0, 0];
+    4600 ACME PostChecked(Some(5), Checksum::Other, b"hello") => Refused(Refusal::Algorithm), [0, 0, 12, 0, 0];
+    4600 ACME PostChecked(Some(5), HELLO, b"hellp") => Refused(Refusal::Mismatch), [0, 0, 12, 0, 0];
+    4600 ACME Sweep => Swept(1, 0, 0), [0, 0, 12, 0, 0];
+    4600 ACME Post(Some(1)) => Created(2, Some(8200)), [0, 0, 12, 0, 0];
+    4600 ACME Delete(2) => Removed(0, 0), [0, 0, 12, 0, 0];
+    4600 ACME Post(Some(1)) => Created(3, Some(8200)), [0, 0, 12, 0, 0];
+};
+
+#[test]
+fn refused_creations(rt: HostRuntime) {
+    run(&rt, rt.alloc(), NUMBERS, &TOO_LONG);
+    run(&rt, rt.alloc(), numbers!(last_id: 2), &TWO_IDS);
+    run(&rt, rt.alloc(), numbers!(uploads: 1), &ONE_UPLOAD);
 }
