@@ -17,6 +17,7 @@ use Rattle.upload_book.specs.Events.{ChangeEvent, book_after_all, book_after_eve
 use Rattle.upload_book.specs.PlainBook.{PlainBook, opening_book}
 use Rattle.upload_book.specs.Settings.{Settings}
 use Rattle.kept_book.specs.declared.kept.KeptBook.{KeptBook}
+use Rattle.kept_book.specs.declared.log.Log.{Log}
 use Rattle.kept_book.specs.Kept.{book_in, disk_in, key_in, IsKept, IsLeft, IsLog}
 
 -- ---- one event more
@@ -73,6 +74,13 @@ ok_is x y is = cc
 -- ---- a change
 
 module _ {D : Type 0} {g : Ghosts D} where
+  -- a frame that is made changes no journal
+  pub same-log : (old new : Log D g) (payloads : List (List ℕ)) → new.journal ≡ old.journal → new.key ≡ old.key → IsLog old payloads → IsLog new payloads
+  same-log old new payloads journal key is = record {
+    journal = subst (λ (j : Journal D g). IsJournal j payloads []) (sym journal) is.journal;
+    key = key ∙ is.key ∙ ap key_of (sym journal);
+  }
+
   -- a change that was made and whose record is kept
   pub kept-made : (old new : KeptBook D g) (s : Settings) (events : List ChangeEvent) (change : Change) (now : ℕ) → IsKept old s events → Happens (book_in old) (record { change = change; now = now }) → IsLog new.log (records_of events ++ record_of (record { change = change; now = now }) ∷ [])
       → book_in new ≡ book_after_change (book_in old) change now → IsKept new s (events ++ record { change = change; now = now } ∷ [])

@@ -1,9 +1,9 @@
 -- What a kept book keeps, and what a crash leaves of it.
-use Rattle.std.specs.Prelude.{◌≡◌, ℕ, ◌≤◌, Bool, List, [], ◌++◌, length, IsTrue}
+use Rattle.std.specs.Prelude.{◌≡◌, ℕ, ◌≤◌, Bool, List, [], ◌∷◌, ◌++◌, length, IsTrue}
 use Rattle.sqlite_disk.specs.declared.Disk.{Ghosts}
 use Rattle.book_replay.specs.Replay.{AllHappen, records_of}
 use Rattle.journal_file.specs.Journal.{disk_of, key_of, IsJournal}
-use Rattle.journal_frames.specs.Frames.{recovered, tail_of}
+use Rattle.journal_frames.specs.Frames.{frames, recovered, tail_of, Fits}
 use Rattle.journal_frames.specs.declared.tail.Tail.TheVariants.{Torn}
 use Rattle.upload_book.specs.Book.{plain_of}
 use Rattle.upload_book.specs.Events.{ChangeEvent, book_after_all}
@@ -34,6 +34,11 @@ module _ {D : Type 0} {g : Ghosts D} where
 pub record IsLog {D : Type 0} {g : Ghosts D} (log : Log D g) (payloads : List (List ℕ)) : Type 0 where
   pub journal : IsJournal log.journal payloads []
   pub key : log.key ≡ key_of log.journal
+
+-- the frame that was made last is that of this record, which a frame can hold
+pub record HasFrame {D : Type 0} {g : Ghosts D} (log : Log D g) (payload : List ℕ) : Type 0 where
+  pub fits : Fits payload
+  pub frame : log.frame.items ≡ frames log.key (payload ∷ [])
 
 -- These events happened to a book of these settings since its opening, one after another. Their records are all that the
 -- journal has, synced, and the book is the plain book after them.

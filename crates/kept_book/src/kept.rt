@@ -16,7 +16,6 @@ ghost use Rattle.kept_book.specs.OpenFault.{IsOutsideFile};
 ghost use Rattle.kept_book.specs.Sweeping.{IsSwept};
 ghost use Rattle.upload_book.specs.Sweep.{EndsNone};
 
-use crate::copied::copied;
 use crate::done::Done;
 use crate::fault::{KeepFault, NotKept, OpenFault};
 use crate::log::Log;
@@ -247,16 +246,18 @@ impl<D: Disk> KeptBook<D> {
         ensures stays { book_in self.new ≡ book_in self.old }
         ensures log { self.new.log ≡ self.old.log }
     {
-        let copy = copied(&change);
+        let lacking = refused_for_memory(&self.book, &change, now);
         match self.book.prepare(change, now) {
-            Ok(ready) => drop(ready),
-            Err(refused) => return refused,
+            Ok(ready) => {
+                drop(ready);
+                lacking
+            }
+            Err(refused) => refused,
         }
-        refused_for_memory(&self.book, &copy, now)
     }
 
-    // Makes a change of the book: it is prepared, its record is kept, and then the change, which can no longer fail, is
-    // committed. So nothing is kept of a change that is refused, and none is made that is not kept.
+    // Makes a change of the book: its record is framed and it is prepared, the record is kept, and then the change, which can
+    // no longer fail, is committed. So nothing is kept of a change that is refused, and none is made that is not kept.
     fn make(&mut self, change: Change, now: Moment) -> Result<Done, KeepFault>
         requires { CanBeMade (length (book_in self.old).settings.tenants) change }
         ensures done { IfOk result (λ done. IsDone (book_in self.old) change.entry now done (book_in self.new)) }
@@ -274,13 +275,17 @@ impl<D: Disk> KeptBook<D> {
     {
         let _in_range = now.secs();
         tell_fits(self.book.settings().tenant_count(), &change);
-        let copy = copied(&change);
+        let lacking = refused_for_memory(&self.book, &change, now);
+        let is_framed = self.log.frame(&change, now);
         let ready = match self.book.prepare(change, now) {
             Ok(ready) => ready,
             Err(refused) => return Ok(Done::Told(Err(refused))),
         };
-        if !self.log.keep(&copy, now)? {
-            return Ok(Done::Unkept(refused_for_memory(&self.book, &copy, now)));
+        if !is_framed {
+            return Ok(Done::Unkept(lacking));
+        }
+        if !self.log.keep()? {
+            return Ok(Done::Unkept(lacking));
         }
         Ok(Done::Told(Ok(self.book.commit(ready))))
     }

@@ -1,7 +1,6 @@
 //! A book that outlives its process: each change stands in a journal, synced, before any reply tells of it.
 #![tactic(auto)]
 
-mod copied;
 mod done;
 mod fault;
 mod keeping;

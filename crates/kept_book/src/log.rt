@@ -3,7 +3,7 @@ ghost use Rattle.std.specs.Prelude.{◌≡◌, ◌≤◌, ℕ, List, [], ◌∷�
 ghost use Rattle.journal_file.specs.Journal.{disk_of, key_of};
 ghost use Rattle.journal_frames.specs.Crash.{Leaves};
 ghost use Rattle.journal_records.specs.Records.{record_bytes};
-ghost use Rattle.kept_book.specs.Kept.{IsLog};
+ghost use Rattle.kept_book.specs.Kept.{HasFrame, IsLog};
 
 use crate::fault::KeepFault;
 use crate::keeping::keep;
@@ -48,26 +48,40 @@ impl<D: Disk> Log<D> {
         journal.into_disk()
     }
 
-    // Keeps the record of a change: it is appended and synced, where there is room for it or room can be made. Whether it
-    // is kept; where it is not, nothing is kept that was not before.
+    // Makes the frame of a change's record, in the place of the frame before. Whether there was memory for it.
+    pub(crate) fn frame(&mut self, change: &Change, now: Moment) -> bool
+        ensures framed { IsTrue result → HasFrame self.new (record_bytes now change.now) }
+        ensures journal { self.new.journal ≡ self.old.journal }
+        ensures key { self.new.key ≡ self.old.key }
+        ensures same { self.new.has_failed ≡ self.old.has_failed }
+    {
+        let room = replace(&mut self.frame, Vec::new(self.alloc));
+        let Some(frame) = frame_of(room, self.key, now, change) else {
+            return false;
+        };
+        self.frame = frame;
+        true
+    }
+
+    // Keeps the record whose frame was made last: it is appended and synced, where there is room for it or room can be made.
+    // Whether it is kept; where it is not, nothing is kept that was not before.
     //
     // `Err` where a write or a sync failed, and then it has failed.
-    pub(crate) fn keep(&mut self, change: &Change, now: Moment) -> Result<bool, KeepFault>
-        ensures kept { (payloads : List (List ℕ)) → IsLog self.old payloads
-            → IfOk result (λ kept. IsLog self.new (if kept then payloads ++ record_bytes now change.now ∷ [] else payloads)) }
-        ensures crash { (payloads : List (List ℕ)) → IsLog self.old payloads
+    pub(crate) fn keep(&mut self) -> Result<bool, KeepFault>
+        ensures kept { (payloads : List (List ℕ)) (payload : List ℕ)
+            → IsLog self.old payloads
+            → HasFrame self.old payload
+            → IfOk result (λ kept. IsLog self.new (if kept then payloads ++ payload ∷ [] else payloads)) }
+        ensures crash { (payloads : List (List ℕ)) (payload : List ℕ)
+            → IsLog self.old payloads
+            → HasFrame self.old payload
             → (c : List ℕ) → D.may_leave (disk_of self.new.journal) c
-            → Leaves (key_of self.old.journal) payloads (record_bytes now change.now ∷ []) c }
+            → Leaves (key_of self.old.journal) payloads (payload ∷ []) c }
         ensures key { key_of self.new.journal ≡ key_of self.old.journal }
         ensures failed { OnErr result (self.new.has_failed ≡ true) }
         ensures works { OnOk result (self.old.has_failed ≡ false → self.new.has_failed ≡ false) }
         ensures fault { IsErrOf result KeepFault.Ended → ⊥ }
     {
-        let room = replace(&mut self.frame, Vec::new(self.alloc));
-        let Some(frame) = frame_of(room, self.key, now, change) else {
-            return Ok(false);
-        };
-        self.frame = frame;
         self.has_failed = true;
         let kept = keep(&mut self.journal, &self.frame)?;
         self.has_failed = false;
