@@ -1,7 +1,9 @@
+pub mod AppendingLemmas
 pub mod Bytes
 pub mod DraftLemmas
 pub mod JournalLemmas
 pub mod Losses
+pub mod OpeningLemmas
 pub mod ReadAgain
 pub mod RecoverLemmas
 pub mod Zeros

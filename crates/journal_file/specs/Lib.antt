@@ -1,3 +1,4 @@
+pub mod Appending
 pub mod Draft
 pub mod Journal
 pub mod JournalError

@@ -1,10 +1,12 @@
 //! A journal in one file: payloads as frames over zeros, synced when the caller says so, and read again after a crash.
 #![tactic(auto)]
 
+mod appending;
 mod draft;
 mod error;
 mod filling;
 mod journal;
+mod opening;
 mod place;
 mod recovered;
 

@@ -1,5 +1,5 @@
 -- What a file that a kept book left is not called.
-use Rattle.std.proofs.Common.{◌≡◌, ℕ, Bool, List, Result, Ok, IsTrue, refl, subst}
+use Rattle.std.proofs.Common.{◌≡◌, ℕ, Bool, List, Result, Ok, Err, IfErr, IfOk, IsTrue, refl, subst}
 use Rattle.book_replay.specs.Fault.{IsReplayFault}
 use Rattle.book_replay.specs.declared.fault.ReplayFault.{ReplayFault}
 use Rattle.book_replay.specs.declared.fault.ReplayFault.TheVariants as replay
@@ -41,3 +41,20 @@ place-told seen is_clean key first opened last (Journal Memory) told same = tt
 place-told seen is_clean key first opened last (Journal (Disk error)) told same = tt
 place-told seen is_clean key first opened last (Replay why) told same = tt
 place-told seen is_clean key first opened last opens.Memory told same = tt
+
+-- ---- where a disk told no lie
+
+-- what holds of an opened book whose disk is this one
+pub clean-ok : {T E X : Type 0} (r : Result T E) (disk : T → X) (d : X) (IsClean : X → Type 0) (P : T → Type 0) → IfOk r (λ t. disk t ≡ d) → (IsClean d → IfOk r P) → IfOk r (λ t. IsClean (disk t) → P t)
+clean-ok (Ok t) disk d IsClean P same holds = λ clean. holds (subst IsClean same clean)
+clean-ok (Err e) disk d IsClean P same holds = tt
+
+-- and of one that is not opened
+pub clean-err : {T E X : Type 0} (r : Result T E) (disk : E → X) (d : X) (IsClean : X → Type 0) (P : E → Type 0) → IfErr r (λ e. disk e ≡ d) → (IsClean d → IfErr r P) → IfErr r (λ e. IsClean (disk e) → P e)
+clean-err (Ok t) disk d IsClean P same holds = tt
+clean-err (Err e) disk d IsClean P same holds = λ clean. holds (subst IsClean same clean)
+
+-- what follows of an error
+pub err-weaker : {T E : Type 0} (r : Result T E) (P Q : E → Type 0) → ((e : E) → P e → Q e) → IfErr r P → IfErr r Q
+err-weaker (Ok t) P Q step p = tt
+err-weaker (Err e) P Q step p = step e p

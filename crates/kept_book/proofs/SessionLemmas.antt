@@ -9,7 +9,7 @@ use Rattle.upload_book.specs.PlainBook.{PlainBook, opening_book}
 use Rattle.upload_book.specs.Settings.{Settings}
 use Rattle.kept_book.specs.Answer.{GoesOn, IsKeptStep}
 use Rattle.kept_book.specs.declared.kept.KeptBook.{KeptBook}
-use Rattle.kept_book.specs.Kept.{book_in, disk_in, key_in, IsKept, IsLeft}
+use Rattle.kept_book.specs.Kept.{book_in, disk_in, key_in, IsKept, IsLeftWithOneMore}
 use Rattle.kept_book.specs.Session.{IsRun, IsSession}
 
 run-next : (b : PlainBook) (turns : List (Request × ℕ)) (replies : List Reply) (middle : PlainBook) (turn : Request × ℕ) (told : Reply) (after : PlainBook) → IsRun b turns replies middle → IsKeptStep middle turn.0 turn.1 told after → IsRun b (turns ++ turn ∷ []) (replies ++ told ∷ []) after
@@ -45,7 +45,7 @@ module _ {D : Type 0} {g : Ghosts D} where
 
   -- whatever happened then
   pub runs-end : (old kept new : KeptBook D g) (s : Settings) (events : List ChangeEvent) (turns : List (Request × ℕ)) (i : ℕ) (replies : List Reply) → length replies ≡ i → (so_far : RunsTo (book_in old) kept s events (take i turns) replies)
-      → ((c : List ℕ) → g.may_leave (disk_in new) c → IsLeft (key_in old) s (events ++ so_far.told) c) → IsSession old new s events turns replies
+      → ((c : List ℕ) → g.may_leave (disk_in new) c → IsLeftWithOneMore (key_in old) s (events ++ so_far.told) c) → IsSession old new s events turns replies
   runs-end old kept new s events turns i replies count so_far left = record {
     told = so_far.told;
     run =

@@ -10,14 +10,14 @@ use Rattle.upload_book.specs.Events.{ChangeEvent, book_after_all}
 use Rattle.upload_book.specs.PlainBook.{PlainBook, opening_book}
 use Rattle.upload_book.specs.Settings.{Settings}
 use Rattle.kept_book.specs.declared.kept.KeptBook.{KeptBook}
-use Rattle.kept_book.specs.declared.log.Log.{Log}
+use Rattle.kept_book.specs.declared.log.RecordLog.{RecordLog}
 
 module _ {D : Type 0} {g : Ghosts D} where
   abbrev pub book_in : KeptBook D g → PlainBook
   book_in kept = plain_of kept.book
 
   -- the journal, its key, and whether it has failed
-  abbrev pub log_in : KeptBook D g → Log D g
+  abbrev pub log_in : KeptBook D g → RecordLog D g
   log_in kept = kept.log
 
   abbrev pub disk_in : KeptBook D g → D
@@ -31,25 +31,25 @@ module _ {D : Type 0} {g : Ghosts D} where
   has_failed kept = kept.log.has_failed
 
 -- the journal has these payloads, all synced, under the key that is kept beside it
-pub record IsLog {D : Type 0} {g : Ghosts D} (log : Log D g) (payloads : List (List ℕ)) : Type 0 where
+pub record IsRecordLog {D : Type 0} {g : Ghosts D} (log : RecordLog D g) (payloads : List (List ℕ)) : Type 0 where
   pub journal : IsJournal log.journal payloads []
   pub key : log.key ≡ key_of log.journal
 
 -- the frame that was made last is that of this record, which a frame can hold
-pub record HasFrame {D : Type 0} {g : Ghosts D} (log : Log D g) (payload : List ℕ) : Type 0 where
+pub record HasFrame {D : Type 0} {g : Ghosts D} (log : RecordLog D g) (payload : List ℕ) : Type 0 where
   pub fits : Fits payload
   pub frame : log.frame.items ≡ frames log.key (payload ∷ [])
 
 -- These events happened to a book of these settings since its opening, one after another. Their records are all that the
 -- journal has, synced, and the book is the plain book after them.
 pub record IsKept {D : Type 0} {g : Ghosts D} (kept : KeptBook D g) (s : Settings) (events : List ChangeEvent) : Type 0 where
-  pub log : IsLog kept.log (records_of events)
+  pub log : IsRecordLog kept.log (records_of events)
   pub happened : AllHappen (opening_book s) events
   pub book : book_in kept ≡ book_after_all (opening_book s) events
 
 -- What a crash leaves where these events are kept: their records, and at most one more, of an event that the book after
 -- them accepts, and no damage.
-pub record IsLeft (key : ℕ) (s : Settings) (events : List ChangeEvent) (file : List ℕ) : Type 0 where
+pub record IsLeftWithOneMore (key : ℕ) (s : Settings) (events : List ChangeEvent) (file : List ℕ) : Type 0 where
   pub more : List ChangeEvent
   pub few : length more ≤ 1
   pub happened : AllHappen (opening_book s) (events ++ more)

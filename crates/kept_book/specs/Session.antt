@@ -8,7 +8,7 @@ use Rattle.upload_book.specs.PlainBook.{PlainBook, opening_book}
 use Rattle.upload_book.specs.Settings.{Settings}
 use Rattle.kept_book.specs.Answer.{IsKeptStep}
 use Rattle.kept_book.specs.declared.kept.KeptBook.{KeptBook}
-use Rattle.kept_book.specs.Kept.{book_in, disk_in, key_in, IsLeft}
+use Rattle.kept_book.specs.Kept.{book_in, disk_in, key_in, IsLeftWithOneMore}
 
 -- the requests get these replies, one each and in their order, and the book is the last one in the end
 abbrev pub IsRun : PlainBook → List (Request × ℕ) → List Reply → PlainBook → Type 0
@@ -22,4 +22,4 @@ IsRun b (turn ∷ turns) (reply ∷ replies) after = (middle : PlainBook) × IsK
 pub record IsSession {D : Type 0} {g : Ghosts D} (old new : KeptBook D g) (s : Settings) (events : List ChangeEvent) (turns : List (Request × ℕ)) (replies : List Reply) : Type 0 where
   pub told : List ChangeEvent
   pub run : IsRun (book_in old) (take (length replies) turns) replies (book_after_all (opening_book s) (events ++ told))
-  pub left : (c : List ℕ) → g.may_leave (disk_in new) c → IsLeft (key_in old) s (events ++ told) c
+  pub left : (c : List ℕ) → g.may_leave (disk_in new) c → IsLeftWithOneMore (key_in old) s (events ++ told) c

@@ -1,5 +1,5 @@
 ghost use Rattle.std.specs.Prelude.{◌≡◌};
-ghost use Rattle.kept_book.specs.declared.fault.KeepFault.TheVariants as keeps;
+ghost use Rattle.kept_book.specs.declared.fault.AnswerFault.TheVariants as keeps;
 ghost use Rattle.kept_book.specs.declared.fault.OpenFault.TheVariants as opens;
 
 use book_replay::ReplayFault;
@@ -10,7 +10,7 @@ use thiserror::Error;
 
 /// Why a kept book answers nothing more. What its file holds is to be opened again.
 #[derive(Debug, Drop, Error)]
-pub enum KeepFault {
+pub enum AnswerFault {
     /// A write or a sync of the journal failed.
     #[error("the journal: {0}")]
     Journal(JournalError),
@@ -19,11 +19,11 @@ pub enum KeepFault {
     Ended,
 }
 
-impl From<JournalError> for KeepFault {
+impl From<JournalError> for AnswerFault {
     ghost from_gives = { λ error why. why ≡ keeps.Journal error };
 
-    fn from(error: JournalError) -> KeepFault {
-        KeepFault::Journal(error)
+    fn from(error: JournalError) -> AnswerFault {
+        AnswerFault::Journal(error)
     }
 }
 

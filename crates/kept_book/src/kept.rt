@@ -1,5 +1,5 @@
-ghost use Rattle.std.specs.Prelude.{◌≡◌, ◌++◌, [], ℕ, List, true, false, length, IsTrue, IfErr, IfOk, IsErrOf, OnErr, OnOk};
-ghost use Rattle.journal_file.specs.Journal.{disk_of};
+ghost use Rattle.std.specs.Prelude.{◌≡◌, ◌≢◌, ◌++◌, [], ℕ, List, true, false, length, IsTrue, IfErr, IfOk, IsErrOf, OnErr, OnOk};
+ghost use Rattle.journal_file.specs.Journal.{disk_of, key_of, IsJournal};
 ghost use Rattle.journal_file.specs.JournalError.{IsDamagedAt};
 ghost use Rattle.journal_file.specs.declared.error.Damage.{Damage};
 ghost use Rattle.journal_file.specs.declared.error.JournalError.TheVariants as JournalError;
@@ -17,10 +17,10 @@ ghost use Rattle.kept_book.specs.Sweeping.{IsSwept};
 ghost use Rattle.upload_book.specs.Sweep.{EndsNone};
 
 use crate::done::Done;
-use crate::fault::{KeepFault, NotKept, OpenFault};
-use crate::log::Log;
+use crate::fault::{AnswerFault, NotKept, OpenFault};
+use crate::log::RecordLog;
 use book_replay::{replay, tell_fits};
-use journal_file::{Journal, NotOpened};
+use journal_file::{Journal, NotOpened, Opened};
 use journal_frames::Frames;
 use sqlite_disk::Disk;
 use std::alloc::Global;
@@ -31,14 +31,14 @@ use upload_book::{Book, Change, Moment, Outcome, Refused, Settings, Swept};
 #[derive(Drop)]
 pub struct KeptBook<D: Disk> {
     book: Book,
-    log: Log<D>,
+    log: RecordLog<D>,
 }
 
 impl<D: Disk> KeptBook<D> {
     ghost use Rattle.book_replay.specs.Replay.{AllHappen, records_of};
     ghost use Rattle.kept_book.specs.Answer.{GoesOn, IsKeptStep, IsUnkeptAnswer};
     ghost use Rattle.kept_book.specs.Done.{added, IsDone, IsRefused};
-    ghost use Rattle.kept_book.specs.Kept.{book_in, disk_in, has_failed, key_in, log_in, IsKept, IsLeft};
+    ghost use Rattle.kept_book.specs.Kept.{book_in, disk_in, has_failed, key_in, log_in, IsKept, IsLeftWithOneMore};
 
     /// Makes a book of these settings without an upload, over an empty journal under this key with so much room, over
     /// whatever the file held. A crash before it is `Ok` may leave any file.
@@ -61,7 +61,7 @@ impl<D: Disk> KeptBook<D> {
     {
         let book = Book::new(alloc, settings)?;
         let journal = Journal::create(disk, key, room)?;
-        let log = Log::new(alloc, journal, key);
+        let log = RecordLog::new(alloc, journal, key);
         Ok(KeptBook { book, log })
     }
 
@@ -92,13 +92,38 @@ impl<D: Disk> KeptBook<D> {
         ensures key { IfOk result (λ kept. key_in kept ≡ key) }
         ensures works { IfOk result (λ kept. has_failed kept ≡ false) }
     {
-        let opened = match Journal::open(alloc, disk, key) {
-            Ok(opened) => opened,
-            Err(not) => return Err(not_opened(not)),
-        };
+        match Journal::open(alloc, disk, key) {
+            Ok(opened) => KeptBook::of_opened(alloc, settings, opened, key),
+            Err(not) => Err(not_opened(not)),
+        }
+    }
+
+    // The book of these settings that is made again of the records of a journal, which was opened under this key.
+    pub(crate) fn of_opened(
+        alloc: Global,
+        settings: Settings,
+        opened: Opened<D>,
+        key: u64,
+    ) -> Result<KeptBook<D>, NotKept<D>>
+        requires key { key_of opened.journal ≡ key }
+        ensures kept { (events : List ChangeEvent)
+            → AllHappen (opening_book settings) events
+            → recovered key opened.frames.items ≡ records_of events
+            → IsJournal opened.journal (records_of events) []
+            → IfOk result (λ kept. IsKept kept settings events) }
+        ensures accepts { (events : List ChangeEvent)
+            → AllHappen (opening_book settings) events
+            → recovered key opened.frames.items ≡ records_of events
+            → IfErr result (λ not. IsOutsideFile not.why) }
+        ensures disk { IfOk result (λ kept. disk_in kept ≡ disk_of opened.journal) }
+        ensures given_back { IfErr result (λ not. not.disk ≡ disk_of opened.journal) }
+        ensures key { IfOk result (λ kept. key_in kept ≡ key) }
+        ensures works { IfOk result (λ kept. has_failed kept ≡ false) }
+        ensures why { IfErr result (λ not. (damage : Damage) → not.why ≢ OpenFault.Journal (JournalError.Damaged damage)) }
+    {
         match replay(alloc, settings, Frames::new(key, &opened.frames)) {
             Ok(book) => {
-                let log = Log::new(alloc, opened.journal, key);
+                let log = RecordLog::new(alloc, opened.journal, key);
                 Ok(KeptBook { book, log })
             }
             Err(fault) => Err(NotKept {
@@ -134,7 +159,7 @@ impl<D: Disk> KeptBook<D> {
     pub fn tell_crash(&self)
         ensures { (s : Numbers) (events : List ChangeEvent)
             → IsKept self.now s events
-            → (c : List ℕ) → D.may_leave (disk_in self.now) c → IsLeft (key_in self.now) s events c }
+            → (c : List ℕ) → D.may_leave (disk_in self.now) c → IsLeftWithOneMore (key_in self.now) s events c }
     {}
 
     /// Answers a request and applies it to the book, as the plain book does at this moment ([`tus_steps::answer`]). A
@@ -149,23 +174,23 @@ impl<D: Disk> KeptBook<D> {
         request: &Request,
         now: Moment,
         reply: &mut PlacedReply,
-    ) -> Result<(), KeepFault>
+    ) -> Result<(), AnswerFault>
         ensures step { OnOk result (IsKeptStep (book_in self.old) request.now now (reply_in reply.new) (book_in self.new)) }
         ensures kept { (s : Numbers) (events : List ChangeEvent)
             → IsKept self.old s events → OnOk result (GoesOn self.new s events) }
         // Whatever it answers, a crash leaves all that was kept before, and the change of this request or not.
         ensures crash { (s : Numbers) (events : List ChangeEvent)
             → IsKept self.old s events
-            → (c : List ℕ) → D.may_leave (disk_in self.new) c → IsLeft (key_in self.old) s events c }
+            → (c : List ℕ) → D.may_leave (disk_in self.new) c → IsLeftWithOneMore (key_in self.old) s events c }
         ensures key { key_in self.new ≡ key_in self.old }
         ensures failed { OnErr result (has_failed self.new ≡ true) }
         ensures works { OnOk result (has_failed self.new ≡ false) }
         ensures stays { OnErr result (book_in self.new ≡ book_in self.old) }
-        ensures due { IsErrOf result KeepFault.Ended → has_failed self.old ≡ true }
-        ensures ended { has_failed self.old ≡ true → IsErrOf result KeepFault.Ended × (self.new ≡ self.old) }
+        ensures due { IsErrOf result AnswerFault.Ended → has_failed self.old ≡ true }
+        ensures ended { has_failed self.old ≡ true → IsErrOf result AnswerFault.Ended × (self.new ≡ self.old) }
     {
         if self.log.has_failed {
-            return Err(KeepFault::Ended);
+            return Err(AnswerFault::Ended);
         }
         let mut ids = PartIds::new();
         match asked_of(self.book.settings(), request, &mut ids) {
@@ -187,22 +212,22 @@ impl<D: Disk> KeptBook<D> {
     /// changes.
     ///
     /// `Err` as of [`KeptBook::answer`].
-    pub fn sweep(&mut self, now: Moment) -> Result<Option<Swept>, KeepFault>
+    pub fn sweep(&mut self, now: Moment) -> Result<Option<Swept>, AnswerFault>
         ensures swept { IfOk result (λ swept. IsSwept (book_in self.old) now swept (book_in self.new)) }
         ensures kept { (s : Numbers) (events : List ChangeEvent)
             → IsKept self.old s events → OnOk result (GoesOn self.new s events) }
         ensures crash { (s : Numbers) (events : List ChangeEvent)
             → IsKept self.old s events
-            → (c : List ℕ) → D.may_leave (disk_in self.new) c → IsLeft (key_in self.old) s events c }
+            → (c : List ℕ) → D.may_leave (disk_in self.new) c → IsLeftWithOneMore (key_in self.old) s events c }
         ensures key { key_in self.new ≡ key_in self.old }
         ensures failed { OnErr result (has_failed self.new ≡ true) }
         ensures works { OnOk result (has_failed self.new ≡ false) }
         ensures stays { OnErr result (book_in self.new ≡ book_in self.old) }
-        ensures due { IsErrOf result KeepFault.Ended → has_failed self.old ≡ true }
-        ensures ended { has_failed self.old ≡ true → IsErrOf result KeepFault.Ended × (self.new ≡ self.old) }
+        ensures due { IsErrOf result AnswerFault.Ended → has_failed self.old ≡ true }
+        ensures ended { has_failed self.old ≡ true → IsErrOf result AnswerFault.Ended × (self.new ≡ self.old) }
     {
         if self.log.has_failed {
-            return Err(KeepFault::Ended);
+            return Err(AnswerFault::Ended);
         }
         if is_fresh(&self.book, now) {
             return Ok(Some(Swept {
@@ -258,7 +283,7 @@ impl<D: Disk> KeptBook<D> {
 
     // Makes a change of the book: its record is framed and it is prepared, the record is kept, and then the change, which can
     // no longer fail, is committed. So nothing is kept of a change that is refused, and none is made that is not kept.
-    fn make(&mut self, change: Change, now: Moment) -> Result<Done, KeepFault>
+    fn make(&mut self, change: Change, now: Moment) -> Result<Done, AnswerFault>
         requires { CanBeMade (length (book_in self.old).settings.tenants) change }
         ensures done { IfOk result (λ done. IsDone (book_in self.old) change.entry now done (book_in self.new)) }
         ensures kept { (s : Numbers) (events : List ChangeEvent)
@@ -266,12 +291,12 @@ impl<D: Disk> KeptBook<D> {
             → IfOk result (λ done. IsKept self.new s (events ++ added done change.entry now)) }
         ensures crash { (s : Numbers) (events : List ChangeEvent)
             → IsKept self.old s events
-            → (c : List ℕ) → D.may_leave (disk_in self.new) c → IsLeft (key_in self.old) s events c }
+            → (c : List ℕ) → D.may_leave (disk_in self.new) c → IsLeftWithOneMore (key_in self.old) s events c }
         ensures key { key_in self.new ≡ key_in self.old }
         ensures failed { OnErr result (has_failed self.new ≡ true) }
         ensures works { OnOk result (has_failed self.old ≡ false → has_failed self.new ≡ false) }
         ensures stays { OnErr result (book_in self.new ≡ book_in self.old) }
-        ensures fault { IsErrOf result KeepFault.Ended → ⊥ }
+        ensures fault { IsErrOf result AnswerFault.Ended → ⊥ }
     {
         let _in_range = now.secs();
         tell_fits(self.book.settings().tenant_count(), &change);

@@ -10,8 +10,8 @@ mod opening;
 mod reopening;
 mod session;
 
-pub use fault::{KeepFault, NotKept, OpenFault};
+pub use fault::{AnswerFault, NotKept, OpenFault};
 pub use kept::KeptBook;
 pub use opening::open_or_create;
 pub use reopening::crash_and_open;
-pub use session::{Answered, answer_all};
+pub use session::{SessionReplies, answer_all};

@@ -3,9 +3,9 @@ ghost use Rattle.std.specs.Prelude.{◌≡◌, ◌≤◌, ℕ, List, [], ◌∷�
 ghost use Rattle.journal_file.specs.Journal.{disk_of, key_of};
 ghost use Rattle.journal_frames.specs.Crash.{Leaves};
 ghost use Rattle.journal_records.specs.Records.{record_bytes};
-ghost use Rattle.kept_book.specs.Kept.{HasFrame, IsLog};
+ghost use Rattle.kept_book.specs.Kept.{HasFrame, IsRecordLog};
 
-use crate::fault::KeepFault;
+use crate::fault::AnswerFault;
 use crate::keeping::keep;
 use journal_file::Journal;
 use journal_records::frame_of;
@@ -16,7 +16,7 @@ use upload_book::{Change, Moment};
 
 // The journal under its key, the place of a frame, and whether a write or a sync has failed.
 #[derive(Drop)]
-pub(crate) struct Log<D: Disk> {
+pub(crate) struct RecordLog<D: Disk> {
     pub(crate) journal: Journal<D>,
     pub(crate) key: u64,
     pub(crate) frame: Vec<u8>,
@@ -24,14 +24,14 @@ pub(crate) struct Log<D: Disk> {
     pub(crate) alloc: Global,
 }
 
-impl<D: Disk> Log<D> {
+impl<D: Disk> RecordLog<D> {
     // The log of a journal under this key.
-    pub(crate) fn new(alloc: Global, journal: Journal<D>, key: u64) -> Log<D>
+    pub(crate) fn new(alloc: Global, journal: Journal<D>, key: u64) -> RecordLog<D>
         ensures journal { result.journal ≡ journal }
         ensures key { result.key ≡ key }
         ensures works { result.has_failed ≡ false }
     {
-        Log {
+        RecordLog {
             journal,
             key,
             frame: Vec::new(alloc),
@@ -44,7 +44,7 @@ impl<D: Disk> Log<D> {
     pub(crate) fn into_disk(self) -> D
         ensures { result ≡ disk_of self.journal }
     {
-        let Log { journal, .. } = self;
+        let RecordLog { journal, .. } = self;
         journal.into_disk()
     }
 
@@ -67,20 +67,20 @@ impl<D: Disk> Log<D> {
     // Whether it is kept; where it is not, nothing is kept that was not before.
     //
     // `Err` where a write or a sync failed, and then it has failed.
-    pub(crate) fn keep(&mut self) -> Result<bool, KeepFault>
+    pub(crate) fn keep(&mut self) -> Result<bool, AnswerFault>
         ensures kept { (payloads : List (List ℕ)) (payload : List ℕ)
-            → IsLog self.old payloads
+            → IsRecordLog self.old payloads
             → HasFrame self.old payload
-            → IfOk result (λ kept. IsLog self.new (if kept then payloads ++ payload ∷ [] else payloads)) }
+            → IfOk result (λ kept. IsRecordLog self.new (if kept then payloads ++ payload ∷ [] else payloads)) }
         ensures crash { (payloads : List (List ℕ)) (payload : List ℕ)
-            → IsLog self.old payloads
+            → IsRecordLog self.old payloads
             → HasFrame self.old payload
             → (c : List ℕ) → D.may_leave (disk_of self.new.journal) c
             → Leaves (key_of self.old.journal) payloads (payload ∷ []) c }
         ensures key { key_of self.new.journal ≡ key_of self.old.journal }
         ensures failed { OnErr result (self.new.has_failed ≡ true) }
         ensures works { OnOk result (self.old.has_failed ≡ false → self.new.has_failed ≡ false) }
-        ensures fault { IsErrOf result KeepFault.Ended → ⊥ }
+        ensures fault { IsErrOf result AnswerFault.Ended → ⊥ }
     {
         self.has_failed = true;
         let kept = keep(&mut self.journal, &self.frame)?;

@@ -4,23 +4,20 @@ ghost use Rattle.kept_book.specs.OpenFault.{TellsPlace};
 
 use crate::fault::{NotKept, OpenFault};
 use crate::kept::KeptBook;
-use journal_file::JournalError;
+use journal_file::Journal;
 use sqlite_disk::Disk;
 use std::alloc::Global;
 use upload_book::Settings;
 
-// The room of a new journal.
-const FIRST_ROOM: usize = 1 << 20;
-
 /// Opens the book that the file of a disk holds, as [`KeptBook::open`] does; or, where the file is empty, makes one without
-/// an upload, as [`KeptBook::create`] does.
+/// an upload over a new journal.
 ///
-/// `Err` as of these two, or Journal with the error of the disk where it does not tell how long the file is. Where it is
-/// Damaged, its place is that of the damage, if the disk told no lie.
+/// `Err` is Journal with the error of [`Journal::open_or_create`], or Replay. Where it is Damaged, its place is that of the
+/// damage, if the disk told no lie.
 pub fn open_or_create<D: Disk>(
     alloc: Global,
     settings: Settings,
-    mut disk: D,
+    disk: D,
     key: u64,
 ) -> Result<KeptBook<D>, OpenFault>
 where
@@ -30,17 +27,8 @@ where
     ensures works { IfOk result (λ kept. has_failed kept ≡ false) }
     ensures damaged { IfErr result (TellsPlace D.seen D.is_clean key disk) }
 {
-    if !disk.may_be_used() {
-        return Err(OpenFault::Journal(JournalError::Unusable));
-    }
-    let len = match disk.len() {
-        Ok(len) => len,
-        Err(error) => return Err(OpenFault::Journal(JournalError::Disk(error))),
-    };
-    if len == 0 {
-        return KeptBook::create(alloc, settings, disk, key, FIRST_ROOM);
-    }
-    match KeptBook::open(alloc, settings, disk, key) {
+    let opened = Journal::open_or_create(alloc, disk, key)?;
+    match KeptBook::of_opened(alloc, settings, opened, key) {
         Ok(kept) => Ok(kept),
         Err(not) => {
             let NotKept { why, disk: _ } = not;

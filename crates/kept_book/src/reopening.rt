@@ -1,6 +1,6 @@
 ghost use Rattle.std.specs.Prelude.{◌≡◌, ℕ, false, List, IsTrue, IfErr, IfOk};
 ghost use Rattle.kept_book.specs.Answer.{GoesOn};
-ghost use Rattle.kept_book.specs.Kept.{disk_in, has_failed, IsLeft};
+ghost use Rattle.kept_book.specs.Kept.{disk_in, has_failed, IsLeftWithOneMore};
 ghost use Rattle.kept_book.specs.OpenFault.{IsOutsideFile};
 ghost use Rattle.upload_book.specs.Events.{ChangeEvent};
 
@@ -21,12 +21,12 @@ pub fn crash_and_open<D: Crash>(
     key: u64,
 ) -> Result<KeptBook<D>, NotKept<D>>
     ensures opened { (events : List ChangeEvent)
-        → ((c : List ℕ) → D.Disk.may_leave (disk_in kept) c → IsLeft key settings events c)
+        → ((c : List ℕ) → D.Disk.may_leave (disk_in kept) c → IsLeftWithOneMore key settings events c)
         → IfOk result (λ after. IsTrue (D.Disk.is_clean (disk_in after)) → GoesOn after settings events) }
     ensures works { IfOk result (λ after. has_failed after ≡ false) }
     // Then the error is none of the file.
     ensures accepts { (events : List ChangeEvent)
-        → ((c : List ℕ) → D.Disk.may_leave (disk_in kept) c → IsLeft key settings events c)
+        → ((c : List ℕ) → D.Disk.may_leave (disk_in kept) c → IsLeftWithOneMore key settings events c)
         → IfErr result (λ not. IsTrue (D.Disk.is_clean not.disk) → IsOutsideFile not.why) }
 {
     let mut disk = kept.into_disk();

@@ -4,7 +4,7 @@ ghost use Rattle.kept_book.specs.Session.{IsSession};
 ghost use Rattle.upload_book.specs.Events.{ChangeEvent};
 ghost use Rattle.upload_book.specs.Settings.{Settings};
 
-use crate::fault::KeepFault;
+use crate::fault::AnswerFault;
 use crate::kept::KeptBook;
 use sqlite_disk::Disk;
 use std::alloc::{AllocError, Global};
@@ -13,11 +13,11 @@ use upload_book::Moment;
 
 /// The replies that were given to requests, and why there were no more.
 #[derive(Drop)]
-pub struct Answered {
+pub struct SessionReplies {
     /// One for each of the first requests, in their order.
     pub replies: Vec<Reply>,
     /// `None` where all requests were answered.
-    pub fault: Option<KeepFault>,
+    pub fault: Option<AnswerFault>,
 }
 
 /// Answers requests one after another, each at its moment, as [`KeptBook::answer`] does, up to the first that is not
@@ -29,7 +29,7 @@ pub fn answer_all<D: Disk>(
     alloc: Global,
     kept: &mut KeptBook<D>,
     turns: &[(Request, Moment)],
-) -> Result<Answered, AllocError>
+) -> Result<SessionReplies, AllocError>
     ensures session { (s : Settings) (events : List ChangeEvent)
         → IsKept kept.old s events
         → IfOk result (λ it. IsSession kept.old kept.new s events turns.now it.replies.items) }
@@ -43,14 +43,14 @@ pub fn answer_all<D: Disk>(
         match kept.answer(request, *now, &mut reply) {
             Ok(()) => replies.push_reserved(reply.into_reply()),
             Err(fault) => {
-                return Ok(Answered {
+                return Ok(SessionReplies {
                     replies,
                     fault: Some(fault),
                 });
             }
         }
     }
-    Ok(Answered {
+    Ok(SessionReplies {
         replies,
         fault: None,
     })

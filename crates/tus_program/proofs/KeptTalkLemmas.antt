@@ -18,7 +18,7 @@ use Rattle.http_wire.specs.declared.fault.WireFault.TheVariants as wire
 use Rattle.kept_book.proofs.KeptLemmas.{kept-leaves}
 use Rattle.kept_book.specs.Answer.{IsKeptStep, IsUnkeptAnswer}
 use Rattle.kept_book.specs.declared.kept.KeptBook.{KeptBook}
-use Rattle.kept_book.specs.Kept.{book_in, disk_in, key_in, IsKept, IsLeft, IsOpened}
+use Rattle.kept_book.specs.Kept.{book_in, disk_in, key_in, IsKept, IsLeftWithOneMore, IsOpened}
 use Rattle.tus_steps.specs.Request.{Request}
 use Rattle.tus_steps.specs.declared.reply.Reply.{Reply}
 use Rattle.upload_book.specs.Events.{ChangeEvent, book_after_all}
@@ -49,7 +49,7 @@ module _ {D : Type 0} {g : Ghosts D} where
   record Told (s : Settings) (events : List ChangeEvent) (kept : KeptBook D g) (failed : Bool) (state : KeptState) : Type 0 where
     more : List ChangeEvent
     book : state.book ≡ book_after_all (opening_book s) (events ++ more)
-    left : (c : List ℕ) → g.may_leave (disk_in kept) c → IsLeft (key_in kept) s (events ++ more) c
+    left : (c : List ℕ) → g.may_leave (disk_in kept) c → IsLeftWithOneMore (key_in kept) s (events ++ more) c
     all : failed ≡ false → IsKept kept s (events ++ more)
 
   -- The state stands for what became of a kept book since it was opened.
@@ -98,7 +98,7 @@ module _ {D : Type 0} {g : Ghosts D} where
         record {
           more = before.more;
           book = before.book;
-          left = λ c may. subst (λ (k : ℕ). IsLeft k s (events ++ before.more) c) (sym key) (h.left s (events ++ before.more) (before.all h.worked) c may);
+          left = λ c may. subst (λ (k : ℕ). IsLeftWithOneMore k s (events ++ before.more) c) (sym key) (h.left s (events ++ before.more) (before.all h.worked) c may);
           all = λ works. absurd (true≢false (sym h.failed_now ∙ works));
         };
   }
@@ -114,14 +114,14 @@ module _ {D : Type 0} {g : Ghosts D} where
         record {
           more = before.more;
           book = before.book;
-          left = λ c may. subst (λ (k : ℕ). IsLeft k s (events ++ before.more) c) (sym key) (before.left c (subst (λ (d : D). g.may_leave d c) h.disk may));
+          left = λ c may. subst (λ (k : ℕ). IsLeftWithOneMore k s (events ++ before.more) c) (sym key) (before.left c (subst (λ (d : D). g.may_leave d c) h.disk may));
           all = λ works. absurd (true≢false (sym h.failed_still ∙ works));
         };
   }
 
   -- The journal failed at a request, which is answered then as where nothing more can be kept.
   pub failed_now : (old between new : KeptBook D g) (r : Request) (now : ℕ) (reply : Reply) → book_in between ≡ book_in old → key_in between ≡ key_in old
-      → ((s : Settings) (events : List ChangeEvent) → IsKept old s events → (c : List ℕ) → g.may_leave (disk_in between) c → IsLeft (key_in old) s events c)
+      → ((s : Settings) (events : List ChangeEvent) → IsKept old s events → (c : List ℕ) → g.may_leave (disk_in between) c → IsLeftWithOneMore (key_in old) s events c)
       → IsUnkeptAnswer (book_in between) r now reply → book_in new ≡ book_in between → disk_in new ≡ disk_in between → key_in new ≡ key_in between
       → IsStepKept old false r now reply new true
   failed_now old between new r now reply book key left answer stays disk key_stays = record {
@@ -160,7 +160,7 @@ module _ {D : Type 0} {g : Ghosts D} where
   outlives s found opened last failed state is_opened key like = λ events happened records clean.
       let is = is_opened events happened records clean in
       let told = like.told s events is in
-      (told.more, is.book, told.book, λ c may. subst (λ (k : ℕ). IsLeft k s (events ++ told.more) c) (like.key ∙ key) (told.left c may))
+      (told.more, is.book, told.book, λ c may. subst (λ (k : ℕ). IsLeftWithOneMore k s (events ++ told.more) c) (like.key ∙ key) (told.left c may))
 
   -- over what answers with a kept book, and tells whether its journal has failed
   module _ {A : Type 0} (kept : A → KeptBook D g) (has_failed : A → Bool) where

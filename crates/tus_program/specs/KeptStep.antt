@@ -3,7 +3,7 @@ use Rattle.std.specs.Prelude.{◌≡◌, ◌⊎◌, ℕ, Bool, true, false, List
 use Rattle.sqlite_disk.specs.declared.Disk.{Ghosts}
 use Rattle.kept_book.specs.Answer.{GoesOn, IsKeptStep, IsUnkeptAnswer}
 use Rattle.kept_book.specs.declared.kept.KeptBook.{KeptBook}
-use Rattle.kept_book.specs.Kept.{book_in, disk_in, key_in, IsKept, IsLeft}
+use Rattle.kept_book.specs.Kept.{book_in, disk_in, key_in, IsKept, IsLeftWithOneMore}
 use Rattle.tus_steps.specs.declared.reply.Reply.{Reply}
 use Rattle.tus_steps.specs.Request.{Request}
 use Rattle.upload_book.specs.Events.{ChangeEvent}
@@ -52,7 +52,7 @@ module _ {D : Type 0} {g : Ghosts D} (old : KeptBook D g) (failed : Bool) (r : R
     pub answer : IsUnkeptAnswer (book_in old) r now reply
     pub stays : book_in new ≡ book_in old
     pub left : (s : Settings) (events : List ChangeEvent) → IsKept old s events
-        → (c : List ℕ) → g.may_leave (disk_in new) c → IsLeft (key_in old) s events c
+        → (c : List ℕ) → g.may_leave (disk_in new) c → IsLeftWithOneMore (key_in old) s events c
 
   -- its journal had failed before, and nothing was asked of it
   pub record StaysFailed : Type 0 where

@@ -10,7 +10,7 @@ use Rattle.http_wire.specs.declared.connection.Wants.TheVariants.{Answer}
 use Rattle.http_wire.specs.declared.conversation.Ended.{Ended}
 use Rattle.http_wire.specs.declared.fault.WireFault.{WireFault}
 use Rattle.journal_frames.specs.Frames.{recovered}
-use Rattle.kept_book.specs.Kept.{IsLeft}
+use Rattle.kept_book.specs.Kept.{IsLeftWithOneMore}
 use Rattle.upload_book.specs.Events.{ChangeEvent, book_after_all}
 use Rattle.upload_book.specs.PlainBook.{PlainBook, opening_book}
 use Rattle.upload_book.specs.Settings.{Settings}
@@ -39,7 +39,7 @@ module _ {D : Type 0} (seen : D → List ℕ) (may_leave : D → List ℕ → Ty
       → (told : List ChangeEvent)
       × (before ≡ book_after_all (opening_book s) events)
       × (after ≡ book_after_all (opening_book s) (events ++ told))
-      × ((c : List ℕ) → may_leave last c → IsLeft journal_key s (events ++ told) c)
+      × ((c : List ℕ) → may_leave last c → IsLeftWithOneMore journal_key s (events ++ told) c)
 
   -- `talk` was asked for with these arguments, over these streams
   module _ {R W : Type 0} (arguments : TalkArguments) (reader : StreamUse R) (writer : StreamUse W) where

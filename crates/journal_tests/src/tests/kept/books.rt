@@ -3,7 +3,7 @@ use crate::tests::KEY;
 use crate::tests::acme::settings;
 use crate::tests::kept::requests::moment;
 use crate::tests::torn_disk::TornDisk;
-use kept_book::{KeepFault, KeptBook};
+use kept_book::{AnswerFault, KeptBook};
 use std::alloc::Global;
 use std::process::Abort;
 use tus_steps::{PlacedReply, ReplyKind, Request};
@@ -69,8 +69,8 @@ pub(crate) fn ask(rt: &impl Abort, kept: &mut KeptBook<TornDisk>, request: &Requ
     let mut reply = PlacedReply::new();
     match kept.answer(request, moment(rt), &mut reply) {
         Ok(()) => answer_in(&reply),
-        Err(KeepFault::Journal(_)) => Answer::Fails,
-        Err(KeepFault::Ended) => Answer::HasEnded,
+        Err(AnswerFault::Journal(_)) => Answer::Fails,
+        Err(AnswerFault::Ended) => Answer::HasEnded,
     }
 }
 

@@ -2,7 +2,7 @@ use Rattle.std.proofs.Common.{ℕ, ◌+◌, ◌++◌, length, refl, sym, ap, sub
 use Rattle.std.proofs.lemmas.List.{length_push}
 use Rattle.tus_steps.specs.declared.reply.Reply.{Reply}
 use Rattle.kept_book.specs.Answer.{IsKeptStep}
-use Rattle.kept_book.specs.Kept.{book_in, IsLeft}
+use Rattle.kept_book.specs.Kept.{book_in, IsLeftWithOneMore}
 use Rattle.kept_book.proofs.KeptLemmas.{kept-leaves}
 use Rattle.kept_book.proofs.SessionLemmas.{runs-end, runs-none, runs-turn}
 use Rattle.kept_book.proofs.session.answer_all.Goals as goal
@@ -37,4 +37,4 @@ returns-clause-session g c = λ s events is.
     let so_far = c.loop-request.invariant in
     let before = so_far.so_far s events is in
     runs-end c.args.kept.now c.loop-request.kept c.loop-request.kept s events c.args.turns.now c.loop-request.request-index c.loop-request.replies.items so_far.size before
-    (λ left may. subst (λ (k : ℕ). IsLeft k s (events ++ before.told) left) so_far.key (kept-leaves c.loop-request.kept s (events ++ before.told) before.all left may))
+    (λ left may. subst (λ (k : ℕ). IsLeftWithOneMore k s (events ++ before.told) left) so_far.key (kept-leaves c.loop-request.kept s (events ++ before.told) before.all left may))

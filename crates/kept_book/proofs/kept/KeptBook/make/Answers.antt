@@ -6,7 +6,7 @@ use Rattle.journal_frames.specs.Crash.{Leaves}
 use Rattle.journal_records.specs.Records.{record_bytes}
 use Rattle.upload_book.specs.Book.{plain_of}
 use Rattle.upload_book.specs.Change.{book_after_change}
-use Rattle.kept_book.specs.Kept.{book_in, IsLog}
+use Rattle.kept_book.specs.Kept.{book_in, IsRecordLog}
 use Rattle.kept_book.proofs.KeptLemmas.{kept-leaves, kept-made, kept-stays, left-kept, same-log}
 use Rattle.kept_book.proofs.ReadyLemmas.{accepted-as, happens-ready}
 use Rattle.kept_book.proofs.kept.KeptBook.make.Goals as goal
@@ -45,7 +45,7 @@ returns-then-not-branch-clause-kept g c = λ s events is.
     let framed_is : c.frame-is_framed.result ≡ true = search rules in
     let log_is = same-log c.args.self.now.log c.frame-is_framed.new.self _ c.frame-is_framed.ensures.journal c.frame-is_framed.ensures.key is.log in
     let told : c.in_ok-keep.field-0 ≡ false = search rules in
-    let log = subst (λ (t : Bool). IsLog c.keep.new.self (if t then records_of events ++ record_bytes c.args.now c.args.change ∷ [] else records_of events)) told (c.in_ok-keep.ensures.kept (records_of events) (record_bytes c.args.now c.args.change) log_is (c.frame-is_framed.ensures.framed framed_is)) in
+    let log = subst (λ (t : Bool). IsRecordLog c.keep.new.self (if t then records_of events ++ record_bytes c.args.now c.args.change ∷ [] else records_of events)) told (c.in_ok-keep.ensures.kept (records_of events) (record_bytes c.args.now c.args.change) log_is (c.frame-is_framed.ensures.framed framed_is)) in
     kept-stays c.args.self.now _ s events is log c.prepare.ensures.plain
 
 pub returns-then-not-branch-clause-crash : goal.returns-then-not-branch-clause-crash
@@ -64,7 +64,7 @@ returns-clause-kept g c = λ s events is.
     let framed_is : c.frame-is_framed.result ≡ true = search rules in
     let log_is = same-log c.args.self.now.log c.frame-is_framed.new.self _ c.frame-is_framed.ensures.journal c.frame-is_framed.ensures.key is.log in
     let told : c.in_ok-keep.field-0 ≡ true = search rules in
-    let log = subst (λ (t : Bool). IsLog c.keep.new.self (if t then records_of events ++ record_bytes c.args.now c.args.change ∷ [] else records_of events)) told (c.in_ok-keep.ensures.kept (records_of events) (record_bytes c.args.now c.args.change) log_is (c.frame-is_framed.ensures.framed framed_is)) in
+    let log = subst (λ (t : Bool). IsRecordLog c.keep.new.self (if t then records_of events ++ record_bytes c.args.now c.args.change ∷ [] else records_of events)) told (c.in_ok-keep.ensures.kept (records_of events) (record_bytes c.args.now c.args.change) log_is (c.frame-is_framed.ensures.framed framed_is)) in
     let after : plain_of c.commit.new.self ≡ book_after_change (book_in c.args.self.now) c.args.change c.args.now = rw (c.prepare.ensures.plain, c.in-Ok.ensures.change, c.in-Ok.ensures.now) at c.commit.ensures.after in
     kept-made c.args.self.now _ s events c.args.change c.args.now is happens log after
 

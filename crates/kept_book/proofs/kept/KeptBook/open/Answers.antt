@@ -1,24 +1,34 @@
-use Rattle.std.proofs.Common.{List, ℕ, IsTrue, ap, subst, ◌∙◌}
-use Rattle.book_replay.proofs.ReplayLemmas.{all-replayed}
-use Rattle.book_replay.specs.Replay.{replayed}
-use Rattle.journal_file.specs.declared.journal.Journal.{Journal}
-use Rattle.journal_file.specs.Journal.{disk_of}
-use Rattle.upload_book.specs.Events.{book_after_all}
-use Rattle.upload_book.specs.PlainBook.{opening_book}
-use Rattle.kept_book.proofs.KeptLemmas.{kept-opened, read-again}
-use Rattle.kept_book.proofs.OpeningLemmas.{not-refused}
+use Rattle.std.proofs.Common.{◌≡◌, ℕ, List, [], IsTrue, ap, subst, ◌∙◌}
+use Rattle.book_replay.specs.Replay.{records_of}
+use Rattle.journal_file.proofs.ReadAgain.{recovered-frames}
+use Rattle.journal_file.specs.Journal.{disk_of, IsJournal}
+use Rattle.journal_frames.specs.Frames.{recovered}
+use Rattle.kept_book.specs.declared.fault.NotKept.{NotKept}
+use Rattle.kept_book.specs.declared.kept.KeptBook.{KeptBook}
+use Rattle.kept_book.specs.Kept.{disk_in, IsKept}
+use Rattle.kept_book.specs.OpenFault.{IsOutsideFile}
+use Rattle.kept_book.proofs.OpeningLemmas.{clean-err, clean-ok, err-weaker}
 use Rattle.kept_book.proofs.kept.KeptBook.open.Goals as goal
 
-pub returns-in-Ok-replay-clause-opened : goal.returns-in-Ok-replay-clause-opened
-returns-in-Ok-replay-clause-opened g c = λ events happened all clean.
+pub returns-in-Ok-clause-opened : goal.returns-in-Ok-clause-opened
+returns-in-Ok-clause-opened g c = λ events happened all.
     let told = c.in-Ok.ensures in
-    let here = subst (λ (j : Journal g.row.D.Denot g.D.Disk). IsTrue (g.D.Disk.is_clean (disk_of j))) c.new-log.ensures.journal clean in
-    kept-opened _ c.in-Ok.opened.journal c.args.settings events c.args.key c.new.result.key _ c.in-Ok.opened.frames.items c.new.result.rest.now c.new-log.ensures.journal c.new-log.ensures.key told.key (told.opened here) all (told.frames here) c.new.ensures.key (c.new.ensures.rest ∙ c.deref.ensures.value) c.in-Ok-replay.ensures.book happened
+    let journal = c.in-Ok.opened.journal in
+    clean-ok c.of_opened.result (λ kept. disk_in kept) (disk_of journal) (λ d. IsTrue (g.D.Disk.is_clean d)) (λ (kept : KeptBook g.row.D.Denot g.D.Disk). IsKept kept c.args.settings events) c.of_opened.ensures.disk
+    (λ clean.
+    let is = told.opened clean in
+    let read : recovered c.args.key c.in-Ok.opened.frames.items ≡ records_of events = ap (recovered c.args.key) (told.frames clean) ∙ recovered-frames c.args.key _ is.fits ∙ all in
+    c.of_opened.ensures.kept events happened read (subst (λ (payloads : List (List ℕ)). IsJournal journal payloads []) all is))
 
-pub returns-clause-accepts : goal.returns-clause-accepts
-returns-clause-accepts g c = λ events happened all torn clean.
+pub returns-in-Ok-clause-accepts : goal.returns-in-Ok-clause-accepts
+returns-in-Ok-clause-accepts g c = λ events happened all torn.
     let told = c.in-Ok.ensures in
-    let here = subst (λ (d : g.row.D.Denot). IsTrue (g.D.Disk.is_clean d)) c.into_disk.ensures clean in
-    let opening = opening_book c.args.settings in
-    let read = read-again c.in-Ok.opened.journal events c.args.key c.new.result.key _ c.in-Ok.opened.frames.items c.new.result.rest.now (told.opened here) all (told.frames here) c.new.ensures.key (c.new.ensures.rest ∙ c.deref.ensures.value) in
-    not-refused _ (book_after_all opening events) c.in-Err-replay.fault c.in-Err-replay.ensures.why (ap (λ (records : List (List ℕ)). replayed 1 opening records) read ∙ all-replayed 1 opening events happened)
+    let journal = c.in-Ok.opened.journal in
+    clean-err c.of_opened.result (λ not. not.disk) (disk_of journal) (λ d. IsTrue (g.D.Disk.is_clean d)) (λ (not : NotKept g.row.D.Denot). IsOutsideFile not.why) c.of_opened.ensures.given_back
+    (λ clean.
+    let is = told.opened clean in
+    let read : recovered c.args.key c.in-Ok.opened.frames.items ≡ records_of events = ap (recovered c.args.key) (told.frames clean) ∙ recovered-frames c.args.key _ is.fits ∙ all in
+    c.of_opened.ensures.accepts events happened read)
+
+pub returns-in-Ok-clause-damaged : goal.returns-in-Ok-clause-damaged
+returns-in-Ok-clause-damaged g c = err-weaker c.of_opened.result _ _ (λ not none damage is. absurd (none damage is)) c.of_opened.ensures.why
