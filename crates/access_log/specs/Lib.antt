@@ -1,2 +1,3 @@
--- Lines of a log that wait to be written.
+-- Lines of a log that wait to be written, and what is told in them.
 pub mod Lines
+pub mod Telling

@@ -1,5 +1,5 @@
 -- Lines of a log that wait to be written, each of which ends with LF.
-use Rattle.std.specs.Prelude.{◌≡◌, ◌≤◌, ◌⊎◌, ◌++◌, ℕ, List, [], ◌∷◌, drop, filter, length, nat_eq, take}
+use Rattle.std.specs.Prelude.{◌≡◌, ◌<◌, ◌≤◌, ◌⊎◌, ◌++◌, ℕ, List, [], ◌∷◌, drop, filter, length, nat_eq, take}
 
 -- how many lines end in a text
 abbrev pub line_count : List ℕ → ℕ
@@ -15,3 +15,12 @@ pub record FirstLines (most : ℕ) (lines put : List ℕ) : Type 0 where
   pub first : put ≡ take (length put) lines
   pub whole : IsWhole put
   pub no_more : line_count (drop (length put) (take most lines)) ≡ 0
+
+-- So many bytes of some lines were put: the first lines for which there is room, or none where these need more memory than is
+-- spare.
+abbrev pub HasPut : ℕ → ℕ → List ℕ → ℕ → Type 0
+HasPut room spare lines put = FirstLines room lines (take put lines) ⊎ ((put ≡ 0) × (spare < length lines))
+
+-- so many lines are lost, the last ones, all behind the first that were put
+abbrev pub LosesLast : List ℕ → ℕ → Type 0
+LosesLast lines lost = (put : ℕ) × (put ≤ length lines) × IsWhole (take put lines) × (lost ≡ line_count (drop put lines))

@@ -1,6 +1,6 @@
 //! The writer of a log: a thread of its own, so that no worker waits for whoever reads the log.
-ghost use Rattle.std.specs.Prelude.{◌≡◌, ◌≤◌, ◌++◌, length, take, true};
-ghost use Rattle.access_log.specs.Lines.{FirstLines, IsWhole, line_count};
+ghost use Rattle.std.specs.Prelude.{◌≡◌, ◌≤◌, ◌++◌, ◌-◌, false, length, take, true, vec_capacity};
+ghost use Rattle.access_log.specs.Lines.{FirstLines, HasPut, IsWhole, LosesLast, line_count};
 
 use std::alloc::{AllocError, Global};
 use std::fs::File;
@@ -66,7 +66,9 @@ impl LogWriter {
 
     /// Puts lines behind those that wait, as many of the first ones as there is room for, and waits for nobody who reads them.
     /// The others are lost: it gives how many these are.
-    pub fn put<W: Wait>(&self, rt: &W, lines: &[u8]) -> u64 {
+    pub fn put<W: Wait>(&self, rt: &W, lines: &[u8]) -> u64
+        ensures lost { LosesLast lines.now result }
+    {
         match &self.queue {
             Some(queue) => queue.put(rt, lines),
             None => line_count(lines),
@@ -107,6 +109,8 @@ impl Waiting {
     // Puts as many of the first lines as there is room for, or none where memory is lacking, and gives how many bytes these have.
     fn put(&mut self, lines: &[u8]) -> usize
         ensures puts { self.new.lines.items ≡ self.old.lines.items ++ take result lines.now }
+        ensures first { self.old.is_complete ≡ false → HasPut (16777216 - length self.old.lines.items) (vec_capacity self.old.lines - length self.old.lines.items) lines.now result }
+        ensures within { result ≤ length lines.now }
         ensures whole { IsWhole (take result lines.now) }
         ensures room { length self.old.lines.items ≤ 16777216 → length self.new.lines.items ≤ 16777216 }
         ensures complete { self.old.is_complete ≡ true → result ≡ 0 }
@@ -138,16 +142,14 @@ struct Queue {
 
 impl Queue {
     // Puts as many of the first lines as there is room and memory for, and gives how many are lost.
-    fn put<W: Wait>(&self, rt: &W, lines: &[u8]) -> u64 {
+    fn put<W: Wait>(&self, rt: &W, lines: &[u8]) -> u64
+        ensures lost { LosesLast lines.now result }
+    {
         let mut waiting = self.waiting.lock(rt);
         let put = waiting.put(lines);
         drop(waiting);
         self.came.notify_one();
-        if put == lines.len() {
-            0
-        } else {
-            line_count(lines.get(put..).unwrap_or(lines))
-        }
+        line_count(lines.split_at(put).1)
     }
 
     // Waits for lines, and exchanges them for this empty list. It is false once no more come.

@@ -1,6 +1,7 @@
 //! What is seen of the requests of one client, until it is told.
-ghost use Rattle.std.specs.Prelude.{◌≡◌, ◌≢◌, ◌≤◌, Some, vec_len};
+ghost use Rattle.std.specs.Prelude.{◌≡◌, ◌≢◌, ◌-◌, None, Some, IfSome, false, true};
 ghost use Rattle.tus_steps.specs.declared.method.Method.TheVariants.{Post};
+ghost use Rattle.access_log.specs.Telling.{AreSent, IsAdded, begun_by, replied, told_of};
 
 use service_watch::Word;
 use std::alloc::Global;
@@ -83,22 +84,45 @@ pub struct Seen {
 }
 
 impl Answered {
-    // Notes what its reply tells. A creation is told as one, also where its reply is that to its last piece.
-    fn note(&mut self, reply: SeenReply)
-        ensures created { self.old.method ≡ Some Post → self.new.status ≡ Some reply.creation_status }
-        ensures other { self.old.method ≢ Some Post → self.new.status ≡ Some reply.status }
-        ensures word { self.new.word ≡ reply.word }
+    // A request as it is told once it was answered, by this reply if it got one, of which so many bytes are sent. One that came
+    // in pieces is told as it began.
+    fn told(
+        asked: Answered,
+        begun: Option<Answered>,
+        reply: Option<SeenReply>,
+        sent: u64,
+    ) -> Answered
+        ensures { result ≡ told_of begun asked reply sent }
     {
-        let SeenReply {
-            status,
-            creation_status,
-            word,
-        } = reply;
-        self.status = match self.method {
-            Some(Method::Post) => Some(creation_status),
-            _ => Some(status),
+        let whole = match begun {
+            Some(begun) => Answered {
+                received: asked.received,
+                sent,
+                ..begun
+            },
+            None => Answered { sent, ..asked },
         };
-        self.word = word;
+        match reply {
+            Some(reply) if sent > 0 => whole.replied(reply),
+            _ => whole,
+        }
+    }
+
+    // The request with what its reply tells. A creation is told as one, also where its reply is that to its last piece.
+    fn replied(self, reply: SeenReply) -> Answered
+        ensures created { self.method ≡ Some Post → result.status ≡ Some reply.creation_status }
+        ensures other { self.method ≢ Some Post → result.status ≡ Some reply.status }
+        ensures all { result ≡ replied self reply }
+    {
+        let status = match self.method {
+            Some(Method::Post) => reply.creation_status,
+            _ => reply.status,
+        };
+        Answered {
+            status: Some(status),
+            word: reply.word,
+            ..self
+        }
     }
 }
 
@@ -122,7 +146,7 @@ impl Record {
 
     /// Of how many requests, the first ones, all of the reply was sent, where so many bytes are not sent yet.
     pub fn sent_among(&self, unsent: u64) -> usize
-        ensures { result ≤ vec_len self.entry.now.answered }
+        ensures sent { AreSent unsent self.entry.now.answered.items result }
     {
         let mut behind: u64 = 0;
         for place in (0..self.answered.len()).rev() {
@@ -142,28 +166,25 @@ impl Record {
 
     // A request whose body has more pieces to come is told with its last one, as it began. A reply that is not sent, as that to a
     // PATCH that was cut, is not told.
-    fn answer(&mut self, is_in_pieces: bool, reply: Option<SeenReply>, pending: usize) {
-        let Some(mut answered) = self.asked.take() else {
+    fn answer(&mut self, is_in_pieces: bool, reply: Option<SeenReply>, pending: usize)
+        ensures asked { self.new.asked ≡ None }
+        ensures pieces { is_in_pieces ≡ true → (self.new.answered ≡ self.old.answered) ×
+            (self.new.begun ≡ begun_by self.old.begun self.old.asked) }
+        ensures last { is_in_pieces ≡ false → IfSome self.old.asked (λ asked.
+            IsAdded (told_of self.old.begun asked reply (pending - self.old.before)) self.old.answered.items self.old.lost self.new.answered.items self.new.lost) }
+        ensures nothing { self.old.asked ≡ None → self.new ≡ self.old }
+    {
+        let Some(asked) = self.asked.take() else {
             return;
         };
         if is_in_pieces {
             if self.begun.is_none() {
-                self.begun = Some(answered);
+                self.begun = Some(asked);
             }
             return;
         }
-        if let Some(begun) = self.begun.take() {
-            answered = Answered {
-                received: answered.received,
-                ..begun
-            };
-        }
-        answered.sent = pending.saturating_sub(self.before) as u64;
-        if let Some(reply) = reply
-            && answered.sent > 0
-        {
-            answered.note(reply);
-        }
+        let sent = pending.saturating_sub(self.before) as u64;
+        let answered = Answered::told(asked, self.begun.take(), reply, sent);
         if self.answered.push(answered).is_err() {
             self.lost = self.lost.saturating_add(1);
         }
