@@ -13,7 +13,7 @@ use Rattle.head_board.specs.Event.{Event}
 use Rattle.journal_keeper.specs.declared.compaction.Compaction.{Compaction}
 use Rattle.journal_keeper.specs.Compaction.{WillHave, WillKeep}
 use Rattle.journal_keeper.specs.Keeper.{event_records}
-use Rattle.journal_keeper.specs.Waiting.{frames_each}
+use Rattle.journal_file.specs.Appending.{frames_each}
 use Rattle.journal_keeper.proofs.KeeperLemmas.{make-more}
 
 -- the bytes of rooms or frames

@@ -17,15 +17,16 @@ use Rattle.upload_book.specs.Events.{ChangeEvent, book_after_event}
 use Rattle.upload_book.specs.PlainBook.{PlainBook, opening_book}
 use Rattle.upload_book.specs.Settings.{Settings}
 use Rattle.head_board.specs.Event.{Event}
+use Rattle.head_board.specs.inside.EventLog.{LogPrefix}
 use Rattle.head_board.specs.Events.{HaveHappened, book_at, change_event}
 use Rattle.tus_shared.specs.Journal.{CanBeReplayed, event_frame, event_frames}
 use Rattle.tus_shared.specs.Restoring.{RestoreNothing, RestoresNothing}
 use Rattle.tus_shared.proofs.EventLemmas.{happened-first}
 use Rattle.tus_shared.proofs.FinalLemmas.{none-restored}
-use Rattle.tus_shared.proofs.LogLaws.{prefix-on}
+use Rattle.tus_shared.proofs.LogLaws.{prefix-on, prefix-self}
 use Rattle.tus_shared.proofs.QueueLemmas.{after-more}
 use Rattle.journal_keeper.specs.Keeper.{event_records, IsKeeper, IsLeft, IsLeftBy, KeepsBook, MakeBook}
-use Rattle.journal_keeper.specs.Waiting.{frames_each}
+use Rattle.journal_file.specs.Appending.{frames_each}
 
 -- ---- records of events
 
@@ -107,8 +108,9 @@ make-more s kept more records make others =
 -- ---- a crash
 
 -- that leaves all that was synced, and the first so many of the records of events that come next
-pub left-more : (key : ℕ) (s : Settings) (kept more : List Event) (records : List (List ℕ)) (c : List ℕ) → HaveHappened s (kept ++ more) → MakeBook s kept records → CanBeReplayed s kept more → Leaves key records (event_records more) c → IsLeftBy key s kept c
-left-more key s kept more records c happened make others left =
+pub left-more : (key : ℕ) (s : Settings) (kept more : List Event) (tried : List Event) (records : List (List ℕ)) (c : List ℕ) → HaveHappened s (kept ++ more) → IsPrefix (kept ++ more) tried → MakeBook s kept records → CanBeReplayed s kept more → Leaves key records (event_records more) c
+    → IsLeftBy key s kept tried c
+left-more key s kept more tried records c happened reach make others left =
     let n = left.kept in
     let durable = replay-durable s kept (take n more) (drop n more) (subst (CanBeReplayed s kept) (sym (take-append-drop n more)) others) in
     let are = left.payloads ∙ ap (λ (rs : List (List ℕ)). records ++ rs) (records-take n more) in
@@ -121,6 +123,7 @@ left-more key s kept more records c happened make others left =
         torn = left.behind;
         make = ap (replayed 1 (opening_book s)) are ∙ make-more s kept (take n more) records make durable;
       };
+      within = prefix-on (kept ++ take n more) (kept ++ more) tried (drop n more, all) reach;
       plain = durable.1;
     }
 
@@ -136,105 +139,122 @@ left-less key s less kept c begins left = record {
 
 module _ {D : Type 0} {g : Ghosts D} where
   -- a journal with records of which the book after these events is made, all synced
-  pub left-all : (journal : Journal D g) (s : Settings) (kept : List Event) → HaveHappened s kept → KeepsBook s journal kept → (c : List ℕ) → g.may_leave (disk_of journal) c → IsLeftBy (key_of journal) s kept c
-  left-all journal s kept happened keeps c may =
-      left-more _ s kept [] keeps.records c (subst (HaveHappened s) (sym (append-nil kept)) happened) keeps.make (tt, none-restored) (journal_leaves journal keeps.records [] keeps.holds c may)
+  pub left-all : (journal : Journal D g) (s : Settings) (kept tried : List Event) → HaveHappened s kept → IsPrefix kept tried → KeepsBook s journal kept → (c : List ℕ) → g.may_leave (disk_of journal) c → IsLeftBy (key_of journal) s kept tried c
+  left-all journal s kept tried happened begins keeps c may =
+      left-more _ s kept [] tried keeps.records c (subst (HaveHappened s) (sym (append-nil kept)) happened) (subst (λ (events : List Event). IsPrefix events tried) (sym (append-nil kept)) begins) keeps.make (tt, none-restored) (journal_leaves journal keeps.records [] keeps.holds c may)
 
-  abbrev pub OtherLeaves : ℕ → Settings → List Event → Option (Journal D g) → Type 0
-  OtherLeaves key s kept other = IfSome other (λ (it : Journal D g). (c : List ℕ) → g.may_leave (disk_of it) c → IsLeftBy key s kept c)
+  abbrev pub OtherLeaves : ℕ → Settings → List Event → List Event → Option (Journal D g) → Type 0
+  OtherLeaves key s kept tried other = IfSome other (λ (it : Journal D g). (c : List ℕ) → g.may_leave (disk_of it) c → IsLeftBy key s kept tried c)
 
   -- where there is no other one
-  pub no-other : (key : ℕ) (s : Settings) (kept : List Event) (other : Option (Journal D g)) → other ≡ None → OtherLeaves key s kept other
-  no-other key s kept other none = subst (OtherLeaves key s kept) (sym none) tt
+  pub no-other : (key : ℕ) (s : Settings) (kept tried : List Event) (other : Option (Journal D g)) → other ≡ None → OtherLeaves key s kept tried other
+  no-other key s kept tried other none = subst (OtherLeaves key s kept tried) (sym none) tt
 
   -- a journal that was made longer, and has room for all that is promised now
-  pub kept-longer : (old new : Journal D g) (other : Option (Journal D g)) (s : Settings) (log : Book) (own : Option ℕ) (honest : Bool) (durable : Book) (kept : List Event) (before now : ℕ) (failed : Bool)
-      → failed ≡ false → IsKeeper s log own honest old other durable kept before failed → key_of new ≡ key_of old
+  pub kept-longer : (old new : Journal D g) (other : Option (Journal D g)) (s : Settings) (log : Book) (own : Option ℕ) (honest : Bool) (durable tried : LogPrefix) (before now : ℕ) (failed : Bool)
+      → failed ≡ false → IsKeeper s log own honest old other durable tried before failed → key_of new ≡ key_of old
       → ((payloads : List (List ℕ)) → IsJournal old payloads [] → IsJournal new payloads []) → now ≤ room_of new
-      → IsKeeper s log own honest new other durable kept now failed
-  kept-longer old new other s log own honest durable kept before now failed well is key stays covers = record {
+      → IsKeeper s log own honest new other durable tried now failed
+  kept-longer old new other s log own honest durable tried before now failed well is key stays covers = record {
     key = is.key ∙ ap (λ (k : ℕ). Some k) (sym key);
     durable_log = is.durable_log;
+    tried_log = is.tried_log;
+    begins = is.begins;
+    no_more = is.no_more;
     happened = is.happened;
     holds = λ well honest. longer (is.holds well honest);
-    left = λ honest c may. left-all new s kept is.happened (longer (is.holds well honest)) c may;
+    left = λ honest c may. left-all new s durable.events tried.events is.happened is.begins (longer (is.holds well honest)) c may;
     alone = is.alone;
-    other_left = λ honest. no-other _ s kept other (is.alone well);
+    other_left = λ honest. no-other _ s durable.events tried.events other (is.alone well);
     covered = λ well. covers;
   }
     where
-      longer : KeepsBook s old kept → KeepsBook s new kept
+      longer : KeepsBook s old durable.events → KeepsBook s new durable.events
       longer keeps = record { records = keeps.records; holds = stays keeps.records keeps.holds; make = keeps.make }
 
-  -- a journal that keeps more events
-  pub kept-more : (old new : Journal D g) (other : Option (Journal D g)) (s : Settings) (log : Book) (own : Option ℕ) (honest : Bool) (durable reached_log : Book) (kept reached : List Event) (before now : ℕ) (failed : Bool)
-      → failed ≡ false → IsKeeper s log own honest old other durable kept before failed → key_of new ≡ key_of old → reached_log ≡ log → HaveHappened s reached
-      → (KeepsBook s old kept → KeepsBook s new reached) → (before ≤ room_of old → now ≤ room_of new)
-      → IsKeeper s log own honest new other reached_log reached now false
-  kept-more old new other s log own honest durable reached_log kept reached before now failed well is key log_is happened keeps covers = record {
-    key = is.key ∙ ap (λ (k : ℕ). Some k) (sym key);
-    durable_log = log_is;
-    happened = happened;
-    holds = λ _ honest. keeps (is.holds well honest);
-    left = λ honest c may. left-all new s reached happened (keeps (is.holds well honest)) c may;
-    alone = λ _. is.alone well;
-    other_left = λ honest. no-other _ s reached other (is.alone well);
-    covered = λ _. covers (is.covered well);
-  }
+  -- a journal that keeps all events that were to be kept
+  pub kept-more : (old new : Journal D g) (other : Option (Journal D g)) (s : Settings) (log : Book) (own : Option ℕ) (honest : Bool) (durable tried reached again : LogPrefix) (before now : ℕ) (failed : Bool)
+      → failed ≡ false → IsKeeper s log own honest old other durable tried before failed → key_of new ≡ key_of old → reached.book ≡ log → HaveHappened s reached.events
+      → (KeepsBook s old durable.events → KeepsBook s new reached.events) → (before ≤ room_of old → now ≤ room_of new) → again ≡ reached
+      → IsKeeper s log own honest new other reached again now false
+  kept-more old new other s log own honest durable tried reached again before now failed well is key log_is happened keeps covers same =
+      let begins : IsPrefix reached.events again.events = subst (λ (r : LogPrefix). IsPrefix reached.events r.events) (sym same) (prefix-self reached.events) in
+      record {
+        key = is.key ∙ ap (λ (k : ℕ). Some k) (sym key);
+        durable_log = log_is;
+        tried_log = ap (λ (r : LogPrefix). r.book) same ∙ log_is;
+        begins = begins;
+        no_more = λ _. same;
+        happened = happened;
+        holds = λ _ honest. keeps (is.holds well honest);
+        left = λ honest c may. left-all new s reached.events again.events happened begins (keeps (is.holds well honest)) c may;
+        alone = λ _. is.alone well;
+        other_left = λ honest. no-other _ s reached.events again.events other (is.alone well);
+        covered = λ _. covers (is.covered well);
+      }
 
   -- another journal that keeps the same events, and has room for all that is promised
-  pub kept-instead : (old new : Journal D g) (other : Option (Journal D g)) (s : Settings) (log : Book) (own : Option ℕ) (honest : Bool) (durable : Book) (kept : List Event) (promised : ℕ) (failed : Bool)
-      → failed ≡ false → IsKeeper s log own honest old other durable kept promised failed → key_of new ≡ key_of old → promised ≤ room_of new → KeepsBook s new kept
-      → IsKeeper s log own honest new other durable kept promised failed
-  kept-instead old new other s log own honest durable kept promised failed well is key room keeps = record {
+  pub kept-instead : (old new : Journal D g) (other : Option (Journal D g)) (s : Settings) (log : Book) (own : Option ℕ) (honest : Bool) (durable tried : LogPrefix) (promised : ℕ) (failed : Bool)
+      → failed ≡ false → IsKeeper s log own honest old other durable tried promised failed → key_of new ≡ key_of old → promised ≤ room_of new → KeepsBook s new durable.events
+      → IsKeeper s log own honest new other durable tried promised failed
+  kept-instead old new other s log own honest durable tried promised failed well is key room keeps = record {
     key = is.key ∙ ap (λ (k : ℕ). Some k) (sym key);
     durable_log = is.durable_log;
+    tried_log = is.tried_log;
+    begins = is.begins;
+    no_more = is.no_more;
     happened = is.happened;
     holds = λ _ _. keeps;
-    left = λ _ c may. left-all new s kept is.happened keeps c may;
+    left = λ _ c may. left-all new s durable.events tried.events is.happened is.begins keeps c may;
     alone = is.alone;
-    other_left = λ _. no-other _ s kept other (is.alone well);
+    other_left = λ _. no-other _ s durable.events tried.events other (is.alone well);
     covered = λ _. room;
   }
 
   -- a journal of which a crash leaves what was kept, where keeping more has failed
-  pub kept-lost : (old new : Journal D g) (other : Option (Journal D g)) (s : Settings) (log : Book) (own : Option ℕ) (honest : Bool) (durable : Book) (kept : List Event) (before now : ℕ) (failed : Bool)
-      → failed ≡ false → IsKeeper s log own honest old other durable kept before failed → key_of new ≡ key_of old
-      → (KeepsBook s old kept → (c : List ℕ) → g.may_leave (disk_of new) c → IsLeftBy (key_of old) s kept c)
-      → IsKeeper s log own honest new other durable kept now true
-  kept-lost old new other s log own honest durable kept before now failed well is key crash = record {
+  pub kept-lost : (old new : Journal D g) (other : Option (Journal D g)) (s : Settings) (log : Book) (own : Option ℕ) (honest : Bool) (durable tried reached again : LogPrefix) (before now : ℕ) (failed : Bool)
+      → failed ≡ false → IsKeeper s log own honest old other durable tried before failed → key_of new ≡ key_of old → reached.book ≡ log → IsPrefix durable.events reached.events
+      → (KeepsBook s old durable.events → (c : List ℕ) → g.may_leave (disk_of new) c → IsLeftBy (key_of old) s durable.events reached.events c) → again ≡ reached
+      → IsKeeper s log own honest new other durable again now true
+  kept-lost old new other s log own honest durable tried reached again before now failed well is key log_is begins crash same = record {
     key = is.key ∙ ap (λ (k : ℕ). Some k) (sym key);
     durable_log = is.durable_log;
+    tried_log = ap (λ (r : LogPrefix). r.book) same ∙ log_is;
+    begins = subst (λ (r : LogPrefix). IsPrefix durable.events r.events) (sym same) begins;
+    no_more = λ well. absurd (cc (well));
     happened = is.happened;
     holds = λ well _. absurd (cc (well));
-    left = λ honest c may. subst (λ (k : ℕ). IsLeftBy k s kept c) (sym key) (crash (is.holds well honest) c may);
+    left = λ honest c may. subst (λ (r : LogPrefix). IsLeftBy (key_of new) s durable.events r.events c) (sym same) (subst (λ (k : ℕ). IsLeftBy k s durable.events reached.events c) (sym key) (crash (is.holds well honest) c may));
     alone = λ well. absurd (cc (well));
-    other_left = λ honest. no-other _ s kept other (is.alone well);
+    other_left = λ honest. no-other _ s durable.events again.events other (is.alone well);
     covered = λ well. absurd (cc (well));
   }
 
   -- another one that may have taken its place
-  pub kept-beside : (old new : Journal D g) (other : Option (Journal D g)) (s : Settings) (log : Book) (own : Option ℕ) (honest : Bool) (durable : Book) (kept : List Event) (promised : ℕ) (failed : Bool)
-      → IsKeeper s log own honest old other durable kept promised failed → key_of new ≡ key_of old → KeepsBook s new kept
-      → IsKeeper s log own honest old (Some new) durable kept promised true
-  kept-beside old new other s log own honest durable kept promised failed is key keeps = record {
+  pub kept-beside : (old new : Journal D g) (other : Option (Journal D g)) (s : Settings) (log : Book) (own : Option ℕ) (honest : Bool) (durable tried : LogPrefix) (promised : ℕ) (failed : Bool)
+      → IsKeeper s log own honest old other durable tried promised failed → key_of new ≡ key_of old → KeepsBook s new durable.events
+      → IsKeeper s log own honest old (Some new) durable tried promised true
+  kept-beside old new other s log own honest durable tried promised failed is key keeps = record {
     key = is.key;
     durable_log = is.durable_log;
+    tried_log = is.tried_log;
+    begins = is.begins;
+    no_more = λ well. absurd (cc (well));
     happened = is.happened;
     holds = λ well _. absurd (cc (well));
     left = is.left;
     alone = λ well. absurd (cc (well));
-    other_left = λ _ c may. subst (λ (k : ℕ). IsLeftBy k s kept c) key (left-all new s kept is.happened keeps c may);
+    other_left = λ _ c may. subst (λ (k : ℕ). IsLeftBy k s durable.events tried.events c) key (left-all new s durable.events tried.events is.happened is.begins keeps c may);
     covered = λ well. absurd (cc (well));
   }
 
   -- what a keeper's journal leaves, and the other one that may have taken its place
-  pub crash-leaves : (s : Settings) (log : Book) (own : Option ℕ) (honest : Bool) (journal : Journal D g) (other : Option (Journal D g)) (durable : Book) (kept : List Event) (promised : ℕ) (failed : Bool)
-      → IsKeeper s log own honest journal other durable kept promised failed → IsTrue honest → (c : List ℕ)
-      → g.may_leave (disk_of journal) c ⊎ ((new : D) × (option_map (λ (it : Journal D g). disk_of it) other ≡ Some new) × g.may_leave new c) → IsLeftBy (key_of journal) s kept c
-  crash-leaves s log own honest journal other durable kept promised failed is told c (inl may) = is.left told c may
-  crash-leaves s log own honest journal None durable kept promised failed is told c (inr may) = absurd (cc (may.1))
-  crash-leaves s log own honest journal (Some it) durable kept promised failed is told c (inr may) =
+  pub crash-leaves : (s : Settings) (log : Book) (own : Option ℕ) (honest : Bool) (journal : Journal D g) (other : Option (Journal D g)) (durable tried : LogPrefix) (promised : ℕ) (failed : Bool)
+      → IsKeeper s log own honest journal other durable tried promised failed → IsTrue honest → (c : List ℕ)
+      → g.may_leave (disk_of journal) c ⊎ ((new : D) × (option_map (λ (it : Journal D g). disk_of it) other ≡ Some new) × g.may_leave new c) → IsLeftBy (key_of journal) s durable.events tried.events c
+  crash-leaves s log own honest journal other durable tried promised failed is told c (inl may) = is.left told c may
+  crash-leaves s log own honest journal None durable tried promised failed is told c (inr may) = absurd (cc (may.1))
+  crash-leaves s log own honest journal (Some it) durable tried promised failed is told c (inr may) =
       is.other_left told c (subst (λ (d : D). g.may_leave d c) (same (disk_of it) may.0 may.1) may.2)
     where
       same : (x y : D) → (let left : Option D = Some x in let right : Option D = Some y in left ≡ right) → y ≡ x

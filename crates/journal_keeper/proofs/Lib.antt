@@ -1,5 +1,5 @@
 pub mod CompactionLemmas
 pub mod DeskLemmas
+pub mod FrameLemmas
 pub mod KeeperLemmas
 pub mod OpeningLemmas
-pub mod WaitingLemmas

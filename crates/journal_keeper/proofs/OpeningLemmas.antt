@@ -1,4 +1,4 @@
--- What is read of a journal that was opened, and what a store is after its changes were made again.
+-- What a store is after its changes were made again.
 use Rattle.std.specs.Prelude.{option_and_then, option_map}
 use Rattle.std.proofs.lemmas.Bool.{and_from, cond-true}
 use Rattle.std.proofs.lemmas.List.{map-append}
@@ -28,32 +28,12 @@ use Rattle.tus_shared.proofs.QueueLemmas.{after-more}
 use Rattle.journal_keeper.specs.declared.fault.ReopenFault.{ReopenFault}
 use Rattle.journal_keeper.specs.declared.fault.ReopenFault.TheVariants.{Record, Memory as NoMemory, Waiting}
 use Rattle.journal_keeper.specs.Opening.{IsFinal, IsMadeAgain, IsOutsideRecords, IsRecovered, IsReopenFault, RecoveredGoOn, opening_with}
-use Rattle.journal_file.specs.JournalError.{IsDamagedAt, IsReason, Reasons, TellsDamage}
-use Rattle.journal_file.specs.declared.error.Damage.{Damage}
-use Rattle.journal_file.specs.declared.error.JournalError.{JournalError}
-use Rattle.journal_file.specs.declared.error.JournalError.TheVariants.{NoRoom, Unusable, NotMixing, Damaged, Memory, Disk}
 use Rattle.std.proofs.Common.{◌≡◌, ℕ, Bool, true, false, IsTrue, List, [], ◌∷◌, ◌++◌, length, map, All, Option, Some, None, Result, Ok, Err, OnOk, refl, sym, ap, subst, ◌∙◌, append_assoc, arith}
 use Rattle.journal_records.specs.Records.{record_bytes}
 use Rattle.tus_shared.specs.Desk.{Desk, Moves}
 use Rattle.journal_keeper.specs.Keeper.{event_records, IsLeft, IsLeftBy}
 use Rattle.journal_keeper.proofs.KeeperLemmas.{records-append}
 use Rattle.journal_frames.specs.Frames.{recovered}
-
--- ---- a journal that was opened
-
--- the place of a damage is that of the file which this disk had, too
-pub damage-told : {D : Type 0} (seen : D → List ℕ) (is_clean : D → Bool) (key : ℕ) (first opened last : D) (reasons : Reasons) (why : JournalError)
-    → IsReason reasons why
-    → ((damage : Damage) → reasons.damaged damage → IsTrue (is_clean last) → IsDamagedAt key (seen opened) damage)
-    → seen opened ≡ seen first
-    → TellsDamage seen is_clean key first why
-damage-told seen is_clean key first opened last reasons NoRoom is told same = tt
-damage-told seen is_clean key first opened last reasons Unusable is told same = tt
-damage-told seen is_clean key first opened last reasons NotMixing is told same = tt
-damage-told seen is_clean key first opened last reasons (Damaged damage) is told same =
-    (last, λ clean. subst (λ (file : List ℕ). IsDamagedAt key file damage) same (told damage is clean))
-damage-told seen is_clean key first opened last reasons Memory is told same = tt
-damage-told seen is_clean key first opened last reasons (Disk error) is told same = tt
 
 -- ---- a change that is made again, or not
 
@@ -129,18 +109,19 @@ book-left key s kept file records book left are made = ok_is book (book_at s lef
     ok_is x y is = cc
 
 -- these begin with all that any desk was told to be kept, where the keeper kept that
-pub all-recovered : {A E : Type 0} (made : Result A E) (key : ℕ) (s : Settings) (kept : List Event) (desks : List Desk) (file : List ℕ) (book : PlainBook) (by : IsLeftBy key s kept file)
-    → All (λ (d : Desk). IsPrefix d.kept kept) desks → OnOk made (book ≡ book_at s by.left.events) → OnOk made (IsRecovered key file s kept desks book)
-all-recovered (Ok it) key s kept desks file book by told is = record {
+pub all-recovered : {A E : Type 0} (made : Result A E) (key : ℕ) (s : Settings) (kept tried : List Event) (desks : List Desk) (file : List ℕ) (book : PlainBook) (by : IsLeftBy key s kept tried file)
+    → All (λ (d : Desk). IsPrefix d.kept kept) desks → OnOk made (book ≡ book_at s by.left.events) → OnOk made (IsRecovered key file s kept tried desks book)
+all-recovered (Ok it) key s kept tried desks file book by told is = record {
   events = by.left.events;
   begins = All-weaker _ _ (λ (d : Desk) (begins : IsPrefix d.kept kept). prefix-on d.kept kept by.left.events begins by.left.begins) desks told;
   behind = by.left.begins;
+  within = by.within;
   plain = by.plain;
   happened = by.left.happened;
   is = is;
   made = by.left.make ∙ ap Ok (sym is);
 }
-all-recovered (Err why) key s kept desks file book by told is = tt
+all-recovered (Err why) key s kept tried desks file book by told is = tt
 
 -- and none of them is refused
 pub records-accepted : (key : ℕ) (s : Settings) (told : List Event) (file : List ℕ) (records : List (List ℕ)) (why : ReopenFault) → IsLeft key s told file → records ≡ recovered key file
@@ -171,7 +152,7 @@ book-of : (s : Settings) (before since : List Event) → book_of (opening_with s
 book-of s before since = sym (after-more (opening_book s) before since)
 
 pub recovered-go-on : RecoveredGoOn
-recovered-go-on key file s kept again before since desks earlier recovered is are =
+recovered-go-on key file s kept tried again before since desks earlier recovered is are =
     let more = recovered.behind.0 in
     let all : recovered.events ≡ before ++ (since ++ more) = sym recovered.behind.1 ∙ ap (λ (l : List Event). l ++ more) is ∙ append_assoc before since more in
     let book : book_at s again ≡ book_of (opening_with s before (since ++ more)) = recovered.is ∙ ap (book_at s) all ∙ sym (book-of s before (since ++ more)) in

@@ -7,7 +7,7 @@ use Rattle.book_replay.specs.Snapshot.{behind_room}
 use Rattle.journal_frames.specs.Frames.{Fits}
 use Rattle.journal_keeper.specs.declared.compaction.Compaction.{Compaction}
 use Rattle.journal_keeper.specs.Keeper.{MakeBook}
-use Rattle.journal_keeper.specs.Waiting.{frames_each}
+use Rattle.journal_file.specs.Appending.{frames_each}
 use Rattle.upload_book.specs.Settings.{Settings}
 use Rattle.head_board.specs.Event.{Event}
 

@@ -3,4 +3,3 @@ pub mod Granting
 pub mod Keeper
 pub mod Numbers
 pub mod Opening
-pub mod Waiting

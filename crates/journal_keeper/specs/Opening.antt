@@ -39,12 +39,14 @@ IsOutsideRecords Memory = ⊤
 IsOutsideRecords Waiting = ⊤
 
 -- The book is the plain book after a list of events, which happened to a book of these settings since its opening, one after
--- another. The list begins with all that any of the desks was told to be kept, and with these events, which were kept; what
--- comes behind them restores nothing. Nothing happened to the book but what the records of the file make.
-pub record IsRecovered (key : ℕ) (file : List ℕ) (s : Settings) (kept : List Event) (desks : List Desk) (book : PlainBook) : Type 0 where
+-- another. The list begins with all that any of the desks was told to be kept, and with these events, which were kept. What comes
+-- behind them are the next of those that the keeper tried to keep, in their order, and restores nothing. Nothing happened to the
+-- book but what the records of the file make.
+pub record IsRecovered (key : ℕ) (file : List ℕ) (s : Settings) (kept tried : List Event) (desks : List Desk) (book : PlainBook) : Type 0 where
   pub events : List Event
   pub begins : All (λ (d : Desk). IsPrefix d.kept events) desks
   pub behind : IsPrefix kept events
+  pub within : IsPrefix events tried
   pub plain : RestoreNothing behind.0
   pub happened : HaveHappened s events
   pub is : book ≡ book_at s events
@@ -69,7 +71,7 @@ opening_with s again since = record {
 -- has was joined by an event of one of its openings (`FinalsOfOpenings` of `tus_shared`).
 abbrev pub RecoveredGoOn : Type 0
 RecoveredGoOn =
-    (key : ℕ) (file : List ℕ) (s : Settings) (kept again before since : List Event) (desks : List Desk) (earlier : List Opening)
-    → (recovered : IsRecovered key file s kept desks (book_at s again)) → kept ≡ before ++ since
+    (key : ℕ) (file : List ℕ) (s : Settings) (kept tried again before since : List Event) (desks : List Desk) (earlier : List Opening)
+    → (recovered : IsRecovered key file s kept tried desks (book_at s again)) → kept ≡ before ++ since
     → AreOpenings (opening_with s before since ∷ earlier)
     → AreOpenings (opening_with s again [] ∷ opening_with s before (since ++ recovered.behind.0) ∷ earlier)

@@ -232,6 +232,7 @@ impl<D: Disk + Drop, C: Journalled> Keeper<D, C> {
             return Err(KeepFault::Queue);
         };
         let RecordsAndSnapshot { records, snapshot } = taken;
+        self.tried = records.reached.again();
         let mut synced = self.synced;
         keep_taken::<D, C, W>(
             rt,

@@ -6,7 +6,7 @@ ghost use Rattle.journal_file.specs.Draft.{draft_key, IsDraft};
 ghost use Rattle.journal_file.specs.Journal.{key_of, room_of, IsJournal};
 ghost use Rattle.journal_frames.specs.Frames.{Fits};
 ghost use Rattle.journal_keeper.specs.Compaction.{waiting_in, WillHave};
-ghost use Rattle.journal_keeper.specs.Waiting.{frames_each};
+ghost use Rattle.journal_file.specs.Appending.{frames_each};
 
 use crate::keeping::len_of_all;
 use journal_file::{Draft, Journal, JournalError};

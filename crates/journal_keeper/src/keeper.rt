@@ -12,7 +12,6 @@ use crate::compaction::{Compaction, with_kept};
 use crate::fault::KeepFault;
 use crate::granting::{AHEAD, SPARE, needed_for};
 use crate::journalled::Journalled;
-use crate::keeping::make_room;
 use crate::numbers::{ALWAYS_SMALL, KeeperNumbers, SyncCounts};
 use crate::taking::{keep_taken, take_behind, tell};
 use journal_file::{Journal, JournalPlace};
@@ -33,6 +32,8 @@ pub struct Keeper<D: Disk, C: Journalled> {
     pub(crate) alloc: Global,
     pub(crate) journal: Journal<D>,
     pub(crate) durable: SeenEvents,
+    // How far it tried to keep the events: as far as they are kept, until keeping fails.
+    pub(crate) tried: SeenEvents,
     pub(crate) granted: u64,
     pub(crate) has_failed: bool,
     pub(crate) synced: SyncCounts,
@@ -63,6 +64,7 @@ impl<D: Disk, C: Journalled> Model for Keeper<D, C> {
     ghost view = { λ k. record {
       key = key_of k.journal;
       kept = k.durable.events;
+      tried = k.tried.events;
       failed = k.has_failed;
       promised = k.granted;
       room = room_of k.journal;
@@ -72,7 +74,7 @@ impl<D: Disk, C: Journalled> Model for Keeper<D, C> {
       maybe_in_place = option_map (λ it. disk_of it) k.maybe_in_place;
     } };
 
-    ghost invariant = { λ k. IsKeeper C.settings C.log C.journal C.honest k.journal k.maybe_in_place k.durable.book k.durable.events k.granted k.has_failed
+    ghost invariant = { λ k. IsKeeper C.settings C.log C.journal C.honest k.journal k.maybe_in_place k.durable k.tried k.granted k.has_failed
         × IfSome k.compaction (λ c. WillKeep C.settings c (key_of k.journal) k.durable.events) };
 }
 
@@ -87,6 +89,7 @@ impl<D: Disk + Drop, C: Journalled> Keeper<D, C> {
         ensures { result ≡ record {
           key = key_of journal;
           kept = durable.events;
+          tried = durable.events;
           failed = false;
           promised = 0;
           room = room_of journal;
@@ -96,10 +99,12 @@ impl<D: Disk + Drop, C: Journalled> Keeper<D, C> {
           maybe_in_place = None;
         } }
     {
+        let tried = durable.again();
         Keeper {
             alloc,
             journal,
             durable,
+            tried,
             granted: 0,
             has_failed: false,
             synced: SyncCounts::none(),
@@ -125,6 +130,14 @@ impl<D: Disk + Drop, C: Journalled> Keeper<D, C> {
         ensures { result ≡ record { book = C.log; events = self.now.kept } }
     {
         self.durable.again()
+    }
+
+    /// How far it tried to keep the events of the opening: as far as they are kept, until keeping fails. A crash leaves none
+    /// behind these ([`Keeper::tell_crash`]).
+    pub fn tried(&self) -> SeenEvents
+        ensures { result ≡ record { book = C.log; events = self.now.tried } }
+    {
+        self.tried.again()
     }
 
     /// What it has synced since it was made, and how large its journal is.
@@ -171,12 +184,16 @@ impl<D: Disk + Drop, C: Journalled> Keeper<D, C> {
     }
 
     /// Tells what a crash leaves: records of which the book is made again that is the one after events which begin with all
-    /// that are kept, and no damage. It does also after keeping has failed, and where another disk may have taken the place
-    /// of this one, of that too.
+    /// that are kept, and no damage. What comes behind these are the next events that it tried to keep, so changes that desks of
+    /// this opening made, in their order; none comes until keeping fails. It tells so also after keeping has failed, and where
+    /// another disk may have taken the place of this one, of that too.
     pub fn tell_crash(&self)
         ensures happened { HaveHappened C.settings self.now.kept }
+        ensures begins { IsPrefix self.now.kept self.now.tried }
+        ensures no_more { self.now.failed ≡ false → self.now.tried ≡ self.now.kept }
         ensures left { IsTrue C.honest
-            → (c : List ℕ) → MayBeLeft D.may_leave self.now c → IsLeftBy self.now.key C.settings self.now.kept c }
+            → (c : List ℕ) → MayBeLeft D.may_leave self.now c
+            → IsLeftBy self.now.key C.settings self.now.kept self.now.tried c }
     {
         let _kept = &self.durable;
     }
@@ -228,6 +245,7 @@ impl<D: Disk + Drop, C: Journalled> Keeper<D, C> {
         }
         self.has_failed = true;
         let taken = take_behind(rt, shared, &self.durable, &seen)?;
+        self.tried = taken.reached.again();
         let mut synced = self.synced;
         keep_taken::<D, C, W>(
             rt,
@@ -310,7 +328,7 @@ impl<D: Disk + Drop, C: Journalled> Keeper<D, C> {
         let Some(all) = self.granted.checked_add(more) else {
             return false;
         };
-        if make_room(&mut self.journal, all).is_err() {
+        if self.journal.make_room(all as usize, 0).is_err() {
             return false;
         }
         self.granted = all;

@@ -43,7 +43,8 @@ pub fn what_was_told_is_left<D: Disk + Drop, C: Journalled, R: Ledger, M: Ledger
 /// ([`crate::open_journal`]) on a file that the disk may leave, or the one that may have taken its place. Of it a store is
 /// made again here, by [`reopen`]. Its book ([`Store::headline`]) is the plain book after one list of events, which begins
 /// with all that any of the desks was told to be kept; it is the one that the records of the file make, and none of these is
-/// refused.
+/// refused. What comes behind all that was kept are the next events of the opening, as far as the keeper tried to keep them
+/// ([`Keeper::tried`]): changes that desks of this opening made, in their order.
 ///
 /// The premises. The disk keeps what it synced, and leaves each other byte as it was or as it was written: that is supposed of
 /// what it `may_leave`. It told no lie while the journal was opened: of the time before the crash that is `honest`; of that
@@ -82,7 +83,7 @@ pub fn what_was_told_is_recovered<
     ensures recovered { IsTrue C.honest → (file : List ℕ)
         → MayBeLeft D.may_leave keeper.now file
         → recovered key opened.frames.items ≡ recovered key file
-        → OnOk result (IsRecovered key file C.settings keeper.now.kept desks.now (book_at C.settings store.new)) }
+        → OnOk result (IsRecovered key file C.settings keeper.now.kept keeper.now.tried desks.now (book_at C.settings store.new)) }
     ensures accepts { IsTrue C.honest → (file : List ℕ)
         → MayBeLeft D.may_leave keeper.now file
         → recovered key opened.frames.items ≡ recovered key file

@@ -22,6 +22,6 @@ pub use fault::{KeepFault, ReopenFault};
 pub use journalled::Journalled;
 pub use keeper::Keeper;
 pub use numbers::{KeeperNumbers, SyncCounts};
-pub use opening::{Reopened, open_journal, reopen};
+pub use opening::{Reopened, reopen};
 pub use progress::Progress;
 pub use shared_keeper::SharedKeeper;

@@ -1,10 +1,9 @@
-//! A journal that is opened, and a store whose changes are made again of its records.
+//! A store whose changes are made again of the records of a journal that was opened.
 ghost use Rattle.std.specs.Prelude.{◌≡◌, ℕ, List, [], length, Some, None, Ok, All, false, IsTrue, IfErr, IfOk, IsErrOf, OnErr, OnOk, IsSome};
 ghost use Rattle.book_replay.specs.Replay.{after_accepted, after_record, replayed};
 ghost use Rattle.head_board.specs.Event.{Event};
 ghost use Rattle.head_board.specs.Events.{HaveHappened, book_at};
 ghost use Rattle.journal_file.specs.Journal.{disk_of, end_of, key_of, room_of, IsJournal};
-ghost use Rattle.journal_file.specs.JournalError.{TellsDamage};
 ghost use Rattle.journal_frames.specs.Frames.{recovered};
 ghost use Rattle.journal_keeper.specs.Keeper.{event_records, IsLeft};
 ghost use Rattle.journal_keeper.specs.Numbers.{no_syncs};
@@ -18,7 +17,7 @@ use crate::journalled::Journalled;
 use crate::keeper::Keeper;
 use crate::progress::Progress;
 use book_replay::can_be_made;
-use journal_file::{Journal, JournalError, NotOpened, Opened};
+use journal_file::Opened;
 use journal_frames::{Frames, HEADER_LEN};
 use journal_records::{PartIds, Record, Segments, read_record};
 use sqlite_disk::Disk;
@@ -27,49 +26,6 @@ use std::sync::Wait;
 use std::sync::ledger::Ledger;
 use tus_shared::{AgainFault, Charges, Desk, Store};
 use upload_book::{Change, Moment, Refusal};
-
-// The room of a new journal, in bytes.
-const FIRST_ROOM: usize = 1 << 20;
-
-/// Opens the journal that the file of a disk holds under this key, as [`Journal::open`] does, with the frames of all its
-/// records; or, where the file has no byte, makes one without a record. It may crash meanwhile, and be called again.
-///
-/// `Err` as of `Journal::open` and [`Journal::create`], or Disk where the disk does not tell how long the file is. Where it is
-/// Damaged, its place is that of the damage, if the disk told no lie.
-pub fn open_journal<D: Disk>(
-    alloc: Global,
-    mut disk: D,
-    key: u64,
-) -> Result<Opened<D>, JournalError>
-where
-    D: Drop,
-    // Where the disk told no lie.
-    ensures journal { IfOk result (λ it. IsTrue (D.is_clean (disk_of it.journal))
-        → IsJournal it.journal (recovered key it.frames.items) []) }
-    ensures all { IfOk result (λ it. IsTrue (D.is_clean (disk_of it.journal))
-        → recovered key it.frames.items ≡ recovered key (D.seen disk)) }
-    ensures key { IfOk result (λ it. key_of it.journal ≡ key) }
-    ensures damaged { IfErr result (TellsDamage D.seen D.is_clean key disk) }
-{
-    if !disk.may_be_used() {
-        return Err(JournalError::Unusable);
-    }
-    let len = disk.len()?;
-    if len == 0 {
-        let journal = Journal::create(disk, key, FIRST_ROOM)?;
-        return Ok(Opened {
-            journal,
-            frames: Vec::new(alloc),
-        });
-    }
-    match Journal::open(alloc, disk, key) {
-        Ok(opened) => Ok(opened),
-        Err(not) => {
-            let NotOpened { why, disk: _ } = not;
-            Err(why)
-        }
-    }
-}
 
 /// A store's journal whose changes were made again.
 #[derive(Drop)]
@@ -126,6 +82,7 @@ where
     ensures keeper { IfOk result (λ it. it.keeper ≡ record {
       key = key;
       kept = it.keeper.kept;
+      tried = it.keeper.kept;
       failed = false;
       promised = 0;
       room = room_of opened.journal;

@@ -7,7 +7,7 @@ ghost use Rattle.journal_file.specs.Journal.{disk_of, key_of, room_of};
 ghost use Rattle.journal_frames.specs.Frames.{Fits};
 ghost use Rattle.journal_keeper.specs.Keeper.{IsLeftBy, KeepsBook};
 ghost use Rattle.journal_keeper.specs.Numbers.{more};
-ghost use Rattle.journal_keeper.specs.Waiting.{frames_each};
+ghost use Rattle.journal_file.specs.Appending.{frames_each};
 ghost use Rattle.tus_shared.specs.Journal.{journal_len, AreTaken};
 
 use crate::fault::KeepFault;
@@ -38,9 +38,10 @@ pub(crate) fn keep_taken<D: Disk, C: Charges, W: time::Clock>(
     requires taken { AreTaken C.settings C.journal durable.now.events taken.now.reached.events (map (λ frame. frame.items) taken.now.frames.items) }
     ensures kept { KeepsBook C.settings journal.old durable.now.events
         → OnOk result (KeepsBook C.settings journal.new taken.now.reached.events) }
-    // Whatever it answers, a crash leaves all that was kept.
+    // Whatever it answers, a crash leaves all that was kept, and the first so many of these.
     ensures crash { KeepsBook C.settings journal.old durable.now.events
-        → (c : List ℕ) → D.may_leave (disk_of journal.new) c → IsLeftBy (key_of journal.old) C.settings durable.now.events c }
+        → (c : List ℕ) → D.may_leave (disk_of journal.new) c
+        → IsLeftBy (key_of journal.old) C.settings durable.now.events taken.now.reached.events c }
     ensures key { key_of journal.new ≡ key_of journal.old }
     // A frame can hold each of the records.
     ensures fit { (records : List (List ℕ))

@@ -16,9 +16,9 @@ use crate::progress::ProgressLine;
 use crate::serve::serve_desks;
 use crate::started::tell_started;
 use http_wire::Sink;
-use journal_file::{JournalPlace, Opened as OpenedJournal};
+use journal_file::{Journal, JournalPlace, Opened as OpenedJournal};
 use journal_folders::{JOURNAL_KEY, SettingsFile, fault_of_journal, renew_settings};
-use journal_keeper::{Journalled, SharedKeeper, open_journal, reopen};
+use journal_keeper::{Journalled, SharedKeeper, reopen};
 use server_words::{JournalFault, RunFault, ServeOptions};
 use sqlite_disk::Disk;
 use std::alloc::Global;
@@ -90,7 +90,7 @@ where
     ensures put { OnOk result (F.text_in file.new ≡ Some (settings_text settings)) }
 {
     let start = Instant::now(rt).ok();
-    let opened = match open_journal(alloc, disk, JOURNAL_KEY) {
+    let opened = match Journal::open_or_create(alloc, disk, JOURNAL_KEY) {
         Ok(opened) => opened,
         Err(error) => return Err(fault_of_journal(error)),
     };

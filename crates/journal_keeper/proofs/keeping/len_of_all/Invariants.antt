@@ -1,5 +1,5 @@
 use Rattle.std.proofs.Common.{◌≡◌, ◌-◌, ◌^◌, map, take, min}
-use Rattle.journal_keeper.specs.Waiting.{total_len}
+use Rattle.journal_file.specs.Appending.{total_len}
 use Rattle.journal_keeper.proofs.keeping.len_of_all.Given as goal
 
 abbrev pub invariant-loop-frame : goal.invariant-loop-frame

@@ -11,7 +11,7 @@ use crate::tests::keeper::steps::{Kept, Step, makes, play};
 use crate::tests::torn_disk::TornDisk;
 use journal_file::{Journal, JournalError};
 use journal_frames::{Frames, HEADER_LEN};
-use journal_keeper::{Journalled, Keeper, KeeperNumbers, SharedKeeper, open_journal};
+use journal_keeper::{Journalled, Keeper, KeeperNumbers, SharedKeeper};
 use std::alloc::Global;
 use std::marker::Brand;
 use std::process::Abort;
@@ -252,7 +252,7 @@ static TWO_OF_THREE: [Step; 5] = [
 // How many records are found after a crash that lost what this seed says.
 fn left_by(rt: &impl Abort, alloc: Global, disk: &TornDisk, seed: u64) -> u64 {
     let left = disk.after_crash(seed).expect(rt, "memory");
-    let Ok(opened) = open_journal(alloc, left, KEY) else {
+    let Ok(opened) = Journal::open_or_create(alloc, left, KEY) else {
         panic!(rt; "not opened");
     };
     count(&opened.frames)
@@ -262,7 +262,7 @@ fn left_by(rt: &impl Abort, alloc: Global, disk: &TornDisk, seed: u64) -> u64 {
 fn is_damaged(rt: &impl Abort, alloc: Global, disk: &TornDisk) -> bool {
     let left = disk.after_crash(0).expect(rt, "memory");
     matches!(
-        open_journal(alloc, left, KEY + 1),
+        Journal::open_or_create(alloc, left, KEY + 1),
         Err(JournalError::Damaged(_))
     )
 }

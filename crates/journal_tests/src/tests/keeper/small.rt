@@ -7,9 +7,10 @@ use crate::tests::keeper::steps::Looked::Told;
 use crate::tests::keeper::steps::{Kept, Looked, Step, look, makes, play};
 use crate::tests::torn_disk::TornDisk;
 use book_replay::replay;
+use journal_file::Journal;
 use journal_frames::Frames;
 use journal_keeper::Compacted::{Ended, GivenUp, GoesOn, Rests, Shortened};
-use journal_keeper::{Journalled, Keeper, open_journal};
+use journal_keeper::{Journalled, Keeper};
 use std::alloc::Global;
 use std::process::Abort;
 use std::sync::Wait;
@@ -198,7 +199,7 @@ pub(crate) fn is_made_small<C: Journalled, R: Ledger, M: Ledger, W: Wait + Abort
 // Whether so many uploads are left after a crash that loses all that was not synced, and the next gets the id after them.
 fn is_left(rt: &impl Abort, alloc: Global, disk: &TornDisk, uploads: u64) -> bool {
     let left = disk.after_crash(1).expect(rt, "memory");
-    let Ok(opened) = open_journal(alloc, left, KEY) else {
+    let Ok(opened) = Journal::open_or_create(alloc, left, KEY) else {
         panic!(rt; "not opened");
     };
     let Ok(book) = replay(alloc, large_settings(rt), Frames::new(KEY, &opened.frames)) else {

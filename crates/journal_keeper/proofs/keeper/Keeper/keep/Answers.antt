@@ -5,7 +5,7 @@ use Rattle.journal_file.specs.Journal.{key_of}
 use Rattle.journal_keeper.specs.declared.compaction.Compaction.{Compaction}
 use Rattle.journal_keeper.specs.Compaction.{WillKeep}
 use Rattle.journal_keeper.specs.Keeper.{event_records}
-use Rattle.journal_keeper.specs.Waiting.{frames_each}
+use Rattle.journal_file.specs.Appending.{frames_each}
 use Rattle.journal_keeper.proofs.CompactionLemmas.{will-keep-more, will-keep-under}
 use Rattle.journal_keeper.proofs.KeeperLemmas.{frames-queued, kept-lost, kept-more, on_ok}
 use Rattle.journal_keeper.proofs.keeper.Keeper.keep.Goals as goal
@@ -18,15 +18,17 @@ returns-then-begins-clause-kept g c =
 
 pub invariant_of-self-in_err-keep_taken : goal.invariant_of-self-in_err-keep_taken
 invariant_of-self-in_err-keep_taken g c =
+    let found = c.in_ok-taken.ensures in
     let told = c.in_err-keep_taken.ensures in (
-      kept-lost c.self.inside.journal c.keep_taken.new.journal _ _ _ _ _ _ _ c.self.inside.granted _ _ c.if-self.false c.self.invariant.0 told.key told.crash,
+      kept-lost c.self.inside.journal c.keep_taken.new.journal _ _ _ _ _ _ _ c.in_ok-taken.taken.reached _ c.self.inside.granted _ _ c.if-self.false c.self.invariant.0 told.key found.log (found.taken.more, sym found.taken.reaches) told.crash c.again.ensures,
       will-keep-under _ _ _ _ c.self.inside.compaction told.key c.self.invariant.1,
     )
 
 pub invariant_of-self-in_err-tell : goal.invariant_of-self-in_err-tell
 invariant_of-self-in_err-tell g c =
+    let found = c.in_ok-taken.ensures in
     let told = c.in_ok-keep_taken.ensures in (
-      kept-lost c.self.inside.journal c.keep_taken.new.journal _ _ _ _ _ _ _ c.self.inside.granted _ _ c.if-self.false c.self.invariant.0 told.key told.crash,
+      kept-lost c.self.inside.journal c.keep_taken.new.journal _ _ _ _ _ _ _ c.in_ok-taken.taken.reached _ c.self.inside.granted _ _ c.if-self.false c.self.invariant.0 told.key found.log (found.taken.more, sym found.taken.reaches) told.crash c.again.ensures,
       will-keep-under _ _ _ _ c.self.inside.compaction told.key c.self.invariant.1,
     )
 
@@ -45,7 +47,7 @@ invariant_of-self-2 g c =
     let keeps = subst (λ (it : Option (Compaction g.row.D.Denot g.D.Disk)). IfSome it (λ one. WillKeep s one key c.self.inside.durable.events)) (sym was) c.self.invariant.1 in
     let more = will-keep-more s key c.self.inside.durable.events taken.more c.take.result c.with_kept.result taken.again keeps (λ records have. c.with_kept.ensures.more key records (event_records taken.more) have are fit) c.with_kept.ensures.none in
     let reached = subst (λ (events : List Event). IfSome c.with_kept.result (λ it. WillKeep s it key events)) (sym taken.reaches) more in (
-      kept-more c.self.inside.journal c.keep_taken.new.journal _ _ _ _ _ _ _ _ _ c.self.inside.granted _ _ c.if-self.false is told.key found.log taken.happened told.kept told.covered,
+      kept-more c.self.inside.journal c.keep_taken.new.journal _ _ _ _ _ _ _ _ _ c.self.inside.granted _ _ c.if-self.false is told.key found.log taken.happened told.kept told.covered c.again.ensures,
       will-keep-under _ _ _ _ c.with_kept.result told.key reached,
     )
 
