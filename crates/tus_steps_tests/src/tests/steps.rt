@@ -1,5 +1,5 @@
 //! The worked rows of the steps.
-use crate::tests::requests::{FIELDS, Sent, TYPED};
+use crate::tests::requests::{Sent, TYPED};
 use crate::tests::rows::{Row, check, rows};
 use crate::tests::told::Told::{
     Bare, Bytes, Created, Deleted, Options, Patched, Refused, Row as Shown,
