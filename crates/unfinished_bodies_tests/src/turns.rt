@@ -55,21 +55,25 @@ fn fits(lists: &mut TurnLists, step: Step) -> bool {
     }
 }
 
-// Whether so many keys stand on each list, and as many are told of.
-fn have(lists: &TurnLists, counts: &[usize; 3]) -> bool {
-    let mut told: [usize; 3] = [0; 3];
+// How many keys are told to stand on a list.
+fn told_of(lists: &TurnLists, list: TurnList) -> usize {
+    let mut keys: usize = 0;
     for key in 0..BOUND {
-        for (place, list) in LISTS.iter().enumerate() {
-            if lists.list_of(key) == Some(*list) {
-                told[place] += 1;
-            }
+        if lists.list_of(key) == Some(list) {
+            keys = keys.saturating_add(1);
         }
     }
-    told == *counts
-        && LISTS
-            .iter()
-            .zip(counts)
-            .all(|(list, count)| lists.len(*list) == *count)
+    keys
+}
+
+// Whether so many keys stand on each list, and as many are told of.
+fn have(lists: &TurnLists, counts: &[usize; 3]) -> bool {
+    for (list, count) in LISTS.iter().zip(counts) {
+        if lists.len(*list) != *count || told_of(lists, *list) != *count {
+            return false;
+        }
+    }
+    true
 }
 
 #[test]
