@@ -12,6 +12,7 @@ use std::alloc::Global;
 use std::io;
 use std::io::{ErrorKind, Read, Write};
 use std::net::Shutdown;
+use turn_lists::TurnList;
 use unfinished_bodies::BodyPlace;
 
 /// For how many seconds the rest of a refused input is read, and how many bytes of it.
@@ -42,12 +43,8 @@ enum Standing {
 pub(crate) enum Next {
     /// An event will tell when there is more to do.
     Waits,
-    /// There is more to do, and no event need tell of it.
-    HasMore,
-    /// Its message waits for another one to end.
-    WaitsForTurn,
-    /// Its reply is held back.
-    WaitsForKeeping,
+    /// Its next turn comes by this list, and no event need tell of it.
+    Stands(TurnList),
     /// Its connection is closed.
     Ends,
 }
@@ -84,8 +81,6 @@ pub(crate) struct Client<'n> {
     pub place: Option<BodyPlace>,
     // Whether its input has ended, or its stream failed, so far as events told.
     has_closed: bool,
-    /// Whether it stands on a list of its worker's, by which its next turn comes.
-    pub is_listed: bool,
     /// Whether in its last turn it came to another message, or from one part of a message to another.
     pub has_gone_on: bool,
     /// Whether it ended since a write failed, or memory was lacking.
@@ -109,7 +104,6 @@ impl<'n> Client<'n> {
             pace: Pace::new(second),
             place: None,
             has_closed: false,
-            is_listed: false,
             has_gone_on: false,
             has_failed: false,
             witness,
@@ -179,12 +173,12 @@ impl<'n> Client<'n> {
         self.standing = Standing::Talks;
         match outcome {
             TurnOutcome::AwaitsBytes | TurnOutcome::AwaitsRoom => Next::Waits,
-            TurnOutcome::HasMore => Next::HasMore,
+            TurnOutcome::HasMore => Next::Stands(TurnList::HasMore),
             TurnOutcome::AwaitsTurn => {
                 self.standing = Standing::Waits(since);
-                Next::WaitsForTurn
+                Next::Stands(TurnList::WaitsForTurn)
             }
-            TurnOutcome::AwaitsKeeping => Next::WaitsForKeeping,
+            TurnOutcome::AwaitsKeeping => Next::Stands(TurnList::WaitsForKeeping),
             TurnOutcome::Over => self.end(free, second),
             TurnOutcome::Failed | TurnOutcome::NoMemory => {
                 self.has_failed = true;
@@ -244,7 +238,7 @@ impl<'n> Client<'n> {
                 self.has_failed = true;
                 Next::Ends
             }
-            _ => Next::HasMore,
+            _ => Next::Stands(TurnList::HasMore),
         }
     }
 
@@ -257,7 +251,7 @@ impl<'n> Client<'n> {
         let _ = self.stream.shutdown(Shutdown::Write);
         self.standing = Standing::Lingers(REST_BYTES);
         self.pace = Pace::new(second);
-        Next::HasMore
+        Next::Stands(TurnList::HasMore)
     }
 
     // Drops what it still sends, of which there are to be at most so many bytes.
@@ -279,7 +273,11 @@ impl<'n> Client<'n> {
             }
         }
         self.standing = Standing::Lingers(rest);
-        if rest == 0 { Next::Ends } else { Next::HasMore }
+        if rest == 0 {
+            Next::Ends
+        } else {
+            Next::Stands(TurnList::HasMore)
+        }
     }
 
     /// Tells its connection that no more will come, nor can be sent. What came of a body that is applied when it is cut is

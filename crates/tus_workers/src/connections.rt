@@ -16,7 +16,8 @@ use slab::Slab;
 use std::alloc::{AllocError, Global};
 use std::sync::Wait;
 use std::sync::ledger::Ledger;
-use std::{mem, time};
+use std::time;
+use turn_lists::{TurnList, TurnLists};
 use tus_shared::{Charges, Desk};
 use unfinished_bodies::{Body, Holder, UploadName};
 use upload_book::Settings;
@@ -32,15 +33,9 @@ pub(crate) struct Connections<'a, 'n, W: Wait> {
     bounds: ClientBounds,
     settings: Settings,
     clients: Slab<Client<'n>>,
+    // Who of them has the next turn without an event.
+    lists: TurnLists,
     free: Vec<Buffers>,
-    // The keys of those that have more to do, of which no event need tell, and a list to put such keys to while these are
-    // taken up.
-    again: Vec<usize>,
-    spare: Vec<usize>,
-    // The keys of those whose message waits for another one to end.
-    waiting: Vec<usize>,
-    // The keys of those whose reply is held back.
-    held: Vec<usize>,
     // Each client ends after one more message at most, and who has none under way is let go.
     is_ending: bool,
     /// What was seen and is not told yet; none where nobody watches.
@@ -70,11 +65,8 @@ impl<'a, 'n, W: Wait + time::Clock> Connections<'a, 'n, W> {
             bounds,
             settings,
             clients: Slab::with_capacity(alloc, most)?,
+            lists: TurnLists::new(alloc, most)?,
             free: Vec::new(alloc),
-            again: Vec::new(alloc),
-            spare: Vec::new(alloc),
-            waiting: Vec::new(alloc),
-            held: Vec::new(alloc),
             is_ending: false,
             watch,
             noted,
@@ -88,7 +80,7 @@ impl<'a, 'n, W: Wait + time::Clock> Connections<'a, 'n, W> {
 
     /// Whether some client has more to do, of which no event need tell.
     pub fn has_more(&self) -> bool {
-        !self.again.is_empty()
+        !self.lists.is_empty(TurnList::HasMore)
     }
 
     /// Takes in a client at this second. Its stream is told of by its key as the token. One that can't be registered, or has no place, is let go.
@@ -129,9 +121,8 @@ impl<'a, 'n, W: Wait + time::Clock> Connections<'a, 'n, W> {
         clock: &mut K,
         second: u64,
     ) {
-        match self.clients.get(key) {
-            Some(client) if !client.is_listed => self.turn(key, answerer, clock, second),
-            _ => {}
+        if self.lists.list_of(key).is_none() {
+            self.turn(key, answerer, clock, second);
         }
     }
 
@@ -174,50 +165,47 @@ impl<'a, 'n, W: Wait + time::Clock> Connections<'a, 'n, W> {
 
     // Puts the client with this key, if there is one, to the list by which its next turn comes, or lets it go.
     fn go_after(&mut self, key: usize, next: Next) {
-        let Some(client) = self.clients.get_mut(key) else {
+        let Some(client) = self.clients.get(key) else {
             return;
         };
-        let is_listed = client.is_listed;
         let stays = match next {
             Next::Waits => !(self.is_ending && client.is_idle()),
-            Next::HasMore => is_listed || self.again.push(key).is_ok(),
-            Next::WaitsForTurn => is_listed || self.waiting.push(key).is_ok(),
-            Next::WaitsForKeeping => is_listed || self.held.push(key).is_ok(),
+            Next::Stands(list) => self.lists.put(key, list),
             Next::Ends => false,
         };
         if !stays {
             self.remove(key);
-        } else if next != Next::Waits {
-            self.set_listed(key, true);
-        }
-    }
-
-    // Notes whether the client with this key stands on a list, if there is one.
-    fn set_listed(&mut self, key: usize, is_listed: bool) {
-        if let Some(client) = self.clients.get_mut(key) {
-            client.is_listed = is_listed;
         }
     }
 
     /// Takes one turn of each client that has more to do, at this second.
     pub fn go_on<A: Durability, K: Clock>(&mut self, answerer: &mut A, clock: &mut K, second: u64) {
-        let spare = mem::replace(&mut self.spare, Vec::new(self.alloc));
-        let mut keys = mem::replace(&mut self.again, spare);
-        for key in keys.iter() {
-            self.set_listed(*key, false);
-            self.turn(*key, answerer, clock, second);
+        self.turn_listed(TurnList::HasMore, answerer, clock, second);
+    }
+
+    // Takes one turn of each client that stands on a list. Who comes to it again meanwhile has its turn in the next round.
+    fn turn_listed<A: Durability, K: Clock>(
+        &mut self,
+        list: TurnList,
+        answerer: &mut A,
+        clock: &mut K,
+        second: u64,
+    ) {
+        for _ in 0..self.lists.len(list) {
+            if let Some(key) = self.lists.take_first(list) {
+                self.turn(key, answerer, clock, second);
+            }
         }
-        keys.clear();
-        self.spare = keys;
     }
 
     /// Sends at this second what was held back, now that all is kept that the desk has seen.
     pub fn send_held<C: Charges, R: Ledger, M: Ledger>(&mut self, desk: &Desk<C, R, M>, second: u64)
         requires kept { IsPrefix desk.now.seen desk.now.kept }
     {
-        for key in mem::replace(&mut self.held, Vec::new(self.alloc)) {
-            self.set_listed(key, false);
-            self.send(desk, key, second);
+        for _ in 0..self.lists.len(TurnList::WaitsForKeeping) {
+            if let Some(key) = self.lists.take_first(TurnList::WaitsForKeeping) {
+                self.send(desk, key, second);
+            }
         }
     }
 
@@ -274,10 +262,7 @@ impl<'a, 'n, W: Wait + time::Clock> Connections<'a, 'n, W> {
                 self.cut(key, why, answerer, clock);
             }
         }
-        for key in mem::replace(&mut self.waiting, Vec::new(self.alloc)) {
-            self.set_listed(key, false);
-            self.turn(key, answerer, clock, second);
-        }
+        self.turn_listed(TurnList::WaitsForTurn, answerer, clock, second);
     }
 
     /// Cuts off those that are too late at this second, each after one more turn: bytes may have come, or may have been taken,
@@ -367,8 +352,9 @@ impl<'a, 'n, W: Wait + time::Clock> Connections<'a, 'n, W> {
         }
     }
 
-    // Lets a client go.
+    // Lets a client go, which then stands on no list.
     fn remove(&mut self, key: usize) {
+        self.lists.leave(key);
         if let Some(client) = self.clients.try_remove(key)
             && client.place.is_some()
         {
