@@ -21,6 +21,6 @@ pub record FirstLines (most : ℕ) (lines put : List ℕ) : Type 0 where
 abbrev pub HasPut : ℕ → ℕ → List ℕ → ℕ → Type 0
 HasPut room spare lines put = FirstLines room lines (take put lines) ⊎ ((put ≡ 0) × (spare < length lines))
 
--- so many lines are lost, the last ones, all behind the first that were put
+-- so many lines are lost: those that stand behind some first whole lines
 abbrev pub LosesLast : List ℕ → ℕ → Type 0
 LosesLast lines lost = (put : ℕ) × (put ≤ length lines) × IsWhole (take put lines) × (lost ≡ line_count (drop put lines))

@@ -64,8 +64,8 @@ impl LogWriter {
         LogWriter { queue, has_file }
     }
 
-    /// Puts lines behind those that wait, as many of the first ones as there is room for, and waits for nobody who reads them.
-    /// The others are lost: it gives how many these are.
+    /// Puts lines behind those that wait, as many of the first ones as there is room and memory for, and waits for nobody who
+    /// reads them. It gives how many are lost: the others, the last ones.
     pub fn put<W: Wait>(&self, rt: &W, lines: &[u8]) -> u64
         ensures lost { LosesLast lines.now result }
     {

@@ -1,5 +1,5 @@
 -- How a pool keeps its blocks: of those that were taken at some time one list of counts, all bytes in one list, and a list that
--- names the free ones. They come first, and of the others nothing is kept.
+-- names the free ones. The blocks that were taken at some time come first; of the others nothing is kept.
 use Rattle.std.specs.Prelude.{◌≡◌, ℕ, zero, suc, ◌<◌, ◌≤◌, ◌*◌, ◌-◌, ◌==◌, List, [], ◌∷◌, ◌++◌, length, take, drop, replicate, count_by, slice_index, All, if◌then◌else◌}
 use Rattle.block_pool.specs.Blocks.{Block, free_block, places_of, IsWithinLimits}
 

@@ -40,7 +40,7 @@ pub fn what_was_told_is_left<D: Disk + Drop, C: Journalled, R: Ledger, M: Ledger
 /// Before the crash there were a keeper, whatever became of it, and desks of its store. The keeper keeps all that any of them
 /// was told to be kept, as [`Keeper::keep`] leaves it. A reply rests on what its desk has seen, and is sent only once the
 /// desk was told that all of this is kept ([`Desk::is_kept`]). Then the machine crashed, and the journal was opened
-/// ([`crate::open_journal`]) on a file that the disk may leave, or the one that may have taken its place. Of it a store is
+/// (`Journal::open_or_create`) on a file that the disk may leave, or the one that may have taken its place. Of it a store is
 /// made again here, by [`reopen`]. Its book ([`Store::headline`]) is the plain book after one list of events, which begins
 /// with all that any of the desks was told to be kept; it is the one that the records of the file make, and none of these is
 /// refused. What comes behind all that was kept are the next events of the opening, as far as the keeper tried to keep them
@@ -48,7 +48,7 @@ pub fn what_was_told_is_left<D: Disk + Drop, C: Journalled, R: Ledger, M: Ledger
 ///
 /// The premises. The disk keeps what it synced, and leaves each other byte as it was or as it was written: that is supposed of
 /// what it `may_leave`. It told no lie while the journal was opened: of the time before the crash that is `honest`; of that
-/// after it, that the records which were read are those of the file, as `open_journal` says where the disk told none. The
+/// after it, that the records which were read are those of the file, as that opening says where the disk told none. The
 /// settings and the key are the same.
 pub fn what_was_told_is_recovered<
     D: Disk + Drop,

@@ -99,7 +99,7 @@ impl TurnLists {
     }
 
     /// Takes the key off a list that has stood there longest. `None` where nobody stands there. As many of these calls as the
-    /// list is long take a round: a key that is put meanwhile comes in the next one.
+    /// list is long take a round, if no key leaves it meanwhile: a key that is put comes in the next one.
     pub fn take_first(&mut self, list: TurnList) -> Option<usize>
         ensures first { result ≡ slice_get (keys_of self.old list) 0 }
         ensures rest { self.new ≡ with_keys self.old list (drop 1 (keys_of self.old list)) }

@@ -1,4 +1,4 @@
--- That for each key it is noted on which list it stands.
+-- For each key it is noted on which list it stands.
 use Rattle.std.specs.Prelude.{◌≡◌, ℕ, true, false, Bool, List, Option, Some, None, length, slice_index_or}
 use Rattle.turn_lists.specs.declared.lists.TurnList.{TurnList}
 use Rattle.turn_lists.specs.declared.lists.TurnList.TheVariants.{HasMore, WaitsForTurn, WaitsForKeeping}
