@@ -225,7 +225,7 @@ module _ {A K : Type 0} (steps : A → Request → ℕ → Reply → A → Type 
           told = Tells-then tells a.around.clock f.0.all_moments b.around.clock s.0.all_moments c.around.clock f.1.told s.1.told;
           timed = AreTimed-then piece f.0.moments f.0.all_moments s.0.moments s.0.all_moments f.1.timed s.1.timed;
           noted = subst (λ l. AreAmong l (f.0.all_moments ++ s.0.all_moments)) (sym (map-append (λ (q : Answering). q.now) f.0.answered s.0.answered))
-          (among-then (answer_moments f.0.answered) f.0.all_moments (answer_moments s.0.answered) s.0.all_moments f.1.noted s.1.noted);
+              (among-then (answer_moments f.0.answered) f.0.all_moments (answer_moments s.0.answered) s.0.all_moments f.1.noted s.1.noted);
           answered = Follows-then steps a.around.answerer f.0.answered b.around.answerer s.0.answered c.around.answerer f.1.answered s.1.answered;
         },
         subst (λ q. HasHistory q c.connection) (and_then-more p f.0 s.0) s.2,
