@@ -21,7 +21,8 @@ use crate::replying::{apply_cut, ended_after};
 use tus_steps::{PlacedReply, Request};
 use upload_book::Moment;
 
-/// Lets the piece that the buffers lend be answered, and tells how far the connection has come then.
+/// Lets the piece that the buffers lend be answered, and tells how far the connection has come then. The reply is put behind
+/// what is pending. Where a piece with more to come is refused, the buffers note it: what follows it is not read.
 pub fn answer_piece<A: Answer>(
     buffers: &mut Buffers,
     answerer: &mut A,

@@ -20,6 +20,7 @@ pub struct ServerState {
     pub(crate) workers: u64,
     // How many connections are open.
     pub(crate) open: AtomicU64,
+    // The bodies under way, and what wakes the workers.
     pub(crate) bodies: Bodies,
     // Whether each of them waits for its clients in turn.
     waits_for_each: bool,
@@ -103,7 +104,8 @@ impl ServerState {
         self.begun.load(Ordering::Relaxed).saturating_sub(ended) <= 1
     }
 
-    /// Has all workers end in order, since a stop was asked for.
+    /// Notes that a stop was asked for, and wakes the workers that wait for events. Each ends in order by itself; none is waited
+    /// for.
     pub(crate) fn stop(&self) {
         self.is_stopping.store(true, Ordering::Relaxed);
         self.bodies.wake_all();

@@ -330,7 +330,8 @@ impl StoredUpload {
         }
     }
 
-    /// The upload's piece, for an upload that is joined of it and others, before its blocks are held for that.
+    /// The upload's piece, for an upload that is joined of it and others, before its blocks are held for that. All memory that
+    /// the join needs for this part is taken here, so that it can't fail where it has begun to hold blocks.
     /// The error is that there was no memory for the list of them.
     pub(crate) fn list(&self) -> Result<UnheldPiece, AllocError>
         requires { self.now.kept.kind ≢ Final }
