@@ -1,5 +1,5 @@
 -- Bytes end a body: in a new block, in the last block, and piece by piece.
-use Rattle.std.proofs.Common.{◌≡◌, ℕ, ◌+◌, ◌*◌, ◌-◌, ◌<◌, ◌≤◌, List, [], ◌∷◌, ◌++◌, length, get_or, take, drop, refl, ap, sym, ◌∙◌, ⊎_elim, arith, rules, append_assoc, append-nil, length-append, length-take, length-drop, length-set}
+use Rattle.std.proofs.Common.{◌≡◌, ℕ, ◌+◌, ◌*◌, ◌^◌, ◌-◌, ◌<◌, ◌≤◌, List, [], ◌∷◌, ◌++◌, length, get_or, take, drop, refl, ap, sym, ◌∙◌, ⊎_elim, arith, rules, append_assoc, append-nil, length-append, length-take, length-drop, length-set}
 use Rattle.std.proofs.lemmas.List.{same_lists, places, take_at, take-take, take_all, take_more, length_push, get_or_push, get_or_read}
 use Rattle.std.proofs.lemmas.List.Concat.{flat_map-cons}
 use Rattle.std.proofs.lemmas.Bool.{cases_eq, cases_lt}
@@ -184,13 +184,12 @@ Puts-then p q r x y z a b f g =
     }
 
 -- a body has no more bytes than its pool
-pub len-fits : (p : Blocks) (x : Chain) → IsPool p → IsBodyOf p x → StandsOnce x.blocks → (x.len ≤ length x.blocks * p.block_size) × (length x.blocks + free_in p ≤ 1048576) × (length x.blocks * p.block_size ≤ 68719476736)
+pub len-fits : (p : Blocks) (x : Chain) → IsPool p → IsBodyOf p x → StandsOnce x.blocks → (x.len ≤ length x.blocks * p.block_size) × (length x.blocks + free_in p < 2 ^ 32) × (length x.blocks * p.block_size ≤ 2 ^ 44)
 len-fits p x pool body alone =
     let few : length x.blocks + free_in p ≤ size_of p = length-once p x.blocks alone.once body.held.each in (
       rw body.blocks (blocks_for-suffice p.block_size x.len pool.limits.some_bytes),
       omega (arith, pool.limits.few_blocks),
-      (let less : length x.blocks * p.block_size ≤ 1048576 * p.block_size = times_le p.block_size (length x.blocks) 1048576 (omega (arith, pool.limits.few_blocks)) in
-          omega (arith, pool.limits.small_blocks)),
+      omega (arith, pool.limits.small_pool, times_le p.block_size (length x.blocks) (size_of p) (omega arith)),
     )
 
 pub StandsOnce-push : (list : List ℕ) (b : ℕ) → StandsOnce list → places_of b list ≡ 0 → StandsOnce (list ++ b ∷ [])

@@ -8,4 +8,4 @@ mod pool;
 
 pub use block_id::BlockId;
 pub use laws::blocks_in_use;
-pub use pool::{BLOCK_SIZE_MAX, BLOCKS_MAX, POOL_BYTES_MAX, Pool};
+pub use pool::{BLOCK_SIZE_MAX, POOL_BYTES_MAX, Pool};

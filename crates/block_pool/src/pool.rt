@@ -5,14 +5,11 @@ use crate::block_id::BlockId;
 use std::alloc::{AllocError, Global};
 use std::marker::Model;
 
-/// The most blocks of a pool.
-pub const BLOCKS_MAX: u32 = 1_048_576;
-
 /// The most bytes of a block.
-pub const BLOCK_SIZE_MAX: u32 = 65_536;
+pub const BLOCK_SIZE_MAX: u32 = 1_048_576;
 
-/// The most bytes of all blocks of a pool together.
-pub const POOL_BYTES_MAX: u64 = 1_073_741_824;
+/// The most bytes of all blocks of a pool together: 2^44.
+pub const POOL_BYTES_MAX: u64 = 17_592_186_044_416;
 
 /// Blocks of one size, their bytes in one piece of memory, each with a count of its holders. A contract
 /// sees the counts, and the bytes of the blocks that somebody holds.
@@ -48,13 +45,12 @@ impl Model for Pool {
 }
 
 impl Pool {
-    /// Whether [`Pool::new`] makes a pool of so many blocks with so many bytes each: 1 to [`BLOCKS_MAX`]
+    /// Whether [`Pool::new`] makes a pool of so many blocks with so many bytes each: 1 to 2^32 - 1
     /// blocks of 1 to [`BLOCK_SIZE_MAX`] bytes, at most [`POOL_BYTES_MAX`] together.
     pub fn is_within_limits(blocks: u32, block_size: u32) -> bool
         ensures { IsTrue result ↔ IsWithinLimits blocks block_size }
     {
         0 < blocks
-            && blocks <= BLOCKS_MAX
             && 0 < block_size
             && block_size <= BLOCK_SIZE_MAX
             && u64::from(blocks) * u64::from(block_size) <= POOL_BYTES_MAX

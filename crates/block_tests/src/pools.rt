@@ -2,7 +2,7 @@
 ghost use Rattle.std.specs.Prelude.{◌≡◌, ◌+◌};
 ghost use Rattle.block_pool.specs.Blocks.{count_at, IsWithinLimits};
 
-use block_pool::{BLOCK_SIZE_MAX, BLOCKS_MAX, BlockId, POOL_BYTES_MAX, Pool};
+use block_pool::{BLOCK_SIZE_MAX, BlockId, POOL_BYTES_MAX, Pool};
 use std::alloc::Global;
 use std::process::Abort;
 
@@ -88,13 +88,13 @@ static LIMITS: [(u32, u32, bool); 11] = [
     (1, 1, true),
     (0, 1, false),
     (1, 0, false),
-    (1_048_576, 1_024, true),
-    (1_048_576, 1_025, false),
-    (1_048_577, 1, false),
-    (16_384, 65_536, true),
-    (16_385, 65_536, false),
-    (1, 65_536, true),
-    (1, 65_537, false),
+    (4_294_967_295, 4_096, true),
+    (4_294_967_295, 4_097, false),
+    (4_294_967_295, 1, true),
+    (16_777_216, 1_048_576, true),
+    (16_777_217, 1_048_576, false),
+    (1, 1_048_576, true),
+    (1, 1_048_577, false),
     (4_294_967_295, 4_294_967_295, false),
 ];
 
@@ -110,9 +110,8 @@ fn limits(rt: HostRuntime) {
     for (blocks, block_size, within) in &LIMITS {
         assert_limit(&rt, *blocks, *block_size, *within);
     }
-    assert!(rt; BLOCKS_MAX == 1_048_576);
-    assert!(rt; BLOCK_SIZE_MAX == 65_536);
-    assert!(rt; POOL_BYTES_MAX == 1_073_741_824);
+    assert!(rt; BLOCK_SIZE_MAX == 1_048_576);
+    assert!(rt; POOL_BYTES_MAX == 17_592_186_044_416);
 }
 
 // Takes so many blocks.
@@ -132,7 +131,7 @@ fn assert_last_byte(rt: &impl Abort, pool: &mut Pool, block: BlockId, last: u32)
     assert!(rt; pool.bytes(block)[last as usize] == b'z');
 }
 
-// A pool whose numbers are at the limits: its memory is taken, and the last block can be written.
+// A pool of these numbers: its memory is taken, and the last block can be written.
 fn assert_pool(rt: &impl Abort, alloc: Global, blocks: u32, block_size: u32) {
     assert!(rt; Pool::is_within_limits(blocks, block_size));
     let mut pool = new_pool(rt, alloc, blocks, block_size);
@@ -146,17 +145,17 @@ fn assert_pool(rt: &impl Abort, alloc: Global, blocks: u32, block_size: u32) {
 }
 
 // Blocks, and bytes of a block.
-static POOLS_AT_THE_LIMITS: [(u32, u32); 4] = [
+static POOLS: [(u32, u32); 4] = [
     (1, 1),
-    (1_048_576, 1_024),
-    (16_384, 65_536),
-    (1, 65_536),
+    (1_048_577, 1_024),
+    (1_025, 1_048_576),
+    (1, 1_048_576),
 ];
 
-// The smallest pool, the two of the most bytes, and the largest block alone.
+// The smallest pool, two of more than a gibibyte, and the largest block alone.
 #[test]
-fn pools_at_the_limits(rt: HostRuntime) {
-    for (blocks, block_size) in &POOLS_AT_THE_LIMITS {
+fn pools(rt: HostRuntime) {
+    for (blocks, block_size) in &POOLS {
         assert_pool(&rt, rt.alloc(), *blocks, *block_size);
     }
 }

@@ -1,8 +1,9 @@
 -- What a reader finds.
-use Rattle.std.proofs.Common.{◌≡◌, ℕ, Bool, true, false, if◌then◌else◌, List, Option, Some, None, IfSome, option_map, Ok, Err, refl, sym, ap, ap₂, subst, ◌∙◌}
+use Rattle.std.proofs.Common.{◌≡◌, ℕ, Bool, true, false, if◌then◌else◌, List, Option, Some, None, IfSome, option_map, Result, Ok, Err, refl, sym, ap, ap₂, subst, ◌∙◌}
 use mathlib.Core.List.{IsPrefix}
 use Rattle.upload_book.specs.declared.head_row.HeadRow.{HeadRow}
 use Rattle.upload_book.specs.declared.head_row.Name.{Name}
+use Rattle.upload_book.specs.declared.refusal.Refusal.{Refusal}
 use Rattle.upload_book.specs.declared.refusal.Refusal.TheVariants.{Gone, Unknown}
 use Rattle.upload_book.specs.Heads.{Heads, HeadPart, head_part, heads_of, shown}
 use Rattle.upload_book.specs.Lawful.{IsLawful}
@@ -15,9 +16,7 @@ use Rattle.upload_book.specs.Upload.{Upload, head_row_of}
 use Rattle.upload_book.proofs.Heads.HeadParts.{head_part-tenant, row-kept}
 use Rattle.head_board.specs.declared.board_copy.BoardCopy.{BoardCopy}
 use Rattle.head_board.specs.declared.board_copy.View.{View}
-use Rattle.head_board.specs.declared.head_reader.Found.{Found}
 use Rattle.head_board.specs.declared.totals.Totals.{Totals}
-use Rattle.head_board.specs.Board.{row_read}
 use Rattle.head_board.specs.Event.{Event}
 use Rattle.head_board.specs.Events.{HaveHappened, book_at}
 use Rattle.head_board.specs.Expired.{NoneHasExpired}
@@ -69,21 +68,21 @@ pub found-log : (v : View) (s : BoardCopy) (seen : LogPrefix) (name : Name) → 
 found-log v s seen name knows log there = (there.current.rests name).log ∙ sym (there.fits knows).1 ∙ log
 
 -- it tells what the book does after what changed the upload last, and after what was seen
-pub found-right : (v : View) (s : BoardCopy) (seen : LogPrefix) (name : Name) (now : ℕ) (f : Found) (row : HeadRow) → v.knows ≡ true → log_of v.log ≡ seen.book → IsFound v seen s
-    → IsMore (last_of s.last_changes name.id) seen f.seen → row_read f.read row ≡ shown s.table name now
-    → (f.seen.book ≡ seen.book) × IsPrefix seen.events f.seen.events × HaveHappened v.settings f.seen.events × IsLawful (book_at v.settings f.seen.events)
-    × (row_read f.read row ≡ answer_of (book_at v.settings f.seen.events) name.tenant (look_answer name.id now))
-found-right v s seen name now f row knows log there more told =
+pub found-right : (v : View) (s : BoardCopy) (seen found : LogPrefix) (name : Name) (now : ℕ) (row : Result HeadRow Refusal) → v.knows ≡ true → log_of v.log ≡ seen.book → IsFound v seen s
+    → IsMore (last_of s.last_changes name.id) seen found → row ≡ shown s.table name now
+    → (found.book ≡ seen.book) × IsPrefix seen.events found.events × HaveHappened v.settings found.events × IsLawful (book_at v.settings found.events)
+    × (row ≡ answer_of (book_at v.settings found.events) name.tenant (look_answer name.id now))
+found-right v s seen found name now row knows log there more told =
     let rests = there.current.rests name in
-    let both = more-seen (last_of s.last_changes name.id) seen f.seen s.seen rests.begins there.begins (found-log v s seen name knows log there) more in
+    let both = more-seen (last_of s.last_changes name.id) seen found s.seen rests.begins there.begins (found-log v s seen name knows log there) more in
     let settings : s.table.settings ≡ v.settings = sym (there.fits knows).0 in
-    let happened : HaveHappened v.settings f.seen.events = subst (λ (settings : Settings). HaveHappened settings f.seen.events) settings (happen-before (opening_book s.table.settings) f.seen.events s.seen.events there.current.happened both.3) in (
+    let happened : HaveHappened v.settings found.events = subst (λ (settings : Settings). HaveHappened settings found.events) settings (happen-before (opening_book s.table.settings) found.events s.seen.events there.current.happened both.3) in (
       both.0,
       both.1,
       happened,
-      found-lawful v s seen f.seen.events knows there happened,
-      told ∙ sym (rests.same f.seen.events both.2 both.3 now) ∙ ap (λ (settings : Settings). shown (heads_of (book_at settings f.seen.events)) name now) settings
-          ∙ shown-look (book_at v.settings f.seen.events) name now,
+      found-lawful v s seen found.events knows there happened,
+      told ∙ sym (rests.same found.events both.2 both.3 now) ∙ ap (λ (settings : Settings). shown (heads_of (book_at settings found.events)) name now) settings
+          ∙ shown-look (book_at v.settings found.events) name now,
     )
 
 -- and what has expired after what happened

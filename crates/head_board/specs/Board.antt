@@ -4,11 +4,13 @@ use mathlib.Core.List.{IsPrefix}
 use Rattle.logbook.specs.Pages.{Book}
 use Rattle.upload_book.specs.declared.head_row.HeadRow.{HeadRow}
 use Rattle.upload_book.specs.declared.head_row.Name.{Name}
+use Rattle.upload_book.specs.declared.progress.Progress.{Progress}
 use Rattle.upload_book.specs.declared.refusal.Refusal.{Refusal}
 use Rattle.upload_book.specs.Heads.{heads_of}
 use Rattle.upload_book.specs.Lawful.{IsLawful}
 use Rattle.upload_book.specs.Look.{look_answer}
 use Rattle.upload_book.specs.PlainBook.{answer_of}
+use Rattle.upload_book.specs.Progress.{progress_in}
 use Rattle.upload_book.specs.Settings.{Settings}
 use Rattle.head_board.specs.Event.{Event}
 use Rattle.head_board.specs.Events.{HaveHappened, book_at}
@@ -47,6 +49,18 @@ pub record ReadsHead (s : Settings) (seen events : List Event) (name : Name) (no
   pub happened : HaveHappened s events
   pub lawful : IsLawful (book_at s events)
   pub tells : row ≡ answer_of (book_at s events) name.tenant (look_answer name.id now)
+
+-- how far an upload is whose row was read, or why there is none
+abbrev pub progress_read : Result HeadRow Refusal → Result Progress Refusal
+progress_read (Ok row) = Ok (progress_in row)
+progress_read (Err why) = Err why
+
+-- Who has seen some events reads how far an upload is: as the plain book tells after events that begin with these.
+pub record ReadsProgress (s : Settings) (seen events : List Event) (name : Name) (now : ℕ) (progress : Result Progress Refusal) : Type 0 where
+  pub begins : IsPrefix seen events
+  pub happened : HaveHappened s events
+  pub lawful : IsLawful (book_at s events)
+  pub tells : progress ≡ progress_read (answer_of (book_at s events) name.tenant (look_answer name.id now))
 
 -- Who has seen some events reads that no upload has expired at a moment: none has after events that begin with these.
 pub record SeesNoneExpired (s : Settings) (seen events : List Event) (now : ℕ) : Type 0 where

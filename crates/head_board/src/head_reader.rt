@@ -1,6 +1,6 @@
 ghost use Rattle.std.specs.Prelude.{◌≡◌, false, true, IfNone, IfOk, IfSome, Ok, Some};
 ghost use mathlib.Core.List.{IsPrefix};
-ghost use Rattle.head_board.specs.Board.{ReadsHead, ReadsTotals, SeesNoneExpired, row_read};
+ghost use Rattle.head_board.specs.Board.{ReadsHead, ReadsProgress, ReadsTotals, SeesNoneExpired, progress_read, row_read};
 ghost use Rattle.head_board.specs.Events.{HaveHappened, book_at};
 ghost use Rattle.head_board.specs.Expired.{NoneHasExpired};
 ghost use Rattle.head_board.specs.Totals.{totals_of};
@@ -20,7 +20,7 @@ use crate::showing::BoardReader;
 use crate::totals::Totals;
 use core::mem::replace_with;
 use std::marker::Model;
-use upload_book::{HeadRow, Moment, Name, Refusal};
+use upload_book::{HeadRow, Moment, Name, Progress, Refusal};
 
 /// A reader of the heads that a board shows, which needs no lock. A contract sees the settings of the book, which log
 /// the events of the board are in, whether the reader has missed the board, and the events that it has seen: all that it
@@ -76,6 +76,13 @@ struct EndQuery {
 #[derive(Drop)]
 struct Found {
     read: Result<(), Refusal>,
+    seen: SeenEvents,
+}
+
+// What is found: how far an upload is, and the events on which that rests.
+#[derive(Drop)]
+struct FoundProgress {
+    progress: Result<Progress, Refusal>,
     seen: SeenEvents,
 }
 
@@ -147,6 +154,32 @@ impl HeadReader {
                     row.set(&self.seat.row.lent());
                 }
                 Some(found.read)
+            }
+            Err(missed) => {
+                self.missed = Some(missed);
+                None
+            }
+        }
+    }
+
+    /// Reads how far the board tells that an upload is at this moment: what [`HeadReader::look`] reads but the texts. The reader
+    /// has seen the events of the answer then. It takes no lock and no memory, and waits for nobody.
+    ///
+    /// `None` says that the reader has missed the board, as there. All else of the reader is as it was.
+    pub fn progress(&mut self, name: &Name, now: Moment) -> Option<Result<Progress, Refusal>>
+        ensures reads { IfSome result (ReadsProgress self.old.settings self.old.events self.new.events name.now now) }
+        ensures sees { IfSome result (λ progress. self.new ≡ record self.old { events = self.new.events }) }
+        ensures misses { IfNone result (self.new ≡ record self.old { missed = true }) }
+    {
+        let query = HeadQuery {
+            seen: self.seen.again(),
+            name: *name,
+            moment: now,
+        };
+        match replace_with(&mut self.seat, query, read_progress) {
+            Ok(so_far) => {
+                self.seen = so_far.seen;
+                Some(so_far.progress)
             }
             Err(missed) => {
                 self.missed = Some(missed);
@@ -233,8 +266,7 @@ fn read_head(seat: Seat, query: HeadQuery) -> (Seat, Result<Found, Missed>)
     }
 }
 
-// What a copy tells, with the row put to its place. That rests on the events up to the last one that changed it, and on
-// what the reader had seen, and not on all that the copy has.
+// What a copy tells, with the row put to its place.
 fn found_on(copy: &BoardCopy, query: &HeadQuery, row: &mut HeadRow) -> Found
     requires { (last_of copy.now.last_changes query.now.name.id).book ≡ query.now.seen.book }
     ensures seen { IsMore (last_of copy.now.last_changes query.now.name.id) query.now.seen result.seen }
@@ -247,10 +279,59 @@ fn found_on(copy: &BoardCopy, query: &HeadQuery, row: &mut HeadRow) -> Found
         }
         Err(refusal) => Err(refusal),
     };
-    let last_change = copy.last_changes.of(query.name.id);
     Found {
         read,
-        seen: last_change.more(&query.seen),
+        seen: rests_on(copy, query),
+    }
+}
+
+// The events on which rests what a copy tells of an upload: those up to the last one that changed it, and what the reader had
+// seen. They are not all that the copy has.
+fn rests_on(copy: &BoardCopy, query: &HeadQuery) -> SeenEvents
+    requires { (last_of copy.now.last_changes query.now.name.id).book ≡ query.now.seen.book }
+    ensures { IsMore (last_of copy.now.last_changes query.now.name.id) query.now.seen result }
+{
+    let last_change = copy.last_changes.of(query.name.id);
+    last_change.more(&query.seen)
+}
+
+// Enters the board, and reads how far an upload is. The place is the same after it.
+fn read_progress(seat: Seat, query: HeadQuery) -> (Seat, Result<FoundProgress, Missed>)
+    requires knows { (known_at seat.reader.place).knows ≡ true }
+    requires log { log_of (known_at seat.reader.place).log ≡ query.seen.book }
+    ensures place { known_at result.0.reader.place ≡ known_at seat.reader.place }
+    ensures found { IfOk result.1 (λ found.
+        (found.seen.book ≡ query.seen.book)
+        × IsPrefix query.seen.events found.seen.events
+        × HaveHappened (known_at seat.reader.place).settings found.seen.events
+        × IsLawful (book_at (known_at seat.reader.place).settings found.seen.events)
+        × (found.progress
+        ≡ progress_read (answer_of (book_at (known_at seat.reader.place).settings found.seen.events) query.name.tenant (look_answer query.name.id query.moment)))) }
+{
+    let Seat { reader, row } = seat;
+    match enter(reader, &query.seen) {
+        Ok(reading) => {
+            let found = progress_on(reading.get(), &query);
+            let reader = reading.leave();
+            (Seat { reader, row }, Ok(found))
+        }
+        Err((reader, missed)) => (Seat { reader, row }, Err(missed)),
+    }
+}
+
+// How far a copy tells that an upload is.
+fn progress_on(copy: &BoardCopy, query: &HeadQuery) -> FoundProgress
+    requires { (last_of copy.now.last_changes query.now.name.id).book ≡ query.now.seen.book }
+    ensures seen { IsMore (last_of copy.now.last_changes query.now.name.id) query.now.seen result.seen }
+    ensures progress { result.progress ≡ progress_read (shown copy.now.table query.now.name query.now.moment) }
+{
+    let progress = match copy.table.look(&query.name, query.moment) {
+        Ok(row) => Ok(row.progress()),
+        Err(refusal) => Err(refusal),
+    };
+    FoundProgress {
+        progress,
+        seen: rests_on(copy, query),
     }
 }
 

@@ -1,12 +1,12 @@
 -- A change that a book is ready for happens to it.
-use Rattle.std.proofs.Common.{◌≡◌, ℕ, ◌≤◌, true, length, Option, None, Result, Ok, IsOk, refl, ap, ◌∙◌}
+use Rattle.std.proofs.Common.{◌≡◌, ℕ, ◌≤◌, true, length, Option, None, Result, Ok, Err, IsOk, refl, ap, ◌∙◌}
 use Rattle.std.specs.Prelude.{is_ok}
 use Rattle.book_replay.specs.Replay.{Happens}
 use Rattle.journal_records.specs.Records.{FitsChange}
 use Rattle.upload_book.specs.Append.{told}
 use Rattle.upload_book.specs.BlockStore.{upload_at}
 use Rattle.upload_book.specs.Book.{StoredBook, plain_of}
-use Rattle.upload_book.specs.Change.{CanBeMade, appended_in, change_answer, outcome_in}
+use Rattle.upload_book.specs.Change.{CanBeMade, appended_in, change_answer, change_lacking, outcome_in}
 use Rattle.upload_book.specs.declared.append.Refused.{Refused}
 use Rattle.upload_book.specs.declared.change.Change.{Change}
 use Rattle.upload_book.specs.declared.change.Outcome.{Outcome}
@@ -56,6 +56,11 @@ pub accepted-as : (b : PlainBook) (stored : StoredBook) (r : Ready) (change : Ch
 accepted-as b stored r change now same is at ready =
     let accepted = ready-accepts stored r.step ready in
     rw (same, is, at) at accepted
+
+-- and so is the refusal for want of memory
+pub lacking-as : (b : PlainBook) (stored : StoredBook) (r : Ready) (change : Change) (now : ℕ) (refused : Refused) → plain_of stored ≡ b → change_in r ≡ change → moment_in r ≡ now → Err refused ≡ change_lacking (plain_of stored) (change_in r) (moment_in r)
+    → Err refused ≡ change_lacking b change now
+lacking-as b stored r change now refused same is at told = rw (same, is, at) at told
 
 pub happens-ready : (b : PlainBook) (stored : StoredBook) (r : Ready) (change : Change) (now : ℕ) → CanBeMade (length b.settings.tenants) change → FitsChange change → now ≤ 253402300799 → plain_of stored ≡ b → change_in r ≡ change → moment_in r ≡ now → IsReady stored r
     → Happens b (record { change = change; now = now })

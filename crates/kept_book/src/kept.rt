@@ -24,7 +24,7 @@ use journal_file::{Journal, NotOpened, Opened};
 use journal_frames::Frames;
 use sqlite_disk::Disk;
 use std::alloc::Global;
-use tus_steps::{Asked, PartIds, PlacedReply, Request, answer_asked, asked_of, refused_for_memory};
+use tus_steps::{Asked, PartIds, PlacedReply, Request, answer_asked, asked_of};
 use upload_book::{Book, Change, Moment, Outcome, Refused, Settings, Swept};
 
 /// A book over a journal. All changes of the book stand there, synced, and no reply tells of one that does not.
@@ -271,12 +271,8 @@ impl<D: Disk> KeptBook<D> {
         ensures stays { book_in self.new ≡ book_in self.old }
         ensures log { self.new.log ≡ self.old.log }
     {
-        let lacking = refused_for_memory(&self.book, &change, now);
         match self.book.prepare(change, now) {
-            Ok(ready) => {
-                drop(ready);
-                lacking
-            }
+            Ok(ready) => ready.refused_for_memory(&self.book),
             Err(refused) => refused,
         }
     }
@@ -300,17 +296,16 @@ impl<D: Disk> KeptBook<D> {
     {
         let _in_range = now.secs();
         tell_fits(self.book.settings().tenant_count(), &change);
-        let lacking = refused_for_memory(&self.book, &change, now);
         let is_framed = self.log.frame(&change, now);
         let ready = match self.book.prepare(change, now) {
             Ok(ready) => ready,
             Err(refused) => return Ok(Done::Told(Err(refused))),
         };
         if !is_framed {
-            return Ok(Done::Unkept(lacking));
+            return Ok(Done::Unkept(ready.refused_for_memory(&self.book)));
         }
         if !self.log.keep()? {
-            return Ok(Done::Unkept(lacking));
+            return Ok(Done::Unkept(ready.refused_for_memory(&self.book)));
         }
         Ok(Done::Told(Ok(self.book.commit(ready))))
     }

@@ -12,7 +12,7 @@ use Rattle.clap.specs.Words.{ReadsOne, Text, all_of, first_of, one_text}
 use Rattle.clap.specs.declared.parser.matches.Found.{Found}
 use Rattle.upload_book.specs.declared.settings.Numbers.{Numbers}
 use Rattle.server_words.specs.declared.options.WorkerOptions.{WorkerOptions}
-use Rattle.server_words.specs.Arguments.{ServeArguments, grace_given, is_number, is_set, number_in, metrics_set, number_given, number_under, numbers_given, piece_set, port_given, run_arguments, run_numbers, run_work, service_arguments, talk_arguments, talk_arguments_with, workers_given}
+use Rattle.server_words.specs.Arguments.{ServeArguments, grace_given, greatest_upload, is_number, is_set, number_in, metrics_set, number_given, number_under, numbers_given, piece_set, port_given, run_arguments, run_numbers, run_work, service_arguments, talk_arguments, talk_arguments_with, workers_given}
 
 digits_pass : (digits : List ℕ) → AllDigits 10 digits → list_all (λ d. nat_lt (digit_value d) 10) digits ≡ true
 digits_pass [] h = refl
@@ -116,9 +116,9 @@ grace-with_port rows grace metrics at told none = at ∙ no_grace (λ port. numb
 
 -- the arguments of `run`, where there are words, with their numbers, and its work
 pub run_arguments-some : (rows : List Row) (words : List Text) (numbers : Numbers) (work : WorkerOptions) → Some words ≡ all_of (codes "tenant") rows → numbers ≡ run_numbers rows words
-    → Some work ≡ run_work rows numbers.max_size → service_arguments rows numbers words work ≡ run_arguments rows
+    → Some work ≡ run_work rows (greatest_upload numbers) → service_arguments rows numbers words work ≡ run_arguments rows
 run_arguments-some rows words numbers work words-is numbers-is work-is =
     ap (option_and_then (service_arguments rows numbers words)) work-is ∙ ap (with_numbers words) numbers-is ∙ ap (option_and_then (λ words. with_numbers words (run_numbers rows words))) words-is
   where
     with_numbers : List Text → Numbers → Option ServeArguments
-    with_numbers words numbers = option_and_then (service_arguments rows numbers words) (run_work rows numbers.max_size)
+    with_numbers words numbers = option_and_then (service_arguments rows numbers words) (run_work rows (greatest_upload numbers))

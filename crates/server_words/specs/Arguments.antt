@@ -1,5 +1,5 @@
 -- What the words of the command line ask for: the command, with its arguments.
-use Rattle.std.specs.Prelude.{ℕ, ◌^◌, ◌+◌, ◌-◌, Bool, true, false, ◌&&◌, ◌||◌, List, length, min, nat_lt, nat_le, Option, Some, None, option_and_then, option_map, is_some, unwrap_or, bytes_eq, codes, if◌then◌else◌}
+use Rattle.std.specs.Prelude.{ℕ, ◌*◌, ◌^◌, ◌+◌, ◌-◌, Bool, true, false, ◌&&◌, ◌||◌, List, length, min, nat_lt, nat_le, Option, Some, None, option_and_then, option_map, is_some, unwrap_or, bytes_eq, codes, if◌then◌else◌}
 use Rattle.std.specs.List.{list_all}
 use Rattle.std.specs.Option.{option_map_or}
 use Rattle.std.specs.Borrow.{Bor}
@@ -10,7 +10,7 @@ use Rattle.clap.specs.Words.{Row, Text, all_of, first_of, one_of}
 use Rattle.upload_book.specs.declared.settings.Bounds.{Bounds}
 use Rattle.upload_book.specs.declared.settings.Bounds.TheVariants.{Narrow, Wide}
 use Rattle.upload_book.specs.declared.settings.Numbers.{Numbers}
-use Rattle.upload_book.specs.Settings.{is_outside}
+use Rattle.upload_book.specs.Settings.{is_outside, pool_limit}
 use Rattle.server_words.specs.declared.options.CommandOptions.{CommandOptions}
 use Rattle.server_words.specs.declared.options.CommandOptions.TheVariants.{Talk, Serve, Check, Export}
 use Rattle.server_words.specs.declared.options.ExportOptions.{ExportOptions}
@@ -161,18 +161,21 @@ work_given rows =
     (at_once_given (is_set (codes "forever") rows) rows))
     (moment_set (number_given (codes "moment") rows))
 
--- How many bytes of bodies and replies `run` holds where an upload has at most so many: 256 MiB more, where that is not told. No
--- upload has more than 1 GiB, which all blocks have together.
-abbrev pub run_body_memory : List Row → ℕ → ℕ
-run_body_memory rows max_size = unwrap_or (number_given (codes "body-memory") rows) (min max_size (2 ^ 30) + 2 ^ 28)
+-- the most bytes that an upload comes to: at most as many as all blocks have together
+abbrev pub greatest_upload : Numbers → ℕ
+greatest_upload n = min n.max_size (n.blocks * n.block_size)
 
--- what each worker of `run` is asked for, where an upload has at most so many bytes, and where that can be: connections come
+-- how many bytes of bodies and replies `run` holds where an upload comes to at most so many: 256 MiB more, where that is not told
+abbrev pub run_body_memory : List Row → ℕ → ℕ
+run_body_memory rows most = unwrap_or (number_given (codes "body-memory") rows) (min most (pool_limit Wide) + 2 ^ 28)
+
+-- what each worker of `run` is asked for, where an upload comes to at most so many bytes, and where that can be: connections come
 -- without end and are served by readiness, bodies are stored in pieces, of 262,144 bytes where their size is not told, and the
 -- clock is the machine's
 abbrev pub run_work : List Row → ℕ → Option WorkerOptions
-run_work rows max_size =
+run_work rows most =
     option_and_then
-    (λ at_once. option_map (λ piece. work_with rows None (2 ^ 64 - 1) at_once (run_body_memory rows max_size) piece true) (piece_set (Some (unwrap_or (number_given (codes "pieces") rows) 262144))))
+    (λ at_once. option_map (λ piece. work_with rows None (2 ^ 64 - 1) at_once (run_body_memory rows most) piece true) (piece_set (Some (unwrap_or (number_given (codes "pieces") rows) 262144))))
     (at_once_given true rows)
 
 -- the port that is listened at, where the number is one
@@ -229,7 +232,7 @@ serve_arguments rows =
 abbrev pub run_arguments : List Row → Option ServeArguments
 run_arguments rows =
     option_and_then
-    (λ words. option_and_then (λ work. service_arguments rows (run_numbers rows words) words work) (run_work rows (run_numbers rows words).max_size))
+    (λ words. option_and_then (λ work. service_arguments rows (run_numbers rows words) words work) (run_work rows (greatest_upload (run_numbers rows words))))
     (all_of (codes "tenant") rows)
 
 -- what `journal export` is asked for: a folder, and an upload in it

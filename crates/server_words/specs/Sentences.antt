@@ -8,6 +8,7 @@ use Rattle.upload_book.specs.declared.settings.Bounds.TheVariants.{Narrow, Wide}
 use Rattle.upload_book.specs.declared.settings.Numbers.{Numbers}
 use Rattle.upload_book.specs.declared.settings_fault.SettingsFault.{SettingsFault}
 use Rattle.upload_book.specs.declared.settings_fault.SettingsFault.TheVariants as settings
+use Rattle.upload_book.specs.Settings.{block_size_limit, blocks_limit, pool_limit, size_limit}
 use Rattle.server_words.specs.Arguments.{CommandArguments, bounds_by, talk, serve, check, export}
 use Rattle.server_words.specs.Tenants.{is_colon, quota_sum, tenant_in}
 use Rattle.server_words.specs.declared.cause.Cause.{Cause}
@@ -35,15 +36,16 @@ shown_byte b = if nat_le 32 b && nat_lt b 127 then b else byte "?"
 abbrev pub shown : List ℕ → List ℕ
 shown word = map shown_byte (take 48 word)
 
--- a number of an option is outside its range
-abbrev pub outside_text : List ℕ → ℕ → List ℕ → List ℕ
-outside_text option value range = codes "--" ++ option ++ codes " is " ++ decimal value ++ codes ": give " ++ range ++ codes "\n"
+-- a number of an option is outside 1 to most
+abbrev pub outside_text : List ℕ → ℕ → ℕ → List ℕ
+outside_text option value most =
+    codes "--" ++ option ++ codes " is " ++ decimal value ++ codes ": give 1 to " ++ decimal most ++ codes "\n"
 
--- the blocks have too many bytes together
-abbrev pub pool_text : Numbers → List ℕ
-pool_text n =
+-- the blocks have more than most bytes together
+abbrev pub pool_text : Numbers → ℕ → List ℕ
+pool_text n most =
     codes "--blocks " ++ decimal n.blocks ++ codes " times --block-size " ++ decimal n.block_size
-    ++ codes " is more than 1073741824 bytes: give less of one\n"
+    ++ codes " is more than " ++ decimal most ++ codes " bytes: give less of one\n"
 
 -- there are too many tenants, or none
 abbrev pub tenants_text : ℕ → List ℕ
@@ -84,19 +86,14 @@ quota_text sum blocks =
     codes "the quotas sum to " ++ sum_text sum ++ codes " blocks, --blocks is " ++ decimal blocks
     ++ codes ": give smaller quotas or more --blocks\n"
 
--- how large the greatest upload may be under these bounds
-abbrev pub size_range : Bounds → List ℕ
-size_range Narrow = codes "1 to 16777216"
-size_range Wide = codes "1 to 1099511627776"
-
 -- what is wrong with the settings of these numbers and words under these bounds; no option gives the last id
 abbrev pub settings_text : Bounds → SettingsFault → Numbers → List (List ℕ) → List ℕ
-settings_text bounds settings.Blocks n words = outside_text (codes "blocks") n.blocks (codes "1 to 1048576")
-settings_text bounds settings.BlockSize n words = outside_text (codes "block-size") n.block_size (codes "1 to 65536")
-settings_text bounds settings.PoolBytes n words = pool_text n
-settings_text bounds settings.Lifetime n words = outside_text (codes "lifetime") n.lifetime (codes "1 to 31536000")
-settings_text bounds settings.MaxSize n words = outside_text (codes "max-size") n.max_size (size_range bounds)
-settings_text bounds settings.Uploads n words = outside_text (codes "uploads") n.uploads (codes "1 to 64")
+settings_text bounds settings.Blocks n words = outside_text (codes "blocks") n.blocks (blocks_limit bounds)
+settings_text bounds settings.BlockSize n words = outside_text (codes "block-size") n.block_size (block_size_limit bounds)
+settings_text bounds settings.PoolBytes n words = pool_text n (pool_limit bounds)
+settings_text bounds settings.Lifetime n words = outside_text (codes "lifetime") n.lifetime 31536000
+settings_text bounds settings.MaxSize n words = outside_text (codes "max-size") n.max_size (size_limit bounds)
+settings_text bounds settings.Uploads n words = outside_text (codes "uploads") n.uploads 64
 settings_text bounds settings.LastId n words = codes "the last id is out of its range\n"
 settings_text bounds settings.TenantCount n words = tenants_text (length words)
 settings_text bounds settings.TenantName n words = word_text (wrong_word n.block_size words)

@@ -5,7 +5,9 @@ use Rattle.std.specs.List.{before_first, after_first}
 use Rattle.std.specs.Option.{option_map_or}
 use Rattle.std.specs.Str.{byte}
 use Rattle.tus_text.specs.Tenant.{is_tenant_name}
+use Rattle.upload_book.specs.declared.settings.Bounds.TheVariants.{Wide}
 use Rattle.upload_book.specs.declared.settings.TenantQuota.{TenantQuota}
+use Rattle.upload_book.specs.Settings.{blocks_limit, pool_limit, size_limit}
 use Rattle.server_words.specs.Quota.{quota_of}
 
 abbrev pub is_colon : ℕ → Bool
@@ -40,9 +42,9 @@ quota_sum size [] = Some 0
 quota_sum size (word ∷ words) =
     option_and_then (λ sum. if nat_lt (sum + quota_in size word) (2 ^ 64) then Some (sum + quota_in size word) else None) (quota_sum size words)
 
--- the most blocks of this size that a server may have
+-- the most blocks of this size that a server may have under the wide bounds
 abbrev pub pool_blocks : ℕ → ℕ
-pool_blocks size = if size == 0 then 1 else min ((2 ^ 30) / size) 1048576
+pool_blocks size = if size == 0 then 1 else min (pool_limit Wide / size) (blocks_limit Wide)
 
 -- As many blocks as the quotas sum to, but not more than a server may have, and one at least. With more tenants than there may
 -- be it is one: they are the fault.
@@ -59,4 +61,4 @@ greatest_quota size (word ∷ words) = max (quota_in size word) (greatest_quota 
 -- may be it is one.
 abbrev pub greatest_quota_bytes : ℕ → List (List ℕ) → ℕ
 greatest_quota_bytes size words =
-    if nat_lt 16 (length words) then 1 else max (min (greatest_quota size words * size) (2 ^ 40)) 1
+    if nat_lt 16 (length words) then 1 else max (min (greatest_quota size words * size) (size_limit Wide)) 1

@@ -3,13 +3,13 @@ ghost use Rattle.std.specs.Borrow.{Bor};
 ghost use Rattle.std.specs.Prelude.{◌≡◌, ◌<◌, ℕ, IfSome, List, codes, false, option_map};
 ghost use Rattle.clap.specs.Walk.{rows_of, texts};
 ghost use Rattle.clap.specs.Words.{all_of, first_of, found_of, subcommand_rows_of};
-ghost use Rattle.server_words.specs.Arguments.{arguments_entered, arguments_of, at_once_given, check, connections_given, export, export_arguments, grace_given, is_by_readiness, is_set, metrics_set, moment_set, number_given, number_under, numbers_given, numbers_with, piece_set, port_given, run_arguments, run_numbers, run_work, serve, serve_arguments, service_arguments, talk, talk_arguments, work_given, work_with, workers_given};
+ghost use Rattle.server_words.specs.Arguments.{arguments_entered, arguments_of, at_once_given, check, connections_given, export, export_arguments, grace_given, greatest_upload, is_by_readiness, is_set, metrics_set, moment_set, number_given, number_under, numbers_given, numbers_with, piece_set, port_given, run_arguments, run_numbers, run_work, serve, serve_arguments, service_arguments, talk, talk_arguments, work_given, work_with, workers_given};
 ghost use Rattle.upload_book.specs.Settings.{is_outside};
 
 use crate::options::{CommandOptions, ExportOptions, ServeOptions, TalkOptions, WorkerOptions};
 use crate::tenants::{blocks_of_quotas, greatest_quota_bytes};
 use clap::ArgMatches;
-use upload_book::{Moment, Numbers};
+use upload_book::{Bounds, Moment, Numbers};
 
 /// How many bytes of bodies and replies `run` holds beside those of the greatest upload.
 const BODY_MEMORY: u64 = 268_435_456;
@@ -63,7 +63,7 @@ fn run_options<'m, 'a>(found: &'m ArgMatches<'a>) -> Option<CommandOptions<'m, '
 {
     let tenants = tenants_of(found)?;
     let numbers = run_numbers(found, tenants);
-    let work = run_work(found, numbers.max_size)?;
+    let work = run_work(found, greatest_upload(numbers))?;
     service_options(found, numbers, tenants, work)
 }
 
@@ -253,15 +253,23 @@ fn work_of(found: &ArgMatches) -> Option<WorkerOptions>
     ))
 }
 
-/// What each worker of `run` is asked for, where an upload has at most `max_size` bytes; None where it is to hold no connection or
-/// more than 16,384, or a piece is to have fewer than 65,536 bytes or more than 1,048,576.
-fn run_work(found: &ArgMatches, max_size: u64) -> Option<WorkerOptions>
-    ensures given { result ≡ run_work (rows_of (found_of found.now)) max_size }
+/// The most bytes that an upload comes to: at most as many as all blocks have together.
+fn greatest_upload(numbers: Numbers) -> u64
+    ensures { result ≡ greatest_upload numbers }
+{
+    let pool = numbers.blocks.saturating_mul(numbers.block_size);
+    numbers.max_size.min(pool)
+}
+
+/// What each worker of `run` is asked for, where an upload comes to at most so many bytes; None where it is to hold no connection
+/// or more than 16,384, or a piece is to have fewer than 65,536 bytes or more than 1,048,576.
+fn run_work(found: &ArgMatches, most: u64) -> Option<WorkerOptions>
+    ensures given { result ≡ run_work (rows_of (found_of found.now)) most }
     ensures grace { IfSome result (λ work. work.grace ≡ grace_given (rows_of (found_of found.now))) }
 {
     let at_once = at_once_of(found, true)?;
     let piece = piece_of(Some(number_given(found, "pieces").unwrap_or(262_144)))?;
-    let least = max_size.min(1_073_741_824) + BODY_MEMORY;
+    let least = most.min(Bounds::Wide.pool_limit()) + BODY_MEMORY;
     let body_memory = number_given(found, "body-memory").unwrap_or(least);
     Some(work_with(found, None, u64::MAX, at_once, body_memory, piece, true))
 }

@@ -585,7 +585,7 @@ fn pieces<'a>(alloc: Global) -> Arg<'a>
     number_alone(alloc, "pieces", "BYTES")
         .value_parser(value_parser!(u64).range(65_536..1_048_577))
         .help(
-            "Store bodies without a checksum as they come, in pieces of so many bytes, 65536 to 1048576; --max-size may then be up to 1099511627776",
+            "Store bodies without a checksum as they come, in pieces of so many bytes, 65536 to 1048576; --blocks may then be up to 4294967295, --block-size to 1048576, --max-size to 1099511627776",
         )
 }
 
@@ -645,7 +645,7 @@ fn run_sizes<'a>(alloc: Global, command: Command<'a>) -> Result<Command<'a>, All
 {
     command
         .arg(run_blocks(alloc))?
-        .arg(block_size(alloc))?
+        .arg(run_block_size(alloc))?
         .arg(lifetime(alloc))?
         .arg(run_max_size(alloc))?
         .arg(uploads(alloc))
@@ -657,7 +657,7 @@ fn run_blocks<'a>(alloc: Global) -> Arg<'a>
     ensures local { result.global ≡ false }
 {
     number_alone(alloc, "blocks", "N").help(
-        "How many blocks the server has, 1 to 1048576; as many as the quotas sum to unless set",
+        "How many blocks the server has, 1 to 4294967295; as many as the quotas sum to unless set",
     )
 }
 
@@ -678,6 +678,16 @@ fn block_size<'a>(alloc: Global) -> Arg<'a>
 {
     number(alloc, "block-size", "BYTES", "4096").help(
         "The size of a block, 1 to 65536; all blocks together have at most 2^30 bytes",
+    )
+}
+
+/// The option for how many bytes a block of `run` has.
+fn run_block_size<'a>(alloc: Global) -> Arg<'a>
+    ensures rule { rule_of result ≡ option_rule (codes "block-size") (codes "4096") 18446744073709551615 }
+    ensures local { result.global ≡ false }
+{
+    number(alloc, "block-size", "BYTES", "4096").help(
+        "The size of a block, 1 to 1048576; all blocks together have at most 2^44 bytes",
     )
 }
 

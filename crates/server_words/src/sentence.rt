@@ -4,7 +4,7 @@ ghost use Rattle.std.specs.List.{before_first, list_any};
 ghost use Rattle.arrayvec.specs.ArrayString.{array_string_len};
 ghost use Rattle.clap.specs.Walk.{texts};
 ghost use Rattle.server_words.specs.Arguments.{arguments_of};
-ghost use Rattle.server_words.specs.Sentences.{address_in, address_text, bounds_in, cause_text, difference_text, journal_in, journal_text, log_in, memory_text, memory_told, metrics_in, mismatch_text, name_twice, no_upload_text, numbers_in, outside_text, pool_text, port_in, port_text, ports_text, quota_text, reading_text, sentence_of, settings_text, shortage_text, shown, shown_byte, size_range, sum_text, tenant_words, tenants_text, twice_text, untold_text, upload_in, word_rule, word_text, wrong_word};
+ghost use Rattle.server_words.specs.Sentences.{address_in, address_text, bounds_in, cause_text, difference_text, journal_in, journal_text, log_in, memory_text, memory_told, metrics_in, mismatch_text, name_twice, no_upload_text, numbers_in, outside_text, pool_text, port_in, port_text, ports_text, quota_text, reading_text, sentence_of, settings_text, shortage_text, shown, shown_byte, sum_text, tenant_words, tenants_text, twice_text, untold_text, upload_in, word_rule, word_text, wrong_word};
 ghost use Rattle.server_words.specs.Tenants.{is_colon};
 
 use crate::cause::{Cause, PortFault};
@@ -185,12 +185,14 @@ fn settings_line(
     ensures { result.bytes ≡ settings_text bounds why numbers (texts words.now) }
 {
     match why {
-        SettingsFault::Blocks => outside("blocks", numbers.blocks, "1 to 1048576"),
-        SettingsFault::BlockSize => outside("block-size", numbers.block_size, "1 to 65536"),
-        SettingsFault::PoolBytes => pool_line(numbers),
-        SettingsFault::Lifetime => outside("lifetime", numbers.lifetime, "1 to 31536000"),
-        SettingsFault::MaxSize => outside("max-size", numbers.max_size, size_range(bounds)),
-        SettingsFault::Uploads => outside("uploads", numbers.uploads, "1 to 64"),
+        SettingsFault::Blocks => outside("blocks", numbers.blocks, bounds.blocks_limit()),
+        SettingsFault::BlockSize => {
+            outside("block-size", numbers.block_size, bounds.block_size_limit())
+        }
+        SettingsFault::PoolBytes => pool_line(numbers, bounds.pool_limit()),
+        SettingsFault::Lifetime => outside("lifetime", numbers.lifetime, 31_536_000),
+        SettingsFault::MaxSize => outside("max-size", numbers.max_size, bounds.size_limit()),
+        SettingsFault::Uploads => outside("uploads", numbers.uploads, 64),
         SettingsFault::LastId => line("the last id is out of its range\n"),
         SettingsFault::TenantCount => tenants_line(words.len()),
         SettingsFault::TenantName => word_line(wrong_word(words, numbers.block_size)),
@@ -199,22 +201,10 @@ fn settings_line(
     }
 }
 
-/// How large the greatest upload may be under these bounds.
-fn size_range(bounds: Bounds) -> &'static str
-    ensures range { result.now ≡ size_range bounds }
-    ensures short { length result.now ≤ 32 }
-{
-    match bounds {
-        Bounds::Narrow => "1 to 16777216",
-        Bounds::Wide => "1 to 1099511627776",
-    }
-}
-
-/// A number of an option is outside its range.
-fn outside(option: &str, value: u64, range: &str) -> ArrayString<SENTENCE_MAX>
+/// A number of an option is outside 1 to `most`.
+fn outside(option: &str, value: u64, most: u64) -> ArrayString<SENTENCE_MAX>
     requires option { length option.now ≤ 16 }
-    requires range { length range.now ≤ 32 }
-    ensures { result.bytes ≡ outside_text option.now value range.now }
+    ensures { result.bytes ≡ outside_text option.now value most }
 {
     let mut digits = Buffer::new();
     let mut line = ArrayString::new();
@@ -222,15 +212,15 @@ fn outside(option: &str, value: u64, range: &str) -> ArrayString<SENTENCE_MAX>
     line.push_str(option);
     line.push_str(" is ");
     line.push_str(digits.format(value));
-    line.push_str(": give ");
-    line.push_str(range);
+    line.push_str(": give 1 to ");
+    line.push_str(digits.format(most));
     line.push_str("\n");
     line
 }
 
-/// The blocks have too many bytes together.
-fn pool_line(numbers: Numbers) -> ArrayString<SENTENCE_MAX>
-    ensures { result.bytes ≡ pool_text numbers }
+/// The blocks have more than `most` bytes together.
+fn pool_line(numbers: Numbers, most: u64) -> ArrayString<SENTENCE_MAX>
+    ensures { result.bytes ≡ pool_text numbers most }
 {
     let mut digits = Buffer::new();
     let mut line = ArrayString::new();
@@ -238,7 +228,9 @@ fn pool_line(numbers: Numbers) -> ArrayString<SENTENCE_MAX>
     line.push_str(digits.format(numbers.blocks));
     line.push_str(" times --block-size ");
     line.push_str(digits.format(numbers.block_size));
-    line.push_str(" is more than 1073741824 bytes: give less of one\n");
+    line.push_str(" is more than ");
+    line.push_str(digits.format(most));
+    line.push_str(" bytes: give less of one\n");
     line
 }
 

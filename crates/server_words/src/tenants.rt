@@ -5,6 +5,7 @@ ghost use Rattle.server_words.specs.Tenants.{blocks_of_quotas, greatest_quota, g
 
 use crate::quota::read_quota;
 use tus_text::is_tenant_name;
+use upload_book::Bounds;
 
 /// The name and the quota of a word NAME:QUOTA, which is cut at its first `:`, where a block has so many bytes.
 #[tactic(auto, using(crate::proofs::TenantLemmas::no_colon))]
@@ -28,14 +29,14 @@ pub fn blocks_of_quotas(words: &[&str], block_size: u64) -> u64
     sum.min(pool_blocks(block_size)).max(1)
 }
 
-/// The most blocks of this size that a server may have.
+/// The most blocks of this size that a server may have under the wide bounds.
 fn pool_blocks(block_size: u64) -> u64
     ensures { result ≡ pool_blocks block_size }
 {
     if block_size == 0 {
         1
     } else {
-        (1_073_741_824 / block_size).min(1_048_576)
+        (Bounds::Wide.pool_limit() / block_size).min(Bounds::Wide.blocks_limit())
     }
 }
 
@@ -70,7 +71,7 @@ pub fn greatest_quota_bytes(words: &[&str], block_size: u64) -> u64
         return 1;
     }
     let bytes = greatest_quota(words, block_size).saturating_mul(block_size);
-    bytes.min(1_099_511_627_776).max(1)
+    bytes.min(Bounds::Wide.size_limit()).max(1)
 }
 
 /// The greatest quota of the words, in blocks.

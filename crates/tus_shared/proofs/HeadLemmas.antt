@@ -5,6 +5,7 @@ use mathlib.Core.List.{IsPrefix}
 use Rattle.upload_book.specs.declared.head_row.HeadRow.{HeadRow}
 use Rattle.upload_book.specs.declared.head_row.Name.{Name}
 use Rattle.upload_book.specs.Operation.{Operation}
+use Rattle.upload_book.specs.declared.progress.Progress.{Progress}
 use Rattle.upload_book.specs.declared.refusal.Refusal.{Refusal}
 use Rattle.upload_book.specs.Settings.{AreSound, Settings}
 use Rattle.tus_steps.specs.Asked.{asked_in, change_in}
@@ -20,7 +21,7 @@ use Rattle.tus_steps.specs.Operation.{operation_of}
 use Rattle.tus_steps.specs.Reply.{head_reply, refusing}
 use Rattle.tus_steps.specs.Request.{Request}
 use Rattle.tus_steps.specs.Step.{IsStep}
-use Rattle.head_board.specs.Board.{ReadsHead, row_read}
+use Rattle.head_board.specs.Board.{ReadsHead, ReadsProgress}
 use Rattle.head_board.specs.Event.{Event}
 use Rattle.head_board.specs.Events.{HaveHappened, book_at}
 use Rattle.tus_shared.specs.Answers.{Answers, AnswersTurn, IsRefusedHead, IsUploadHead, MissesBoard, OnlyLooks, OnlySeesMore}
@@ -51,16 +52,9 @@ sees-more s old new same = record {
   made = ap (λ (d : Desk). d.made + length new.seen) same;
 }
 
--- a desk that read the board or missed it only looked at it
-pub looks-at : (s : Settings) (name : Name) (now : ℕ) (read : Option (Result ⊤ Refusal)) (row : HeadRow) (old new : Desk)
-    → IfSome read (λ (r : Result ⊤ Refusal). ReadsHead s old.seen new.seen name now (row_read r row))
-    → IfSome read (λ (r : Result ⊤ Refusal). OnlySeesMore old new) → IfNone read (MissesBoard old new) → OnlyLooks old new
-looks-at s name now (Some read) row old new reads sees misses = record {
-  alone = sees ∙ ap (λ (missed : Bool). let desk : Desk = record old { seen = new.seen; missed = missed } in desk) (sym (ap (λ (d : Desk). d.missed) sees));
-  begins = reads.begins;
-  missed = λ before. ap (λ (d : Desk). d.missed) sees ∙ before;
-}
-looks-at s name now None row old new reads sees misses = record {
+-- a desk that missed the board only looked at it,
+pub missed-looks : (old new : Desk) → MissesBoard old new → OnlyLooks old new
+missed-looks old new misses = record {
   alone =
       misses
       ∙ ap₂ (λ (seen : List Event) (missed : Bool). let desk : Desk = record old { seen = seen; missed = missed } in desk)
@@ -68,6 +62,17 @@ looks-at s name now None row old new reads sees misses = record {
   begins = subst (IsPrefix old.seen) (sym (ap (λ (d : Desk). d.seen) misses)) (prefix-self old.seen);
   missed = λ before. ap (λ (d : Desk). d.missed) misses;
 }
+
+-- as did one that read how far an upload is there, or missed it
+pub looks-at : (s : Settings) (name : Name) (now : ℕ) (progress : Option (Result Progress Refusal)) (old new : Desk)
+    → IfSome progress (λ (p : Result Progress Refusal). ReadsProgress s old.seen new.seen name now p)
+    → IfSome progress (λ (p : Result Progress Refusal). OnlySeesMore old new) → IfNone progress (MissesBoard old new) → OnlyLooks old new
+looks-at s name now (Some progress) old new reads sees misses = record {
+  alone = sees ∙ ap (λ (missed : Bool). let desk : Desk = record old { seen = new.seen; missed = missed } in desk) (sym (ap (λ (d : Desk). d.missed) sees));
+  begins = reads.begins;
+  missed = λ before. ap (λ (d : Desk). d.missed) sees ∙ before;
+}
+looks-at s name now None old new reads sees misses = missed-looks old new misses
 
 -- what the board tells of an upload is the answer to a HEAD of it
 pub head-answers : (s : Settings) (r : Request) (now : ℕ) (name : Name) (row : Result HeadRow Refusal) (old new : Desk) → asked.Look name ≡ asked_in s r

@@ -9,27 +9,21 @@ use crate::desk::Desk;
 use journal_records::frame_of;
 use std::sync::ledger::Ledger;
 use tus_steps::Asked;
-use upload_book::{Change, FirstChunk, HeadRow, Moment, Name, NewUpload};
+use upload_book::{Change, FirstChunk, Moment, Name, NewUpload};
 
 impl<C: Charges, R: Ledger, M: Ledger> Desk<C, R, M> {
     /// Does of what a request asks for what can be done without the lock, so that the lock is held for less. The SHA-1 of a
     /// body is computed where it came with one: that of a PATCH where the heads tell that it will be compared, that of a
     /// creation where its own fields do. For a GET as much memory is reserved as the heads tell that it needs; there may be
-    /// too little. What is asked for stays what it is; a row that is read goes to `row`. It takes no lock, and waits for
-    /// nobody.
-    pub(crate) fn work_ahead(
-        &mut self,
-        asked: &mut Asked,
-        now: Moment,
-        row: &mut HeadRow,
-    ) -> Vec<u8>
+    /// too little. What is asked for stays what it is. It takes no lock, copies no text, and waits for nobody.
+    pub(crate) fn work_ahead(&mut self, asked: &mut Asked, now: Moment) -> Vec<u8>
         ensures asked { asked.new ≡ asked.old }
         ensures desk { OnlyLooks self.old self.new }
     {
         match asked {
-            Asked::Content(name) => return self.room_for(name, now, row),
+            Asked::Content(name) => return self.content_room(name, now),
             Asked::Change(asked) => {
-                if self.may_compare(&asked.change, now, row) {
+                if self.may_compare(&asked.change, now) {
                     asked.change.digest();
                 }
             }
@@ -60,11 +54,11 @@ impl<C: Charges, R: Ledger, M: Ledger> Desk<C, R, M> {
     }
 
     // Memory for the bytes of an upload that is complete, as far as the heads tell and there is some.
-    fn room_for(&mut self, name: &Name, now: Moment, row: &mut HeadRow) -> Vec<u8>
+    fn content_room(&mut self, name: &Name, now: Moment) -> Vec<u8>
         ensures { OnlyLooks self.old self.new }
     {
-        let len = match self.read_board(name, now, row) {
-            Some(Ok(())) => len_of_whole(row),
+        let len = match self.read_progress(name, now) {
+            Some(Ok(progress)) if progress.is_complete() => progress.offset,
             _ => 0,
         };
         match Vec::with_capacity(self.alloc, len as usize) {
@@ -74,7 +68,7 @@ impl<C: Charges, R: Ledger, M: Ledger> Desk<C, R, M> {
     }
 
     // Whether the bytes of a change may come to be compared with a checksum, as far as can be told without the book.
-    fn may_compare(&mut self, change: &Change, now: Moment, row: &mut HeadRow) -> bool
+    fn may_compare(&mut self, change: &Change, now: Moment) -> bool
         ensures { OnlyLooks self.old self.new }
     {
         match change {
@@ -82,10 +76,12 @@ impl<C: Charges, R: Ledger, M: Ledger> Desk<C, R, M> {
                 may_compare_first(self.settings.numbers().max_size, new, first)
             }
             Change::Append { name, chunk } if chunk.check.is_some() => {
-                match self.read_board(name, now, row) {
-                    Some(Ok(())) => chunk.refusal_by_row(self.settings.numbers(), row).is_none(),
-                    _ => false,
-                }
+                let Some(Ok(progress)) = self.read_progress(name, now) else {
+                    return false;
+                };
+                chunk
+                    .refusal_by_row(self.settings.numbers(), &progress)
+                    .is_none()
             }
             _ => false,
         }
@@ -97,15 +93,6 @@ impl<C: Charges, R: Ledger, M: Ledger> Desk<C, R, M> {
 fn may_compare_first(max_size: u64, new: &NewUpload, first: &FirstChunk) -> bool {
     let most = new.length.unwrap_or(max_size).min(max_size);
     first.check.is_some() && first.typed && first.bytes.len() as u64 <= most
-}
-
-// How many bytes an upload has that is complete; else none.
-fn len_of_whole(row: &HeadRow) -> u64 {
-    if row.declared == Some(row.offset) {
-        row.offset
-    } else {
-        0
-    }
 }
 
 // About how many bytes the frame of the record of a change has that a request asks for: so its memory is asked for once.

@@ -3,7 +3,7 @@ ghost use Rattle.tus_steps.specs.Asked.{change_in as change_asked};
 ghost use Rattle.tus_steps.specs.Changing.{IsFound};
 ghost use Rattle.tus_steps.specs.declared.asked.Asked.TheVariants as asks;
 ghost use Rattle.tus_steps.specs.PlacedReply.{reply_in};
-ghost use Rattle.head_board.specs.Board.{ReadsHead, ReadsTotals, SeesNoneExpired, row_read};
+ghost use Rattle.head_board.specs.Board.{ReadsHead, ReadsProgress, ReadsTotals, SeesNoneExpired, row_read};
 ghost use Rattle.tus_shared.specs.Answers.{Answers, AnswersBatch, AnswersTurn, MissesBoard, OnlySeesMore, SeesHead, Sweeps};
 ghost use Rattle.tus_shared.specs.Desk.{next_count};
 ghost use Rattle.tus_shared.specs.Journal.{change_frame};
@@ -19,7 +19,7 @@ use std::marker::Model;
 use std::sync::Wait;
 use std::sync::ledger::{Ledger, Share};
 use tus_steps::{Asked, PartIds, PlacedReply, Reply, ReplyKind, Request, asked_of};
-use upload_book::{Change, HeadRow, Moment, Name, Refusal, Settings, Swept};
+use upload_book::{Change, HeadRow, Moment, Name, Progress, Refusal, Settings, Swept};
 
 /// One of the desks that an opening gives, at which one thread answers its requests. It counts in three shares how many
 /// blocks its own steps charged, how many they released, and how many of them changed the book, and has a reader of the
@@ -139,6 +139,19 @@ impl<C: Charges, R: Ledger, M: Ledger> Desk<C, R, M> {
         ensures misses { IfNone result (MissesBoard self.old self.new) }
     {
         self.reader.look(name, now, row)
+    }
+
+    // Reads how far the board tells that an upload is, or why there is none; nothing, where the desk has missed it.
+    pub(crate) fn read_progress(
+        &mut self,
+        name: &Name,
+        now: Moment,
+    ) -> Option<Result<Progress, Refusal>>
+        ensures reads { IfSome result (ReadsProgress C.settings self.old.seen self.new.seen name.now now) }
+        ensures sees { IfSome result (λ progress. OnlySeesMore self.old self.new) }
+        ensures misses { IfNone result (MissesBoard self.old self.new) }
+    {
+        self.reader.progress(name, now)
     }
 
     /// Whether an upload may have expired at this moment, by what the board shows. If not, none has after events that begin
@@ -271,7 +284,7 @@ impl<C: Charges, R: Ledger, M: Ledger> Desk<C, R, M> {
         ensures missed { self.old.missed ≡ true → self.new.missed ≡ true }
         ensures counted { self.new.steps ≡ next_count self.old.steps }
     {
-        let room = self.work_ahead(&mut asked, now, &mut reply.row);
+        let room = self.work_ahead(&mut asked, now);
         let frame = self.frame_ahead(&asked, now);
         self.step_locked(
             rt, shared, request, asked, frame, room, now, turn, gate, reply,

@@ -31,7 +31,7 @@ use std::alloc::Global;
 use std::marker::Model;
 use std::sync::Wait;
 use std::sync::ledger::Ledger;
-use tus_steps::{Asked, PlacedReply, Request, answer_asked, refused_for_memory};
+use tus_steps::{Asked, PlacedReply, Request, answer_asked};
 use upload_book::{Book, Change, Moment, Outcome, Refused, Swept};
 
 /// What stands behind the lock: the book, the board that shows its heads, and the books of three ledgers, whose totals
@@ -286,13 +286,12 @@ impl<C: Charges, R: Ledger, M: Ledger, B: Wait + Drop> Store<C, R, M, B> {
         let _in_range = now.secs();
         tell_fits(self.book.settings().tenant_count(), &change);
         let spare = spare_for(&change);
-        let unkept = refused_for_memory(&self.book, &change, now);
         let ready = match self.book.prepare(change, now) {
             Ok(ready) => ready,
             Err(refused) => return Err(refused),
         };
         if queue_frame(&mut self.queue, &mut desk.room, frame, spare).is_err() {
-            return Err(unkept);
+            return Err(ready.refused_for_memory(&self.book));
         }
         Ok(make_ready(
             &mut self.book,

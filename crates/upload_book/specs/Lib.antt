@@ -25,6 +25,7 @@ pub mod NewUpload
 pub mod Operation
 pub mod Order
 pub mod PlainBook
+pub mod Progress
 pub mod Ready
 pub mod Refusal
 pub mod Settings

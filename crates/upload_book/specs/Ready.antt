@@ -1,7 +1,7 @@
 -- When a book is ready for a change: all that it takes was found, and its memory taken.
 use Rattle.std.specs.Prelude.{◌≡◌, ℕ, ◌<◌, ◌≤◌, IsTrue, false, List, None, Some, [], ◌∷◌, length, map, vec_capacity, ⊤}
 use Rattle.block_bodies.specs.Bodies.{HasRoom}
-use Rattle.upload_book.specs.Account.{account_in}
+use Rattle.upload_book.specs.Account.{account_in, blocks_added}
 use Rattle.upload_book.specs.Append.{append_refusal, is_final, row_with}
 use Rattle.upload_book.specs.Book.{StoredBook, plain_of}
 use Rattle.upload_book.specs.Chunk.{count_all}
@@ -30,20 +30,23 @@ use Rattle.upload_book.specs.snapshot.Restore.{IsRestorable, piece_refusal}
 use Rattle.upload_book.specs.declared.restored.Restored.{Restored}
 use Rattle.upload_book.specs.declared.restored.Restored.TheVariants as piece
 use Rattle.upload_book.specs.inside.FinalBack.{AreRoomsFor}
-use Rattle.upload_book.specs.inside.Progress.{progress_in}
+use Rattle.upload_book.specs.Progress.{progress_in}
 use Rattle.upload_book.specs.BlockStore.{BlockStore, Joins, entry_at, pieces_named, rows_at, stored_tenant_at, upload_at}
 use Rattle.upload_book.specs.inside.Places.{IsVisibleIn}
 use Rattle.upload_book.specs.Stored.{pieces_of, segment_of}
 use Rattle.upload_book.specs.inside.Pieces.{as_piece, no_chain, own_chain}
-use Rattle.upload_book.specs.Upload.{head_row_of}
+use Rattle.upload_book.specs.Upload.{head_row_of, offset_of}
 
--- The book is ready for a PATCH: it sees the upload at the place and refuses nothing, the upload will be so far, and
--- there is room for the bytes, and for all that are to come behind them, in the list of its blocks.
+-- The book is ready for a PATCH: it sees the upload at the place and refuses nothing, the upload expires then, it will be so
+-- far, its bytes cost so many blocks, and there is room for them, and for all that are to come behind them, in the list of
+-- its blocks.
 pub record IsReadyForChunk (b : StoredBook) (r : ReadyChunk) : Type 0 where
   pub there : r.name.tenant < length b.settings.tenants
   pub seen : IsVisibleIn b.store r.name.tenant r.name.id r.now r.place
   pub accepted : append_refusal b.settings.numbers (account_in b.settings.numbers (tenant_book (plain_of b) r.name.tenant) b.charged) (head_row_of (upload_at b.store r.name.tenant r.place)) r.chunk ≡ None
+  pub expires : r.expires ≡ (upload_at b.store r.name.tenant r.place).expires
   pub after : r.after ≡ progress_in (row_with b.settings.numbers (head_row_of (upload_at b.store r.name.tenant r.place)) r.chunk r.now)
+  pub cost : r.cost ≡ blocks_added b.settings.numbers (offset_of (upload_at b.store r.name.tenant r.place)) (length r.chunk.bytes)
   pub room : 0 < count_all r.chunk → HasRoom b.store.pool (own_chain (entry_at b.store r.name.tenant r.place).kept.pieces) (count_all r.chunk)
 
 -- the book is ready for a DELETE: it sees the upload at the place

@@ -33,6 +33,21 @@ abbrev pub has_name_twice : List TenantQuota → Bool
 has_name_twice [] = false
 has_name_twice (t ∷ tenants) = is_named_again t.name tenants || has_name_twice tenants
 
+-- the most blocks that there may be, under these bounds
+abbrev pub blocks_limit : Bounds → ℕ
+blocks_limit Narrow = 2 ^ 20
+blocks_limit Wide = 2 ^ 32 - 1
+
+-- the most bytes of a block: 64 KiB, or 1 MiB
+abbrev pub block_size_limit : Bounds → ℕ
+block_size_limit Narrow = 2 ^ 16
+block_size_limit Wide = 2 ^ 20
+
+-- the most bytes of all blocks together: 1 GiB, or 16 TiB
+abbrev pub pool_limit : Bounds → ℕ
+pool_limit Narrow = 2 ^ 30
+pool_limit Wide = 2 ^ 44
+
 -- the most that the greatest size of an upload may be, under these bounds: 16 MiB, or 1 TiB
 abbrev pub size_limit : Bounds → ℕ
 size_limit Narrow = 2 ^ 24
@@ -41,9 +56,9 @@ size_limit Wide = 2 ^ 40
 -- the tests of the numbers under these bounds, in this order
 abbrev pub number_tests : Bounds → Numbers → List (Bool × SettingsFault)
 number_tests bounds n =
-    (is_outside n.blocks 1048576, Blocks)
-    ∷ (is_outside n.block_size 65536, BlockSize)
-    ∷ (nat_lt 1073741824 (n.blocks * n.block_size), PoolBytes)
+    (is_outside n.blocks (blocks_limit bounds), Blocks)
+    ∷ (is_outside n.block_size (block_size_limit bounds), BlockSize)
+    ∷ (nat_lt (pool_limit bounds) (n.blocks * n.block_size), PoolBytes)
     ∷ (is_outside n.lifetime 31536000, Lifetime)
     ∷ (is_outside n.max_size (size_limit bounds), MaxSize)
     ∷ (is_outside n.uploads 64, Uploads)

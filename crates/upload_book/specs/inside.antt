@@ -8,4 +8,3 @@ pub mod KeptUpload
 pub mod Notes
 pub mod Pieces
 pub mod Places
-pub mod Progress

@@ -14,6 +14,7 @@ ghost use Rattle.upload_book.specs.TenantBook.{TenantBook};
 use crate::board_line::Accounts;
 use crate::book::Book;
 use crate::moment::Moment;
+use crate::progress::blocks_added;
 use crate::ready::{
     ReadyChunk, ReadyEnd, ReadyFinal, ReadyNext, ReadyPiece, ReadyTotals, ReadyUpload, Step,
 };
@@ -45,8 +46,8 @@ impl Book {
     {
         let tenant = ready.tenant;
         let len = ready.first.len();
-        let blocks = len.div_ceil(self.settings.numbers().block_size);
-        self.accounts_where(tenant, self.charge(tenant) + blocks)
+        let cost = blocks_added(self.settings.numbers(), 0, len);
+        self.accounts_where(tenant, self.charge(tenant) + cost)
     }
 
     // The accounts after a PATCH.
@@ -55,11 +56,10 @@ impl Book {
         ensures { result ≡ accounts_of (book_after_change (plain_of self.now)
             (change.Append ready.entry.now.name ready.entry.now.chunk) ready.entry.now.now) }
     {
+        // the numbers tell what is kept of the book
+        let _in_range = self.settings.numbers();
         let tenant = ready.name.tenant;
-        let size = self.settings.numbers().block_size;
-        let before = self.store.progress(usize::from(tenant), ready.place);
-        let blocks = ready.after.offset.div_ceil(size) - before.offset.div_ceil(size);
-        self.accounts_where(tenant, self.charge(tenant) + blocks)
+        self.accounts_where(tenant, self.charge(tenant) + ready.cost)
     }
 
     // The accounts after a concatenation.

@@ -9,10 +9,11 @@ ghost use Rattle.upload_book.specs.inside.Places.{IsVisibleIn};
 ghost use Rattle.upload_book.specs.Refusal.{IsAnswer};
 
 use crate::book::Book;
-use crate::head_row::{HeadRow, Name};
+use crate::head_row::Name;
+use crate::lacking::refused_for_memory;
 use crate::moment::Moment;
 use crate::payload::Payload;
-use crate::progress::{Progress, append_refusal, refusal_by_row};
+use crate::progress::{Progress, append_refusal, blocks_added, refusal_by_row};
 use crate::ready::ReadyChunk;
 use crate::refusal::Refusal;
 use crate::settings::Numbers;
@@ -55,17 +56,19 @@ impl<'a> Chunk<'a> {
     ghost use Rattle.std.specs.Prelude.{Some, IfSome};
     ghost use Rattle.upload_book.specs.Append.{append_refusal, refusal_by_row};
     ghost use Rattle.upload_book.specs.declared.board_line.Account.{Account};
+    ghost use Rattle.upload_book.specs.declared.head_row.HeadRow.{HeadRow};
+    ghost use Rattle.upload_book.specs.Progress.{progress_in, row_at};
 
-    /// Why a PATCH with these bytes is refused before their checksum is compared, where a HEAD tells this of its upload:
-    /// the first that applies of IsFinal, Media, Offset, LengthFixed, TooLong and Algorithm. While the upload is so,
-    /// the book refuses it for the same, whatever its tenant pays. It looks at no byte and takes no book, so it can
-    /// be asked before a digest is computed.
-    pub fn refusal_by_row(&self, numbers: &Numbers, row: &HeadRow) -> Option<Refusal>
-        ensures value { result ≡ refusal_by_row numbers.now row.now self.now }
-        ensures refused { IfSome result (λ why. (account : Account)
-            → append_refusal numbers.now account row.now self.now ≡ Some why) }
+    /// Why a PATCH with these bytes is refused before their checksum is compared, where its upload is so far: the first that
+    /// applies of IsFinal, Media, Offset, LengthFixed, TooLong and Algorithm. While the upload is so, the book refuses it
+    /// for the same, whatever its tenant pays. It looks at no byte and takes no book, so it can be asked before a digest is
+    /// computed.
+    pub fn refusal_by_row(&self, numbers: &Numbers, progress: &Progress) -> Option<Refusal>
+        ensures value { result ≡ refusal_by_row numbers.now (row_at progress.now) self.now }
+        ensures refused { IfSome result (λ why. (account : Account) (row : HeadRow)
+            → progress_in row ≡ progress.now → append_refusal numbers.now account row self.now ≡ Some why) }
     {
-        refusal_by_row(numbers, &Progress::of(row), self)
+        refusal_by_row(numbers, progress, self)
     }
 }
 
@@ -179,19 +182,20 @@ impl Book {
             });
         }
         let after = progress.with(numbers, &chunk, now);
-        let count = chunk.bytes.len() as u64 + chunk.more;
+        let len = chunk.bytes.len() as u64;
+        let cost = blocks_added(numbers, progress.offset, len);
+        let count = len + chunk.more;
         if count > 0 && self.store.reserve(tenant, place, count).is_err() {
-            return Err(Refused {
-                refusal: Refusal::Memory,
-                expires: progress.expires,
-            });
+            return Err(refused_for_memory(progress.expires));
         }
         Ok(ReadyChunk {
             name,
             chunk,
             now,
             place,
+            expires: progress.expires,
             after,
+            cost,
         })
     }
 
@@ -208,6 +212,7 @@ impl Book {
             name,
             chunk,
             place,
+            expires,
             after,
             ..
         } = ready;
@@ -217,8 +222,7 @@ impl Book {
             offset: after.offset,
             expires: after.expires,
         };
-        let before = self.store.expires(tenant, place);
-        self.expiries.set_end(name, before, after.expires);
+        self.expiries.set_end(name, expires, after.expires);
         if bytes.is_empty() {
             self.store
                 .renew(tenant, place, after.declared, after.expires);

@@ -14,7 +14,7 @@ ghost use Rattle.upload_book.specs.declared.head_row.Kind.TheVariants.{Final};
 ghost use Rattle.upload_book.specs.inside.Kept.{stored_tenant_of, HasUploadRoom};
 ghost use Rattle.upload_book.specs.Settings.{AreSound};
 ghost use Rattle.upload_book.specs.snapshot.Snapshot.{upload_kept};
-ghost use Rattle.upload_book.specs.inside.Progress.{progress_in};
+ghost use Rattle.upload_book.specs.Progress.{progress_in};
 ghost use Rattle.upload_book.specs.BlockStore.{opening_stored_tenants, plain_in, stored_tenant_at, part_at, pieces_named, entry_at, holders_at, rows_at, upload_at, Joins};
 ghost use Rattle.upload_book.specs.inside.Places.{with_bytes, with_upload, without_upload, AreFew, IsAlone, IsPartIn, IsVisibleIn, MayKeep};
 ghost use Rattle.upload_book.specs.Stored as kept;

@@ -1,41 +1,33 @@
 ghost use Rattle.std.specs.Prelude.{◌≡◌, ◌+◌, ◌<◌, ◌≤◌, ◌^◌, length, nat_lt};
+ghost use Rattle.upload_book.specs.Account.{blocks_added};
 ghost use Rattle.upload_book.specs.Append.{append_refusal, differ, refusal_by_row, row_with};
-ghost use Rattle.upload_book.specs.inside.Progress.{row_at, progress_in};
+ghost use Rattle.upload_book.specs.Progress.{row_at, progress_in};
 ghost use Rattle.upload_book.specs.Upload.{is_reached};
 
 use crate::append::Chunk;
 use crate::board_line::Account;
 use crate::checksum::{is_mismatch, is_of_other_algorithm};
 use crate::expiry::{lifetime_end, renewed};
-use crate::head_row::{HeadRow, Kind};
+use crate::head_row::Kind;
 use crate::moment::Moment;
 use crate::refusal::Refusal;
 use crate::settings::Numbers;
 
 /// How far an upload is: its row without the texts.
-#[derive(Clone, Copy, Debug)]
-pub(crate) struct Progress {
-    pub(crate) kind: Kind,
-    pub(crate) offset: u64,
-    pub(crate) declared: Option<u64>,
-    pub(crate) expires: Option<Moment>,
+#[derive(Clone, Copy, Debug, PartialEq, Eq)]
+pub struct Progress {
+    pub kind: Kind,
+    /// How many bytes it has.
+    pub offset: u64,
+    /// How many bytes it will have, where that is known.
+    pub declared: Option<u64>,
+    /// When it expires, if it does.
+    pub expires: Option<Moment>,
 }
 
 impl Progress {
-    /// How far an upload is of which a HEAD tells this.
-    pub(crate) fn of(row: &HeadRow) -> Progress
-        ensures { result ≡ progress_in row.now }
-    {
-        Progress {
-            kind: row.kind,
-            offset: row.offset,
-            declared: row.declared,
-            expires: row.expires,
-        }
-    }
-
     /// Whether the upload has all of its bytes.
-    pub(crate) fn is_complete(&self) -> bool
+    pub fn is_complete(&self) -> bool
         ensures { result ≡ is_reached self.now.declared self.now.offset }
     {
         self.declared == Some(self.offset)
@@ -103,9 +95,8 @@ pub(crate) fn append_refusal(
         return Some(refusal);
     }
     let last_total = numbers.last_total;
-    let end = progress.offset + (chunk.bytes.len() as u64 + chunk.more);
-    let size = numbers.block_size;
-    let added = end.div_ceil(size) - progress.offset.div_ceil(size);
+    let all = chunk.bytes.len() as u64 + chunk.more;
+    let added = blocks_added(numbers, progress.offset, all);
     if is_mismatch(chunk.check, &chunk.bytes) {
         Some(Refusal::Mismatch)
     } else if added > last_total - account.charged {
@@ -115,6 +106,16 @@ pub(crate) fn append_refusal(
     } else {
         None
     }
+}
+
+/// How many blocks more so many bytes after an offset take: those beyond the rest of its last block.
+pub(crate) fn blocks_added(numbers: &Numbers, offset: u64, more: u64) -> u64
+    requires size { 0 < numbers.now.block_size }
+    requires end { offset + more < 2 ^ 64 }
+    ensures { result ≡ blocks_added numbers.now offset more }
+{
+    let size = numbers.block_size;
+    (offset + more).div_ceil(size) - offset.div_ceil(size)
 }
 
 // Whether so many bytes after an offset, and more behind them, end past a length.

@@ -33,8 +33,12 @@ pub(crate) struct ReadyChunk<'a> {
     pub(crate) chunk: Chunk<'a>,
     pub(crate) now: Moment,
     pub(crate) place: usize,
+    /// When the upload expires before them, if it does.
+    pub(crate) expires: Option<Moment>,
     /// How far the upload is afterwards.
     pub(crate) after: Progress,
+    /// How many blocks more its tenant pays then.
+    pub(crate) cost: u64,
 }
 
 /// A DELETE that was accepted, of the upload at this place.

@@ -1,7 +1,9 @@
 ghost use Rattle.std.specs.Prelude.{◌≡◌, ◌≤◌, length};
+ghost use Rattle.upload_book.specs.Progress.{progress_in};
 
 use crate::head_note::Growth;
 use crate::head_row::{HeadRow, Kind};
+use crate::progress::Progress;
 use std::marker::Model;
 use tus_text::Text;
 
@@ -71,6 +73,18 @@ impl<'a> RowRef<'a> {
         } }
     {
         self.growth
+    }
+
+    /// How far the upload is: the row without its texts.
+    pub fn progress(&self) -> Progress
+        ensures { result ≡ progress_in self.now }
+    {
+        Progress {
+            kind: self.kind,
+            offset: self.growth.offset,
+            declared: self.growth.declared,
+            expires: self.growth.expires,
+        }
     }
 
     /// `Upload-Metadata`, at most 1,024 bytes.

@@ -2,7 +2,7 @@ ghost use Rattle.std.specs.Prelude.{◌≡◌, ◌<◌, ◌≤◌, ◌^◌, not,
 ghost use Rattle.std.specs.List.{list_all, list_any};
 ghost use Rattle.tus_text.specs.Tenant.{is_tenant_name};
 ghost use Rattle.upload_book.specs.Refusal.{first_that_holds};
-ghost use Rattle.upload_book.specs.Settings.{AreSound, settings_of, size_limit, tenants_of, tenant_place, number_tests, tenant_tests, is_outside, has_name_twice};
+ghost use Rattle.upload_book.specs.Settings.{AreSound, settings_of, blocks_limit, block_size_limit, pool_limit, size_limit, tenants_of, tenant_place, number_tests, tenant_tests, is_outside, has_name_twice};
 ghost use Rattle.upload_book.specs.declared.settings.Bounds.TheVariants.{Narrow};
 
 use crate::settings_fault::SettingsFault;
@@ -13,16 +13,47 @@ use tus_text::{Tenant, Text, is_tenant_name};
 /// The most tenants that a server has.
 pub const TENANTS_MAX: usize = 16;
 
-/// How far the numbers that a server is set up with may go. They differ in the greatest size of an upload.
+/// How far the numbers that a server is set up with may go.
 #[derive(Clone, Copy, Debug, PartialEq, Eq)]
 pub enum Bounds {
-    /// An upload has at most 2^24 bytes, so the body of a request may be held as a whole.
+    /// There are at most 2^20 blocks of at most 2^16 bytes, together at most 2^30, and an upload has at most 2^24 bytes, so
+    /// the body of a request may be held as a whole.
     Narrow,
-    /// An upload has at most 2^40 bytes.
+    /// There are at most 2^32 - 1 blocks of at most 2^20 bytes, together at most 2^44, and an upload has at most 2^40 bytes.
     Wide,
 }
 
 impl Bounds {
+    /// The most blocks that there may be.
+    pub fn blocks_limit(self) -> u64
+        ensures { result ≡ blocks_limit self }
+    {
+        match self {
+            Bounds::Narrow => 1_048_576,
+            Bounds::Wide => 4_294_967_295,
+        }
+    }
+
+    /// The most bytes that a block may have.
+    pub fn block_size_limit(self) -> u64
+        ensures { result ≡ block_size_limit self }
+    {
+        match self {
+            Bounds::Narrow => 65_536,
+            Bounds::Wide => 1_048_576,
+        }
+    }
+
+    /// The most bytes that all blocks may have together.
+    pub fn pool_limit(self) -> u64
+        ensures { result ≡ pool_limit self }
+    {
+        match self {
+            Bounds::Narrow => 1_073_741_824,
+            Bounds::Wide => 17_592_186_044_416,
+        }
+    }
+
     /// The most that the greatest size of an upload may be, in bytes.
     pub fn size_limit(self) -> u64
         ensures { result ≡ size_limit self }
@@ -37,9 +68,10 @@ impl Bounds {
 /// The numbers that a server is set up with.
 #[derive(Clone, Copy, Debug, PartialEq, Eq)]
 pub struct Numbers {
-    /// How many blocks there are: 1 to 1,048,576.
+    /// How many blocks there are: 1 to 1,048,576, or to 2^32 - 1 under the wide bounds.
     pub blocks: u64,
-    /// How many bytes a block has: 1 to 65,536; all blocks together at most 2^30.
+    /// How many bytes a block has: 1 to 65,536, or to 1,048,576 under the wide bounds; all blocks together at most 2^30, or
+    /// 2^44.
     pub block_size: u64,
     /// For how many seconds an upload that expires is kept after its last PATCH, or after its creation: 1
     /// to 31,536,000.
@@ -194,11 +226,11 @@ fn place_of(tenants: &[TenantQuota], name: &[u8]) -> Option<usize>
 fn number_fault(bounds: Bounds, numbers: Numbers) -> Option<SettingsFault>
     ensures { result ≡ first_that_holds (number_tests bounds numbers) }
 {
-    if is_outside(numbers.blocks, 1_048_576) {
+    if is_outside(numbers.blocks, bounds.blocks_limit()) {
         Some(SettingsFault::Blocks)
-    } else if is_outside(numbers.block_size, 65_536) {
+    } else if is_outside(numbers.block_size, bounds.block_size_limit()) {
         Some(SettingsFault::BlockSize)
-    } else if numbers.blocks * numbers.block_size > 1_073_741_824 {
+    } else if numbers.blocks * numbers.block_size > bounds.pool_limit() {
         Some(SettingsFault::PoolBytes)
     } else if is_outside(numbers.lifetime, 31_536_000) {
         Some(SettingsFault::Lifetime)

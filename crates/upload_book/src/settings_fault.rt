@@ -8,11 +8,11 @@ use thiserror::Error;
 /// What is wrong with settings, in the order in which it is looked for. It displays its word.
 #[derive(Clone, Copy, Debug, PartialEq, Eq, Error)]
 pub enum SettingsFault {
-    /// The number of blocks is outside 1 to 1,048,576.
+    /// The number of blocks is outside 1 to 1,048,576, or 1 to 2^32 - 1 under the wide bounds.
     Blocks,
-    /// The size of a block is outside 1 to 65,536.
+    /// The size of a block is outside 1 to 65,536, or 1 to 1,048,576 under the wide bounds.
     BlockSize,
-    /// The blocks have more than 2^30 bytes together.
+    /// The blocks have more than 2^30 bytes together, or more than 2^44 under the wide bounds.
     PoolBytes,
     /// The lifetime is outside 1 to 31,536,000 seconds.
     Lifetime,

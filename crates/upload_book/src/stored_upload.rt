@@ -11,7 +11,7 @@ ghost use Rattle.upload_book.specs.Expiry.{has_expired};
 ghost use Rattle.upload_book.specs.inside.ChargeAfter.{is_left, sources_in};
 ghost use Rattle.upload_book.specs.inside.FinalBack.{chain_from};
 ghost use Rattle.upload_book.specs.Lawful.{is_kept_metadata, IsConcatText};
-ghost use Rattle.upload_book.specs.inside.Progress.{progress_in};
+ghost use Rattle.upload_book.specs.Progress.{progress_in};
 ghost use Rattle.upload_book.specs.inside.Places.{with_chain, with_head};
 ghost use Rattle.upload_book.specs.Stored.{block_at, pieces_len, placed_in, segment_of, upload_of};
 ghost use Rattle.upload_book.specs.inside.Pieces.{as_piece, bytes_of, final_of, new_stored, no_chain, own_chain, AreBodies, ReadsWhole};

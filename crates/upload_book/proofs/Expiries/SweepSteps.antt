@@ -19,7 +19,7 @@ pub record IsSweptTo (b left : PlainBook) (now uploads blocks : ℕ) : Type 0 wh
   pub blocks_freed : swept_blocks b now ≡ swept_blocks left now + blocks
   pub book : book_after_sweep left now ≡ book_after_sweep b now
   pub few : (sweep_answer b now).uploads ≤ 1024
-  pub small : swept_blocks b now ≤ 1048576
+  pub small : swept_blocks b now ≤ 4294967295
 
 -- the tenants have few uploads,
 uploads-few : (b : PlainBook) → IsLawful b → sum_by (λ (part : TenantBook). length part.uploads) b.tenants ≤ 1024
@@ -29,7 +29,7 @@ uploads-few b lawful =
     omega (arith, sum_by-le (λ (part : TenantBook). length part.uploads) 64 b.tenants each, tenants-few b lawful)
 
 -- and pay few blocks
-blocks-few : (b : PlainBook) → IsLawful b → sum_by (charge_in b.settings.numbers) b.tenants ≤ 1048576
+blocks-few : (b : PlainBook) → IsLawful b → sum_by (charge_in b.settings.numbers) b.tenants ≤ 4294967295
 blocks-few b lawful =
     omega (arith, sum_by-each_le (charge_in b.settings.numbers) (λ (part : TenantBook). part.quota) b.tenants lawful.charges, quotas-of_book b lawful, blocks-within b.settings lawful.settings)
 

@@ -140,7 +140,7 @@ module _ (b : StoredBook) (t : ℕ) (r : RestoredUpload) (kept : IsBook b) (ther
         ap (λ (sent : List (ℕ × List ℕ)). charge_in b.settings.numbers (with_back part r.id (upload_back r sent))) (same-sent _ _ _ _ found (back b t r is)) ∙ final-pays b t r is
 
   -- which is a small number,
-  pub back-small : pays b t + added_blocks ≤ 1048576
+  pub back-small : pays b t + added_blocks ≤ 4294967295
   back-small = paid-small b t added_blocks kept there (omega (arith, pays-more, found.can.paid))
 
   -- what is charged then is within its bound,

@@ -86,7 +86,7 @@ charges-sum b now lawful =
     ∙ sum-padded (charge_in b.settings.numbers) (book_after_sweep b now).tenants 16 (opening_part 0) (tenants-few (book_after_sweep b now) (IsLawful-sweep b now lawful)) (opening-free b.settings.numbers)
 
 -- That is a small number,
-pub swept-small : (b : PlainBook) (now : ℕ) → IsLawful b → sum (charges_after b now) ≤ 1048576
+pub swept-small : (b : PlainBook) (now : ℕ) → IsLawful b → sum (charges_after b now) ≤ 4294967295
 swept-small b now lawful =
     let after : IsLawful (book_after_sweep b now) = IsLawful-sweep b now lawful in
     omega (arith, charges-sum b now lawful, sum_by-each_le (charge_in b.settings.numbers) (λ (part : TenantBook). part.quota) (book_after_sweep b now).tenants after.charges, quotas-of_book (book_after_sweep b now) after, blocks-within b.settings lawful.settings)

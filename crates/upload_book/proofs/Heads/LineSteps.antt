@@ -28,7 +28,7 @@ use Rattle.upload_book.specs.Heads.{HeadPart, accounts_of, head_part_at, heads_o
 use Rattle.upload_book.specs.Lawful.{IsTenantOf}
 use Rattle.upload_book.specs.PlainBook.{tenant_book, with_tenant_book}
 use Rattle.upload_book.specs.Ready.{IsReadyForChunk, IsReadyForEnd, IsReadyForFinal, IsReadyForUpload}
-use Rattle.upload_book.specs.inside.Progress.{progress_in}
+use Rattle.upload_book.specs.Progress.{progress_in}
 use Rattle.upload_book.specs.BlockStore.{part_at, upload_at}
 use Rattle.upload_book.specs.inside.Places.{without_upload}
 use Rattle.upload_book.specs.TenantBook.{TenantBook, kept_in, opening_part, with_changed, with_new}
@@ -63,7 +63,7 @@ pub sound-part : (b : StoredBook) (t : ℕ) → IsBook b → t < length b.settin
 sound-part b t kept there = IsTenantOf-book (plain_of b) t kept.lawful (part-within b t (stored_tenant-there b t kept there))
 
 -- what it pays, and blocks that are within its quota, is a small number
-pub paid-small : (b : StoredBook) (t added : ℕ) → IsBook b → t < length b.settings.tenants → charge_in b.settings.numbers (tenant_book (plain_of b) t) + added ≤ (tenant_book (plain_of b) t).quota → charge_in b.settings.numbers (tenant_book (plain_of b) t) + added ≤ 1048576
+pub paid-small : (b : StoredBook) (t added : ℕ) → IsBook b → t < length b.settings.tenants → charge_in b.settings.numbers (tenant_book (plain_of b) t) + added ≤ (tenant_book (plain_of b) t).quota → charge_in b.settings.numbers (tenant_book (plain_of b) t) + added ≤ 4294967295
 paid-small b t added kept there within =
     let inside = part-within b t (stored_tenant-there b t kept there) in
     omega (arith, room-within (plain_of b) t added kept.lawful inside within, get_or-le-sum_by (charge_in b.settings.numbers) (plain_of b).tenants t (opening_part 0) inside, blocks-within b.settings kept.lawful.settings)
@@ -91,7 +91,7 @@ module _ (b : StoredBook) (r : ReadyUpload) (kept : IsBook b) (ready : IsReadyFo
   upload_blocks = blocks_added b.settings.numbers 0 (length r.first.bytes)
 
   -- what the tenant of a creation will pay is a small number,
-  pub upload-small : pays b r.tenant + upload_blocks ≤ 1048576
+  pub upload-small : pays b r.tenant + upload_blocks ≤ 4294967295
   upload-small =
       paid-small b r.tenant upload_blocks kept ready.there (IsCreatable-from_none b.settings.numbers (account_at b r.tenant) (tenant_book (plain_of b) r.tenant) r.new r.first ready.accepted).paid
 
@@ -171,7 +171,7 @@ module _ (b : StoredBook) (r : ReadyChunk) (kept : IsBook b) (ready : IsReadyFor
   within = stored_tenant-there b r.name.tenant kept ready.there
 
   -- what the tenant of a PATCH will pay is a small number,
-  pub chunk-small : pays b r.name.tenant + chunk_blocks ≤ 1048576
+  pub chunk-small : pays b r.name.tenant + chunk_blocks ≤ 4294967295
   chunk-small =
       paid-small b r.name.tenant chunk_blocks kept ready.there (IsAppendable-from_none b.settings.numbers (account_at b r.name.tenant) u r.chunk ready.accepted).paid
 

@@ -1,5 +1,5 @@
 -- What settings with no fault keep.
-use Rattle.std.proofs.Common.{◌≡◌, ℕ, ◌<◌, ◌≤◌, Bool, false, ltb, List, [], ◌∷◌, ◌++◌, length, None, arith}
+use Rattle.std.proofs.Common.{◌≡◌, ℕ, ◌*◌, ◌<◌, ◌≤◌, Bool, false, ltb, List, [], ◌∷◌, ◌++◌, length, None, arith}
 use Rattle.std.specs.List.{sum_by}
 use Rattle.std.specs.Prelude.{⊤}
 use Rattle.std.proofs.lemmas.Bool.Decides.{nat_tests}
@@ -29,10 +29,18 @@ sound-within Wide s h = h
 sound-within Narrow s h =
     let tests = number_tests Narrow s.numbers ++ tenant_tests s.numbers.blocks s.tenants in
     let holds : NoneHolds tests = none_holds tests h in
-    rw (wider s.numbers.max_size 16777216 1099511627776 (omega arith) holds.1.1.1.1.0) (rw holds.1.1.1.1.0 at h)
+    rw (
+      wider s.numbers.blocks 1048576 4294967295 (omega arith) holds.0,
+      wider s.numbers.block_size 65536 1048576 (omega arith) holds.1.0,
+      larger (s.numbers.blocks * s.numbers.block_size) 1073741824 17592186044416 (omega arith) holds.1.1.0,
+      wider s.numbers.max_size 16777216 1099511627776 (omega arith) holds.1.1.1.1.0,
+    ) (rw (holds.0, holds.1.0, holds.1.1.0, holds.1.1.1.1.0) at h)
   where
     wider : (n most more : ℕ) → most ≤ more → is_outside n most ≡ false → is_outside n more ≡ false
     wider n most more less test = grind (arith, nat_tests)
+
+    larger : (n most more : ℕ) → most ≤ more → ltb most n ≡ false → ltb more n ≡ false
+    larger n most more less test = grind (arith, nat_tests)
 
 -- the last id is below the greatest number
 pub last_id-within : (s : Settings) → AreSound s → s.numbers.last_id ≤ 18446744073709551614
@@ -59,18 +67,18 @@ quotas-within s h =
     at_most most k test = grind (arith, nat_tests)
 
 -- there are not more blocks than a pool has
-pub blocks-within : (s : Settings) → AreSound s → s.numbers.blocks ≤ 1048576
+pub blocks-within : (s : Settings) → AreSound s → s.numbers.blocks ≤ 4294967295
 blocks-within s h =
     let tests = number_tests Wide s.numbers ++ tenant_tests s.numbers.blocks s.tenants in
     let holds : NoneHolds tests = none_holds tests h in
-    within s.numbers.blocks 1048576 holds.0
+    within s.numbers.blocks 4294967295 holds.0
 
 -- a block has a byte
 pub block_size-some : (s : Settings) → AreSound s → 0 < s.numbers.block_size
 block_size-some s h =
     let tests = number_tests Wide s.numbers ++ tenant_tests s.numbers.blocks s.tenants in
     let holds : NoneHolds tests = none_holds tests h in
-    some s.numbers.block_size 65536 holds.1.0
+    some s.numbers.block_size 1048576 holds.1.0
   where
     some : (n most : ℕ) → is_outside n most ≡ false → 0 < n
     some n most test = grind (arith, nat_tests)

@@ -13,7 +13,7 @@ use Rattle.upload_book.specs.declared.head_row.HeadRow.{HeadRow}
 use Rattle.upload_book.specs.declared.parts_seen.PartsSeen.{PartsSeen}
 use Rattle.upload_book.specs.declared.pieces.UnheldPiece.{UnheldPiece}
 use Rattle.upload_book.specs.declared.progress.Progress.{Progress}
-use Rattle.upload_book.specs.inside.Progress.{progress_in}
+use Rattle.upload_book.specs.Progress.{progress_in}
 use Rattle.upload_book.specs.BlockStore.{BlockStore, entry_at, part_at, pieces_named as pieces_at, rows_at, stored_tenant_at, upload_at}
 use Rattle.upload_book.specs.inside.Places.{IsPartIn}
 use Rattle.upload_book.specs.declared.head_row.Kind.{Kind}

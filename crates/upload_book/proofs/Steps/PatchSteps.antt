@@ -20,7 +20,7 @@ use Rattle.upload_book.specs.declared.refusal.Refusal.TheVariants.{Memory}
 use Rattle.upload_book.specs.declared.settings.Numbers.{Numbers}
 use Rattle.upload_book.specs.declared.progress.Progress.{Progress}
 use Rattle.upload_book.specs.PlainBook.{book_after, tenant_book, with_tenant_book}
-use Rattle.upload_book.specs.inside.Progress.{row_at, progress_in}
+use Rattle.upload_book.specs.Progress.{row_at, progress_in}
 use Rattle.upload_book.specs.BlockStore.{BlockStore, plain_in, part_at, entry_at, upload_at}
 use Rattle.upload_book.specs.inside.Places.{IsAlone, IsVisibleIn, with_bytes, with_upload}
 use Rattle.upload_book.specs.TenantBook.{TenantBook, Entry, visible_upload, with_changed}
@@ -239,6 +239,16 @@ module _ {b w : StoredBook} {t id place now : ℕ} {chunk : Chunk} {tenant : ℕ
   -- how far it is afterwards
   pub read-after : (after : Progress) → after ≡ progress_in (row_with numbers (row_at progress) chunk now) → after ≡ progress_in (row_with b.settings.numbers (head_row_of (upload_at b.store t place)) chunk now)
   read-after after is = after-read b t tenant place chunk now numbers progress after r.numbers_read r.at r.progress_read is
+
+  -- when it expires
+  pub read-expires : progress.expires ≡ (upload_at b.store t place).expires
+  read-expires = ap (λ (s : Progress). s.expires) read-progress
+
+  -- what the bytes cost
+  pub read-cost : (len cost : ℕ) → len ≡ length chunk.bytes → cost ≡ blocks_added numbers progress.offset len → cost ≡ blocks_added b.settings.numbers (offset_of (upload_at b.store t place)) (length chunk.bytes)
+  read-cost len cost len-is is =
+      is ∙ ap (λ (n : Numbers). blocks_added n progress.offset len) r.numbers_read ∙ ap (λ (s : Progress). blocks_added b.settings.numbers s.offset len) read-progress
+      ∙ ap (λ len. blocks_added b.settings.numbers (offset_of (upload_at b.store t place)) len) len-is
 
   -- all that is to come of a PATCH that is not refused ends within the greatest size
   pub read-end : append_refusal b.settings.numbers (account_at b t) (head_row_of (upload_at b.store t place)) chunk ≡ None → progress.offset + count_all chunk ≤ 1099511627776

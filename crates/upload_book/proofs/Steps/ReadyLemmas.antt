@@ -2,20 +2,20 @@
 use Rattle.std.proofs.Common.{◌≡◌, ◌<◌, length, get_or, None, Ok, ap, ap₂, sym, ◌∙◌, arith}
 use Rattle.std.proofs.Math.ListN.{get_or-map, length-map}
 use Rattle.block_bodies.specs.Bodies.{HasRoom}
-use Rattle.upload_book.specs.Account.{account_in}
+use Rattle.upload_book.specs.Account.{account_in, blocks_added}
 use Rattle.upload_book.specs.Append.{append_refusal, row_with}
 use Rattle.upload_book.specs.Book.{StoredBook, plain_of}
 use Rattle.upload_book.specs.Chunk.{count_all}
 use Rattle.upload_book.specs.declared.ready.ReadyChunk.{ReadyChunk}
 use Rattle.upload_book.specs.PlainBook.{PlainBook, tenant_book}
 use Rattle.upload_book.specs.Ready.{IsReadyForChunk}
-use Rattle.upload_book.specs.inside.Progress.{progress_in}
+use Rattle.upload_book.specs.Progress.{progress_in}
 use Rattle.upload_book.specs.BlockStore.{entry_at, no_upload, part_at, stored_tenant_at, upload_at}
 use Rattle.upload_book.specs.inside.Places.{IsVisibleIn}
 use Rattle.upload_book.specs.Stored.{entry_of}
 use Rattle.upload_book.specs.inside.Pieces.{own_chain}
 use Rattle.upload_book.specs.TenantBook.{Entry, TenantBook, visible_upload}
-use Rattle.upload_book.specs.Upload.{Upload, head_row_of}
+use Rattle.upload_book.specs.Upload.{Upload, head_row_of, offset_of}
 use Rattle.upload_book.proofs.Steps.BookSteps.{part-plain}
 
 module _ (b later : StoredBook) (r : ReadyChunk) (same : plain_of later ≡ plain_of b) where
@@ -43,14 +43,18 @@ module _ (b later : StoredBook) (r : ReadyChunk) (same : plain_of later ≡ plai
   -- what was found of the book before, and the room
   pub ready-later : r.name.tenant < length b.settings.tenants → IsVisibleIn b.store r.name.tenant r.name.id r.now r.place
       → append_refusal b.settings.numbers (account_in b.settings.numbers (tenant_book (plain_of b) r.name.tenant) b.charged) (head_row_of (upload_at b.store r.name.tenant r.place)) r.chunk ≡ None
+      → r.expires ≡ (upload_at b.store r.name.tenant r.place).expires
       → r.after ≡ progress_in (row_with b.settings.numbers (head_row_of (upload_at b.store r.name.tenant r.place)) r.chunk r.now)
+      → r.cost ≡ blocks_added b.settings.numbers (offset_of (upload_at b.store r.name.tenant r.place)) (length r.chunk.bytes)
       → (0 < count_all r.chunk → HasRoom later.store.pool (own_chain (entry_at later.store r.name.tenant r.place).kept.pieces) (count_all r.chunk))
       → IsReadyForChunk later r
-  ready-later there seen accepted after room = record {
+  ready-later there seen accepted expires after cost room = record {
     there = omega (arith, there, ap (λ (p : PlainBook). length p.settings.tenants) same);
     seen = same_seen seen;
     accepted =
         ap₂ (λ (p : PlainBook) (u : Upload). append_refusal p.settings.numbers (account_in p.settings.numbers (tenant_book p r.name.tenant) p.charged) (head_row_of u) r.chunk) same same_upload ∙ accepted;
+    expires = expires ∙ sym (ap (λ (u : Upload). u.expires) same_upload);
     after = after ∙ sym (ap₂ (λ (p : PlainBook) (u : Upload). progress_in (row_with p.settings.numbers (head_row_of u) r.chunk r.now)) same same_upload);
+    cost = cost ∙ sym (ap₂ (λ (p : PlainBook) (u : Upload). blocks_added p.settings.numbers (offset_of u) (length r.chunk.bytes)) same same_upload);
     room = room;
   }

@@ -3,8 +3,8 @@
 use crate::tests::books::{ACME, HELLO, NOTHING, acme, create, moment, new_book, new_upload};
 use std::alloc::Global;
 use std::process::Abort;
-use tus_text::{Checksum, Text};
-use upload_book::{Change, Chunk, FirstChunk, HeadRow, Kind, Payload, Refusal};
+use tus_text::Checksum;
+use upload_book::{Change, Chunk, FirstChunk, Kind, Payload, Progress, Refusal};
 use worked_example::NUMBERS;
 
 #[test]
@@ -84,21 +84,15 @@ fn a_digest_may_be_computed_before(rt: HostRuntime) {
     }
 }
 
-// What a HEAD tells of an upload without texts.
-fn row(kind: Kind, offset: u64, declared: Option<u64>) -> HeadRow {
-    HeadRow {
+// Why a chunk is refused at an upload that is so far.
+fn refused_at(chunk: &Chunk, kind: Kind, offset: u64, declared: Option<u64>) -> Option<Refusal> {
+    let progress = Progress {
         kind,
         offset,
         declared,
-        metadata: Text::empty(),
-        concat: Text::empty(),
         expires: None,
-    }
-}
-
-// Why a chunk is refused at an upload that is so far.
-fn refused_at(chunk: &Chunk, kind: Kind, offset: u64, declared: Option<u64>) -> Option<Refusal> {
-    chunk.refusal_by_row(&NUMBERS, &row(kind, offset, declared))
+    };
+    chunk.refusal_by_row(&NUMBERS, &progress)
 }
 
 // A checksum that is not that of the bytes is not looked at.

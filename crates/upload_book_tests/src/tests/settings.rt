@@ -95,18 +95,30 @@ static ACCEPTED: [Numbers; 3] = [
     },
 ];
 
-// The greatest size of an upload, and the fault of settings with it under the wide bounds.
-static WIDE: [(u64, Option<SettingsFault>); 4] = [
-    (0, Some(SettingsFault::MaxSize)),
-    (16_777_217, None),
-    (1_099_511_627_776, None),
-    (1_099_511_627_777, Some(SettingsFault::MaxSize)),
+// Blocks, bytes of a block and the greatest size of an upload, and the fault of settings with them under the wide bounds.
+static WIDE: [(u64, u64, u64, Option<SettingsFault>); 9] = [
+    (1_048_577, 65_537, 16_777_217, None),
+    (4_294_967_295, 4_096, 1_099_511_627_776, None),
+    (16_777_216, 1_048_576, 1, None),
+    (0, 1, 1, Some(SettingsFault::Blocks)),
+    (4_294_967_296, 1, 1, Some(SettingsFault::Blocks)),
+    (1, 1_048_577, 1, Some(SettingsFault::BlockSize)),
+    (16_777_217, 1_048_576, 1, Some(SettingsFault::PoolBytes)),
+    (1_048_576, 1, 0, Some(SettingsFault::MaxSize)),
+    (
+        1_048_576,
+        1,
+        1_099_511_627_777,
+        Some(SettingsFault::MaxSize),
+    ),
 ];
 
 #[test]
-fn sizes_under_the_wide_bounds(rt: HostRuntime) {
-    for (place, (max_size, fault)) in WIDE.iter().enumerate() {
+fn settings_under_the_wide_bounds(rt: HostRuntime) {
+    for (place, (blocks, block_size, max_size, fault)) in WIDE.iter().enumerate() {
         let numbers = Numbers {
+            blocks: *blocks,
+            block_size: *block_size,
             max_size: *max_size,
             ..GREATEST
         };

@@ -1,5 +1,6 @@
 use Rattle.std.proofs.Common.{sym, subst}
 use Rattle.left_right.specs.Sides.{view}
+use Rattle.head_board.specs.Board.{row_read}
 use Rattle.head_board.specs.inside.Showing.{IsFound}
 use Rattle.head_board.proofs.ReaderLemmas.{found-log, found-right}
 use Rattle.head_board.proofs.head_reader.read_head.Goals as goal
@@ -15,4 +16,4 @@ returns-in-Ok-clause-found c =
     let v = view c.args.seat.reader.place in
     let query = c.args.query in
     let found = c.found_on-found in
-    found-right v c.get.result.now query.seen query.name query.moment found.result c.found_on-found.new.row c.requires.knows c.requires.log (subst (IsFound v query.seen) (sym c.get.ensures) c.in-Ok.ensures.found) found.ensures.seen found.ensures.row
+    found-right v c.get.result.now query.seen found.result.seen query.name query.moment (row_read found.result.read c.found_on-found.new.row) c.requires.knows c.requires.log (subst (IsFound v query.seen) (sym c.get.ensures) c.in-Ok.ensures.found) found.ensures.seen found.ensures.row

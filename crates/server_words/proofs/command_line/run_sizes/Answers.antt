@@ -23,7 +23,7 @@ uploads = option_rule (codes "uploads") (codes "64") 18446744073709551615
 pub returns : goal.returns
 returns c =
     let one = added _ _ _ blocks c.in_ok-arg.ensures c.run_blocks.ensures.local c.run_blocks.ensures.rule in
-    let two = added _ _ _ block_size c.in_ok-arg-2.ensures c.block_size.ensures.local c.block_size.ensures.rule ∙ ap (λ (a : App). with_rule a block_size) one in
+    let two = added _ _ _ block_size c.in_ok-arg-2.ensures c.run_block_size.ensures.local c.run_block_size.ensures.rule ∙ ap (λ (a : App). with_rule a block_size) one in
     let three = added _ _ _ lifetime c.in_ok-arg-3.ensures c.lifetime.ensures.local c.lifetime.ensures.rule ∙ ap (λ (a : App). with_rule a lifetime) two in
     let four = added _ _ _ max_size c.in_ok-arg-4.ensures c.run_max_size.ensures.local c.run_max_size.ensures.rule ∙ ap (λ (a : App). with_rule a max_size) three in
     IfOk-weaker c.arg-5.result _ _ (λ r h. added _ _ r uploads h c.uploads.ensures.local c.uploads.ensures.rule ∙ ap (λ (a : App). with_rule a uploads) four) c.arg-5.ensures

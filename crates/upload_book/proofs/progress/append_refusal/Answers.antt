@@ -1,6 +1,6 @@
 use Rattle.std.proofs.Common.{sym, ◌∙◌}
 use Rattle.upload_book.specs.Append.{tests_by_bytes, tests_by_row}
-use Rattle.upload_book.specs.inside.Progress.{row_at}
+use Rattle.upload_book.specs.Progress.{row_at}
 use Rattle.upload_book.proofs.Lawful.FirstRefusal.{first-of-both}
 use Rattle.upload_book.proofs.progress.append_refusal.Goals as goal
 

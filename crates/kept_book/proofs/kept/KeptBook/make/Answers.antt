@@ -8,7 +8,7 @@ use Rattle.upload_book.specs.Book.{plain_of}
 use Rattle.upload_book.specs.Change.{book_after_change}
 use Rattle.kept_book.specs.Kept.{book_in, IsRecordLog}
 use Rattle.kept_book.proofs.KeptLemmas.{kept-leaves, kept-made, kept-stays, left-kept, same-log}
-use Rattle.kept_book.proofs.ReadyLemmas.{accepted-as, happens-ready}
+use Rattle.kept_book.proofs.ReadyLemmas.{accepted-as, happens-ready, lacking-as}
 use Rattle.kept_book.proofs.kept.KeptBook.make.Goals as goal
 
 pub returns-in-Err-clause-crash : goal.returns-in-Err-clause-crash
@@ -17,7 +17,7 @@ returns-in-Err-clause-crash g c = λ s events is left may.
 
 pub returns-then-not-is_framed-clause-done : goal.returns-then-not-is_framed-clause-done
 returns-then-not-is_framed-clause-done g c =
-    (accepted-as (book_in c.args.self.now) c.prepare.new.self c.in-Ok.ready c.args.change c.args.now c.prepare.ensures.plain c.in-Ok.ensures.change c.in-Ok.ensures.now c.in-Ok.ensures.ready, c.refused_for_memory-lacking.ensures, c.prepare.ensures.plain)
+    (accepted-as (book_in c.args.self.now) c.prepare.new.self c.in-Ok.ready c.args.change c.args.now c.prepare.ensures.plain c.in-Ok.ensures.change c.in-Ok.ensures.now c.in-Ok.ensures.ready, lacking-as (book_in c.args.self.now) c.prepare.new.self c.in-Ok.ready c.args.change c.args.now c.refused_for_memory.result c.prepare.ensures.plain c.in-Ok.ensures.change c.in-Ok.ensures.now c.refused_for_memory.ensures, c.prepare.ensures.plain)
 
 pub returns-then-not-is_framed-clause-kept : goal.returns-then-not-is_framed-clause-kept
 returns-then-not-is_framed-clause-kept g c = λ s events is.
@@ -38,7 +38,7 @@ returns-in_err-keep-clause-crash g c = λ s events is left may.
 
 pub returns-then-not-branch-clause-done : goal.returns-then-not-branch-clause-done
 returns-then-not-branch-clause-done g c =
-    (accepted-as (book_in c.args.self.now) c.prepare.new.self c.in-Ok.ready c.args.change c.args.now c.prepare.ensures.plain c.in-Ok.ensures.change c.in-Ok.ensures.now c.in-Ok.ensures.ready, c.refused_for_memory-lacking.ensures, c.prepare.ensures.plain)
+    (accepted-as (book_in c.args.self.now) c.prepare.new.self c.in-Ok.ready c.args.change c.args.now c.prepare.ensures.plain c.in-Ok.ensures.change c.in-Ok.ensures.now c.in-Ok.ensures.ready, lacking-as (book_in c.args.self.now) c.prepare.new.self c.in-Ok.ready c.args.change c.args.now c.refused_for_memory-then-not-branch.result c.prepare.ensures.plain c.in-Ok.ensures.change c.in-Ok.ensures.now c.refused_for_memory-then-not-branch.ensures, c.prepare.ensures.plain)
 
 pub returns-then-not-branch-clause-kept : goal.returns-then-not-branch-clause-kept
 returns-then-not-branch-clause-kept g c = λ s events is.

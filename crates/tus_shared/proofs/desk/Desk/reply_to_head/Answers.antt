@@ -1,7 +1,7 @@
 use Rattle.std.proofs.Common.{Ok, Err, ap, inl, inr}
 use Rattle.tus_steps.specs.PlacedReply.{reply_in}
 use Rattle.tus_shared.specs.Desk.{Desk}
-use Rattle.tus_shared.proofs.HeadLemmas.{head-answers, head-turn, looks-at, sees-first}
+use Rattle.tus_shared.proofs.HeadLemmas.{head-answers, head-turn, missed-looks, sees-first}
 use Rattle.tus_shared.proofs.desk.Desk.reply_to_head.Goals as goal
 
 pub returns-in-Some-Ok : goal.returns-in-Some-Ok
@@ -31,8 +31,7 @@ returns-in-None g c =
     let s = g.C.Charges.settings in
     let r = c.args.request.now in
     let name = c.args.name in
-    let read = c.read_board.ensures in
-    let looks = looks-at s name c.args.now c.read_board.result c.read_board.new.row c.args.self.now c.read_board.new.self read.reads read.sees read.misses in
+    let looks = missed-looks c.args.self.now c.read_board.new.self c.in-None.ensures.misses in
     head-turn s r c.args.now name _ c.args.self.now c.answer_locked.new.self c.requires.found.is
     (sees-first s r c.args.now (reply_in c.answer_locked.new.reply) c.args.self.now c.read_board.new.self c.answer_locked.new.self looks c.answer_locked.ensures.answers)
     (inr (c.answer_locked.ensures.missed (ap (λ (d : Desk). d.missed) c.in-None.ensures.misses)))

@@ -90,8 +90,8 @@ returns-then-is_err-clause-done g c =
     let given = frame-given c.args.frame (λ f. f.items) g.C.Charges.journal c.desk.inside.number c.args.change c.args.now c.requires.frame in
     let unqueued = framed-why g.C.Charges.journal c.desk.inside.journal (event_by c.desk.inside.number c.args.change c.args.now) why.0 _ c.self.inside.queue c.queue_frame.new.queue c.desk.inside.room c.spare_for-spare.result c.queue_frame.new.room framed given c.spare_for-spare.ensures c.desk.invariant.journal_is in
     let q : Queueing = record { journal = c.desk.inside.journal; frame = option_map (λ f. f.items) c.args.frame; room = c.desk.inside.room } in
-    let told = subst (λ (b : PlainBook). Err c.refused_for_memory-unkept.result ≡ change_lacking b c.args.change c.args.now) c.self.invariant.0.at.is c.refused_for_memory-unkept.ensures in
-    rw (← c.self.view_is, ← c.desk.view_is) (done-unkept q b events c.desk.inside.number c.args.change c.args.now c.refused_for_memory-unkept.result (record { journalled = journalled; accepted = accepted; why = why.0; unqueued = unqueued }) told)
+    let told : Err c.refused_for_memory.result ≡ change_lacking b c.args.change c.args.now = rw (c.prepare.ensures.plain, c.self.invariant.0.at.is, c.in-Ok.ensures.change, c.in-Ok.ensures.now) at c.refused_for_memory.ensures in
+    rw (← c.self.view_is, ← c.desk.view_is) (done-unkept q b events c.desk.inside.number c.args.change c.args.now c.refused_for_memory.result (record { journalled = journalled; accepted = accepted; why = why.0; unqueued = unqueued }) told)
 
 pub returns-then-is_err-clause-moves : goal.returns-then-is_err-clause-moves
 returns-then-is_err-clause-moves g c = rw (← c.self.view_is, ← c.desk.view_is) (record { number = refl; journal = refl; kept = refl; charged = refl; released = refl; made = refl })

@@ -8,7 +8,7 @@ use Rattle.upload_book.proofs.Store.StoreOpen.{IsKept-opening}
 use Rattle.upload_book.proofs.block_store.BlockStore.new.Goals as goal
 
 -- a free pool has as many blocks as were asked for
-few : (n size : ℕ) (p : Blocks) → p ≡ all_free n size → n ≤ 1048576 → size_of p < 2 ^ 64
+few : (n size : ℕ) (p : Blocks) → p ≡ all_free n size → n ≤ 4294967295 → size_of p < 2 ^ 64
 few n size p is most = rw is (omega (arith, length-replicate n free_block))
 
 pub invariant_of-result : goal.invariant_of-result

@@ -1,5 +1,5 @@
 use Rattle.std.proofs.Common.{sym, ap, ◌∙◌}
-use Rattle.upload_book.specs.inside.Progress.{progress_in}
+use Rattle.upload_book.specs.Progress.{progress_in}
 use Rattle.upload_book.specs.Upload.{head_row_of}
 use Rattle.upload_book.proofs.Store.StoreLemmas.{IsPart-read, IsEntry-read, reads-entry, upload_at-read}
 use Rattle.upload_book.proofs.block_store.BlockStore.progress.Goals as goal

@@ -42,37 +42,37 @@ stored_tenant_there : (b : StoredBook) (r : ReadyChunk) → IsBook b → IsReady
 stored_tenant_there b r kept ready = omega (arith, ready.there, stored_tenants-settings b kept)
 
 -- the upload gets the end after the PATCH
-renewed_to : (b : StoredBook) (r : ReadyChunk) (tenant : ℕ) (before : Option ℕ) → IsBook b → IsReadyForChunk b r → tenant ≡ r.name.tenant → before ≡ (upload_at b.store tenant r.place).expires
-    → IsRenewed (plain_of b) b.expiries.list r.name.tenant r.name.id (with_changed (tenant_book (plain_of b) r.name.tenant) r.name.id (upload_with b.settings.numbers (upload_at b.store r.name.tenant r.place) r.chunk r.now)) before r.after.expires
-renewed_to b r tenant before kept ready at was =
+renewed_to : (b : StoredBook) (r : ReadyChunk) → IsBook b → IsReadyForChunk b r
+    → IsRenewed (plain_of b) b.expiries.list r.name.tenant r.name.id (with_changed (tenant_book (plain_of b) r.name.tenant) r.name.id (upload_with b.settings.numbers (upload_at b.store r.name.tenant r.place) r.chunk r.now)) r.expires r.after.expires
+renewed_to b r kept ready =
     let changed = with_changed (tenant_book (plain_of b) r.name.tenant) r.name.id (upload_with b.settings.numbers (upload_at b.store r.name.tenant r.place) r.chunk r.now) in
-    subst (λ before. IsRenewed (plain_of b) b.expiries.list r.name.tenant r.name.id changed before r.after.expires) (sym (was ∙ ap (λ t. (upload_at b.store t r.place).expires) at))
+    subst (λ before. IsRenewed (plain_of b) b.expiries.list r.name.tenant r.name.id changed before r.after.expires) (sym ready.expires)
     (subst (λ (after : Progress). IsRenewed (plain_of b) b.expiries.list r.name.tenant r.name.id changed (upload_at b.store r.name.tenant r.place).expires after.expires) (sym ready.after)
     (patch-renewed b r.name.tenant r.name.id r.place r.now r.chunk kept (stored_tenant_there b r kept ready) ready.seen ready.accepted))
 
 pub set_end-requires-clause-known : goal.set_end-requires-clause-known
 set_end-requires-clause-known c =
     let b = the_view c.self.inside in
-    renewed-known (renewed_to b c.args.ready c.from-tenant.result c.expires-before.result c.self.invariant (ready_as b c.args.self.now c.args.ready c.self.view_is c.requires) c.from-tenant.ensures c.expires-before.ensures)
+    renewed-known (renewed_to b c.args.ready c.self.invariant (ready_as b c.args.self.now c.args.ready c.self.view_is c.requires))
 
 pub set_end-requires-clause-room : goal.set_end-requires-clause-room
 set_end-requires-clause-room c =
     let b = the_view c.self.inside in
     subst (λ n. length b.expiries.list ≤ n) (expiries-room_is b c.self.invariant)
-    (renewed-few (renewed_to b c.args.ready c.from-tenant.result c.expires-before.result c.self.invariant (ready_as b c.args.self.now c.args.ready c.self.view_is c.requires) c.from-tenant.ensures c.expires-before.ensures))
+    (renewed-few (renewed_to b c.args.ready c.self.invariant (ready_as b c.args.self.now c.args.ready c.self.view_is c.requires)))
 
 pub set_end-requires-clause-more : goal.set_end-requires-clause-more
 set_end-requires-clause-more c =
     let b = the_view c.self.inside in
     λ none some. subst (λ n. length b.expiries.list < n) (expiries-room_is b c.self.invariant)
-    (renewed-room (renewed_to b c.args.ready c.from-tenant.result c.expires-before.result c.self.invariant (ready_as b c.args.self.now c.args.ready c.self.view_is c.requires) c.from-tenant.ensures c.expires-before.ensures) none some)
+    (renewed-room (renewed_to b c.args.ready c.self.invariant (ready_as b c.args.self.now c.args.ready c.self.view_is c.requires)) none some)
 
 -- the list is that of the book after the PATCH
-index : (b : StoredBook) (r : ReadyChunk) (tenant : ℕ) (before : Option ℕ) (e : ExpiryList) → IsBook b → IsReadyForChunk b r → tenant ≡ r.name.tenant → before ≡ (upload_at b.store tenant r.place).expires
-    → ((ends : Ends) → AreExpiring ends b.expiries.list → ends r.name ≡ before → AreExpiring (with_end ends r.name r.after.expires) e.list) → e.room ≡ b.expiries.room
+index : (b : StoredBook) (r : ReadyChunk) (e : ExpiryList) → IsBook b → IsReadyForChunk b r
+    → ((ends : Ends) → AreExpiring ends b.expiries.list → ends r.name ≡ r.expires → AreExpiring (with_end ends r.name r.after.expires) e.list) → e.room ≡ b.expiries.room
     → IsIndex b r.name.tenant (with_changed (tenant_book (plain_of b) r.name.tenant) r.name.id (upload_with b.settings.numbers (upload_at b.store r.name.tenant r.place) r.chunk r.now)) e
-index b r tenant before e kept ready at was ends room =
-    let renewed = renewed_to b r tenant before kept ready at was in
+index b r e kept ready ends room =
+    let renewed = renewed_to b r kept ready in
     record { expiries = AreExpiries-renewed renewed e.list (ends (ends_of (plain_of b)) kept.expiries renewed.was); room = room }
 
 pub invariant_of-self : goal.invariant_of-self
@@ -84,7 +84,7 @@ invariant_of-self c =
     let bytes : c.as_slice-bytes.result.now ≡ r.chunk.bytes = c.as_slice-bytes.ensures ∙ ap (λ (chunk : Chunk). chunk.bytes) c.chunk.view_is in
     let empty : [] ≡ r.chunk.bytes = sym (no_bytes c.as_slice-bytes.result.now c.is_empty.result c.is_empty.ensures c.if-is_empty.true) ∙ bytes in
     let follows = patch-follows b r.name.tenant r.name.id r.place r.now r.chunk c.self.invariant within ready.seen ready.accepted c.renew.new.self [] r.after empty ready.after (rw c.from-tenant.ensures at c.renew.ensures.plain) (record { blocks = ap size_of c.renew.ensures.pool; bytes = ap (λ (p : Blocks). p.block_size) c.renew.ensures.pool }) c.renew.ensures.room_stays in
-    IsBook-patch b r.name.tenant r.name.id r.place r.now r.chunk c.self.invariant within ready.seen ready.accepted c.renew.new.self b.charged c.set_end.new.self follows (patch-free b r.name.tenant r.name.id r.place r.now r.chunk c.self.invariant within ready.seen ready.accepted (sym empty)) (index b r c.from-tenant.result c.expires-before.result c.set_end.new.self c.self.invariant ready c.from-tenant.ensures c.expires-before.ensures c.set_end.ensures.ends c.set_end.ensures.room_stays)
+    IsBook-patch b r.name.tenant r.name.id r.place r.now r.chunk c.self.invariant within ready.seen ready.accepted c.renew.new.self b.charged c.set_end.new.self follows (patch-free b r.name.tenant r.name.id r.place r.now r.chunk c.self.invariant within ready.seen ready.accepted (sym empty)) (index b r c.set_end.new.self c.self.invariant ready c.set_end.ensures.ends c.set_end.ensures.room_stays)
 
 pub returns-then-is_empty-clause-answer : goal.returns-then-is_empty-clause-answer
 returns-then-is_empty-clause-answer c =
@@ -153,7 +153,7 @@ invariant_of-self-2 c =
     let bytes : c.as_slice-bytes.result.now ≡ r.chunk.bytes = c.as_slice-bytes.ensures ∙ ap (λ (chunk : Chunk). chunk.bytes) c.chunk.view_is in
     let follows = patch-follows b r.name.tenant r.name.id r.place r.now r.chunk c.self.invariant within ready.seen ready.accepted c.put.new.self c.as_slice-bytes.result.now r.after bytes ready.after (rw c.from-tenant.ensures at c.put.ensures.plain) c.put.ensures.sizes c.put.ensures.room_stays in
     let charged = ap (λ n. b.charged + n) (patch-taken b r.name.tenant r.name.id r.place r.now r.chunk c.self.invariant within ready.seen ready.accepted c.from-tenant.result c.put.result c.as_slice-bytes.result.now c.from-tenant.ensures bytes c.put.ensures.taken) in
-    IsBook-patch b r.name.tenant r.name.id r.place r.now r.chunk c.self.invariant within ready.seen ready.accepted c.put.new.self (b.charged + c.put.result) c.set_end.new.self follows charged (index b r c.from-tenant.result c.expires-before.result c.set_end.new.self c.self.invariant ready c.from-tenant.ensures c.expires-before.ensures c.set_end.ensures.ends c.set_end.ensures.room_stays)
+    IsBook-patch b r.name.tenant r.name.id r.place r.now r.chunk c.self.invariant within ready.seen ready.accepted c.put.new.self (b.charged + c.put.result) c.set_end.new.self follows charged (index b r c.set_end.new.self c.self.invariant ready c.set_end.ensures.ends c.set_end.ensures.room_stays)
 
 pub returns-clause-answer : goal.returns-clause-answer
 returns-clause-answer c =

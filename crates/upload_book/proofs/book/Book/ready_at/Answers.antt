@@ -11,7 +11,7 @@ use Rattle.upload_book.specs.Ready.{IsReadyForChunk}
 use Rattle.upload_book.specs.BlockStore.{entry_at}
 use Rattle.upload_book.specs.inside.Pieces.{own_chain}
 use Rattle.upload_book.proofs.Steps.BookLemmas.{book_with}
-use Rattle.upload_book.proofs.Steps.PatchSteps.{IsRead, all-room, patch-alone, patch-lacking, patch-lacks, patch-refused, read-after, read-end, read-refusal, read-seen, read-progress, read-within}
+use Rattle.upload_book.proofs.Steps.PatchSteps.{IsRead, all-room, patch-alone, patch-lacking, patch-lacks, patch-refused, read-after, read-cost, read-end, read-expires, read-refusal, read-seen, read-progress, read-within}
 use Rattle.upload_book.proofs.Steps.ReadyLemmas.{ready-later}
 use Rattle.upload_book.proofs.book.Book.ready_at.Goals.{else-count-gt0-via-then-count-gt0+else-is_err, else-count-gt0-via-else-count-gt0}
 use Rattle.upload_book.proofs.book.Book.ready_at.Goals as goal
@@ -41,7 +41,7 @@ overflow_add-count c =
     let r : IsRead b c.args.self.now name.tenant name.id c.args.place c.args.now c.args.chunk c.from-tenant.result c.numbers-numbers.result.now c.account-account.result c.progress-progress.result =
     record { kept = c.self.invariant; is = c.self.view_is; there = c.requires.tenant; seen = c.requires.visible; at = c.from-tenant.ensures; numbers_read = c.numbers-numbers.ensures.value; account_read = c.account-account.ensures; progress_read = c.progress-progress.ensures } in
     let none = read-refusal r c.append_refusal.result None c.append_refusal.ensures c.in_default.is in
-    let count : c.len.result + c.chunk.inside.more ≡ count_all c.args.chunk = omega (arith, c.len.ensures.value, ap (λ (chunk : Chunk). length chunk.bytes) c.chunk.view_is, ap (λ (chunk : Chunk). chunk.more) c.chunk.view_is) in
+    let count : c.len-len.result + c.chunk.inside.more ≡ count_all c.args.chunk = omega (arith, c.len-len.ensures.value, ap (λ (chunk : Chunk). length chunk.bytes) c.chunk.view_is, ap (λ (chunk : Chunk). chunk.more) c.chunk.view_is) in
     omega (arith, read-end r none, count)
 
 pub reserve-requires-clause-alone : goal.reserve-requires-clause-alone
@@ -51,7 +51,7 @@ reserve-requires-clause-alone c =
     let r : IsRead b c.args.self.now name.tenant name.id c.args.place c.args.now c.args.chunk c.from-tenant.result c.numbers-numbers.result.now c.account-account.result c.progress-progress.result =
     record { kept = c.self.invariant; is = c.self.view_is; there = c.requires.tenant; seen = c.requires.visible; at = c.from-tenant.ensures; numbers_read = c.numbers-numbers.ensures.value; account_read = c.account-account.ensures; progress_read = c.progress-progress.ensures } in
     let none = read-refusal r c.append_refusal.result None c.append_refusal.ensures c.in_default.is in
-    let count : c.len.result + c.chunk.inside.more ≡ count_all c.args.chunk = omega (arith, c.len.ensures.value, ap (λ (chunk : Chunk). length chunk.bytes) c.chunk.view_is, ap (λ (chunk : Chunk). chunk.more) c.chunk.view_is) in
+    let count : c.len-len.result + c.chunk.inside.more ≡ count_all c.args.chunk = omega (arith, c.len-len.ensures.value, ap (λ (chunk : Chunk). length chunk.bytes) c.chunk.view_is, ap (λ (chunk : Chunk). chunk.more) c.chunk.view_is) in
     let some : 0 < count_all c.args.chunk = subst (λ n. 0 < n) count c.if-count-gt0.true in
     rw c.from-tenant.ensures (patch-alone b name.tenant name.id c.args.place c.args.now c.args.chunk c.self.invariant (read-within r) (read-seen r) none some)
 
@@ -62,7 +62,7 @@ reserve-requires-clause-room c =
     let r : IsRead b c.args.self.now name.tenant name.id c.args.place c.args.now c.args.chunk c.from-tenant.result c.numbers-numbers.result.now c.account-account.result c.progress-progress.result =
     record { kept = c.self.invariant; is = c.self.view_is; there = c.requires.tenant; seen = c.requires.visible; at = c.from-tenant.ensures; numbers_read = c.numbers-numbers.ensures.value; account_read = c.account-account.ensures; progress_read = c.progress-progress.ensures } in
     let none = read-refusal r c.append_refusal.result None c.append_refusal.ensures c.in_default.is in
-    let count : c.len.result + c.chunk.inside.more ≡ count_all c.args.chunk = omega (arith, c.len.ensures.value, ap (λ (chunk : Chunk). length chunk.bytes) c.chunk.view_is, ap (λ (chunk : Chunk). chunk.more) c.chunk.view_is) in
+    let count : c.len-len.result + c.chunk.inside.more ≡ count_all c.args.chunk = omega (arith, c.len-len.ensures.value, ap (λ (chunk : Chunk). length chunk.bytes) c.chunk.view_is, ap (λ (chunk : Chunk). chunk.more) c.chunk.view_is) in
     rw (c.from-tenant.ensures, count) (all-room b name.tenant name.id c.args.place c.args.now c.args.chunk c.self.invariant (read-within r) (read-seen r) none)
 
 -- what holds of an error holds where there is one
@@ -83,10 +83,10 @@ returns-then-is_err-clause-refused c =
     record { kept = c.self.invariant; is = c.self.view_is; there = c.requires.tenant; seen = c.requires.visible; at = c.from-tenant.ensures; numbers_read = c.numbers-numbers.ensures.value; account_read = c.account-account.ensures; progress_read = c.progress-progress.ensures } in
     let none = read-refusal r c.append_refusal.result None c.append_refusal.ensures c.in_default.is in
     let after = read-after r c.with-after.result c.with-after.ensures in
-    let count : c.len.result + c.chunk.inside.more ≡ count_all c.args.chunk = omega (arith, c.len.ensures.value, ap (λ (chunk : Chunk). length chunk.bytes) c.chunk.view_is, ap (λ (chunk : Chunk). chunk.more) c.chunk.view_is) in
+    let count : c.len-len.result + c.chunk.inside.more ≡ count_all c.args.chunk = omega (arith, c.len-len.ensures.value, ap (λ (chunk : Chunk). length chunk.bytes) c.chunk.view_is, ap (λ (chunk : Chunk). chunk.more) c.chunk.view_is) in
     let lacks = of_err c.reserve.result c.is_err.result c.is_err.ensures.value c.if-is_err.true c.reserve.ensures.memory in
     let refused : Progress → Refused = λ s. record { refusal = Memory; expires = s.expires } in
-    inr (rw (← c.self.view_is) (patch-lacks b name.tenant name.id c.args.place c.args.now c.args.chunk c.self.invariant (read-within r) (read-seen r) none c.with-after.result c.from-tenant.result _ after c.from-tenant.ensures count lacks, ap (λ s. Err (refused s)) (read-progress r) ∙ sym (patch-lacking b name.tenant name.id c.args.place c.args.now c.args.chunk c.self.invariant (read-within r) (read-seen r))))
+    inr (rw (← c.self.view_is) (patch-lacks b name.tenant name.id c.args.place c.args.now c.args.chunk c.self.invariant (read-within r) (read-seen r) none c.with-after.result c.from-tenant.result _ after c.from-tenant.ensures count lacks, ap Err (c.refused_for_memory.ensures ∙ ap refused (read-progress r)) ∙ sym (patch-lacking b name.tenant name.id c.args.place c.args.now c.args.chunk c.self.invariant (read-within r) (read-seen r))))
 
 pub returns-clause-ready : goal.returns-clause-ready
 returns-clause-ready c =
@@ -96,8 +96,9 @@ returns-clause-ready c =
     record { kept = c.self.invariant; is = c.self.view_is; there = c.requires.tenant; seen = c.requires.visible; at = c.from-tenant.ensures; numbers_read = c.numbers-numbers.ensures.value; account_read = c.account-account.ensures; progress_read = c.progress-progress.ensures } in
     let none = read-refusal r c.append_refusal.result None c.append_refusal.ensures c.in_default.is in
     let after = read-after r c.with-after.result c.with-after.ensures in
-    let count : c.len.result + c.chunk.inside.more ≡ count_all c.args.chunk = omega (arith, c.len.ensures.value, ap (λ (chunk : Chunk). length chunk.bytes) c.chunk.view_is, ap (λ (chunk : Chunk). chunk.more) c.chunk.view_is) in
-    let ready : ReadyChunk = record { name = name; chunk = c.args.chunk; now = c.args.now; place = c.args.place; after = c.with-after.result } in
+    let count : c.len-len.result + c.chunk.inside.more ≡ count_all c.args.chunk = omega (arith, c.len-len.ensures.value, ap (λ (chunk : Chunk). length chunk.bytes) c.chunk.view_is, ap (λ (chunk : Chunk). chunk.more) c.chunk.view_is) in
+    let cost = read-cost r c.len-len.result c.blocks_added-cost.result (c.len-len.ensures.value ∙ ap (λ (chunk : Chunk). length chunk.bytes) c.chunk.view_is) c.blocks_added-cost.ensures in
+    let ready : ReadyChunk = record { name = name; chunk = c.args.chunk; now = c.args.now; place = c.args.place; expires = c.progress-progress.result.expires; after = c.with-after.result; cost = c.blocks_added-cost.result } in
     let there : name.tenant < length b.settings.tenants = omega (arith, c.requires.tenant, ap (λ (b : StoredBook). length b.settings.tenants) c.self.view_is) in
     elim c.else-count-gt0.branch [
       | else-count-gt0-via-then-count-gt0+else-is_err w ↦
@@ -108,10 +109,10 @@ returns-clause-ready c =
           subst (λ t. HasRoom later.store.pool (own_chain (entry_at later.store t c.args.place).kept.pieces) (count_all c.args.chunk)) c.from-tenant.ensures
           (subst (λ n. HasRoom later.store.pool (own_chain (entry_at later.store c.from-tenant.result c.args.place).kept.pieces) n) count listed) in
           subst (λ (b : StoredBook). IsReadyForChunk b ready) (sym w.self-is)
-          (ready-later b later ready (ap (λ tenants. book_with (plain_of b) tenants b.charged b.released) plain) there (read-seen r) none after (λ some. room))
+          (ready-later b later ready (ap (λ tenants. book_with (plain_of b) tenants b.charged b.released) plain) there (read-seen r) none (read-expires r) after cost (λ some. room))
       | else-count-gt0-via-else-count-gt0 w ↦
           subst (λ (b : StoredBook). IsReadyForChunk b ready) (c.self.view_is ∙ sym w.self-is)
-          (ready-later b b ready refl there (read-seen r) none after (λ some. absurd (omega (arith, some, w.if-count-gt0.false, count))))
+          (ready-later b b ready refl there (read-seen r) none (read-expires r) after cost (λ some. absurd (omega (arith, some, w.if-count-gt0.false, count))))
     ]
 
 -- the lists of an upload's blocks alone have more room
