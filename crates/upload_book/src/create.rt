@@ -18,7 +18,7 @@ use crate::expiry::{lifetime_end, renewed};
 use crate::head_row::{Kind, Name};
 use crate::moment::Moment;
 use crate::payload::Payload;
-use crate::progress::ends_past;
+use crate::progress::{blocks_added, ends_past};
 use crate::ready::ReadyUpload;
 use crate::refusal::Refusal;
 use crate::settings::Numbers;
@@ -288,7 +288,7 @@ fn creation_refusal(
         return Some(Refusal::TooLong);
     }
     let last_total = numbers.last_total;
-    let added = (len + first.more).div_ceil(numbers.block_size);
+    let added = blocks_added(numbers, 0, len + first.more);
     if is_of_other_algorithm(first.check) {
         Some(Refusal::Algorithm)
     } else if is_mismatch(first.check, &first.bytes) {
