@@ -80,8 +80,8 @@ pub fn pieces_leave()
     ensures { PiecesLeave }
 {}
 
-/// The bytes of an upload that is complete never change while it stands, whatever requests and sweeps do, and its name is
-/// given to no other: so they may be read piece by piece.
+/// The bytes of an upload that is complete never change while it stands, whatever happens, and its name is given to no other:
+/// so they may be read piece by piece.
 pub fn contents_stay()
     ensures { ContentsStay }
 {}
