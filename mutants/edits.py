@@ -89,6 +89,12 @@ class Edit:
                 it.write(text.replace(old, new))
         return True
 
+    def has_its_place(self):
+        """Returns whether it stands in the folder that is named as the file that it changes first."""
+        file = self.changes[0][0] if self.changes else ""
+        place = file.removeprefix("src/").removesuffix(".rt")
+        return os.path.dirname(self.path) == f"{TOP}/mutants/{self.crate}/{place}"
+
     def has_clause(self):
         """Returns whether the clause that it names is there: in this crate or one below it."""
         found = re.fullmatch(r"(?:(\w+)::)?(\w+) (ensures|requires|invariant|gives|safe)(?: (\w+))?", self.clause or "")
@@ -148,7 +154,7 @@ def sources_of(names):
 
 
 def edits_in(crate, folder):
-    """Returns the edits of a crate that stand in a folder or in one within it, by their names."""
+    """Returns the edits of a crate that stand in a folder or in those within it, by their names."""
     found = [f"{at}/{name}" for at, _, names in os.walk(folder) for name in names if name.endswith(".edit")]
     return [Edit(crate, path) for path in sorted(found, key=os.path.basename)]
 

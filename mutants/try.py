@@ -232,16 +232,19 @@ def tell_tried():
 
 
 def check_clauses():
-    """Tells which mutants name no clause that is there, or stand in the folder of no crate, and returns how many."""
+    """Tells which mutants name no clause that is there, or stand in another folder than their file's, and returns how many."""
     strays = [it for it in sorted(os.listdir(f"{TOP}/mutants")) if os.path.isdir(f"{TOP}/mutants/{it}") and it not in crates()]
     for it in strays:
         print(f"mutants/{it}: there is no such crate")
+    misplaced = [it for crate in crates() for it in mutants_of(crate) if not it.has_its_place()]
+    for it in misplaced:
+        print(f"{os.path.relpath(it.path, TOP)}: it changes a file that the folder is not named for")
     edits = all_edits()
     lost = [it for it in edits if not it.has_clause()]
     for it in lost:
         print(f"{os.path.relpath(it.path, TOP)}: {it.clause or 'no clause'} is not there")
     print(f"{len(edits) - len(lost)} of {len(edits)} mutants name a clause that is there")
-    return len(lost) + len(strays)
+    return len(lost) + len(strays) + len(misplaced)
 
 
 def main():
