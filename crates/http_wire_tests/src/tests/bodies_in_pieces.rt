@@ -11,7 +11,9 @@ use crate::tests::message_parts::{
     CREATED_FIRST, EXPIRES, FROM_0, FROM_5, HELLO, NO_BODY, OF_10, SUM, TO_ACME, TO_FIRST, TYPED,
 };
 use crate::tests::rows::{Row, rows};
-use crate::tests::spoken::{Expected, Spoken, assert_spoken, at_1000, joined, new_book, offset_of};
+use crate::tests::spoken::{
+    Expected, Spoken, assert_offset, assert_spoken, at_1000, joined, new_book,
+};
 use http_wire::{BodyLimits, Buffers, Connection, Ended, Wants};
 use std::alloc::Global;
 use std::process::Abort;
@@ -124,7 +126,7 @@ fn another_client_in_the_midst(rt: HostRuntime) {
     assert!(&rt; connection.incoming().is_none() && connection.piece().is_some());
     answer_next(&rt, "a piece", &mut connection, &mut book);
     assert!(&rt; connection.is_in_pieces());
-    assert_eq!(&rt; offset_of(&book), Some(2));
+    assert_offset(&rt, "a piece", &book, 2);
     assert_eq!(&rt; connection.pending_len(), 0);
     take_in(&rt, "one byte of the next", &mut connection, &rest[..1]);
     assert_wants(&rt, "more", &mut connection, Wants::Read);
@@ -134,7 +136,7 @@ fn another_client_in_the_midst(rt: HostRuntime) {
     take_in(&rt, "the rest", &mut connection, &rest[1..]);
     answer_next(&rt, "the rest", &mut connection, &mut book);
     assert!(&rt; connection.pending() == OFFSET);
-    assert_eq!(&rt; offset_of(&book), Some(3));
+    assert_offset(&rt, "another PATCH", &book, 3);
 }
 
 /// A byte behind the first two of an upload.

@@ -59,11 +59,8 @@ impl Read for Arriving<'_> {
         if self.has_blocked {
             return Err(io::Error::from(ErrorKind::WouldBlock));
         }
-        let count = self.pieces.next().min(buf.len()).min(self.rest.len());
-        let (first, rest) = self.rest.split_at(count);
-        buf[..count].copy_from_slice(first);
-        self.rest = rest;
-        Ok(count)
+        let most = self.pieces.next().min(buf.len());
+        self.rest.read(&mut buf[..most])
     }
 }
 

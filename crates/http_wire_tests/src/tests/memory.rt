@@ -33,12 +33,9 @@ impl Read for Input<'_> {
             return Err(io::Error::from(ErrorKind::Other));
         }
         self.reads -= 1;
-        let count = self.first.min(buf.len()).min(self.rest.len());
+        let most = self.first.min(buf.len());
         self.first = self.more;
-        let (first, rest) = self.rest.split_at(count);
-        buf[..count].copy_from_slice(first);
-        self.rest = rest;
-        Ok(count)
+        self.rest.read(&mut buf[..most])
     }
 }
 

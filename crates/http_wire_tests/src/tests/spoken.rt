@@ -106,6 +106,11 @@ pub fn offset_of(book: &Book) -> Option<u64> {
     }
 }
 
+/// Asserts that this upload has so many bytes.
+pub fn assert_offset(rt: &impl Abort, what: &str, book: &Book, offset: u64) {
+    assert!(rt; offset_of(book) == Some(offset), "{what}: offset");
+}
+
 /// A conversation with a book.
 pub fn talk<'a>(
     alloc: Global,

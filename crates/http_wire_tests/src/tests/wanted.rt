@@ -2,7 +2,7 @@
 
 use crate::tests::connections::{answer_next, assert_wants, take_in, take_out};
 use crate::tests::conversations::{CHUNKED, CONTINUE, NONE};
-use crate::tests::spoken::{at, joined, new_book, offset_of};
+use crate::tests::spoken::{assert_offset, at, joined, new_book};
 use http_wire::{Connection, Ended, Incoming, Wants, WireFault, WireRefusal};
 use std::alloc::Global;
 use std::process::Abort;
@@ -281,11 +281,7 @@ fn check_break(rt: &impl Abort, alloc: Global, row: &Break) {
     }
     assert_wants(rt, row.name, &mut connection, Wants::Nothing);
     assert!(rt; connection.ended() == row.ended, "{}: end", row.name);
-    assert!(rt;
-        offset_of(&book) == Some(row.offset),
-        "{}: offset",
-        row.name
-    );
+    assert_offset(rt, row.name, &book, row.offset);
 }
 
 #[test]
@@ -358,7 +354,7 @@ fn assert_cut(rt: &impl Abort, connection: &mut Connection, book: &mut Book) {
     end_input(rt, "a part", connection);
     answer_next(rt, "a part", connection, book);
     assert_eq!(rt; connection.ended(), Ok(Some(Ended::Cut)), "end");
-    assert_eq!(rt; offset_of(book), Some(2), "offset");
+    assert_offset(rt, "a part", book, 2);
 }
 
 /// A client that sends nothing costs no buffers, and one that sends a body slowly is cut by its end where its caller ends it.
