@@ -12,7 +12,7 @@ use Rattle.journal_frames.specs.Frames.{frame, frames, Fits, recovered}
 use Rattle.journal_file.proofs.ReadAgain.{recovered-frames}
 use Rattle.upload_book.specs.PlainBook.{PlainBook, opening_book}
 use Rattle.upload_book.specs.Settings.{Settings}
-use Rattle.journal_folders.specs.Fault.{fault_of_replay}
+use Rattle.journal_folders.specs.ProgramFault.{fault_of_replay}
 use Rattle.server_words.specs.declared.fault.RunFault.{RunFault}
 use Rattle.journal_folders.specs.ReadJournal.{journal_key}
 use Rattle.journal_folders.specs.Renewed.{IsNotRenewed, IsSnapshotOf}

@@ -1,7 +1,7 @@
 pub mod Export
-pub mod Fault
 pub mod Held
 pub mod JournalSettings
+pub mod ProgramFault
 pub mod ReadJournal
 pub mod Renewed
 pub mod Shortage

@@ -6,11 +6,11 @@ ghost use Rattle.upload_book.specs.Book.{plain_of};
 
 use crate::held::{Held, held_in};
 use crate::journals::Journals;
+use crate::line::put_number;
 use crate::printing::print;
 use crate::reading::{MadeOf, make_of, torn_len};
 use arrayvec::ArrayString;
 use http_wire::Sink;
-use itoa::Buffer;
 use journal_file::WholeFrames;
 use server_words::RunFault;
 use std::alloc::Global;
@@ -52,19 +52,12 @@ fn line_of(file: &[u8], made: &MadeOf) -> ArrayString<LINE_MAX>
 fn checked_line(frames: WholeFrames, held: Held, len: usize, torn: usize) -> ArrayString<LINE_MAX>
     ensures { result.bytes ≡ checked_text frames.count held len frames.end torn }
 {
-    let mut digits = Buffer::new();
     let mut line = ArrayString::new();
-    line.push_str(digits.format(frames.count));
-    line.push_str(" records, ");
-    line.push_str(digits.format(held.uploads));
-    line.push_str(" uploads, ");
-    line.push_str(digits.format(held.bytes));
-    line.push_str(" bytes; file: ");
-    line.push_str(digits.format(len));
-    line.push_str(" bytes, ");
-    line.push_str(digits.format(frames.end));
-    line.push_str(" of records, ");
-    line.push_str(digits.format(torn));
-    line.push_str(" torn\n");
+    put_number(&mut line, frames.count, " records, ");
+    put_number(&mut line, held.uploads, " uploads, ");
+    put_number(&mut line, held.bytes, " bytes; file: ");
+    put_number(&mut line, len, " bytes, ");
+    put_number(&mut line, frames.end, " of records, ");
+    put_number(&mut line, torn, " torn\n");
     line
 }

@@ -6,8 +6,8 @@ ghost use Rattle.server_words.specs.SettingsFile.{settings_text};
 ghost use Rattle.server_words.specs.declared.journal_fault.JournalFault.{JournalFault};
 ghost use Rattle.journal_folders.specs.JournalSettings.{Follows, Gives, IsMismatch, IsUnreadable};
 
-use crate::fault::fault_of_kept;
 use crate::journals::{JOURNAL_KEY, SettingsFile};
+use crate::program_fault::fault_of_kept;
 use kept_book::{KeptBook, open_or_create};
 use server_words::{
     JournalFault, Mismatch, RunFault, first_difference, read_settings, settings_text,

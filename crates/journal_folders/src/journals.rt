@@ -5,8 +5,8 @@ ghost use Rattle.server_words.specs.JournalFault.{IsOfJournal, IsOfSystem, IsUnr
 ghost use Rattle.server_words.specs.declared.fault.RunFault.{RunFault};
 
 use crate::closing::close_beside;
-use crate::fault::fault_of_file;
 use crate::mark::Mark;
+use crate::program_fault::fault_of_file;
 use crate::spare::{FileId, Spare, SpareFile, is_alone_at};
 use journal_file::{Journal, JournalPlace, PlaceFault, whole_frames};
 use server_words::{JournalFault, Mismatch, RunFault};

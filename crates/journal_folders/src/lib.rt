@@ -5,12 +5,13 @@
 mod checking;
 mod closing;
 mod exporting;
-mod fault;
 mod held;
 mod journal_folder;
 mod journals;
+mod line;
 mod mark;
 mod printing;
+mod program_fault;
 mod reading;
 mod renewing;
 mod shortage;
@@ -18,11 +19,12 @@ mod spare;
 
 pub use checking::check;
 pub use exporting::export;
-pub use fault::fault_of_journal;
 pub use held::{Held, held_in};
 pub use journal_folder::{check_settings, open_kept, renew_settings};
 pub use journals::{
     Folder, JOURNAL_KEY, JournalFiles, Journals, MachineJournals, MachinePlace, MachineSettings,
     SettingsFile,
 };
+pub use line::put_number;
+pub use program_fault::fault_of_journal;
 pub use renewing::open_renewed;

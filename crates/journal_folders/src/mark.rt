@@ -4,8 +4,8 @@ ghost use Rattle.journal_file.specs.JournalError.{IsDamagedAt};
 ghost use Rattle.journal_file.specs.Recovered.{EndsAt};
 ghost use Rattle.server_words.specs.JournalFault.{IsOfJournal};
 
-use crate::fault::fault_of_damage;
 use crate::journals::{JOURNAL_KEY, disk_fault, read_journal};
+use crate::program_fault::fault_of_damage;
 use journal_file::{Damage, whole_frames};
 use server_words::RunFault;
 use std::alloc::AllocError;

@@ -4,9 +4,9 @@ ghost use Rattle.journal_file.specs.JournalError.{IsDamagedAt};
 ghost use Rattle.journal_folders.specs.ReadJournal.{IsFaultOfFiles, IsReadTo, IsTornTo, IsUpToLast, Makes};
 ghost use Rattle.upload_book.specs.Book.{plain_of};
 
-use crate::fault::{fault_of_damage, fault_of_replay};
 use crate::journal_folder::journal_settings;
 use crate::journals::{JOURNAL_KEY, JournalFiles};
+use crate::program_fault::{fault_of_damage, fault_of_replay};
 use book_replay::replay;
 use journal_file::{Damage, WholeFrames, whole_frames};
 use journal_frames::Frames;

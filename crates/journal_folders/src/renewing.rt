@@ -7,9 +7,9 @@ ghost use Rattle.journal_frames.specs.Frames.{Fits, frame, frames};
 ghost use Rattle.journal_folders.specs.Renewed.{HaveTheirPlaces, IsFaultOfRenewing, IsNotRenewed, IsRenewed, IsSnapshotOf};
 ghost use Rattle.server_words.specs.JournalFault.{IsOfJournal, IsOfSystem};
 
-use crate::fault::fault_of_replay;
 use crate::journal_folder::journal_settings;
 use crate::journals::{Folder, JOURNAL_KEY, JournalFiles, Journals, SettingsFile};
+use crate::program_fault::fault_of_replay;
 use crate::reading::make_of;
 use crate::shortage::shortage_in;
 use book_replay::{replay, snapshot_records};

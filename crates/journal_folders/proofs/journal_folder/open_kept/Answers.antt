@@ -1,7 +1,7 @@
 use Rattle.std.proofs.Common.{ap, ◌∙◌}
 use Rattle.std.proofs.lemmas.Result.{IfOk-at_ok}
 use Rattle.journal_frames.specs.Frames.{recovered}
-use Rattle.journal_folders.specs.Fault.{fault_of_kept}
+use Rattle.journal_folders.specs.ProgramFault.{fault_of_kept}
 use Rattle.journal_folders.specs.ReadJournal.{journal_key}
 use Rattle.journal_folders.proofs.MappedLemmas.{mapped_ok}
 use Rattle.journal_folders.proofs.journal_folder.open_kept.Goals as goal

@@ -1,6 +1,6 @@
 use Rattle.std.proofs.Common.{◌∙◌}
 use Rattle.std.proofs.lemmas.Result.{IfErr-at_err, IfOk-at_ok, err_from_is_err_and}
-use Rattle.journal_folders.specs.Fault.{fault_of_replay}
+use Rattle.journal_folders.specs.ProgramFault.{fault_of_replay}
 use Rattle.journal_folders.proofs.MappedLemmas.{mapped_err, mapped_ok}
 use Rattle.journal_folders.proofs.RenewingLemmas.{error-from, replay-fault, replayed-frames}
 use Rattle.journal_folders.proofs.renewing.renewed.Goals as goal

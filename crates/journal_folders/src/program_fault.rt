@@ -1,6 +1,6 @@
 //! What faults of a journal's file and of its records are to the program.
 ghost use Rattle.std.specs.Prelude.{◌≡◌};
-ghost use Rattle.journal_folders.specs.Fault.{fault_of_damage, fault_of_file, fault_of_journal, fault_of_kept, fault_of_replay};
+ghost use Rattle.journal_folders.specs.ProgramFault.{fault_of_damage, fault_of_file, fault_of_journal, fault_of_kept, fault_of_replay};
 
 use book_replay::ReplayFault;
 use journal_file::{Damage, JournalError};
