@@ -14,7 +14,7 @@ use Rattle.upload_book.specs.Settings.{Settings}
 use Rattle.server_words.specs.Arguments.{ServeArguments}
 use Rattle.journal_keeper.specs.declared.fault.ReopenFault.{ReopenFault}
 use Rattle.journal_keeper.specs.declared.fault.ReopenFault.TheVariants as reopening
-use Rattle.tus_program.specs.Fault.{fault_of_reopening}
+use Rattle.tus_program.specs.ProgramFault.{fault_of_reopening}
 use Rattle.journal_folders.specs.StreamUse.{StreamUse, IsUntouched, used}
 use Rattle.server_words.specs.declared.cause.Cause.{Cause}
 use Rattle.server_words.specs.declared.cause.Cause.TheVariants.{Input, Output, Port, Workers, Accept, Log, Metrics}

@@ -24,7 +24,7 @@ use Rattle.upload_book.specs.PlainBook.{PlainBook, opening_book}
 use Rattle.upload_book.specs.Settings.{Settings}
 use Rattle.upload_book.specs.declared.settings_fault.SettingsFault.{SettingsFault}
 use Rattle.server_words.specs.Arguments.{TalkArguments}
-use Rattle.tus_program.specs.Fault.{fault_of_wire}
+use Rattle.tus_program.specs.ProgramFault.{fault_of_wire}
 use Rattle.server_words.specs.Settings.{talk_settings}
 use Rattle.journal_folders.specs.StreamUse.{StreamUse, IsAlive}
 use Rattle.server_words.specs.declared.fault.RunFault.{RunFault}

@@ -1,7 +1,7 @@
-pub mod Fault
 pub mod KeptStep
 pub mod KeptTalk
 pub mod Lines
+pub mod ProgramFault
 pub mod Report
 pub mod Run
 pub mod Serve

@@ -10,8 +10,9 @@ ghost use Rattle.server_words.specs.declared.journal_fault.JournalFault.{Journal
 ghost use Rattle.tus_program.specs.Serve.{BreaksOff, IsPlaceAsked, KeepsQuiet, ServesEach, is_of_kept_service};
 ghost use Rattle.tus_program.specs.Sockets.{sockets};
 
-use crate::fault::{fault_of_opening, fault_of_reopening};
+use crate::blanks::Blanks;
 use crate::keeping::InJournal;
+use crate::program_fault::{fault_of_opening, fault_of_reopening};
 use crate::progress::ProgressLine;
 use crate::serve::serve_desks;
 use crate::started::tell_started;
@@ -27,11 +28,11 @@ use std::io::Eprint;
 use std::marker::Brand;
 use std::net::{Net, SocketAddr, TcpListener, TcpStream};
 use std::sync::Wait;
-use std::sync::ledger::{Blank, Ledger};
+use std::sync::ledger::Ledger;
 use std::thread::Threads;
 use std::time;
 use std::time::Instant;
-use tus_shared::{Opened, Shared, Store};
+use tus_shared::{Shared, Store};
 use tus_workers::Listener;
 use upload_book::Settings;
 
@@ -103,10 +104,7 @@ where
         &start,
         opened,
         location,
-        Blank::new(16),
-        Blank::new(16),
-        Blank::new(16),
-        Opened::new(),
+        Blanks::new(),
         file,
         output,
     )
@@ -142,10 +140,7 @@ fn serve_journalled<
     start: &Option<Instant>,
     journal: OpenedJournal<D>,
     location: P,
-    charged: Blank,
-    released: Blank,
-    made: Blank,
-    events: Opened,
+    blanks: Blanks,
     file: &mut F,
     output: &mut W,
 ) -> Result<(), RunFault>
@@ -156,10 +151,10 @@ where
     requires settings { settings ≡ C.settings }
     requires desks { options.now.workers ≡ C.desks }
     requires place { IsPlaceAsked (serve_arguments_of options.now) place }
-    requires charged { (charged.name ≡ C.name) × (charged.parts ≡ C.parts) × (C.parts ≡ 16) }
-    requires released { (released.name ≡ R.name) × (released.parts ≡ R.parts) × (R.parts ≡ 16) }
-    requires made { (made.name ≡ M.name) × (made.parts ≡ M.parts) × (M.parts ≡ 16) }
-    requires log { events.seen.book ≡ C.log }
+    requires charged { (blanks.charged.name ≡ C.name) × (blanks.charged.parts ≡ C.parts) × (C.parts ≡ 16) }
+    requires released { (blanks.released.name ≡ R.name) × (blanks.released.parts ≡ R.parts) × (R.parts ≡ 16) }
+    requires made { (blanks.made.name ≡ M.name) × (blanks.made.parts ≡ M.parts) × (M.parts ≡ 16) }
+    requires log { blanks.events.seen.book ≡ C.log }
     requires key { key_of journal.journal ≡ 8391740119571199346 }
     requires journal { C.journal ≡ Some 8391740119571199346 }
     requires honest { IsTrue C.honest → IsJournal journal.journal (recovered 8391740119571199346 journal.frames.items) [] }
@@ -183,10 +178,10 @@ where
         alloc,
         settings,
         options.workers,
-        charged,
-        released,
-        made,
-        events,
+        blanks.charged,
+        blanks.released,
+        blanks.made,
+        blanks.events,
         Some(JOURNAL_KEY),
     )
     .map_err(fault_of_opening)?;

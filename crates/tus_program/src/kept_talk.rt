@@ -6,7 +6,7 @@ ghost use Rattle.tus_program.specs.KeptTalk.{KeptTalkEnds};
 
 use crate::at_journal::AtJournal;
 use crate::conversation::hold_conversation;
-use crate::fault::fault_of_wire;
+use crate::program_fault::fault_of_wire;
 use http_wire::{Sink, Source};
 use journal_folders::{Folder, Journals, open_kept, open_renewed};
 use server_words::{JournalFault, RunFault, TalkOptions, settings_with};

@@ -3,13 +3,14 @@
 #![tactic(auto)]
 
 mod at_journal;
+mod blanks;
 mod conversation;
-mod fault;
 mod keeping;
 mod kept_serve;
 mod kept_talk;
 mod lines;
 mod program;
+mod program_fault;
 mod progress;
 mod report;
 mod serve;

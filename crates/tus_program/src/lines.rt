@@ -5,7 +5,7 @@ ghost use Rattle.tus_program.specs.Lines.{balance_text, listening_text};
 
 use arrayvec::ArrayString;
 use http_wire::{Sink, WireFault, put_all};
-use itoa::Buffer;
+use journal_folders::put_number;
 use std::alloc::{AllocError, Global};
 use std::net::SocketAddr;
 use tus_shared::Balance;
@@ -34,14 +34,10 @@ pub fn put_balance<W: Sink>(output: &mut W, balance: Balance) -> Result<(), Wire
 fn balance_line(balance: Balance) -> ArrayString<LINE_MAX>
     ensures { result.bytes ≡ balance_text balance }
 {
-    let mut digits = Buffer::new();
     let mut line = ArrayString::new();
     line.push_str("charged ");
-    line.push_str(digits.format(balance.charged));
-    line.push_str(" released ");
-    line.push_str(digits.format(balance.released));
-    line.push_str(" held ");
-    line.push_str(digits.format(balance.held));
-    line.push_str("\n");
+    put_number(&mut line, balance.charged, " released ");
+    put_number(&mut line, balance.released, " held ");
+    put_number(&mut line, balance.held, "\n");
     line
 }

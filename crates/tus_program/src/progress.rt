@@ -5,7 +5,7 @@ ghost use Rattle.tus_program.specs.Lines.{progress_text};
 use crate::report::is_watched;
 use crate::started::millis_since;
 use arrayvec::ArrayString;
-use itoa::Buffer;
+use journal_folders::put_number;
 use journal_keeper::Progress;
 use std::io::Eprint;
 use std::time;
@@ -97,17 +97,12 @@ impl<'a, H: Eprint + time::Clock> Progress for ProgressLine<'a, H> {
 fn progress_line(records: u64, read: usize, all: usize, millis: u64) -> ArrayString<LINE_MAX>
     ensures { result.bytes ≡ progress_text records read all millis }
 {
-    let mut digits = Buffer::new();
     let mut line = ArrayString::new();
     line.push_str("\r\x1b[K");
     line.push_str("tus-server: journal: ");
-    line.push_str(digits.format(records));
-    line.push_str(" records, ");
-    line.push_str(digits.format(read >> 20));
-    line.push_str(" of ");
-    line.push_str(digits.format(all >> 20));
-    line.push_str(" MiB, ");
-    line.push_str(digits.format(millis / 1000));
-    line.push_str(" s");
+    put_number(&mut line, records, " records, ");
+    put_number(&mut line, read >> 20, " of ");
+    put_number(&mut line, all >> 20, " MiB, ");
+    put_number(&mut line, millis / 1000, " s");
     line
 }

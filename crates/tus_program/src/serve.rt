@@ -16,9 +16,10 @@ ghost use Rattle.tus_program.specs.Serve.{BreaksOff, HaveEnded, IsOfWatching, Is
 ghost use Rattle.tus_program.specs.Sockets.{sockets};
 ghost use Rattle.tus_shared.specs.declared.balance.Balance.{Balance};
 
-use crate::fault::{fault_of_opening, fault_of_wire};
+use crate::blanks::Blanks;
 use crate::kept_serve::serve_kept;
 use crate::lines::{listening_line, put_balance};
+use crate::program_fault::{fault_of_opening, fault_of_wire};
 use crate::work::work_of;
 use access_log::{LogTarget, Watching};
 use connection_turns::WorkOptions;
@@ -32,10 +33,10 @@ use std::io::{Eprint, Error, ErrorKind};
 use std::marker::Brand;
 use std::net::{IpAddr, Net, SocketAddr, TcpListener, TcpStream};
 use std::sync::Wait;
-use std::sync::ledger::{Blank, Ledger};
+use std::sync::ledger::Ledger;
 use std::thread::Threads;
 use std::time;
-use tus_shared::{Charges, Desk, Opened, Shared, settle};
+use tus_shared::{Charges, Desk, Shared, settle};
 use tus_workers::{
     Accept, Keeping, Listener, NoJournal, ServerState, Worker, any_failed, dismiss, hire,
     within_descriptors, work_all,
@@ -102,10 +103,7 @@ where
         settings,
         options,
         place,
-        Blank::new(16),
-        Blank::new(16),
-        Blank::new(16),
-        Opened::new(),
+        Blanks::new(),
         output,
     )
 }
@@ -133,10 +131,7 @@ fn serve_with<
     settings: Settings,
     options: &ServeOptions,
     place: SocketAddr,
-    charged: Blank,
-    released: Blank,
-    made: Blank,
-    events: Opened,
+    blanks: Blanks,
     output: &mut W,
 ) -> Result<(), RunFault>
 where
@@ -145,10 +140,10 @@ where
     requires settings { settings ≡ C.settings }
     requires desks { options.now.workers ≡ C.desks }
     requires place { IsPlaceAsked (serve_arguments_of options.now) place }
-    requires charged { (charged.name ≡ C.name) × (charged.parts ≡ C.parts) × (C.parts ≡ 16) }
-    requires released { (released.name ≡ R.name) × (released.parts ≡ R.parts) × (R.parts ≡ 16) }
-    requires made { (made.name ≡ M.name) × (made.parts ≡ M.parts) × (M.parts ≡ 16) }
-    requires log { events.seen.book ≡ C.log }
+    requires charged { (blanks.charged.name ≡ C.name) × (blanks.charged.parts ≡ C.parts) × (C.parts ≡ 16) }
+    requires released { (blanks.released.name ≡ R.name) × (blanks.released.parts ≡ R.parts) × (R.parts ≡ 16) }
+    requires made { (blanks.made.name ≡ M.name) × (blanks.made.parts ≡ M.parts) × (M.parts ≡ 16) }
+    requires log { blanks.events.seen.book ≡ C.log }
     requires journal { C.journal ≡ None }
     requires output { W.has_failed output.old ≡ false }
     ensures fault { IfErr result (λ fault. is_of_service fault ≡ true) }
@@ -166,10 +161,10 @@ where
         alloc,
         settings,
         options.workers,
-        charged,
-        released,
-        made,
-        events,
+        blanks.charged,
+        blanks.released,
+        blanks.made,
+        blanks.events,
         None,
     )
     .map_err(fault_of_opening)?;

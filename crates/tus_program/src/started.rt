@@ -3,8 +3,7 @@ ghost use Rattle.std.specs.Prelude.{◌≡◌};
 ghost use Rattle.tus_program.specs.Lines.{started_text};
 
 use arrayvec::ArrayString;
-use itoa::Buffer;
-use journal_folders::{Held, held_in};
+use journal_folders::{Held, held_in, put_number};
 use std::io::Eprint;
 use std::time;
 use std::time::Instant;
@@ -41,16 +40,11 @@ pub fn millis_since<H: time::Clock>(rt: &H, start: &Instant) -> Option<u64> {
 fn started_line(records: u64, held: Held, millis: u64) -> ArrayString<LINE_MAX>
     ensures { result.bytes ≡ started_text records held millis }
 {
-    let mut digits = Buffer::new();
     let mut line = ArrayString::new();
     line.push_str("tus-server: journal: ");
-    line.push_str(digits.format(records));
-    line.push_str(" records, ");
-    line.push_str(digits.format(held.uploads));
-    line.push_str(" uploads, ");
-    line.push_str(digits.format(held.bytes));
-    line.push_str(" bytes, read in ");
-    line.push_str(digits.format(millis));
-    line.push_str(" ms\n");
+    put_number(&mut line, records, " records, ");
+    put_number(&mut line, held.uploads, " uploads, ");
+    put_number(&mut line, held.bytes, " bytes, read in ");
+    put_number(&mut line, millis, " ms\n");
     line
 }

@@ -9,7 +9,7 @@ ghost use Rattle.journal_folders.specs.StreamUse.{used};
 ghost use Rattle.tus_program.specs.Talk.{TalkEnds};
 
 use crate::conversation::hold_conversation;
-use crate::fault::fault_of_wire;
+use crate::program_fault::fault_of_wire;
 use http_wire::{Sink, Source};
 use server_words::{RunFault, TalkOptions, settings_with};
 use std::alloc::Global;

@@ -6,7 +6,7 @@ use Rattle.server_words.specs.JournalFault.{IsOfSystem}
 use Rattle.server_words.specs.SettingsFile.{settings_text}
 use Rattle.journal_folders.specs.StreamUse.{used}
 use Rattle.server_words.specs.declared.fault.RunFault.{RunFault}
-use Rattle.tus_program.specs.Fault.{fault_of_opening, fault_of_reopening}
+use Rattle.tus_program.specs.ProgramFault.{fault_of_opening, fault_of_reopening}
 use Rattle.tus_program.specs.Serve.{BreaksOff, is_of_kept_service}
 use Rattle.tus_program.specs.Sockets.{sockets}
 use Rattle.upload_book.specs.Settings.{Settings}

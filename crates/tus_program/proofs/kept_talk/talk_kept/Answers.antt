@@ -6,7 +6,7 @@ use Rattle.journal_folders.proofs.MappedLemmas.{mapped_err, mapped_ok, on_ok_at}
 use Rattle.journal_folders.specs.StreamUse.{used}
 use Rattle.http_wire.specs.declared.fault.WireFault.{WireFault}
 use Rattle.server_words.specs.declared.fault.RunFault.{RunFault}
-use Rattle.tus_program.specs.Fault.{fault_of_wire}
+use Rattle.tus_program.specs.ProgramFault.{fault_of_wire}
 use Rattle.tus_program.specs.KeptTalk.{HoldsKeptBy, KeptTalkEnds}
 use Rattle.tus_program.specs.declared.at_journal.AtJournal.{AtJournal}
 use Rattle.tus_program.proofs.KeptTalkLemmas.{KeptTalkEnds-broken, holds}

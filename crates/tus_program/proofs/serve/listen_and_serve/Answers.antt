@@ -9,7 +9,7 @@ use Rattle.journal_folders.proofs.MappedLemmas.{mapped_err, mapped_ok, on_err_at
 use Rattle.journal_folders.specs.StreamUse.{used}
 use Rattle.server_words.specs.Arguments.{serve_arguments_of}
 use Rattle.server_words.specs.declared.cause.Cause.TheVariants.{Output}
-use Rattle.tus_program.specs.Fault.{fault_of_wire}
+use Rattle.tus_program.specs.ProgramFault.{fault_of_wire}
 use Rattle.tus_program.specs.Lines.{listening_text}
 use Rattle.tus_program.specs.Serve.{BreaksOff}
 use Rattle.tus_program.specs.Sockets.{sockets}

@@ -4,7 +4,7 @@ use Rattle.journal_folders.proofs.MappedLemmas.{mapped_err, mapped_ok}
 use Rattle.journal_folders.specs.StreamUse.{used}
 use Rattle.server_words.specs.Arguments.{serve_arguments_of}
 use Rattle.server_words.specs.declared.cause.Cause.TheVariants.{Accept, Output}
-use Rattle.tus_program.specs.Fault.{fault_of_wire}
+use Rattle.tus_program.specs.ProgramFault.{fault_of_wire}
 use Rattle.tus_program.specs.Serve.{BreaksOff}
 use Rattle.tus_program.specs.Sockets.{sockets}
 use Rattle.tus_program.proofs.ServeLemmas.{BreaksOff-refused, BreaksOff-second, ServesEach-ended, by_cause, err_is}

@@ -1,7 +1,7 @@
 use Rattle.std.proofs.Common.{ap, arith, length}
 use Rattle.std.proofs.lemmas.Result.{IfOk-at_ok}
 use Rattle.journal_folders.proofs.MappedLemmas.{mapped_ok}
-use Rattle.tus_program.specs.Fault.{fault_of_opening}
+use Rattle.tus_program.specs.ProgramFault.{fault_of_opening}
 use Rattle.tus_program.proofs.DeskLemmas.{new_desks-length}
 use Rattle.tus_program.proofs.serve.serve_with.Goals as goal
 

@@ -1,6 +1,6 @@
 //! What faults of a connection and of an opening are to the program.
 ghost use Rattle.std.specs.Prelude.{◌≡◌};
-ghost use Rattle.tus_program.specs.Fault.{fault_of_opening, fault_of_reopening, fault_of_wire};
+ghost use Rattle.tus_program.specs.ProgramFault.{fault_of_opening, fault_of_reopening, fault_of_wire};
 
 use http_wire::WireFault;
 use journal_keeper::ReopenFault;
