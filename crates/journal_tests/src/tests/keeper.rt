@@ -4,4 +4,5 @@ mod location;
 mod requests;
 mod scenes;
 mod small;
+mod stage;
 mod steps;

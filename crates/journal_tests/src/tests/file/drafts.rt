@@ -111,14 +111,13 @@ fn frozen_after(rt: &impl Abort, alloc: Global, calls: u64) -> TornDisk {
 // sync.
 const NEEDED: u64 = 6;
 
-fn assert_each(rt: &impl Abort, alloc: Global, first: &[u8], others: &[u8]) {
-    for calls in 0..8 {
-        let written = write(frozen_after(rt, alloc, calls), first, others);
-        assert!(rt;
-            is_finished(rt, alloc, written) == (calls >= NEEDED),
-            "{calls} calls"
-        );
-    }
+// A draft is finished over a disk that answers enough calls, and over no other.
+fn assert_finished(rt: &impl Abort, alloc: Global, calls: u64, first: &[u8], others: &[u8]) {
+    let written = write(frozen_after(rt, alloc, calls), first, others);
+    assert!(rt;
+        is_finished(rt, alloc, written) == (calls >= NEEDED),
+        "{calls} calls"
+    );
 }
 
 // The disk fails at a call, and at each one after: there is no journal, or one that a crash leaves with all that was
@@ -127,5 +126,7 @@ fn assert_each(rt: &impl Abort, alloc: Global, first: &[u8], others: &[u8]) {
 fn each_call_fails_in_turn(rt: HostRuntime) {
     let first = frames_of(&rt, rt.alloc(), &[X]);
     let others = frames_of(&rt, rt.alloc(), &[A, BC]);
-    assert_each(&rt, rt.alloc(), &first, &others);
+    for calls in 0..8 {
+        assert_finished(&rt, rt.alloc(), calls, &first, &others);
+    }
 }

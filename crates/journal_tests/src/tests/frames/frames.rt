@@ -34,60 +34,48 @@ fn assert_frame(
     Ok(())
 }
 
-#[test]
-fn an_empty_payload(rt: HostRuntime) -> Result<(), Fail> {
-    assert_frame(
-        &rt,
-        rt.alloc(),
+// A key, a payload, and the frame that it makes: of no bytes, of two, of these under another key, and under the greatest key.
+static FRAMES: [(u64, &[u8], &[u8]); 4] = [
+    (
         7,
         b"",
         &[
             0, 0, 0, 0, 0, 0, 0, 8, 255, 255, 255, 255, 255, 255, 251, 73, 102, 52, 176, 189, 164,
             254, 138, 123,
         ],
-    )
-}
-
-#[test]
-fn two_bytes(rt: HostRuntime) -> Result<(), Fail> {
-    assert_frame(
-        &rt,
-        rt.alloc(),
+    ),
+    (
         7,
         b"ab",
         &[
             0, 0, 0, 0, 0, 0, 0, 10, 255, 255, 255, 255, 255, 255, 251, 80, 4, 242, 141, 98, 35,
             232, 35, 207, 97, 98,
         ],
-    )
-}
-
-#[test]
-fn the_same_bytes_under_another_key(rt: HostRuntime) -> Result<(), Fail> {
-    assert_frame(
-        &rt,
-        rt.alloc(),
+    ),
+    (
         8,
         b"ab",
         &[
             0, 0, 0, 0, 0, 0, 0, 10, 255, 255, 255, 255, 255, 255, 250, 86, 208, 24, 185, 156, 215,
             133, 155, 168, 97, 98,
         ],
-    )
-}
-
-#[test]
-fn the_greatest_key_and_byte(rt: HostRuntime) -> Result<(), Fail> {
-    assert_frame(
-        &rt,
-        rt.alloc(),
+    ),
+    (
         u64::MAX,
         b"\x00\xff\x00",
         &[
             0, 0, 0, 0, 0, 0, 0, 11, 255, 255, 255, 255, 255, 255, 252, 34, 121, 21, 52, 229, 98,
             76, 19, 107, 0, 255, 0,
         ],
-    )
+    ),
+];
+
+#[test]
+fn payloads_make_frames(rt: HostRuntime) -> Result<(), Fail> {
+    for (key, payload, frame) in &FRAMES {
+        assert_frame(&rt, rt.alloc(), *key, payload, frame)?;
+    }
+    Ok(())
 }
 
 // A payload that is pushed behind room for its header becomes the same frame, and what stands before it stays.

@@ -6,8 +6,8 @@ use crate::tests::KEY;
 use crate::tests::acme::settings;
 use crate::tests::keeper::location::{Ends, Location};
 use crate::tests::keeper::requests::{Asked, large_settings};
-use crate::tests::keeper::small::is_made_small;
-use crate::tests::keeper::steps::{Kept, Step, makes, play};
+use crate::tests::keeper::stage::{Desks, Stage};
+use crate::tests::keeper::steps::{Kept, Step};
 use crate::tests::torn_disk::TornDisk;
 use journal_file::{Journal, JournalError};
 use journal_frames::{Frames, HEADER_LEN};
@@ -43,10 +43,10 @@ enum Lent {
     IsMadeSmall { ends: Ends },
 }
 
-impl Lent {
+impl Scene {
     fn settings(self, rt: &impl Abort) -> Settings {
         match self {
-            Lent::IsMadeSmall { .. } => large_settings(rt),
+            Scene::Lent(Lent::IsMadeSmall { .. }) => large_settings(rt),
             _ => settings(rt),
         }
     }
@@ -54,36 +54,10 @@ impl Lent {
     // What becomes of a new journal.
     fn ends(self) -> Ends {
         match self {
-            Lent::IsMadeSmall { ends } => ends,
+            Scene::Lent(Lent::IsMadeSmall { ends }) => ends,
             _ => Ends::Nowhere,
         }
     }
-}
-
-impl Scene {
-    fn settings(self, rt: &impl Abort) -> Settings {
-        match self {
-            Scene::Lent(lent) => lent.settings(rt),
-            _ => settings(rt),
-        }
-    }
-}
-
-// Whether what one desk has kept is kept of the other too, which is only told so.
-fn serves_both<C: Journalled, R: Ledger, M: Ledger, W: Wait + Abort + time::Clock>(
-    rt: &W,
-    shared: &Shared<C, R, M, &W>,
-    keeper: &SharedKeeper<TornDisk, C>,
-    first: &mut Desk<C, R, M>,
-    second: &mut Desk<C, R, M>,
-) -> bool {
-    if first.is_kept() || second.is_kept() || keeper.keep(rt, shared, first).is_err() {
-        return false;
-    }
-    if !first.is_kept() || second.is_kept() || keeper.keep(rt, shared, second).is_err() {
-        return false;
-    }
-    second.is_kept()
 }
 
 // Whether a keeper told of one sync of two records, and of what its file has.
@@ -105,70 +79,6 @@ fn keeps_seen<C: Journalled, R: Ledger, M: Ledger>(
     seen.begins(&kept) && kept.begins(&seen)
 }
 
-// Each of two desks creates an upload.
-fn create_two<C: Journalled, R: Ledger, M: Ledger, W: Wait + Abort>(
-    rt: &W,
-    shared: &Shared<C, R, M, &W>,
-    first: &mut Desk<C, R, M>,
-    second: &mut Desk<C, R, M>,
-) {
-    first.grant(1 << 20);
-    second.grant(1 << 20);
-    assert!(rt; makes(rt, shared, first, Asked::Create));
-    assert!(rt; makes(rt, shared, second, Asked::Create));
-}
-
-fn one_sync_serves_both<C: Journalled, R: Ledger, M: Ledger, W: Wait + Abort + time::Clock>(
-    rt: &W,
-    shared: &Shared<C, R, M, &W>,
-    keeper: Keeper<TornDisk, C>,
-    first: &mut Desk<C, R, M>,
-    second: &mut Desk<C, R, M>,
-) {
-    create_two(rt, shared, first, second);
-    let keeper = SharedKeeper::new(keeper);
-    assert!(rt; serves_both(rt, shared, &keeper, first, second));
-    let numbers = keeper.numbers(rt);
-    let keeper = keeper.into_keeper();
-    assert!(rt; keeps_seen(&keeper, second) && are_of_two(&numbers, keeper.disk().bytes()));
-}
-
-// How much room a desk of a new journal has, where it asks for so many bytes.
-fn room_for<C: Journalled, R: Ledger, M: Ledger, W: Wait + Abort>(
-    rt: &W,
-    keeper: &SharedKeeper<TornDisk, C>,
-    desk: &mut Desk<C, R, M>,
-    location: &Location,
-    bytes: u64,
-) -> u64 {
-    keeper.make_room(rt, desk, bytes, location);
-    desk.room()
-}
-
-// Whether a desk is granted 65,536 bytes and 4 MiB beyond what it asks for, and nothing where it has enough. What stands
-// beside the journal stays.
-fn has_enough<C: Journalled, R: Ledger, M: Ledger, W: Wait + Abort>(
-    rt: &W,
-    keeper: &SharedKeeper<TornDisk, C>,
-    desk: &mut Desk<C, R, M>,
-    location: &Location,
-) -> bool {
-    room_for(rt, keeper, desk, location, 100) == 100 + 65_536 + 4_194_304
-        && room_for(rt, keeper, desk, location, 4_194_304) == 100 + 65_536 + 4_194_304
-        && !location.was_taken_away()
-}
-
-fn room_is_made<C: Journalled, R: Ledger, M: Ledger, W: Wait + Abort>(
-    rt: &W,
-    alloc: Global,
-    keeper: Keeper<TornDisk, C>,
-    desk: &mut Desk<C, R, M>,
-) {
-    let keeper = SharedKeeper::new(keeper);
-    assert!(rt; has_enough(rt, &keeper, desk, &Location::new(alloc, Ends::Nowhere)));
-    assert!(rt; keeper.into_keeper().disk().bytes().len() > 4_259_940);
-}
-
 // How much room a desk has, where it is to have room for 200 bytes of records.
 fn granted_for_records<C: Journalled, R: Ledger, M: Ledger>(
     keeper: &mut Keeper<TornDisk, C>,
@@ -177,21 +87,6 @@ fn granted_for_records<C: Journalled, R: Ledger, M: Ledger>(
 ) -> u64 {
     keeper.make_room(desk, 200, location);
     desk.room()
-}
-
-// On a disk without room for 4 MiB ahead a desk is granted this room for 200 bytes of records, and the next one nothing. What
-// stands beside the journal is given up first.
-fn disk_is_nearly_full<C: Journalled, R: Ledger, M: Ledger, W: Abort>(
-    rt: &W,
-    keeper: &mut Keeper<TornDisk, C>,
-    first: &mut Desk<C, R, M>,
-    second: &mut Desk<C, R, M>,
-    location: &Location,
-    granted: u64,
-) {
-    assert!(rt; granted_for_records(keeper, first, location) == granted);
-    assert!(rt; location.was_taken_away());
-    assert!(rt; granted_for_records(keeper, second, location) == 0);
 }
 
 // On a full disk no room is granted, and a change is refused. An upload can still be ended, and all is kept.
@@ -274,96 +169,131 @@ fn assert_two_left(rt: &impl Abort, alloc: Global, disk: &TornDisk) {
     assert!(rt; is_damaged(rt, alloc, disk));
 }
 
-// After a crash all that was kept is found, whatever else was lost; and nothing under another key.
-fn is_left_after_a_crash<C: Journalled, R: Ledger, M: Ledger, W: Wait + Abort + time::Clock>(
-    rt: &W,
-    alloc: Global,
-    shared: &Shared<C, R, M, &W>,
-    keeper: &mut Keeper<TornDisk, C>,
-    desk: &mut Desk<C, R, M>,
-    location: &Location,
-) {
-    play(rt, shared, keeper, desk, location, &TWO_OF_THREE);
-    assert_two_left(rt, alloc, keeper.disk());
-}
+impl<C: Journalled, R: Ledger, M: Ledger, W: Wait + Abort + time::Clock> Stage<'_, '_, C, R, M, W> {
+    // Each of two desks creates an upload.
+    fn create_two(&self, desks: &mut Desks<C, R, M>) {
+        desks.first.grant(1 << 20);
+        desks.second.grant(1 << 20);
+        assert!(self.rt; self.makes(&mut desks.first, Asked::Create));
+        assert!(self.rt; self.makes(&mut desks.second, Asked::Create));
+    }
 
-// Plays a scene with a keeper that is lent.
-fn perform_lent<C: Journalled, R: Ledger, M: Ledger, W: Wait + Abort + time::Clock>(
-    rt: &W,
-    alloc: Global,
-    shared: &Shared<C, R, M, &W>,
-    keeper: &mut Keeper<TornDisk, C>,
-    first: &mut Desk<C, R, M>,
-    second: &mut Desk<C, R, M>,
-    location: &Location,
-    scene: Lent,
-) {
-    match scene {
-        Lent::DiskIsNearlyFull { granted } => {
-            disk_is_nearly_full(rt, keeper, first, second, location, granted);
+    // Whether what one desk has kept is kept of the other too, which is only told so.
+    fn serves_both(&self, keeper: &SharedKeeper<TornDisk, C>, desks: &mut Desks<C, R, M>) -> bool {
+        let Desks { first, second } = desks;
+        if first.is_kept() || second.is_kept() {
+            return false;
         }
-        Lent::Steps(steps) => play(rt, shared, keeper, first, location, steps),
-        Lent::IsLeftAfterACrash => {
-            is_left_after_a_crash(rt, alloc, shared, keeper, first, location);
+        if keeper.keep(self.rt, self.shared, first).is_err() {
+            return false;
         }
-        Lent::IsMadeSmall { ends } => {
-            is_made_small(rt, alloc, shared, keeper, first, location, ends);
+        if !first.is_kept() || second.is_kept() {
+            return false;
+        }
+        keeper.keep(self.rt, self.shared, second).is_ok() && second.is_kept()
+    }
+
+    fn one_sync_serves_both(&self, keeper: Keeper<TornDisk, C>, desks: &mut Desks<C, R, M>) {
+        self.create_two(desks);
+        let keeper = SharedKeeper::new(keeper);
+        assert!(self.rt; self.serves_both(&keeper, desks));
+        let numbers = keeper.numbers(self.rt);
+        let keeper = keeper.into_keeper();
+        assert!(self.rt; keeps_seen(&keeper, &desks.second));
+        assert!(self.rt; are_of_two(&numbers, keeper.disk().bytes()));
+    }
+
+    // How much room a desk of a new journal has, where it asks for so many bytes.
+    fn room_for(
+        &self,
+        keeper: &SharedKeeper<TornDisk, C>,
+        desk: &mut Desk<C, R, M>,
+        bytes: u64,
+    ) -> u64 {
+        keeper.make_room(self.rt, desk, bytes, self.location);
+        desk.room()
+    }
+
+    // Whether a desk is granted 65,536 bytes and 4 MiB beyond what it asks for, and nothing where it has enough. What stands
+    // beside the journal stays.
+    fn has_enough(&self, keeper: &SharedKeeper<TornDisk, C>, desk: &mut Desk<C, R, M>) -> bool {
+        self.room_for(keeper, desk, 100) == 100 + 65_536 + 4_194_304
+            && self.room_for(keeper, desk, 4_194_304) == 100 + 65_536 + 4_194_304
+            && !self.location.was_taken_away()
+    }
+
+    fn room_is_made(&self, keeper: Keeper<TornDisk, C>, desk: &mut Desk<C, R, M>) {
+        let keeper = SharedKeeper::new(keeper);
+        assert!(self.rt; self.has_enough(&keeper, desk));
+        assert!(self.rt; keeper.into_keeper().disk().bytes().len() > 4_259_940);
+    }
+
+    // On a disk without room for 4 MiB ahead a desk is granted this room for 200 bytes of records, and the next one nothing. What
+    // stands beside the journal is given up first.
+    fn disk_is_nearly_full(
+        &self,
+        keeper: &mut Keeper<TornDisk, C>,
+        desks: &mut Desks<C, R, M>,
+        granted: u64,
+    ) {
+        let Desks { first, second } = desks;
+        assert!(self.rt; granted_for_records(keeper, first, self.location) == granted);
+        assert!(self.rt; self.location.was_taken_away());
+        assert!(self.rt; granted_for_records(keeper, second, self.location) == 0);
+    }
+
+    // After a crash all that was kept is found, whatever else was lost; and nothing under another key.
+    fn is_left_after_a_crash(&self, keeper: &mut Keeper<TornDisk, C>, desk: &mut Desk<C, R, M>) {
+        self.play(keeper, desk, &TWO_OF_THREE);
+        assert_two_left(self.rt, self.alloc, keeper.disk());
+    }
+
+    // Plays a scene with a keeper that is lent.
+    fn perform_lent(
+        &self,
+        keeper: &mut Keeper<TornDisk, C>,
+        desks: &mut Desks<C, R, M>,
+        scene: Lent,
+    ) {
+        match scene {
+            Lent::DiskIsNearlyFull { granted } => self.disk_is_nearly_full(keeper, desks, granted),
+            Lent::Steps(steps) => self.play(keeper, &mut desks.first, steps),
+            Lent::IsLeftAfterACrash => self.is_left_after_a_crash(keeper, &mut desks.first),
+            Lent::IsMadeSmall { ends } => self.is_made_small(keeper, &mut desks.first, ends),
+        }
+    }
+
+    // The same with a keeper that is let go then.
+    fn perform_owned(
+        &self,
+        mut keeper: Keeper<TornDisk, C>,
+        desks: &mut Desks<C, R, M>,
+        scene: Lent,
+    ) {
+        self.perform_lent(&mut keeper, desks, scene);
+    }
+
+    // Plays a scene at two desks.
+    fn perform(&self, keeper: Keeper<TornDisk, C>, desks: &mut Desks<C, R, M>, scene: Scene) {
+        match scene {
+            Scene::OneSyncServesBoth => self.one_sync_serves_both(keeper, desks),
+            Scene::RoomIsMade => self.room_is_made(keeper, &mut desks.first),
+            Scene::Lent(lent) => self.perform_owned(keeper, desks, lent),
         }
     }
 }
 
-// The same with a keeper that is let go then.
-fn perform_owned<C: Journalled, R: Ledger, M: Ledger, W: Wait + Abort + time::Clock>(
-    rt: &W,
-    alloc: Global,
-    shared: &Shared<C, R, M, &W>,
-    mut keeper: Keeper<TornDisk, C>,
-    first: &mut Desk<C, R, M>,
-    second: &mut Desk<C, R, M>,
-    scene: Lent,
-) {
-    let location = Location::new(alloc, scene.ends());
-    perform_lent(
-        rt,
-        alloc,
-        shared,
-        &mut keeper,
-        first,
-        second,
-        &location,
-        scene,
-    );
-}
-
-// Plays a scene at two desks.
-fn perform<C: Journalled, R: Ledger, M: Ledger, W: Wait + Abort + time::Clock>(
-    rt: &W,
-    alloc: Global,
-    shared: &Shared<C, R, M, &W>,
-    keeper: Keeper<TornDisk, C>,
-    first: &mut Desk<C, R, M>,
-    second: &mut Desk<C, R, M>,
-    scene: Scene,
-) {
-    match scene {
-        Scene::OneSyncServesBoth => one_sync_serves_both(rt, shared, keeper, first, second),
-        Scene::RoomIsMade => room_is_made(rt, alloc, keeper, first),
-        Scene::Lent(lent) => perform_owned(rt, alloc, shared, keeper, first, second, lent),
-    }
-}
-
-// The same where the desks stand in a list.
+// Plays a scene where the desks stand in a list.
 fn perform_at<C: Journalled, R: Ledger, M: Ledger, W: Wait + Abort + time::Clock>(
-    rt: &W,
-    alloc: Global,
-    shared: &Shared<C, R, M, &W>,
+    stage: &Stage<'_, '_, C, R, M, W>,
     keeper: Keeper<TornDisk, C>,
     mut desks: Vec<Desk<C, R, M>>,
     scene: Scene,
 ) {
-    let mut second = desks.pop().expect(rt, "two desks");
-    let mut first = desks.pop().expect(rt, "two desks");
-    perform(rt, alloc, shared, keeper, &mut first, &mut second, scene);
+    let second = desks.pop().expect(stage.rt, "two desks");
+    let first = desks.pop().expect(stage.rt, "two desks");
+    let mut desks = Desks { first, second };
+    stage.perform(keeper, &mut desks, scene);
 }
 
 // Plays a scene at two desks of a new store, over an empty journal.
@@ -404,7 +334,14 @@ fn play_scene<C: Journalled, R: Ledger, M: Ledger, W: Wait + Abort + time::Clock
     let Ok((shared, desks)) = opened else {
         panic!(rt; "no store");
     };
-    perform_at(rt, alloc, &shared, keeper, desks, scene);
+    let location = Location::new(alloc, scene.ends());
+    let stage = Stage {
+        rt,
+        alloc,
+        shared: &shared,
+        location: &location,
+    };
+    perform_at(&stage, keeper, desks, scene);
 }
 
 // The scene over a disk with room for so many bytes, that is frozen after so many calls.

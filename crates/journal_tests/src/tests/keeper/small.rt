@@ -3,8 +3,9 @@
 use crate::tests::KEY;
 use crate::tests::keeper::location::{Ends, Location};
 use crate::tests::keeper::requests::{Asked, large_settings};
+use crate::tests::keeper::stage::Stage;
 use crate::tests::keeper::steps::Looked::Told;
-use crate::tests::keeper::steps::{Kept, Looked, Step, look, makes, play};
+use crate::tests::keeper::steps::{Kept, Looked, Step};
 use crate::tests::torn_disk::TornDisk;
 use book_replay::replay;
 use journal_file::Journal;
@@ -16,7 +17,7 @@ use std::process::Abort;
 use std::sync::Wait;
 use std::sync::ledger::Ledger;
 use std::time;
-use tus_shared::{Desk, Shared};
+use tus_shared::Desk;
 
 // Five uploads of 12 MiB, each of which comes and goes.
 static GONE: [&[u8]; 5] = [
@@ -78,50 +79,9 @@ fn steps_after(ends: Ends) -> &'static [Step] {
     }
 }
 
-// Whether an upload is begun, and gets these bytes.
-fn uploads<C: Journalled, R: Ledger, M: Ledger, W: Wait + Abort>(
-    rt: &W,
-    shared: &Shared<C, R, M, &W>,
-    desk: &mut Desk<C, R, M>,
-    path: &'static [u8],
-    bytes: &[u8],
-) -> bool {
-    makes(rt, shared, desk, Asked::Begin) && makes(rt, shared, desk, Asked::Patch(path, bytes))
-}
-
-// Uploads all that goes: these bytes five times, and those of two blocks.
-fn upload_all<C: Journalled, R: Ledger, M: Ledger, W: Wait + Abort>(
-    rt: &W,
-    shared: &Shared<C, R, M, &W>,
-    desk: &mut Desk<C, R, M>,
-    body: &[u8],
-    two_blocks: &[u8],
-) {
-    for path in GONE {
-        assert!(rt; uploads(rt, shared, desk, path, body));
-    }
-    assert!(rt; uploads(rt, shared, desk, GOES_LATER, two_blocks));
-}
-
 // The bytes of an upload that goes.
 fn bytes(rt: &impl Abort, alloc: Global, count: usize) -> Vec<u8> {
     vec![in alloc; 7u8; count].expect(rt, "memory")
-}
-
-// Makes the journal 60 MiB long and somewhat longer, by uploads that come and go.
-fn make_large<C: Journalled, R: Ledger, M: Ledger, W: Wait + Abort + time::Clock>(
-    rt: &W,
-    alloc: Global,
-    shared: &Shared<C, R, M, &W>,
-    keeper: &mut Keeper<TornDisk, C>,
-    desk: &mut Desk<C, R, M>,
-    location: &Location,
-) {
-    let body = bytes(rt, alloc, PASSING);
-    let two_blocks = bytes(rt, alloc, TWO_BLOCKS);
-    desk.grant(1 << 30);
-    upload_all(rt, shared, desk, &body, &two_blocks);
-    play(rt, shared, keeper, desk, location, &BECOMES_LARGE);
 }
 
 // Whether two looks told what becomes of a new journal that ends so.
@@ -175,27 +135,6 @@ fn uploads_after(ends: Ends) -> u64 {
     }
 }
 
-/// A journal of more than 48 MiB whose uploads are gone is made small, while one that comes meanwhile is kept; or the old one
-/// goes on.
-pub(crate) fn is_made_small<C: Journalled, R: Ledger, M: Ledger, W: Wait + Abort + time::Clock>(
-    rt: &W,
-    alloc: Global,
-    shared: &Shared<C, R, M, &W>,
-    keeper: &mut Keeper<TornDisk, C>,
-    desk: &mut Desk<C, R, M>,
-    location: &Location,
-    ends: Ends,
-) {
-    make_large(rt, alloc, shared, keeper, desk, location);
-    let begun = look(rt, shared, keeper, location);
-    play(rt, shared, keeper, desk, location, &COMES_MEANWHILE);
-    let ended = look(rt, shared, keeper, location);
-    assert!(rt; is_as_told(keeper, location, ends, begun, ended));
-    play(rt, shared, keeper, desk, location, steps_after(ends));
-    assert!(rt; marks(keeper, location));
-    assert!(rt; is_left(rt, alloc, keeper.disk(), uploads_after(ends)));
-}
-
 // Whether so many uploads are left after a crash that loses all that was not synced, and the next gets the id after them.
 fn is_left(rt: &impl Abort, alloc: Global, disk: &TornDisk, uploads: u64) -> bool {
     let left = disk.after_crash(1).expect(rt, "memory");
@@ -206,4 +145,46 @@ fn is_left(rt: &impl Abort, alloc: Global, disk: &TornDisk, uploads: u64) -> boo
         panic!(rt; "not replayed");
     };
     book.upload_count(0) == uploads && book.next_id(0) == 8
+}
+
+impl<C: Journalled, R: Ledger, M: Ledger, W: Wait + Abort + time::Clock> Stage<'_, '_, C, R, M, W> {
+    // Whether an upload is begun, and gets these bytes.
+    fn uploads(&self, desk: &mut Desk<C, R, M>, path: &'static [u8], bytes: &[u8]) -> bool {
+        self.makes(desk, Asked::Begin) && self.makes(desk, Asked::Patch(path, bytes))
+    }
+
+    // Uploads all that goes: these bytes five times, and those of two blocks.
+    fn upload_all(&self, desk: &mut Desk<C, R, M>, body: &[u8], two_blocks: &[u8]) {
+        for path in GONE {
+            assert!(self.rt; self.uploads(desk, path, body));
+        }
+        assert!(self.rt; self.uploads(desk, GOES_LATER, two_blocks));
+    }
+
+    // Makes the journal 60 MiB long and somewhat longer, by uploads that come and go.
+    fn make_large(&self, keeper: &mut Keeper<TornDisk, C>, desk: &mut Desk<C, R, M>) {
+        let body = bytes(self.rt, self.alloc, PASSING);
+        let two_blocks = bytes(self.rt, self.alloc, TWO_BLOCKS);
+        desk.grant(1 << 30);
+        self.upload_all(desk, &body, &two_blocks);
+        self.play(keeper, desk, &BECOMES_LARGE);
+    }
+
+    /// A journal of more than 48 MiB whose uploads are gone is made small, while one that comes meanwhile is kept; or the old
+    /// one goes on.
+    pub(crate) fn is_made_small(
+        &self,
+        keeper: &mut Keeper<TornDisk, C>,
+        desk: &mut Desk<C, R, M>,
+        ends: Ends,
+    ) {
+        self.make_large(keeper, desk);
+        let begun = self.look(keeper);
+        self.play(keeper, desk, &COMES_MEANWHILE);
+        let ended = self.look(keeper);
+        assert!(self.rt; is_as_told(keeper, self.location, ends, begun, ended));
+        self.play(keeper, desk, steps_after(ends));
+        assert!(self.rt; marks(keeper, self.location));
+        assert!(self.rt; is_left(self.rt, self.alloc, keeper.disk(), uploads_after(ends)));
+    }
 }

@@ -1,6 +1,7 @@
 //! What is done at a desk and by its keeper, as a table, and what it comes to.
 use crate::tests::keeper::location::Location;
 use crate::tests::keeper::requests::{Asked, turn};
+use crate::tests::keeper::stage::Stage;
 use crate::tests::torn_disk::TornDisk;
 use journal_file::JournalError;
 use journal_keeper::{Compacted, Journalled, KeepFault, Keeper};
@@ -8,7 +9,7 @@ use std::process::Abort;
 use std::sync::Wait;
 use std::sync::ledger::Ledger;
 use std::time;
-use tus_shared::{Desk, NoGate, Shared};
+use tus_shared::{Desk, NoGate};
 use tus_steps::Reply;
 use upload_book::Refusal;
 
@@ -59,53 +60,6 @@ pub(crate) enum Step {
     FileIsShort(u64),
 }
 
-/// Whether a desk makes the change that it is asked for; else it was refused as Memory.
-pub(crate) fn makes<C: Journalled, R: Ledger, M: Ledger, W: Wait + Abort>(
-    rt: &W,
-    shared: &Shared<C, R, M, &W>,
-    desk: &mut Desk<C, R, M>,
-    asked: Asked<'_>,
-) -> bool {
-    let turn = turn(rt, asked);
-    match desk.answer(rt, shared, &turn.request, turn.now, 0, &NoGate) {
-        Reply::Created { .. } | Reply::Patched { .. } | Reply::Deleted => true,
-        Reply::Refused { refusal, .. } => {
-            assert!(rt; refusal == Refusal::Memory);
-            false
-        }
-        _ => panic!(rt; "another reply"),
-    }
-}
-
-// What keeping all that a desk has seen comes to.
-fn keep<C: Journalled, R: Ledger, M: Ledger, W: Wait + Abort + time::Clock>(
-    rt: &W,
-    shared: &Shared<C, R, M, &W>,
-    keeper: &mut Keeper<TornDisk, C>,
-    desk: &mut Desk<C, R, M>,
-) -> Kept {
-    match keeper.keep(rt, shared, desk) {
-        Ok(()) => Kept::Done,
-        Err(KeepFault::Journal(JournalError::Disk(_))) => Kept::DiskFails,
-        Err(KeepFault::Ended) => Kept::HasEnded,
-        Err(_) => Kept::Fails,
-    }
-}
-
-/// What a look at the journal comes to.
-pub(crate) fn look<C: Journalled, R: Ledger, M: Ledger, W: Wait + Abort + time::Clock>(
-    rt: &W,
-    shared: &Shared<C, R, M, &W>,
-    keeper: &mut Keeper<TornDisk, C>,
-    location: &Location,
-) -> Looked {
-    match keeper.compact(rt, shared, location) {
-        Ok(told) => Looked::Told(told),
-        Err(KeepFault::Place) => Looked::Unsure,
-        Err(_) => Looked::Fails,
-    }
-}
-
 // Makes room at a desk for so many bytes. Gives how much it had, and how much it has.
 fn make_room<C: Journalled, R: Ledger, M: Ledger>(
     keeper: &mut Keeper<TornDisk, C>,
@@ -118,56 +72,85 @@ fn make_room<C: Journalled, R: Ledger, M: Ledger>(
     (before, desk.room())
 }
 
-// Takes a step. Gives whether it came to what it has to.
-fn takes<C: Journalled, R: Ledger, M: Ledger, W: Wait + Abort + time::Clock>(
-    rt: &W,
-    shared: &Shared<C, R, M, &W>,
-    keeper: &mut Keeper<TornDisk, C>,
-    desk: &mut Desk<C, R, M>,
-    location: &Location,
-    step: &Step,
-) -> bool {
-    match step {
-        Step::Grant(bytes) => {
-            desk.grant(*bytes);
-            true
-        }
-        Step::Makes(asked) => makes(rt, shared, desk, *asked),
-        Step::Refuses(asked) => !makes(rt, shared, desk, *asked),
-        Step::Keeps(kept) => keep(rt, shared, keeper, desk) == *kept,
-        Step::IsKept(is_kept) => desk.is_kept() == *is_kept,
-        Step::HasRoom(bytes, room) => make_room(keeper, desk, location, *bytes).1 == *room,
-        Step::HasNoMoreRoom(bytes) => {
-            let (before, after) = make_room(keeper, desk, location, *bytes);
-            before == after
-        }
-        Step::HasFailed(has_failed, syncs) => {
-            keeper.has_failed() == *has_failed && keeper.numbers().synced.syncs == *syncs
-        }
-        Step::Looks(looked) => look(rt, shared, keeper, location) == *looked,
-        Step::FileHas(len, most) => {
-            keeper.disk().bytes().len() == *len && location.kept_at_most() == *most
-        }
-        Step::FileIsShort(most) => {
-            keeper.disk().bytes().len() as u64 == keeper.numbers().file_bytes
-                && location.kept_at_most() == *most
+impl<C: Journalled, R: Ledger, M: Ledger, W: Wait + Abort + time::Clock> Stage<'_, '_, C, R, M, W> {
+    /// Whether a desk makes the change that it is asked for; else it was refused as Memory.
+    pub(crate) fn makes(&self, desk: &mut Desk<C, R, M>, asked: Asked<'_>) -> bool {
+        let turn = turn(self.rt, asked);
+        match desk.answer(self.rt, self.shared, &turn.request, turn.now, 0, &NoGate) {
+            Reply::Created { .. } | Reply::Patched { .. } | Reply::Deleted => true,
+            Reply::Refused { refusal, .. } => {
+                assert!(self.rt; refusal == Refusal::Memory);
+                false
+            }
+            _ => panic!(self.rt; "another reply"),
         }
     }
-}
 
-/// Each of these steps comes to what it has to.
-pub(crate) fn play<C: Journalled, R: Ledger, M: Ledger, W: Wait + Abort + time::Clock>(
-    rt: &W,
-    shared: &Shared<C, R, M, &W>,
-    keeper: &mut Keeper<TornDisk, C>,
-    desk: &mut Desk<C, R, M>,
-    location: &Location,
-    steps: &[Step],
-) {
-    for (place, step) in steps.iter().enumerate() {
-        assert!(rt;
-            takes(rt, shared, keeper, desk, location, step),
-            "step {place}"
-        );
+    // What keeping all that a desk has seen comes to.
+    fn keep(&self, keeper: &mut Keeper<TornDisk, C>, desk: &mut Desk<C, R, M>) -> Kept {
+        match keeper.keep(self.rt, self.shared, desk) {
+            Ok(()) => Kept::Done,
+            Err(KeepFault::Journal(JournalError::Disk(_))) => Kept::DiskFails,
+            Err(KeepFault::Ended) => Kept::HasEnded,
+            Err(_) => Kept::Fails,
+        }
+    }
+
+    /// What a look at the journal comes to.
+    pub(crate) fn look(&self, keeper: &mut Keeper<TornDisk, C>) -> Looked {
+        match keeper.compact(self.rt, self.shared, self.location) {
+            Ok(told) => Looked::Told(told),
+            Err(KeepFault::Place) => Looked::Unsure,
+            Err(_) => Looked::Fails,
+        }
+    }
+
+    // Takes a step. Gives whether it came to what it has to.
+    fn takes(
+        &self,
+        keeper: &mut Keeper<TornDisk, C>,
+        desk: &mut Desk<C, R, M>,
+        step: &Step,
+    ) -> bool {
+        match step {
+            Step::Grant(bytes) => {
+                desk.grant(*bytes);
+                true
+            }
+            Step::Makes(asked) => self.makes(desk, *asked),
+            Step::Refuses(asked) => !self.makes(desk, *asked),
+            Step::Keeps(kept) => self.keep(keeper, desk) == *kept,
+            Step::IsKept(is_kept) => desk.is_kept() == *is_kept,
+            Step::HasRoom(bytes, room) => {
+                make_room(keeper, desk, self.location, *bytes).1 == *room
+            }
+            Step::HasNoMoreRoom(bytes) => {
+                let (before, after) = make_room(keeper, desk, self.location, *bytes);
+                before == after
+            }
+            Step::HasFailed(has_failed, syncs) => {
+                keeper.has_failed() == *has_failed && keeper.numbers().synced.syncs == *syncs
+            }
+            Step::Looks(looked) => self.look(keeper) == *looked,
+            Step::FileHas(len, most) => {
+                keeper.disk().bytes().len() == *len && self.location.kept_at_most() == *most
+            }
+            Step::FileIsShort(most) => {
+                keeper.disk().bytes().len() as u64 == keeper.numbers().file_bytes
+                    && self.location.kept_at_most() == *most
+            }
+        }
+    }
+
+    /// Each of these steps comes to what it has to.
+    pub(crate) fn play(
+        &self,
+        keeper: &mut Keeper<TornDisk, C>,
+        desk: &mut Desk<C, R, M>,
+        steps: &[Step],
+    ) {
+        for (place, step) in steps.iter().enumerate() {
+            assert!(self.rt; self.takes(keeper, desk, step), "step {place}");
+        }
     }
 }

@@ -4,7 +4,8 @@ ghost use Rattle.std.specs.Prelude.{◌≡◌, [], false};
 use journal_records::with_kept;
 use std::alloc::Global;
 use std::process::Abort;
-use upload_book::{Book, Chunk, Moment, Name, NewUpload, Numbers, Payload, Settings};
+use upload_book::{Book, Moment, Name, NewUpload, Numbers, Settings};
+use worked_example::hello;
 
 const NUMBERS: Numbers = Numbers {
     blocks: 8,
@@ -34,15 +35,10 @@ fn new_upload() -> NewUpload<'static>
 fn create(rt: &impl Abort, book: &mut Book, now: Moment) {
     let acme = book.settings().tenant(b"acme").expect(rt, "acme");
     assert!(rt; book.create(acme, new_upload(), now).is_ok());
-    let chunk = Chunk {
-        offset: 0,
-        length: None,
-        typed: true,
-        check: None,
-        bytes: Payload::new(b"hello"),
-        more: 0,
-    };
-    assert!(rt; book.append(&Name { tenant: 0, id: 1 }, chunk, now).is_ok());
+    assert!(rt;
+        book.append(&Name { tenant: 0, id: 1 }, hello(), now)
+            .is_ok()
+    );
 }
 
 const BYTES: [u8; 77] = [

@@ -37,6 +37,17 @@ pub(crate) fn acme(id: u64) -> Name {
     Name { tenant: 0, id }
 }
 
+// A creation with these first bytes.
+fn begun<'a>(tenant: u8, new: NewUpload<'a>, bytes: &'a [u8]) -> Change<'a> {
+    let first = FirstChunk {
+        typed: true,
+        check: None,
+        bytes: Payload::new(bytes),
+        more: 0,
+    };
+    Change::Create { tenant, new, first }
+}
+
 /// A creation for the tenant at this place, with these texts and first bytes.
 pub(crate) fn creation<'a>(
     tenant: u8,
@@ -45,40 +56,24 @@ pub(crate) fn creation<'a>(
     concat: &'a [u8],
     bytes: &'a [u8],
 ) -> Change<'a> {
-    Change::Create {
-        tenant,
-        new: NewUpload {
-            partial,
-            length: Some(5),
-            metadata,
-            concat,
-        },
-        first: FirstChunk {
-            typed: true,
-            check: None,
-            bytes: Payload::new(bytes),
-            more: 0,
-        },
-    }
+    let new = NewUpload {
+        partial,
+        length: Some(5),
+        metadata,
+        concat,
+    };
+    begun(tenant, new, bytes)
 }
 
 /// A creation for acme with this first byte, whose length is told later.
 pub(crate) fn deferred(byte: &[u8]) -> Change<'_> {
-    Change::Create {
-        tenant: 0,
-        new: NewUpload {
-            partial: false,
-            length: None,
-            metadata: b"",
-            concat: b"",
-        },
-        first: FirstChunk {
-            typed: true,
-            check: None,
-            bytes: Payload::new(byte),
-            more: 0,
-        },
-    }
+    let new = NewUpload {
+        partial: false,
+        length: None,
+        metadata: b"",
+        concat: b"",
+    };
+    begun(0, new, byte)
 }
 
 /// A PATCH of an upload of acme.
