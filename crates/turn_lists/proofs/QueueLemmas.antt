@@ -52,7 +52,7 @@ queued-rest room (key ∷ keys) q = record {
     by false on = on
 
 -- no other is a key from which all are apart
-on-apart : (key : ℕ) (keys : List ℕ) → AllByRecursion (λ other. nat_eq key other ≡ false) keys → is_on key keys ≡ false
+pub on-apart : (key : ℕ) (keys : List ℕ) → AllByRecursion (λ other. nat_eq key other ≡ false) keys → is_on key keys ≡ false
 on-apart key [] apart = refl
 on-apart key (other ∷ keys) apart = rw apart.0 (on-apart key keys apart.1)
 

@@ -39,6 +39,7 @@ impl Model for TurnLists {
 
 impl TurnLists {
     ghost use Rattle.turn_lists.specs.Lists.{IsEachOnce, empty_lists, keys_of, list_of, put_in, with_keys, without};
+    ghost use Rattle.turn_lists.specs.Rounds.{HadRound, IsRound, after_turn};
 
     /// Empty lists for keys below `most`. All memory that they will ever need is taken here; an `AllocError` says that there
     /// was too little.
@@ -98,8 +99,7 @@ impl TurnLists {
         true
     }
 
-    /// Takes the key off a list that has stood there longest. `None` where nobody stands there. As many of these calls as the
-    /// list is long take a round, if no key leaves it meanwhile: a key that is put comes in the next one.
+    /// Takes the key off a list that has stood there longest. `None` where nobody stands there.
     pub fn take_first(&mut self, list: TurnList) -> Option<usize>
         ensures first { result ≡ slice_get (keys_of self.old list) 0 }
         ensures rest { self.new ≡ with_keys self.old list (drop 1 (keys_of self.old list)) }
@@ -118,6 +118,32 @@ impl TurnLists {
         };
         self.stands[key] = None;
         self.queues.remove(list, key);
+    }
+
+    /// Takes a round of a list: each key that stands there leaves it and has one turn, in their order. `turn` gives the list by
+    /// which the next turn of its key comes, if by one. A key that comes to the list again has its next turn in the next round.
+    pub fn take_round<F: FnMut(usize) -> Option<TurnList>>(&mut self, list: TurnList, mut turn: F)
+        requires { F.IsAlwaysCallable turn }
+        ensures turns { (last : F) × IsRound F.step list turn self.old last self.new }
+        ensures lists { HadRound list self.old self.new }
+    {
+        for _ in 0..self.len(list) {
+            self.each_once();
+            let Some(key) = self.take_first(list) else {
+                return;
+            };
+            let next = turn(key);
+            self.place(key, next);
+        }
+    }
+
+    // Puts a key to the list by which its next turn comes, if by one.
+    fn place(&mut self, key: usize, next: Option<TurnList>)
+        ensures { self.new ≡ after_turn key next self.old }
+    {
+        if let Some(list) = next {
+            self.put(key, list);
+        }
     }
 }
 
