@@ -1,1 +1,2 @@
 pub mod DescriptorLemmas
+pub mod TurnLemmas

@@ -1,3 +1,4 @@
--- What a worker serves, and what is noted of a reply.
+-- What a worker serves, what is noted of a reply, and whose turn it is.
 pub mod Noting
 pub mod Serving
+pub mod Turns

@@ -1,7 +1,8 @@
-ghost use Rattle.std.specs.Prelude.{◌≡◌, ◌⊎◌, ℕ};
-ghost use Rattle.tus_workers.specs.Serving.{ServesTurn, SweepsExpired};
+ghost use Rattle.std.specs.Prelude.{◌≡◌};
+ghost use Rattle.tus_workers.specs.Serving.{ServesTurn, SweepsKept};
 
-use crate::sweeping::sweep_expired;
+use crate::keeping::Keeping;
+use crate::sweeping::Sweeping;
 use http_wire::Answer;
 use std::sync::Wait;
 use std::sync::ledger::Ledger;
@@ -20,10 +21,8 @@ pub struct AtDesk<'a, C: Charges, R: Ledger, M: Ledger, W: Wait, B: Wait + Drop,
     gate: &'a G,
     // How many requests were answered.
     turn: usize,
-    // The last moment at which it asked whether uploads have expired.
-    pub(crate) asked: Option<Moment>,
-    // How often it ended uploads that had expired.
-    pub(crate) sweeps: u64,
+    // When it asked whether uploads have expired.
+    pub(crate) sweeping: Sweeping,
 }
 
 impl<'a, C: Charges, R: Ledger, M: Ledger, W: Wait, B: Wait + Drop, G: Gate> AtDesk<
@@ -45,22 +44,24 @@ impl<'a, C: Charges, R: Ledger, M: Ledger, W: Wait, B: Wait + Drop, G: Gate> AtD
             shared,
             gate,
             turn: 0,
-            asked: None,
-            sweeps: 0,
+            sweeping: Sweeping::new(),
         }
     }
 
-    // Ends the uploads that have expired at this moment, unless it was asked for that before.
-    pub(crate) fn sweep_once(&mut self, now: Moment)
-        ensures { SweepsExpired C.settings now self.old.desk self.new.desk ⊎ (self.new.desk ≡ self.old.desk) }
+    /// Ends the uploads that have expired, as [`Sweeping::sweep_kept`] does.
+    pub(crate) fn sweep_kept<K: Keeping<C, R, M, B>>(&mut self, keeping: &K, now: Moment)
+        ensures { SweepsKept C.settings now self.old.desk self.new.desk }
     {
-        if self.asked == Some(now) {
-            return;
-        }
-        self.asked = Some(now);
-        if sweep_expired(self.rt, &mut self.desk, self.shared, now) {
-            self.sweeps = self.sweeps.saturating_add(1);
-        }
+        self.sweeping
+            .sweep_kept(self.rt, &mut self.desk, self.shared, keeping, now);
+    }
+
+    /// Sees to it that there is room for the record of that, as [`Sweeping::make_room`] does.
+    pub(crate) fn make_sweep_room<K: Keeping<C, R, M, B>>(&mut self, keeping: &K, now: Moment)
+        ensures { self.new.desk ≡ record self.old.desk { room = self.new.desk.room } }
+    {
+        let sweeping = self.sweeping;
+        sweeping.make_room(self.rt, &mut self.desk, keeping, now);
     }
 
     /// The desk, for the next connection.
@@ -83,7 +84,8 @@ impl<'a, C: Charges, R: Ledger, M: Ledger, W: Wait, B: Wait + Drop, G: Gate> Ans
 
     fn answer(&mut self, request: &Request, now: Moment, reply: &mut PlacedReply) {
         if !request.method.is_head() {
-            self.sweep_once(now);
+            self.sweeping
+                .sweep_once(self.rt, &mut self.desk, self.shared, now);
         }
         let turn = self.turn;
         self.turn = turn.saturating_add(1);

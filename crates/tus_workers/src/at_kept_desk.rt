@@ -51,23 +51,12 @@ impl<
         AtKeptDesk { at, keeping }
     }
 
-    // Ends the uploads that have expired at this moment, unless it was asked for that before. Room for the record of that is
-    // made first.
-    pub(crate) fn sweep_once(&mut self, now: Moment)
+    /// Ends the uploads that have expired at this moment, unless it was asked for that before. Room for the record of that is
+    /// made first.
+    pub fn sweep_once(&mut self, now: Moment)
         ensures { SweepsKept C.settings now self.old.at.desk self.new.at.desk }
     {
-        self.make_sweep_room(now);
-        self.at.sweep_once(now);
-    }
-
-    // Sees to it that there is room for the record of a sweep, where it was not asked yet whether uploads have expired at this
-    // moment.
-    fn make_sweep_room(&mut self, now: Moment)
-        ensures { self.new.at.desk ≡ record self.old.at.desk { room = self.new.at.desk.room } }
-    {
-        if self.at.asked != Some(now) {
-            self.keeping.make_room(self.at.rt, &mut self.at.desk, 0);
-        }
+        self.at.sweep_kept(self.keeping, now);
     }
 
     // Sees to it that there is room for the records of what a request may do at this moment: what it changes, and the sweep
@@ -80,7 +69,9 @@ impl<
                 let bytes = (request.body.len() as u64).saturating_add(RECORD_BYTES);
                 self.keeping.make_room(self.at.rt, &mut self.at.desk, bytes);
             }
-            Method::Get | Method::Options | Method::Other => self.make_sweep_room(now),
+            Method::Get | Method::Options | Method::Other => {
+                self.at.make_sweep_room(self.keeping, now);
+            }
             Method::Head => {}
         }
     }

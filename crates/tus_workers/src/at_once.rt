@@ -1,11 +1,11 @@
 //! A worker that serves many clients at once, over its one desk.
 ghost use Rattle.std.specs.Prelude.{◌≡◌, ◌+◌, ◌≤◌, ◌<◌, ◌^◌, ℕ, None, Some, IfSome, min, true, false, unwrap_or};
 ghost use Rattle.http_wire.specs.BodyLimits.{AreSmall};
-ghost use Rattle.tus_workers.specs.Serving.{SweepsKept};
 
 use crate::accept::Accept;
 use crate::at_desk::AtDesk;
 use crate::at_kept_desk::AtKeptDesk;
+use crate::clients::Clients;
 use crate::connections::Connections;
 use crate::door::{Door, Entry, LISTENER};
 use crate::keeping::{Compacting, Keeping};
@@ -13,7 +13,7 @@ use crate::machine_clock::MachineClock;
 use crate::noting::{NotedReply, Noting};
 use crate::server_state::ServerState;
 use crate::stream::MESSAGES_MAX;
-use crate::sweeping::sweep_expired;
+use crate::sweeping::Sweeping;
 use crate::worker::Worker;
 use crate::workers::Workers;
 use access_log::Watch;
@@ -30,7 +30,7 @@ use std::sync::ledger::Ledger;
 use std::time::{Duration, Instant};
 use std::{io, time};
 use tus_shared::{Charges, Desk, NoGate};
-use upload_book::{Moment, Settings};
+use upload_book::Settings;
 
 /// The most bytes of a body that is gathered, which is 16 MiB.
 const GATHERED_MAX: u64 = 16_777_216;
@@ -51,8 +51,8 @@ struct Rounds<'a, 'n, H: Wait + time::Clock> {
     // Where numbers are asked for, if it is at this worker.
     metrics: Option<MetricsDoor>,
     clock: MachineClock<'a, H>,
-    // When it was last asked at the desk whether uploads have expired.
-    asked: Option<Moment>,
+    // When it was asked at the desk whether uploads have expired.
+    sweeping: Sweeping,
     // Of how many clients it has told the others.
     told: u64,
     // It has left a connection to other workers, which may wait still.
@@ -112,7 +112,7 @@ impl<
         noted: &'n NotedReply,
     ) -> Result<(Rounds<'a, 'n, H>, Events), AllocError> {
         let events = Events::with_capacity(self.alloc, EVENTS_MAX)?;
-        let connections = Connections::new(
+        let clients = Clients::new(
             self.rt,
             self.alloc,
             &self.server_state.bodies,
@@ -124,10 +124,10 @@ impl<
             noted,
         )?;
         let rounds = Rounds {
-            connections,
+            connections: Connections::new(self.alloc, clients, self.options.at_once)?,
             metrics: None,
             clock: MachineClock::new(self.rt, self.options.moment),
-            asked: None,
+            sweeping: Sweeping::new(),
             told: 0,
             has_waited: false,
             has_rung: false,
@@ -181,7 +181,7 @@ impl<
             }
             self.serve_all(&mut worker.desk, rounds, events);
             self.take_in(worker, door, rounds);
-            rounds.publish(self.rt);
+            rounds.publish();
             self.answer_questions(&mut worker.desk, door, rounds, events);
         }
         false
@@ -205,7 +205,7 @@ impl<
         for _ in 0..u64::MAX {
             self.serve_all(&mut worker.desk, rounds, events);
             self.tell_of_clients(rounds);
-            rounds.publish(self.rt);
+            rounds.publish();
             self.answer_questions(&mut worker.desk, door, rounds, events);
             if self.may_leave(rounds) {
                 return true;
@@ -235,7 +235,7 @@ impl<
     // Whether nobody needs this worker any more: it has no clients, and where numbers are asked for here, the other workers
     // have ended, and each reply was sent.
     fn may_leave(&self, rounds: &Rounds<'a, '_, H>) -> bool {
-        rounds.connections.len() == 0
+        rounds.connections.clients.len() == 0
             && match &rounds.metrics {
                 Some(metrics) => self.server_state.has_one_left() && !metrics.owes(),
                 None => true,
@@ -280,7 +280,7 @@ impl<
     fn patience(&self, door: &Door, rounds: &Rounds<'a, '_, H>) -> u64 {
         let may_come = rounds.stopped.is_none()
             && door.has_rung()
-            && rounds.connections.len() < self.options.at_once;
+            && rounds.connections.clients.len() < self.options.at_once;
         if rounds.connections.has_more() || (may_come && !rounds.has_waited) {
             0
         } else if may_come {
@@ -308,9 +308,9 @@ impl<
     ) -> Desk<C, R, M> {
         let second = second_since(self.rt, &rounds.start);
         let mut at = AtDesk::new(self.rt, desk, self.shared, &NoGate);
-        at.asked = rounds.asked;
+        at.sweeping = rounds.sweeping;
         let kept = AtKeptDesk::new(at, self.keeping);
-        let mut answerer = Noting::new(kept, rounds.connections.noted);
+        let mut answerer = Noting::new(kept, rounds.connections.clients.noted());
         rounds.turn_ready(events, &mut answerer, second);
         self.send_kept(&mut answerer.inner, rounds, second);
         if rounds.is_over(second, self.options.grace) {
@@ -328,8 +328,8 @@ impl<
             self.note_compacting(answerer.inner.compact());
         }
         let at = answerer.into_inner().into_desk();
-        rounds.asked = at.asked;
-        rounds.note_sweeps(at.sweeps);
+        rounds.sweeping = at.sweeping;
+        rounds.note_sweeps();
         at.into_desk()
     }
 
@@ -389,7 +389,7 @@ impl<
             door.ring();
         }
         self.tell_of_clients(rounds);
-        if !door.has_rung() || rounds.connections.len() >= self.options.at_once {
+        if !door.has_rung() || rounds.connections.clients.len() >= self.options.at_once {
             return;
         }
         if !rounds.has_waited && self.has_more_than_others(rounds) {
@@ -406,10 +406,13 @@ impl<
                 let second = rounds.second;
                 rounds
                     .connections
+                    .clients
                     .admit(door.registry(), stream, client_connection, second);
                 let now = rounds.clock.moment();
-                let has_swept = self.sweep_once(&mut worker.desk, &mut rounds.asked, now);
-                rounds.note_sweeps(u64::from(has_swept));
+                rounds
+                    .sweeping
+                    .sweep_kept(self.rt, &mut worker.desk, self.shared, self.keeping, now);
+                rounds.note_sweeps();
             }
             Entry::Refused => self.say(
                 "tus-server: no connection can be accepted at the moment, and it is tried again",
@@ -418,23 +421,9 @@ impl<
         }
     }
 
-    // Ends the uploads that have expired at this moment, unless it was asked for that before. Room for the record of that is
-    // made first. It tells whether it looked for them with the lock.
-    fn sweep_once(&self, desk: &mut Desk<C, R, M>, asked: &mut Option<Moment>, now: Moment) -> bool
-        ensures sweeps { SweepsKept C.settings now desk.old desk.new }
-        ensures asked { asked.new ≡ Some now }
-    {
-        if *asked == Some(now) {
-            return false;
-        }
-        *asked = Some(now);
-        self.keeping.make_room(self.rt, desk, 0);
-        sweep_expired(self.rt, desk, self.shared, now)
-    }
-
     // Whether it has more clients than others, by more than one.
     fn has_more_than_others(&self, rounds: &Rounds<'a, '_, H>) -> bool {
-        let clients = rounds.connections.len() as u64;
+        let clients = rounds.connections.clients.len() as u64;
         let all = self.server_state.open.load(Ordering::Relaxed);
         let workers = self.server_state.workers;
         clients.saturating_mul(workers) > all.saturating_add(workers)
@@ -442,7 +431,7 @@ impl<
 
     // Tells the others how many clients it has.
     fn tell_of_clients(&self, rounds: &mut Rounds<'a, '_, H>) {
-        let clients = rounds.connections.len() as u64;
+        let clients = rounds.connections.clients.len() as u64;
         let open = &self.server_state.open;
         if clients > rounds.told {
             open.fetch_add(clients - rounds.told, Ordering::Relaxed);
@@ -468,18 +457,15 @@ impl<
 }
 
 impl<'a, 'n, H: Wait + time::Clock + Eprint> Rounds<'a, 'n, H> {
-    // Notes that uploads that had expired were ended so often.
-    fn note_sweeps(&mut self, sweeps: u64) {
-        if let Some(watch) = &mut self.connections.watch {
-            watch.sweep(sweeps);
-        }
+    // Notes how often uploads that had expired were ended.
+    fn note_sweeps(&mut self) {
+        let sweeps = self.sweeping.take_sweeps();
+        self.connections.clients.note_sweeps(sweeps);
     }
 
     // Tells what was seen in this round.
-    fn publish(&mut self, rt: &H) {
-        if let Some(watch) = &mut self.connections.watch {
-            watch.publish(rt, self.clock.moment());
-        }
+    fn publish(&mut self) {
+        self.connections.clients.publish(&mut self.clock);
     }
 
     // Whether a grace of so many seconds is over at this second, once a stop was asked for. A second may have been under way.
@@ -500,7 +486,7 @@ impl<'a, 'n, H: Wait + time::Clock + Eprint> Rounds<'a, 'n, H> {
                 self.has_rung = true;
             } else {
                 if event.is_read_closed() || event.is_error() {
-                    self.connections.close(event.token().0);
+                    self.connections.clients.close(event.token().0);
                 }
                 self.connections
                     .turn_of_event(event.token().0, answerer, &mut self.clock, second);

@@ -1,4 +1,6 @@
 //! A client with its stream, as its worker holds it.
+ghost use Rattle.std.specs.Prelude.{◌≡◌};
+ghost use Rattle.tus_workers.specs.Turns.{list_in};
 
 use crate::witness::Witness;
 use connection_turns::{
@@ -47,6 +49,18 @@ pub(crate) enum Next {
     Stands(TurnList),
     /// Its connection is closed.
     Ends,
+}
+
+impl Next {
+    /// The list by which the next turn comes, if by one.
+    pub fn list(self) -> Option<TurnList>
+        ensures { result ≡ list_in self }
+    {
+        match self {
+            Next::Stands(list) => Some(list),
+            Next::Waits | Next::Ends => None,
+        }
+    }
 }
 
 /// In place of the stream of a client that is cut off: each call fails.

@@ -8,6 +8,7 @@ mod at_kept_desk;
 mod at_once;
 mod bodies;
 mod client;
+mod clients;
 mod connections;
 mod descriptors;
 mod door;

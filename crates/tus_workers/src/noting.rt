@@ -1,4 +1,4 @@
-//! What answers requests, and notes what each reply tells.
+//! What answers requests, and notes what each reply tells, where somebody reads that.
 ghost use Rattle.std.specs.Prelude.{◌≡◌, ℕ, List};
 ghost use Rattle.http_wire.specs.Refusal as wire;
 ghost use Rattle.http_wire.specs.ReplyText.{reply_status};
@@ -22,12 +22,13 @@ pub(crate) type NotedReply = Cell<Option<SeenReply>>;
 #[derive(Drop)]
 pub(crate) struct Noting<'n, A> {
     pub inner: A,
-    noted: &'n NotedReply,
+    // None where nobody reads it.
+    noted: Option<&'n NotedReply>,
 }
 
 impl<'n, A> Noting<'n, A> {
-    /// What answers as `inner` does. What its replies tell is put to `noted`.
-    pub fn new(inner: A, noted: &'n NotedReply) -> Self
+    /// What answers as `inner` does. What its replies tell is put to `noted`, if there is one.
+    pub fn new(inner: A, noted: Option<&'n NotedReply>) -> Self
         ensures { result.inner ≡ inner }
     {
         Noting { inner, noted }
@@ -53,7 +54,9 @@ impl<'n, A: Answer> Answer for Noting<'n, A> {
 
     fn answer(&mut self, request: &Request, now: Moment, reply: &mut PlacedReply) {
         self.inner.answer(request, now, reply);
-        self.noted.set(Some(seen_in(reply)));
+        if let Some(noted) = self.noted {
+            noted.set(Some(seen_in(reply)));
+        }
     }
 }
 

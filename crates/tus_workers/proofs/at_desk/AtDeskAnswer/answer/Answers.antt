@@ -6,7 +6,7 @@ pub returns : goal.returns
 returns g c = record {
   ready = c.if-not-is_head.self.desk;
   sweeps = elim c.if-not-is_head.branch [
-    | then-not-is_head w ↦ rw w.self-is w.sweep_once.ensures
+    | then-not-is_head w ↦ rw w.self-is w.sweep_once.ensures.sweeps
     | else-not-is_head w ↦ rw w.self-is (inr refl)
   ];
   head = λ head. elim c.if-not-is_head.branch [
